@@ -1,0 +1,233 @@
+-- What a disk is: its files, what each call does to them, and what a stop may leave.
+use Rattle.std.specs.Prelude.{◌≡◌, ◌≢◌, ◌==◌, ◌⊎◌, ℕ, ◌+◌, ◌-◌, ◌^◌, ◌<◌, ◌≤◌, min, max, nat_le, nat_lt, Bool, true, false, not, ◌&&◌, ◌||◌, if◌then◌else◌, List, [], ◌∷◌, ◌++◌, length, take, drop, slice_get, Option, Some, None, MatchOption, Result, IsErr, IsErrOf, ⊤}
+use Rattle.std.specs.declared.cmp.Ordering.{Ordering}
+use Rattle.std.specs.declared.cmp.Ordering.TheVariants.{Less}
+use Rattle.disk_model.specs.Name.{same_name}
+use Rattle.disk_model.specs.declared.name.FileName.{FileName}
+use Rattle.disk_model.specs.declared.error.DiskError.{DiskError}
+use Rattle.disk_model.specs.declared.error.DiskError.TheVariants.{Failed}
+
+-- what stands at each name, or None where no file does
+abbrev pub Files : Type 0
+Files = FileName → Option (List ℕ)
+
+-- One file, and what has happened to it since its last sync and since the last sync of names.
+pub record FileState : Type 0 where
+  -- what a read gives: whether the file is there, and its octets
+  pub is_there : Bool
+  pub octets : List ℕ
+  -- its least and greatest length since its last sync, and which of its octets were written since
+  pub least : ℕ
+  pub greatest : ℕ
+  pub is_loose : ℕ → Bool
+  -- whether it was made or removed since the last sync of names
+  pub is_name_loose : Bool
+
+abbrev pub DiskState : Type 0
+DiskState = FileName → FileState
+
+-- what the reads of a file give
+abbrev pub reading : FileState → Option (List ℕ)
+reading f = if f.is_there then Some f.octets else None
+
+abbrev pub IsThere : FileState → Type 0
+IsThere f = f.is_there ≡ true
+
+-- the file is there, and as long as this at least
+abbrev pub Reaches : FileState → ℕ → Type 0
+Reaches f n = (f.is_there ≡ true) × (n ≤ length f.octets)
+
+-- What a stop may leave of one file: nothing, or octets of a length that it had, in which those that were not written
+-- and lie below each of its lengths are as they stand.
+abbrev pub MayLeave : FileState → Option (List ℕ) → Type 0
+MayLeave f None = (f.is_there ≡ false) ⊎ (f.is_name_loose ≡ true)
+MayLeave f (Some octets) = ((f.is_there ≡ true) ⊎ (f.is_name_loose ≡ true))
+    × (f.least ≤ length octets) × (length octets ≤ f.greatest)
+    × ((i : ℕ) → i < f.least → f.is_loose i ≡ false → slice_get octets i ≡ slice_get f.octets i)
+
+-- an image of a disk: each file is as a stop may leave it
+abbrev pub IsImage : DiskState → Files → Type 0
+IsImage disk image = (name : FileName) → MayLeave (disk name) (image name)
+
+-- no file, and nothing was
+abbrev pub no_file : FileState
+no_file = record { is_there = false; octets = []; least = 0; greatest = 0; is_loose = λ _. false; is_name_loose = false }
+
+-- a file with these octets, synced, and its name too
+abbrev pub still : List ℕ → FileState
+still octets = record { is_there = true; octets = octets; least = length octets; greatest = length octets; is_loose = λ _. false; is_name_loose = false }
+
+-- from `at` on, `n` of them
+abbrev pub covers : ℕ → ℕ → ℕ → Bool
+covers at n i = nat_le at i && nat_lt i (at + n)
+
+-- these octets lie over the old ones from `at` on
+abbrev pub overlaid : List ℕ → ℕ → List ℕ → List ℕ
+overlaid old at octets = take at old ++ octets ++ drop (at + length octets) old
+
+-- after a write
+abbrev pub written : ℕ → List ℕ → FileState → FileState
+written at octets f = record f {
+  octets = overlaid f.octets at octets;
+  greatest = max f.greatest (at + length octets);
+  is_loose = λ i. f.is_loose i || covers at (length octets) i;
+}
+
+-- after a cut to n
+abbrev pub cut_to : ℕ → FileState → FileState
+cut_to n f = record f { octets = take n f.octets; least = min f.least n }
+
+-- after its sync
+abbrev pub synced : FileState → FileState
+synced f = record f { least = length f.octets; greatest = length f.octets; is_loose = λ _. false }
+
+-- after it was made: there and empty
+abbrev pub made : FileState → FileState
+made f = record f { is_there = true; octets = []; least = 0; is_name_loose = f.is_name_loose || not f.is_there }
+
+-- after it was removed
+abbrev pub removed : FileState → FileState
+removed f = record f { is_there = false; is_name_loose = f.is_name_loose || f.is_there }
+
+-- after a sync of names
+abbrev pub named : FileState → FileState
+named f = if f.is_there then record f { is_name_loose = false } else no_file
+
+-- after a write of n octets that failed: any octets in the range
+abbrev pub half_written : ℕ → ℕ → FileState → FileState
+half_written at n f = record f { greatest = max f.greatest (at + n); is_loose = λ i. f.is_loose i || covers at n i }
+
+-- after a cut that failed
+abbrev pub half_cut : ℕ → FileState → FileState
+half_cut n f = record f { least = min f.least n }
+
+-- after it was to be made or removed, and that failed
+abbrev pub half_made : FileState → FileState
+half_made f = record f { least = 0; is_name_loose = true }
+
+abbrev pub half_removed : FileState → FileState
+half_removed f = record f { is_name_loose = true }
+
+-- this file changes so, and no other
+unfoldable pub change : FileName → (FileState → FileState) → DiskState → DiskState
+change name step disk = λ n. if same_name n name then step (disk n) else disk n
+
+-- each file changes so
+abbrev pub change_all : (FileState → FileState) → DiskState → DiskState
+change_all step disk = λ n. step (disk n)
+
+-- The states at each moment so far: now, and at the moments before, the latest first.
+pub record History : Type 0 where
+  pub now : DiskState
+  pub before : List DiskState
+
+-- how many calls have returned
+abbrev pub calls : History → ℕ
+calls h = length h.before
+
+-- one more call has returned, and left this state
+abbrev pub joined_by : DiskState → History → History
+joined_by state h = record { now = state; before = h.now ∷ h.before }
+
+-- a fact of the present state, where the disk tells it
+abbrev pub IfTold : Option History → (DiskState → Type 0) → Type 0
+IfTold h P = MatchOption h ⊤ (λ told. P told.now)
+
+-- the disk tells its content
+abbrev pub IsTold : Option History → Type 0
+IsTold None = ⊥
+IsTold (Some h) = ⊤
+
+-- a call that did this
+abbrev pub after : (DiskState → DiskState) → Option History → Option History
+after step None = None
+after step (Some h) = Some (joined_by (step h.now) h)
+
+-- The disk has counted as many calls as a u64 holds. From then on a call that changes nothing need not be counted.
+abbrev pub IsFull : Option History → Type 0
+IsFull h = MatchOption h ⊤ (λ told. 2 ^ 64 ≤ calls told + 1)
+
+-- a call that changed nothing
+abbrev pub Unchanged : Option History → Option History → Type 0
+Unchanged old new = (new ≡ after (λ disk. disk) old) ⊎ ((new ≡ old) × IsFull old)
+
+-- One more call, which failed and adds at most the images of this state.
+pub record IsWithin (widest : DiskState) (old new : History) : Type 0 where
+  pub state : DiskState
+  pub is : new ≡ joined_by state old
+  pub at_most : (image : Files) → IsImage state image → IsImage widest image
+
+-- a call that failed
+abbrev pub AfterFailed : (DiskState → DiskState) → Option History → Option History → Type 0
+AfterFailed step None new = new ≡ None
+AfterFailed step (Some h) None = ⊥
+AfterFailed step (Some h) (Some g) = IsWithin (step h.now) h g ⊎ ((g ≡ h) × IsFull (Some h))
+
+-- Counts of faults: of calls that read, and of those that change.
+pub record Faults : Type 0 where
+  pub reads : ℕ
+  pub changes : ℕ
+
+-- a count rose, or stands at the top of a u64
+abbrev pub Rose : ℕ → ℕ → Type 0
+Rose old new = min (old + 1) (2 ^ 64 - 1) ≤ new
+
+-- `Failed` comes only where the count of failed reads rose
+pub record ReadCause {T : Type 0} (result : Result T DiskError) (old new : Faults) : Type 0 where
+  pub no_less : old.reads ≤ new.reads
+  pub failed : IsErrOf result Failed → Rose old.reads new.reads
+  pub changes : new.changes ≡ old.changes
+
+-- `Failed` is the only error, and comes only where the count of failed changes rose
+pub record ChangeCause {T : Type 0} (result : Result T DiskError) (old new : Faults) : Type 0 where
+  pub no_less : old.changes ≤ new.changes
+  pub failed : IsErr result → IsErrOf result Failed × Rose old.changes new.changes
+  pub reads : new.reads ≡ old.reads
+
+-- The counts never fall, and that of failed changes rose where this holds.
+pub record FaultsRoseIf (failed : Type 0) (old new : Faults) : Type 0 where
+  pub reads : old.reads ≤ new.reads
+  pub changes : old.changes ≤ new.changes
+  pub rose : failed → Rose old.changes new.changes
+
+-- a name greater than this one
+abbrev pub IsPast : (FileName → FileName → Ordering) → Option FileName → FileName → Type 0
+IsPast cmp None name = ⊤
+IsPast cmp (Some after) name = cmp after name ≡ Less
+
+-- the least name of a file that is there, of those past this one
+abbrev pub IsNext : (FileName → FileName → Ordering) → Option FileName → Option FileName → DiskState → Type 0
+IsNext cmp after None disk = (name : FileName) → IsThere (disk name) → IsPast cmp after name → ⊥
+IsNext cmp after (Some next) disk = IsThere (disk next)
+    × ((name : FileName) → IsThere (disk name) → IsPast cmp after name → cmp name next ≢ Less)
+
+-- of states, the latest first, that which has m before it
+abbrev pub state_in : List DiskState → ℕ → Option DiskState
+state_in [] m = None
+state_in (state ∷ earlier) m = if m == length earlier then Some state else state_in earlier m
+
+-- the state as m calls had returned
+abbrev pub state_at : History → ℕ → Option DiskState
+state_at h m = state_in (h.now ∷ h.before) m
+
+-- Each image of each moment from the one history's present to the other's has P.
+pub record EachImageSince (P : ℕ → Files → Type 0) (old new : History) : Type 0 where
+  pub later : calls old ≤ calls new
+  pub same : (m : ℕ) → m ≤ calls old → state_at new m ≡ state_at old m
+  pub each : (m : ℕ) (state : DiskState) (image : Files) → calls old ≤ m → state_at new m ≡ Some state → IsImage state image → P m image
+
+-- the same, where the disk tells its content
+abbrev pub EachImage : (ℕ → Files → Type 0) → Option History → Option History → Type 0
+EachImage P None new = new ≡ None
+EachImage P (Some old) None = ⊥
+EachImage P (Some old) (Some new) = EachImageSince P old new
+
+-- of each other file, the image is one that the disk could leave before
+abbrev pub OthersStay : FileName → Option History → Files → Type 0
+OthersStay name old image = IfTold old (λ disk. (other : FileName) → other ≢ name → MayLeave (disk other) (image other))
+
+-- both told, and each other file as it was
+abbrev pub SameButFor : FileName → Option History → Option History → Type 0
+SameButFor name None new = new ≡ None
+SameButFor name (Some old) None = ⊥
+SameButFor name (Some old) (Some new) = (other : FileName) → other ≢ name → new.now other ≡ old.now other

@@ -1,0 +1,74 @@
+// A disk.
+ghost use Rattle.std.specs.Prelude.{◌≡◌, ◌+◌, ◌^◌, ◌<◌, ◌≤◌, ℕ, List, length, take, drop, Option, min, IsErrOf, IfOk, IfSome, OnOk, OnErr};
+ghost use Rattle.std.specs.Option.{option_map};
+ghost use Rattle.disk_model.specs.Disk.{History, Faults, IfTold, IsThere, Reaches, after, Unchanged, IsPast, IsNext, AfterFailed, reading, IsImage, change, change_all, written, cut_to, synced, made, removed, named, half_written, half_cut, half_made, half_removed, ReadCause, ChangeCause};
+ghost use Rattle.disk_model.specs.declared.error.DiskError.TheVariants.{Failed, Absent};
+
+use crate::{DiskError, FileName};
+
+pub trait Disk {
+    /// The disk's states at each moment so far. None where it tells no content.
+    ghost history: { Self → Option History };
+
+    /// How often a call that reads has failed, and how often one that changes.
+    ghost faults: { Self → Faults };
+
+    fn length(&mut self, name: FileName) -> Result<u64, DiskError>
+        ensures length { IfOk result (λ n. IfTold (history self.old) (λ disk. option_map length (reading (disk name)) ≡ Some n)) }
+        ensures absent { IsErrOf result Absent → IfTold (history self.old) (λ disk. reading (disk name) ≡ None) }
+        ensures state { Unchanged (history self.old) (history self.new) }
+        ensures cause { ReadCause result (faults self.old) (faults self.new) };
+
+    fn read_at(&mut self, name: FileName, offset: u64, into: &mut [u8]) -> Result<usize, DiskError>
+        ensures count { IfOk result (λ n. n ≤ length into.new) }
+        ensures octets { IfOk result (λ n. IfTold (history self.old) (λ disk. (reading (disk name) ≡ Some (disk name).octets)
+            × (take n into.new ≡ take (length into.old) (drop offset (disk name).octets)))) }
+        ensures rest { IfOk result (λ n. drop n into.new ≡ drop n into.old) }
+        ensures absent { IsErrOf result Absent → IfTold (history self.old) (λ disk. reading (disk name) ≡ None) }
+        ensures state { Unchanged (history self.old) (history self.new) }
+        ensures cause { ReadCause result (faults self.old) (faults self.new) };
+
+    fn next_name(&mut self, after: Option<FileName>) -> Result<Option<FileName>, DiskError>
+        ensures past { IfOk result (λ next. IfSome next (IsPast ⟦<FileName as Ord>⟧.cmp after)) }
+        ensures next { IfOk result (λ next. IfTold (history self.old) (IsNext ⟦<FileName as Ord>⟧.cmp after next)) }
+        ensures not_absent { IsErrOf result Absent → ⊥ }
+        ensures state { Unchanged (history self.old) (history self.new) }
+        ensures cause { ReadCause result (faults self.old) (faults self.new) };
+
+    fn write_at(&mut self, name: FileName, offset: u64, from: &[u8]) -> Result<(), DiskError>
+        requires { IfTold (history self.old) (λ disk. Reaches (disk name) offset) }
+        ensures state { OnOk result (history self.new ≡ after (change name (written offset from.now)) (history self.old)) }
+        ensures failed { OnErr result (AfterFailed (change name (half_written offset (length from.now))) (history self.old) (history self.new)) }
+        ensures fits { OnOk result (offset + length from.now < 2 ^ 64) }
+        ensures cause { ChangeCause result (faults self.old) (faults self.new) };
+
+    fn cut(&mut self, name: FileName, length: u64) -> Result<(), DiskError>
+        requires { IfTold (history self.old) (λ disk. Reaches (disk name) length) }
+        ensures state { OnOk result (history self.new ≡ after (change name (cut_to length)) (history self.old)) }
+        ensures failed { OnErr result (AfterFailed (change name (half_cut length)) (history self.old) (history self.new)) }
+        ensures cause { ChangeCause result (faults self.old) (faults self.new) };
+
+    fn sync(&mut self, name: FileName) -> Result<(), DiskError>
+        requires { IfTold (history self.old) (λ disk. IsThere (disk name)) }
+        ensures state { OnOk result (history self.new ≡ after (change name synced) (history self.old)) }
+        ensures failed { OnErr result (AfterFailed (λ disk. disk) (history self.old) (history self.new)) }
+        ensures cause { ChangeCause result (faults self.old) (faults self.new) };
+
+    fn make(&mut self, name: FileName) -> Result<(), DiskError>
+        ensures state { OnOk result (history self.new ≡ after (change name made) (history self.old)) }
+        ensures failed { OnErr result (AfterFailed (change name half_made) (history self.old) (history self.new)) }
+        ensures cause { ChangeCause result (faults self.old) (faults self.new) };
+
+    fn remove(&mut self, name: FileName) -> Result<(), DiskError>
+        ensures state { OnOk result (history self.new ≡ after (change name removed) (history self.old)) }
+        ensures failed { OnErr result (AfterFailed (change name half_removed) (history self.old) (history self.new)) }
+        ensures cause { ChangeCause result (faults self.old) (faults self.new) };
+
+    fn sync_names(&mut self) -> Result<(), DiskError>
+        ensures state { OnOk result (history self.new ≡ after (change_all named) (history self.old)) }
+        ensures failed { OnErr result (AfterFailed (λ disk. disk) (history self.old) (history self.new)) }
+        ensures cause { ChangeCause result (faults self.old) (faults self.new) };
+
+    /// What is read is one of the images.
+    ghost reads_image: { (disk : Self) → IfTold (history disk) (λ state. IsImage state (λ name. reading (state name))) };
+}

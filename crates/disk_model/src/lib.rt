@@ -1,0 +1,10 @@
+//! A disk with many files that may stop at any moment, and what a stop may leave.
+#![tactic(auto)]
+
+pub use disk::Disk;
+pub use error::DiskError;
+pub use name::{FileName, order, same_file};
+
+mod disk;
+mod error;
+mod name;

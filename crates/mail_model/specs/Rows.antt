@@ -1,0 +1,18 @@
+-- The rows that the entries of a log make.
+use Rattle.std.specs.Prelude.{Bool, List, [], ◌∷◌, ◌++◌, flat_map, if◌then◌else◌}
+
+-- the rows that an entry makes, whether it removes a row, and how it changes a row that stays
+pub record Rules (E R : Type 0) : Type 0 where
+  pub made : E → List R
+  pub removes : E → R → Bool
+  pub changed : E → R → R
+
+-- a row behind later entries: none where one of them removes it, else as they change it
+abbrev pub row_behind : {E R : Type 0} → Rules E R → List E → R → List R
+row_behind rules [] row = row ∷ []
+row_behind rules (entry ∷ rest) row = if rules.removes entry row then [] else row_behind rules rest (rules.changed entry row)
+
+-- The rows: each that an entry makes and no later entry removes, in order, as the later entries change it.
+abbrev pub rows_of : {E R : Type 0} → Rules E R → List E → List R
+rows_of rules [] = []
+rows_of rules (entry ∷ rest) = flat_map (row_behind rules rest) (rules.made entry) ++ rows_of rules rest

@@ -1,0 +1,2 @@
+//! What the store means: definitions that every crate above cites, and their laws.
+#![tactic(auto)]

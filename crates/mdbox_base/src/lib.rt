@@ -1,0 +1,26 @@
+//! The types that the whole store speaks of, numbers as text, and sources and sinks of octets.
+#![tactic(auto)]
+
+pub use entries::{BoxEntry, Highest, InstRow, MapCount, MapEntry, MapPlace, RootEntry};
+pub use flags::{Flags, flags_of};
+pub use ids::{BoxNo, FileNo, Guid, Hash, InstId, MapUid, StoreId, Uid};
+pub use log_head::{LogHead, LogKind};
+pub use memory::NoMemory;
+pub use metadata::{ExtRef, LineForm, Metadata};
+pub use name::{Name, name_of};
+pub use octets::Octets;
+pub use replies::{ListRow, Refusal, Reply};
+pub use requests::Request;
+pub use seq::Seq;
+
+mod entries;
+mod flags;
+mod ids;
+mod log_head;
+mod memory;
+mod metadata;
+mod name;
+mod octets;
+mod replies;
+mod requests;
+mod seq;

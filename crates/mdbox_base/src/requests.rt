@@ -1,0 +1,49 @@
+// Requests to the store.
+use crate::flags::Flags;
+use crate::ids::Uid;
+use crate::name::Name;
+use crate::octets::Octets;
+
+/// What a user asks of the store.
+#[derive(Drop)]
+pub enum Request {
+    /// Saves a message, received at this time (Unix seconds).
+    Deliver {
+        name: Name,
+        time: u64,
+        message: Octets,
+    },
+    List {
+        name: Name,
+    },
+    Fetch {
+        name: Name,
+        uid: Uid,
+    },
+    Flag {
+        name: Name,
+        uid: Uid,
+        flags: Flags,
+    },
+    Copy {
+        name: Name,
+        uid: Uid,
+        target: Name,
+    },
+    /// A copy, and then an expunge.
+    Move {
+        name: Name,
+        uid: Uid,
+        target: Name,
+    },
+    Expunge {
+        name: Name,
+        uid: Uid,
+    },
+    Make {
+        name: Name,
+    },
+    Counts,
+    Purge,
+    Resync,
+}
