@@ -1,5 +1,5 @@
 -- What a disk is: its files, what each call does to them, and what a stop may leave.
-use Rattle.std.specs.Prelude.{◌≡◌, ◌≢◌, ◌==◌, ◌⊎◌, ℕ, ◌+◌, ◌-◌, ◌^◌, ◌<◌, ◌≤◌, min, max, nat_le, nat_lt, Bool, true, false, not, ◌&&◌, ◌||◌, if◌then◌else◌, List, [], ◌∷◌, ◌++◌, length, take, drop, slice_get, Option, Some, None, MatchOption, Result, IsErr, IsErrOf, ⊤}
+use Rattle.std.specs.Prelude.{◌≡◌, ◌≢◌, ◌==◌, ◌⊎◌, ℕ, ◌+◌, ◌-◌, ◌^◌, ◌<◌, ◌≤◌, min, max, nat_le, nat_lt, Bool, true, false, not, ◌&&◌, ◌||◌, if◌then◌else◌, List, [], ◌∷◌, ◌++◌, length, take, drop, slice_get, Option, Some, None, MatchOption, Result, IsErr, IsErrOf, ⊤, All}
 use Rattle.std.specs.declared.cmp.Ordering.{Ordering}
 use Rattle.std.specs.declared.cmp.Ordering.TheVariants.{Less}
 use Rattle.disk_model.specs.Name.{same_name}
@@ -13,10 +13,10 @@ Files = FileName → Option (List ℕ)
 
 -- One file, and what has happened to it since its last sync and since the last sync of names.
 pub record FileState : Type 0 where
-  -- what a read gives: whether the file is there, and its octets
+  -- what a read gives: whether the file is there, and its octets; of a file that was removed, those that a stop may still leave
   pub is_there : Bool
   pub octets : List ℕ
-  -- its least and greatest length since its last sync, and which of its octets were written since
+  -- its least and greatest length since its last sync, and the places of octets that were written since
   pub least : ℕ
   pub greatest : ℕ
   pub is_loose : ℕ → Bool
@@ -37,13 +37,20 @@ IsThere f = f.is_there ≡ true
 abbrev pub Reaches : FileState → ℕ → Type 0
 Reaches f n = (f.is_there ≡ true) × (n ≤ length f.octets)
 
--- What a stop may leave of one file: nothing, or octets of a length that it had, in which those that were not written
--- and lie below each of its lengths are as they stand.
+-- A stop may leave these octets of one file: of a length that it had since its last sync, any octets in each range that
+-- was written since and past the shortest length since, and elsewhere those that stand.
+pub record MayHold (f : FileState) (octets : List ℕ) : Type 0 where
+  pub named : (f.is_there ≡ true) ⊎ (f.is_name_loose ≡ true)
+  pub least : f.least ≤ length octets
+  pub greatest : length octets ≤ f.greatest
+  pub same : (i : ℕ) → i < f.least → f.is_loose i ≡ false → slice_get octets i ≡ slice_get f.octets i
+  pub are_octets : All (λ octet. octet < 256) octets
+
+-- What a stop may leave of one file: octets, or no file where it isn't there or was made or removed since the last sync
+-- of names.
 abbrev pub MayLeave : FileState → Option (List ℕ) → Type 0
 MayLeave f None = (f.is_there ≡ false) ⊎ (f.is_name_loose ≡ true)
-MayLeave f (Some octets) = ((f.is_there ≡ true) ⊎ (f.is_name_loose ≡ true))
-    × (f.least ≤ length octets) × (length octets ≤ f.greatest)
-    × ((i : ℕ) → i < f.least → f.is_loose i ≡ false → slice_get octets i ≡ slice_get f.octets i)
+MayLeave f (Some octets) = MayHold f octets
 
 -- an image of a disk: each file is as a stop may leave it
 abbrev pub IsImage : DiskState → Files → Type 0
@@ -151,11 +158,12 @@ IsFull h = MatchOption h ⊤ (λ told. 2 ^ 64 ≤ calls told + 1)
 abbrev pub Unchanged : Option History → Option History → Type 0
 Unchanged old new = (new ≡ after (λ disk. disk) old) ⊎ ((new ≡ old) × IsFull old)
 
--- One more call, which failed and adds at most the images of this state.
+-- One more call, which failed. It adds at most the images of this state, and a file that it was not about reads as before.
 pub record IsWithin (widest : DiskState) (old new : History) : Type 0 where
   pub state : DiskState
   pub is : new ≡ joined_by state old
   pub at_most : (image : Files) → IsImage state image → IsImage widest image
+  pub reads : (name : FileName) → widest name ≡ old.now name → reading (state name) ≡ reading (old.now name)
 
 -- a call that failed
 abbrev pub AfterFailed : (DiskState → DiskState) → Option History → Option History → Type 0

@@ -1,10 +1,23 @@
 // Errors of a disk.
+use std::error::Error;
+use std::fmt;
 
 /// Why a disk's call did nothing, or not all.
 #[derive(Clone, Copy, Debug, PartialEq, Eq)]
 pub enum DiskError {
-    /// The device failed; the disk counts it.
+    /// The device failed, and the disk has counted it. Of a change a stop may then leave a part.
     Failed,
-    /// There is no such file.
+    /// There is no file of that name. Only `length` and `read_at` answer it.
     Absent,
 }
+
+impl fmt::Display for DiskError {
+    fn fmt<W: fmt::Write>(&self, f: &mut fmt::Formatter<W>) -> fmt::Result {
+        f.write_str(match self {
+            DiskError::Failed => "the device failed",
+            DiskError::Absent => "no such file",
+        })
+    }
+}
+
+impl Error for DiskError {}

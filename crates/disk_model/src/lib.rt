@@ -3,7 +3,7 @@
 
 pub use disk::Disk;
 pub use error::DiskError;
-pub use name::{FileName, order, same_file};
+pub use name::{FileName, is_named, order, same_file};
 
 mod disk;
 mod error;

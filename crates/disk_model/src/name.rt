@@ -1,23 +1,39 @@
 // Names of files.
 ghost use Rattle.std.specs.Prelude.{◌≡◌, ◌↔◌, IsTrue};
+ghost use Rattle.disk_model.specs.Name.{same_name};
 
 use std::cmp::Ordering;
 
+/// The name of a file of a store. Names are ordered by kind, in the order here, and then by their numbers or octets.
 #[derive(Clone, Copy, Debug, PartialEq, Eq, PartialOrd, Ord)]
 pub enum FileName {
+    /// The root log, `storage/root.log`.
     Root,
+    /// The map log of a generation, `storage/map.G.log`.
     Map(u32),
+    /// The log of a mailbox's number and generation, `mailboxes/b.K.G.log`.
     Box(u32, u32),
+    /// The storage file of a number, `storage/m.N`.
     Mail(u32),
+    /// An instance of an attachment, by the hash of its octets and its id, `attachments/aa/bb/HASH-ID`.
     Inst([u8; 20], [u8; 16]),
 }
 
+/// Whether two names are the same.
 pub fn same_file(a: FileName, b: FileName) -> bool
     ensures { IsTrue result ↔ (a ≡ b) }
 {
     a == b
 }
 
+/// Whether two names are the same, by the test that the definitions use.
+pub fn is_named(name: FileName, own: FileName) -> bool
+    ensures { result ≡ same_name name own }
+{
+    same_file(name, own)
+}
+
+/// The order of two names.
 pub fn order(a: FileName, b: FileName) -> Ordering
     ensures { result ≡ ⟦<FileName as Ord>⟧.cmp a b }
 {
