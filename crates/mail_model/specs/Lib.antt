@@ -5,3 +5,8 @@ pub mod MapMeaning
 pub mod Pieces
 pub mod RowLaws
 pub mod Rows
+pub mod Fields
+pub mod Lines
+pub mod Parts
+pub mod PartsExamples
+pub mod PartsLaws

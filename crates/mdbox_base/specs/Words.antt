@@ -1,5 +1,5 @@
 -- Plain words on octets.
-use Rattle.std.specs.Prelude.{ℕ, ◌<◌, ◌≤◌, ◌^◌, List, length, All, ◌≢◌, IsUtf8}
+use Rattle.std.specs.Prelude.{ℕ, ◌<◌, ◌≤◌, List, length, All, ◌≢◌, IsUtf8}
 
 -- each is an octet
 abbrev pub IsOctets : List ℕ → Type 0
