@@ -10,3 +10,8 @@ pub mod Lines
 pub mod Parts
 pub mod PartsExamples
 pub mod PartsLaws
+pub mod Grammars
+pub mod Pieces
+pub mod RowLaws
+pub mod Rows
+pub mod StorageFile

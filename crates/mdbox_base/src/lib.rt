@@ -13,6 +13,7 @@ pub use octets::Octets;
 pub use replies::{ListRow, Refusal, Reply};
 pub use requests::Request;
 pub use seq::Seq;
+pub use storage_file::{MessageAt, PlaceError, ScanError};
 
 mod entries;
 mod flags;
@@ -26,3 +27,4 @@ mod octets;
 mod replies;
 mod requests;
 mod seq;
+mod storage_file;
