@@ -4,6 +4,7 @@
 pub use entries::{BoxEntry, Highest, InstRow, MapCount, MapEntry, MapPlace, RootEntry};
 pub use flags::{Flags, flags_of};
 pub use ids::{BoxNo, FileNo, Guid, Hash, InstId, MapUid, StoreId, Uid};
+pub use join_error::JoinError;
 pub use log_head::{LogHead, LogKind};
 pub use memory::NoMemory;
 pub use metadata::{ExtRef, LineForm, Metadata};
@@ -18,6 +19,7 @@ pub use storage_file::{MessageAt, PlaceError, ScanError};
 mod entries;
 mod flags;
 mod ids;
+mod join_error;
 mod log_head;
 mod memory;
 mod metadata;
