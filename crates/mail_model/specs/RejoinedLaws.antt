@@ -1,11 +1,11 @@
 -- Laws of rejoining.
-use Rattle.std.proofs.Common.{refl, ◌≡◌, ◌<◌, ◌≤◌, ◌+◌, ◌-◌, ℕ, zero, suc, Bool, true, false, cond, List, [], ◌∷◌, ◌++◌, length, sym, ◌∙◌, ap, subst, arith, length-append, Some, None}
-use Rattle.std.specs.Prelude.{sum_by, ◌||◌, ◌==◌, nat_lt, option_map, Option}
+use Rattle.std.proofs.Common.{refl, ◌≡◌, ◌≤◌, ◌+◌, ℕ, Bool, true, false, List, [], ◌∷◌, ◌++◌, length, sym, ◌∙◌, ap, subst, arith, length-append, None}
+use Rattle.std.specs.Prelude.{sum_by, ◌||◌, ◌==◌, nat_lt, option_map}
 use Rattle.std.proofs.lemmas.Bool.Decides.{nat_tests}
 use Rattle.std.proofs.lemmas.List.Sums.{sum_by-cons}
 use Rattle.mdbox_base.specs.declared.metadata.ExtRef.{ExtRef}
 use Rattle.mail_model.specs.Pieces.{split_same}
-use Rattle.mail_model.specs.Rejoined.{IsWhole, IsWholeFrom, part_text, is_bad, first_bad, found_size, first_differs, join_error, range_error, size_error, one_later}
+use Rattle.mail_model.specs.Rejoined.{IsWhole, IsWholeFrom, part_text, is_bad, first_bad, found_size, first_differs, join_error, one_later}
 
 less_no : (m n : ℕ) → n ≤ m → nat_lt m n ≡ false
 less_no m n h = grind (arith, nat_tests)
