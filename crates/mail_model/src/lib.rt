@@ -4,7 +4,6 @@
 pub use base64_text::canonical_text_is_of_one_form;
 pub use rejoined::{whole_has_no_error, whole_is_one};
 
-pub mod parts;
-
 mod base64_text;
+pub mod parts;
 mod rejoined;
