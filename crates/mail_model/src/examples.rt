@@ -1,0 +1,28 @@
+// Examples of the definitions, with what the formats say of them.
+ghost use Rattle.std.specs.Prelude.{◌≡◌, ◌∷◌, [], codes};
+ghost use Rattle.mail_model.specs.Entries.{box_text, map_text};
+ghost use Rattle.mail_model.specs.BoxMeaning.{box_meaning};
+ghost use Rattle.mail_model.specs.MapMeaning.{map_meaning};
+ghost use Rattle.mail_model.specs.MeaningExamples.{example_store, example_guid, example_added, example_added_text, example_made, example_made_text, example_stored, example_stored_text, example_map};
+
+/// The entries of the two logs of a store with one message have these octets.
+pub fn example_texts()
+    ensures added { box_text example_added ≡ example_added_text }
+    ensures made { map_text example_made ≡ example_made_text }
+    ensures stored { map_text example_stored ≡ example_stored_text }
+{}
+
+/// The mailbox log has one row, the map log one record with count 1 and the mailbox INBOX.
+pub fn example_meanings()
+    ensures mailbox { box_meaning (example_added ∷ []) ≡ record {
+      rows = record { uid = 1; flags = 0; time = 1694498816; size = 0; map_uid = 1; guid = example_guid } ∷ [];
+      next = 2;
+    } }
+    ensures map { map_meaning example_store example_map ≡ record {
+      store = example_store;
+      records = record { uid = 1; origin = 0; count = 1; file = 1; offset = 16; size = 89; guid = example_guid; instances = [] } ∷ [];
+      boxes = record { number = 1; generation = 1; name = codes "INBOX" } ∷ [];
+      sealed = [];
+      highest = record { file = 1; map = 1; instance = 0; mailbox = 1 };
+    } }
+{}
