@@ -23,3 +23,6 @@ pub mod RejoinedLaws
 pub mod RowLaws
 pub mod Rows
 pub mod StorageFile
+pub mod LogFile
+pub mod LogFileLaws
+pub mod LogExamples

@@ -13,3 +13,7 @@ mod examples;
 mod meanings;
 pub mod parts;
 mod rejoined;
+
+pub use log_file::{log_examples, one_damage, one_log};
+
+mod log_file;
