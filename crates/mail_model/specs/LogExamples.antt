@@ -1,11 +1,11 @@
 -- Logs, octet for octet.
-use Rattle.std.specs.Prelude.{◌≡◌, ◌<◌, ℕ, List, [], ◌∷◌, ◌++◌, refl, codes}
+use Rattle.std.specs.Prelude.{◌<◌, ℕ, List, [], ◌∷◌, ◌++◌, refl, codes}
 use Rattle.std.proofs.Common.{inr, lit≤, lit<}
 use Rattle.std.proofs.lemmas.List.Elements.{All-nil, All-cons, All-from_recursion}
 use Rattle.mdbox_base.specs.Words.{IsOctets}
 use Rattle.mdbox_base.specs.declared.log_head.LogHead.{LogHead}
 use Rattle.mdbox_base.specs.declared.log_head.LogKind.TheVariants.{Root, Map, Box}
-use Rattle.mail_model.specs.LogFile.{EntryFits, HeadFits, head_octets, IsLog, IsDamagedAt, log_end, record_places}
+use Rattle.mail_model.specs.LogFile.{EntryFits, head_octets, IsLog}
 
 abbrev pub example_store : List ℕ
 example_store = 0x00 ∷ 0x11 ∷ 0x22 ∷ 0x33 ∷ 0x44 ∷ 0x55 ∷ 0x66 ∷ 0x77 ∷ []
