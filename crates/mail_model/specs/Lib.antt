@@ -2,12 +2,17 @@ pub mod Base64Laws
 pub mod Base64Text
 pub mod BoxLaws
 pub mod BoxMeaning
+pub mod Detached
+pub mod DetachedLaws
 pub mod Entries
 pub mod EntryLaws
 pub mod Fields
 pub mod Grammars
 pub mod Lines
 pub mod Lists
+pub mod LogExamples
+pub mod LogFile
+pub mod LogFileLaws
 pub mod MapEntryLaws
 pub mod MapFits
 pub mod MapLaws
@@ -23,6 +28,3 @@ pub mod RejoinedLaws
 pub mod RowLaws
 pub mod Rows
 pub mod StorageFile
-pub mod LogFile
-pub mod LogFileLaws
-pub mod LogExamples

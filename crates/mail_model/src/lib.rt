@@ -2,18 +2,19 @@
 #![tactic(auto)]
 
 pub use base64_text::canonical_text_is_of_one_form;
+pub use detached::{detached_form_is_one, whole_of_detached_is_message};
 pub use entries::one_spelling;
 pub use examples::{example_meanings, example_texts};
+pub use log_file::{log_examples, one_damage, one_log};
 pub use meanings::{more_entries, one_entry_more};
 pub use rejoined::{whole_has_no_error, whole_is_one};
 
+pub mod parts;
+
 mod base64_text;
+mod detached;
 mod entries;
 mod examples;
-mod meanings;
-pub mod parts;
-mod rejoined;
-
-pub use log_file::{log_examples, one_damage, one_log};
-
 mod log_file;
+mod meanings;
+mod rejoined;
