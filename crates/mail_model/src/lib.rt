@@ -9,12 +9,11 @@ pub use log_file::{log_examples, one_damage, one_log};
 pub use meanings::{more_entries, one_entry_more};
 pub use rejoined::{whole_has_no_error, whole_is_one};
 
-pub mod parts;
-
 mod base64_text;
 mod detached;
 mod entries;
 mod examples;
 mod log_file;
 mod meanings;
+pub mod parts;
 mod rejoined;
