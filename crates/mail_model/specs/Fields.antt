@@ -1,5 +1,5 @@
 -- What the header fields of an entity say (RFC 2045, sections 5 and 6; RFC 2046, section 5.1.1).
-use Rattle.std.specs.Prelude.{◌+◌, ◌-◌, ◌==◌, ◌&&◌, ℕ, zero, suc, Bool, true, not, nat_le, nat_eq, List, [], ◌∷◌, ◌++◌, length, take, drop, take_while, reverse, if◌then◌else◌, Option, Some, None, codes, bytes_eq}
+use Rattle.std.specs.Prelude.{◌-◌, ◌==◌, ◌&&◌, ℕ, zero, suc, Bool, true, not, nat_le, nat_eq, List, [], ◌∷◌, ◌++◌, length, take, drop, take_while, if◌then◌else◌, Option, Some, None, codes, bytes_eq}
 use Rattle.std.specs.List.{list_all, list_any}
 use Rattle.std.specs.Char.{is_ascii_graphic}
 use Rattle.std.specs.Str.{str_eq_ignore_ascii_case}
@@ -29,14 +29,14 @@ continuation [] = []
 continuation ([] ∷ lines) = []
 continuation ((c ∷ line) ∷ lines) = if is_blank c then (c ∷ line) ++ continuation lines else []
 
--- A line begins with a name, in any case, and a colon.
+-- The value of the first field of a name, which is given with its colon and stands in any case: what follows the colon,
+-- with the continuation lines.
 abbrev pub is_named : List ℕ → List ℕ → Bool
-is_named name line = is_word (take (length name + 1) line) (name ++ (58 ∷ []))
+is_named name line = is_word (take (length name) line) name
 
--- The value of the first field of a name: what follows the colon, with the continuation lines.
 abbrev pub value_of : List ℕ → List (List ℕ) → Option (List ℕ)
 value_of name [] = None
-value_of name (line ∷ lines) = if is_named name line then Some (drop (length name + 1) line ++ continuation lines) else value_of name lines
+value_of name (line ∷ lines) = if is_named name line then Some (drop (length name) line ++ continuation lines) else value_of name lines
 
 -- the octets that have a meaning of their own in a field (RFC 2045, section 5.1)
 abbrev pub specials : List ℕ
@@ -147,18 +147,19 @@ abbrev pub kind_of : Option (List ℕ) → Kind
 kind_of None = kinds.Missing
 kind_of (Some value) = kind_or kinds.Unreadable (typed value)
 
--- a value without the blanks around it
-abbrev pub trimmed : List ℕ → List ℕ
-trimmed value = reverse (behind_blanks (reverse (behind_blanks value)))
+-- a text without the blanks at its end
+abbrev pub before_blanks : List ℕ → List ℕ
+before_blanks [] = []
+before_blanks (c ∷ rest) = if list_all is_blank (c ∷ rest) then [] else c ∷ before_blanks rest
 
 -- the coding by the value of Content-Transfer-Encoding
 unfoldable pub coding_of : Option (List ℕ) → Coding
 coding_of None = codings.Plain
-coding_of (Some value) = if is_word (trimmed value) (codes "base64") then codings.Base64 else codings.Plain
+coding_of (Some value) = if is_word (before_blanks (behind_blanks value)) (codes "base64") then codings.Base64 else codings.Plain
 
 -- What a header block says.
 unfoldable pub fields_of : List ℕ → Fields
 fields_of block = record {
-  kind = kind_of (value_of (codes "content-type") (texts block));
-  coding = coding_of (value_of (codes "content-transfer-encoding") (texts block));
+  kind = kind_of (value_of (codes "content-type:") (texts block));
+  coding = coding_of (value_of (codes "content-transfer-encoding:") (texts block));
 }

@@ -1,5 +1,6 @@
 -- A text in lines, as a mail message has them: a line ends at LF, and a CR directly before it belongs to the break.
-use Rattle.std.specs.Prelude.{ℕ, ◌+◌, ◌-◌, ◌==◌, ◌||◌, Bool, List, [], ◌∷◌, length, map, reverse, take, drop, if◌then◌else◌}
+use Rattle.std.specs.Prelude.{ℕ, ◌+◌, ◌-◌, ◌==◌, ◌||◌, ◌≡◌, ◌<◌, ◌≤◌, Bool, List, [], ◌∷◌, length, map, reverse, take, drop, if◌then◌else◌}
+use Rattle.mdbox_base.specs.declared.mime.Line.{Line}
 
 -- what stands in a text from one place to another
 abbrev pub range : List ℕ → ℕ → ℕ → List ℕ
@@ -51,3 +52,16 @@ texts text = map content (raw_lines text)
 -- blanks are spaces and tabs
 abbrev pub is_blank : ℕ → Bool
 is_blank c = c == 32 || c == 9
+
+-- a line of a text by its places, with its octets
+abbrev pub line_in : List ℕ → Line → TextLine
+line_in text line = record { start = line.start; end = line.end; next = line.next; text = range text line.start line.end }
+
+-- The line that starts at a place of a text.
+pub record IsLineAt (text : List ℕ) (from : ℕ) (line : Line) : Type 0 where
+  pub start : line.start ≡ from
+  pub goes_on : from < line.next
+  pub order : line.start ≤ line.end
+  pub break : line.end ≤ line.next
+  pub within : line.next ≤ length text
+  pub lines : lines_from from (drop from text) ≡ line_in text line ∷ lines_from line.next (drop line.next text)
