@@ -7,6 +7,7 @@ pub mod DetachedLaws
 pub mod Entries
 pub mod EntryLaws
 pub mod Fields
+pub mod FileLaws
 pub mod Grammars
 pub mod Lines
 pub mod Lists
@@ -27,4 +28,5 @@ pub mod Rejoined
 pub mod RejoinedLaws
 pub mod RowLaws
 pub mod Rows
+pub mod ScanLaws
 pub mod StorageFile
