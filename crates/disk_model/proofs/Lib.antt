@@ -1,2 +1,5 @@
+pub mod ChangeAndSync
 pub mod Moments
 pub mod Names
+pub mod OneFile
+pub mod Others
