@@ -7,6 +7,9 @@ pub use entries::one_spelling;
 pub use examples::{example_meanings, example_texts};
 pub use log_file::{log_examples, one_damage, one_log};
 pub use meanings::{more_entries, one_entry_more};
+pub use metadata::{
+    first_bad_line_is_one, metadata_is_one, references_are_one, written_metadata_is_a_spelling,
+};
 pub use rejoined::{whole_has_no_error, whole_is_one};
 
 mod base64_text;
@@ -15,5 +18,6 @@ mod entries;
 mod examples;
 mod log_file;
 mod meanings;
+mod metadata;
 pub mod parts;
 mod rejoined;
