@@ -1,5 +1,5 @@
 use Rattle.b64_lines.proofs.Forms.{only_none, only_crlf, only_lf}
-use Rattle.b64_lines.proofs.form_of.Goals as goal
+use Rattle.b64_lines.proofs.read.form_of.Goals as goal
 
 pub returns-in-None-clause-only : goal.returns-in-None-clause-only
 returns-in-None-clause-only c form octets h = only_none c.args.text.now form octets _ c.in-None.ensures h c.form_with.ensures

@@ -1,0 +1,4 @@
+pub mod Cut
+pub mod Forms
+pub mod Sizes
+pub mod Writing
