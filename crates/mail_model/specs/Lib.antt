@@ -2,6 +2,7 @@ pub mod Base64Laws
 pub mod Base64Text
 pub mod BoxLaws
 pub mod BoxMeaning
+pub mod BoxSoundLaws
 pub mod Detached
 pub mod DetachedLaws
 pub mod Entries
@@ -19,11 +20,13 @@ pub mod MapEntryLaws
 pub mod MapFits
 pub mod MapLaws
 pub mod MapMeaning
+pub mod MapSoundLaws
 pub mod MeaningExamples
 pub mod Metadata
 pub mod MetadataExamples
 pub mod MetadataLaws
 pub mod NumberLaws
+pub mod PairLaws
 pub mod Parts
 pub mod PartsExamples
 pub mod PartsLaws
@@ -34,6 +37,11 @@ pub mod Rejoined
 pub mod RejoinedLaws
 pub mod RowLaws
 pub mod Rows
+pub mod Safe
+pub mod SafeLaws
 pub mod ScanLaws
+pub mod Sound
+pub mod Stands
+pub mod StandsLaws
 pub mod StorageFile
 pub mod WrittenLaws

@@ -1,6 +1,5 @@
 -- Mailbox lists: what a user sees of a store.
-use Rattle.std.specs.Prelude.{◌≢◌, ◌<◌, ℕ, List, map, All, AllPairs, sum_by, count_by}
-use Rattle.std.specs.List.Sorted.{IsStrictlyIncreasing}
+use Rattle.std.specs.Prelude.{◌≡◌, ◌≢◌, ◌<◌, ◌≤◌, ◌^◌, ℕ, List, length, All, AllPairs, sum_by, count_by}
 use Rattle.std.specs.Str.{bytes_eq}
 
 -- A listed message: its UID, its flags, the time it was received (Unix seconds), its GUID and its octets.
@@ -22,16 +21,27 @@ pub record Mailbox : Type 0 where
 abbrev pub Lists : Type 0
 Lists = List Mailbox
 
--- UIDs rise within the mailbox, and lie below its next UID (RFC 9051, section 2.3.1.1).
-pub record HasRisingUids (mailbox : Mailbox) : Type 0 where
-  pub rising : IsStrictlyIncreasing (map (λ m. m.uid) mailbox.messages)
-  pub below : All (λ m. m.uid < mailbox.next_uid) mailbox.messages
+-- The numbers of a message are in their ranges: UIDs from 1 to 4,294,967,294, flags as bits below 32, 64 bits of time,
+-- a GUID of 16 octets, and at most 67,108,864 octets.
+pub record IsMessageInRange (message : ListedMessage) : Type 0 where
+  pub uid_some : 1 ≤ message.uid
+  pub uid_fits : message.uid ≤ 4294967294
+  pub flags : message.flags ≤ 31
+  pub time : message.time < 2 ^ 64
+  pub guid : length message.guid ≡ 16
+  pub size : length message.octets ≤ 67108864
 
--- The lists are well formed: names and numbers of mailboxes differ, numbers rise in the order of making, and UIDs rise.
+-- UIDs rise within the mailbox, and lie below its next UID (RFC 9051, section 2.3.1.1).
+pub record IsMailboxInOrder (mailbox : Mailbox) : Type 0 where
+  pub rising : AllPairs (λ a b. a.uid < b.uid) mailbox.messages
+  pub below : All (λ m. m.uid < mailbox.next_uid) mailbox.messages
+  pub in_range : All IsMessageInRange mailbox.messages
+
+-- The lists are well formed: names of mailboxes differ, their numbers rise in the order of making, and each is in order.
 pub record AreWellFormed (lists : Lists) : Type 0 where
   pub names : AllPairs (λ a b. a.name ≢ b.name) lists
-  pub numbers : IsStrictlyIncreasing (map (λ b. b.number) lists)
-  pub uids : All HasRisingUids lists
+  pub numbers : AllPairs (λ a b. a.number < b.number) lists
+  pub each : All IsMailboxInOrder lists
 
 -- how many listed messages have this GUID
 abbrev pub refs_of : Lists → List ℕ → ℕ

@@ -11,6 +11,7 @@ pub use metadata::{
     first_bad_line_is_one, metadata_is_one, references_are_one, written_metadata_is_a_spelling,
 };
 pub use rejoined::{whole_has_no_error, whole_is_one};
+pub use stands::{counts_of_safe_image, one_map, one_meaning};
 
 mod base64_text;
 mod detached;
@@ -21,3 +22,4 @@ mod meanings;
 mod metadata;
 pub mod parts;
 mod rejoined;
+mod stands;

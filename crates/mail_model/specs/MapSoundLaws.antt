@@ -1,0 +1,332 @@
+-- The meaning of a map log whose entries fit is sound.
+use Rattle.std.specs.Prelude.{◌≡◌, ◌≢◌, ◌<◌, ◌≤◌, ◌+◌, ◌-◌, ◌==◌, ℕ, max, Bool, true, false, List, [], ◌∷◌, ◌++◌, length, Option, Some, None, All, AllPairs, slice_index_or, refl, if◌then◌else◌}
+use Rattle.std.specs.List.{AllByRecursion}
+use Rattle.std.proofs.Common.{sym, ◌∙◌, ap, arith, subst, append-nil, append_assoc, length-append}
+use Rattle.std.proofs.lemmas.Grind.{common_steps}
+use Rattle.std.proofs.lemmas.List.Elements.{All-nil, All-weaker, All-push, All-map, All-filter}
+use Rattle.mdbox_base.specs.declared.entries.InstRow.{InstRow}
+use Rattle.mdbox_base.specs.declared.entries.MapPlace.{MapPlace}
+use Rattle.mdbox_base.specs.declared.entries.MapEntry.{MapEntry}
+use Rattle.mdbox_base.specs.declared.entries.MapEntry.TheVariants as map
+use Rattle.mail_model.specs.MapMeaning.{MapRecord, MapBox, MapMeaning, map_meaning, map_applied, record_changed, record_rules, box_changed, box_rules, placed, place_given, has_uid, record_at}
+use Rattle.mail_model.specs.MapFits.{IsNumber, AgreesOn, FitsPlace, FitsTarget, MapFits, AllMapFit}
+use Rattle.mail_model.specs.MapLaws.{map_more}
+use Rattle.mail_model.specs.Entries.{MapInRange}
+use Rattle.mail_model.specs.PairLaws.{kept_rows, kept_all, kept_pairs, kept_length, pairs_nil, pairs_push, found_holds, found_only, IsOnly}
+use Rattle.mail_model.specs.Sound.{IsSoundRecord, AgreeOnInstances, IsSoundMapBox, IsSoundMap}
+
+-- numbers that a test finds equal
+pub equal_is : (a b : ℕ) → (a == b) ≡ true → a ≡ b
+equal_is a b h = grind (arith, common_steps, h)
+
+pub equal_yes : (a b : ℕ) → a ≡ b → (a == b) ≡ true
+equal_yes a b h = grind (arith, common_steps, h)
+
+-- ---- what an entry keeps of a record
+
+pub record IsSameMessage (a b : MapRecord) : Type 0 where
+  pub uid : b.uid ≡ a.uid
+  pub origin : b.origin ≡ a.origin
+  pub size : b.size ≡ a.size
+  pub guid : b.guid ≡ a.guid
+  pub instances : b.instances ≡ a.instances
+
+is_itself : (row : MapRecord) → IsSameMessage row row
+is_itself row = record { uid = refl; origin = refl; size = refl; guid = refl; instances = refl }
+
+counted : (hit : Bool) (n : ℕ) (row : MapRecord) → IsSameMessage row (if hit then record row { count = n } else row)
+counted true n row = record { uid = refl; origin = refl; size = refl; guid = refl; instances = refl }
+counted false n row = is_itself row
+
+placed_same : (row : MapRecord) (target : ℕ) (place : Option MapPlace) → IsSameMessage row (placed row target place)
+placed_same row target None = is_itself row
+placed_same row target (Some place) = record { uid = refl; origin = refl; size = refl; guid = refl; instances = refl }
+
+-- An entry changes the count or the place of a record, and nothing else.
+pub changed_same : (entry : MapEntry) (row : MapRecord) → IsSameMessage row (record_changed entry row)
+changed_same (map.H h) row = is_itself row
+changed_same (map.B m g n) row = is_itself row
+changed_same (map.G m g) row = is_itself row
+changed_same (map.S o c u f a z g is) row = is_itself row
+changed_same (map.U u) row = counted (u.0 == row.uid) (row.count + 1) row
+changed_same (map.D us) row = counted (has_uid row.uid us) (row.count - 1) row
+changed_same (map.T cs) row = record { uid = refl; origin = refl; size = refl; guid = refl; instances = refl }
+changed_same (map.P f t ms us) row = placed_same row t (place_given row.uid ms)
+changed_same (map.E f) row = is_itself row
+
+-- a region's place is in range
+pub record IsPlaced (row : MapRecord) : Type 0 where
+  pub file : IsNumber row.file
+  pub ends : row.offset + row.size ≤ 4294967295
+
+counted_place : (hit : Bool) (n : ℕ) (row : MapRecord) → IsPlaced row → IsPlaced (if hit then record row { count = n } else row)
+counted_place true n row p = record { file = p.file; ends = p.ends }
+counted_place false n row p = p
+
+place_of : (highest : ℕ) (row : MapRecord) → IsSoundRecord highest row → IsPlaced row
+place_of highest row r = record { file = r.file; ends = r.ends }
+
+sound_again : (low high : ℕ) (a b : MapRecord) → low ≤ high → IsSoundRecord low a → IsSameMessage a b → IsPlaced b → IsSoundRecord high b
+sound_again low high a b le s same p =
+    let uid = same.uid in
+    let origin = same.origin in
+    let size = same.size in
+    let h1 = s.uid_some in
+    let h2 = s.below in
+    let h3 = s.origin in
+    let h4 = s.size in
+    record {
+      uid_some = omega (arith, uid, h1);
+      below = omega (arith, uid, h2, le);
+      origin = omega (arith, origin, h3);
+      file = p.file;
+      size = omega (arith, size, h4);
+      ends = p.ends;
+      guid = ap length same.guid ∙ s.guid;
+      agree = subst (λ (is : List InstRow). AllPairs AgreesOn is) (sym same.instances) s.agree;
+    }
+
+-- ---- the records that an entry keeps
+
+abbrev Rises : MapRecord → MapRecord → Type 0
+Rises a b = a.uid < b.uid
+
+abbrev GuidsDiffer : MapRecord → MapRecord → Type 0
+GuidsDiffer a b = a.guid ≢ b.guid
+
+kept_rising : (m : MapMeaning) (entry : MapEntry) → IsSoundMap m → AllPairs Rises (kept_rows record_rules entry m.records)
+kept_rising m entry s = kept_pairs record_rules entry m.records Rises (λ a b h. let p = (changed_same entry a).uid in let q = (changed_same entry b).uid in omega (arith, h, p, q)) s.rising
+
+kept_guids : (m : MapMeaning) (entry : MapEntry) → IsSoundMap m → AllPairs GuidsDiffer (kept_rows record_rules entry m.records)
+kept_guids m entry s = kept_pairs record_rules entry m.records GuidsDiffer (λ a b h e. h (sym (changed_same entry a).guid ∙ e ∙ (changed_same entry b).guid)) s.guids
+
+agree_along : (a b c d : MapRecord) → IsSameMessage a c → IsSameMessage b d → AgreeOnInstances a b → AgreeOnInstances c d
+agree_along a b c d p q h =
+    subst (λ (is : List InstRow). All (λ j. All (AgreesOn j) c.instances) is) (sym q.instances)
+    (subst (λ (is : List InstRow). All (λ j. All (AgreesOn j) is) b.instances) (sym p.instances) h)
+
+kept_agree : (m : MapMeaning) (entry : MapEntry) → IsSoundMap m → AllPairs AgreeOnInstances (kept_rows record_rules entry m.records)
+kept_agree m entry s = kept_pairs record_rules entry m.records AgreeOnInstances (λ a b h. agree_along a b _ _ (changed_same entry a) (changed_same entry b) h) s.agree
+
+-- a fact of each record as the entry changes it
+kept_from : (m : MapMeaning) (entry : MapEntry) (Q : MapRecord → Type 0) → All (λ row. Q (record_changed entry row)) m.records → All Q (kept_rows record_rules entry m.records)
+kept_from m entry Q h = All-map Q (record_changed entry) _ (All-filter _ (λ row. Q (record_changed entry row)) m.records h)
+
+-- where places stay in range, the records that an entry keeps are sound
+kept_sound : (m : MapMeaning) (entry : MapEntry) (high : ℕ) → m.highest.map ≤ high → IsSoundMap m → All (λ row. IsPlaced (record_changed entry row)) m.records → All (IsSoundRecord high) (kept_rows record_rules entry m.records)
+kept_sound m entry high le s p =
+    kept_from m entry (IsSoundRecord high) (λ k d lt. sound_again m.highest.map high _ _ le (s.records k d lt) (changed_same entry (slice_index_or m.records k d)) (p k d lt))
+
+-- ---- places
+
+all_places : (m : MapMeaning) → IsSoundMap m → All IsPlaced m.records
+all_places m s = All-weaker (IsSoundRecord m.highest.map) IsPlaced (place_of m.highest.map) m.records s.records
+
+moved_place : (m : MapMeaning) (target : ℕ) (row : MapRecord) (place : MapPlace) → IsNumber target → FitsPlace m target place → IsOnly (λ r. r.uid == place.uid.0) row row → ((r : MapRecord) → record_at m place.uid.0 ≡ Some r → row ≡ r) → IsPlaced (placed row target (Some place))
+moved_place m target row place n f only is =
+    let e : row ≡ f.0 = is f.0 f.1 in
+    let size : row.size ≡ f.0.size = ap (λ (r : MapRecord). r.size) e in
+    let fits = f.2 in
+    record { file = n; ends = omega (arith, size, fits.0) }
+
+-- the record of a row's own map uid is that row
+pub own_record : (m : MapMeaning) → IsSoundMap m → All (λ row. (uid : ℕ) (r : MapRecord) → (row.uid == uid) ≡ true → record_at m uid ≡ Some r → row ≡ r) m.records
+own_record m s = λ k d lt uid r hit found.
+    found_only (λ row. row.uid == uid) m.records r found (λ i j e l le p q. let a = equal_is _ uid p in let b = equal_is _ uid q in let h = s.rising i j e l le in omega (arith, a, b, h)) k d lt hit
+
+places_after : (m : MapMeaning) (target : ℕ) (moved : List MapPlace) (row : MapRecord) (given : Option MapPlace) → IsPlaced row
+    → ((place : MapPlace) → given ≡ Some place → IsPlaced (placed row target (Some place))) → IsPlaced (placed row target given)
+places_after m target moved row None p h = p
+places_after m target moved row (Some place) p h = h place refl
+
+target_places : (m : MapMeaning) (file target : ℕ) (moved : List MapPlace) → IsSoundMap m → FitsTarget m file target moved → All (λ row. IsPlaced (placed row target (place_given row.uid moved))) m.records
+target_places m file target [] s f = all_places m s
+target_places m file target (p ∷ ps) s f = λ k d lt.
+    places_after m target (p ∷ ps) (slice_index_or m.records k d) (place_given (slice_index_or m.records k d).uid (p ∷ ps)) (all_places m s k d lt)
+    (λ place e.
+    let r = found_holds (λ (q : MapPlace). q.uid.0 == (slice_index_or m.records k d).uid) (p ∷ ps) place (FitsPlace m target) e f.2 in
+    let hit : ((slice_index_or m.records k d).uid == place.uid.0) ≡ true = equal_yes _ _ (sym (equal_is _ _ r.1)) in
+    moved_place m target (slice_index_or m.records k d) place f.0 r.0 (λ _. refl) (λ x found. own_record m s k d lt place.uid.0 x hit found))
+
+-- ---- mailboxes
+
+with_generation : (hit : Bool) (high g : ℕ) (box : MapBox) → IsNumber g → IsSoundMapBox high box → IsSoundMapBox high (if hit then record box { generation = g } else box)
+with_generation true high g box n b = record { number_some = b.number_some; below = b.below; generation = n }
+with_generation false high g box n b = b
+
+-- what an entry that names a generation needs
+abbrev GenerationFits : MapEntry → Type 0
+GenerationFits (map.G mailbox generation) = IsNumber generation
+GenerationFits entry = Unit {0}
+
+box_stays : (entry : MapEntry) (high : ℕ) (box : MapBox) → GenerationFits entry → IsSoundMapBox high box → IsSoundMapBox high (box_changed entry box)
+box_stays (map.H h) high box f b = b
+box_stays (map.B m g n) high box f b = b
+box_stays (map.G m g) high box f b = with_generation (m.0 == box.number) high g box f b
+box_stays (map.S o c u f2 a z g is) high box f b = b
+box_stays (map.U u) high box f b = b
+box_stays (map.D us) high box f b = b
+box_stays (map.T cs) high box f b = b
+box_stays (map.P f2 t ms us) high box f b = b
+box_stays (map.E f2) high box f b = b
+
+-- a mailbox keeps its number and its name
+record IsSameBox (a b : MapBox) : Type 0 where
+  number : b.number ≡ a.number
+  name : b.name ≡ a.name
+
+generation_same : (hit : Bool) (g : ℕ) (box : MapBox) → IsSameBox box (if hit then record box { generation = g } else box)
+generation_same true g box = record { number = refl; name = refl }
+generation_same false g box = record { number = refl; name = refl }
+
+box_same : (entry : MapEntry) (box : MapBox) → IsSameBox box (box_changed entry box)
+box_same (map.H h) box = record { number = refl; name = refl }
+box_same (map.B m g n) box = record { number = refl; name = refl }
+box_same (map.G m g) box = generation_same (m.0 == box.number) g box
+box_same (map.S o c u f2 a z g is) box = record { number = refl; name = refl }
+box_same (map.U u) box = record { number = refl; name = refl }
+box_same (map.D us) box = record { number = refl; name = refl }
+box_same (map.T cs) box = record { number = refl; name = refl }
+box_same (map.P f2 t ms us) box = record { number = refl; name = refl }
+box_same (map.E f2) box = record { number = refl; name = refl }
+
+abbrev BoxRises : MapBox → MapBox → Type 0
+BoxRises a b = a.number < b.number
+
+abbrev NamesDiffer : MapBox → MapBox → Type 0
+NamesDiffer a b = a.name ≢ b.name
+
+box_higher : (low high : ℕ) → low ≤ high → (box : MapBox) → IsSoundMapBox low box → IsSoundMapBox high box
+box_higher low high le box b = record { number_some = b.number_some; below = (let h = b.below in omega (arith, h, le)); generation = b.generation }
+
+kept_boxes : (m : MapMeaning) (entry : MapEntry) (high : ℕ) → m.highest.mailbox ≤ high → GenerationFits entry → IsSoundMap m → All (IsSoundMapBox high) (kept_rows box_rules entry m.boxes)
+kept_boxes m entry high le f s = kept_all box_rules entry m.boxes (IsSoundMapBox m.highest.mailbox) (IsSoundMapBox high) (λ box b. box_higher m.highest.mailbox high le _ (box_stays entry m.highest.mailbox box f b)) s.boxes
+
+kept_box_rising : (m : MapMeaning) (entry : MapEntry) → IsSoundMap m → AllPairs BoxRises (kept_rows box_rules entry m.boxes)
+kept_box_rising m entry s = kept_pairs box_rules entry m.boxes BoxRises (λ a b h. let p = (box_same entry a).number in let q = (box_same entry b).number in omega (arith, h, p, q)) s.boxes_rising
+
+kept_names : (m : MapMeaning) (entry : MapEntry) → IsSoundMap m → AllPairs NamesDiffer (kept_rows box_rules entry m.boxes)
+kept_names m entry s = kept_pairs box_rules entry m.boxes NamesDiffer (λ a b h e. h (sym (box_same entry a).name ∙ e ∙ (box_same entry b).name)) s.names
+
+-- ---- one entry more
+
+-- the facts of records, and of mailboxes
+record AreSoundRecords (high : ℕ) (rows : List MapRecord) : Type 0 where
+  rising : AllPairs Rises rows
+  each : All (IsSoundRecord high) rows
+  guids : AllPairs GuidsDiffer rows
+  agree : AllPairs AgreeOnInstances rows
+
+record AreSoundBoxes (high : ℕ) (boxes : List MapBox) : Type 0 where
+  rising : AllPairs BoxRises boxes
+  each : All (IsSoundMapBox high) boxes
+  names : AllPairs NamesDiffer boxes
+  room : length boxes ≤ 1024
+
+records_kept : (m : MapMeaning) (entry : MapEntry) (high : ℕ) → m.highest.map ≤ high → IsSoundMap m → All (λ row. IsPlaced (record_changed entry row)) m.records → AreSoundRecords high (kept_rows record_rules entry m.records)
+records_kept m entry high le s p = record { rising = kept_rising m entry s; each = kept_sound m entry high le s p; guids = kept_guids m entry s; agree = kept_agree m entry s }
+
+boxes_kept : (m : MapMeaning) (entry : MapEntry) (high : ℕ) → m.highest.mailbox ≤ high → GenerationFits entry → IsSoundMap m → AreSoundBoxes high (kept_rows box_rules entry m.boxes)
+boxes_kept m entry high le f s = record {
+  rising = kept_box_rising m entry s;
+  each = kept_boxes m entry high le f s;
+  names = kept_names m entry s;
+  room = (let h = kept_length box_rules entry m.boxes in let k = s.room in omega (arith, h, k));
+}
+
+records_nil : (high : ℕ) (rows : List MapRecord) → AreSoundRecords high rows → AreSoundRecords high (rows ++ [])
+records_nil high rows r = subst (AreSoundRecords high) (sym (append-nil rows)) r
+
+boxes_nil : (high : ℕ) (boxes : List MapBox) → AreSoundBoxes high boxes → AreSoundBoxes high (boxes ++ [])
+boxes_nil high boxes b = subst (AreSoundBoxes high) (sym (append-nil boxes)) b
+
+joined : (m : MapMeaning) (entry : MapEntry) → AreSoundRecords (map_applied entry m).highest.map (map_applied entry m).records → AreSoundBoxes (map_applied entry m).highest.mailbox (map_applied entry m).boxes → IsSoundMap (map_applied entry m)
+joined m entry r b = record {
+  rising = r.rising;
+  records = r.each;
+  guids = r.guids;
+  agree = r.agree;
+  boxes_rising = b.rising;
+  boxes = b.each;
+  names = b.names;
+  room = b.room;
+}
+
+-- One entry more that fits keeps the meaning sound.
+pub map_sound_more : (m : MapMeaning) (entry : MapEntry) → IsSoundMap m → MapFits m entry → MapInRange entry → IsSoundMap (map_applied entry m)
+map_sound_more m (map.H h) s f r =
+    joined m (map.H h) (records_nil _ _ (records_kept m (map.H h) _ (omega arith) s (all_places m s))) (boxes_nil _ _ (boxes_kept m (map.H h) _ (omega arith) tt s))
+map_sound_more m (map.G b g) s f r =
+    joined m (map.G b g) (records_nil _ _ (records_kept m (map.G b g) _ (omega arith) s (all_places m s))) (boxes_nil _ _ (boxes_kept m (map.G b g) _ (omega arith) f.1 s))
+map_sound_more m (map.U u) s f r =
+    joined m (map.U u) (records_nil _ _ (records_kept m (map.U u) _ (omega arith) s (λ k d lt. counted_place _ _ _ (all_places m s k d lt)))) (boxes_nil _ _ (boxes_kept m (map.U u) _ (omega arith) tt s))
+map_sound_more m (map.D us) s f r =
+    joined m (map.D us) (records_nil _ _ (records_kept m (map.D us) _ (omega arith) s (λ k d lt. counted_place _ _ _ (all_places m s k d lt)))) (boxes_nil _ _ (boxes_kept m (map.D us) _ (omega arith) tt s))
+map_sound_more m (map.T cs) s f r =
+    joined m (map.T cs) (records_nil _ _ (records_kept m (map.T cs) _ (omega arith) s (λ k d lt. record { file = (all_places m s k d lt).file; ends = (all_places m s k d lt).ends }))) (boxes_nil _ _ (boxes_kept m (map.T cs) _ (omega arith) tt s))
+map_sound_more m (map.P file t ms us) s f r =
+    joined m (map.P file t ms us) (records_nil _ _ (records_kept m (map.P file t ms us) _ (omega arith) s (target_places m file.0 t ms s f.target_fits))) (boxes_nil _ _ (boxes_kept m (map.P file t ms us) _ (omega arith) tt s))
+map_sound_more m (map.E file) s f r =
+    joined m (map.E file) (records_nil _ _ (records_kept m (map.E file) _ (omega arith) s (all_places m s))) (boxes_nil _ _ (boxes_kept m (map.E file) _ (omega arith) tt s))
+map_sound_more m (map.B b g n) s f r =
+    let entry : MapEntry = map.B b g n in
+    let kept = boxes_kept m entry (max m.highest.mailbox b.0) (omega arith) tt s in
+    let boxes : List MapBox = kept_rows box_rules entry m.boxes in
+    let box : MapBox = record { number = b.0; generation = g; name = n } in
+    let high = f.box_new in
+    let old : All (λ (x : MapBox). x.number ≤ m.highest.mailbox) boxes = kept_all box_rules entry m.boxes (IsSoundMapBox m.highest.mailbox) (λ (x : MapBox). x.number ≤ m.highest.mailbox) (λ x h. h.below) s.boxes in
+    let short = kept_length box_rules entry m.boxes in
+    joined m entry (records_nil _ _ (records_kept m entry _ (omega arith) s (all_places m s)))
+    (record {
+      rising = pairs_push BoxRises boxes box kept.rising (All-weaker (λ (x : MapBox). x.number ≤ m.highest.mailbox) (λ (x : MapBox). x.number < b.0) (λ x h. omega (arith, h, high)) boxes old);
+      each = All-push (IsSoundMapBox (max m.highest.mailbox b.0)) boxes box kept.each (record { number_some = f.box_number.low; below = omega arith; generation = f.first });
+      names = pairs_push NamesDiffer boxes box kept.names (kept_all box_rules entry m.boxes (λ (x : MapBox). x.name ≢ n) (λ (x : MapBox). x.name ≢ n) (λ x h. h) f.name_new);
+      room = (let l = length-append boxes (box ∷ []) in let k = f.room in omega (arith, l, k, short));
+    })
+map_sound_more m (map.S o c u file a z g is) s f r =
+    let entry : MapEntry = map.S o c u file a z g is in
+    let kept = records_kept m entry (max m.highest.map u.0) (omega arith) s (all_places m s) in
+    let rows : List MapRecord = kept_rows record_rules entry m.records in
+    let row : MapRecord = record { uid = u.0; origin = o; count = c; file = file.0; offset = a; size = z; guid = g.0; instances = is } in
+    let high = f.uid_new in
+    let old : All (λ (x : MapRecord). x.uid ≤ m.highest.map) rows = kept_all record_rules entry m.records (IsSoundRecord m.highest.map) (λ (x : MapRecord). x.uid ≤ m.highest.map) (λ x h. h.below) s.records in
+    joined m entry
+    (record {
+      rising = pairs_push Rises rows row kept.rising (All-weaker (λ (x : MapRecord). x.uid ≤ m.highest.map) (λ (x : MapRecord). x.uid < u.0) (λ x h. omega (arith, h, high)) rows old);
+      each = All-push (IsSoundRecord (max m.highest.map u.0)) rows row kept.each (record {
+        uid_some = f.uid_number.low;
+        below = omega arith;
+        origin = f.known_origin;
+        file = f.region.file_number;
+        size = f.region.some;
+        ends = f.region.ends;
+        guid = r.6;
+        agree = f.earlier;
+      });
+      guids = pairs_push GuidsDiffer rows row kept.guids (kept_all record_rules entry m.records (λ (x : MapRecord). x.guid ≢ g.0) (λ (x : MapRecord). x.guid ≢ g.0) (λ x h. h) f.guid_new);
+      agree = pairs_push AgreeOnInstances rows row kept.agree (kept_all record_rules entry m.records (λ (x : MapRecord). All (λ i. All (AgreesOn i) x.instances) is) (λ (x : MapRecord). All (λ i. All (AgreesOn i) x.instances) is) (λ x h. h) f.known);
+    })
+    (boxes_nil _ _ (boxes_kept m entry _ (omega arith) tt s))
+
+-- no entries
+pub map_sound_empty : (store : List ℕ) → IsSoundMap (map_meaning store [])
+map_sound_empty store = record {
+  rising = pairs_nil Rises;
+  records = All-nil (IsSoundRecord 0);
+  guids = pairs_nil GuidsDiffer;
+  agree = pairs_nil AgreeOnInstances;
+  boxes_rising = pairs_nil BoxRises;
+  boxes = All-nil (IsSoundMapBox 0);
+  names = pairs_nil NamesDiffer;
+  room = omega arith;
+}
+
+sound_from : (store : List ℕ) (before entries : List MapEntry) → IsSoundMap (map_meaning store before) → AllMapFit store before entries → AllByRecursion MapInRange entries → IsSoundMap (map_meaning store (before ++ entries))
+sound_from store before [] s f r = subst (λ (es : List MapEntry). IsSoundMap (map_meaning store es)) (sym (append-nil before)) s
+sound_from store before (entry ∷ entries) s f r =
+    let one : IsSoundMap (map_meaning store (before ++ entry ∷ [])) = subst IsSoundMap (sym (map_more store before entry)) (map_sound_more (map_meaning store before) entry s f.0 r.0) in
+    subst (λ (es : List MapEntry). IsSoundMap (map_meaning store es)) (append_assoc before (entry ∷ []) entries) (sound_from store (before ++ entry ∷ []) entries one f.1 r.1)
+
+-- The meaning of entries that fit is sound.
+pub map_sound : (store : List ℕ) (entries : List MapEntry) → AllMapFit store [] entries → AllByRecursion MapInRange entries → IsSoundMap (map_meaning store entries)
+map_sound store entries f r = sound_from store [] entries (map_sound_empty store) f r

@@ -1,0 +1,82 @@
+-- What holds of the rows of a log with one entry more.
+use Rattle.std.specs.Prelude.{◌≡◌, ◌≤◌, suc, Bool, true, false, not, cond, List, [], ◌∷◌, ◌++◌, length, map, filter, find, Some, All, AllPairs, refl}
+use Rattle.std.proofs.Common.{sym, ◌∙◌, ap, arith, subst}
+use Rattle.std.proofs.lemmas.List.Elements.{All-nil, All-cons, All-head, All-tail, All-map, All-filter, All-weaker}
+use Rattle.std.proofs.lemmas.List.Kept.{AllPairs-cons, AllPairs-filter}
+use Rattle.std.proofs.lemmas.List.Quantifiers.{all_pairs_push}
+use Rattle.mail_model.specs.Rows.{Rules}
+
+pub pairs_head : {X : Type 0} → (R : X → X → Type 0) (x : X) (xs : List X) → AllPairs R (x ∷ xs) → All (R x) xs
+pairs_head R x xs p = λ k d lt. p 0 (suc k) d (omega arith) (omega (arith, lt))
+
+pub pairs_tail : {X : Type 0} → (R : X → X → Type 0) (x : X) (xs : List X) → AllPairs R (x ∷ xs) → AllPairs R xs
+pairs_tail R x xs p = λ i j d lt le. p (suc i) (suc j) d (omega (arith, lt)) (omega (arith, le))
+
+pub pairs_nil : {X : Type 0} → (R : X → X → Type 0) → AllPairs R []
+pairs_nil R = λ i j d lt le. absurd (omega (arith, le))
+
+-- a relation that a change keeps
+pub pairs_map : {X Y : Type 0} → (R : X → X → Type 0) (Q : Y → Y → Type 0) (f : X → Y) → ((a b : X) → R a b → Q (f a) (f b)) → (xs : List X) → AllPairs R xs → AllPairs Q (map f xs)
+pairs_map R Q f keeps [] p = pairs_nil Q
+pairs_map R Q f keeps (x ∷ xs) p =
+    AllPairs-cons Q (f x) (map f xs) (All-map (Q (f x)) f xs (All-weaker (R x) (λ y. Q (f x) (f y)) (λ y h. keeps x y h) xs (pairs_head R x xs p)))
+    (pairs_map R Q f keeps xs (pairs_tail R x xs p))
+
+pub all_map : {X Y : Type 0} → (P : X → Type 0) (Q : Y → Type 0) (f : X → Y) → ((a : X) → P a → Q (f a)) → (xs : List X) → All P xs → All Q (map f xs)
+all_map P Q f keeps xs p = All-map Q f xs (All-weaker P (λ x. Q (f x)) keeps xs p)
+
+pub pairs_push : {X : Type 0} → (R : X → X → Type 0) (xs : List X) (y : X) → AllPairs R xs → All (λ x. R x y) xs → AllPairs R (xs ++ y ∷ [])
+pairs_push R xs y p a = all_pairs_push R xs y p (λ k d lt. a k d lt)
+
+-- The rows that an entry keeps, as it changes them.
+abbrev pub kept_rows : {E R : Type 0} → Rules E R → E → List R → List R
+kept_rows rules entry rows = map (rules.changed entry) (filter (λ row. not (rules.removes entry row)) rows)
+
+pub kept_all : {E R : Type 0} → (rules : Rules E R) (entry : E) (rows : List R) (P Q : R → Type 0) → ((a : R) → P a → Q (rules.changed entry a)) → All P rows → All Q (kept_rows rules entry rows)
+kept_all rules entry rows P Q keeps p = all_map P Q (rules.changed entry) keeps _ (All-filter (λ row. not (rules.removes entry row)) P rows p)
+
+pub kept_pairs : {E R : Type 0} → (rules : Rules E R) (entry : E) (rows : List R) (P : R → R → Type 0) → ((a b : R) → P a b → P (rules.changed entry a) (rules.changed entry b)) → AllPairs P rows → AllPairs P (kept_rows rules entry rows)
+kept_pairs rules entry rows P keeps p = pairs_map P P (rules.changed entry) keeps _ (AllPairs-filter P (λ row. not (rules.removes entry row)) rows p)
+
+-- no more rows are kept than there were
+filter_le : {X : Type 0} → (p : X → Bool) (xs : List X) → length (filter p xs) ≤ length xs
+filter_le p [] = omega arith
+filter_le p (x ∷ xs) = one (p x) (filter p xs) xs x (filter_le p xs)
+  where
+    one : {X : Type 0} → (b : Bool) (fs xs : List X) (x : X) → length fs ≤ length xs → length (cond b (x ∷ fs) fs) ≤ length (x ∷ xs)
+    one true fs xs x h = omega (arith, h)
+    one false fs xs x h = omega (arith, h)
+
+length_map : {X Y : Type 0} → (f : X → Y) (xs : List X) → length (map f xs) ≡ length xs
+length_map f [] = refl
+length_map f (x ∷ xs) = let h = length_map f xs in omega (arith, h)
+
+pub kept_length : {E R : Type 0} → (rules : Rules E R) (entry : E) (rows : List R) → length (kept_rows rules entry rows) ≤ length rows
+kept_length rules entry rows = let h = length_map (rules.changed entry) (filter (λ row. not (rules.removes entry row)) rows) in let k = filter_le (λ row. not (rules.removes entry row)) rows in omega (arith, h, k)
+
+found_step : {X : Type 0} → (p : X → Bool) (y x : X) (ys : List X) (P : X → Type 0) (b : Bool) → p y ≡ b → P y → (find p ys ≡ Some x → P x × (p x ≡ true)) → cond b (Some y) (find p ys) ≡ Some x → P x × (p x ≡ true)
+found_step p y x ys P true h q rest e = let k : y ≡ x = cc e in (subst P k q, ap p (sym k) ∙ h)
+found_step p y x ys P false h q rest e = rest e
+
+-- an element that a search found is one that passes
+pub found_holds : {X : Type 0} → (p : X → Bool) (xs : List X) (x : X) (P : X → Type 0) → find p xs ≡ Some x → All P xs → P x × (p x ≡ true)
+found_holds p [] x P e a = absurd (cc e)
+found_holds p (y ∷ ys) x P e a = found_step p y x ys P (p y) refl (All-head P y ys a) (λ f. found_holds p ys x P f (All-tail P y ys a)) e
+
+-- two don't both pass
+abbrev pub NotBoth : {X : Type 0} → (X → Bool) → X → X → Type 0
+NotBoth p a b = p a ≡ true → p b ≡ true → ⊥
+
+abbrev pub IsOnly : {X : Type 0} → (X → Bool) → X → X → Type 0
+IsOnly p x y = p y ≡ true → y ≡ x
+
+only_step : {X : Type 0} → (p : X → Bool) (y x : X) (ys : List X) (b : Bool) → p y ≡ b → All (NotBoth p y) ys → (find p ys ≡ Some x → All (IsOnly p x) ys) → cond b (Some y) (find p ys) ≡ Some x → All (IsOnly p x) (y ∷ ys)
+only_step p y x ys true h apart rest e =
+    let k : y ≡ x = cc e in
+    All-cons (IsOnly p x) y ys (λ _. k) (All-weaker (NotBoth p y) (IsOnly p x) (λ z no q. absurd (no h q)) ys apart)
+only_step p y x ys false h apart rest e = All-cons (IsOnly p x) y ys (λ q. absurd (let w : false ≡ true = sym h ∙ q in cc w)) (rest e)
+
+-- where what passes is one at most, what was found is each that passes
+pub found_only : {X : Type 0} → (p : X → Bool) (xs : List X) (x : X) → find p xs ≡ Some x → AllPairs (NotBoth p) xs → All (IsOnly p x) xs
+found_only p [] x e a = All-nil (IsOnly p x)
+found_only p (y ∷ ys) x e a = only_step p y x ys (p y) refl (pairs_head (NotBoth p) y ys a) (λ f. found_only p ys x f (pairs_tail (NotBoth p) y ys a)) e

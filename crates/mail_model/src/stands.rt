@@ -1,0 +1,23 @@
+// Laws of what an image stands for.
+ghost use Rattle.std.specs.Prelude.{◌≡◌, ◌≤◌, ℕ, List};
+ghost use Rattle.disk_model.specs.Disk.{Files};
+ghost use Rattle.mdbox_base.specs.declared.entries.MapEntry.{MapEntry};
+ghost use Rattle.mail_model.specs.Lists.{Lists, refs_of};
+ghost use Rattle.mail_model.specs.MapMeaning.{map_meaning, count_of};
+ghost use Rattle.mail_model.specs.Stands.{HasMap, Stands};
+ghost use Rattle.mail_model.specs.Safe.{Safe};
+
+/// An image stands for one lists at most.
+pub fn one_meaning()
+    ensures { (image : Files) (xs ys : Lists) → Stands image xs → Stands image ys → xs ≡ ys }
+{}
+
+/// An image has one store id and one list of map entries at most.
+pub fn one_map()
+    ensures { (image : Files) (s t : List ℕ) (es fs : List MapEntry) → HasMap image s es → HasMap image t fs → (s ≡ t) × (es ≡ fs) }
+{}
+
+/// A safe image's counts are at least its references.
+pub fn counts_of_safe_image()
+    ensures { (image : Files) (lists : Lists) (store : List ℕ) (entries : List MapEntry) (guid : List ℕ) → Safe image lists → HasMap image store entries → refs_of lists guid ≤ count_of (map_meaning store entries) guid }
+{}
