@@ -9,6 +9,7 @@ pub mod Entries
 pub mod EntryLaws
 pub mod Fields
 pub mod FileLaws
+pub mod FitLaws
 pub mod Grammars
 pub mod HexTextLaws
 pub mod Lines
@@ -44,4 +45,5 @@ pub mod Sound
 pub mod Stands
 pub mod StandsLaws
 pub mod StorageFile
+pub mod WellFormedLaws
 pub mod WrittenLaws

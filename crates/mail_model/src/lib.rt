@@ -6,12 +6,12 @@ pub use detached::{detached_form_is_one, whole_of_detached_is_message};
 pub use entries::one_spelling;
 pub use examples::{example_meanings, example_texts};
 pub use log_file::{log_examples, one_damage, one_log};
-pub use meanings::{more_entries, one_entry_more};
+pub use meanings::{meanings_are_sound, more_entries, one_entry_more};
 pub use metadata::{
     first_bad_line_is_one, metadata_is_one, references_are_one, written_metadata_is_a_spelling,
 };
 pub use rejoined::{whole_has_no_error, whole_is_one};
-pub use stands::{counts_of_safe_image, one_map, one_meaning};
+pub use stands::{counts_of_safe_image, lists_are_well_formed, one_map, one_meaning};
 
 mod base64_text;
 mod detached;

@@ -1,10 +1,14 @@
 // Laws of the meaning of logs.
 ghost use Rattle.std.specs.Prelude.{◌≡◌, ◌++◌, ◌∷◌, [], ℕ, List, flat_map};
+ghost use Rattle.std.specs.List.{AllByRecursion};
 ghost use Rattle.mdbox_base.specs.declared.entries.BoxEntry.{BoxEntry};
 ghost use Rattle.mdbox_base.specs.declared.entries.MapEntry.{MapEntry};
 ghost use Rattle.mail_model.specs.Rows.{row_behind};
-ghost use Rattle.mail_model.specs.BoxMeaning.{rows_after, row_rules, box_meaning, box_applied};
+ghost use Rattle.mail_model.specs.BoxMeaning.{rows_after, row_rules, box_meaning, box_applied, AllBoxFit};
 ghost use Rattle.mail_model.specs.MapMeaning.{records_after, record_rules, boxes_after, box_rules, map_meaning, map_applied};
+ghost use Rattle.mail_model.specs.MapFits.{AllMapFit};
+ghost use Rattle.mail_model.specs.Entries.{BoxInRange, MapInRange};
+ghost use Rattle.mail_model.specs.Sound.{IsSoundBox, IsSoundMap};
 
 /// One entry more at the end of a log changes what it meant as `box_applied` and `map_applied` say.
 pub fn one_entry_more()
@@ -17,4 +21,10 @@ pub fn more_entries()
     ensures mailbox { (entries more : List BoxEntry) → rows_after (entries ++ more) ≡ flat_map (row_behind row_rules more) (rows_after entries) ++ rows_after more }
     ensures records { (entries more : List MapEntry) → records_after (entries ++ more) ≡ flat_map (row_behind record_rules more) (records_after entries) ++ records_after more }
     ensures mailboxes { (entries more : List MapEntry) → boxes_after (entries ++ more) ≡ flat_map (row_behind box_rules more) (boxes_after entries) ++ boxes_after more }
+{}
+
+/// What entries mean that fit one behind another has its numbers in order and in range.
+pub fn meanings_are_sound()
+    ensures mailbox { (entries : List BoxEntry) → AllBoxFit [] entries → AllByRecursion BoxInRange entries → IsSoundBox (box_meaning entries) }
+    ensures map { (store : List ℕ) (entries : List MapEntry) → AllMapFit store [] entries → AllByRecursion MapInRange entries → IsSoundMap (map_meaning store entries) }
 {}

@@ -2,7 +2,7 @@
 ghost use Rattle.std.specs.Prelude.{◌≡◌, ◌≤◌, ℕ, List};
 ghost use Rattle.disk_model.specs.Disk.{Files};
 ghost use Rattle.mdbox_base.specs.declared.entries.MapEntry.{MapEntry};
-ghost use Rattle.mail_model.specs.Lists.{Lists, refs_of};
+ghost use Rattle.mail_model.specs.Lists.{Lists, AreWellFormed, refs_of};
 ghost use Rattle.mail_model.specs.MapMeaning.{map_meaning, count_of};
 ghost use Rattle.mail_model.specs.Stands.{HasMap, Stands};
 ghost use Rattle.mail_model.specs.Safe.{Safe};
@@ -20,4 +20,9 @@ pub fn one_map()
 /// A safe image's counts are at least its references.
 pub fn counts_of_safe_image()
     ensures { (image : Files) (lists : Lists) (store : List ℕ) (entries : List MapEntry) (guid : List ℕ) → Safe image lists → HasMap image store entries → refs_of lists guid ≤ count_of (map_meaning store entries) guid }
+{}
+
+/// Lists for which an image stands are well formed.
+pub fn lists_are_well_formed()
+    ensures { (image : Files) (lists : Lists) → Stands image lists → AreWellFormed lists }
 {}
