@@ -1,5 +1,5 @@
 -- Entries that fit, one by one.
-use Rattle.std.specs.Prelude.{◌≡◌, ℕ, List, [], ◌∷◌, ◌++◌}
+use Rattle.std.specs.Prelude.{ℕ, List, [], ◌∷◌, ◌++◌}
 use Rattle.std.specs.List.{AllByRecursion}
 use Rattle.std.proofs.Common.{sym, subst, append-nil, append_assoc}
 use Rattle.mdbox_base.specs.declared.entries.BoxEntry.{BoxEntry}

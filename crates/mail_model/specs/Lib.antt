@@ -45,5 +45,7 @@ pub mod Sound
 pub mod Stands
 pub mod StandsLaws
 pub mod StorageFile
+pub mod StoreExample
+pub mod StoreExampleLaws
 pub mod WellFormedLaws
 pub mod WrittenLaws

@@ -4,9 +4,7 @@ use Rattle.mdbox_base.specs.declared.entries.BoxEntry.{BoxEntry}
 use Rattle.mdbox_base.specs.declared.entries.BoxEntry.TheVariants as box
 use Rattle.mdbox_base.specs.declared.entries.MapEntry.{MapEntry}
 use Rattle.mdbox_base.specs.declared.entries.MapEntry.TheVariants as map
-
-abbrev pub example_store : List ℕ
-example_store = 0x00 ∷ 0x11 ∷ 0x22 ∷ 0x33 ∷ 0x44 ∷ 0x55 ∷ 0x66 ∷ 0x77 ∷ []
+use Rattle.mail_model.specs.LogExamples.{example_store}
 
 -- the store's id, file 1, offset 16
 abbrev pub example_guid : List ℕ
@@ -16,21 +14,12 @@ example_guid = example_store ++ (0 ∷ 0 ∷ 0 ∷ 1 ∷ 0 ∷ 0 ∷ 0 ∷ 0x10 
 abbrev pub example_added : BoxEntry
 example_added = box.A (record { 0 = 1 }) 0 0x65000000 0 (record { 0 = 1 }) (record { 0 = example_guid })
 
-abbrev pub example_added_text : List ℕ
-example_added_text = 0x41 ∷ 0 ∷ 0 ∷ 0 ∷ 1 ∷ 0 ∷ 0 ∷ 0 ∷ 0 ∷ 0 ∷ 0x65 ∷ 0 ∷ 0 ∷ 0 ∷ 0 ∷ 0 ∷ 0 ∷ 0 ∷ 0 ∷ 0 ∷ 0 ∷ 1 ∷ example_guid
-
 -- the entries of the map log: mailbox 1 of generation 1 is INBOX, and a region of 0x59 octets of file 1
 abbrev pub example_made : MapEntry
 example_made = map.B (record { 0 = 1 }) 1 (codes "INBOX")
 
-abbrev pub example_made_text : List ℕ
-example_made_text = 0x42 ∷ 0 ∷ 0 ∷ 0 ∷ 1 ∷ 0 ∷ 0 ∷ 0 ∷ 1 ∷ 5 ∷ 0x49 ∷ 0x4e ∷ 0x42 ∷ 0x4f ∷ 0x58 ∷ []
-
 abbrev pub example_stored : MapEntry
 example_stored = map.S 0 1 (record { 0 = 1 }) (record { 0 = 1 }) 0x10 0x59 (record { 0 = example_guid }) []
-
-abbrev pub example_stored_text : List ℕ
-example_stored_text = 0x53 ∷ 0 ∷ 0 ∷ 1 ∷ 0 ∷ 0 ∷ 0 ∷ 1 ∷ 0 ∷ 0 ∷ 0 ∷ 1 ∷ 0 ∷ 0 ∷ 0 ∷ 0x10 ∷ 0 ∷ 0 ∷ 0 ∷ 0x59 ∷ (example_guid ++ (0 ∷ 0 ∷ []))
 
 abbrev pub example_map : List MapEntry
 example_map = example_made ∷ example_stored ∷ []

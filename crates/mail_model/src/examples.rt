@@ -3,13 +3,16 @@ ghost use Rattle.std.specs.Prelude.{◌≡◌, ◌∷◌, [], codes};
 ghost use Rattle.mail_model.specs.Entries.{box_text, map_text};
 ghost use Rattle.mail_model.specs.BoxMeaning.{box_meaning};
 ghost use Rattle.mail_model.specs.MapMeaning.{map_meaning};
-ghost use Rattle.mail_model.specs.MeaningExamples.{example_store, example_guid, example_added, example_added_text, example_made, example_made_text, example_stored, example_stored_text, example_map};
+ghost use Rattle.mail_model.specs.LogExamples.{example_store, box_entry, map_made, map_stored};
+ghost use Rattle.mail_model.specs.Safe.{Safe};
+ghost use Rattle.mail_model.specs.StoreExample.{example_image, example_lists};
+ghost use Rattle.mail_model.specs.MeaningExamples.{example_guid, example_added, example_made, example_stored, example_map};
 
 /// The entries of the two logs of a store with one message have these octets.
 pub fn example_texts()
-    ensures added { box_text example_added ≡ example_added_text }
-    ensures made { map_text example_made ≡ example_made_text }
-    ensures stored { map_text example_stored ≡ example_stored_text }
+    ensures added { box_text example_added ≡ box_entry }
+    ensures made { map_text example_made ≡ map_made }
+    ensures stored { map_text example_stored ≡ map_stored }
 {}
 
 /// The mailbox log has one row, the map log one record with count 1 and the mailbox INBOX.
@@ -25,4 +28,10 @@ pub fn example_meanings()
       sealed = [];
       highest = record { file = 1; map = 1; instance = 0; mailbox = 1 };
     } }
+{}
+
+/// The root log, the map log, the mailbox log and the storage file of that store are safe for lists of INBOX with this
+/// one message.
+pub fn example_store()
+    ensures { Safe example_image example_lists }
 {}
