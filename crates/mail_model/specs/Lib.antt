@@ -17,6 +17,8 @@ pub mod Lists
 pub mod LogExamples
 pub mod LogFile
 pub mod LogFileLaws
+pub mod Machine
+pub mod MachineLaws
 pub mod MapEntryLaws
 pub mod MapFits
 pub mod MapLaws

@@ -6,6 +6,7 @@ pub use detached::{detached_form_is_one, whole_of_detached_is_message};
 pub use entries::one_spelling;
 pub use examples::{example_meanings, example_store, example_texts};
 pub use log_file::{log_examples, one_damage, one_log};
+pub use machine::{refusals_change_nothing, steps_change_references};
 pub use meanings::{meanings_are_sound, more_entries, one_entry_more};
 pub use metadata::{
     first_bad_line_is_one, metadata_is_one, references_are_one, written_metadata_is_a_spelling,
@@ -18,6 +19,7 @@ mod detached;
 mod entries;
 mod examples;
 mod log_file;
+mod machine;
 mod meanings;
 mod metadata;
 pub mod parts;
