@@ -36,3 +36,5 @@ mod requests;
 mod seq;
 mod storage_file;
 mod stream;
+#[cfg(test)]
+mod tests;
