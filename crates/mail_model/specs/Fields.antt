@@ -1,6 +1,6 @@
 -- What the header fields of an entity say (RFC 2045, sections 5 and 6; RFC 2046, section 5.1.1).
-use Rattle.std.specs.Prelude.{◌-◌, ◌==◌, ◌&&◌, ℕ, zero, suc, Bool, true, not, nat_le, nat_eq, List, [], ◌∷◌, ◌++◌, length, take, drop, take_while, if◌then◌else◌, Option, Some, None, codes, bytes_eq}
-use Rattle.std.specs.List.{list_all, list_any}
+use Rattle.std.specs.Prelude.{◌==◌, ◌&&◌, ℕ, zero, suc, Bool, true, not, nat_le, nat_eq, List, [], ◌∷◌, ◌++◌, length, take, drop, take_while, if◌then◌else◌, Option, Some, None, codes}
+use Rattle.std.specs.List.{list_all, list_any, ends_with}
 use Rattle.std.specs.Char.{is_ascii_graphic}
 use Rattle.std.specs.Str.{str_eq_ignore_ascii_case}
 use Rattle.mdbox_base.specs.declared.mime.Coding.{Coding}
@@ -108,15 +108,16 @@ unfoldable pub boundary_among : ℕ → List ℕ → Option (List ℕ)
 boundary_among zero text = None
 boundary_among (suc most) text = boundary_or (boundary_among most) (parameter text)
 
+-- the boundary among the parameters that follow a semicolon
+abbrev pub boundary_behind : List ℕ → Option (List ℕ)
+boundary_behind parameters = behind 59 parameters >>= boundary_among (length parameters)
+
 -- What a boundary has to be: 1 to 70 printing octets, of which the last is no space.
 abbrev pub is_printing : ℕ → Bool
 is_printing c = nat_le 32 c && nat_le c 126
 
-abbrev pub last_is_space : List ℕ → Bool
-last_is_space text = bytes_eq (drop (length text - 1) text) (32 ∷ [])
-
 unfoldable pub is_boundary : List ℕ → Bool
-is_boundary text = nat_le 1 (length text) && nat_le (length text) 70 && list_all is_printing text && not (last_is_space text)
+is_boundary text = nat_le 1 (length text) && nat_le (length text) 70 && list_all is_printing text && not (ends_with nat_eq text (codes " "))
 
 abbrev pub multipart : Option (List ℕ) → Kind
 multipart None = kinds.Unreadable
@@ -127,7 +128,7 @@ unfoldable pub kind_by : List ℕ → List ℕ → Kind
 kind_by type parameters =
     if is_word type (codes "text") then kinds.Text
     else (if is_word type (codes "message") then kinds.Message
-    else (if is_word type (codes "multipart") then multipart (behind 59 parameters >>= boundary_among (length parameters))
+    else (if is_word type (codes "multipart") then multipart (boundary_behind parameters)
     else kinds.Other))
 
 -- A Content-Type: a type, a slash, a subtype, and then the end or a semicolon.

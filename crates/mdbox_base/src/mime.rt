@@ -1,5 +1,5 @@
 // Parts of a message (RFC 2045, RFC 2046).
-ghost use Rattle.std.specs.Prelude.{◌≡◌, ◌≤◌, ◌<◌, ◌++◌, ◌∷◌, [], ℕ, List, length, take, MatchBool};
+ghost use Rattle.std.specs.Prelude.{◌≡◌, ◌≤◌, ◌<◌, ◌++◌, ◌∷◌, [], ℕ, List, length, take, MatchBool, IfSome, IfNone};
 
 use std::marker::Model;
 
@@ -34,6 +34,22 @@ impl Boundary {
             octets: [0; 70],
             length: 0,
         }
+    }
+
+    /// These octets, where there are at most 70.
+    pub fn of(text: &[u8]) -> Option<Boundary>
+        ensures some { IfSome result (λ b. (b ≡ text.now) × (length text.now ≤ 70)) }
+        ensures none { IfNone result (70 < length text.now) }
+    {
+        if text.len() > 70 {
+            return None;
+        }
+        let mut octets = [0; 70];
+        octets[..text.len()].copy_from_slice(text);
+        Some(Boundary {
+            octets,
+            length: text.len() as u8,
+        })
     }
 
     /// The boundary's octets.

@@ -1,1 +1,4 @@
+pub mod Alone
 pub mod Folded
+pub mod Holding
+pub mod Reading
