@@ -51,3 +51,4 @@ pub mod StoreExample
 pub mod StoreExampleLaws
 pub mod WellFormedLaws
 pub mod WrittenLaws
+pub mod FitExamples

@@ -28,6 +28,10 @@ IsApart offset size row = (offset + size ≤ row.offset) ⊎ (row.offset + row.s
 abbrev pub IsFree : MapMeaning → ℕ → ℕ → ℕ → Type 0
 IsFree m file offset size = All (λ row. row.file ≡ file → IsApart offset size row) m.records
 
+-- the map uid has a record
+abbrev pub IsKnown : MapMeaning → ℕ → Type 0
+IsKnown m uid = (row : MapRecord) × (record_at m uid ≡ Some row)
+
 -- the map uid has a record, and this holds of it
 abbrev pub HasRecord : MapMeaning → ℕ → (MapRecord → Type 0) → Type 0
 HasRecord m uid Holds = (row : MapRecord) × (record_at m uid ≡ Some row) × Holds row
@@ -104,7 +108,7 @@ MapFits m (entry.G mailbox generation) =
 MapFits m (entry.S origin count uid file offset size guid instances) = FitsStored m origin uid.0 file.0 offset size guid.0 instances
 MapFits m (entry.U uid) = HasRecord m uid.0 (λ row. (1 ≤ row.count) × (row.count ≤ 65534))
 MapFits m (entry.D uids) = IsStrictlyIncreasing (map (λ u. u.0) uids) × All (λ u. HasRecord m u.0 (λ row. 1 ≤ row.count)) uids
-MapFits m (entry.T counts) = IsStrictlyIncreasing (map (λ c. c.uid.0) counts) × All (λ c. HasRecord m c.uid.0 (λ row. row ≡ row)) counts
+MapFits m (entry.T counts) = IsStrictlyIncreasing (map (λ c. c.uid.0) counts) × All (λ c. IsKnown m c.uid.0) counts
 MapFits m (entry.P file target moved dropped) = FitsPurged m file.0 target moved dropped
 MapFits m (entry.E file) = IsNumber file.0
 

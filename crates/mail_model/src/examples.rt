@@ -1,8 +1,11 @@
 // Examples of the definitions, with what the formats say of them.
-ghost use Rattle.std.specs.Prelude.{◌≡◌, ◌∷◌, [], codes};
+ghost use Rattle.std.specs.Prelude.{◌≡◌, ◌∷◌, [], ◌++◌, codes};
 ghost use Rattle.mail_model.specs.Entries.{box_text, map_text};
 ghost use Rattle.mail_model.specs.BoxMeaning.{box_meaning};
+ghost use Rattle.mdbox_base.specs.declared.entries.MapEntry.TheVariants as map;
 ghost use Rattle.mail_model.specs.MapMeaning.{map_meaning};
+ghost use Rattle.mail_model.specs.MapFits.{MapFits};
+ghost use Rattle.mail_model.specs.FitExamples.{example_meaning, first};
 ghost use Rattle.mail_model.specs.LogExamples.{example_store, box_entry, map_made, map_stored};
 ghost use Rattle.mail_model.specs.Safe.{Safe};
 ghost use Rattle.mail_model.specs.StoreExample.{example_image, example_lists};
@@ -32,6 +35,17 @@ pub fn example_meanings()
 
 /// The root log, the map log, the mailbox log and the storage file of that store are safe for lists of INBOX with this
 /// one message.
-pub fn example_store()
+pub fn example_store_is_safe()
     ensures { Safe example_image example_lists }
+{}
+
+/// Behind that map log the record's count can be raised, and lowered once; the message can't be stored again; empty lists
+/// fit.
+pub fn example_fits()
+    ensures raised { MapFits example_meaning (map.U first) }
+    ensures lowered { MapFits example_meaning (map.D (first ∷ [])) }
+    ensures lowered_twice { MapFits (map_meaning example_store (example_map ++ map.D (first ∷ []) ∷ [])) (map.D (first ∷ [])) → ⊥ }
+    ensures stored_again { MapFits example_meaning example_stored → ⊥ }
+    ensures none_lowered { MapFits example_meaning (map.D []) }
+    ensures none_counted { MapFits example_meaning (map.T []) }
 {}
