@@ -9,6 +9,7 @@ pub mod Entries
 pub mod EntryLaws
 pub mod Fields
 pub mod FileLaws
+pub mod FitExamples
 pub mod FitLaws
 pub mod Grammars
 pub mod HexTextLaws
@@ -51,4 +52,3 @@ pub mod StoreExample
 pub mod StoreExampleLaws
 pub mod WellFormedLaws
 pub mod WrittenLaws
-pub mod FitExamples
