@@ -1,7 +1,8 @@
 -- The meaning of a map log whose entries fit is sound.
-use Rattle.std.specs.Prelude.{◌≡◌, ◌≢◌, ◌<◌, ◌≤◌, ◌+◌, ◌-◌, ◌==◌, ℕ, max, Bool, true, false, List, [], ◌∷◌, ◌++◌, length, Option, Some, None, All, AllPairs, slice_index_or, refl, if◌then◌else◌}
+use Rattle.std.specs.Prelude.{◌≡◌, ◌≢◌, ◌<◌, ◌≤◌, ◌+◌, ◌-◌, ◌==◌, ℕ, max, Bool, true, false, List, [], ◌∷◌, ◌++◌, length, Option, Some, None, All, AllPairs, slice_index_or, refl, if◌then◌else◌, ◌⊎◌}
 use Rattle.std.specs.List.{AllByRecursion}
-use Rattle.std.proofs.Common.{sym, ◌∙◌, ap, arith, subst, append-nil, append_assoc, length-append}
+use Rattle.std.specs.Option.{option_map_or}
+use Rattle.std.proofs.Common.{◌∙◌, ap, append-nil, append_assoc, arith, inl, inr, length-append, subst, sym}
 use Rattle.std.proofs.lemmas.Grind.{common_steps}
 use Rattle.std.proofs.lemmas.List.Elements.{All-nil, All-weaker, All-push, All-map, All-filter}
 use Rattle.mdbox_base.specs.declared.entries.InstRow.{InstRow}
@@ -9,11 +10,11 @@ use Rattle.mdbox_base.specs.declared.entries.MapPlace.{MapPlace}
 use Rattle.mdbox_base.specs.declared.entries.MapEntry.{MapEntry}
 use Rattle.mdbox_base.specs.declared.entries.MapEntry.TheVariants as map
 use Rattle.mail_model.specs.MapMeaning.{MapRecord, MapBox, MapMeaning, map_meaning, map_applied, record_changed, record_rules, box_changed, box_rules, placed, place_given, has_uid, record_at}
-use Rattle.mail_model.specs.MapFits.{IsNumber, AgreesOn, FitsPlace, FitsTarget, MapFits, AllMapFit}
+use Rattle.mail_model.specs.MapFits.{AgreesOn, AllMapFit, ArePlacedApart, FitsPlace, FitsTarget, IsApart, IsNumber, MapFits, size_at}
 use Rattle.mail_model.specs.MapLaws.{map_more}
 use Rattle.mail_model.specs.Entries.{MapInRange}
-use Rattle.mail_model.specs.PairLaws.{kept_rows, kept_all, kept_pairs, kept_length, pairs_nil, pairs_push, found_holds, found_only, IsOnly}
-use Rattle.mail_model.specs.Sound.{IsSoundRecord, AgreeOnInstances, IsSoundMapBox, IsSoundMap}
+use Rattle.mail_model.specs.PairLaws.{IsOnly, PassesOne, found_holds, found_only, found_two, kept_all, kept_length, kept_pairs, kept_pairs_from, kept_rows, pairs_nil, pairs_push}
+use Rattle.mail_model.specs.Sound.{AreApart, IsSoundRecord, AgreeOnInstances, IsSoundMapBox, IsSoundMap}
 
 -- numbers that a test finds equal
 pub equal_is : (a b : ℕ) → (a == b) ≡ true → a ≡ b
@@ -117,6 +118,37 @@ kept_sound : (m : MapMeaning) (entry : MapEntry) (high : ℕ) → m.highest.map 
 kept_sound m entry high le s p =
     kept_from m entry (IsSoundRecord high) (λ k d lt. sound_again m.highest.map high _ _ le (s.records k d lt) (changed_same entry (slice_index_or m.records k d)) (p k d lt))
 
+-- ---- regions apart
+
+-- an entry leaves the region of each record, but for a move
+record IsSameRegion (a b : MapRecord) : Type 0 where
+  file : b.file ≡ a.file
+  offset : b.offset ≡ a.offset
+  size : b.size ≡ a.size
+
+region_itself : (row : MapRecord) → IsSameRegion row row
+region_itself row = record { file = refl; offset = refl; size = refl }
+
+counted_region : (hit : Bool) (n : ℕ) (row : MapRecord) → IsSameRegion row (if hit then record row { count = n } else row)
+counted_region true n row = record { file = refl; offset = refl; size = refl }
+counted_region false n row = region_itself row
+
+apart_along : (a b c d : MapRecord) → IsSameRegion a c → IsSameRegion b d → AreApart a b → AreApart c d
+apart_along a b c d p q h e =
+    let pf = p.file in
+    let po = p.offset in
+    let pz = p.size in
+    let qf = q.file in
+    let qo = q.offset in
+    let qz = q.size in
+    elim (h (sym pf ∙ e ∙ qf)) [
+      | inl l ↦ inl (omega (arith, l, po, pz, qo))
+      | inr r ↦ inr (omega (arith, r, qo, qz, po))
+    ]
+
+kept_apart : (m : MapMeaning) (entry : MapEntry) → ((row : MapRecord) → IsSameRegion row (record_changed entry row)) → IsSoundMap m → AllPairs AreApart (kept_rows record_rules entry m.records)
+kept_apart m entry same s = kept_pairs record_rules entry m.records AreApart (λ a b h. apart_along a b _ _ (same a) (same b) h) s.apart
+
 -- ---- places
 
 all_places : (m : MapMeaning) → IsSoundMap m → All IsPlaced m.records
@@ -147,6 +179,74 @@ target_places m file target (p ∷ ps) s f = λ k d lt.
     let r = found_holds (λ (q : MapPlace). q.uid.0 == (slice_index_or m.records k d).uid) (p ∷ ps) place (FitsPlace m target) e f.2 in
     let hit : ((slice_index_or m.records k d).uid == place.uid.0) ≡ true = equal_yes _ _ (sym (equal_is _ _ r.1)) in
     moved_place m target (slice_index_or m.records k d) place f.0 r.0 (λ _. refl) (λ x found. own_record m s k d lt place.uid.0 x hit found))
+
+-- ---- moved regions apart
+
+turned : (a b c d : ℕ) → (a ≤ b) ⊎ (c ≤ d) → (c ≤ d) ⊎ (a ≤ b)
+turned a b c d (inl h) = inr h
+turned a b c d (inr h) = inl h
+
+-- two records, each moved or not
+pair_apart : (target : ℕ) (a b : MapRecord) (p q : Option MapPlace) → AreApart a b
+    → ((x : MapPlace) → p ≡ Some x → b.file ≡ target → IsApart x.offset a.size b)
+    → ((x : MapPlace) → q ≡ Some x → a.file ≡ target → IsApart x.offset b.size a)
+    → ((x y : MapPlace) → p ≡ Some x → q ≡ Some y → (x.offset + a.size ≤ y.offset) ⊎ (y.offset + b.size ≤ x.offset))
+    → AreApart (placed a target p) (placed b target q)
+pair_apart target a b None None h fa fb both = h
+pair_apart target a b (Some p) None h fa fb both = λ e. fa p refl (sym e)
+pair_apart target a b None (Some q) h fa fb both = λ e. turned _ _ _ _ (fb q refl e)
+pair_apart target a b (Some p) (Some q) h fa fb both = λ e. both p q refl refl
+
+-- a place that is given to a record names its map uid
+given_names : (moved : List MapPlace) (uid : ℕ) (place : MapPlace) (P : MapPlace → Type 0) → place_given uid moved ≡ Some place → All P moved → P place × ((uid == place.uid.0) ≡ true)
+given_names moved uid place P e a =
+    let r = found_holds (λ (q : MapPlace). q.uid.0 == uid) moved place P e a in
+    (r.0, equal_yes _ _ (sym (equal_is _ _ r.1)))
+
+-- where a record is moved to, no other region stands
+place_free : (m : MapMeaning) (target : ℕ) (moved : List MapPlace) → IsSoundMap m → All (FitsPlace m target) moved → (k : ℕ) (d : MapRecord) → k < length m.records
+    → (place : MapPlace) → place_given (slice_index_or m.records k d).uid moved ≡ Some place
+    → (n : ℕ) (c : MapRecord) → n < length m.records → (slice_index_or m.records n c).file ≡ target → IsApart place.offset (slice_index_or m.records k d).size (slice_index_or m.records n c)
+place_free m target moved s fits k d lt place e n c below same =
+    let a : MapRecord = slice_index_or m.records k d in
+    let g : FitsPlace m target place × ((a.uid == place.uid.0) ≡ true) = given_names moved a.uid place (FitsPlace m target) e fits in
+    let is : a ≡ g.0.0 = own_record m s k d lt place.uid.0 g.0.0 g.1 g.0.1 in
+    subst (λ (r : MapRecord). IsApart place.offset r.size (slice_index_or m.records n c)) (sym is) (g.0.2.1 n c below same)
+
+size_of_given : (m : MapMeaning) (uid : ℕ) (r : MapRecord) → record_at m uid ≡ Some r → size_at m uid ≡ r.size
+size_of_given m uid r e = ap (λ (o : Option MapRecord). option_map_or (λ row. row.size) o 0) e
+
+-- two moved regions are apart
+places_apart : (m : MapMeaning) (target : ℕ) (moved : List MapPlace) → IsSoundMap m → All (FitsPlace m target) moved → AllPairs (ArePlacedApart m) moved
+    → (i j : ℕ) (d : MapRecord) → i < j → j < length m.records → (x y : MapPlace) → place_given (slice_index_or m.records i d).uid moved ≡ Some x → place_given (slice_index_or m.records j d).uid moved ≡ Some y
+    → (x.offset + (slice_index_or m.records i d).size ≤ y.offset) ⊎ (y.offset + (slice_index_or m.records j d).size ≤ x.offset)
+places_apart m target moved s fits apart i j d lt le x y ex ey =
+    let a : MapRecord = slice_index_or m.records i d in
+    let b : MapRecord = slice_index_or m.records j d in
+    let rises : a.uid < b.uid = s.rising i j d lt le in
+    let g : FitsPlace m target x × ((a.uid == x.uid.0) ≡ true) = given_names moved a.uid x (FitsPlace m target) ex fits in
+    let h : FitsPlace m target y × ((b.uid == y.uid.0) ≡ true) = given_names moved b.uid y (FitsPlace m target) ey fits in
+    let isa : a ≡ g.0.0 = own_record m s i d (omega (arith, lt, le)) x.uid.0 g.0.0 g.1 g.0.1 in
+    let isb : b ≡ h.0.0 = own_record m s j d le y.uid.0 h.0.0 h.1 h.0.1 in
+    let sa : size_at m x.uid.0 ≡ a.size = size_of_given m x.uid.0 g.0.0 g.0.1 ∙ ap (λ (r : MapRecord). r.size) (sym isa) in
+    let sb : size_at m y.uid.0 ≡ b.size = size_of_given m y.uid.0 h.0.0 h.0.1 ∙ ap (λ (r : MapRecord). r.size) (sym isb) in
+    let one : All (PassesOne (λ (q : MapPlace). q.uid.0 == a.uid) (λ (q : MapPlace). q.uid.0 == b.uid)) moved = (λ k c below p q. let u = equal_is _ _ p in let v = equal_is _ _ q in omega (arith, u, v, rises)) in
+    let r : ArePlacedApart m x y = found_two (λ (q : MapPlace). q.uid.0 == a.uid) (λ (q : MapPlace). q.uid.0 == b.uid) (ArePlacedApart m) moved x y one apart (λ u v w. turned _ _ _ _ w) ex ey in
+    subst (λ (n : ℕ). (x.offset + a.size ≤ y.offset) ⊎ (y.offset + n ≤ x.offset)) sb (subst (λ (n : ℕ). (x.offset + n ≤ y.offset) ⊎ (y.offset + size_at m y.uid.0 ≤ x.offset)) sa r)
+
+moved_apart : (m : MapMeaning) (target : ℕ) (moved : List MapPlace) → IsSoundMap m → All (FitsPlace m target) moved → AllPairs (ArePlacedApart m) moved
+    → AllPairs (λ a b. AreApart (placed a target (place_given a.uid moved)) (placed b target (place_given b.uid moved))) m.records
+moved_apart m target moved s fits apart = λ i j d lt le.
+    pair_apart target (slice_index_or m.records i d) (slice_index_or m.records j d) (place_given (slice_index_or m.records i d).uid moved) (place_given (slice_index_or m.records j d).uid moved)
+    (s.apart i j d lt le)
+    (λ x e same. place_free m target moved s fits i d (omega (arith, lt, le)) x e j d le same)
+    (λ x e same. place_free m target moved s fits j d le x e i d (omega (arith, lt, le)) same)
+    (λ x y ex ey. places_apart m target moved s fits apart i j d lt le x y ex ey)
+
+target_apart : (m : MapMeaning) (file target : ℕ) (moved : List MapPlace) → IsSoundMap m → FitsTarget m file target moved
+    → AllPairs (λ a b. AreApart (placed a target (place_given a.uid moved)) (placed b target (place_given b.uid moved))) m.records
+target_apart m file target [] s f = s.apart
+target_apart m file target (p ∷ ps) s f = moved_apart m target (p ∷ ps) s f.2 f.3
 
 -- ---- mailboxes
 
@@ -216,6 +316,7 @@ record AreSoundRecords (high : ℕ) (rows : List MapRecord) : Type 0 where
   each : All (IsSoundRecord high) rows
   guids : AllPairs GuidsDiffer rows
   agree : AllPairs AgreeOnInstances rows
+  apart : AllPairs AreApart rows
 
 record AreSoundBoxes (high : ℕ) (boxes : List MapBox) : Type 0 where
   rising : AllPairs BoxRises boxes
@@ -223,8 +324,8 @@ record AreSoundBoxes (high : ℕ) (boxes : List MapBox) : Type 0 where
   names : AllPairs NamesDiffer boxes
   room : length boxes ≤ 1024
 
-records_kept : (m : MapMeaning) (entry : MapEntry) (high : ℕ) → m.highest.map ≤ high → IsSoundMap m → All (λ row. IsPlaced (record_changed entry row)) m.records → AreSoundRecords high (kept_rows record_rules entry m.records)
-records_kept m entry high le s p = record { rising = kept_rising m entry s; each = kept_sound m entry high le s p; guids = kept_guids m entry s; agree = kept_agree m entry s }
+records_kept : (m : MapMeaning) (entry : MapEntry) (high : ℕ) → m.highest.map ≤ high → IsSoundMap m → All (λ row. IsPlaced (record_changed entry row)) m.records → AllPairs AreApart (kept_rows record_rules entry m.records) → AreSoundRecords high (kept_rows record_rules entry m.records)
+records_kept m entry high le s p a = record { rising = kept_rising m entry s; each = kept_sound m entry high le s p; guids = kept_guids m entry s; agree = kept_agree m entry s; apart = a }
 
 boxes_kept : (m : MapMeaning) (entry : MapEntry) (high : ℕ) → m.highest.mailbox ≤ high → GenerationFits entry → IsSoundMap m → AreSoundBoxes high (kept_rows box_rules entry m.boxes)
 boxes_kept m entry high le f s = record {
@@ -246,6 +347,7 @@ joined m entry r b = record {
   records = r.each;
   guids = r.guids;
   agree = r.agree;
+  apart = r.apart;
   boxes_rising = b.rising;
   boxes = b.each;
   names = b.names;
@@ -255,19 +357,19 @@ joined m entry r b = record {
 -- One entry more that fits keeps the meaning sound.
 pub map_sound_more : (m : MapMeaning) (entry : MapEntry) → IsSoundMap m → MapFits m entry → MapInRange entry → IsSoundMap (map_applied entry m)
 map_sound_more m (map.H h) s f r =
-    joined m (map.H h) (records_nil _ _ (records_kept m (map.H h) _ (omega arith) s (all_places m s))) (boxes_nil _ _ (boxes_kept m (map.H h) _ (omega arith) tt s))
+    joined m (map.H h) (records_nil _ _ (records_kept m (map.H h) _ (omega arith) s (all_places m s) (kept_apart m (map.H h) (λ row. region_itself row) s))) (boxes_nil _ _ (boxes_kept m (map.H h) _ (omega arith) tt s))
 map_sound_more m (map.G b g) s f r =
-    joined m (map.G b g) (records_nil _ _ (records_kept m (map.G b g) _ (omega arith) s (all_places m s))) (boxes_nil _ _ (boxes_kept m (map.G b g) _ (omega arith) f.1 s))
+    joined m (map.G b g) (records_nil _ _ (records_kept m (map.G b g) _ (omega arith) s (all_places m s) (kept_apart m (map.G b g) (λ row. region_itself row) s))) (boxes_nil _ _ (boxes_kept m (map.G b g) _ (omega arith) f.1 s))
 map_sound_more m (map.U u) s f r =
-    joined m (map.U u) (records_nil _ _ (records_kept m (map.U u) _ (omega arith) s (λ k d lt. counted_place _ _ _ (all_places m s k d lt)))) (boxes_nil _ _ (boxes_kept m (map.U u) _ (omega arith) tt s))
+    joined m (map.U u) (records_nil _ _ (records_kept m (map.U u) _ (omega arith) s (λ k d lt. counted_place _ _ _ (all_places m s k d lt)) (kept_apart m (map.U u) (λ row. counted_region _ _ row) s))) (boxes_nil _ _ (boxes_kept m (map.U u) _ (omega arith) tt s))
 map_sound_more m (map.D us) s f r =
-    joined m (map.D us) (records_nil _ _ (records_kept m (map.D us) _ (omega arith) s (λ k d lt. counted_place _ _ _ (all_places m s k d lt)))) (boxes_nil _ _ (boxes_kept m (map.D us) _ (omega arith) tt s))
+    joined m (map.D us) (records_nil _ _ (records_kept m (map.D us) _ (omega arith) s (λ k d lt. counted_place _ _ _ (all_places m s k d lt)) (kept_apart m (map.D us) (λ row. counted_region _ _ row) s))) (boxes_nil _ _ (boxes_kept m (map.D us) _ (omega arith) tt s))
 map_sound_more m (map.T cs) s f r =
-    joined m (map.T cs) (records_nil _ _ (records_kept m (map.T cs) _ (omega arith) s (λ k d lt. record { file = (all_places m s k d lt).file; ends = (all_places m s k d lt).ends }))) (boxes_nil _ _ (boxes_kept m (map.T cs) _ (omega arith) tt s))
+    joined m (map.T cs) (records_nil _ _ (records_kept m (map.T cs) _ (omega arith) s (λ k d lt. record { file = (all_places m s k d lt).file; ends = (all_places m s k d lt).ends }) (kept_apart m (map.T cs) (λ row. record { file = refl; offset = refl; size = refl }) s))) (boxes_nil _ _ (boxes_kept m (map.T cs) _ (omega arith) tt s))
 map_sound_more m (map.P file t ms us) s f r =
-    joined m (map.P file t ms us) (records_nil _ _ (records_kept m (map.P file t ms us) _ (omega arith) s (target_places m file.0 t ms s f.target_fits))) (boxes_nil _ _ (boxes_kept m (map.P file t ms us) _ (omega arith) tt s))
+    joined m (map.P file t ms us) (records_nil _ _ (records_kept m (map.P file t ms us) _ (omega arith) s (target_places m file.0 t ms s f.target_fits) (kept_pairs_from record_rules (map.P file t ms us) m.records AreApart (target_apart m file.0 t ms s f.target_fits)))) (boxes_nil _ _ (boxes_kept m (map.P file t ms us) _ (omega arith) tt s))
 map_sound_more m (map.E file) s f r =
-    joined m (map.E file) (records_nil _ _ (records_kept m (map.E file) _ (omega arith) s (all_places m s))) (boxes_nil _ _ (boxes_kept m (map.E file) _ (omega arith) tt s))
+    joined m (map.E file) (records_nil _ _ (records_kept m (map.E file) _ (omega arith) s (all_places m s) (kept_apart m (map.E file) (λ row. region_itself row) s))) (boxes_nil _ _ (boxes_kept m (map.E file) _ (omega arith) tt s))
 map_sound_more m (map.B b g n) s f r =
     let entry : MapEntry = map.B b g n in
     let kept = boxes_kept m entry (max m.highest.mailbox b.0) (omega arith) tt s in
@@ -276,7 +378,7 @@ map_sound_more m (map.B b g n) s f r =
     let high = f.box_new in
     let old : All (λ (x : MapBox). x.number ≤ m.highest.mailbox) boxes = kept_all box_rules entry m.boxes (IsSoundMapBox m.highest.mailbox) (λ (x : MapBox). x.number ≤ m.highest.mailbox) (λ x h. h.below) s.boxes in
     let short = kept_length box_rules entry m.boxes in
-    joined m entry (records_nil _ _ (records_kept m entry _ (omega arith) s (all_places m s)))
+    joined m entry (records_nil _ _ (records_kept m entry _ (omega arith) s (all_places m s) (kept_apart m entry (λ row. region_itself row) s)))
     (record {
       rising = pairs_push BoxRises boxes box kept.rising (All-weaker (λ (x : MapBox). x.number ≤ m.highest.mailbox) (λ (x : MapBox). x.number < b.0) (λ x h. omega (arith, h, high)) boxes old);
       each = All-push (IsSoundMapBox (max m.highest.mailbox b.0)) boxes box kept.each (record { number_some = f.box_number.low; below = omega arith; generation = f.first });
@@ -285,7 +387,7 @@ map_sound_more m (map.B b g n) s f r =
     })
 map_sound_more m (map.S o c u file a z g is) s f r =
     let entry : MapEntry = map.S o c u file a z g is in
-    let kept = records_kept m entry (max m.highest.map u.0) (omega arith) s (all_places m s) in
+    let kept = records_kept m entry (max m.highest.map u.0) (omega arith) s (all_places m s) (kept_apart m entry (λ row. region_itself row) s) in
     let rows : List MapRecord = kept_rows record_rules entry m.records in
     let row : MapRecord = record { uid = u.0; origin = o; count = c; file = file.0; offset = a; size = z; guid = g.0; instances = is } in
     let high = f.uid_new in
@@ -305,6 +407,7 @@ map_sound_more m (map.S o c u file a z g is) s f r =
       });
       guids = pairs_push GuidsDiffer rows row kept.guids (kept_all record_rules entry m.records (λ (x : MapRecord). x.guid ≢ g.0) (λ (x : MapRecord). x.guid ≢ g.0) (λ x h. h) f.guid_new);
       agree = pairs_push AgreeOnInstances rows row kept.agree (kept_all record_rules entry m.records (λ (x : MapRecord). All (λ i. All (AgreesOn i) x.instances) is) (λ (x : MapRecord). All (λ i. All (AgreesOn i) x.instances) is) (λ x h. h) f.known);
+      apart = pairs_push AreApart rows row kept.apart (kept_all record_rules entry m.records (λ (x : MapRecord). x.file ≡ file.0 → IsApart a z x) (λ (x : MapRecord). AreApart x row) (λ x h e. turned _ _ _ _ (h e)) f.region.free);
     })
     (boxes_nil _ _ (boxes_kept m entry _ (omega arith) tt s))
 
@@ -315,6 +418,7 @@ map_sound_empty store = record {
   records = All-nil (IsSoundRecord 0);
   guids = pairs_nil GuidsDiffer;
   agree = pairs_nil AgreeOnInstances;
+  apart = pairs_nil AreApart;
   boxes_rising = pairs_nil BoxRises;
   boxes = All-nil (IsSoundMapBox 0);
   names = pairs_nil NamesDiffer;

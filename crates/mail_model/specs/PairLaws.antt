@@ -80,3 +80,32 @@ only_step p y x ys false h apart rest e = All-cons (IsOnly p x) y ys (λ q. absu
 pub found_only : {X : Type 0} → (p : X → Bool) (xs : List X) (x : X) → find p xs ≡ Some x → AllPairs (NotBoth p) xs → All (IsOnly p x) xs
 found_only p [] x e a = All-nil (IsOnly p x)
 found_only p (y ∷ ys) x e a = only_step p y x ys (p y) refl (pairs_head (NotBoth p) y ys a) (λ f. found_only p ys x f (pairs_tail (NotBoth p) y ys a)) e
+
+-- a relation that holds of two rows as the entry changes them
+pub kept_pairs_from : {E R : Type 0} → (rules : Rules E R) (entry : E) (rows : List R) (P : R → R → Type 0) → AllPairs (λ a b. P (rules.changed entry a) (rules.changed entry b)) rows → AllPairs P (kept_rows rules entry rows)
+kept_pairs_from rules entry rows P p =
+    pairs_map (λ a b. P (rules.changed entry a) (rules.changed entry b)) P (rules.changed entry) (λ a b h. h) _
+    (AllPairs-filter (λ a b. P (rules.changed entry a) (rules.changed entry b)) (λ row. not (rules.removes entry row)) rows p)
+
+-- what a search found is in the list
+pub found_among : {X : Type 0} → (p : X → Bool) (xs : List X) (x : X) (P : X → Type 0) → find p xs ≡ Some x → All P xs → P x
+found_among p xs x P e a = (found_holds p xs x P e a).0
+
+-- no element passes both tests
+abbrev pub PassesOne : {X : Type 0} → (X → Bool) → (X → Bool) → X → Type 0
+PassesOne p q y = p y ≡ true → q y ≡ true → ⊥
+
+two_step : {X : Type 0} → (p q : X → Bool) (Rel : X → X → Type 0) (y x z : X) (ys : List X) (b c : Bool) → p y ≡ b → q y ≡ c
+    → PassesOne p q y → All (Rel y) ys → ((u v : X) → Rel u v → Rel v u)
+    → (find p ys ≡ Some x → find q ys ≡ Some z → Rel x z) → cond b (Some y) (find p ys) ≡ Some x → cond c (Some y) (find q ys) ≡ Some z → Rel x z
+two_step p q Rel y x z ys true true hb hc one all turn rest e f = absurd (one hb hc)
+two_step p q Rel y x z ys true false hb hc one all turn rest e f = let k : y ≡ x = cc e in subst (λ u. Rel u z) k (found_among q ys z (Rel y) f all)
+two_step p q Rel y x z ys false true hb hc one all turn rest e f = let k : y ≡ z = cc f in turn z x (subst (λ u. Rel u x) k (found_among p ys x (Rel y) e all))
+two_step p q Rel y x z ys false false hb hc one all turn rest e f = rest e f
+
+-- two that were found by tests that no element passes both
+pub found_two : {X : Type 0} → (p q : X → Bool) (Rel : X → X → Type 0) (xs : List X) (x z : X) → All (PassesOne p q) xs → AllPairs Rel xs → ((u v : X) → Rel u v → Rel v u) → find p xs ≡ Some x → find q xs ≡ Some z → Rel x z
+found_two p q Rel [] x z one a turn e f = absurd (cc e)
+found_two p q Rel (y ∷ ys) x z one a turn e f =
+    two_step p q Rel y x z ys (p y) (q y) refl refl (All-head (PassesOne p q) y ys one) (pairs_head Rel y ys a) turn
+    (λ g h. found_two p q Rel ys x z (All-tail (PassesOne p q) y ys one) (pairs_tail Rel y ys a) turn g h) e f

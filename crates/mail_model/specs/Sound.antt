@@ -2,7 +2,7 @@
 use Rattle.std.specs.Prelude.{◌≡◌, ◌≢◌, ◌<◌, ◌≤◌, ◌+◌, ◌^◌, ℕ, length, All, AllPairs}
 use Rattle.mail_model.specs.BoxMeaning.{LogRow, BoxMeaning}
 use Rattle.mail_model.specs.MapMeaning.{MapRecord, MapBox, MapMeaning}
-use Rattle.mail_model.specs.MapFits.{IsNumber, AgreesOn}
+use Rattle.mail_model.specs.MapFits.{IsNumber, IsApart, AgreesOn}
 
 -- a row of a mailbox log, below the next UID
 pub record IsSoundRow (next : ℕ) (row : LogRow) : Type 0 where
@@ -37,19 +37,24 @@ pub record IsSoundRecord (highest : ℕ) (row : MapRecord) : Type 0 where
 abbrev pub AgreeOnInstances : MapRecord → MapRecord → Type 0
 AgreeOnInstances a b = All (λ j. All (AgreesOn j) a.instances) b.instances
 
+-- regions of one file don't overlap
+abbrev pub AreApart : MapRecord → MapRecord → Type 0
+AreApart a b = a.file ≡ b.file → IsApart a.offset a.size b
+
 -- a mailbox of the map, up to the highest mailbox number
 pub record IsSoundMapBox (highest : ℕ) (box : MapBox) : Type 0 where
   pub number_some : 1 ≤ box.number
   pub below : box.number ≤ highest
   pub generation : IsNumber box.generation
 
--- The meaning of a map log: map uids and mailbox numbers rise up to the highest ones, GUIDs and names differ, and
--- instances of one id are one.
+-- The meaning of a map log: map uids and mailbox numbers rise up to the highest ones, GUIDs and names differ, instances
+-- of one id are one, and regions of one file don't overlap.
 pub record IsSoundMap (m : MapMeaning) : Type 0 where
   pub rising : AllPairs (λ a b. a.uid < b.uid) m.records
   pub records : All (IsSoundRecord m.highest.map) m.records
   pub guids : AllPairs (λ a b. a.guid ≢ b.guid) m.records
   pub agree : AllPairs AgreeOnInstances m.records
+  pub apart : AllPairs AreApart m.records
   pub boxes_rising : AllPairs (λ a b. a.number < b.number) m.boxes
   pub boxes : All (IsSoundMapBox m.highest.mailbox) m.boxes
   pub names : AllPairs (λ a b. a.name ≢ b.name) m.boxes
