@@ -24,6 +24,7 @@ pub mod MapEntryLaws
 pub mod MapFits
 pub mod MapLaws
 pub mod MapMeaning
+pub mod MapPlaceLaws
 pub mod MapSoundLaws
 pub mod MeaningExamples
 pub mod Metadata
@@ -44,6 +45,7 @@ pub mod Rows
 pub mod Safe
 pub mod SafeLaws
 pub mod ScanLaws
+pub mod SealedLaws
 pub mod Sound
 pub mod Stands
 pub mod StandsLaws

@@ -198,3 +198,7 @@ box_at m number = find (λ box. box.number == number) m.boxes
 -- the instances that records name, once for each naming
 abbrev pub named : MapMeaning → List InstRow
 named m = flat_map (λ row. row.instances) m.records
+
+-- a file is sealed
+abbrev pub is_sealed : MapMeaning → ℕ → Bool
+is_sealed m file = list_any (λ f. f == file) m.sealed

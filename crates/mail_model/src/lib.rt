@@ -7,7 +7,7 @@ pub use entries::one_spelling;
 pub use examples::{example_fits, example_meanings, example_store_is_safe, example_texts};
 pub use log_file::{log_examples, one_damage, one_log};
 pub use machine::{refusals_change_nothing, steps_change_references};
-pub use meanings::{meanings_are_sound, more_entries, one_entry_more};
+pub use meanings::{meanings_are_sound, more_entries, one_entry_more, sealed_files};
 pub use metadata::{
     first_bad_line_is_one, metadata_is_one, references_are_one, written_metadata_is_a_spelling,
 };

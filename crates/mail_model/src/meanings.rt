@@ -1,11 +1,12 @@
 // Laws of the meaning of logs.
-ghost use Rattle.std.specs.Prelude.{◌≡◌, ◌++◌, ◌∷◌, [], ℕ, List, flat_map};
-ghost use Rattle.std.specs.List.{AllByRecursion};
+ghost use Rattle.std.specs.Prelude.{◌≡◌, ◌<◌, AllPairs, ◌++◌, ◌∷◌, [], ℕ, List, flat_map};
+ghost use Rattle.std.specs.List.{AllByRecursion, list_any};
 ghost use Rattle.mdbox_base.specs.declared.entries.BoxEntry.{BoxEntry};
 ghost use Rattle.mdbox_base.specs.declared.entries.MapEntry.{MapEntry};
 ghost use Rattle.mail_model.specs.Rows.{row_behind};
 ghost use Rattle.mail_model.specs.BoxMeaning.{rows_after, row_rules, box_meaning, box_applied, AllBoxFit};
-ghost use Rattle.mail_model.specs.MapMeaning.{records_after, record_rules, boxes_after, box_rules, map_meaning, map_applied};
+ghost use Rattle.mail_model.specs.MapMeaning.{records_after, record_rules, boxes_after, box_rules, map_meaning, map_applied, sealed_after, is_sealed};
+ghost use Rattle.mail_model.specs.SealedLaws.{seals};
 ghost use Rattle.mail_model.specs.MapFits.{AllMapFit};
 ghost use Rattle.mail_model.specs.Entries.{BoxInRange, MapInRange};
 ghost use Rattle.mail_model.specs.Sound.{IsSoundBox, IsSoundMap};
@@ -27,4 +28,10 @@ pub fn more_entries()
 pub fn meanings_are_sound()
     ensures mailbox { (entries : List BoxEntry) → AllBoxFit [] entries → AllByRecursion BoxInRange entries → IsSoundBox (box_meaning entries) }
     ensures map { (store : List ℕ) (entries : List MapEntry) → AllMapFit store [] entries → AllByRecursion MapInRange entries → IsSoundMap (map_meaning store entries) }
+{}
+
+/// A file is sealed exactly where an `E` names it, and the sealed files stand once each, in order of number.
+pub fn sealed_files()
+    ensures named { (store : List ℕ) (entries : List MapEntry) (file : ℕ) → is_sealed (map_meaning store entries) file ≡ list_any (seals file) entries }
+    ensures rising { (entries : List MapEntry) → AllPairs (λ a b. a < b) (sealed_after entries) }
 {}
