@@ -1,3 +1,4 @@
+pub mod AppliedLaws
 pub mod Base64Laws
 pub mod Base64Text
 pub mod BoxLaws
