@@ -1,0 +1,21 @@
+use Rattle.std.proofs.Common.{◌≡◌, ◌==◌, ◌∙◌, ap, sym, arith, add-one, not, true, false, eq-eqb, refl}
+use Rattle.std.proofs.lemmas.Bool.Decides.{nat_tests}
+use Rattle.box_index.specs.declared.index.BoxRow.{BoxRow}
+use Rattle.box_index.proofs.RowLemmas.{kept_by, kept_by-none, kept_by-all, kept_by-remove, kept_by-keep}
+use Rattle.box_index.proofs.index.remove_rows.Goals as goal
+
+pub loop-place-init : goal.loop-place-init
+loop-place-init c = kept_by-none (λ (row : BoxRow). not (c.args.uid.0 == row.uid.0)) c.args.rows.now.items
+
+pub loop-place-preserved-then-uid-index : goal.loop-place-preserved-then-uid-index
+loop-place-preserved-then-uid-index c =
+    let fails : not (c.args.uid.0 == c.index.result.now.uid.0) ≡ false = ap not (eq-eqb _ _ c.if-uid-index.true) in
+    rw c.remove.ensures.items (kept_by-remove (λ (row : BoxRow). not (c.args.uid.0 == row.uid.0)) c.loop-place.place c.loop-place.rows.items c.index.result.now (omega arith) c.index.ensures fails ∙ c.loop-place.invariant)
+
+pub loop-place-preserved : goal.loop-place-preserved
+loop-place-preserved c =
+    let passes : not (c.args.uid.0 == c.index.result.now.uid.0) ≡ true = let h = c.if-uid-index.false in grind (arith, nat_tests) in
+    rw add-one (kept_by-keep (λ (row : BoxRow). not (c.args.uid.0 == row.uid.0)) c.loop-place.place c.loop-place.rows.items c.index.result.now (omega arith) c.index.ensures passes ∙ c.loop-place.invariant)
+
+pub returns : goal.returns
+returns c = sym (kept_by-all (λ (row : BoxRow). not (c.args.uid.0 == row.uid.0)) c.loop-place.place c.loop-place.rows.items (omega arith)) ∙ c.loop-place.invariant

@@ -1,0 +1,11 @@
+use Rattle.std.proofs.Common.{◌≡◌, ◌≤◌, ◌-◌, ◌==◌, not, filter, vec_len}
+use Rattle.box_index.specs.declared.index.BoxRow.{BoxRow}
+use Rattle.box_index.proofs.RowLemmas.{kept_by}
+use Rattle.box_index.proofs.index.remove_rows.Given as goal
+
+-- what passes of the rows is kept so far
+abbrev pub invariant-loop-place : goal.invariant-loop-place
+invariant-loop-place l = kept_by (λ (row : BoxRow). not (l.uid.0 == row.uid.0)) l.place l.rows.items ≡ filter (λ row. not (l.uid.0 == row.uid.0)) l.fn.rows.items
+
+abbrev pub decreases-loop-place : goal.decreases-loop-place
+decreases-loop-place l = vec_len l.rows - l.place

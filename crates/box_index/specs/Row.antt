@@ -1,0 +1,33 @@
+-- Rows of a mailbox as the code has them, and what they stand for.
+use Rattle.std.specs.Prelude.{◌==◌, if◌then◌else◌, ◌+◌, ◌<◌, ◌≤◌, ◌^◌, ℕ, List, [], ◌∷◌, length, map, Option, None, Some}
+use Rattle.std.specs.List.{AllByRecursion}
+use Rattle.mdbox_base.specs.declared.ids.Uid.{Uid}
+use Rattle.mail_model.specs.BoxMeaning.{LogRow, BoxMeaning}
+use Rattle.mdbox_base.specs.declared.entries.BoxEntry.{BoxEntry}
+use Rattle.mdbox_base.specs.declared.entries.BoxEntry.TheVariants as entry
+use Rattle.box_index.specs.declared.index.BoxRow.{BoxRow}
+
+-- a row of the code, as the model has it
+abbrev pub row_of : BoxRow → LogRow
+row_of row = record { uid = row.uid.0; flags = row.flags; time = row.time; size = row.size; map_uid = row.map_uid.0; guid = row.guid.0 }
+
+-- a row with these flags, where it has this UID
+abbrev pub flagged : ℕ → ℕ → BoxRow → BoxRow
+flagged uid flags row = if uid == row.uid.0 then record row { flags = flags } else row
+
+-- The rows' UIDs rise strictly from the first number on, and lie below the second.
+abbrev pub UidsRise : ℕ → List LogRow → ℕ → Type 0
+UidsRise low [] next = low ≤ next
+UidsRise low (row ∷ rows) next = (low ≤ row.uid) × UidsRise (row.uid + 1) rows next
+
+-- What every index keeps: UIDs rise and lie below the next one, and there is room for both limits.
+pub record IsInOrder (m : BoxMeaning) : Type 0 where
+  pub rise : UidsRise 1 m.rows m.next
+  pub some : 1 ≤ m.next
+  pub last : m.next ≤ 4294967295
+  pub few : length m.rows ≤ 1000000
+
+-- the entry adds a message
+abbrev pub IsAdded : BoxEntry → Type 0
+IsAdded (entry.A uid flags time size map_uid guid) = Unit {0}
+IsAdded other = ⊥

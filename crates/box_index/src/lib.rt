@@ -1,0 +1,6 @@
+//! What a mailbox log means so far: its rows and its next UID.
+#![tactic(auto)]
+
+pub use index::{BoxIndex, BoxRow};
+
+mod index;
