@@ -21,6 +21,7 @@ pub mod LogFile
 pub mod LogFileLaws
 pub mod Machine
 pub mod MachineLaws
+pub mod LogHeadLaws
 pub mod MapEntryLaws
 pub mod MapFits
 pub mod MapLaws
@@ -55,3 +56,4 @@ pub mod StoreExample
 pub mod StoreExampleLaws
 pub mod WellFormedLaws
 pub mod WrittenLaws
+pub mod LogRecordLaws

@@ -3,6 +3,7 @@ use Rattle.std.specs.Prelude.{◌≡◌, ◌<◌, ◌≤◌, ◌^◌, ◌+◌, �
 use Rattle.std.specs.Int.{w32, to_be_bytes, from_be_bytes}
 use Rattle.std.proofs.Common.{inl, inr, subst, sym, ◌∙◌, ap, append_assoc, append-nil, arith, length-append}
 use Rattle.std.proofs.lemmas.List.{take-append-le, take-append-drop, take-take, length-take-le}
+use Rattle.std.proofs.Math.Seq.{drop-append_seam}
 use Rattle.std.proofs.lemmas.Bool.{cases_order}
 use Rattle.std.proofs.lemmas.Nat.{from_be_bytes-to_be_bytes_4}
 use Rattle.std.proofs.lemmas.List.Elements.{All-head, All-tail}
@@ -10,7 +11,7 @@ use Rattle.mdbox_base.specs.declared.log_head.LogHead.{LogHead}
 use Rattle.mdbox_base.specs.declared.log_head.LogKind.{LogKind}
 use Rattle.mdbox_base.specs.declared.log_head.LogKind.TheVariants.{Root, Map, Box}
 use Rattle.mail_model.specs.Pieces.{split_same}
-use Rattle.mail_model.specs.LogFile.{kind_letter, HeadFits, head_octets, record_octets, EntryFits, opened, log_front, Ends, IsLog, IsTaken, BeginsHead, IsHeadDamaged, BeginsRecord, IsRecordDamaged, IsDamagedAt}
+use Rattle.mail_model.specs.LogFile.{kind_letter, HeadFits, head_octets, record_octets, EntryFits, opened, log_front, end_from, log_end, places_from, Ends, IsLog, IsTaken, BeginsHead, IsHeadDamaged, BeginsRecord, IsRecordDamaged, IsDamagedAt}
 
 -- a number below 2 ^ 32 has one spelling
 pub number_same : (m n : ℕ) → m < 2 ^ 32 → n < 2 ^ 32 → to_be_bytes w32 m ≡ to_be_bytes w32 n → m ≡ n
@@ -177,7 +178,8 @@ record_damage_once : (asked : Option LogHead) (octets : List ℕ) (m n : ℕ) �
 record_damage_once asked octets m n a b =
     let r : (a.head ≡ b.head) × (a.entries ≡ b.entries) × (1 ≡ 1) × (a.behind ≡ b.behind) =
     front_same a.head b.head a.entries b.entries 1 1 a.behind b.behind a.head_fits b.head_fits a.entries_fit b.entries_fit (λ _. a.no_record) (λ _. b.no_record) (sym a.spelled ∙ b.spelled) in
-    a.is ∙ ap (λ (t : List ℕ). length t + 1) (cc (r.0, r.1)) ∙ sym b.is
+    let e : log_front a.head a.entries ≡ log_front b.head b.entries = cc (r.0, r.1) in
+    a.is ∙ ap (λ (t : List ℕ). length t + 1) e ∙ sym b.is
 
 -- octets are damaged at one place at most
 pub one_damage : (asked : Option LogHead) (octets : List ℕ) (m n : ℕ) → IsDamagedAt asked octets m → IsDamagedAt asked octets n → m ≡ n
@@ -198,3 +200,37 @@ not_both asked octets head entries place l t (inr d) =
     let r : (head ≡ d.head) × (entries ≡ d.entries) × (l.gate ≡ 1) × (l.behind ≡ d.behind) =
     front_same head d.head entries d.entries l.gate 1 l.behind d.behind l.head_fits d.head_fits l.entries_fit d.entries_fit (stops-ends l.gate l.behind l.ends) (λ _. d.no_record) (sym l.spelled ∙ d.spelled) in
     elim l.ends [ inl n ↦ n r.2 | inr n ↦ d.some (sym r.3 ∙ n) ]
+
+-- one entry more
+
+pub opened_more : (es : List (List ℕ)) (e : List ℕ) → opened (es ++ e ∷ []) ≡ opened es ++ 1 ∷ record_octets e
+opened_more [] e = append-nil (1 ∷ record_octets e)
+opened_more (x ∷ es) e = ap (λ (t : List ℕ). (1 ∷ record_octets x) ++ t) (opened_more es e) ∙ sym (append_assoc (1 ∷ record_octets x) (opened es) (1 ∷ record_octets e))
+
+pub front_more : (head : LogHead) (es : List (List ℕ)) (e : List ℕ) → log_front head (es ++ e ∷ []) ≡ log_front head es ++ 1 ∷ record_octets e
+front_more head es e = ap (λ (t : List ℕ). head_octets head ++ t) (opened_more es e) ∙ sym (append_assoc (head_octets head) (opened es) (1 ∷ record_octets e))
+
+pub end_from_more : (gate : ℕ) (es : List (List ℕ)) (e : List ℕ) → end_from gate (es ++ e ∷ []) ≡ end_from gate es + 5 + length e
+end_from_more gate [] e = refl
+end_from_more gate (x ∷ es) e = end_from_more (gate + 5 + length x) es e
+
+pub places_from_more : (gate : ℕ) (es : List (List ℕ)) (e : List ℕ) → places_from gate (es ++ e ∷ []) ≡ places_from gate es ++ (end_from gate es + 1) ∷ []
+places_from_more gate [] e = refl
+places_from_more gate (x ∷ es) e = ap (λ (t : List ℕ). (gate + 1) ∷ t) (places_from_more (gate + 5 + length x) es e)
+
+-- the last gate stands behind the head and the open gates
+
+opened_length : (gate : ℕ) (es : List (List ℕ)) → gate + length (opened es) ≡ end_from gate es
+opened_length gate [] = omega arith
+opened_length gate (x ∷ es) =
+    let l : length (opened (x ∷ es)) ≡ length (1 ∷ record_octets x) + length (opened es) = length-append (1 ∷ record_octets x) (opened es) in
+    let r : (gate + 5 + length x) + length (opened es) ≡ end_from (gate + 5 + length x) es = opened_length (gate + 5 + length x) es in
+    let t : gate + length (opened (x ∷ es)) ≡ (gate + 5 + length x) + length (opened es) = omega (arith, l) in
+    t ∙ r
+
+pub front_length : (head : LogHead) (es : List (List ℕ)) → HeadFits head → length (log_front head es) ≡ log_end es
+front_length head es f = length-append (head_octets head) (opened es) ∙ ap (λ (n : ℕ). n + length (opened es)) (head_length head f) ∙ opened_length 25 es
+
+-- where octets go on behind their front
+pub behind_front : (front rest octets : List ℕ) (gate : ℕ) → octets ≡ front ++ rest → gate ≡ length front → drop gate octets ≡ rest
+behind_front front rest octets gate e l = rw (e, l) (drop-append_seam front rest)

@@ -5,7 +5,7 @@ pub use base64_text::canonical_text_is_of_one_form;
 pub use detached::{detached_form_is_one, whole_of_detached_is_message};
 pub use entries::one_spelling;
 pub use examples::{example_fits, example_meanings, example_store_is_safe, example_texts};
-pub use log_file::{log_examples, one_damage, one_log};
+pub use log_file::{log_examples, log_or_damage, one_damage, one_log};
 pub use machine::{refusals_change_nothing, steps_change_references};
 pub use meanings::{meanings_are_sound, more_entries, one_entry_more, sealed_files};
 pub use metadata::{

@@ -1,7 +1,8 @@
 // Laws of logs.
-ghost use Rattle.std.specs.Prelude.{◌≡◌, ◌∷◌, [], ℕ, List, Option, length};
+ghost use Rattle.std.specs.Prelude.{◌≡◌, ◌∷◌, [], ℕ, List, Option, length, IfSome, ◌⊎◌};
+ghost use Rattle.mdbox_base.specs.Words.{IsOctets};
 ghost use Rattle.mdbox_base.specs.declared.log_head.LogHead.{LogHead};
-ghost use Rattle.mail_model.specs.LogFile.{IsLog, IsTaken, IsDamagedAt, record_places, log_end};
+ghost use Rattle.mail_model.specs.LogFile.{HeadFits, IsLog, IsTaken, IsDamagedAt, record_places, log_end};
 ghost use Rattle.mail_model.specs.LogExamples.{root_log, root_head, root_entry, box_log, box_head, box_entry, map_log, map_head, map_made, map_stored};
 
 /// Octets are one log at most.
@@ -13,6 +14,11 @@ pub fn one_log()
 pub fn one_damage()
     ensures place { (asked : Option LogHead) (octets : List ℕ) (m n : ℕ) → IsDamagedAt asked octets m → IsDamagedAt asked octets n → m ≡ n }
     ensures no_log { (asked : Option LogHead) (octets : List ℕ) (head : LogHead) (entries : List (List ℕ)) (place : ℕ) → IsLog octets head entries → IsTaken asked head → IsDamagedAt asked octets place → ⊥ }
+{}
+
+/// Octets are a log with a head that is taken, or damaged at a place.
+pub fn log_or_damage()
+    ensures { (asked : Option LogHead) (octets : List ℕ) → IsOctets octets → IfSome asked HeadFits → ((head : LogHead) × (entries : List (List ℕ)) × IsTaken asked head × IsLog octets head entries) ⊎ ((place : ℕ) × IsDamagedAt asked octets place) }
 {}
 
 /// The root log, the mailbox log and the map log of a store with one message.

@@ -1,0 +1,140 @@
+// The head of a log, as octets.
+ghost use Rattle.std.specs.Prelude.{◌≡◌, ◌≢◌, ◌+◌, ◌<◌, ◌≤◌, ◌^◌, length, take, drop, MatchOption, MatchResult, position, Some, None, not, ◌==◌};
+ghost use Rattle.mdbox_base.specs.declared.log_head.LogKind.{LogKind};
+ghost use Rattle.std.specs.Int.{w32, from_be_bytes};
+ghost use Rattle.std.specs.List.{zip};
+ghost use Rattle.mdbox_base.specs.Words.{IsOctets};
+ghost use Rattle.mail_model.specs.LogFile.{HeadFits, head_octets, kind_letter, IsHeadDamaged};
+
+use mdbox_base::{LogHead, LogKind, StoreId};
+
+/// How many octets a head has.
+pub const HEAD_SIZE: usize = 25;
+
+/// Where the letter of the kind stands.
+const KIND_PLACE: usize = 16;
+
+/// What every log begins with.
+const MAGIC: [u8; 8] = *b"MDBXLOG1";
+
+/// The octets of a head.
+pub fn head_text(head: LogHead) -> [u8; 25]
+    ensures { result ≡ head_octets head }
+{
+    fits(head);
+    let mut text = [0; HEAD_SIZE];
+    text[..8].copy_from_slice(&MAGIC);
+    text[8..16].copy_from_slice(&head.store.0);
+    text[16] = letter_of(head.kind);
+    text[17..21].copy_from_slice(&head.number.to_be_bytes());
+    text[21..].copy_from_slice(&head.generation.to_be_bytes());
+    text
+}
+
+/// A head fits its octets.
+pub fn fits(head: LogHead)
+    ensures { HeadFits head }
+{
+    ranges(head.store.0, head.number, head.generation)
+}
+
+fn ranges(store: [u8; 8], number: u32, generation: u32)
+    ensures store { length store ≡ 8 }
+    ensures octets { IsOctets store }
+    ensures number { number < 2 ^ 32 }
+    ensures generation { generation < 2 ^ 32 }
+{
+    let _octets = store.as_slice();
+}
+
+fn letter_of(kind: LogKind) -> u8
+    ensures { result ≡ kind_letter kind }
+{
+    match kind {
+        LogKind::Root => b'R',
+        LogKind::Map => b'M',
+        LogKind::Box => b'B',
+    }
+}
+
+/// The kind with this letter.
+fn kind_of(letter: u8) -> Option<LogKind>
+    ensures { MatchOption result ((kind : LogKind) → kind_letter kind ≢ letter) (λ kind. kind_letter kind ≡ letter) }
+{
+    match letter {
+        b'R' => Some(LogKind::Root),
+        b'M' => Some(LogKind::Map),
+        b'B' => Some(LogKind::Box),
+        _ => None,
+    }
+}
+
+/// The first place where two texts differ, as far as both go.
+fn first_difference(octets: &[u8], wanted: &[u8]) -> Option<usize>
+    ensures { result ≡ position (λ pair. not (pair.0 == pair.1)) (zip octets.now wanted.now) }
+{
+    octets
+        .iter()
+        .zip(wanted.iter())
+        .position(|(octet, wanted)| *octet != *wanted)
+}
+
+/// Finds the damage of a log that is to have this head, where its head or its first gate isn't whole.
+pub fn check_head(octets: &[u8], head: LogHead) -> Result<(), u64>
+    ensures { MatchResult result (λ _. HeadFits head × (25 < length octets.now) × (take 25 octets.now ≡ head_octets head)) (λ place. IsHeadDamaged (Some head) octets.now place) }
+{
+    fits(head);
+    match first_difference(octets, &head_text(head)) {
+        Some(place) => Err(place as u64),
+        None if octets.len() <= HEAD_SIZE => Err(octets.len() as u64),
+        None => Ok(()),
+    }
+}
+
+/// The head that octets begin with, where a gate follows it.
+pub fn read_head(octets: &[u8]) -> Result<LogHead, u64>
+    ensures { MatchResult result (λ head. HeadFits head × (25 < length octets.now) × (take 25 octets.now ≡ head_octets head)) (λ place. IsHeadDamaged None octets.now place) }
+{
+    if let Some(place) = first_difference(octets, &MAGIC) {
+        return Err(place as u64);
+    }
+    if octets.len() <= KIND_PLACE {
+        return Err(octets.len() as u64);
+    }
+    let Some(kind) = kind_of(octets[KIND_PLACE]) else {
+        return Err(KIND_PLACE as u64);
+    };
+    if octets.len() <= HEAD_SIZE {
+        return Err(octets.len() as u64);
+    }
+    let (text, _) = octets.split_at(HEAD_SIZE);
+    Ok(head_in(text, kind))
+}
+
+/// The head that these octets spell.
+fn head_in(text: &[u8], kind: LogKind) -> LogHead
+    requires { length text.now ≡ 25 }
+    ensures store { result.store.0 ≡ take 8 (drop 8 text.now) }
+    ensures kind { result.kind ≡ kind }
+    ensures number { result.number ≡ from_be_bytes w32 (take 4 (drop 17 text.now)) }
+    ensures generation { result.generation ≡ from_be_bytes w32 (drop 21 text.now) }
+{
+    let mut store = [0; 8];
+    store.copy_from_slice(&text[8..16]);
+    LogHead {
+        store: StoreId(store),
+        kind,
+        number: number_in(&text[17..21]),
+        generation: number_in(&text[21..]),
+    }
+}
+
+/// The number that 4 octets spell.
+fn number_in(text: &[u8]) -> u32
+    requires { length text.now ≡ 4 }
+    ensures { result ≡ from_be_bytes w32 text.now }
+{
+    let mut bytes = [0; 4];
+    bytes.copy_from_slice(text);
+    u32::from_be_bytes(bytes)
+}
