@@ -1,0 +1,48 @@
+-- The state of the reader, against what is found in the message.
+use Rattle.std.specs.Prelude.{◌≡◌, ◌<◌, ◌≤◌, ◌+◌, ℕ, List, [], ◌∷◌, ◌++◌, length, map, drop, Bool, true, false, Option, Some, None}
+use Rattle.mdbox_base.specs.declared.mime.Part.{Part}
+use Rattle.mail_model.specs.Lines.{lines_from}
+use Rattle.mail_model.specs.Parts.{Found, found_in, whole_entity}
+use Rattle.mail_model.specs.Parts.Found.{APart}
+use Rattle.mime_parts.specs.ToCome.{to_come, open_found}
+use Rattle.mime_parts.specs.declared.reader.Place.{Place}
+use Rattle.mime_parts.specs.declared.reader.Place.TheVariants as places
+use Rattle.mime_parts.specs.declared.reader.Reader.{Reader}
+
+-- an entity is open on a level that is left, and starts up to there
+abbrev pub IsOpen : Place → ℕ → ℕ → Type 0
+IsOpen places.Between levels at = Unit {0}
+IsOpen (places.Head start) levels at = (0 < levels) × (start ≤ at)
+IsOpen (places.Body start body coding other) levels at = start ≤ at
+
+abbrev pub found_parts : List Part → List Found
+found_parts parts = map (λ p. APart p) parts
+
+-- What was found up to a place and what is still to come are all that is found.
+pub record IsRead (message : List ℕ) (s : Reader) (at : ℕ) : Type 0 where
+  pub levels : ℕ
+  pub few : levels + length s.stack.items ≡ 64
+  pub few_parts : length s.parts.items ≤ 10000
+  pub open_here : IsOpen s.place levels at
+  pub before : s.before ≤ at
+  pub within : at ≤ length message
+  pub all : found_parts s.parts.items ++ to_come message 64 s.stack.items s.place s.before (lines_from at (drop at message)) (length message) ≡ found_in message 64 (whole_entity message)
+
+-- a header block is open only on a level that is left
+abbrev pub HasLevel : Place → ℕ → Type 0
+HasLevel (places.Head start) levels = 0 < levels
+HasLevel _ levels = Unit {0}
+
+-- what an open entity gives where it ends
+abbrev pub Flushes : Option Part → List ℕ → Place → ℕ → Type 0
+Flushes None message p end = (levels : ℕ) → HasLevel p levels → open_found message levels p [] end ≡ []
+Flushes (Some part) message p end = (levels : ℕ) → HasLevel p levels → open_found message levels p [] end ≡ APart part ∷ []
+
+-- What is open is ended, and its part added: there are still few; else there are too many.
+pub record Ended (message : List ℕ) (old new : Reader) (end : ℕ) (going : Bool) : Type 0 where
+  pub stack : new.stack.items ≡ old.stack.items
+  pub place : new.place ≡ old.place
+  pub found : List Found
+  pub gives : (levels : ℕ) → HasLevel old.place levels → open_found message levels old.place [] end ≡ found
+  pub parts : going ≡ true → (length new.parts.items ≤ 10000) × (found_parts new.parts.items ≡ found_parts old.parts.items ++ found)
+  pub many : going ≡ false → 10000 < length (found_parts old.parts.items ++ found)
