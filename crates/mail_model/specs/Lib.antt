@@ -48,6 +48,8 @@ pub mod Safe
 pub mod SafeLaws
 pub mod ScanLaws
 pub mod SealedLaws
+pub mod Settled
+pub mod SettledLaws
 pub mod Sound
 pub mod Stands
 pub mod StandsLaws

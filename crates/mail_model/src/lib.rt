@@ -12,6 +12,7 @@ pub use metadata::{
     first_bad_line_is_one, metadata_is_one, references_are_one, written_metadata_is_a_spelling,
 };
 pub use rejoined::{whole_has_no_error, whole_is_one};
+pub use settled::{alike_files, images_of_settled_disk};
 pub use stands::{counts_of_safe_image, lists_are_well_formed, one_map, one_meaning};
 
 mod base64_text;
@@ -24,4 +25,5 @@ mod meanings;
 mod metadata;
 pub mod parts;
 mod rejoined;
+mod settled;
 mod stands;
