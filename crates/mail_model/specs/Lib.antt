@@ -19,9 +19,10 @@ pub mod Lists
 pub mod LogExamples
 pub mod LogFile
 pub mod LogFileLaws
+pub mod LogHeadLaws
+pub mod LogRecordLaws
 pub mod Machine
 pub mod MachineLaws
-pub mod LogHeadLaws
 pub mod MapEntryLaws
 pub mod MapFits
 pub mod MapLaws
@@ -58,4 +59,3 @@ pub mod StoreExample
 pub mod StoreExampleLaws
 pub mod WellFormedLaws
 pub mod WrittenLaws
-pub mod LogRecordLaws
