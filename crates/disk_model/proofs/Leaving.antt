@@ -30,7 +30,8 @@ front_stays f octets n holds least long firm =
     let l : f.least ≤ length octets = holds.least in
     same_front n octets f.octets (omega arith) long (λ i below. holds.same i (omega arith) (firm i below))
 
-overlaid-end : (text from : List ℕ) → overlaid text (length text) from ≡ text ++ from
+-- octets written at the end
+pub overlaid-end : (text from : List ℕ) → overlaid text (length text) from ≡ text ++ from
 overlaid-end text from =
     let behind : drop (length text + length from) text ≡ [] = drop_all (length text + length from) text (omega arith) in
     rw (take-length text, behind) (append-nil (text ++ from))

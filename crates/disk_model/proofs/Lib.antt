@@ -1,4 +1,5 @@
 pub mod ChangeAndSync
+pub mod Firm
 pub mod Leaving
 pub mod Moments
 pub mod Names

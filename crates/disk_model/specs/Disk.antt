@@ -1,5 +1,5 @@
 -- What a disk is: its files, what each call does to them, and what a stop may leave.
-use Rattle.std.specs.Prelude.{◌≡◌, ◌≢◌, ◌==◌, ◌⊎◌, ℕ, ◌+◌, ◌-◌, ◌^◌, ◌<◌, ◌≤◌, min, max, nat_le, nat_lt, Bool, true, false, not, ◌&&◌, ◌||◌, if◌then◌else◌, List, [], ◌∷◌, ◌++◌, length, take, drop, slice_get, Option, Some, None, MatchOption, Result, IsErr, IsErrOf, ⊤, All}
+use Rattle.std.specs.Prelude.{◌≡◌, ◌≢◌, ◌↔◌, ◌==◌, ◌⊎◌, ℕ, ◌+◌, ◌-◌, ◌^◌, ◌<◌, ◌≤◌, min, max, nat_le, nat_lt, Bool, true, false, not, ◌&&◌, ◌||◌, if◌then◌else◌, List, [], ◌∷◌, ◌++◌, length, take, drop, slice_get, Option, Some, None, MatchOption, Result, IsErr, IsErrOf, ⊤, All}
 use Rattle.std.specs.declared.cmp.Ordering.{Ordering}
 use Rattle.std.specs.declared.cmp.Ordering.TheVariants.{Less}
 use Rattle.disk_model.specs.Name.{same_name}
@@ -55,6 +55,11 @@ MayLeave f (Some octets) = MayHold f octets
 -- an image of a disk: each file is as a stop may leave it
 abbrev pub IsImage : DiskState → Files → Type 0
 IsImage disk image = (name : FileName) → MayLeave (disk name) (image name)
+
+-- the file reads these octets, and they are what a stop leaves of it
+pub record Keeps (f : FileState) (octets : List ℕ) : Type 0 where
+  pub reads : reading f ≡ Some octets
+  pub leaves : (left : Option (List ℕ)) → MayLeave f left ↔ (left ≡ Some octets)
 
 -- no file, and nothing was
 abbrev pub no_file : FileState
