@@ -1,0 +1,4 @@
+pub mod Mem
+pub mod Numbers
+pub mod Record
+pub mod Sound
