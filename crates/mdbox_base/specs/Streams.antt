@@ -1,5 +1,6 @@
 -- Sources and sinks of octets: what they tell, and how they change.
-use Rattle.std.specs.Prelude.{◌≡◌, ◌≤◌, ◌+◌, ◌-◌, ◌^◌, ◌++◌, ℕ, min, List, [], length, Option, IfSome}
+use Rattle.std.specs.Prelude.{◌≡◌, ◌≤◌, ◌+◌, ◌-◌, ◌^◌, ◌++◌, ℕ, min, List, [], length, Option, IfSome, codes}
+use Rattle.mdbox_base.specs.Numbers.{decimal_text}
 use Rattle.std.specs.Option.{option_map}
 use Rattle.mdbox_base.specs.declared.stream.InputError.{InputError}
 use Rattle.mdbox_base.specs.declared.stream.InputError.TheVariants.{TooLong, Fault, NoMemory}
@@ -43,3 +44,9 @@ pub record MemorySink : Type 0 where
   pub fails : List ℕ
   pub calls : ℕ
   pub faults : ℕ
+
+-- what an error says when it is printed
+abbrev pub input_error_text : InputError → List ℕ
+input_error_text (TooLong limit) = codes "more than " ++ decimal_text limit ++ codes " octets"
+input_error_text Fault = codes "the source failed"
+input_error_text NoMemory = codes "out of memory"

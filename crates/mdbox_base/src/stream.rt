@@ -1,6 +1,6 @@
 // Sources and sinks of octets.
-ghost use Rattle.std.specs.Prelude.{◌≡◌, ◌≤◌, ◌<◌, ◌+◌, ℕ, min, List, [], length, take, Option, IfOk, IfErr, IfSome, OnOk, OnErr};
-ghost use Rattle.mdbox_base.specs.Streams.{Rose, Taken, Appended, IsAtEnd, Refused};
+ghost use Rattle.std.specs.Prelude.{◌≡◌, ◌≤◌, ◌<◌, ◌+◌, ℕ, min, List, [], length, take, Option, Some, codes, IfOk, IfErr, IfSome, OnOk, OnErr};
+ghost use Rattle.mdbox_base.specs.Streams.{Rose, Taken, Appended, IsAtEnd, Refused, input_error_text};
 
 use crate::octets::Octets;
 use std::alloc::Global;
@@ -118,6 +118,8 @@ pub fn give_all<O: Sink>(sink: &mut O, text: &[u8]) -> Result<(), SinkFault>
 }
 
 impl fmt::Display for SourceFault {
+    ghost output = { λ _. Some (codes "a source failed") };
+
     fn fmt<W: fmt::Write>(&self, f: &mut fmt::Formatter<W>) -> fmt::Result {
         f.write_str("a source failed")
     }
@@ -126,6 +128,8 @@ impl fmt::Display for SourceFault {
 impl Error for SourceFault {}
 
 impl fmt::Display for SinkFault {
+    ghost output = { λ _. Some (codes "a sink failed") };
+
     fn fmt<W: fmt::Write>(&self, f: &mut fmt::Formatter<W>) -> fmt::Result {
         f.write_str("a sink failed")
     }
@@ -134,6 +138,8 @@ impl fmt::Display for SinkFault {
 impl Error for SinkFault {}
 
 impl fmt::Display for InputError {
+    ghost output = { λ error. Some (input_error_text error) };
+
     fn fmt<W: fmt::Write>(&self, f: &mut fmt::Formatter<W>) -> fmt::Result {
         match self {
             InputError::TooLong(limit) => write!(f, "more than {limit} octets"),
