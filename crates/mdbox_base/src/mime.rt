@@ -26,16 +26,6 @@ impl Model for Boundary {
 }
 
 impl Boundary {
-    /// No octets yet.
-    pub fn empty() -> Boundary
-        ensures { result ≡ [] }
-    {
-        Boundary {
-            octets: [0; 70],
-            length: 0,
-        }
-    }
-
     /// These octets, where there are at most 70.
     pub fn of(text: &[u8]) -> Option<Boundary>
         ensures some { IfSome result (λ b. (b ≡ text.now) × (length text.now ≤ 70)) }

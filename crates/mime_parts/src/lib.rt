@@ -3,6 +3,8 @@
 
 mod mark;
 mod reader;
+#[cfg(test)]
+mod tests;
 
 ghost use Rattle.std.specs.Prelude.{◌≡◌, ◌≤◌, length, IfOk};
 ghost use Rattle.mail_model.specs.Parts.{parts_in};
