@@ -2,6 +2,7 @@
 ghost use Rattle.std.specs.Prelude.{◌≡◌};
 ghost use Rattle.gate_log.specs.declared.error.LogError.TheVariants.{NoMemory, DiskFault};
 
+use disk_model::DiskError;
 use mdbox_base::NoMemory;
 use std::error::Error;
 use std::fmt;
@@ -57,5 +58,11 @@ impl From<DiskFault> for LogError {
 
     fn from(_error: DiskFault) -> LogError {
         LogError::DiskFault
+    }
+}
+
+impl From<DiskError> for DiskFault {
+    fn from(_error: DiskError) -> DiskFault {
+        DiskFault
     }
 }

@@ -2,9 +2,12 @@
 #![tactic(auto)]
 
 pub use error::{DiskFault, LogError};
+pub use log::GateLog;
 pub use read::{LogRead, read_log};
 
 mod error;
+mod gate;
 mod head;
+mod log;
 mod read;
 mod record;

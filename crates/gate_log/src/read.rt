@@ -5,13 +5,11 @@ ghost use Rattle.mail_model.specs.LogFile.{HeadFits, head_octets, IsTaken};
 ghost use Rattle.gate_log.specs.Reading.{IsReading, IsReadError};
 
 use crate::error::LogError;
+use crate::gate::OPEN;
 use crate::head::{HEAD_SIZE, check_head, read_head};
 use crate::record::first_entry;
 use mdbox_base::{LogHead, NoMemory, Octets, Seq};
 use std::alloc::Global;
-
-/// The value of a gate that a record follows.
-const OPEN: u8 = 1;
 
 /// What a log has.
 #[derive(Drop)]

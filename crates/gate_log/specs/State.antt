@@ -1,0 +1,17 @@
+-- What a caller sees of a log: its file's name, its head, where its last gate stands, and its room, which is how many
+-- octets of a record with two gates it can lay out without memory.
+use Rattle.std.specs.Prelude.{◌≡◌, ℕ}
+use Rattle.disk_model.specs.declared.name.FileName.{FileName}
+use Rattle.mdbox_base.specs.declared.log_head.LogHead.{LogHead}
+
+pub record LogState : Type 0 where
+  pub name : FileName
+  pub head : LogHead
+  pub end : ℕ
+  pub room : ℕ
+
+-- the same log, with as much room
+pub record IsSameLog (old new : LogState) : Type 0 where
+  pub name : new.name ≡ old.name
+  pub head : new.head ≡ old.head
+  pub room : new.room ≡ old.room

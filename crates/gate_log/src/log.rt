@@ -1,0 +1,104 @@
+// Logs on a disk.
+ghost use Rattle.std.specs.Prelude.{◌≡◌, ◌+◌, ◌<◌, ◌≤◌, ◌^◌, ◌++◌, ◌∷◌, [], ℕ, List, length, take, OnOk, OnErr, IsErr};
+ghost use Rattle.disk_model.specs.Disk.{EachImage, OthersStay, SameButFor, FaultsRoseIf};
+ghost use Rattle.mail_model.specs.LogFile.{record_octets};
+ghost use Rattle.gate_log.specs.State.{LogState, IsSameLog};
+ghost use Rattle.gate_log.specs.Log.{Reads, Holds, IsLogWithOrWithout};
+
+use crate::error::DiskFault;
+use crate::gate::{CLOSED, OPEN};
+use disk_model::{Disk, FileName};
+use mdbox_base::{LogHead, NoMemory};
+use std::marker::Model;
+
+/// A log that was made or opened.
+///
+/// It holds no entries, only what is needed to add one. After a call that answered a fault it isn't used again.
+#[derive(Drop)]
+pub struct GateLog {
+    name: FileName,
+    head: LogHead,
+    /// Where the last gate stands.
+    end: u64,
+    /// Where a record is laid out before it is written.
+    buffer: Vec<u8>,
+}
+
+impl Model for GateLog {
+    ghost use Rattle.std.specs.Prelude.{◌<◌, ◌^◌, ◌-◌, vec_len};
+    ghost use Rattle.gate_log.specs.State.{LogState};
+
+    ghost Value = { LogState };
+
+    ghost view = { λ log. record { name = log.name; head = log.head; end = log.end; room = vec_len log.buffer } };
+
+    ghost invariant = { λ log. (log.end < 2 ^ 64 - 1) × (vec_len log.buffer < 2 ^ 32) };
+}
+
+impl GateLog {
+    /// How many octets of an entry, and 5 for each entry, the log can add without memory.
+    pub fn room(&self) -> usize
+        ensures { result ≡ self.now.room }
+    {
+        self.buffer.len()
+    }
+
+    /// Makes room for so many octets at least. Above 4,294,967,295 there is no memory, since no record is as long.
+    pub fn reserve(&mut self, octets: usize) -> Result<(), NoMemory>
+        ensures room { OnOk result (octets ≤ self.new.room) }
+        ensures no_less { self.old.room ≤ self.new.room }
+        ensures same { self.new ≡ record self.old { room = self.new.room } }
+        ensures refused { OnErr result (self.new ≡ self.old) }
+    {
+        if octets > u32::MAX as usize {
+            return Err(NoMemory);
+        }
+        if octets > self.buffer.len() {
+            self.buffer.resize(octets, 0)?;
+        }
+        Ok(())
+    }
+
+    /// Adds an entry: its record and a closed gate behind the last gate, a sync, and then the gate is opened and synced.
+    pub fn append<D: Disk>(&mut self, disk: &mut D, entry: &[u8]) -> Result<(), DiskFault>
+        requires read { (entries : List (List ℕ)) × Reads self.old entries (D.history disk.old) }
+        requires some { 1 ≤ length entry.now }
+        requires room { length entry.now + 5 ≤ self.old.room }
+
+        // At every moment of the call each image has the old entries, or the old and this one.
+        ensures any_moment { (entries : List (List ℕ)) → Holds self.old entries (D.history disk.old)
+            → EachImage (λ _ image. IsLogWithOrWithout self.old.head entries entry.now (image self.old.name) × OthersStay self.old.name (D.history disk.old) image) (D.history disk.old) (D.history disk.new) }
+
+        // Of the other files each image has what an image had before, also where the log's file is not as a stop leaves it.
+        ensures others_stay { EachImage (λ _ image. OthersStay self.old.name (D.history disk.old) image) (D.history disk.old) (D.history disk.new) }
+
+        // After Ok the log has this entry, and no other file has changed.
+        ensures added { OnOk result ((entries : List (List ℕ)) → Reads self.old entries (D.history disk.old) → Reads self.new (entries ++ entry.now ∷ []) (D.history disk.new)) }
+        ensures held { OnOk result ((entries : List (List ℕ)) → Holds self.old entries (D.history disk.old) → Holds self.new (entries ++ entry.now ∷ []) (D.history disk.new)) }
+        ensures others { OnOk result (SameButFor self.old.name (D.history disk.old) (D.history disk.new)) }
+
+        ensures fault { FaultsRoseIf (IsErr result) (D.faults disk.old) (D.faults disk.new) }
+        ensures log { IsSameLog self.old self.new }
+    {
+        let size = entry.len() + 5;
+        lay_out(&mut self.buffer, entry);
+        disk.write_at(self.name, self.end + 1, &self.buffer[..size])?;
+        disk.sync(self.name)?;
+        disk.write_at(self.name, self.end, &[OPEN])?;
+        disk.sync(self.name)?;
+        self.end += size as u64;
+        Ok(())
+    }
+}
+
+/// Lays out a record and a closed gate.
+fn lay_out(buffer: &mut [u8], entry: &[u8])
+    requires short { length entry.now < 2 ^ 32 }
+    requires room { length entry.now + 5 ≤ length buffer.old }
+    ensures { take (length entry.now + 5) buffer.new ≡ record_octets entry.now ++ 0 ∷ [] }
+{
+    let end = entry.len() + 4;
+    buffer[..4].copy_from_slice(&(entry.len() as u32).to_be_bytes());
+    buffer[4..end].copy_from_slice(entry);
+    buffer[end] = CLOSED;
+}
