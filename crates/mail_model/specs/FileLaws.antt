@@ -8,11 +8,11 @@ use Rattle.mail_model.specs.Grammars.{IsPrefixFree}
 use Rattle.mail_model.specs.Pieces.{split_same}
 use Rattle.mail_model.specs.StorageFile.{Line, IsLine, is_no_end, line_text, Message, IsMessageHeader, IsBlock, IsMessage, AreMessages, is_letter_or_digit, IsField, field_text, values_of, IsHeaderLine, IsFile}
 
-second : (a b : Bool) → IsTrue (a && b) → IsTrue b
+pub second : (a b : Bool) → IsTrue (a && b) → IsTrue b
 second true b h = h
 second false b h = cc h
 
-first : (a b : Bool) → IsTrue (a && b) → IsTrue a
+pub first : (a b : Bool) → IsTrue (a && b) → IsTrue a
 first true b h = refl
 first false b h = cc h
 
@@ -42,19 +42,19 @@ run_same test (a ∷ us) (b ∷ bs) x y pa pb ex ey e =
     let r : (us ≡ bs) × (x ≡ y) = run_same test us bs x y (second (test a) (list_all test us) pa) (second (test b) (list_all test bs) pb) ex ey t in
     (cc (r.0, h), r.1)
 
-abbrev made : ℕ → List ℕ → Line
+abbrev pub made : ℕ → List ℕ → Line
 made key value = record { key = key; value = value }
 
 abbrev made_message : List ℕ → List Line → Message
 made_message body lines = record { body = body; lines = lines }
 
-line_of : (l m : Line) → l.key ≡ m.key → l.value ≡ m.value → l ≡ m
+pub line_of : (l m : Line) → l.key ≡ m.key → l.value ≡ m.value → l ≡ m
 line_of l m k v = both made l.key m.key l.value m.value k v
 
 regroup : (k : ℕ) (v rest x : List ℕ) → (k ∷ (v ++ 10 ∷ []) ++ rest) ++ x ≡ k ∷ (v ++ 10 ∷ (rest ++ x))
 regroup k v rest x = ap (λ (t : List ℕ). k ∷ t) (append_assoc (v ++ 10 ∷ []) rest x ∙ append_assoc v (10 ∷ []) (rest ++ x))
 
-no_key : (k : ℕ) → IsTrue (is_no_end k) → 10 ≡ k → ⊥
+pub no_key : (k : ℕ) → IsTrue (is_no_end k) → 10 ≡ k → ⊥
 no_key k h e = let f : IsTrue (is_no_end 10) = subst (λ (c : ℕ). IsTrue (is_no_end c)) (sym e) h in cc f
 
 -- rows of lines, each with an empty line behind, are one row

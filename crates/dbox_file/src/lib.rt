@@ -1,0 +1,7 @@
+//! The storage file of mdbox (`m.N`): its header line, and where its messages stand.
+#![tactic(auto)]
+
+pub use mdbox_base::{MessageAt, PlaceError, ScanError};
+
+mod lines;
+mod reading;
