@@ -1,11 +1,11 @@
 -- One spelling behind another.
-use Rattle.std.specs.Prelude.{◌≡◌, ◌≤◌, ◌<◌, ℕ, List, [], ◌∷◌, ◌++◌, length, refl, ◌⊎◌}
+use Rattle.std.specs.Prelude.{◌≡◌, ℕ, List, [], ◌∷◌, ◌++◌, length, refl, ◌⊎◌}
 use Rattle.std.proofs.Common.{sym, ◌∙◌, ap, subst, inl, inr, append_assoc, append-nil}
 use Rattle.mail_model.specs.Grammars.{Grammar, Begins, IsFrontOf, IsPrefixFree}
 use Rattle.mail_model.specs.Pieces.{split_same}
 use Rattle.dbox_file.specs.declared.reading.Flaw.{Flaw}
 use Rattle.dbox_file.specs.declared.reading.Flaw.TheVariants.{Short, Bad}
-use Rattle.dbox_file.specs.Reading.{Found, FoundSome, Flawed}
+use Rattle.dbox_file.specs.Reading.{Found, Flawed}
 
 -- of two fronts of one text, one is the front of the other
 pub two_fronts : (a b x y : List ℕ) → a ++ x ≡ b ++ y → ((c : List ℕ) × (a ≡ b ++ c)) ⊎ ((c : List ℕ) × (b ≡ a ++ c))
@@ -15,7 +15,7 @@ two_fronts (a ∷ us) (b ∷ bs) x y e =
     let h : a ≡ b = cc in
     let t : us ++ x ≡ bs ++ y = cc in
     elim (two_fronts us bs x y t) [
-      inl p ↦ inl (p.0, cc (p.1, h))
+      | inl p ↦ inl (p.0, cc (p.1, h))
       | inr p ↦ inr (p.0, cc (p.1, h))
     ]
 
@@ -39,7 +39,7 @@ then_front_back : {X Y : Type 0} → (G : Grammar X) (K : X → Grammar Y) (t : 
 then_front_back G K t q =
     let p = q.2 in
     elim (two_fronts t p.0 q.0 p.1 p.3) [
-      inl f ↦ inl (p.0, f.0, p.2, f.1, p.4)
+      | inl f ↦ inl (p.0, f.0, p.2, f.1, p.4)
       | inr f ↦ inr (f.0, p.2, subst (λ (o : List ℕ). G o p.2) f.1 p.4)
     ]
 
@@ -80,6 +80,12 @@ pub found_behind : {X Y : Type 0} → (G : Grammar X) (K : X → Grammar Y) (t r
 found_behind G K t r s x y f g = (f.0 ++ g.0, f.1 ∙ ap (λ (o : List ℕ). f.0 ++ o) g.1 ∙ sym (append_assoc f.0 g.0 s), (f.0, g.0, x, refl, f.2, g.2))
 
 -- two grammars with the same spellings have the same flaws
-pub flawed_along : {X : Type 0} → (G H : Grammar X) → ((o : List ℕ) (x : X) → G o x → H o x) → ((o : List ℕ) (x : X) → H o x → G o x) → (t : List ℕ) (e : Flaw) → Flawed G t e → Flawed H t e
-flawed_along G H to from t Short f = (λ q. f.0 (q.0, q.1, q.2, q.3, from q.0 q.2 q.4), let p = f.1 in (p.0, p.1, to (t ++ p.0) p.1 p.2))
-flawed_along G H to from t Bad f = (λ q. f.0 (q.0, q.1, q.2, q.3, from q.0 q.2 q.4), λ q. f.1 (q.0, q.1, from (t ++ q.0) q.1 q.2))
+pub flawed_along : {X Y : Type 0} → (G : Grammar X) (H : Grammar Y) → ((o : List ℕ) (x : X) → G o x → (y : Y) × H o y) → ((o : List ℕ) (y : Y) → H o y → (x : X) × G o x) → (t : List ℕ) (e : Flaw) → Flawed G t e → Flawed H t e
+flawed_along G H to from t Short f = (
+  λ q. let b = from q.0 q.2 q.4 in f.0 (q.0, q.1, b.0, q.3, b.1),
+  let p = f.1 in let b = to (t ++ p.0) p.1 p.2 in (p.0, b.0, b.1),
+)
+flawed_along G H to from t Bad f = (
+  λ q. let b = from q.0 q.2 q.4 in f.0 (q.0, q.1, b.0, q.3, b.1),
+  λ q. let b = from (t ++ q.0) q.1 q.2 in f.1 (q.0, b.0, b.1),
+)

@@ -1,3 +1,5 @@
 pub mod Fronts
+pub mod MessageLaws
 pub mod RowLaws
 pub mod RunLaws
+pub mod SizeLaws

@@ -7,10 +7,10 @@ use Rattle.std.proofs.lemmas.Bool.{ne_eqb, eqb-true}
 use Rattle.std.proofs.lemmas.List.{take-append-drop, length-take-le, take_all}
 use Rattle.mail_model.specs.Grammars.{Begins, IsFrontOf}
 use Rattle.mail_model.specs.StorageFile.{Line, IsLine, line_text, is_no_end}
-use Rattle.mail_model.specs.FileLaws.{lines_same, run_same, no_key, line_of, first, second}
+use Rattle.mail_model.specs.FileLaws.{run_same, no_key, line_of, first, second}
 use Rattle.dbox_file.specs.declared.reading.Flaw.{Flaw}
 use Rattle.dbox_file.specs.declared.reading.Flaw.TheVariants.{Short, Bad}
-use Rattle.dbox_file.specs.Reading.{Found, FoundSome, Flawed}
+use Rattle.dbox_file.specs.Reading.{FoundSome, Flawed}
 use Rattle.dbox_file.specs.Rows.{IsRows, HasLine}
 
 line_joined : (l : Line) (r : List ℕ) → line_text l ++ r ≡ l.key ∷ (l.value ++ 10 ∷ r)
@@ -52,10 +52,10 @@ rows_less l ls ms o room less e el p = record {
   each = each_behind ls ms l el p.each;
   spelled = refl;
   short =
-    let h = p.short in
-    let n : length o ≡ length (line_text l) + length (flat_map line_text ms ++ 10 ∷ []) =
-    ap length p.spelled ∙ ap (λ (ks : List Line). length (flat_map line_text ks ++ 10 ∷ [])) el ∙ row_length l ms in
-    omega arith;
+      let h = p.short in
+      let n : length o ≡ length (line_text l) + length (flat_map line_text ms ++ 10 ∷ []) =
+      ap length p.spelled ∙ ap (λ (ks : List Line). length (flat_map line_text ks ++ 10 ∷ [])) el ∙ row_length l ms in
+      omega arith;
 }
 
 begins_less : (l : Line) (t r : List ℕ) (room less : ℕ) → IsLine l → t ≡ line_text l ++ r → length (line_text l) + less ≡ room → Begins (IsRows room) t → Begins (IsRows less) r
@@ -112,13 +112,13 @@ nothing_yet t room e h = (λ q. rows_of_nothing q.2 q.0 q.1 room (sym e ∙ q.3)
 pub too_long : (l : Line) (t r : List ℕ) (room : ℕ) → IsLine l → t ≡ line_text l ++ r → room < length (line_text l) → Flawed (IsRows room) t Bad
 too_long l t r room pl et h = (
   λ q. let p = q.4 in
-  let s = rows_split l q.2 r q.1 pl p.each (sym et ∙ q.3 ∙ ap (λ (o : List ℕ). o ++ q.1) p.spelled) in
-  no_fit l q.2 s.0 q.0 room h s.1 p,
+      let s = rows_split l q.2 r q.1 pl p.each (sym et ∙ q.3 ∙ ap (λ (o : List ℕ). o ++ q.1) p.spelled) in
+      no_fit l q.2 s.0 q.0 room h s.1 p,
   λ q. let p = q.2 in
-  let k : line_text l ++ (r ++ q.0) ≡ (flat_map line_text q.1 ++ 10 ∷ []) ++ [] =
-  sym (append_assoc (line_text l) r q.0) ∙ ap (λ (o : List ℕ). o ++ q.0) (sym et) ∙ p.spelled ∙ sym (append-nil (flat_map line_text q.1 ++ 10 ∷ [])) in
-  let s = rows_split l q.1 (r ++ q.0) [] pl p.each k in
-  no_fit l q.1 s.0 (t ++ q.0) room h s.1 p,
+      let k : line_text l ++ (r ++ q.0) ≡ (flat_map line_text q.1 ++ 10 ∷ []) ++ [] =
+      sym (append_assoc (line_text l) r q.0) ∙ ap (λ (o : List ℕ). o ++ q.0) (sym et) ∙ p.spelled ∙ sym (append-nil (flat_map line_text q.1 ++ 10 ∷ [])) in
+      let s = rows_split l q.1 (r ++ q.0) [] pl p.each k in
+      no_fit l q.1 s.0 (t ++ q.0) room h s.1 p,
 )
   where
     no_fit : (l : Line) (ls ms : List Line) (o : List ℕ) (room : ℕ) → room < length (line_text l) → ls ≡ l ∷ ms → IsRows room o ls → ⊥
@@ -168,11 +168,15 @@ unended k v t room et pk pv h =
     let e : t ++ 10 ∷ 10 ∷ [] ≡ flat_map line_text (l ∷ []) ++ 10 ∷ [] =
     ap (λ (o : List ℕ). o ++ 10 ∷ 10 ∷ []) et ∙ ap (λ (o : List ℕ). k ∷ o) (sym (ap (λ (o : List ℕ). o ++ 10 ∷ []) (append-nil (v ++ 10 ∷ [])) ∙ append_assoc v (10 ∷ []) (10 ∷ []))) in (
       λ q. unended_none k v room pk pv (subst (Begins (IsRows room)) et q),
-      (10 ∷ 10 ∷ [], l ∷ [], record {
-        each = (record { key = pk; value = pv }, tt);
-        spelled = e;
-        short = omega (arith, h, length-append t (10 ∷ 10 ∷ []));
-      }),
+      (
+        10 ∷ 10 ∷ [],
+        l ∷ [],
+        record {
+          each = (record { key = pk; value = pv }, tt);
+          spelled = e;
+          short = omega (arith, h, length-append t (10 ∷ 10 ∷ []));
+        },
+      ),
     )
 
 -- or may not
@@ -208,8 +212,7 @@ line_ends k n v t et key h mark before =
     let cut : v ≡ take n v ++ 10 ∷ drop (suc n) v =
     sym (take-append-drop n v) ∙ ap (λ (o : List ℕ). take n v ++ o) (drop-cons v n 0 h ∙ ap (λ (x : ℕ). x ∷ drop (suc n) v) at) in
     let behind : drop (suc n) v ≡ drop (n + 2) t = rw (et, two_more n) refl in
-    let size : length (take n v) ≡ n = length-take-le n v (omega (arith, h)) in
-    (
+    let size : length (take n v) ≡ n = length-take-le n v (omega (arith, h)) in (
       record { key = k; value = value },
       record { key = is_key k key; value = none_before v n (λ j l. before j (omega arith) l) },
       et ∙ ap (λ (o : List ℕ). k ∷ o) (cut ∙ ap (λ (o : List ℕ). take n v ++ 10 ∷ o) behind ∙ sym (append_assoc (take n v) (10 ∷ []) (drop (n + 2) t))),

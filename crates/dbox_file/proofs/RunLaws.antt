@@ -1,15 +1,14 @@
 -- Runs of octets that pass a test, and fixed texts.
-use Rattle.std.specs.Prelude.{◌≡◌, ◌≤◌, ◌<◌, ◌+◌, ◌-◌, ◌&&◌, Bool, true, false, ℕ, zero, suc, replicate, List, [], ◌∷◌, ◌++◌, length, refl, IsTrue}
+use Rattle.std.specs.Prelude.{◌≡◌, ◌<◌, ◌-◌, Bool, false, ℕ, zero, suc, replicate, List, ◌++◌, length, refl, IsTrue}
 use Rattle.std.specs.List.{list_all}
-use Rattle.std.proofs.Common.{sym, ◌∙◌, ap, subst, length-append, append-nil, arith}
+use Rattle.std.proofs.Common.{sym, ◌∙◌, ap, subst, length-append, arith}
 use Rattle.std.proofs.lemmas.List.{length-replicate}
 use Rattle.std.proofs.lemmas.List.Folds.{list_all-append}
-use Rattle.mail_model.specs.Grammars.{Begins, IsFrontOf, IsPrefixFree}
+use Rattle.mail_model.specs.Grammars.{Begins, IsPrefixFree}
 use Rattle.mail_model.specs.Pieces.{split_same}
 use Rattle.mail_model.specs.FileLaws.{first, second}
-use Rattle.dbox_file.specs.declared.reading.Flaw.{Flaw}
 use Rattle.dbox_file.specs.declared.reading.Flaw.TheVariants.{Short, Bad}
-use Rattle.dbox_file.specs.Reading.{Found, FoundSome, Flawed, IsText, IsRun}
+use Rattle.dbox_file.specs.Reading.{Flawed, IsText, IsRun}
 
 pub all_replicated : (test : ℕ → Bool) (n d : ℕ) → IsTrue (test d) → IsTrue (list_all test (replicate n d))
 all_replicated test zero d h = refl
@@ -31,10 +30,14 @@ too_few count test t h q = omega (arith, h, ap length q.3, length-append q.0 q.1
 pub run_short : (count d : ℕ) (test : ℕ → Bool) (t : List ℕ) → IsTrue (test d) → length t < count → IsTrue (list_all test t) → Flawed (IsRun count test) t Short
 run_short count d test t pd h p = (
   too_few count test t h,
-  (replicate (count - length t) d, tt, (
-    omega (arith, h, length-append t (replicate (count - length t) d), length-replicate (count - length t) d),
-    all_joined test t (replicate (count - length t) d) p (all_replicated test (count - length t) d pd),
-  )),
+  (
+    replicate (count - length t) d,
+    tt,
+    (
+      omega (arith, h, length-append t (replicate (count - length t) d), length-replicate (count - length t) d),
+      all_joined test t (replicate (count - length t) d) p (all_replicated test (count - length t) d pd),
+    ),
+  ),
 )
 
 pub run_bad : (count : ℕ) (test : ℕ → Bool) (t : List ℕ) → length t < count → list_all test t ≡ false → Flawed (IsRun count test) t Bad

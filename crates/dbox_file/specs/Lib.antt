@@ -1,2 +1,4 @@
+pub mod MessageFound
 pub mod Reading
 pub mod Rows
+pub mod Sizes

@@ -1,5 +1,5 @@
 -- What a reader finds at the front of a text.
-use Rattle.std.specs.Prelude.{◌≡◌, ◌≤◌, ℕ, Bool, List, ◌++◌, length, IsTrue, Some}
+use Rattle.std.specs.Prelude.{◌≡◌, ℕ, Bool, List, ◌++◌, length, IsTrue}
 use Rattle.std.specs.List.{list_all}
 use Rattle.mail_model.specs.Grammars.{Grammar, Begins, IsFrontOf}
 use Rattle.dbox_file.specs.declared.reading.Flaw.{Flaw}

@@ -2,6 +2,8 @@
 #![tactic(auto)]
 
 pub use mdbox_base::{MessageAt, PlaceError, ScanError};
+pub use message::message_at;
 
 mod lines;
+mod message;
 mod reading;

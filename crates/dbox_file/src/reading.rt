@@ -31,7 +31,11 @@ pub fn behind_printing(text: &[u8], count: usize) -> Result<&[u8], Flaw>
     ensures flaw { IfErr result (Flawed (IsRun count (is_between 32 126)) text.now) }
 {
     if text.len() < count {
-        return Err(if all_printing(text) { Flaw::Short } else { Flaw::Bad });
+        return Err(if all_printing(text) {
+            Flaw::Short
+        } else {
+            Flaw::Bad
+        });
     }
     let (run, rest) = text.split_at(count);
     if all_printing(run) {

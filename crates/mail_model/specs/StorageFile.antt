@@ -1,8 +1,10 @@
 -- The storage file of mdbox (`m.N`; Dovecot's documentation of dbox): a header line, and messages one directly after another.
-use Rattle.std.specs.Prelude.{◌≡◌, ◌≢◌, ◌≤◌, ◌+◌, ◌==◌, ◌||◌, ℕ, Bool, not, List, [], ◌∷◌, ◌++◌, length, filter, map, flat_map, IsTrue, Some, ◌⊎◌, Result, Ok, Err}
+use Rattle.std.specs.Prelude.{◌≡◌, ◌≢◌, ◌≤◌, ◌+◌, ◌==◌, ◌||◌, ℕ, Bool, not, List, [], ◌∷◌, ◌++◌, length, drop, filter, map, flat_map, IsTrue, Some, ◌⊎◌, Result, Ok, Err}
 use Rattle.std.specs.List.{AllByRecursion, list_all}
 use Rattle.mdbox_base.specs.Numbers.{IsHex, is_between, hex_from}
 use Rattle.mdbox_base.specs.declared.storage_file.MessageAt.{MessageAt}
+use Rattle.mdbox_base.specs.declared.storage_file.PlaceError.{PlaceError}
+use Rattle.mdbox_base.specs.declared.storage_file.PlaceError.TheVariants as at
 use Rattle.mdbox_base.specs.declared.storage_file.ScanError.{ScanError}
 use Rattle.mdbox_base.specs.declared.storage_file.ScanError.TheVariants as scan
 use Rattle.mail_model.specs.Grammars.{Begins, IsFrontOf}
@@ -125,6 +127,20 @@ place_at offset m = record {
 abbrev pub places_from : ℕ → List Message → List MessageAt
 places_from offset [] = []
 places_from offset (m ∷ rest) = place_at offset m ∷ places_from (place_at offset m).end rest
+
+-- a message stands at this offset, and this is its place
+abbrev pub StandsAt : List ℕ → ℕ → MessageAt → Type 0
+StandsAt octets offset place = (first : List ℕ) × (behind : List ℕ) × (m : Message) × (drop offset octets ≡ first ++ behind) × IsMessage first m × (place ≡ place_at offset m)
+
+-- no whole message stands at this offset
+abbrev pub StandsNone : List ℕ → ℕ → Type 0
+StandsNone octets offset = ¬ Begins IsMessage (drop offset octets)
+
+-- What stands at an offset: a message, or the front of one, which may be empty, or neither.
+abbrev pub PlaceGives : List ℕ → ℕ → Result MessageAt PlaceError → Type 0
+PlaceGives octets offset (Ok place) = StandsAt octets offset place
+PlaceGives octets offset (Err (at.Truncated n)) = (n ≡ offset) × StandsNone octets offset × IsFrontOf IsMessage (drop offset octets)
+PlaceGives octets offset (Err (at.BadMessage n)) = (n ≡ offset) × StandsNone octets offset × ¬ IsFrontOf IsMessage (drop offset octets)
 
 -- These are the places of a storage file's messages.
 abbrev pub HasPlaces : List ℕ → List MessageAt → Type 0

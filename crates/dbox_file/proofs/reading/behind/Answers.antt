@@ -1,4 +1,4 @@
-use Rattle.std.proofs.Common.{length, drop, refl}
+use Rattle.std.proofs.Common.{refl}
 use Rattle.std.proofs.lemmas.Bool.Decides.{Decides-eqb}
 use Rattle.std.proofs.lemmas.Slice.Eq.{strip_prefix_is, starts_is}
 use Rattle.dbox_file.proofs.RunLaws.{text_short, text_bad}
