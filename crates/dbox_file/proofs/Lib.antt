@@ -1,4 +1,5 @@
 pub mod Fronts
+pub mod HeaderLaws
 pub mod MessageLaws
 pub mod RowLaws
 pub mod RunLaws

@@ -128,7 +128,7 @@ too_long l t r room pl et h = (
         omega (arith, p.short)
 
 -- what goes on as a line does has no more octets than its value before the first LF
-longer_value : (v more a x : List ℕ) → IsTrue (list_all is_no_end v) → v ++ more ≡ a ++ 10 ∷ x → length v ≤ length a
+pub longer_value : (v more a x : List ℕ) → IsTrue (list_all is_no_end v) → v ++ more ≡ a ++ 10 ∷ x → length v ≤ length a
 longer_value [] more a x p e = omega arith
 longer_value (c ∷ v) more [] x p e = absurd (let h : c ≡ 10 = cc in no_key c (first (is_no_end c) (list_all is_no_end v) p) (sym h))
 longer_value (c ∷ v) more (a ∷ us) x p e =

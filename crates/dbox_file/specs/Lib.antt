@@ -1,3 +1,4 @@
+pub mod HeaderFields
 pub mod MessageFound
 pub mod Reading
 pub mod Rows

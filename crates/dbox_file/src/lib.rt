@@ -4,6 +4,7 @@
 pub use mdbox_base::{MessageAt, PlaceError, ScanError};
 pub use message::message_at;
 
+mod header_line;
 mod lines;
 mod message;
 mod reading;
