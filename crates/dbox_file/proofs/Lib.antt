@@ -3,4 +3,5 @@ pub mod HeaderLaws
 pub mod MessageLaws
 pub mod RowLaws
 pub mod RunLaws
+pub mod ScanSteps
 pub mod SizeLaws

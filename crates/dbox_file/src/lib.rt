@@ -3,8 +3,10 @@
 
 pub use mdbox_base::{MessageAt, PlaceError, ScanError};
 pub use message::message_at;
+pub use messages::scan;
 
 mod header_line;
 mod lines;
 mod message;
+mod messages;
 mod reading;
