@@ -57,5 +57,6 @@ pub mod StandsLaws
 pub mod StorageFile
 pub mod StoreExample
 pub mod StoreExampleLaws
+pub mod VirtualSize
 pub mod WellFormedLaws
 pub mod WrittenLaws

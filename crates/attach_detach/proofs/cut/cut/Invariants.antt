@@ -1,0 +1,5 @@
+use Rattle.attach_detach.proofs.Cuts.{IsCutTo}
+use Rattle.attach_detach.proofs.cut.cut.Given as goal
+
+abbrev pub invariant-loop-leaf : goal.invariant-loop-leaf
+invariant-loop-leaf l = IsCutTo l.message l.leaves l.leaf-index l.at l.parts.items l.body.items
