@@ -6,6 +6,7 @@ pub mod BoxMeaning
 pub mod BoxSoundLaws
 pub mod Detached
 pub mod DetachedLaws
+pub mod DumpText
 pub mod Entries
 pub mod EntryLaws
 pub mod Fields

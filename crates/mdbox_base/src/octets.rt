@@ -55,6 +55,13 @@ impl Octets {
         self.items
     }
 
+    /// Drops the octets. The room for them stays.
+    pub fn clear(&mut self)
+        ensures { self.new ≡ [] }
+    {
+        self.items.clear();
+    }
+
     /// Adds these octets at the end. Without memory nothing is added.
     pub fn push_all(&mut self, text: &[u8]) -> Result<(), NoMemory>
         ensures ok { OnOk result (self.new ≡ self.old ++ text.now) }
