@@ -13,6 +13,15 @@ use mdbox_base::{Boundary, Coding, Kind, Line, NoMemory, Part, Seq};
 use mime_fields::read_fields;
 use std::alloc::Global;
 
+/// The most entities in one another, counted from the message.
+const MOST_LEVELS: usize = 64;
+
+/// The most leaves of a message.
+const MOST_LEAVES: usize = 10_000;
+
+/// The least octets that are worth a file of their own.
+const LEAST_DETACHED: usize = 131_072;
+
 /// Where the reader stands: between parts, in the header block of an entity, or in the body of a leaf.
 #[derive(Clone, Copy, Debug, PartialEq, Eq)]
 pub enum Place {
@@ -127,7 +136,7 @@ impl Reader {
         self.stack.truncate(k + 1);
         self.place = Place::Head { start: line.next };
         self.before = line.end;
-        Ok(k + 1 < 64)
+        Ok(k + 1 < MOST_LEVELS)
     }
 
     /// Takes a closing line of the multipart at this place of the stack.
@@ -156,7 +165,7 @@ impl Reader {
         ensures { IfOk result (λ going. Ended message.now self.old self.new end going) }
     {
         if let Some(part) = flush(message, self.place, end) {
-            if self.parts.len() >= 10_000 {
+            if self.parts.len() >= MOST_LEAVES {
                 return Ok(false);
             }
             self.parts.push(part)?;
@@ -228,7 +237,7 @@ fn make_part(message: &[u8], coding: Coding, other: bool, start: usize, end: usi
     ensures { result ≡ part_of message.now coding other start end }
 {
     let size = trimmed(&message[start..end]);
-    if other && 131_072 <= size {
+    if other && size >= LEAST_DETACHED {
         Part {
             start: start as u32,
             end: (start + size) as u32,
