@@ -17,6 +17,7 @@ pub mod Grammars
 pub mod HexTextLaws
 pub mod Lines
 pub mod Lists
+pub mod LogDumpText
 pub mod LogExamples
 pub mod LogFile
 pub mod LogFileLaws
