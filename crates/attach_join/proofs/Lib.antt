@@ -1,2 +1,3 @@
 pub mod Checks
 pub mod Joins
+pub mod Restored

@@ -2,8 +2,10 @@
 #![tactic(auto)]
 
 pub use join::rejoin;
+pub use restore::rejoin_detached;
 
 mod check;
 mod join;
+mod restore;
 #[cfg(test)]
 mod tests;
