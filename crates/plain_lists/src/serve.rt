@@ -129,13 +129,13 @@ impl PlainLists {
                 gone: true,
             };
         };
-        let Some(at) = place_of_message(&self.mailboxes[place].messages, uid) else {
+        let Some(left) = place_of_message(&self.mailboxes[place].messages, uid) else {
             return Reply::Moved {
                 uid: copied,
                 gone: true,
             };
         };
-        self.mailboxes[place].messages.remove(at);
+        self.mailboxes[place].messages.remove(left);
         Reply::Moved {
             uid: copied,
             gone: false,

@@ -19,15 +19,15 @@ returns c =
     let boxes = c.self.inside.mailboxes.items in
     let place = mailbox_place boxes c.args.name.now c.in-Some.place (rw c.deref.ensures.value at c.in-Some.ensures) in
     let same = read_twice boxes c.in-Some.place c.index.result.now c.index_mut.result.now place.within c.index.ensures c.index_mut.ensures.value in
-    let inner = message_place c.index_mut.result.now.messages.items c.args.uid.0 c.in-Some-place_of_message.at (rw (c.deref-2.ensures.value, same) at c.in-Some-place_of_message.ensures) in
-    let there = message_here boxes c.args.name.now c.args.uid.0 c.in-Some.place c.in-Some-place_of_message.at c.index_mut.result.now c.remove.result place c.index_mut.ensures.value inner c.remove.ensures.value in
+    let inner = message_place c.index_mut.result.now.messages.items c.args.uid.0 c.in-Some-place_of_message.left (rw (c.deref-2.ensures.value, same) at c.in-Some-place_of_message.ensures) in
+    let there = message_here boxes c.args.name.now c.args.uid.0 c.in-Some.place c.in-Some-place_of_message.left c.index_mut.result.now c.remove.result place c.index_mut.ensures.value inner c.remove.ensures.value in
     λ run. (
       refl,
       (
         refl,
         (
           rw (← c.self.view_is, there) refl,
-          rw (← c.self.view_is) (expunged boxes c.args.name.now c.args.uid.0 c.in-Some.place c.in-Some-place_of_message.at c.index_mut.result.now _ place c.index_mut.ensures.value inner refl refl refl c.remove.ensures.items),
+          rw (← c.self.view_is) (expunged boxes c.args.name.now c.args.uid.0 c.in-Some.place c.in-Some-place_of_message.left c.index_mut.result.now _ place c.index_mut.ensures.value inner refl refl refl c.remove.ensures.items),
         ),
       ),
     )
