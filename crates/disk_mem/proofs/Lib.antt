@@ -1,5 +1,9 @@
+pub mod Copies
 pub mod Failing
 pub mod Files
+pub mod Following
 pub mod Histories
+pub mod Leaves
+pub mod Moment
 pub mod Reading
 pub mod Steps

@@ -1,3 +1,6 @@
+pub mod Images
+pub mod Left
+pub mod Marking
 pub mod Mem
 pub mod Numbers
 pub mod Record

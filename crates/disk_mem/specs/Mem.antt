@@ -1,6 +1,6 @@
 -- What a disk in memory tells, and when its calls fail.
-use Rattle.std.specs.Prelude.{◌≡◌, ◌↔◌, Bool, true, false, ◌||◌, if◌then◌else◌, is_ok, Result, IsErr, IsErrOf, OnErr}
-use Rattle.disk_model.specs.Disk.{History, Faults, reading}
+use Rattle.std.specs.Prelude.{◌≡◌, ℕ, ◌↔◌, Bool, true, false, ◌||◌, if◌then◌else◌, is_ok, Result, IsErr, IsErrOf, OnErr}
+use Rattle.disk_model.specs.Disk.{History, Faults, calls, reading}
 use Rattle.disk_model.specs.declared.name.FileName.{FileName}
 use Rattle.disk_model.specs.declared.error.DiskError.{DiskError}
 use Rattle.disk_model.specs.declared.error.DiskError.TheVariants.{Failed}
@@ -12,6 +12,10 @@ use Rattle.disk_mem.specs.Record.{told_of}
 -- the history that a disk tells
 abbrev pub told : MemDisk → History
 told disk = told_of disk.base.items disk.notes.items disk.idle
+
+-- how many calls it has recorded
+abbrev pub calls_of : MemDisk → ℕ
+calls_of disk = calls (told disk)
 
 abbrev pub faults_of : MemDisk → Faults
 faults_of disk = record { reads = disk.failed_reads; changes = disk.failed_changes }

@@ -3,6 +3,7 @@ ghost use Rattle.std.specs.Prelude.{◌≡◌, [], false};
 ghost use Rattle.disk_mem.specs.Record.{ReadsAll, told_of};
 
 use crate::file::{File, apply_to};
+use crate::image::copy_of;
 use crate::note::{Change, Note};
 use crate::plan::Plan;
 use crate::text::Text;
@@ -47,12 +48,22 @@ impl MemDisk {
         ensures unlisted { IfOk result IsUnlisted }
         ensures starved { IfOk result (λ disk. disk.starved ≡ 0) }
     {
+        MemDisk::resting(alloc, Vec::new(alloc))
+    }
+
+    /// A disk with these files, at rest, on which no call has run.
+    pub(crate) fn resting(alloc: Global, base: Vec<File>) -> Result<MemDisk, NoMemory>
+        ensures told { IfOk result (λ disk. told disk ≡ begun base.items) }
+        ensures unlisted { IfOk result IsUnlisted }
+        ensures starved { IfOk result (λ disk. disk.starved ≡ 0) }
+    {
+        let files = copy_of(alloc, &base)?;
         Ok(MemDisk {
             alloc,
-            base: Vec::new(alloc),
+            base,
             notes: Vec::new(alloc),
             idle: 0,
-            files: Vec::new(alloc),
+            files,
             plan: Plan {
                 calls: Seq::empty(alloc),
                 call: 0,
@@ -64,6 +75,42 @@ impl MemDisk {
             failed_changes: 0,
             starved: 0,
         })
+    }
+
+    /// The same disk, of whose calls those with these numbers fail, counted from 1 after this call.
+    pub fn failing(self, calls: Seq<u64>) -> MemDisk
+        ensures told { told result ≡ told self }
+        ensures plan { result.plan ≡ record self.plan { calls = calls; call = 0 } }
+        ensures faults { faults_of result ≡ faults_of self }
+        ensures starved { result.starved ≡ self.starved }
+    {
+        let mut disk = self;
+        disk.was_listed = true;
+        disk.plan.calls = calls;
+        disk.plan.call = 0;
+        disk
+    }
+
+    /// The same disk, of whose writes those with these numbers fail, counted from 1 after this call.
+    pub fn failing_writes(self, writes: Seq<u64>) -> MemDisk
+        ensures told { told result ≡ told self }
+        ensures plan { result.plan ≡ record self.plan { writes = writes; write = 0 } }
+        ensures faults { faults_of result ≡ faults_of self }
+        ensures starved { result.starved ≡ self.starved }
+    {
+        let mut disk = self;
+        disk.was_listed = true;
+        disk.plan.writes = writes;
+        disk.plan.write = 0;
+        disk
+    }
+
+    /// How many calls found no memory to grow. Where no calls were ever listed to fail, no other has failed.
+    pub fn starved(&self) -> u64
+        ensures starved { result ≡ self.now.starved }
+        ensures faults { IsUnlisted self.now → faults_of self.now ≡ record { reads = 0; changes = result } }
+    {
+        self.starved
     }
 
     /// Makes a change of a file, or of each, and notes it.

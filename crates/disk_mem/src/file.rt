@@ -1,7 +1,7 @@
 // Files as they read.
-ghost use Rattle.std.specs.Prelude.{◌≡◌, ◌↔◌, IsTrue, true, false, Some, IsNone, IfSome, None, OnOk, OnErr};
+ghost use Rattle.std.specs.Prelude.{◌≡◌, ◌↔◌, IsTrue, true, false, Some, IsNone, IfSome, IfOk, None, OnOk, OnErr};
 ghost use Rattle.disk_model.specs.Disk.{FileState, DiskState, reading, IsPast, IsNext};
-ghost use Rattle.disk_mem.specs.Record.{Shows, Reads, ReadsAll, SameFile, found, changed, is_for_all, stepped, IsPlaceOf, IsLessThan, IsNearer};
+ghost use Rattle.disk_mem.specs.Record.{Shows, at_rest, at_file, Reads, ReadsAll, SameFile, found, changed, is_for_all, stepped, IsPlaceOf, IsLessThan, IsNearer};
 
 use crate::note::{Change, Note};
 use crate::text::Text;
@@ -46,6 +46,49 @@ impl File {
             | Change::Synced
             | Change::HalfMade
             | Change::HalfRemoved => {}
+        }
+        Ok(())
+    }
+
+    /// No file of this name.
+    pub fn gone(alloc: Global, name: FileName) -> File
+        ensures name { result.name ≡ name }
+        ensures shows { Shows result (at_rest None) }
+    {
+        File {
+            name,
+            is_there: false,
+            text: Text::empty(alloc),
+        }
+    }
+
+    /// The file of this name as it stands still.
+    pub fn at_rest(&self, alloc: Global, name: FileName) -> Result<File, NoMemory>
+        ensures name { IfOk result (λ file. file.name ≡ name) }
+        ensures shows { IfOk result (λ file. Shows file (at_rest (Some self.now))) }
+    {
+        if !self.is_there {
+            return Ok(File::gone(alloc, name));
+        }
+        let text = Text::of(alloc, &self.text.octets)?;
+        Ok(File {
+            name,
+            is_there: true,
+            text,
+        })
+    }
+
+    /// Makes the change of a note, where it is of this file or of each.
+    pub fn follow(&mut self, note: &Note) -> Result<(), NoMemory>
+        ensures name { self.new.name ≡ self.old.name }
+        ensures shows { OnOk result ((f : FileState) → Shows self.old f → Shows self.new (at_file self.old.name note.now f)) }
+    {
+        let own = is_named(self.name, note.name);
+        if let Change::NamesSynced = note.change {
+            return self.apply(&note.change);
+        }
+        if own {
+            return self.apply(&note.change);
         }
         Ok(())
     }

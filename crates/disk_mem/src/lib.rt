@@ -1,11 +1,15 @@
 //! A disk in memory, which keeps a record of its calls and makes the disks that a stop would leave.
 #![tactic(auto)]
 
+pub use choice::Choice;
 pub use disk::MemDisk;
 
 mod calls;
+mod choice;
 mod disk;
 mod file;
+mod image;
+mod marks;
 mod note;
 mod plan;
 mod text;

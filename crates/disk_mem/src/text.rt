@@ -1,5 +1,5 @@
 // Octets of a file.
-ghost use Rattle.std.specs.Prelude.{◌≡◌, ◌<◌, ◌≤◌, ◌+◌, [], ℕ, List, length, take, drop, OnOk, OnErr, IfOk, All, slice_index};
+ghost use Rattle.std.specs.Prelude.{◌≡◌, ◌<◌, ◌≤◌, ◌+◌, [], ℕ, List, length, take, drop, OnOk, OnErr, IfOk, All, slice_index, if◌then◌else◌, nat_le, nat_lt, ◌&&◌};
 ghost use Rattle.disk_model.specs.Disk.{overlaid};
 
 use mdbox_base::NoMemory;
@@ -58,5 +58,18 @@ impl Text {
         let count = into.len().min(length - from);
         into[..count].copy_from_slice(&self.octets[from..from + count]);
         count
+    }
+
+    /// Puts this value at each place from one to before another.
+    pub fn fill(&mut self, start: usize, end: usize, octet: u8)
+        requires in_order { start ≤ end }
+        requires within { end ≤ length self.old.octets.items }
+        ensures length { length self.new.octets.items ≡ length self.old.octets.items }
+        ensures octets { (k : ℕ) → k < length self.old.octets.items
+            → slice_index self.new.octets.items k ≡ (if nat_le start k && nat_lt k end then octet else slice_index self.old.octets.items k) }
+    {
+        for i in start..end {
+            self.octets[i] = octet;
+        }
     }
 }
