@@ -1,0 +1,12 @@
+-- The fields of a stored message's entry before its instances.
+use Rattle.std.specs.Prelude.{◌≡◌, ◌<◌, ◌^◌, ℕ, List, ◌∷◌, ◌++◌, length}
+use Rattle.std.specs.Int.{w16, to_be_bytes}
+use Rattle.mail_model.specs.Entries.{four}
+use Rattle.log_records.specs.declared.stored.Stored.{Stored}
+
+abbrev pub stored_text : Stored → List ℕ
+stored_text s = s.origin ∷ (to_be_bytes w16 s.count ++ (four s.uid.0 ++ (four s.file.0 ++ (four s.offset ++ (four s.size ++ s.guid.0)))))
+
+-- Its numbers fit their widths.
+abbrev pub StoredInRange : Stored → Type 0
+StoredInRange s = (s.origin < 256) × (s.count < 2 ^ 16) × (s.uid.0 < 2 ^ 32) × (s.file.0 < 2 ^ 32) × (s.offset < 2 ^ 32) × (s.size < 2 ^ 32) × (length s.guid.0 ≡ 16)

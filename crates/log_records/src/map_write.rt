@@ -1,0 +1,139 @@
+// Writing entries of the map log.
+ghost use Rattle.std.specs.Prelude.{◌≡◌, ◌+◌, ◌<◌, ◌≤◌, ◌^◌, ◌++◌, ◌∷◌, ℕ, List, length, take, OnOk, OnErr};
+ghost use Rattle.mdbox_base.specs.declared.entries.MapEntry.{MapEntry};
+ghost use Rattle.mail_model.specs.Entries.{four, map_text, MapInRange};
+
+use crate::fields::put;
+use crate::items::Item;
+use crate::lists::{put_instances, put_list};
+use crate::stored::{STORED_SIZE, Stored, put_stored};
+use mdbox_base::{Highest, InstRow, MapCount, MapEntry, MapPlace, MapUid, NoMemory, Octets};
+use std::alloc::Global;
+
+/// How many octets an entry has.
+pub fn map_entry_size(entry: &MapEntry) -> usize
+    requires { MapInRange entry.now }
+    ensures { result ≡ length (map_text entry.now) }
+{
+    match entry {
+        MapEntry::H(_) => 17,
+        MapEntry::B { name, .. } => 10 + name.as_octets().len(),
+        MapEntry::G { .. } => 9,
+        MapEntry::S { instances, .. } => STORED_SIZE + 3 + InstRow::SIZE * instances.length(),
+        MapEntry::U { .. } | MapEntry::E { .. } => 5,
+        MapEntry::D { uids } => 5 + MapUid::SIZE * uids.length(),
+        MapEntry::T { counts } => 5 + MapCount::SIZE * counts.length(),
+        MapEntry::P { moved, dropped, .. } => {
+            17 + MapPlace::SIZE * moved.length() + MapUid::SIZE * dropped.length()
+        }
+    }
+}
+
+/// Writes an entry.
+pub fn put_map_entry(into: &mut [u8], entry: &MapEntry)
+    requires range { MapInRange entry.now }
+    requires size { length into.old ≡ length (map_text entry.now) }
+    ensures { into.new ≡ map_text entry.now }
+{
+    match entry {
+        MapEntry::H(highest) => put_highest(into, highest),
+        MapEntry::B {
+            mailbox,
+            generation,
+            name,
+        } => {
+            let name = name.as_octets();
+            let place = put_front(into, b'B', mailbox.0);
+            let place = put(into, place, &generation.to_be_bytes());
+            let place = put(into, place, &[name.len() as u8]);
+            put(into, place, name);
+        }
+        MapEntry::G {
+            mailbox,
+            generation,
+        } => {
+            let place = put_front(into, b'G', mailbox.0);
+            put(into, place, &generation.to_be_bytes());
+        }
+        MapEntry::S {
+            origin,
+            count,
+            uid,
+            file,
+            offset,
+            size,
+            guid,
+            instances,
+        } => {
+            let stored = Stored {
+                origin: *origin,
+                count: *count,
+                uid: *uid,
+                file: *file,
+                offset: *offset,
+                size: *size,
+                guid: *guid,
+            };
+            let place = put(into, 0, &[b'S']);
+            let place = put_stored(into, place, stored);
+            put_instances(into, place, instances.as_slice());
+        }
+        MapEntry::U { uid } => {
+            put_front(into, b'U', uid.0);
+        }
+        MapEntry::D { uids } => {
+            let place = put(into, 0, &[b'D']);
+            put_list(into, place, uids.as_slice());
+        }
+        MapEntry::T { counts } => {
+            let place = put(into, 0, &[b'T']);
+            put_list(into, place, counts.as_slice());
+        }
+        MapEntry::P {
+            file,
+            target,
+            moved,
+            dropped,
+        } => {
+            let place = put_front(into, b'P', file.0);
+            let place = put(into, place, &target.to_be_bytes());
+            let place = put_list(into, place, moved.as_slice());
+            put_list(into, place, dropped.as_slice());
+        }
+        MapEntry::E { file } => {
+            put_front(into, b'E', file.0);
+        }
+    }
+}
+
+/// Adds an entry's octets. Without memory nothing is added.
+pub fn push_map_entry(alloc: Global, out: &mut Octets, entry: &MapEntry) -> Result<(), NoMemory>
+    requires { MapInRange entry.now }
+    ensures ok { OnOk result (out.new ≡ out.old ++ map_text entry.now) }
+    ensures err { OnErr result (out.new ≡ out.old) }
+{
+    let mut text = vec![in alloc; 0; map_entry_size(entry)]?;
+    put_map_entry(&mut text, entry);
+    out.push_all(&text)
+}
+
+/// Writes a letter and the number behind it, and answers the place behind that.
+fn put_front(into: &mut [u8], letter: u8, number: u32) -> usize
+    requires { 5 ≤ length into.old }
+    ensures behind { result ≡ 5 }
+    ensures front { take result into.new ≡ letter ∷ four number }
+    ensures length { length into.new ≡ length into.old }
+{
+    let place = put(into, 0, &[letter]);
+    put(into, place, &number.to_be_bytes())
+}
+
+fn put_highest(into: &mut [u8], highest: &Highest)
+    requires { length into.old ≡ 17 }
+    ensures { into.new ≡ 72 ∷ (four highest.now.file ++ (four highest.now.map ++ (four highest.now.instance ++ four highest.now.mailbox))) }
+{
+    let place = put_front(into, b'H', highest.file);
+    let place = put(into, place, &highest.map.to_be_bytes());
+    let place = put(into, place, &highest.instance.to_be_bytes());
+    put(into, place, &highest.mailbox.to_be_bytes());
+}
