@@ -1,3 +1,8 @@
-pub mod Heads
-pub mod Passing
 pub mod Appending
+pub mod Ending
+pub mod Heads
+pub mod Idling
+pub mod Making
+pub mod Opening
+pub mod Parting
+pub mod Passing

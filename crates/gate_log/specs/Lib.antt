@@ -1,3 +1,4 @@
+pub mod Causes
 pub mod Log
 pub mod Reading
 pub mod State

@@ -1,8 +1,9 @@
 -- Logs on a disk.
-use Rattle.std.specs.Prelude.{◌≡◌, ◌⊎◌, ℕ, List, [], ◌∷◌, ◌++◌, length, All, Option, Some}
-use Rattle.disk_model.specs.Disk.{DiskState, History, IfTold, Keeps, reading}
+use Rattle.std.specs.Prelude.{◌≡◌, ◌≢◌, ◌⊎◌, ◌≤◌, ℕ, List, [], ◌∷◌, ◌++◌, length, max, All, Option, Some, None, IfSome}
+use Rattle.disk_model.specs.Disk.{FileState, DiskState, History, IfTold, IsImage, EachImage, Keeps, named, reading, Faults, Rose}
+use Rattle.disk_model.specs.declared.name.FileName.{FileName}
 use Rattle.mdbox_base.specs.declared.log_head.LogHead.{LogHead}
-use Rattle.mail_model.specs.LogFile.{HeadFits, EntryFits, log_front, IsLogFile}
+use Rattle.mail_model.specs.LogFile.{HeadFits, EntryFits, log_front, Ends, IsLogFile}
 use Rattle.gate_log.specs.State.{LogState}
 
 -- the octets of a log at rest: its head, its entries, and a closed gate
@@ -32,3 +33,61 @@ Holds log entries history = IfTold history (IsHeld log entries)
 -- the file is a log with these entries, or with one more
 abbrev pub IsLogWithOrWithout : LogHead → List (List ℕ) → List ℕ → Option (List ℕ) → Type 0
 IsLogWithOrWithout head entries entry octets = IsLogFile octets head entries ⊎ IsLogFile octets head (entries ++ entry ∷ [])
+
+-- Octets of a file that is made anew: no more than it could have before, or than are written.
+abbrev pub IsNoLonger : ℕ → FileState → Option (List ℕ) → Type 0
+IsNoLonger written f octets = IfSome octets (λ o. length o ≤ max f.greatest written)
+
+-- both told, and each other file as it was, with its name synced
+abbrev pub NamedButFor : FileName → Option History → Option History → Type 0
+NamedButFor name None new = new ≡ None
+NamedButFor name (Some old) None = ⊥
+NamedButFor name (Some old) (Some new) = (other : FileName) → other ≢ name → new.now other ≡ named (old.now other)
+
+-- both told, and the state the same
+abbrev pub SameState : Option History → Option History → Type 0
+SameState None new = new ≡ None
+SameState (Some old) None = ⊥
+SameState (Some old) (Some new) = new.now ≡ old.now
+
+-- nothing has changed: the state is the same, and was so at each moment between
+pub record Idle (old new : Option History) : Type 0 where
+  pub same : SameState old new
+  pub each : EachImage (λ _ image. IfTold old (λ disk. IsImage disk image)) old new
+
+-- The counts never fall, and one of them rose where this holds.
+pub record OneRoseIf (failed : Type 0) (old new : Faults) : Type 0 where
+  pub reads : old.reads ≤ new.reads
+  pub changes : old.changes ≤ new.changes
+  pub rose : failed → Rose old.reads new.reads ⊎ Rose old.changes new.changes
+
+-- the file reads these octets in two parts, the first of this length
+pub record ReadsParts (size : ℕ) (front rest : List ℕ) (f : FileState) : Type 0 where
+  pub reads : reading f ≡ Some (front ++ rest)
+  pub size_is : size ≡ length front
+
+-- and a stop leaves it so
+pub record KeepsParts (size : ℕ) (front rest : List ℕ) (f : FileState) : Type 0 where
+  pub keeps : Keeps f (front ++ rest)
+  pub size_is : size ≡ length front
+
+-- an image has a file that begins so
+abbrev pub BeginsWith : List ℕ → Option (List ℕ) → Type 0
+BeginsWith front octets = (left : List ℕ) × (octets ≡ Some (front ++ left))
+
+-- an image has a file with some octet between these
+abbrev pub IsOneBetween : List ℕ → List ℕ → Option (List ℕ) → Type 0
+IsOneBetween front rest octets = (octet : ℕ) × (octets ≡ Some (front ++ octet ∷ rest))
+
+-- the file reads a log of this head and these entries, whose last gate stands there with this behind it
+pub record IsStanding (name : FileName) (head : LogHead) (entries : List (List ℕ)) (end gate : ℕ) (behind : List ℕ) (disk : DiskState) : Type 0 where
+  pub reads : reading (disk name) ≡ Some (log_front head entries ++ gate ∷ behind)
+  pub end_is : end ≡ length (log_front head entries)
+  pub head_fits : HeadFits head
+  pub entries_fit : All EntryFits entries
+  pub ends : Ends gate behind
+
+-- and a stop leaves it so
+pub record IsKept (name : FileName) (head : LogHead) (entries : List (List ℕ)) (end gate : ℕ) (behind : List ℕ) (disk : DiskState) : Type 0 where
+  pub stands : IsStanding name head entries end gate behind disk
+  pub keeps : Keeps (disk name) (log_front head entries ++ gate ∷ behind)

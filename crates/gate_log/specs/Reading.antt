@@ -1,5 +1,7 @@
 -- What is read of a log.
-use Rattle.std.specs.Prelude.{◌≡◌, ℕ, List, Option, ⊤}
+use Rattle.std.specs.Prelude.{◌≡◌, ℕ, List, Option, Some, None, ⊤}
+use Rattle.disk_model.specs.Disk.{History, IfTold, reading}
+use Rattle.disk_model.specs.declared.name.FileName.{FileName}
 use Rattle.mdbox_base.specs.declared.log_head.LogHead.{LogHead}
 use Rattle.mail_model.specs.LogFile.{IsLog, IsDamagedAt, record_places, log_end}
 use Rattle.gate_log.specs.declared.read.LogRead.{LogRead}
@@ -19,3 +21,18 @@ IsReadError asked octets (LogDamaged place) = IsDamagedAt asked octets place
 IsReadError asked octets NoMemory = ⊤
 IsReadError asked octets NoLog = ⊥
 IsReadError asked octets DiskFault = ⊥
+
+-- Why a file was not read: there is none of that name, the device failed, or there was no memory.
+abbrev pub IsFileError : FileName → Option History → LogError → Type 0
+IsFileError name old NoLog = IfTold old (λ disk. reading (disk name) ≡ None)
+IsFileError name old DiskFault = ⊤
+IsFileError name old NoMemory = ⊤
+IsFileError name old (LogDamaged place) = ⊥
+
+-- Why a log was not opened: there is no file of that name, or its octets are damaged at that place, or the device failed,
+-- or there was no memory.
+abbrev pub IsOpenError : FileName → LogHead → Option History → LogError → Type 0
+IsOpenError name head old NoLog = IfTold old (λ disk. reading (disk name) ≡ None)
+IsOpenError name head old (LogDamaged place) = (octets : List ℕ) × IsDamagedAt (Some head) octets place × IfTold old (λ disk. reading (disk name) ≡ Some octets)
+IsOpenError name head old DiskFault = ⊤
+IsOpenError name head old NoMemory = ⊤

@@ -1,9 +1,11 @@
 // Errors of logs.
 ghost use Rattle.std.specs.Prelude.{◌≡◌};
+ghost use Rattle.gate_log.specs.Causes.{of_disk};
 ghost use Rattle.gate_log.specs.declared.error.LogError.TheVariants.{NoMemory, DiskFault};
 
 use disk_model::DiskError;
 use mdbox_base::NoMemory;
+use std::alloc::AllocError;
 use std::error::Error;
 use std::fmt;
 
@@ -58,6 +60,26 @@ impl From<DiskFault> for LogError {
 
     fn from(_error: DiskFault) -> LogError {
         LogError::DiskFault
+    }
+}
+
+/// A file that isn't there is no log.
+impl From<DiskError> for LogError {
+    ghost from_gives = { λ error gives. gives ≡ of_disk error };
+
+    fn from(error: DiskError) -> LogError {
+        match error {
+            DiskError::Failed => LogError::DiskFault,
+            DiskError::Absent => LogError::NoLog,
+        }
+    }
+}
+
+impl From<AllocError> for LogError {
+    ghost from_gives = { λ _ error. error ≡ NoMemory };
+
+    fn from(_error: AllocError) -> LogError {
+        LogError::NoMemory
     }
 }
 

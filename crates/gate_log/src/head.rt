@@ -1,11 +1,13 @@
 // The head of a log, as octets.
-ghost use Rattle.std.specs.Prelude.{◌≡◌, ◌≢◌, ◌+◌, ◌<◌, ◌≤◌, ◌^◌, length, take, drop, MatchOption, MatchResult, position, Some, None, not, ◌==◌};
+ghost use Rattle.std.specs.Prelude.{◌≡◌, ◌≢◌, ◌+◌, ◌<◌, ◌≤◌, ◌^◌, length, take, drop, MatchOption, MatchResult, position, Some, None, not, ◌==◌, []};
 ghost use Rattle.mdbox_base.specs.declared.log_head.LogKind.{LogKind};
 ghost use Rattle.std.specs.Int.{w32, from_be_bytes};
 ghost use Rattle.std.specs.List.{zip};
 ghost use Rattle.mdbox_base.specs.Words.{IsOctets};
+ghost use Rattle.gate_log.specs.Log.{log_text};
 ghost use Rattle.mail_model.specs.LogFile.{HeadFits, head_octets, kind_letter, IsHeadDamaged};
 
+use crate::gate::CLOSED;
 use mdbox_base::{LogHead, LogKind, StoreId};
 
 /// How many octets a head has.
@@ -28,6 +30,17 @@ pub fn head_text(head: LogHead) -> [u8; 25]
     text[16] = letter_of(head.kind);
     text[17..21].copy_from_slice(&head.number.to_be_bytes());
     text[21..].copy_from_slice(&head.generation.to_be_bytes());
+    text
+}
+
+/// The octets of a log without entries: its head and a closed gate.
+pub fn first_text(head: LogHead) -> [u8; 26]
+    ensures text { result ≡ log_text head [] }
+    ensures fits { HeadFits head }
+{
+    fits(head);
+    let mut text = [CLOSED; 26];
+    text[..25].copy_from_slice(&head_text(head));
     text
 }
 

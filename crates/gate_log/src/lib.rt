@@ -2,12 +2,14 @@
 #![tactic(auto)]
 
 pub use error::{DiskFault, LogError};
-pub use log::GateLog;
+pub use log::{GateLog, create_log, open_log};
 pub use read::{LogRead, read_log};
 
+mod device;
 mod error;
 mod gate;
 mod head;
 mod log;
 mod read;
 mod record;
+mod repair;

@@ -1,14 +1,20 @@
 // Logs on a disk.
-ghost use Rattle.std.specs.Prelude.{◌≡◌, ◌+◌, ◌<◌, ◌≤◌, ◌^◌, ◌++◌, ◌∷◌, [], ℕ, List, length, take, OnOk, OnErr, IsErr};
-ghost use Rattle.disk_model.specs.Disk.{EachImage, OthersStay, SameButFor, FaultsRoseIf};
-ghost use Rattle.mail_model.specs.LogFile.{record_octets};
+ghost use Rattle.std.specs.Prelude.{◌≡◌, ◌≢◌, Some, IsErrOf, ◌+◌, ◌<◌, ◌≤◌, ◌^◌, ◌++◌, ◌∷◌, [], ℕ, List, length, take, OnOk, OnErr, IfOk, IfErr, IsErr};
+ghost use Rattle.disk_model.specs.Disk.{EachImage, OthersStay, SameButFor, FaultsRoseIf, IfTold, Keeps, reading};
+ghost use Rattle.mail_model.specs.LogFile.{record_octets, IsLog, IsLogFile};
 ghost use Rattle.gate_log.specs.State.{LogState, IsSameLog};
-ghost use Rattle.gate_log.specs.Log.{Reads, Holds, IsLogWithOrWithout};
+ghost use Rattle.gate_log.specs.Log.{Reads, Holds, IsLogWithOrWithout, IsNoLonger, NamedButFor, Idle, OneRoseIf};
+ghost use Rattle.gate_log.specs.Reading.{IsReading, IsOpenError};
 
-use crate::error::DiskFault;
+use crate::device::{make_file, read_file};
+use crate::error::{DiskFault, LogError};
 use crate::gate::{CLOSED, OPEN};
+use crate::head::{HEAD_SIZE, first_text};
+use crate::read::{LogRead, read_log_of};
+use crate::repair::repair;
 use disk_model::{Disk, FileName};
 use mdbox_base::{LogHead, NoMemory};
+use std::alloc::Global;
 use std::marker::Model;
 
 /// A log that was made or opened.
@@ -89,6 +95,75 @@ impl GateLog {
         self.end += size as u64;
         Ok(())
     }
+}
+
+/// Makes an empty log, synced, with its name. What stood in a file of that name is gone.
+pub fn create_log<D: Disk>(
+    alloc: Global,
+    disk: &mut D,
+    name: FileName,
+    head: LogHead,
+) -> Result<GateLog, LogError>
+    // At every moment of the call each image has in this file no more octets than it could have before, or than 26.
+    ensures any_moment { EachImage (λ _ image. IfTold (D.history disk.old) (λ before. IsNoLonger 26 (before name) (image name)) × OthersStay name (D.history disk.old) image) (D.history disk.old) (D.history disk.new) }
+    ensures made { IfOk result (λ log. Holds log [] (D.history disk.new)) }
+    ensures log { IfOk result (λ log. log ≡ record { name = name; head = head; end = 25; room = 0 }) }
+    ensures others { OnOk result (NamedButFor name (D.history disk.old) (D.history disk.new)) }
+    ensures refused { IfErr result (λ error. error ≡ LogError.DiskFault) }
+    ensures fault { FaultsRoseIf (IsErr result) (D.faults disk.old) (D.faults disk.new) }
+{
+    make_file(disk, name, &first_text(head))?;
+    Ok(GateLog {
+        name,
+        head,
+        end: HEAD_SIZE as u64,
+        buffer: Vec::new(alloc),
+    })
+}
+
+/// Opens the log that has this head, and reads its entries. What stands behind its last gate is cut off, and that gate is
+/// closed where it isn't.
+pub fn open_log<D: Disk>(
+    alloc: Global,
+    disk: &mut D,
+    name: FileName,
+    head: LogHead,
+) -> Result<(GateLog, LogRead), LogError>
+    // At every moment of the call each image has the same entries.
+    ensures any_moment { (octets : List ℕ) (entries : List (List ℕ)) → IfTold (D.history disk.old) (λ now. Keeps (now name) octets) → IsLog octets head entries
+        → EachImage (λ _ image. IsLogFile (image name) head entries × OthersStay name (D.history disk.old) image) (D.history disk.old) (D.history disk.new) }
+
+    // Of the other files each image has what an image had before, whatever this file has.
+    ensures others_stay { EachImage (λ _ image. OthersStay name (D.history disk.old) image) (D.history disk.old) (D.history disk.new) }
+
+    // After Ok what was read is what the file had.
+    ensures octets { IfOk result (λ opened. (octets : List ℕ) × IsReading octets opened.1 × IfTold (D.history disk.old) (λ now. reading (now name) ≡ Some octets)) }
+    ensures log { IfOk result (λ opened. (opened.0 ≡ record { name = name; head = head; end = opened.1.end; room = 0 }) × (opened.1.head ≡ head)) }
+    ensures reads { IfOk result (λ opened. Reads opened.0 opened.1.entries (D.history disk.new)) }
+    ensures holds { IfOk result (λ opened. (octets : List ℕ) → IfTold (D.history disk.old) (λ now. Keeps (now name) octets) → Holds opened.0 opened.1.entries (D.history disk.new)) }
+    ensures others { OnOk result (SameButFor name (D.history disk.old) (D.history disk.new)) }
+
+    ensures refused { IfErr result (IsOpenError name head (D.history disk.old)) }
+    ensures idle { IfErr result (λ error. error ≢ LogError.DiskFault → Idle (D.history disk.old) (D.history disk.new)) }
+    ensures fault { OneRoseIf (IsErrOf result LogError.DiskFault) (D.faults disk.old) (D.faults disk.new) }
+{
+    let octets = read_file(alloc, disk, name)?;
+    let read = read_log_of(alloc, &octets, head)?;
+    let end = read.end as usize;
+    repair(
+        disk,
+        name,
+        read.end,
+        octets[end],
+        (octets.len() - end - 1) as u64,
+    )?;
+    let log = GateLog {
+        name,
+        head,
+        end: read.end,
+        buffer: Vec::new(alloc),
+    };
+    Ok((log, read))
 }
 
 /// Lays out a record and a closed gate.

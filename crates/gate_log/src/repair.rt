@@ -1,0 +1,60 @@
+// The end of a log that was found.
+ghost use Rattle.std.specs.Prelude.{◌≡◌, ◌-◌, ◌<◌, ◌^◌, ℕ, List, [], length, Some, OnOk, IsErr};
+ghost use Rattle.disk_model.specs.Disk.{EachImage, OthersStay, SameButFor, FaultsRoseIf, IfTold, Keeps, reading};
+ghost use Rattle.mdbox_base.specs.declared.log_head.LogHead.{LogHead};
+ghost use Rattle.mail_model.specs.LogFile.{IsLogFile};
+ghost use Rattle.gate_log.specs.Log.{IsStanding, IsKept, log_text};
+
+use crate::device::{cut_file, put_octet};
+use crate::error::DiskFault;
+use crate::gate::CLOSED;
+use disk_model::{Disk, FileName};
+
+/// Cuts off what stands behind the last gate, and closes that gate where it isn't closed. Each is synced before the next, so
+/// no gate is written while octets behind it are not synced.
+pub fn repair<D: Disk>(
+    disk: &mut D,
+    name: FileName,
+    end: u64,
+    gate: u8,
+    behind: u64,
+) -> Result<(), DiskFault>
+    requires stands { (head : LogHead) × (entries : List (List ℕ)) × (rest : List ℕ) × (behind ≡ length rest) × IfTold (D.history disk.old) (IsStanding name head entries end gate rest) }
+    requires room { end < 2 ^ 64 - 1 }
+
+    // At every moment each image has the same entries.
+    ensures any_moment { (head : LogHead) (entries : List (List ℕ)) (rest : List ℕ) → behind ≡ length rest → IfTold (D.history disk.old) (IsKept name head entries end gate rest)
+        → EachImage (λ _ image. IsLogFile (image name) head entries × OthersStay name (D.history disk.old) image) (D.history disk.old) (D.history disk.new) }
+    ensures others_stay { EachImage (λ _ image. OthersStay name (D.history disk.old) image) (D.history disk.old) (D.history disk.new) }
+    ensures reads { OnOk result ((head : LogHead) (entries : List (List ℕ)) (rest : List ℕ) → behind ≡ length rest → IfTold (D.history disk.old) (IsStanding name head entries end gate rest)
+        → IfTold (D.history disk.new) (λ now. reading (now name) ≡ Some (log_text head entries))) }
+    ensures keeps { OnOk result ((head : LogHead) (entries : List (List ℕ)) (rest : List ℕ) → behind ≡ length rest → IfTold (D.history disk.old) (IsKept name head entries end gate rest)
+        → IfTold (D.history disk.new) (λ now. Keeps (now name) (log_text head entries))) }
+    ensures others { OnOk result (SameButFor name (D.history disk.old) (D.history disk.new)) }
+    ensures fault { FaultsRoseIf (IsErr result) (D.faults disk.old) (D.faults disk.new) }
+{
+    if behind == 0 {
+        return close_gate(disk, name, end, gate);
+    }
+    cut_file(disk, name, end + 1)?;
+    close_gate(disk, name, end, gate)
+}
+
+/// Closes the last gate of a log behind which nothing stands.
+fn close_gate<D: Disk>(disk: &mut D, name: FileName, end: u64, gate: u8) -> Result<(), DiskFault>
+    requires stands { (head : LogHead) × (entries : List (List ℕ)) × IfTold (D.history disk.old) (IsStanding name head entries end gate []) }
+    ensures any_moment { (head : LogHead) (entries : List (List ℕ)) → IfTold (D.history disk.old) (IsKept name head entries end gate [])
+        → EachImage (λ _ image. IsLogFile (image name) head entries × OthersStay name (D.history disk.old) image) (D.history disk.old) (D.history disk.new) }
+    ensures others_stay { EachImage (λ _ image. OthersStay name (D.history disk.old) image) (D.history disk.old) (D.history disk.new) }
+    ensures reads { OnOk result ((head : LogHead) (entries : List (List ℕ)) → IfTold (D.history disk.old) (IsStanding name head entries end gate [])
+        → IfTold (D.history disk.new) (λ now. reading (now name) ≡ Some (log_text head entries))) }
+    ensures keeps { OnOk result ((head : LogHead) (entries : List (List ℕ)) → IfTold (D.history disk.old) (IsKept name head entries end gate [])
+        → IfTold (D.history disk.new) (λ now. Keeps (now name) (log_text head entries))) }
+    ensures others { OnOk result (SameButFor name (D.history disk.old) (D.history disk.new)) }
+    ensures fault { FaultsRoseIf (IsErr result) (D.faults disk.old) (D.faults disk.new) }
+{
+    if gate == CLOSED {
+        return Ok(());
+    }
+    put_octet(disk, name, end, CLOSED)
+}
