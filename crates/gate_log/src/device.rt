@@ -1,26 +1,12 @@
-// Runs of a few calls on one file of a disk.
-ghost use Rattle.std.specs.Prelude.{◌≡◌, ◌≤◌, ◌<◌, ◌^◌, ◌+◌, ◌++◌, ◌∷◌, ℕ, List, length, Some, OnOk, IfOk, IfErr, IsErr, IsErrOf};
+// A file read whole, and one octet of it written.
+ghost use Rattle.std.specs.Prelude.{◌≡◌, ◌++◌, ◌∷◌, ℕ, List, Some, OnOk, IfOk, IfErr, IsErr, IsErrOf};
 ghost use Rattle.disk_model.specs.Disk.{EachImage, OthersStay, SameButFor, FaultsRoseIf, IfTold, Keeps, reading};
-ghost use Rattle.gate_log.specs.Log.{IsNoLonger, NamedButFor, Idle, OneRoseIf, ReadsParts, KeepsParts, BeginsWith, IsOneBetween};
+ghost use Rattle.gate_log.specs.Log.{Idle, OneRoseIf, ReadsParts, KeepsParts, IsOneBetween};
 ghost use Rattle.gate_log.specs.Reading.{IsFileError};
 
 use crate::error::{DiskFault, LogError};
 use disk_model::{Disk, FileName};
 use std::alloc::Global;
-
-/// Makes a file with this text alone, synced, and syncs all names.
-pub fn make_file<D: Disk>(disk: &mut D, name: FileName, text: &[u8]) -> Result<(), DiskFault>
-    ensures any_moment { EachImage (λ _ image. IfTold (D.history disk.old) (λ before. IsNoLonger (length text.now) (before name) (image name)) × OthersStay name (D.history disk.old) image) (D.history disk.old) (D.history disk.new) }
-    ensures made { OnOk result (IfTold (D.history disk.new) (λ now. Keeps (now name) text.now)) }
-    ensures others { OnOk result (NamedButFor name (D.history disk.old) (D.history disk.new)) }
-    ensures fault { FaultsRoseIf (IsErr result) (D.faults disk.old) (D.faults disk.new) }
-{
-    disk.make(name)?;
-    disk.write_at(name, 0, text)?;
-    disk.sync(name)?;
-    disk.sync_names()?;
-    Ok(())
-}
 
 /// The octets of a file. `NoLog` exactly where there is no such file.
 pub fn read_file<D: Disk>(alloc: Global, disk: &mut D, name: FileName) -> Result<Vec<u8>, LogError>
@@ -34,21 +20,6 @@ pub fn read_file<D: Disk>(alloc: Global, disk: &mut D, name: FileName) -> Result
     let count = disk.read_at(name, 0, &mut octets)?;
     octets.truncate(count);
     Ok(octets)
-}
-
-/// Cuts a file to this size, and syncs it.
-pub fn cut_file<D: Disk>(disk: &mut D, name: FileName, size: u64) -> Result<(), DiskFault>
-    requires { (front : List ℕ) × (rest : List ℕ) × IfTold (D.history disk.old) (λ now. ReadsParts size front rest (now name)) }
-    ensures any_moment { (front rest : List ℕ) → IfTold (D.history disk.old) (λ now. KeepsParts size front rest (now name)) → EachImage (λ _ image. BeginsWith front (image name) × OthersStay name (D.history disk.old) image) (D.history disk.old) (D.history disk.new) }
-    ensures others_stay { EachImage (λ _ image. OthersStay name (D.history disk.old) image) (D.history disk.old) (D.history disk.new) }
-    ensures reads { OnOk result ((front rest : List ℕ) → IfTold (D.history disk.old) (λ now. ReadsParts size front rest (now name)) → IfTold (D.history disk.new) (λ now. reading (now name) ≡ Some front)) }
-    ensures keeps { OnOk result ((front rest : List ℕ) → IfTold (D.history disk.old) (λ now. KeepsParts size front rest (now name)) → IfTold (D.history disk.new) (λ now. Keeps (now name) front)) }
-    ensures others { OnOk result (SameButFor name (D.history disk.old) (D.history disk.new)) }
-    ensures fault { FaultsRoseIf (IsErr result) (D.faults disk.old) (D.faults disk.new) }
-{
-    disk.cut(name, size)?;
-    disk.sync(name)?;
-    Ok(())
 }
 
 /// Writes one octet over another, and syncs the file.

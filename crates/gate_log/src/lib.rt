@@ -10,6 +10,7 @@ mod error;
 mod gate;
 mod head;
 mod log;
+mod make;
 mod read;
 mod record;
 mod repair;

@@ -6,10 +6,11 @@ ghost use Rattle.gate_log.specs.State.{LogState, IsSameLog};
 ghost use Rattle.gate_log.specs.Log.{Reads, Holds, IsLogWithOrWithout, IsNoLonger, NamedButFor, Idle, OneRoseIf};
 ghost use Rattle.gate_log.specs.Reading.{IsReading, IsOpenError};
 
-use crate::device::{make_file, read_file};
+use crate::device::read_file;
 use crate::error::{DiskFault, LogError};
 use crate::gate::{CLOSED, OPEN};
 use crate::head::{HEAD_SIZE, first_text};
+use crate::make::make_file;
 use crate::read::{LogRead, read_log_of};
 use crate::repair::repair;
 use disk_model::{Disk, FileName};
@@ -89,7 +90,7 @@ impl GateLog {
         let size = entry.len() + 5;
         lay_out(&mut self.buffer, entry);
         disk.write_at(self.name, self.end + 1, &self.buffer[..size])?;
-        disk.sync(self.name)?;
+        disk.sync(self.name)?; // before the gate opens on the record
         disk.write_at(self.name, self.end, &[OPEN])?;
         disk.sync(self.name)?;
         self.end += size as u64;

@@ -3,9 +3,9 @@ ghost use Rattle.std.specs.Prelude.{◌≡◌, ◌-◌, ◌<◌, ◌^◌, ℕ, L
 ghost use Rattle.disk_model.specs.Disk.{EachImage, OthersStay, SameButFor, FaultsRoseIf, IfTold, Keeps, reading};
 ghost use Rattle.mdbox_base.specs.declared.log_head.LogHead.{LogHead};
 ghost use Rattle.mail_model.specs.LogFile.{IsLogFile};
-ghost use Rattle.gate_log.specs.Log.{IsStanding, IsKept, log_text};
+ghost use Rattle.gate_log.specs.Log.{IsStanding, IsKept, log_text, ReadsParts, KeepsParts, BeginsWith};
 
-use crate::device::{cut_file, put_octet};
+use crate::device::put_octet;
 use crate::error::DiskFault;
 use crate::gate::CLOSED;
 use disk_model::{Disk, FileName};
@@ -57,4 +57,19 @@ fn close_gate<D: Disk>(disk: &mut D, name: FileName, end: u64, gate: u8) -> Resu
         return Ok(());
     }
     put_octet(disk, name, end, CLOSED)
+}
+
+/// Cuts a file to this size, and syncs it.
+fn cut_file<D: Disk>(disk: &mut D, name: FileName, size: u64) -> Result<(), DiskFault>
+    requires { (front : List ℕ) × (rest : List ℕ) × IfTold (D.history disk.old) (λ now. ReadsParts size front rest (now name)) }
+    ensures any_moment { (front rest : List ℕ) → IfTold (D.history disk.old) (λ now. KeepsParts size front rest (now name)) → EachImage (λ _ image. BeginsWith front (image name) × OthersStay name (D.history disk.old) image) (D.history disk.old) (D.history disk.new) }
+    ensures others_stay { EachImage (λ _ image. OthersStay name (D.history disk.old) image) (D.history disk.old) (D.history disk.new) }
+    ensures reads { OnOk result ((front rest : List ℕ) → IfTold (D.history disk.old) (λ now. ReadsParts size front rest (now name)) → IfTold (D.history disk.new) (λ now. reading (now name) ≡ Some front)) }
+    ensures keeps { OnOk result ((front rest : List ℕ) → IfTold (D.history disk.old) (λ now. KeepsParts size front rest (now name)) → IfTold (D.history disk.new) (λ now. Keeps (now name) front)) }
+    ensures others { OnOk result (SameButFor name (D.history disk.old) (D.history disk.new)) }
+    ensures fault { FaultsRoseIf (IsErr result) (D.faults disk.old) (D.faults disk.new) }
+{
+    disk.cut(name, size)?;
+    disk.sync(name)?;
+    Ok(())
 }

@@ -1,7 +1,7 @@
 use Rattle.disk_model.proofs.ChangeAndSync.{change_fails, sync_fails, images}
 use Rattle.disk_model.proofs.Others.{apart_begins, apart_goes_on, apart_fails, apart_fails_still, apart_images}
 use Rattle.gate_log.proofs.Parting.{cut-can, cut-there, cut-reads, cut-keeps}
-use Rattle.gate_log.proofs.device.cut_file.Goals as goal
+use Rattle.gate_log.proofs.repair.cut_file.Goals as goal
 
 pub returns-in_err-cut-clause-any_moment : goal.returns-in_err-cut-clause-any_moment
 returns-in_err-cut-clause-any_moment g c = λ front rest h. change_fails c.args.name _ _ _ _ _ (cut-can c.args.name _ c.args.size front rest h) c.in_err-cut.ensures.failed

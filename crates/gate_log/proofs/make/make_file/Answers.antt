@@ -1,6 +1,6 @@
 use Rattle.gate_log.proofs.Heads.{octets_of}
 use Rattle.gate_log.proofs.Making.{fails_1, fails_2, fails_3, fails_4, goes_well, keeps_then, others_then, ask_2, ask_3}
-use Rattle.gate_log.proofs.device.make_file.Goals as goal
+use Rattle.gate_log.proofs.make.make_file.Goals as goal
 
 pub returns-in_err-make-clause-any_moment : goal.returns-in_err-make-clause-any_moment
 returns-in_err-make-clause-any_moment g c = fails_1 c.args.name c.args.text.now _ _ c.in_err-make.ensures.failed
