@@ -12,4 +12,6 @@ mod image;
 mod marks;
 mod note;
 mod plan;
+#[cfg(test)]
+mod tests;
 mod text;

@@ -1,0 +1,13 @@
+use Rattle.std.proofs.Common.{◌≡◌, ℕ, length, Some, OnOk}
+use Rattle.disk_model.specs.Disk.{FileState, Reaches, synced}
+use Rattle.disk_model.proofs.ChangeAndSync.{changed_state}
+use Rattle.disk_mem.specs.Mem.{told}
+use Rattle.disk_mem.proofs.Steps.{on_ok}
+use Rattle.disk_mem.proofs.tests.put_synced.Goals as goal
+
+pub returns-clause-reaches : goal.returns-clause-reaches
+returns-clause-reaches c =
+    on_ok c.sync.result
+    (λ is. changed_state c.args.name (λ f. Reaches f (length c.args.text.now)) (λ f. Reaches f (length c.args.text.now)) synced
+    (Some (told c.put.new.disk)) (Some (told c.sync.new.self)) is (λ f reaches. reaches) c.in_ok-put.ensures.reaches)
+    c.sync.ensures.state
