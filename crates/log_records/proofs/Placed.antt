@@ -1,5 +1,5 @@
 -- Pieces written one behind another.
-use Rattle.std.proofs.Common.{◌≡◌, ℕ, List, ◌++◌, append_assoc, refl}
+use Rattle.std.proofs.Common.{◌≡◌, ℕ, List, ◌++◌, append_assoc}
 
 pub seven : (t0 t1 t2 t3 t4 t5 t6 t7 x1 x2 x3 x4 x5 x6 x7 a1 a2 a3 a4 a5 a6 a7 : List ℕ)
     → t1 ≡ t0 ++ x1 → t2 ≡ t1 ++ x2 → t3 ≡ t2 ++ x3 → t4 ≡ t3 ++ x4 → t5 ≡ t4 ++ x5 → t6 ≡ t5 ++ x6 → t7 ≡ t6 ++ x7

@@ -1,5 +1,5 @@
 use Rattle.log_records.proofs.ListItems.{too_short}
-use Rattle.std.proofs.Common.{◌≡◌, ◌<◌, length, arith}
+use Rattle.std.proofs.Common.{◌<◌, length, arith}
 use Rattle.log_records.proofs.lists.items_at.Goals as goal
 
 pub returns-in_default : goal.returns-in_default

@@ -1,4 +1,4 @@
-use Rattle.std.proofs.Common.{◌≡◌, ◌<◌, ◌^◌, ◌++◌, sym, ◌∙◌, refl, rules}
+use Rattle.std.proofs.Common.{◌<◌, ◌^◌, ◌++◌, sym, ◌∙◌, refl, rules}
 use Rattle.mdbox_base.specs.declared.entries.MapPlace.{MapPlace}
 use Rattle.mail_model.specs.Entries.{four}
 use Rattle.mail_model.specs.NumberLaws.{next_four}

@@ -1,4 +1,4 @@
-use Rattle.std.proofs.Common.{◌≡◌, ◌∙◌, ◌≤◌, length, ap, sym, arith}
+use Rattle.std.proofs.Common.{◌∙◌, ◌≤◌, length, ap, sym, arith}
 use Rattle.mail_model.specs.Entries.{map_text}
 use Rattle.log_records.proofs.EntrySizes.{stored_size, lowered_size, counted_size, purged_size, stored_filled, purged_filled}
 use Rattle.log_records.proofs.map_write.put_map_entry.Goals as goal
