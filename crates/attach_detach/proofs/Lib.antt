@@ -1,2 +1,3 @@
-pub mod Cuts
 pub mod Breaks
+pub mod Cuts
+pub mod Naming

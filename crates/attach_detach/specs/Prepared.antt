@@ -1,6 +1,7 @@
 -- A message that is ready to be stored.
 use Rattle.std.specs.Prelude.{◌≡◌, ◌+◌, ℕ, List, [], ◌∷◌, All, length, map}
 use Rattle.sha1.specs.Sha1.{sha1}
+use Rattle.mdbox_base.specs.declared.metadata.ExtRef.{ExtRef}
 use Rattle.mdbox_base.specs.declared.mime.Part.{Part}
 use Rattle.mail_model.specs.Lines.{range}
 use Rattle.mail_model.specs.Detached.{Piece, IsDetached, IsInstance}
@@ -36,6 +37,13 @@ pub record IsPlain (message : List ℕ) (p : Prepared) : Type 0 where
   pub parts : p.parts ≡ []
   pub whole : p.whole ≡ length message
   pub virtual : p.virtual_size ≡ virtual_size message
+
+-- These references name detached attachments, in order, one for each.
+abbrev pub NameParts : List ExtRef → List Detached → Type 0
+NameParts [] [] = Unit {0}
+NameParts [] (d ∷ parts) = ⊥
+NameParts (ref ∷ refs) [] = ⊥
+NameParts (ref ∷ refs) (d ∷ parts) = (ref.start ≡ d.start) × (ref.count ≡ d.count) × (ref.form ≡ d.form) × (ref.hash ≡ d.hash) × NameParts refs parts
 
 -- the last octet of a text behind this octet
 abbrev pub last_of : ℕ → List ℕ → ℕ
