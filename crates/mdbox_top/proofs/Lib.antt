@@ -1,0 +1,4 @@
+pub mod CommandLaws
+pub mod PlaceLaws
+pub mod PrintLaws
+pub mod RunLaws

@@ -1,0 +1,50 @@
+// The commands of the program.
+ghost use Rattle.std.specs.Prelude.{◌≡◌, List, ℕ, map, string_bytes, IfSome, IfNone};
+ghost use Rattle.mdbox_top.specs.Commands.{words_of, IsCommandLine};
+
+/// What the program is asked to do.
+#[derive(Clone, Copy, Debug, PartialEq, Eq)]
+pub enum Command {
+    /// Prints the messages of a storage file.
+    Dump,
+    /// Prints what each command does.
+    Help,
+    /// Prints the version.
+    Version,
+}
+
+/// What `--help` prints.
+pub const HELP: &str = "mdbox WORDS
+
+dump        reads a storage file (m.N) of mdbox from standard input and prints, for each message,
+            MESSAGE with its offset and its body's size, and its metadata lines behind two spaces
+--help      prints this
+--version   prints the version
+
+Exit status: 0 all was printed, 2 other words, 4 the input is refused, 5 memory, 7 read fault, 8 write fault
+
+Example: mdbox dump < storage/m.1
+";
+
+/// What `--version` prints.
+pub const VERSION: &str = "mdbox 0.1.0\n";
+
+/// The command of these words.
+pub fn command_of(words: &[String]) -> Option<Command>
+    ensures some { IfSome result (λ command. map string_bytes words.now ≡ words_of command) }
+    ensures none { IfNone result (¬ IsCommandLine (map string_bytes words.now)) }
+{
+    let [word] = words else {
+        return None;
+    };
+    let text = word.as_str();
+    if text == "dump" {
+        Some(Command::Dump)
+    } else if text == "--help" {
+        Some(Command::Help)
+    } else if text == "--version" {
+        Some(Command::Version)
+    } else {
+        None
+    }
+}
