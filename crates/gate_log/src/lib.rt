@@ -14,3 +14,5 @@ mod make;
 mod read;
 mod record;
 mod repair;
+#[cfg(test)]
+mod tests;
