@@ -3,7 +3,7 @@ ghost use Rattle.std.specs.Prelude.{◌≡◌, IfOk, IfSome, List, [], ◌∷◌
 ghost use Rattle.mdbox_base.specs.declared.metadata.LineForm.{LineForm};
 ghost use Rattle.mail_model.specs.Base64Text.{IsForm};
 
-use crate::rejoin;
+use crate::{rejoin, rejoin_detached};
 use mdbox_base::{ExtRef, Hash, InstId, JoinError, LineForm, NoMemory, Octets, Seq};
 use std::alloc::Global;
 use std::test::Fail;
@@ -131,5 +131,14 @@ fn ranges_that_overlap(rt: HostRuntime) -> Result<(), Fail> {
     instances.push(instance(rt.alloc(), b"xyz")?)?;
     let outcome = rejoin(rt.alloc(), b"ab", 8, &refs, &instances);
     assert!(rt; outcome.err() == Some(JoinError::RangeBad(1)));
+    Ok(())
+}
+
+#[test]
+fn an_empty_message_is_its_detached_form(rt: HostRuntime) -> Result<(), Fail> {
+    let refs = Seq::empty(rt.alloc());
+    let instances = Seq::empty(rt.alloc());
+    let message = rejoin_detached(rt.alloc(), b"", 0, &refs, &instances)?;
+    assert_eq!(rt; message.length(), 0);
     Ok(())
 }
