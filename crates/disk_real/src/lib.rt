@@ -1,6 +1,14 @@
-//! The real outside: standard input, output and error. Trusted: no clause tells what the system gives or takes.
+//! The real outside: standard input, output and error, and files in the current folder. Trusted: no clause tells what the
+//! system gives or takes.
 #![tactic(auto)]
 
+pub use disk::RealDisk;
 pub use streams::{StdSink, StdSource};
 
+mod calls;
+mod disk;
+mod listing;
+mod paths;
 mod streams;
+#[cfg(test)]
+mod tests;
