@@ -36,10 +36,12 @@ fn attachment(alloc: Global) -> Result<Octets, NoMemory> {
 fn uneven(alloc: Global, characters: &[u8]) -> Result<Vec<u8>, NoMemory> {
     let mut text = Vec::new(alloc);
     if characters.len() > 148 {
-        text.extend_from_slice(&characters[..76])?;
+        let (first, behind) = characters.split_at(76);
+        let (second, rest) = behind.split_at(72);
+        text.extend_from_slice(first)?;
         text.extend_from_slice(b"\r\n")?;
-        text.extend_from_slice(&characters[76..148])?;
-        for line in characters[148..].chunks(76) {
+        text.extend_from_slice(second)?;
+        for line in rest.chunks(76) {
             text.extend_from_slice(b"\r\n")?;
             text.extend_from_slice(line)?;
         }
