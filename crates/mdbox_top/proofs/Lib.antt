@@ -2,3 +2,4 @@ pub mod CommandLaws
 pub mod PlaceLaws
 pub mod PrintLaws
 pub mod RunLaws
+pub mod LogPrintLaws

@@ -10,6 +10,7 @@ use Rattle.mdbox_top.proofs.PlaceLaws.{file_shown}
 use Rattle.mdbox_base.specs.Streams.{Appended, Rose, Taken, IsAtEnd}
 use Rattle.mdbox_base.specs.declared.storage_file.ScanError.{ScanError}
 use Rattle.mdbox_base.specs.declared.stream.SinkFault.{SinkFault}
+use Rattle.mail_model.specs.LogFileLaws.{not_both as log_not_damaged}
 use Rattle.mail_model.specs.ScanLaws.{file_not_refused}
 use Rattle.mdbox_top.specs.Commands.{words_of, IsCommandLine}
 use Rattle.mdbox_top.specs.Printing.{Cut, ShowsAll}
@@ -99,6 +100,13 @@ same_command : (c d : Command) → words_of c ≡ words_of d → c ≡ d
 same_command command.Dump command.Dump e = refl
 same_command command.Help command.Help e = refl
 same_command command.Version command.Version e = refl
+same_command command.LogDump command.LogDump e = refl
+same_command command.Dump command.LogDump e = absurd (first_differ 100 108 _ _ _ _ e refl)
+same_command command.LogDump command.Dump e = absurd (first_differ 108 100 _ _ _ _ e refl)
+same_command command.LogDump command.Help e = absurd (first_differ 108 45 _ _ _ _ e refl)
+same_command command.LogDump command.Version e = absurd (first_differ 108 45 _ _ _ _ e refl)
+same_command command.Help command.LogDump e = absurd (first_differ 45 108 _ _ _ _ e refl)
+same_command command.Version command.LogDump e = absurd (first_differ 45 108 _ _ _ _ e refl)
 same_command command.Dump command.Help e = absurd (first_differ 100 45 _ _ _ _ e refl)
 same_command command.Dump command.Version e = absurd (first_differ 100 45 _ _ _ _ e refl)
 same_command command.Help command.Dump e = absurd (first_differ 45 100 _ _ _ _ e refl)
@@ -110,6 +118,10 @@ same_command command.Version command.Help e = absurd (third_differ 118 104 _ _ e
 not_both : (c : Command) (input text : List ℕ) (why : InputRefusal) → Prints c input text → Refuses c input why → ⊥
 not_both command.Dump input text (refusal.TooLong n) p r = omega (arith, p.0, r.1)
 not_both command.Dump input text (refusal.File error) p r = file_not_refused input p.1.0 p.1.1 error p.1.2 r.1
+not_both command.Dump input text (refusal.Log place) p r = r
+not_both command.LogDump input text (refusal.TooLong n) p r = omega (arith, p.0, r.1)
+not_both command.LogDump input text (refusal.File error) p r = r
+not_both command.LogDump input text (refusal.Log place) p r = log_not_damaged None input p.1.0 p.1.1 place p.1.2 tt r.1
 not_both command.Help input text why p r = r
 not_both command.Version input text why p r = r
 

@@ -5,6 +5,7 @@ use Rattle.mdbox_top.specs.declared.command.Command.TheVariants as command
 
 abbrev pub words_of : Command → List (List ℕ)
 words_of command.Dump = codes "dump" ∷ []
+words_of command.LogDump = codes "logdump" ∷ []
 words_of command.Help = codes "--help" ∷ []
 words_of command.Version = codes "--version" ∷ []
 

@@ -1,9 +1,12 @@
 -- What a run of the program may do: the meaning of the commands, the statuses and their causes.
-use Rattle.std.specs.Prelude.{◌≡◌, ◌≤◌, ◌<◌, ℕ, List, [], ◌∷◌, ◌++◌, length, codes, Option, IfSome, ◌⊎◌}
+use Rattle.std.specs.Prelude.{◌≡◌, ◌≤◌, ◌<◌, ℕ, List, [], ◌∷◌, ◌++◌, length, codes, Option, None, IfSome, ◌⊎◌}
 use Rattle.mdbox_base.specs.Numbers.{decimal_text}
 use Rattle.mdbox_base.specs.Streams.{Appended, Rose}
 use Rattle.mdbox_base.specs.declared.storage_file.ScanError.TheVariants as scan
 use Rattle.mail_model.specs.DumpText.{dump_text}
+use Rattle.mdbox_base.specs.declared.log_head.LogHead.{LogHead}
+use Rattle.mail_model.specs.LogDumpText.{log_dump_text}
+use Rattle.mail_model.specs.LogFile.{IsLog, IsDamagedAt}
 use Rattle.mail_model.specs.StorageFile.{Message, IsFile, IsRefused}
 use Rattle.mdbox_top.specs.Commands.{words_of, IsCommandLine}
 use Rattle.mdbox_top.specs.Printing.{Cut}
@@ -18,6 +21,7 @@ use Rattle.mdbox_top.specs.declared.outcome.Outcome.TheVariants as outcome
 -- The command prints this text of this input, which is in its grammar. `--help` and `--version` read no input.
 abbrev pub Prints : Command → List ℕ → List ℕ → Type 0
 Prints command.Dump input text = (length input ≤ 268435456) × ((header : List ℕ) × (messages : List Message) × IsFile input header messages × (text ≡ dump_text (length header) messages))
+Prints command.LogDump input text = (length input ≤ 268435456) × ((head : LogHead) × (entries : List (List ℕ)) × IsLog input head entries × (text ≡ log_dump_text head entries))
 Prints command.Help input text = text ≡ HELP.now
 Prints command.Version input text = text ≡ VERSION.now
 
@@ -25,6 +29,10 @@ Prints command.Version input text = text ≡ VERSION.now
 abbrev pub Refuses : Command → List ℕ → InputRefusal → Type 0
 Refuses command.Dump input (refusal.TooLong limit) = (limit ≡ 268435456) × (268435456 < length input)
 Refuses command.Dump input (refusal.File error) = (length input ≤ 268435456) × IsRefused input error
+Refuses command.Dump input (refusal.Log place) = ⊥
+Refuses command.LogDump input (refusal.TooLong limit) = (limit ≡ 268435456) × (268435456 < length input)
+Refuses command.LogDump input (refusal.Log place) = (length input ≤ 268435456) × IsDamagedAt None input place
+Refuses command.LogDump input (refusal.File error) = ⊥
 Refuses command.Help input why = ⊥
 Refuses command.Version input why = ⊥
 
@@ -79,6 +87,7 @@ reason_text (refusal.File (scan.HeaderSize size)) = codes "HeaderSize " ++ decim
 reason_text (refusal.File (scan.Truncated offset)) = codes "Truncated " ++ decimal_text offset
 reason_text (refusal.File (scan.BadMessage offset)) = codes "BadMessage " ++ decimal_text offset
 reason_text (refusal.File scan.NoMemory) = codes "BadHeader " ++ decimal_text 0
+reason_text (refusal.Log place) = codes "LogDamaged " ++ decimal_text place
 
 -- what is told on the errors' sink
 abbrev pub error_text : Outcome → List ℕ

@@ -7,6 +7,8 @@ ghost use Rattle.mdbox_top.specs.Commands.{words_of, IsCommandLine};
 pub enum Command {
     /// Prints the messages of a storage file.
     Dump,
+    /// Prints the entries of a log.
+    LogDump,
     /// Prints what each command does.
     Help,
     /// Prints the version.
@@ -18,6 +20,9 @@ pub const HELP: &str = "mdbox WORDS
 
 dump        reads a storage file (m.N) of mdbox from standard input and prints, for each message,
             MESSAGE with its offset and its body's size, and its metadata lines behind two spaces
+logdump     reads a log of mdbox from standard input and prints LOG with its kind (R, M or B), number
+            and generation, for each entry the offset of its record and its octets in hexadecimal
+            digits, and END with the offset of the last gate
 --help      prints this
 --version   prints the version
 
@@ -40,6 +45,8 @@ pub fn command_of(words: &[String]) -> Option<Command>
     let text = word.as_str();
     if text == "dump" {
         Some(Command::Dump)
+    } else if text == "logdump" {
+        Some(Command::LogDump)
     } else if text == "--help" {
         Some(Command::Help)
     } else if text == "--version" {

@@ -7,6 +7,7 @@ pub use run::mdbox_run;
 pub use status::Status;
 
 mod command;
+mod log_print;
 mod outcome;
 mod print;
 mod run;

@@ -15,6 +15,8 @@ pub enum InputRefusal {
     TooLong(u64),
     /// It is no storage file.
     File(ScanError),
+    /// It is no log: it is damaged at this place.
+    Log(u64),
 }
 
 /// How a run ends.
@@ -87,5 +89,6 @@ fn reason_of(why: InputRefusal) -> (&'static [u8], u64)
         InputRefusal::File(ScanError::HeaderSize(size)) => (b"HeaderSize ", size),
         InputRefusal::File(ScanError::Truncated(offset)) => (b"Truncated ", offset),
         InputRefusal::File(ScanError::BadMessage(offset)) => (b"BadMessage ", offset),
+        InputRefusal::Log(place) => (b"LogDamaged ", place),
     }
 }

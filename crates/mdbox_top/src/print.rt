@@ -42,7 +42,7 @@ impl From<SinkFault> for PrintError {
 }
 
 /// Adds a text to the piece. A piece that is full is given to the output, a long text directly.
-fn put<O: Sink>(output: &mut O, piece: &mut Octets, text: &[u8]) -> Result<(), PrintError>
+pub fn put<O: Sink>(output: &mut O, piece: &mut Octets, text: &[u8]) -> Result<(), PrintError>
     ensures ok { OnOk result (Passed (O.held output.old) piece.old text.now (O.held output.new) piece.new) }
     ensures err { OnErr result (Cut (O.held output.old) piece.old text.now (O.held output.new)) }
     ensures cause { IfErr result (IsCause (O.faults output.old) (O.faults output.new)) }

@@ -8,10 +8,12 @@ ghost use Rattle.mdbox_top.specs.declared.outcome.InputRefusal.{InputRefusal};
 ghost use Rattle.mdbox_top.specs.declared.outcome.Outcome.{Outcome};
 
 use crate::command::{Command, HELP, VERSION, command_of};
+use crate::log_print::print_log;
 use crate::outcome::{InputRefusal, Outcome, report};
 use crate::print::{PrintError, print_messages};
 use crate::status::Status;
 use dbox_file::{ScanError, scan};
+use gate_log::{LogError, read_log};
 use mdbox_base::{InputError, Sink, SinkFault, Source, give_all, read_all};
 use std::alloc::Global;
 
@@ -65,6 +67,7 @@ fn perform<I: Source, O: Sink>(
     match command_of(words) {
         None => Outcome::Usage,
         Some(Command::Dump) => dump(alloc, input, output),
+        Some(Command::LogDump) => logdump(alloc, input, output),
         Some(Command::Help) => show(output, HELP),
         Some(Command::Version) => show(output, VERSION),
     }
@@ -111,6 +114,41 @@ fn dump_file<O: Sink>(alloc: Global, file: &[u8], output: &mut O) -> Outcome
         Err(error) => return Outcome::Refused(InputRefusal::File(error)),
     };
     match print_messages(alloc, output, file, messages.as_slice()) {
+        Ok(()) => Outcome::Printed,
+        Err(PrintError::NoMemory) => Outcome::NoMemory,
+        Err(PrintError::WriteFault) => Outcome::WriteFault,
+    }
+}
+
+/// Prints the log that the input is.
+fn logdump<I: Source, O: Sink>(alloc: Global, input: &mut I, output: &mut O) -> Outcome
+    ensures ends { Ends (words_of Command.LogDump) (I.left input.old) (O.held output.old) (O.held output.new) result }
+    ensures cause { HasCause (I.faults input.old) (I.faults input.new) (O.faults output.old) (O.faults output.new) result }
+    ensures known { result ≢ Outcome.Usage }
+    ensures counted { (I.faults input.old ≤ I.faults input.new) × (O.faults output.old ≤ O.faults output.new) }
+{
+    match read_all(alloc, input, INPUT_LIMIT) {
+        Ok(log) => dump_log(alloc, log.as_slice(), output),
+        Err(InputError::TooLong(limit)) => Outcome::Refused(InputRefusal::TooLong(limit)),
+        Err(InputError::Fault) => Outcome::ReadFault,
+        Err(InputError::NoMemory) => Outcome::NoMemory,
+    }
+}
+
+/// Prints a log.
+fn dump_log<O: Sink>(alloc: Global, log: &[u8], output: &mut O) -> Outcome
+    requires { length log.now ≤ 268435456 }
+    ensures ends { Ends (words_of Command.LogDump) (Some log.now) (O.held output.old) (O.held output.new) result }
+    ensures cause { HasCause 0 0 (O.faults output.old) (O.faults output.new) result }
+    ensures known { (result ≢ Outcome.Usage) × (result ≢ Outcome.ReadFault) }
+    ensures counted { O.faults output.old ≤ O.faults output.new }
+{
+    let read = match read_log(alloc, log) {
+        Ok(read) => read,
+        Err(LogError::LogDamaged(place)) => return Outcome::Refused(InputRefusal::Log(place)),
+        Err(_) => return Outcome::NoMemory,
+    };
+    match print_log(alloc, output, &read) {
         Ok(()) => Outcome::Printed,
         Err(PrintError::NoMemory) => Outcome::NoMemory,
         Err(PrintError::WriteFault) => Outcome::WriteFault,
