@@ -235,7 +235,8 @@ impl MemDisk {
             Ok(()) => {}
             Err(_) => self.wait(),
         }
-        self.failed_changes = self.failed_changes.saturating_add(1);
+        let failed = self.failed_changes.saturating_add(1);
+        self.failed_changes = failed;
         Err(DiskError::Failed)
     }
 
