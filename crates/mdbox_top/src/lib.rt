@@ -12,3 +12,5 @@ mod outcome;
 mod print;
 mod run;
 mod status;
+#[cfg(test)]
+mod tests;
