@@ -1,3 +1,4 @@
+pub mod CallCounts
 pub mod Copies
 pub mod Failing
 pub mod Files

@@ -11,6 +11,10 @@ use Rattle.disk_mem.specs.declared.note.Change.{Change}
 use Rattle.disk_mem.specs.declared.note.Change.TheVariants.{Written, HalfWritten, Synced, NamesSynced}
 use Rattle.disk_mem.specs.Record.{is_for_all, at_file, file_after, found, at_rest, there_of, octets_of}
 
+-- the calls that a note stands for: the change, and those before it that changed nothing
+abbrev pub calls_by : Note → ℕ
+calls_by note = note.idle + 1
+
 -- of these notes, how many had been made as so many calls had run
 abbrev pub noted : ℕ → List Note → ℕ
 noted calls [] = 0

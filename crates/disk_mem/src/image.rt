@@ -1,8 +1,8 @@
 // The disks that a stop would leave.
-ghost use Rattle.std.specs.Prelude.{◌≡◌, ◌+◌, ◌<◌, ◌≤◌, ℕ, if◌then◌else◌, length, slice_get, slice_index, ◌≢◌, Some, None, IfOk, OnOk};
+ghost use Rattle.std.specs.Prelude.{◌≡◌, ◌+◌, ◌-◌, ◌^◌, min, sum_by, ◌<◌, ◌≤◌, ℕ, if◌then◌else◌, length, slice_get, slice_index, ◌≢◌, Some, None, IfOk, OnOk};
 ghost use Rattle.disk_model.specs.Disk.{covers};
 ghost use Rattle.disk_mem.specs.Record.{Shows, found, at_rest, file_after};
-ghost use Rattle.disk_mem.specs.Left.{noted, IsLeft, shown, shown_of, AreLeft, IsAdded, IsCopy, touched, touched_by};
+ghost use Rattle.disk_mem.specs.Left.{calls_by, noted, IsLeft, shown, shown_of, AreLeft, IsAdded, IsCopy, touched, touched_by};
 
 use crate::choice::Choice;
 use crate::disk::MemDisk;
@@ -27,6 +27,17 @@ pub fn noted_by(notes: &[Note], calls: u64) -> usize
         left -= note.idle + 1;
     }
     notes.len()
+}
+
+/// How many calls these notes and so many more that changed nothing are, up to the type's end.
+fn run_by(notes: &[Note], idle: u64) -> u64
+    ensures { result ≡ min (idle + sum_by calls_by notes.now) (2 ^ 64 - 1) }
+{
+    let mut sum = idle;
+    for note in notes {
+        sum = sum.saturating_add(note.idle).saturating_add(1);
+    }
+    sum
 }
 
 /// A file as it was at the beginning.
@@ -185,6 +196,13 @@ pub fn copy_of(alloc: Global, files: &[File]) -> Result<Vec<File>, NoMemory>
 impl MemDisk {
     ghost use Rattle.disk_mem.specs.Mem.{calls_of, IsUnlisted};
     ghost use Rattle.disk_mem.specs.Images.{IsImageOf};
+
+    /// How many calls have run. The number stands still at its type's end.
+    pub fn calls(&self) -> u64
+        ensures { result ≡ min (calls_of self.now) (2 ^ 64 - 1) }
+    {
+        run_by(&self.notes, self.idle)
+    }
 
     /// The disk after a stop when so many calls had run, which are at most those that did. It is at rest, no call of it is
     /// listed to fail, and its counts are 0.

@@ -1,5 +1,5 @@
-use Rattle.std.proofs.Common.{◌≡◌, ◌+◌, ◌≤◌, ℕ, true, List, length, Some, OnOk, refl, sym, ◌∙◌, ap, arith, length-append}
-use Rattle.disk_model.specs.Disk.{FileState, Reaches, after, change, made, written, overlaid}
+use Rattle.std.proofs.Common.{ℕ, List, length, Some, refl, arith}
+use Rattle.disk_model.specs.Disk.{FileState, Reaches, made, written}
 use Rattle.disk_model.proofs.ChangeAndSync.{changed_state}
 use Rattle.disk_mem.specs.Mem.{told}
 use Rattle.disk_mem.specs.Sound.{length-overlaid}

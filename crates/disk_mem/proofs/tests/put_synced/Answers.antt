@@ -1,5 +1,5 @@
-use Rattle.std.proofs.Common.{◌≡◌, ℕ, length, Some, OnOk}
-use Rattle.disk_model.specs.Disk.{FileState, Reaches, synced}
+use Rattle.std.proofs.Common.{length, Some}
+use Rattle.disk_model.specs.Disk.{Reaches, synced}
 use Rattle.disk_model.proofs.ChangeAndSync.{changed_state}
 use Rattle.disk_mem.specs.Mem.{told}
 use Rattle.disk_mem.proofs.Steps.{on_ok}

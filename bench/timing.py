@@ -1,0 +1,50 @@
+"""Times commands that take turns, for the benchmarks beside this file."""
+
+import os
+import subprocess
+import sys
+import time
+
+
+def run(command, path):
+    """The seconds that a command takes on a file, those of the processor, and its peak memory in KiB."""
+    with open(path, "rb") as source:
+        begin = time.perf_counter()
+        child = subprocess.Popen(command, stdin=source, stdout=subprocess.DEVNULL)
+        _, status, usage = os.wait4(child.pid, 0)
+        seconds = time.perf_counter() - begin
+    if status != 0:
+        sys.exit(f"{command}: status {status}")
+    return seconds, usage.ru_utime + usage.ru_stime, usage.ru_maxrss
+
+
+def compare(program, others, path, runs):
+    """Prints the least times of a program and of others, by name, and their ratios. Answers its peak memory in octets."""
+    commands = {**others, "mdbox": program}
+    elapsed = dict.fromkeys(commands, float("inf"))
+    processor = dict.fromkeys(commands, float("inf"))
+    memory = 0
+    for _ in range(runs):
+        for name, command in commands.items():
+            seconds, busy, peak = run(command, path)
+            elapsed[name] = min(elapsed[name], seconds)
+            processor[name] = min(processor[name], busy)
+            if name == "mdbox":
+                memory = max(memory, peak)
+    for name in commands:
+        print(f"{name:15} {elapsed[name] * 1000:.0f} ms, processor {processor[name] * 1000:.0f} ms")
+    for name in others:
+        ratios = elapsed["mdbox"] / elapsed[name], processor["mdbox"] / processor[name]
+        print(f"{'mdbox / ' + name:15} {ratios[0]:.2f}, processor {ratios[1]:.2f}")
+    return memory * 1024
+
+
+def cat(path):
+    """The command that reads a file and gives it to another process."""
+    return ["sh", "-c", f"cat {path} | cat >/dev/null"]
+
+
+def arguments():
+    """The program and the number of runs: [PROGRAM] [RUNS]."""
+    program = os.path.abspath(sys.argv[1] if len(sys.argv) > 1 else "mdbox")
+    return program, int(sys.argv[2]) if len(sys.argv) > 2 else 7
