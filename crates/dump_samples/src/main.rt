@@ -15,13 +15,17 @@ mod devices;
 const WHOLE: [&str; 5] = ["altmoved", "attachments", "compressed", "plain", "purged"];
 
 /// Files that are refused.
-const REFUSED: [&str; 10] = [
+const REFUSED: [&str; 14] = [
     "empty-file",
     "garbage-appended",
     "header-M-changed",
+    "header-M-twice",
+    "header-C-twice",
+    "header-513",
     "magic-octet-changed",
     "size-8f",
     "size-16f",
+    "size-33-bits",
     "size-not-hex",
     "truncated-in-body",
     "truncated-in-metadata",
