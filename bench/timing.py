@@ -18,25 +18,31 @@ def run(command, path):
     return seconds, usage.ru_utime + usage.ru_stime, usage.ru_maxrss
 
 
-def compare(program, others, path, runs):
-    """Prints the least times of a program and of others, by name, and their ratios. Answers its peak memory in octets."""
-    commands = {**others, "mdbox": program}
+def least(commands, runs):
+    """The least times of commands, each on its own file: by name, the elapsed seconds, and those of the processor.
+    And by name the peak memory in octets."""
     elapsed = dict.fromkeys(commands, float("inf"))
     processor = dict.fromkeys(commands, float("inf"))
-    memory = 0
+    memory = dict.fromkeys(commands, 0)
     for _ in range(runs):
-        for name, command in commands.items():
+        for name, (command, path) in commands.items():
             seconds, busy, peak = run(command, path)
             elapsed[name] = min(elapsed[name], seconds)
             processor[name] = min(processor[name], busy)
-            if name == "mdbox":
-                memory = max(memory, peak)
+            memory[name] = max(memory[name], peak * 1024)
+    return elapsed, processor, memory
+
+
+def compare(program, others, path, runs):
+    """Prints the least times of a program and of others, by name, and their ratios. Answers its peak memory in octets."""
+    commands = {name: (command, path) for name, command in {**others, "mdbox": program}.items()}
+    elapsed, processor, memory = least(commands, runs)
     for name in commands:
         print(f"{name:15} {elapsed[name] * 1000:.0f} ms, processor {processor[name] * 1000:.0f} ms")
     for name in others:
         ratios = elapsed["mdbox"] / elapsed[name], processor["mdbox"] / processor[name]
         print(f"{'mdbox / ' + name:15} {ratios[0]:.2f}, processor {ratios[1]:.2f}")
-    return memory * 1024
+    return memory["mdbox"]
 
 
 def cat(path):
@@ -44,7 +50,7 @@ def cat(path):
     return ["sh", "-c", f"cat {path} | cat >/dev/null"]
 
 
-def arguments():
+def arguments(program="mdbox"):
     """The program and the number of runs: [PROGRAM] [RUNS]."""
-    program = os.path.abspath(sys.argv[1] if len(sys.argv) > 1 else "mdbox")
+    program = os.path.abspath(sys.argv[1] if len(sys.argv) > 1 else program)
     return program, int(sys.argv[2]) if len(sys.argv) > 2 else 7

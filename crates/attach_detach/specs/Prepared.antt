@@ -44,8 +44,3 @@ NameParts [] [] = Unit {0}
 NameParts [] (d ∷ parts) = ⊥
 NameParts (ref ∷ refs) [] = ⊥
 NameParts (ref ∷ refs) (d ∷ parts) = (ref.start ≡ d.start) × (ref.count ≡ d.count) × (ref.form ≡ d.form) × (ref.hash ≡ d.hash) × NameParts refs parts
-
--- the last octet of a text behind this octet
-abbrev pub last_of : ℕ → List ℕ → ℕ
-last_of before [] = before
-last_of before (c ∷ rest) = last_of c rest

@@ -107,8 +107,8 @@ fn says_what_is_wrong_in_order(rt: HostRuntime) -> Result<(), Fail> {
         ),
     ];
     for (body, whole, reference, text, error) in table {
-        let outcome = with_one(rt.alloc(), body, whole, reference, text);
-        assert!(rt; outcome.err() == Some(error), "{error}");
+        let answer = with_one(rt.alloc(), body, whole, reference, text).err();
+        assert!(rt; answer == Some(error), "{answer:?} in place of {error}");
     }
     Ok(())
 }

@@ -1,5 +1,5 @@
 -- A scan, message by message.
-use Rattle.std.specs.Prelude.{◌≡◌, ◌≤◌, ◌<◌, ◌+◌, ℕ, List, [], ◌∷◌, ◌++◌, length, drop, flat_map, refl, Err}
+use Rattle.std.specs.Prelude.{◌≡◌, ◌≤◌, ◌<◌, ◌+◌, ℕ, List, [], ◌∷◌, ◌++◌, length, drop, refl, Err}
 use Rattle.std.proofs.Common.{sym, ◌∙◌, ap, subst, append_assoc, append-nil, length-append, length-drop, arith}
 use Rattle.std.proofs.lemmas.List.{drop_all, drop_at, drop-drop}
 use Rattle.mdbox_base.specs.Places.{refusal_of}
@@ -7,27 +7,9 @@ use Rattle.mdbox_base.specs.declared.storage_file.MessageAt.{MessageAt}
 use Rattle.mdbox_base.specs.declared.storage_file.PlaceError.{PlaceError}
 use Rattle.mdbox_base.specs.declared.storage_file.PlaceError.TheVariants as at
 use Rattle.mail_model.specs.Grammars.{Begins}
-use Rattle.mail_model.specs.StorageFile.{line_text, Message, IsMessage, AreMessages, IsHeaderLine, place_at, places_from, StandsAt, PlaceGives, HasPlaces, StopsAt, IsRefused}
+use Rattle.mail_model.specs.ScanLaws.{message_length}
+use Rattle.mail_model.specs.StorageFile.{Message, IsMessage, AreMessages, IsHeaderLine, place_at, places_from, StandsAt, PlaceGives, HasPlaces, StopsAt, IsRefused}
 use Rattle.dbox_file.specs.HeaderFields.{HasHeaderLine}
-
--- the octets of a message, counted
-pub message_length : (octets : List ℕ) (m : Message) (offset : ℕ) → IsMessage octets m → offset + length octets ≡ (place_at offset m).end
-message_length octets m offset p =
-    let h = p.begins in
-    let k = p.ends in
-    omega (
-      arith,
-      ap length p.spelled,
-      length-append p.header (m.body ++ p.block),
-      length-append m.body p.block,
-      ap length h.spelled,
-      length-append h.filler (h.digits ++ 10 ∷ []),
-      length-append h.digits (10 ∷ []),
-      h.filler_length,
-      h.digits_length,
-      ap length k.spelled,
-      length-append (flat_map line_text m.lines) (10 ∷ []),
-    )
 
 messages_more : (front first : List ℕ) (ms : List Message) (m : Message) → AreMessages front ms → IsMessage first m → AreMessages (front ++ first) (ms ++ m ∷ [])
 messages_more front first [] m a p = (first, [], ap (λ (o : List ℕ). o ++ first) a ∙ sym (append-nil first), p, refl)

@@ -13,7 +13,7 @@ pub failed_still : (step : DiskState → DiskState) (h g : History) → ((image 
     → Unchanged (Some h) (Some g) → AfterFailed step (Some h) (Some g)
 failed_still step h g wider (inl is) =
     let e : g ≡ joined_by h.now h = let t : Some g ≡ Some (joined_by h.now h) = is in cc in
-    inl (record { state = h.now; is = e; at_most = wider; reads = λ name same. refl })
+    inl (record { state = h.now; is = e; at_least = λ image of. of; at_most = wider; reads = λ name same. refl })
 failed_still step h g wider (inr same) =
     let e : g ≡ h = let t : Some g ≡ Some h = same.0 in cc in
     inr (e, same.1)

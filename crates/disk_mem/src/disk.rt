@@ -47,6 +47,7 @@ impl MemDisk {
         ensures empty { IfOk result (λ disk. told disk ≡ begun []) }
         ensures unlisted { IfOk result IsUnlisted }
         ensures starved { IfOk result (λ disk. disk.starved ≡ 0) }
+        ensures faults { IfOk result (λ disk. faults_of disk ≡ record { reads = 0; changes = 0 }) }
     {
         MemDisk::resting(alloc, Vec::new(alloc))
     }
@@ -56,6 +57,7 @@ impl MemDisk {
         ensures told { IfOk result (λ disk. told disk ≡ begun base.items) }
         ensures unlisted { IfOk result IsUnlisted }
         ensures starved { IfOk result (λ disk. disk.starved ≡ 0) }
+        ensures faults { IfOk result (λ disk. faults_of disk ≡ record { reads = 0; changes = 0 }) }
     {
         let files = copy_of(alloc, &base)?;
         Ok(MemDisk {

@@ -194,7 +194,7 @@ pub fn copy_of(alloc: Global, files: &[File]) -> Result<Vec<File>, NoMemory>
 }
 
 impl MemDisk {
-    ghost use Rattle.disk_mem.specs.Mem.{calls_of, IsUnlisted};
+    ghost use Rattle.disk_mem.specs.Mem.{calls_of, faults_of, IsUnlisted};
     ghost use Rattle.disk_mem.specs.Images.{IsImageOf};
 
     /// How many calls have run. The number stands still at its type's end.
@@ -211,6 +211,7 @@ impl MemDisk {
         ensures image { IfOk result (IsImageOf self.now calls choice) }
         ensures unlisted { IfOk result IsUnlisted }
         ensures starved { IfOk result (λ disk. disk.starved ≡ 0) }
+        ensures faults { IfOk result (λ disk. faults_of disk ≡ record { reads = 0; changes = 0 }) }
     {
         let count = noted_by(&self.notes, calls);
         let left = left_files(alloc, &self.base, &self.notes[..count], choice)?;

@@ -69,6 +69,32 @@ fn each_call_once(rt: HostRuntime) -> Result<(), Fail> {
     Ok(())
 }
 
+/// Names come by kind, and then by their numbers or octets.
+#[test]
+fn names_in_order(rt: HostRuntime) -> Result<(), Fail> {
+    let names = [
+        FileName::Root,
+        FileName::Map(2),
+        FileName::Map(10),
+        FileName::Box(1, 3),
+        FileName::Box(2, 0),
+        FileName::Mail(1),
+        FileName::Inst([0; 20], [1; 16]),
+        FileName::Inst([1; 20], [0; 16]),
+    ];
+    let mut disk = MemDisk::fresh(rt.alloc())?;
+    for name in names.iter().rev() {
+        disk.make(*name)?;
+    }
+    let mut after = None;
+    for name in names {
+        assert_eq!(rt; disk.next_name(after), Ok(Some(name)));
+        after = Some(name);
+    }
+    assert_eq!(rt; disk.next_name(after), Ok(None));
+    Ok(())
+}
+
 /// What each choice leaves of a file that was synced, with its name, and then written over its end.
 #[test]
 fn what_a_stop_leaves(rt: HostRuntime) -> Result<(), Fail> {

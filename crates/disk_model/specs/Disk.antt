@@ -163,10 +163,12 @@ IsFull h = MatchOption h ⊤ (λ told. 2 ^ 64 ≤ calls told + 1)
 abbrev pub Unchanged : Option History → Option History → Type 0
 Unchanged old new = (new ≡ after (λ disk. disk) old) ⊎ ((new ≡ old) × IsFull old)
 
--- One more call, which failed. It adds at most the images of this state, and a file that it was not about reads as before.
+-- One more call, which failed. It takes no image away and adds at most those of this state, and a file that it was not about
+-- reads as before.
 pub record IsWithin (widest : DiskState) (old new : History) : Type 0 where
   pub state : DiskState
   pub is : new ≡ joined_by state old
+  pub at_least : (image : Files) → IsImage old.now image → IsImage state image
   pub at_most : (image : Files) → IsImage state image → IsImage widest image
   pub reads : (name : FileName) → widest name ≡ old.now name → reading (state name) ≡ reading (old.now name)
 

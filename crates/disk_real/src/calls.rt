@@ -6,9 +6,8 @@ ghost use Rattle.disk_real.specs.Counts.{faults_of};
 use crate::disk::{
     RealDisk, cut_in, length_of, make_in, open_at, read_all, remove_in, sync_in, write_in,
 };
-use crate::listing::{sorted_names, sync_all_folders, sync_inst_folder, sync_top_folders};
+use crate::listing::{sorted_names, sync_all_folders, sync_top_folders};
 use disk_model::{Disk, DiskError, FileName, order};
-use std::io;
 
 impl Disk for RealDisk {
     ghost history = { λ _. None };
@@ -92,7 +91,7 @@ impl Disk for RealDisk {
         if !self.is_locked() {
             return self.fail_change();
         }
-        self.loosen(name);
+        self.names = None;
         match make_in(&self.rt, name) {
             Ok(()) => Ok(()),
             Err(_) => self.fail_change(),
@@ -103,7 +102,7 @@ impl Disk for RealDisk {
         if !self.is_locked() {
             return self.fail_change();
         }
-        self.loosen(name);
+        self.names = None;
         match remove_in(&self.rt, name) {
             Ok(()) => Ok(()),
             Err(_) => self.fail_change(),
@@ -114,10 +113,14 @@ impl Disk for RealDisk {
         if !self.is_locked() {
             return self.fail_change();
         }
-        match sync_loose(&self.rt, self.is_all_loose, &self.folders) {
+        let synced = if self.is_all_loose {
+            sync_all_folders(&self.rt)
+        } else {
+            sync_top_folders(&self.rt)
+        };
+        match synced {
             Ok(()) => {
                 self.is_all_loose = false;
-                self.folders.clear();
                 Ok(())
             }
             Err(_) => self.fail_change(),
@@ -125,18 +128,6 @@ impl Disk for RealDisk {
     }
 
     ghost reads_image = { λ _. tt };
-}
-
-/// Syncs the folders in which names may have changed.
-fn sync_loose(rt: &HostRuntime, is_all_loose: bool, folders: &[(u8, u8)]) -> io::Result<()> {
-    if is_all_loose {
-        return sync_all_folders(rt);
-    }
-    sync_top_folders(rt)?;
-    for (first, second) in folders {
-        sync_inst_folder(rt, *first, *second)?;
-    }
-    Ok(())
 }
 
 /// The first of these names that is greater than one.

@@ -3,11 +3,18 @@ ghost use Rattle.std.specs.Prelude.{ℕ, ◌≡◌, ◌≤◌, ◌<◌, ◌^◌,
 ghost use Rattle.disk_model.specs.Disk.{Rose, ReadCause, ChangeCause};
 ghost use Rattle.disk_model.specs.declared.error.DiskError.TheVariants.{Failed};
 
+use crate::listing::sync_inst_folder;
 use crate::paths::{inst_folder, path_of};
 use disk_model::{DiskError, FileName};
-use std::fs::{File, OpenOptions};
+use std::fs::{DirBuilder, File, OpenOptions};
 use std::io::{ErrorKind, Read, Seek, SeekFrom, Write};
+use std::os::unix::fs::{DirBuilderExt, OpenOptionsExt};
 use std::{fs, io};
+
+/// Files that are made can be read and written by their owner alone, and so can their folders.
+const FILE_MODE: u32 = 0o600;
+
+const FOLDER_MODE: u32 = 0o700;
 
 /// The store's files in the current folder. Trusted: it tells no content, and no clause says what the system keeps.
 ///
@@ -20,9 +27,7 @@ pub struct RealDisk {
     pub(crate) lock: Option<File>,
     /// The names of the files that are there, in order, where they are known.
     pub(crate) names: Option<Vec<FileName>>,
-    /// The folders of instances whose names changed since the last sync of names, by the first two octets of their hashes.
-    pub(crate) folders: Vec<(u8, u8)>,
-    /// Whether names may have changed in any folder.
+    /// Whether names may have changed in any folder, as an earlier run may have left them.
     pub(crate) is_all_loose: bool,
     pub(crate) failed_reads: u64,
     pub(crate) failed_changes: u64,
@@ -33,12 +38,10 @@ impl RealDisk {
 
     /// The files of the current folder. Nothing is looked at until the first call.
     pub fn of(rt: HostRuntime) -> RealDisk {
-        let folders = Vec::new(rt.alloc());
         RealDisk {
             rt,
             lock: None,
             names: None,
-            folders,
             is_all_loose: true,
             failed_reads: 0,
             failed_changes: 0,
@@ -92,18 +95,6 @@ impl RealDisk {
             Err(_) => Err(self.fail_read()),
         }
     }
-
-    /// Notes that names may have changed in this file's folder.
-    pub(crate) fn loosen(&mut self, name: FileName)
-        ensures { faults_of self.new ≡ faults_of self.old }
-    {
-        self.names = None;
-        if let FileName::Inst(hash, _) = name {
-            if self.folders.push((hash[0], hash[1])).is_err() {
-                self.is_all_loose = true;
-            }
-        }
-    }
 }
 
 /// Locks the store. Another process's lock is an error.
@@ -111,6 +102,7 @@ fn lock_store(rt: &HostRuntime) -> io::Result<File> {
     let file = OpenOptions::new()
         .write(true)
         .create(true)
+        .mode(FILE_MODE)
         .open(rt, "mdbox.lock")?;
     match file.try_lock() {
         Ok(()) => Ok(file),
@@ -183,6 +175,7 @@ pub(crate) fn write_in(rt: &HostRuntime, name: FileName, offset: u64, from: &[u8
     file.write_all(from)
 }
 
+/// Makes a file, and its folder where it isn't there.
 pub(crate) fn make_in(rt: &HostRuntime, name: FileName) -> io::Result<()> {
     let path = path_of(rt.alloc(), name)?;
     make_folder(rt, name)?;
@@ -190,26 +183,44 @@ pub(crate) fn make_in(rt: &HostRuntime, name: FileName) -> io::Result<()> {
         .write(true)
         .create(true)
         .truncate(true)
+        .mode(FILE_MODE)
         .open(rt, path.as_str())?;
-    Ok(())
+    sync_inst(rt, name)
 }
 
 fn make_folder(rt: &HostRuntime, name: FileName) -> io::Result<()> {
     match name {
-        FileName::Root | FileName::Map(_) | FileName::Mail(_) => fs::create_dir_all(rt, "storage"),
-        FileName::Box(_, _) => fs::create_dir_all(rt, "mailboxes"),
+        FileName::Root | FileName::Map(_) | FileName::Mail(_) => make_folders(rt, "storage"),
+        FileName::Box(_, _) => make_folders(rt, "mailboxes"),
         FileName::Inst(hash, _) => {
             let path = inst_folder(rt.alloc(), hash[0], hash[1])?;
-            fs::create_dir_all(rt, path.as_str())
+            make_folders(rt, path.as_str())
         }
     }
 }
 
+fn make_folders(rt: &HostRuntime, path: &str) -> io::Result<()> {
+    DirBuilder::new()
+        .recursive(true)
+        .mode(FOLDER_MODE)
+        .create(rt, path)
+}
+
+/// Removes a file, where it is there.
 pub(crate) fn remove_in(rt: &HostRuntime, name: FileName) -> io::Result<()> {
     let path = path_of(rt.alloc(), name)?;
     match fs::remove_file(rt, path.as_str()) {
+        Ok(()) => sync_inst(rt, name),
         Err(error) if error.kind() == ErrorKind::NotFound => Ok(()),
-        answer => answer,
+        Err(error) => Err(error),
+    }
+}
+
+/// Syncs the names in an instance's folder, since a sync of names passes over these many folders.
+fn sync_inst(rt: &HostRuntime, name: FileName) -> io::Result<()> {
+    match name {
+        FileName::Inst(hash, _) => sync_inst_folder(rt, hash[0], hash[1]),
+        _ => Ok(()),
     }
 }
 

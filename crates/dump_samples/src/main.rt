@@ -3,6 +3,7 @@
 
 use anyhow::Result;
 use devices::Narrow;
+use disk_mem::MemDisk;
 use mdbox_base::{MemSink, MemSource, Octets, Seq, Sink, Source};
 use mdbox_top::{Status, mdbox_run};
 use std::alloc::Global;
@@ -131,7 +132,8 @@ fn dump(alloc: Global, file: Vec<u8>) -> Result<Dumped> {
 fn run<I: Source, O: Sink>(alloc: Global, input: &mut I, output: &mut O) -> Result<(u8, Octets)> {
     let words = vec![in alloc; String::from_str(alloc, "dump")?]?;
     let mut errors = MemSink::of(Octets::empty(alloc), Seq::empty(alloc));
-    let Status(status) = mdbox_run(alloc, words.as_slice(), input, output, &mut errors);
+    let disk = MemDisk::fresh(alloc)?;
+    let (Status(status), _) = mdbox_run(alloc, words.as_slice(), disk, input, output, &mut errors);
     let mut said = Octets::empty(alloc);
     said.push_all(errors.held().as_slice())?;
     Ok((status, said))

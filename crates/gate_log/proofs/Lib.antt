@@ -6,3 +6,4 @@ pub mod Making
 pub mod Opening
 pub mod Parting
 pub mod Passing
+pub mod Repairing

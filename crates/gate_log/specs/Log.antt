@@ -4,7 +4,7 @@ use Rattle.disk_model.specs.Disk.{FileState, DiskState, History, IfTold, IsImage
 use Rattle.disk_model.specs.declared.name.FileName.{FileName}
 use Rattle.mdbox_base.specs.declared.log_head.LogHead.{LogHead}
 use Rattle.mail_model.specs.LogFile.{HeadFits, EntryFits, log_front, Ends, IsLogFile}
-use Rattle.gate_log.specs.State.{LogState}
+use Rattle.gate_log.specs.State.{LogState, Found}
 
 -- the octets of a log at rest: its head, its entries, and a closed gate
 abbrev pub log_text : LogHead → List (List ℕ) → List ℕ
@@ -61,6 +61,12 @@ pub record OneRoseIf (failed : Type 0) (old new : Faults) : Type 0 where
   pub changes : old.changes ≤ new.changes
   pub rose : failed → Rose old.reads new.reads ⊎ Rose old.changes new.changes
 
+-- No failed change was counted. The count of failed reads never falls, and it rose where this holds.
+pub record ReadsRoseIf (failed : Type 0) (old new : Faults) : Type 0 where
+  pub reads : old.reads ≤ new.reads
+  pub changes : new.changes ≡ old.changes
+  pub rose : failed → Rose old.reads new.reads
+
 -- the file reads these octets in two parts, the first of this length
 pub record ReadsParts (size : ℕ) (front rest : List ℕ) (f : FileState) : Type 0 where
   pub reads : reading f ≡ Some (front ++ rest)
@@ -91,3 +97,15 @@ pub record IsStanding (name : FileName) (head : LogHead) (entries : List (List �
 pub record IsKept (name : FileName) (head : LogHead) (entries : List (List ℕ)) (end gate : ℕ) (behind : List ℕ) (disk : DiskState) : Type 0 where
   pub stands : IsStanding name head entries end gate behind disk
   pub keeps : Keeps (disk name) (log_front head entries ++ gate ∷ behind)
+
+-- the file stands as it was found, with these entries
+pub record IsFound (found : Found) (entries : List (List ℕ)) (disk : DiskState) : Type 0 where
+  pub rest : List ℕ
+  pub behind : found.behind ≡ length rest
+  pub stands : IsStanding found.name found.head entries found.end found.gate rest disk
+
+-- and a stop leaves it so
+pub record IsFoundKept (found : Found) (entries : List (List ℕ)) (disk : DiskState) : Type 0 where
+  pub rest : List ℕ
+  pub behind : found.behind ≡ length rest
+  pub kept : IsKept found.name found.head entries found.end found.gate rest disk

@@ -10,6 +10,19 @@ pub record LogState : Type 0 where
   pub end : ℕ
   pub room : ℕ
 
+-- What a caller sees of a log that was looked at: its file's name, its head, where its last gate stands, that gate's
+-- value, and how many octets stand behind it.
+pub record Found : Type 0 where
+  pub name : FileName
+  pub head : LogHead
+  pub end : ℕ
+  pub gate : ℕ
+  pub behind : ℕ
+
+-- the last gate is closed, and nothing stands behind it
+abbrev pub IsWhole : Found → Type 0
+IsWhole found = (found.gate ≡ 0) × (found.behind ≡ 0)
+
 -- the same log, with as much room
 pub record IsSameLog (old new : LogState) : Type 0 where
   pub name : new.name ≡ old.name

@@ -1,7 +1,7 @@
 // A file read whole, and one octet of it written.
 ghost use Rattle.std.specs.Prelude.{◌≡◌, ◌++◌, ◌∷◌, ℕ, List, Some, OnOk, IfOk, IfErr, IsErr, IsErrOf};
 ghost use Rattle.disk_model.specs.Disk.{EachImage, OthersStay, SameButFor, FaultsRoseIf, IfTold, Keeps, reading};
-ghost use Rattle.gate_log.specs.Log.{Idle, OneRoseIf, ReadsParts, KeepsParts, IsOneBetween};
+ghost use Rattle.gate_log.specs.Log.{Idle, ReadsRoseIf, ReadsParts, KeepsParts, IsOneBetween};
 ghost use Rattle.gate_log.specs.Reading.{IsFileError};
 
 use crate::error::{DiskFault, LogError};
@@ -13,7 +13,7 @@ pub fn read_file<D: Disk>(alloc: Global, disk: &mut D, name: FileName) -> Result
     ensures octets { IfOk result (λ octets. IfTold (D.history disk.old) (λ now. reading (now name) ≡ Some octets.items)) }
     ensures idle { Idle (D.history disk.old) (D.history disk.new) }
     ensures refused { IfErr result (λ error. IsFileError name (D.history disk.old) error) }
-    ensures fault { OneRoseIf (IsErrOf result LogError.DiskFault) (D.faults disk.old) (D.faults disk.new) }
+    ensures fault { ReadsRoseIf (IsErrOf result LogError.DiskFault) (D.faults disk.old) (D.faults disk.new) }
 {
     let length = disk.length(name)? as usize;
     let mut octets = vec![in alloc; 0; length]?;

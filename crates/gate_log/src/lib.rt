@@ -2,11 +2,13 @@
 #![tactic(auto)]
 
 pub use error::{DiskFault, LogError};
+pub use found::{FoundLog, inspect_log};
 pub use log::{GateLog, create_log, open_log};
 pub use read::{LogRead, read_log};
 
 mod device;
 mod error;
+mod found;
 mod gate;
 mod head;
 mod log;

@@ -1,18 +1,17 @@
 // Logs on a disk.
-ghost use Rattle.std.specs.Prelude.{◌≡◌, ◌≢◌, Some, IsErrOf, ◌+◌, ◌<◌, ◌≤◌, ◌^◌, ◌++◌, ◌∷◌, [], ℕ, List, length, take, OnOk, OnErr, IfOk, IfErr, IsErr};
+ghost use Rattle.std.specs.Prelude.{◌≡◌, ◌≢◌, Some, IsErrOf, ◌+◌, ◌-◌, ◌<◌, ◌≤◌, ◌^◌, ◌++◌, ◌∷◌, [], ℕ, List, length, take, OnOk, OnErr, IfOk, IfErr, IsErr};
 ghost use Rattle.disk_model.specs.Disk.{EachImage, OthersStay, SameButFor, FaultsRoseIf, IfTold, Keeps, reading};
 ghost use Rattle.mail_model.specs.LogFile.{record_octets, IsLog, IsLogFile};
 ghost use Rattle.gate_log.specs.State.{LogState, IsSameLog};
 ghost use Rattle.gate_log.specs.Log.{Reads, Holds, IsLogWithOrWithout, IsNoLonger, NamedButFor, Idle, OneRoseIf};
 ghost use Rattle.gate_log.specs.Reading.{IsReading, IsOpenError};
 
-use crate::device::read_file;
 use crate::error::{DiskFault, LogError};
+use crate::found::inspect_log;
 use crate::gate::{CLOSED, OPEN};
 use crate::head::{HEAD_SIZE, first_text};
 use crate::make::make_file;
-use crate::read::{LogRead, read_log_of};
-use crate::repair::repair;
+use crate::read::LogRead;
 use disk_model::{Disk, FileName};
 use mdbox_base::{LogHead, NoMemory};
 use std::alloc::Global;
@@ -43,6 +42,19 @@ impl Model for GateLog {
 }
 
 impl GateLog {
+    /// The log whose last gate, closed, stands there with nothing behind it.
+    pub(crate) fn at_rest(alloc: Global, name: FileName, head: LogHead, end: u64) -> GateLog
+        requires { end < 2 ^ 64 - 1 }
+        ensures { result ≡ record { name = name; head = head; end = end; room = 0 } }
+    {
+        GateLog {
+            name,
+            head,
+            end,
+            buffer: Vec::new(alloc),
+        }
+    }
+
     /// How many octets of an entry, and 5 for each entry, the log can add without memory.
     pub fn room(&self) -> usize
         ensures { result ≡ self.now.room }
@@ -114,12 +126,7 @@ pub fn create_log<D: Disk>(
     ensures fault { FaultsRoseIf (IsErr result) (D.faults disk.old) (D.faults disk.new) }
 {
     make_file(disk, name, &first_text(head))?;
-    Ok(GateLog {
-        name,
-        head,
-        end: HEAD_SIZE as u64,
-        buffer: Vec::new(alloc),
-    })
+    Ok(GateLog::at_rest(alloc, name, head, HEAD_SIZE as u64))
 }
 
 /// Opens the log that has this head, and reads its entries. What stands behind its last gate is cut off, and that gate is
@@ -148,22 +155,8 @@ pub fn open_log<D: Disk>(
     ensures idle { IfErr result (λ error. error ≢ LogError.DiskFault → Idle (D.history disk.old) (D.history disk.new)) }
     ensures fault { OneRoseIf (IsErrOf result LogError.DiskFault) (D.faults disk.old) (D.faults disk.new) }
 {
-    let octets = read_file(alloc, disk, name)?;
-    let read = read_log_of(alloc, &octets, head)?;
-    let end = read.end as usize;
-    repair(
-        disk,
-        name,
-        read.end,
-        octets[end],
-        (octets.len() - end - 1) as u64,
-    )?;
-    let log = GateLog {
-        name,
-        head,
-        end: read.end,
-        buffer: Vec::new(alloc),
-    };
+    let (found, read) = inspect_log(alloc, disk, name, head)?;
+    let log = found.repair(alloc, disk)?;
     Ok((log, read))
 }
 

@@ -1,5 +1,5 @@
 // The end of a log that was found.
-ghost use Rattle.std.specs.Prelude.{◌≡◌, ◌-◌, ◌<◌, ◌^◌, ℕ, List, [], length, Some, OnOk, IsErr};
+ghost use Rattle.std.specs.Prelude.{◌≡◌, ◌-◌, ◌<◌, ◌^◌, ℕ, List, [], length, Some, OnOk, IsOk, IsErr};
 ghost use Rattle.disk_model.specs.Disk.{EachImage, OthersStay, SameButFor, FaultsRoseIf, IfTold, Keeps, reading};
 ghost use Rattle.mdbox_base.specs.declared.log_head.LogHead.{LogHead};
 ghost use Rattle.mail_model.specs.LogFile.{IsLogFile};
@@ -31,6 +31,7 @@ pub fn repair<D: Disk>(
     ensures keeps { OnOk result ((head : LogHead) (entries : List (List ℕ)) (rest : List ℕ) → behind ≡ length rest → IfTold (D.history disk.old) (IsKept name head entries end gate rest)
         → IfTold (D.history disk.new) (λ now. Keeps (now name) (log_text head entries))) }
     ensures others { OnOk result (SameButFor name (D.history disk.old) (D.history disk.new)) }
+    ensures untouched { gate ≡ 0 → behind ≡ 0 → IsOk result × (disk.new ≡ disk.old) }
     ensures fault { FaultsRoseIf (IsErr result) (D.faults disk.old) (D.faults disk.new) }
 {
     if behind == 0 {
@@ -51,6 +52,7 @@ fn close_gate<D: Disk>(disk: &mut D, name: FileName, end: u64, gate: u8) -> Resu
     ensures keeps { OnOk result ((head : LogHead) (entries : List (List ℕ)) → IfTold (D.history disk.old) (IsKept name head entries end gate [])
         → IfTold (D.history disk.new) (λ now. Keeps (now name) (log_text head entries))) }
     ensures others { OnOk result (SameButFor name (D.history disk.old) (D.history disk.new)) }
+    ensures untouched { gate ≡ 0 → IsOk result × (disk.new ≡ disk.old) }
     ensures fault { FaultsRoseIf (IsErr result) (D.faults disk.old) (D.faults disk.new) }
 {
     if gate == CLOSED {

@@ -1,9 +1,15 @@
+pub mod AnswerLaws
 pub mod AppliedLaws
+pub mod BadBoxLaws
+pub mod BadLogLaws
 pub mod Base64Laws
 pub mod Base64Text
 pub mod BoxLaws
 pub mod BoxMeaning
 pub mod BoxSoundLaws
+pub mod Carrying
+pub mod CarryingLaws
+pub mod ClassicalLaws
 pub mod Detached
 pub mod DetachedLaws
 pub mod DumpText
@@ -15,7 +21,9 @@ pub mod FitExamples
 pub mod FitLaws
 pub mod Grammars
 pub mod HexTextLaws
+pub mod HighestLaws
 pub mod Lines
+pub mod Listing
 pub mod Lists
 pub mod LogDumpText
 pub mod LogExamples
@@ -25,6 +33,7 @@ pub mod LogHeadLaws
 pub mod LogRecordLaws
 pub mod Machine
 pub mod MachineLaws
+pub mod MachineOrderLaws
 pub mod MapEntryLaws
 pub mod MapFits
 pub mod MapLaws
@@ -35,12 +44,18 @@ pub mod MeaningExamples
 pub mod Metadata
 pub mod MetadataExamples
 pub mod MetadataLaws
+pub mod NewStoreLaws
 pub mod NumberLaws
+pub mod Opening
+pub mod OpeningLaws
+pub mod OpeningSafeLaws
 pub mod PairLaws
 pub mod Parts
 pub mod PartsExamples
 pub mod PartsLaws
+pub mod Paths
 pub mod Pieces
+pub mod ReadLogLaws
 pub mod ReferenceLaws
 pub mod References
 pub mod Rejoined
@@ -51,6 +66,7 @@ pub mod Safe
 pub mod SafeLaws
 pub mod ScanLaws
 pub mod SealedLaws
+pub mod SearchLaws
 pub mod Settled
 pub mod SettledLaws
 pub mod Sound
@@ -61,4 +77,6 @@ pub mod StoreExample
 pub mod StoreExampleLaws
 pub mod VirtualSize
 pub mod WellFormedLaws
+pub mod WrittenFile
+pub mod WrittenFileLaws
 pub mod WrittenLaws

@@ -1,6 +1,7 @@
 -- Mailbox lists: what a user sees of a store.
 use Rattle.std.specs.Prelude.{◌≡◌, ◌≢◌, ◌<◌, ◌≤◌, ◌^◌, ℕ, List, length, All, AllPairs, sum_by, count_by}
 use Rattle.std.specs.Str.{bytes_eq}
+use Rattle.mdbox_base.specs.Words.{IsName}
 
 -- A listed message: its UID, its flags, the time it was received (Unix seconds), its GUID and its octets.
 pub record ListedMessage : Type 0 where
@@ -31,8 +32,14 @@ pub record IsMessageInRange (message : ListedMessage) : Type 0 where
   pub guid : length message.guid ≡ 16
   pub size : length message.octets ≤ 67108864
 
--- UIDs rise within the mailbox, and lie below its next UID (RFC 9051, section 2.3.1.1).
+-- UIDs rise within the mailbox, and lie below its next UID (RFC 9051, section 2.3.1.1), which is from 1 to
+-- 4,294,967,295. The mailbox has a name, and a number from 1 to 4,294,967,294.
 pub record IsMailboxInOrder (mailbox : Mailbox) : Type 0 where
+  pub number_some : 1 ≤ mailbox.number
+  pub number_fits : mailbox.number ≤ 4294967294
+  pub name : IsName mailbox.name
+  pub next_some : 1 ≤ mailbox.next_uid
+  pub next_fits : mailbox.next_uid ≤ 4294967295
   pub rising : AllPairs (λ a b. a.uid < b.uid) mailbox.messages
   pub below : All (λ m. m.uid < mailbox.next_uid) mailbox.messages
   pub in_range : All IsMessageInRange mailbox.messages

@@ -1,28 +1,24 @@
 -- Laws of logs: octets are one log at most, or damaged at one place.
-use Rattle.std.specs.Prelude.{◌≡◌, ◌<◌, ◌≤◌, ◌^◌, ◌+◌, ℕ, List, [], ◌∷◌, ◌++◌, length, take, drop, All, refl, Option, codes}
-use Rattle.std.specs.Int.{w32, to_be_bytes, from_be_bytes}
+use Rattle.std.specs.Prelude.{◌≡◌, ◌<◌, ◌≤◌, ◌+◌, ℕ, List, [], ◌∷◌, ◌++◌, length, take, drop, All, refl, Option, codes}
+use Rattle.std.specs.Int.{w32, to_be_bytes}
 use Rattle.std.proofs.Common.{inl, inr, subst, sym, ◌∙◌, ap, append_assoc, append-nil, arith, length-append}
 use Rattle.std.proofs.lemmas.List.{take-append-le, take-append-drop, take-take, length-take-le}
 use Rattle.std.proofs.Math.Seq.{drop-append_seam}
 use Rattle.std.proofs.lemmas.Bool.{cases_order}
-use Rattle.std.proofs.lemmas.Nat.{from_be_bytes-to_be_bytes_4}
 use Rattle.std.proofs.lemmas.List.Elements.{All-head, All-tail}
 use Rattle.mdbox_base.specs.declared.log_head.LogHead.{LogHead}
 use Rattle.mdbox_base.specs.declared.log_head.LogKind.{LogKind}
 use Rattle.mdbox_base.specs.declared.log_head.LogKind.TheVariants.{Root, Map, Box}
 use Rattle.mail_model.specs.Pieces.{split_same}
+use Rattle.mail_model.specs.NumberLaws.{four_same}
 use Rattle.mail_model.specs.LogFile.{kind_letter, HeadFits, head_octets, record_octets, EntryFits, opened, log_front, end_from, log_end, places_from, Ends, IsLog, IsTaken, BeginsHead, IsHeadDamaged, BeginsRecord, IsRecordDamaged, IsDamagedAt}
-
--- a number below 2 ^ 32 has one spelling
-pub number_same : (m n : ℕ) → m < 2 ^ 32 → n < 2 ^ 32 → to_be_bytes w32 m ≡ to_be_bytes w32 n → m ≡ n
-number_same m n hm hn e = sym (from_be_bytes-to_be_bytes_4 m hm) ∙ ap (from_be_bytes w32) e ∙ from_be_bytes-to_be_bytes_4 n hn
 
 -- a record begins no other
 pub record_same : (a b x y : List ℕ) → EntryFits a → EntryFits b → record_octets a ++ x ≡ record_octets b ++ y → (a ≡ b) × (x ≡ y)
 record_same a b x y fa fb e =
     let f : to_be_bytes w32 (length a) ++ (a ++ x) ≡ to_be_bytes w32 (length b) ++ (b ++ y) = sym (append_assoc (to_be_bytes w32 (length a)) a x) ∙ e ∙ append_assoc (to_be_bytes w32 (length b)) b y in
     let r : (to_be_bytes w32 (length a) ≡ to_be_bytes w32 (length b)) × (a ++ x ≡ b ++ y) = split_same (to_be_bytes w32 (length a)) (to_be_bytes w32 (length b)) _ _ refl f in
-    split_same a b x y (number_same (length a) (length b) fa.short fb.short r.0) r.1
+    split_same a b x y (four_same (length a) (length b) fa.short fb.short r.0) r.1
 
 pub kind_same : (k l : LogKind) → kind_letter k ≡ kind_letter l → k ≡ l
 kind_same Root Root e = refl
@@ -44,7 +40,7 @@ numbers_same h k x y fh fk e =
     let r : (to_be_bytes w32 h.number ≡ to_be_bytes w32 k.number) × (to_be_bytes w32 h.generation ++ x ≡ to_be_bytes w32 k.generation ++ y) =
     split_same (to_be_bytes w32 h.number) (to_be_bytes w32 k.number) (to_be_bytes w32 h.generation ++ x) (to_be_bytes w32 k.generation ++ y) refl e in
     let t : (to_be_bytes w32 h.generation ≡ to_be_bytes w32 k.generation) × (x ≡ y) = split_same (to_be_bytes w32 h.generation) (to_be_bytes w32 k.generation) x y refl r.1 in
-    (number_same h.number k.number fh.number fk.number r.0, number_same h.generation k.generation fh.generation fk.generation t.0, t.1)
+    (four_same h.number k.number fh.number fk.number r.0, four_same h.generation k.generation fh.generation fk.generation t.0, t.1)
 
 kind_split : (h k : LogHead) (a b : List ℕ) → kind_letter h.kind ∷ a ≡ kind_letter k.kind ∷ b → (h.kind ≡ k.kind) × (a ≡ b)
 kind_split h k a b e = (kind_same h.kind k.kind (cc), cc)

@@ -1,10 +1,10 @@
 -- The list machine: which answers a store may give. Mailbox lists are changed one step at a time; a move is a copy and
 -- then an expunge (after RFC 6851, but with two steps that others see).
-use Rattle.std.specs.Prelude.{◌≡◌, ◌≤◌, ◌<◌, ◌+◌, ◌==◌, ℕ, nat_le, Bool, true, false, List, [], ◌∷◌, ◌++◌, length, map, find, sum_by, if◌then◌else◌, Option, Some, None, option_and_then, is_none, is_some, All, ◌≢◌}
+use Rattle.std.specs.Prelude.{◌≡◌, ◌≤◌, ◌<◌, ◌+◌, ◌^◌, ◌==◌, ℕ, nat_le, Bool, true, false, List, [], ◌∷◌, ◌++◌, length, map, find, sum_by, if◌then◌else◌, Option, Some, None, option_and_then, is_none, is_some, All, ◌≢◌}
 use Rattle.std.specs.List.{list_any}
 use Rattle.std.specs.Option.{option_map_or, option_or}
 use Rattle.std.specs.Str.{bytes_eq}
-use Rattle.mdbox_base.specs.Words.{IsOctets}
+use Rattle.mdbox_base.specs.Words.{IsName, IsOctets}
 use Rattle.mdbox_base.specs.declared.entries.Highest.{Highest}
 use Rattle.mdbox_base.specs.declared.requests.Request.{Request}
 use Rattle.mdbox_base.specs.declared.requests.Request.TheVariants as request
@@ -24,7 +24,8 @@ pub record Run : Type 0 where
   pub given : List (List ℕ)
 
 -- An event of a request at which it is answered or refused. Most requests have one; `Last` is the event at which a
--- delivery, a copy or the first half of a move adds its message, or a make its mailbox.
+-- delivery, a copy or the first half of a move adds its message, or a make its mailbox. Whether an instance is placed, a
+-- new file is made, and what UID the copy of a move got, isn't seen in lists: who cites a step says it of the event.
 pub data Event : Type 0 where
   First : Event
   PlacesInstance : Event
@@ -201,11 +202,12 @@ pub record IsDelivered (run : Run) (old : Lists) (name : List ℕ) (time : ℕ) 
   pub guid_new : All (λ other. other ≢ guid) run.given
   pub new_is : new ≡ add_message name (record { uid = given; flags = 0; time = time; guid = guid; octets = octets }) old
 
--- A make: an empty mailbox is last, with a number above all others.
-pub record IsMade (old : Lists) (name : List ℕ) (new : Lists) : Type 0 where
+-- A make: an empty mailbox is last, with a number that was drawn: above all others and above the highest of the map.
+pub record IsMade (run : Run) (old : Lists) (name : List ℕ) (new : Lists) : Type 0 where
   pub number : ℕ
   pub above : All (λ mailbox. mailbox.number < number) old
-  pub some : 1 ≤ number
+  pub fresh : run.map.highest.mailbox < number
+  pub drawn : number ≤ run.drawn.mailbox
   pub fits : number ≤ 4294967294
   pub new_is : new ≡ old ++ empty_mailbox number name ∷ []
 
@@ -228,7 +230,7 @@ Does run old (request.List name) First (reply.Listed rows) new =
 Does run old (request.Fetch name uid) First (reply.Fetched octets) new =
     (message : ListedMessage) × (message_at name uid.0 old ≡ Some message) × (octets ≡ message.octets) × (new ≡ old)
 Does run old (request.Flag name uid flags) First reply.Done new = new ≡ set_flags name uid.0 flags old
-Does run old (request.Make name) Last reply.Done new = IsMade old name new
+Does run old (request.Make name) Last reply.Done new = IsMade run old name new
 Does run old (request.Deliver name time octets) Last (reply.Saved uid guid) new = IsDelivered run old name time octets uid.0 guid.0 new
 Does run old (request.Copy name uid target) Last (reply.Copied given) new = IsCopied old name uid.0 target given.0 new
 Does run old (request.Move name uid target) Last (reply.Copied given) new = IsCopied old name uid.0 target given.0 new
@@ -251,6 +253,16 @@ is_step refusal.ReadFault = false
 is_step refusal.Stopped = false
 is_step (refusal.Damaged file offset) = false
 is_step refusal = true
+
+-- ---- requests
+
+-- A request that can be asked: the name of a new mailbox is one, flags are bits below 32, a delivery's time has 64 bits
+-- and its message at most 67,108,864 octets.
+abbrev pub RequestInRange : Request → Type 0
+RequestInRange (request.Make name) = IsName name
+RequestInRange (request.Flag name uid flags) = flags ≤ 31
+RequestInRange (request.Deliver name time octets) = (time < 2 ^ 64) × (length octets ≤ 67108864)
+RequestInRange request = Unit {0}
 
 -- ---- references
 

@@ -48,7 +48,7 @@ refs_in guid mailbox = sum_by (of_guid guid) mailbox.messages
 some_or_none : {X : Type 0} → (o : Option X) (x : X) → o ≡ Some x → o ≡ None → ⊥
 some_or_none o x p q = let h : Some x ≡ None = sym p ∙ q in cc h
 
-some_one : {X : Type 0} → (o : Option X) (x y : X) → o ≡ Some x → o ≡ Some y → x ≡ y
+pub some_one : {X : Type 0} → (o : Option X) (x y : X) → o ≡ Some x → o ≡ Some y → x ≡ y
 some_one o x y p q = let h : Some x ≡ Some y = sym p ∙ q in cc h
 
 -- flags are no matter
@@ -95,8 +95,8 @@ delivered_refs run old new name time octets given own guid d =
     let n = ap (λ (lists : Lists). refs_of lists guid) d.new_is in
     omega (arith, k, n)
 
-made_refs : (old new : Lists) (name guid : List ℕ) → IsMade old name new → refs_of new guid + 0 ≡ refs_of old guid + 0
-made_refs old new name guid m =
+made_refs : (run : Run) (old new : Lists) (name guid : List ℕ) → IsMade run old name new → refs_of new guid + 0 ≡ refs_of old guid + 0
+made_refs run old new name guid m =
     let k = sum_by-append (refs_in guid) old (empty_mailbox m.number name ∷ []) in
     let n = ap (λ (lists : Lists). refs_of lists guid) m.new_is in
     omega (arith, k, n)
@@ -123,7 +123,7 @@ does_refs run old (request.List name) First (reply.Listed rows) new guid d = sam
 does_refs run old (request.Fetch name uid) First (reply.Fetched octets) new guid d = same_lists old new guid d.3
 does_refs run old (request.Flag name uid flags) First reply.Done new guid d =
     let k = refs_flagged old name uid.0 flags guid in let n = ap (λ (lists : Lists). refs_of lists guid) d in omega (arith, k, n)
-does_refs run old (request.Make name) Last reply.Done new guid d = made_refs old new name guid d
+does_refs run old (request.Make name) Last reply.Done new guid d = made_refs run old new name guid d
 does_refs run old (request.Deliver name time octets) Last (reply.Saved uid own) new guid d = delivered_refs run old new name time octets uid.0 own.0 guid d
 does_refs run old (request.Copy name uid target) Last (reply.Copied given) new guid d = copied_refs old new name uid.0 target given.0 guid d
 does_refs run old (request.Move name uid target) Last (reply.Copied given) new guid d = copied_refs old new name uid.0 target given.0 guid d

@@ -1,16 +1,19 @@
 -- What an entry of the map log leaves of the records, and where it moves them.
-use Rattle.std.specs.Prelude.{◌≡◌, ◌≢◌, ◌<◌, ◌≤◌, ◌+◌, ◌-◌, ◌==◌, ℕ, Bool, true, false, List, [], ◌∷◌, length, Option, Some, None, All, AllPairs, slice_index_or, refl, if◌then◌else◌, ◌⊎◌}
+use Rattle.std.specs.Prelude.{◌≡◌, ◌≢◌, ◌<◌, ◌≤◌, ◌+◌, ◌-◌, ◌==◌, ℕ, Bool, true, false, List, [], ◌∷◌, length, find, Option, Some, None, All, AllPairs, slice_index_or, refl, if◌then◌else◌, ◌⊎◌}
 use Rattle.std.specs.Option.{option_map_or}
 use Rattle.std.proofs.Common.{◌∙◌, ap, arith, inl, inr, subst, sym}
 use Rattle.std.proofs.lemmas.Grind.{common_steps}
-use Rattle.std.proofs.lemmas.List.Elements.{All-weaker, All-map, All-filter}
+use Rattle.std.proofs.lemmas.List.Elements.{All-map, All-filter}
 use Rattle.mdbox_base.specs.declared.entries.InstRow.{InstRow}
+use Rattle.mdbox_base.specs.declared.entries.MapCount.{MapCount}
 use Rattle.mdbox_base.specs.declared.entries.MapPlace.{MapPlace}
+use Rattle.mdbox_base.specs.declared.ids.MapUid.{MapUid}
 use Rattle.mdbox_base.specs.declared.entries.MapEntry.{MapEntry}
 use Rattle.mdbox_base.specs.declared.entries.MapEntry.TheVariants as map
-use Rattle.mail_model.specs.MapMeaning.{MapRecord, MapMeaning, record_changed, record_rules, placed, place_given, has_uid, record_at}
-use Rattle.mail_model.specs.MapFits.{AgreesOn, ArePlacedApart, FitsPlace, FitsTarget, IsApart, IsNumber, size_at}
-use Rattle.mail_model.specs.PairLaws.{IsOnly, PassesOne, found_holds, found_only, found_two, kept_pairs, kept_rows}
+use Rattle.mail_model.specs.MapMeaning.{MapRecord, MapMeaning, record_changed, record_rules, placed, place_given, count_given, has_uid, record_at}
+use Rattle.mail_model.specs.Entries.{RowInRange}
+use Rattle.mail_model.specs.MapFits.{AgreesOn, ArePlacedApart, FitsPlace, FitsTarget, HasRecord, IsApart, IsNumber, size_at}
+use Rattle.mail_model.specs.PairLaws.{PassesOne, found_among, found_holds, found_only, found_two, kept_pairs, kept_rows}
 use Rattle.mail_model.specs.Sound.{AreApart, IsSoundRecord, AgreeOnInstances, IsSoundMap}
 
 -- numbers that a test finds equal
@@ -52,35 +55,38 @@ changed_same (map.T cs) row = record { uid = refl; origin = refl; size = refl; g
 changed_same (map.P f t ms us) row = placed_same row t (place_given row.uid ms)
 changed_same (map.E f) row = is_itself row
 
--- a region's place is in range
-pub record IsPlaced (row : MapRecord) : Type 0 where
+-- a region's place, up to this file, and the count of its record are in range
+pub record IsPlaced (most : ℕ) (row : MapRecord) : Type 0 where
   pub file : IsNumber row.file
+  pub file_below : row.file ≤ most
   pub ends : row.offset + row.size ≤ 4294967295
+  pub count : row.count ≤ 65535
 
-pub counted_place : (hit : Bool) (n : ℕ) (row : MapRecord) → IsPlaced row → IsPlaced (if hit then record row { count = n } else row)
-counted_place true n row p = record { file = p.file; ends = p.ends }
-counted_place false n row p = p
+pub with_count : (most n : ℕ) (row : MapRecord) → n ≤ 65535 → IsPlaced most row → IsPlaced most (record row { count = n })
+with_count most n row le p = record { file = p.file; file_below = p.file_below; ends = p.ends; count = le }
 
-place_of : (highest : ℕ) (row : MapRecord) → IsSoundRecord highest row → IsPlaced row
-place_of highest row r = record { file = r.file; ends = r.ends }
+pub counted_place : (most : ℕ) (hit : Bool) (n : ℕ) (row : MapRecord) → (hit ≡ true → n ≤ 65535) → IsPlaced most row → IsPlaced most (if hit then record row { count = n } else row)
+counted_place most true n row le p = with_count most n row (le refl) p
+counted_place most false n row le p = p
 
-sound_again : (low high : ℕ) (a b : MapRecord) → low ≤ high → IsSoundRecord low a → IsSameMessage a b → IsPlaced b → IsSoundRecord high b
-sound_again low high a b le s same p =
+sound_again : (low high most : ℕ) (a b : MapRecord) → low ≤ high → IsSoundRecord low a → IsSameMessage a b → IsPlaced most b → IsSoundRecord high b
+sound_again low high most a b le s same p =
     let uid = same.uid in
     let origin = same.origin in
     let size = same.size in
-    let h1 = s.uid_some in
     let h2 = s.below in
     let h3 = s.origin in
     let h4 = s.size in
     record {
-      uid_some = omega (arith, uid, h1);
+      uid = subst IsNumber (sym uid) s.uid;
       below = omega (arith, uid, h2, le);
       origin = omega (arith, origin, h3);
+      count = p.count;
       file = p.file;
       size = omega (arith, size, h4);
       ends = p.ends;
       guid = ap length same.guid ∙ s.guid;
+      instances = subst (λ (is : List InstRow). All RowInRange is) (sym same.instances) s.instances;
       agree = subst (λ (is : List InstRow). AllPairs AgreesOn is) (sym same.instances) s.agree;
     }
 
@@ -110,10 +116,13 @@ kept_agree m entry s = kept_pairs record_rules entry m.records AgreeOnInstances 
 kept_from : (m : MapMeaning) (entry : MapEntry) (Q : MapRecord → Type 0) → All (λ row. Q (record_changed entry row)) m.records → All Q (kept_rows record_rules entry m.records)
 kept_from m entry Q h = All-map Q (record_changed entry) _ (All-filter _ (λ row. Q (record_changed entry row)) m.records h)
 
--- where places stay in range, the records that an entry keeps are sound
-pub kept_sound : (m : MapMeaning) (entry : MapEntry) (high : ℕ) → m.highest.map ≤ high → IsSoundMap m → All (λ row. IsPlaced (record_changed entry row)) m.records → All (IsSoundRecord high) (kept_rows record_rules entry m.records)
-kept_sound m entry high le s p =
-    kept_from m entry (IsSoundRecord high) (λ k d lt. sound_again m.highest.map high _ _ le (s.records k d lt) (changed_same entry (slice_index_or m.records k d)) (p k d lt))
+-- where places and counts stay in range, the records that an entry keeps are sound
+pub kept_sound : (m : MapMeaning) (entry : MapEntry) (high most : ℕ) → m.highest.map ≤ high → IsSoundMap m → All (λ row. IsPlaced most (record_changed entry row)) m.records → All (IsSoundRecord high) (kept_rows record_rules entry m.records)
+kept_sound m entry high most le s p =
+    kept_from m entry (IsSoundRecord high) (λ k d lt. sound_again m.highest.map high most _ _ le (s.records k d lt) (changed_same entry (slice_index_or m.records k d)) (p k d lt))
+
+pub kept_files : (m : MapMeaning) (entry : MapEntry) (most : ℕ) → All (λ row. IsPlaced most (record_changed entry row)) m.records → All (λ row. row.file ≤ most) (kept_rows record_rules entry m.records)
+kept_files m entry most p = kept_from m entry (λ row. row.file ≤ most) (λ k d lt. (p k d lt).file_below)
 
 -- ---- regions apart
 
@@ -148,34 +157,73 @@ kept_apart m entry same s = kept_pairs record_rules entry m.records AreApart (λ
 
 -- ---- places
 
-pub all_places : (m : MapMeaning) → IsSoundMap m → All IsPlaced m.records
-all_places m s = All-weaker (IsSoundRecord m.highest.map) IsPlaced (place_of m.highest.map) m.records s.records
+pub all_places : (m : MapMeaning) (most : ℕ) → m.highest.file ≤ most → IsSoundMap m → All (IsPlaced most) m.records
+all_places m most le s = λ k d lt.
+    let file = s.files k d lt in
+    record { file = (s.records k d lt).file; file_below = omega (arith, file, le); ends = (s.records k d lt).ends; count = (s.records k d lt).count }
 
-moved_place : (m : MapMeaning) (target : ℕ) (row : MapRecord) (place : MapPlace) → IsNumber target → FitsPlace m target place → IsOnly (λ r. r.uid == place.uid.0) row row → ((r : MapRecord) → record_at m place.uid.0 ≡ Some r → row ≡ r) → IsPlaced (placed row target (Some place))
-moved_place m target row place n f only is =
+moved_place : (m : MapMeaning) (target most : ℕ) (row : MapRecord) (place : MapPlace) → IsNumber target → target ≤ most → FitsPlace m target place → IsPlaced most row → ((r : MapRecord) → record_at m place.uid.0 ≡ Some r → row ≡ r) → IsPlaced most (placed row target (Some place))
+moved_place m target most row place n le f p is =
     let e : row ≡ f.0 = is f.0 f.1 in
     let size : row.size ≡ f.0.size = ap (λ (r : MapRecord). r.size) e in
     let fits = f.2 in
-    record { file = n; ends = omega (arith, size, fits.0) }
+    record { file = n; file_below = le; ends = omega (arith, size, fits.0); count = p.count }
 
 -- the record of a row's own map uid is that row
 pub own_record : (m : MapMeaning) → IsSoundMap m → All (λ row. (uid : ℕ) (r : MapRecord) → (row.uid == uid) ≡ true → record_at m uid ≡ Some r → row ≡ r) m.records
 own_record m s = λ k d lt uid r hit found.
     found_only (λ row. row.uid == uid) m.records r found (λ i j e l le p q. let a = equal_is _ uid p in let b = equal_is _ uid q in let h = s.rising i j e l le in omega (arith, a, b, h)) k d lt hit
 
-places_after : (m : MapMeaning) (target : ℕ) (moved : List MapPlace) (row : MapRecord) (given : Option MapPlace) → IsPlaced row
-    → ((place : MapPlace) → given ≡ Some place → IsPlaced (placed row target (Some place))) → IsPlaced (placed row target given)
-places_after m target moved row None p h = p
-places_after m target moved row (Some place) p h = h place refl
+places_after : (target most : ℕ) (row : MapRecord) (given : Option MapPlace) → IsPlaced most row
+    → ((place : MapPlace) → given ≡ Some place → IsPlaced most (placed row target (Some place))) → IsPlaced most (placed row target given)
+places_after target most row None p h = p
+places_after target most row (Some place) p h = h place refl
 
-pub target_places : (m : MapMeaning) (file target : ℕ) (moved : List MapPlace) → IsSoundMap m → FitsTarget m file target moved → All (λ row. IsPlaced (placed row target (place_given row.uid moved))) m.records
-target_places m file target [] s f = all_places m s
-target_places m file target (p ∷ ps) s f = λ k d lt.
-    places_after m target (p ∷ ps) (slice_index_or m.records k d) (place_given (slice_index_or m.records k d).uid (p ∷ ps)) (all_places m s k d lt)
+pub target_places : (m : MapMeaning) (file target most : ℕ) (moved : List MapPlace) → m.highest.file ≤ most → target ≤ most → IsSoundMap m → FitsTarget m file target moved
+    → All (λ row. IsPlaced most (placed row target (place_given row.uid moved))) m.records
+target_places m file target most [] le lt s f = all_places m most le s
+target_places m file target most (p ∷ ps) le below s f = λ k d lt.
+    places_after target most (slice_index_or m.records k d) (place_given (slice_index_or m.records k d).uid (p ∷ ps)) (all_places m most le s k d lt)
     (λ place e.
     let r = found_holds (λ (q : MapPlace). q.uid.0 == (slice_index_or m.records k d).uid) (p ∷ ps) place (FitsPlace m target) e f.2 in
     let hit : ((slice_index_or m.records k d).uid == place.uid.0) ≡ true = equal_yes _ _ (sym (equal_is _ _ r.1)) in
-    moved_place m target (slice_index_or m.records k d) place f.0 r.0 (λ _. refl) (λ x found. own_record m s k d lt place.uid.0 x hit found))
+    moved_place m target most (slice_index_or m.records k d) place f.0 below r.0 (all_places m most le s k d lt) (λ x found. own_record m s k d lt place.uid.0 x hit found))
+
+-- ---- counts
+
+-- a record that a `U` names has one count more
+pub raised_places : (m : MapMeaning) (most uid : ℕ) → m.highest.file ≤ most → IsSoundMap m → HasRecord m uid (λ row. (1 ≤ row.count) × (row.count ≤ 65534))
+    → All (λ row. IsPlaced most (if uid == row.uid then record row { count = row.count + 1 } else row)) m.records
+raised_places m most uid le s f = λ k d lt.
+    let row : MapRecord = slice_index_or m.records k d in
+    counted_place most (uid == row.uid) (row.count + 1) row
+    (λ hit.
+    let is : row ≡ f.0 = own_record m s k d lt uid f.0 (equal_yes row.uid uid (sym (equal_is uid row.uid hit))) f.1 in
+    let same : row.count ≡ f.0.count = ap (λ (r : MapRecord). r.count) is in
+    let fits = f.2 in
+    omega (arith, same, fits.1))
+    (all_places m most le s k d lt)
+
+-- those that a `D` names have one less
+pub lowered_places : (m : MapMeaning) (most : ℕ) (uids : List MapUid) → m.highest.file ≤ most → IsSoundMap m
+    → All (λ row. IsPlaced most (if has_uid row.uid uids then record row { count = row.count - 1 } else row)) m.records
+lowered_places m most uids le s = λ k d lt.
+    let row : MapRecord = slice_index_or m.records k d in
+    let fits = (s.records k d lt).count in
+    counted_place most (has_uid row.uid uids) (row.count - 1) row (λ hit. omega (arith, fits)) (all_places m most le s k d lt)
+
+count_fits : (found : Option MapCount) (old : ℕ) → old ≤ 65535 → ((c : MapCount) → found ≡ Some c → c.count ≤ 65535) → option_map_or (λ c. c.count) found old ≤ 65535
+count_fits None old h f = h
+count_fits (Some c) old h f = f c refl
+
+-- those that a `T` names have the counts that it gives
+pub given_places : (m : MapMeaning) (most : ℕ) (counts : List MapCount) → m.highest.file ≤ most → IsSoundMap m → All (λ c. c.count ≤ 65535) counts
+    → All (λ row. IsPlaced most (record row { count = count_given row.uid counts row.count })) m.records
+given_places m most counts le s fit = λ k d lt.
+    let row : MapRecord = slice_index_or m.records k d in
+    with_count most (count_given row.uid counts row.count) row
+    (count_fits (find (λ (c : MapCount). c.uid.0 == row.uid) counts) row.count (s.records k d lt).count (λ c e. found_among (λ (x : MapCount). x.uid.0 == row.uid) counts c (λ x. x.count ≤ 65535) e fit))
+    (all_places m most le s k d lt)
 
 -- ---- moved regions apart
 

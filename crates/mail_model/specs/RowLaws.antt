@@ -1,6 +1,8 @@
 -- Laws of the rows of a log.
-use Rattle.std.specs.Prelude.{◌≡◌, Bool, true, false, List, [], ◌∷◌, ◌++◌, flat_map, map, filter, not, cond, refl}
+use Rattle.std.specs.Prelude.{◌≡◌, Bool, true, false, List, [], ◌∷◌, ◌++◌, flat_map, map, filter, not, cond, All, refl}
+use Rattle.std.specs.List.{AllByRecursion}
 use Rattle.std.proofs.Common.{sym, ap, ◌∙◌, append_assoc, append-nil}
+use Rattle.std.proofs.lemmas.List.Elements.{All-nil, All-cons, All-head, All-tail, All-append, All-weaker}
 use Rattle.mail_model.specs.Rows.{Rules, row_behind, rows_of}
 
 flat_append : {X Y : Type 0} → (f : X → List Y) (xs ys : List X) → flat_map f (xs ++ ys) ≡ flat_map f xs ++ flat_map f ys
@@ -58,3 +60,28 @@ one_more rules es e = rows_more rules es (e ∷ []) ∙ rw (behind_one rules e (
     alone : (made : _) → flat_map (row_behind rules []) made ++ [] ≡ made
     alone [] = refl
     alone (r ∷ rs) = ap (λ (t : _). r ∷ t) (alone rs)
+
+-- ---- what holds of all rows
+
+pub all_flat : {X Y : Type 0} → (P : Y → Type 0) (f : X → List Y) (xs : List X) → All (λ x. All P (f x)) xs → All P (flat_map f xs)
+all_flat P f [] h = All-nil P
+all_flat P f (x ∷ xs) h = All-append P (f x) (flat_map f xs) (All-head (λ y. All P (f y)) x xs h) (all_flat P f xs (All-tail (λ y. All P (f y)) x xs h))
+
+behind_step : {E R : Type 0} → (rules : Rules E R) (P : R → Type 0) (e : E) (es : List E) (row : R) (gone : Bool) → All P (row_behind rules es (rules.changed e row)) → All P (cond gone [] (row_behind rules es (rules.changed e row)))
+behind_step rules P e es row true h = All-nil P
+behind_step rules P e es row false h = h
+
+-- what holds of a row and stays as entries change it
+pub behind_all : {E R : Type 0} → (rules : Rules E R) (Q : E → Type 0) (P : R → Type 0) → ((entry : E) (row : R) → Q entry → P row → P (rules.changed entry row)) → (entries : List E) (row : R) → AllByRecursion Q entries → P row
+    → All P (row_behind rules entries row)
+behind_all rules Q P keeps [] row q h = All-cons P row [] h (All-nil P)
+behind_all rules Q P keeps (e ∷ es) row q h = behind_step rules P e es row (rules.removes e row) (behind_all rules Q P keeps es (rules.changed e row) q.1 (keeps e row q.0 h))
+
+-- what holds of the rows that entries make, and stays as entries change them
+pub rows_all : {E R : Type 0} → (rules : Rules E R) (Q : E → Type 0) (P : R → Type 0) → ((entry : E) → Q entry → All P (rules.made entry)) → ((entry : E) (row : R) → Q entry → P row → P (rules.changed entry row))
+    → (entries : List E) → AllByRecursion Q entries → All P (rows_of rules entries)
+rows_all rules Q P makes keeps [] h = All-nil P
+rows_all rules Q P makes keeps (e ∷ es) h =
+    All-append P (flat_map (row_behind rules es) (rules.made e)) (rows_of rules es)
+    (all_flat P (row_behind rules es) (rules.made e) (All-weaker P (λ row. All P (row_behind rules es row)) (λ row p. behind_all rules Q P keeps es row h.1 p) (rules.made e) (makes e h.0)))
+    (rows_all rules Q P makes keeps es h.1)

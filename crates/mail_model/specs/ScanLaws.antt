@@ -1,13 +1,32 @@
 -- What a scan of octets gives is one answer.
-use Rattle.std.specs.Prelude.{◌≡◌, ◌+◌, ℕ, List, [], ◌∷◌, ◌++◌, length, refl, Result, Ok, Err}
-use Rattle.std.proofs.Common.{sym, ◌∙◌, ap, append_assoc, append-nil, subst}
+use Rattle.std.specs.Prelude.{◌≡◌, ◌+◌, ℕ, List, [], ◌∷◌, ◌++◌, length, flat_map, refl, Result, Ok, Err}
+use Rattle.std.proofs.Common.{sym, ◌∙◌, ap, append_assoc, append-nil, length-append, subst, arith}
 use Rattle.mdbox_base.specs.declared.storage_file.MessageAt.{MessageAt}
 use Rattle.mdbox_base.specs.declared.storage_file.ScanError.{ScanError}
 use Rattle.mdbox_base.specs.declared.storage_file.ScanError.TheVariants as scan
 use Rattle.mail_model.specs.Grammars.{Begins, IsFrontOf}
 use Rattle.mail_model.specs.Pieces.{split_same}
-use Rattle.mail_model.specs.StorageFile.{Message, IsMessage, AreMessages, IsHeaderLine, IsFile, places_from, StopsAt, IsRefused, ScanGives}
+use Rattle.mail_model.specs.StorageFile.{line_text, Message, IsMessage, AreMessages, IsHeaderLine, IsFile, place_at, places_from, StopsAt, IsRefused, ScanGives}
 use Rattle.mail_model.specs.FileLaws.{message_same, message_some, header_line_same, file_same}
+
+-- the octets of a message, counted
+pub message_length : (octets : List ℕ) (m : Message) (offset : ℕ) → IsMessage octets m → offset + length octets ≡ (place_at offset m).end
+message_length octets m offset p =
+    let h = p.begins in
+    let k = p.ends in
+    omega (
+      arith,
+      ap length p.spelled,
+      length-append p.header (m.body ++ p.block),
+      length-append m.body p.block,
+      ap length h.spelled,
+      length-append h.filler (h.digits ++ 10 ∷ []),
+      length-append h.digits (10 ∷ []),
+      h.filler_length,
+      h.digits_length,
+      ap length k.spelled,
+      length-append (flat_map line_text m.lines) (10 ∷ []),
+    )
 
 begins_longer : (f first behind r : List ℕ) (m : Message) → f ≡ first ++ behind → IsMessage first m → Begins IsMessage (f ++ r)
 begins_longer f first behind r m e p = (first, behind ++ r, m, ap (λ (t : List ℕ). t ++ r) e ∙ append_assoc first behind r, p)

@@ -29,7 +29,7 @@ same_is a b h = grind (arith, common_steps, h)
 
 -- ---- the list rises
 
-all_with : (P : ℕ → Type 0) (n : ℕ) (ns : List ℕ) → P n → All P ns → All P (with_number n ns)
+pub all_with : (P : ℕ → Type 0) (n : ℕ) (ns : List ℕ) → P n → All P ns → All P (with_number n ns)
 all_with P n [] p a = All-cons P n [] p (All-nil P)
 all_with P n (m ∷ rest) p a = put (nat_lt n m) (n == m) (all_with P n rest p (All-tail P m rest a))
   where

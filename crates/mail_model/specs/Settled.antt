@@ -1,5 +1,5 @@
 -- A settled disk: whatever a stop leaves has all that the store reads.
-use Rattle.std.specs.Prelude.{◌≡◌, ◌≤◌, ◌+◌, ℕ, List, length, take, drop, All, Some}
+use Rattle.std.specs.Prelude.{◌≡◌, ◌≤◌, ◌+◌, ℕ, List, length, take, drop, All, Option, Some}
 use Rattle.disk_model.specs.Disk.{Files, DiskState, IsImage, reading}
 use Rattle.disk_model.specs.declared.name.FileName.TheVariants as file
 use Rattle.mdbox_base.specs.declared.entries.InstRow.{InstRow}
@@ -13,14 +13,17 @@ abbrev pub files_of : DiskState → Files
 files_of disk = λ name. reading (disk name)
 
 -- a record's region lies in both files, and has the same octets there
-pub record HasSameRegion (a b : Files) (row : MapRecord) : Type 0 where
+pub record IsSameRegion (a b : Option (List ℕ)) (row : MapRecord) : Type 0 where
   pub first : List ℕ
   pub second : List ℕ
-  pub in_first : a (file.Mail row.file) ≡ Some first
-  pub in_second : b (file.Mail row.file) ≡ Some second
+  pub in_first : a ≡ Some first
+  pub in_second : b ≡ Some second
   pub first_holds : row.offset + row.size ≤ length first
   pub second_holds : row.offset + row.size ≤ length second
   pub same : take row.size (drop row.offset second) ≡ take row.size (drop row.offset first)
+
+abbrev pub HasSameRegion : Files → Files → MapRecord → Type 0
+HasSameRegion a b row = IsSameRegion (a (file.Mail row.file)) (b (file.Mail row.file)) row
 
 -- both have the same octets of an instance
 abbrev pub HasSameInstance : Files → Files → InstRow → Type 0

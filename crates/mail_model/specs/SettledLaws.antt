@@ -1,5 +1,5 @@
--- Files that agree on what a store reads stand for the same lists, and are safe for the same.
-use Rattle.std.specs.Prelude.{◌≡◌, ℕ, List, [], ◌∷◌, ◌++◌, take, drop, flat_map, ◌==◌, Option, Some, All, Contains}
+-- Files that carry over what a store reads stand for the same lists, and are safe for the same. So do files that agree on it.
+use Rattle.std.specs.Prelude.{◌≡◌, ℕ, List, [], ◌∷◌, ◌++◌, take, drop, flat_map, ◌==◌, Option, Some, None, All, Contains, refl}
 use Rattle.std.proofs.Common.{sym, ◌∙◌, subst}
 use Rattle.std.proofs.lemmas.List.Elements.{All-nil, All-cons, All-head, All-tail, All-append, All-contains, All-weaker}
 use Rattle.disk_model.specs.Disk.{Files, DiskState, IsImage}
@@ -15,7 +15,9 @@ use Rattle.mail_model.specs.StorageFile.{IsMessage}
 use Rattle.mail_model.specs.PairLaws.{found_among}
 use Rattle.mail_model.specs.Stands.{HasLog, HasMap, HasInstances, IsKept, IsListed, AreListed, IsMailbox, AreMailboxes, NamesOwn, NamesAny, StoredOnce, KeepsDetached, StandsBy}
 use Rattle.mail_model.specs.Safe.{LiesInFile, IsThereWhole, HasAll, SafeBy, Safe}
+use Rattle.mail_model.specs.LogFile.{IsLog, IsLogFile}
 use Rattle.mail_model.specs.Settled.{files_of, HasSameRegion, HasSameInstance, AreAlike, IsSettled}
+use Rattle.mail_model.specs.Carrying.{HasSameEntries, CarryOver}
 
 -- the other way round
 region_back : (a b : Files) (row : MapRecord) → HasSameRegion a b row → HasSameRegion b a row
@@ -29,22 +31,20 @@ region_back a b row h = record {
   same = sym h.same;
 }
 
-pub alike_back : (g : ℕ) (m : MapMeaning) (a b : Files) → AreAlike g m a b → AreAlike g m b a
-alike_back g m a b h = record {
-  root = sym h.root;
-  map = sym h.map;
-  boxes = All-weaker (λ (x : MapBox). b (file.Box x.number x.generation) ≡ a (file.Box x.number x.generation)) (λ (x : MapBox). a (file.Box x.number x.generation) ≡ b (file.Box x.number x.generation)) (λ x e. sym e) m.boxes h.boxes;
-  regions = All-weaker (HasSameRegion a b) (HasSameRegion b a) (λ row r. region_back a b row r) m.records h.regions;
-  instances = All-weaker (λ (row : MapRecord). All (HasSameInstance a b) row.instances) (λ (row : MapRecord). All (HasSameInstance b a) row.instances)
-      (λ row r. All-weaker (HasSameInstance a b) (HasSameInstance b a) (λ i e. sym e) row.instances r) m.records h.instances;
-}
+-- a log that the second file has where the first one has it
+log_in : (octets : Option (List ℕ)) (head : LogHead) (entries : List (List ℕ)) → IsLogFile octets head entries → (o : List ℕ) × (octets ≡ Some o) × IsLog o head entries
+log_in None head entries h = absurd h
+log_in (Some o) head entries h = (o, refl, h)
 
-log_along : (a b : Files) (name : FileName) (head : LogHead) (entries : List (List ℕ)) → b name ≡ a name → HasLog a name head entries → HasLog b name head entries
-log_along a b name head entries e h = record { octets = h.octets; there = e ∙ h.there; whole = h.whole }
+log_along : (a b : Files) (name : FileName) (head : LogHead) (entries : List (List ℕ)) → HasSameEntries (a name) (b name) → HasLog a name head entries → HasLog b name head entries
+log_along a b name head entries e h =
+    let found = log_in (b name) head entries (e head entries (subst (λ (o : Option (List ℕ)). IsLogFile o head entries) (sym h.there) h.whole)) in
+    record { octets = found.0; there = found.1; whole = found.2 }
 
-map_along : (store : List ℕ) (entries : List MapEntry) (a b : Files) → (h : HasMap a store entries) → AreAlike h.generation (map_meaning store entries) a b → HasMap b store entries
+map_along : (store : List ℕ) (entries : List MapEntry) (a b : Files) → (h : HasMap a store entries) → CarryOver h.generation (map_meaning store entries) a b → HasMap b store entries
 map_along store entries a b h e = record {
   generation = h.generation;
+  generation_number = h.generation_number;
   root = record { before = h.root.before; log = log_along a b file.Root _ _ e.root h.root.log; in_range = h.root.in_range };
   log = log_along a b (file.Map h.generation) _ _ e.map h.log;
   in_range = h.in_range;
@@ -78,9 +78,10 @@ kept_along a b row octets r is h =
       names = h.names;
       found = instances_along a b row.instances h.instances is h.found;
       whole = h.whole;
+      size = h.size;
     }
 
-listed_along : (g : ℕ) (m : MapMeaning) (a b : Files) (row : LogRow) (x : ListedMessage) → AreAlike g m a b → IsListed a m row x → IsListed b m row x
+listed_along : (g : ℕ) (m : MapMeaning) (a b : Files) (row : LogRow) (x : ListedMessage) → CarryOver g m a b → IsListed a m row x → IsListed b m row x
 listed_along g m a b row x e h = record {
   uid = h.uid;
   flags = h.flags;
@@ -95,13 +96,13 @@ listed_along g m a b row x e h = record {
       (found_among (λ (r : MapRecord). r.uid == row.map_uid) m.records h.entry (λ (r : MapRecord). All (HasSameInstance a b) r.instances) h.found e.instances) h.octets;
 }
 
-all_listed_along : (g : ℕ) (m : MapMeaning) (a b : Files) (rows : List LogRow) (xs : List ListedMessage) → AreAlike g m a b → AreListed a m rows xs → AreListed b m rows xs
+all_listed_along : (g : ℕ) (m : MapMeaning) (a b : Files) (rows : List LogRow) (xs : List ListedMessage) → CarryOver g m a b → AreListed a m rows xs → AreListed b m rows xs
 all_listed_along g m a b [] [] e h = tt
 all_listed_along g m a b [] (x ∷ xs) e h = absurd h
 all_listed_along g m a b (row ∷ rows) [] e h = absurd h
 all_listed_along g m a b (row ∷ rows) (x ∷ xs) e h = (listed_along g m a b row x e h.0, all_listed_along g m a b rows xs e h.1)
 
-mailbox_along : (g : ℕ) (m : MapMeaning) (a b : Files) (box : MapBox) (x : Mailbox) → AreAlike g m a b → b (file.Box box.number box.generation) ≡ a (file.Box box.number box.generation) → IsMailbox a m box x → IsMailbox b m box x
+mailbox_along : (g : ℕ) (m : MapMeaning) (a b : Files) (box : MapBox) (x : Mailbox) → CarryOver g m a b → HasSameEntries (a (file.Box box.number box.generation)) (b (file.Box box.number box.generation)) → IsMailbox a m box x → IsMailbox b m box x
 mailbox_along g m a b box x e same h = record {
   entries = h.entries;
   log = record { log = log_along a b _ _ _ same h.log.log; in_range = h.log.in_range; fit = h.log.fit };
@@ -112,9 +113,9 @@ mailbox_along g m a b box x e same h = record {
 }
 
 abbrev SameLog : Files → Files → MapBox → Type 0
-SameLog a b box = b (file.Box box.number box.generation) ≡ a (file.Box box.number box.generation)
+SameLog a b box = HasSameEntries (a (file.Box box.number box.generation)) (b (file.Box box.number box.generation))
 
-mailboxes_along : (g : ℕ) (m : MapMeaning) (a b : Files) (boxes : List MapBox) (lists : Lists) → AreAlike g m a b → All (SameLog a b) boxes → AreMailboxes a m boxes lists → AreMailboxes b m boxes lists
+mailboxes_along : (g : ℕ) (m : MapMeaning) (a b : Files) (boxes : List MapBox) (lists : Lists) → CarryOver g m a b → All (SameLog a b) boxes → AreMailboxes a m boxes lists → AreMailboxes b m boxes lists
 mailboxes_along g m a b [] [] e s h = tt
 mailboxes_along g m a b [] (x ∷ xs) e s h = absurd h
 mailboxes_along g m a b (box ∷ boxes) [] e s h = absurd h
@@ -122,32 +123,32 @@ mailboxes_along g m a b (box ∷ boxes) (x ∷ xs) e s h =
     (mailbox_along g m a b box x e (All-head (SameLog a b) box boxes s) h.0, mailboxes_along g m a b boxes xs e (All-tail (SameLog a b) box boxes s) h.1)
 
 -- an instance that a record names
-named_same : (g : ℕ) (m : MapMeaning) (a b : Files) (row : MapRecord) (inst : InstRow) → AreAlike g m a b → Contains m.records row → Contains row.instances inst → HasSameInstance a b inst
+named_same : (g : ℕ) (m : MapMeaning) (a b : Files) (row : MapRecord) (inst : InstRow) → CarryOver g m a b → Contains m.records row → Contains row.instances inst → HasSameInstance a b inst
 named_same g m a b row inst e r i = All-contains (HasSameInstance a b) row.instances inst (All-contains (λ (x : MapRecord). All (HasSameInstance a b) x.instances) m.records row e.instances r) i
 
-own_back : (g : ℕ) (m : MapMeaning) (a b : Files) (inst : InstRow) (octets : List ℕ) → AreAlike g m a b → NamesOwn b m inst octets → NamesOwn a m inst octets
+own_back : (g : ℕ) (m : MapMeaning) (a b : Files) (inst : InstRow) (octets : List ℕ) → CarryOver g m a b → NamesOwn b m inst octets → NamesOwn a m inst octets
 own_back g m a b inst octets e n = record { row = n.row; is_record = n.is_record; own = n.own; is_named = n.is_named; there = sym (named_same g m a b n.row inst e n.is_record n.is_named) ∙ n.there }
 
-any_back : (g : ℕ) (m : MapMeaning) (a b : Files) (inst : InstRow) (octets : List ℕ) → AreAlike g m a b → NamesAny b m inst octets → NamesAny a m inst octets
+any_back : (g : ℕ) (m : MapMeaning) (a b : Files) (inst : InstRow) (octets : List ℕ) → CarryOver g m a b → NamesAny b m inst octets → NamesAny a m inst octets
 any_back g m a b inst octets e n = record { row = n.row; is_record = n.is_record; is_named = n.is_named; there = sym (named_same g m a b n.row inst e n.is_record n.is_named) ∙ n.there }
 
-once_along : (g : ℕ) (m : MapMeaning) (a b : Files) → AreAlike g m a b → StoredOnce a m → StoredOnce b m
+once_along : (g : ℕ) (m : MapMeaning) (a b : Files) → CarryOver g m a b → StoredOnce a m → StoredOnce b m
 once_along g m a b e h = record {
   once = λ i j octets p q. h.once i j octets (own_back g m a b i octets e p) (own_back g m a b j octets e q);
   least = λ i j octets p q same less. h.least i j octets (own_back g m a b i octets e p) (any_back g m a b j octets e q) same less;
   hash = λ i octets p. h.hash i octets (own_back g m a b i octets e p);
 }
 
-detached_along : (g : ℕ) (m : MapMeaning) (a b : Files) → AreAlike g m a b → KeepsDetached a m → KeepsDetached b m
+detached_along : (g : ℕ) (m : MapMeaning) (a b : Files) → CarryOver g m a b → KeepsDetached a m → KeepsDetached b m
 unfolding kept_along
 detached_along g m a b e h = λ row octets r own kept.
     let region : HasSameRegion a b row = All-contains (HasSameRegion a b) m.records row e.regions r in
     let is : All (HasSameInstance a b) row.instances = All-contains (λ (x : MapRecord). All (HasSameInstance a b) x.instances) m.records row e.instances r in
     h row octets r own (kept_along b a row octets (region_back a b row region) (All-weaker (HasSameInstance a b) (HasSameInstance b a) (λ i s. sym s) row.instances is) kept)
 
--- Files that agree on what a store reads stand for the same lists.
-pub stands_alike : (a b : Files) (store : List ℕ) (entries : List MapEntry) (lists : Lists) → (s : StandsBy a store entries lists) → AreAlike s.map_log.generation (map_meaning store entries) a b → StandsBy b store entries lists
-stands_alike a b store entries lists s e = record {
+-- Files that carry over what a store reads stand for the same lists.
+pub stands_carried : (a b : Files) (store : List ℕ) (entries : List MapEntry) (lists : Lists) → (s : StandsBy a store entries lists) → CarryOver s.map_log.generation (map_meaning store entries) a b → StandsBy b store entries lists
+stands_carried a b store entries lists s e = record {
   map_log = map_along store entries a b s.map_log e;
   mailboxes = mailboxes_along s.map_log.generation (map_meaning store entries) a b (map_meaning store entries).boxes lists e e.boxes s.mailboxes;
   one_record = s.one_record;
@@ -171,19 +172,41 @@ there_along a b (row ∷ rows) e h =
     (λ k d lt. record { octets = (r.0 k d lt).octets; there = same k d lt ∙ (r.0 k d lt).there; size = (r.0 k d lt).size })
     (there_along a b rows (All-tail (λ (x : MapRecord). All (HasSameInstance a b) x.instances) row rows e) r.1)
 
-pub has_all_alike : (g : ℕ) (m : MapMeaning) (a b : Files) (lists : Lists) → AreAlike g m a b → HasAll a m lists → HasAll b m lists
-has_all_alike g m a b lists e h = record {
+pub has_all_carried : (g : ℕ) (m : MapMeaning) (a b : Files) (lists : Lists) → CarryOver g m a b → HasAll a m lists → HasAll b m lists
+has_all_carried g m a b lists e h = record {
   counts = h.counts;
   regions = All-weaker (HasSameRegion a b) (LiesInFile b) (λ row r. record { octets = r.second; there = r.in_second; inside = r.second_holds }) m.records e.regions;
   instances = there_along a b m.records e.instances h.instances;
 }
 
--- Files that agree on what a store reads are safe for the same lists.
-pub safe_alike : (a b : Files) (store : List ℕ) (entries : List MapEntry) (lists : Lists) → (s : SafeBy a store entries lists) → AreAlike s.stands.map_log.generation (map_meaning store entries) a b → SafeBy b store entries lists
-safe_alike a b store entries lists s e = record {
-  stands = stands_alike a b store entries lists s.stands e;
-  has_all = has_all_alike s.stands.map_log.generation (map_meaning store entries) a b lists e s.has_all;
+-- Files that carry over what a store reads are safe for the same lists.
+pub safe_carried : (a b : Files) (store : List ℕ) (entries : List MapEntry) (lists : Lists) → (s : SafeBy a store entries lists) → CarryOver s.stands.map_log.generation (map_meaning store entries) a b → SafeBy b store entries lists
+safe_carried a b store entries lists s e = record {
+  stands = stands_carried a b store entries lists s.stands e;
+  has_all = has_all_carried s.stands.map_log.generation (map_meaning store entries) a b lists e s.has_all;
 }
+
+-- ---- files that are alike
+
+same_entries : (a b : Option (List ℕ)) → b ≡ a → HasSameEntries a b
+same_entries a b e = λ head entries h. subst (λ (o : Option (List ℕ)). IsLogFile o head entries) (sym e) h
+
+pub carried_alike : (g : ℕ) (m : MapMeaning) (a b : Files) → AreAlike g m a b → CarryOver g m a b
+carried_alike g m a b e = record {
+  root = same_entries (a file.Root) (b file.Root) e.root;
+  map = same_entries (a (file.Map g)) (b (file.Map g)) e.map;
+  boxes = All-weaker (λ (x : MapBox). b (file.Box x.number x.generation) ≡ a (file.Box x.number x.generation)) (SameLog a b)
+      (λ x s. same_entries (a (file.Box x.number x.generation)) (b (file.Box x.number x.generation)) s) m.boxes e.boxes;
+  regions = e.regions;
+  instances = e.instances;
+}
+
+-- Files that agree on what a store reads stand for the same lists, and are safe for the same.
+pub stands_alike : (a b : Files) (store : List ℕ) (entries : List MapEntry) (lists : Lists) → (s : StandsBy a store entries lists) → AreAlike s.map_log.generation (map_meaning store entries) a b → StandsBy b store entries lists
+stands_alike a b store entries lists s e = stands_carried a b store entries lists s (carried_alike s.map_log.generation (map_meaning store entries) a b e)
+
+pub safe_alike : (a b : Files) (store : List ℕ) (entries : List MapEntry) (lists : Lists) → (s : SafeBy a store entries lists) → AreAlike s.stands.map_log.generation (map_meaning store entries) a b → SafeBy b store entries lists
+safe_alike a b store entries lists s e = safe_carried a b store entries lists s (carried_alike s.stands.map_log.generation (map_meaning store entries) a b e)
 
 -- Each image of a settled disk is safe for its lists.
 pub settled_safe : (disk : DiskState) (lists : Lists) (image : Files) → IsSettled disk lists → IsImage disk image → Safe image lists

@@ -1,6 +1,7 @@
 -- Which mailbox lists the files of a store stand for.
 use Rattle.std.specs.Prelude.{◌≡◌, ◌≢◌, ◌≤◌, ◌+◌, ℕ, List, [], ◌∷◌, ◌++◌, length, map, take, drop, Some, IsTrue, AllPairs, Contains}
 use Rattle.std.specs.List.{AllByRecursion}
+use Rattle.std.specs.Option.{option_map_or}
 use Rattle.std.specs.Cmp.Lexicographic.{slice_cmp}
 use Rattle.std.specs.Ordering.{nat_cmp, is_lt}
 use Rattle.sha1.specs.Sha1.{sha1}
@@ -20,7 +21,7 @@ use Rattle.mdbox_base.specs.declared.metadata.Metadata.{Metadata}
 use Rattle.mail_model.specs.Lists.{ListedMessage, Mailbox, Lists}
 use Rattle.mail_model.specs.BoxMeaning.{LogRow, rows_after, next_after, AllBoxFit}
 use Rattle.mail_model.specs.MapMeaning.{MapRecord, MapBox, MapMeaning, map_meaning, record_at}
-use Rattle.mail_model.specs.MapFits.{AllMapFit}
+use Rattle.mail_model.specs.MapFits.{IsNumber, AllMapFit}
 use Rattle.mail_model.specs.LogFile.{IsLog}
 use Rattle.mail_model.specs.StorageFile.{Message, IsMessage}
 use Rattle.mail_model.specs.Metadata.{IsMetadata}
@@ -46,10 +47,11 @@ pub record HasRoot (image : Files) (store : List ℕ) (generation : ℕ) : Type 
   pub log : HasLog image file.Root (head_of store kind.Root 0 0) (map root_text (before ++ root.M generation ∷ []))
   pub in_range : AllByRecursion RootInRange (before ++ root.M generation ∷ [])
 
--- The map log that the root log names has these entries, and each fits behind those before it.
+-- The map log that the root log names, which a file can be, has these entries, and each fits behind those before it.
 pub record HasMap (image : Files) (store : List ℕ) (entries : List MapEntry) : Type 0 where
   pub generation : ℕ
   pub root : HasRoot image store generation
+  pub generation_number : IsNumber generation
   pub log : HasLog image (file.Map generation) (head_of store kind.Map 0 generation) (map map_text entries)
   pub in_range : AllByRecursion MapInRange entries
   pub fit : AllMapFit store [] entries
@@ -76,8 +78,13 @@ NameInstances (ref ∷ refs) (row ∷ rows) = (ref.hash ≡ row.hash) × (ref.id
 NameInstances [] (row ∷ rows) = ⊥
 NameInstances (ref ∷ refs) [] = ⊥
 
+-- the size of the whole message that its lines tell: that of their `Z`, else that of the stored body
+abbrev pub whole_size : Metadata → List ℕ → ℕ
+whole_size meta body = option_map_or (λ size. size) meta.physical (length body)
+
 -- A record of the map keeps this text: its region is one message, whose lines hold the record's GUID and whose references
--- name the record's instances. The whole of its body, its references and their instances is the text.
+-- name the record's instances. The whole of its body, its references and their instances is the text, of the size that
+-- the lines tell.
 pub record IsKept (image : Files) (row : MapRecord) (octets : List ℕ) : Type 0 where
   pub octets_there : List ℕ
   pub message : Message
@@ -91,6 +98,7 @@ pub record IsKept (image : Files) (row : MapRecord) (octets : List ℕ) : Type 0
   pub names : NameInstances meta.refs row.instances
   pub found : HasInstances image row.instances instances
   pub whole : IsWhole octets message.body meta.refs instances
+  pub size : length octets ≡ whole_size meta message.body
 
 -- ---- the mailboxes
 

@@ -96,6 +96,7 @@ has_map : HasMap example_image example_store example_map
 unfolding example_image
 has_map = record {
   generation = 1;
+  generation_number = record { low = lit≤ tt; high = lit≤ tt };
   root = has_root;
   log = record { octets = map_log; there = refl; whole = map_is_log };
   in_range = ((lit< tt, lit< tt, inbox_is_name), ((lit< tt, lit< tt, lit< tt, lit< tt, lit< tt, lit< tt, refl, lit< tt, tt), tt));
@@ -127,6 +128,7 @@ kept = record {
   names = tt;
   found = tt;
   whole = refl;
+  size = refl;
 }
 
 -- the map's only record names no instance

@@ -4,11 +4,12 @@ use Rattle.std.proofs.Common.{sym, ◌∙◌, ap, arith, subst}
 use Rattle.std.proofs.lemmas.List.Elements.{All-nil, All-cons, All-head, All-tail}
 use Rattle.std.proofs.lemmas.List.Kept.{AllPairs-cons}
 use Rattle.disk_model.specs.Disk.{Files}
+use Rattle.mdbox_base.specs.Words.{IsName}
 use Rattle.mail_model.specs.Lists.{ListedMessage, Mailbox, Lists, IsMessageInRange, IsMailboxInOrder, AreWellFormed}
 use Rattle.mail_model.specs.BoxMeaning.{LogRow, box_meaning, rows_after, next_after}
 use Rattle.mail_model.specs.MapMeaning.{MapBox, MapMeaning, map_meaning}
 use Rattle.mail_model.specs.PairLaws.{pairs_nil, pairs_head, pairs_tail}
-use Rattle.mail_model.specs.Sound.{IsSoundRow, IsSoundBox, IsSoundMap}
+use Rattle.mail_model.specs.Sound.{IsSoundRow, IsSoundBox, IsSoundMapBox, IsSoundMap}
 use Rattle.mail_model.specs.BoxSoundLaws.{box_sound}
 use Rattle.mail_model.specs.MapSoundLaws.{map_sound}
 use Rattle.mail_model.specs.Stands.{IsListed, AreListed, IsMailbox, AreMailboxes, Stands}
@@ -74,20 +75,32 @@ messages_rise image m (row ∷ rows) (x ∷ xs) r l =
     AllPairs-cons Rises x xs (later_above image m row x rows xs l.0.uid (pairs_head RowRises row rows r) l.1) (messages_rise image m rows xs (pairs_tail RowRises row rows r) l.1)
 
 -- a mailbox is in order
-mailbox_in_order : (image : Files) (m : MapMeaning) (box : MapBox) (mailbox : Mailbox) → IsMailbox image m box mailbox → IsMailboxInOrder mailbox
-mailbox_in_order image m box mailbox h =
+mailbox_in_order : (image : Files) (m : MapMeaning) (high : ℕ) (box : MapBox) (mailbox : Mailbox) → IsSoundMapBox high box → IsMailbox image m box mailbox → IsMailboxInOrder mailbox
+mailbox_in_order image m high box mailbox b h =
     let s : IsSoundBox (box_meaning h.entries) = box_sound h.entries h.log.fit h.log.in_range in
+    let number = h.number in
+    let low = b.number.low in
+    let high = b.number.high in
+    let next = h.next in
+    let some = s.some in
+    let fits = s.fits in
     record {
+      number_some = omega (arith, number, low);
+      number_fits = omega (arith, number, high);
+      name = subst IsName (sym h.name) b.name;
+      next_some = omega (arith, next, some);
+      next_fits = omega (arith, next, fits);
       rising = messages_rise image m (rows_after h.entries) mailbox.messages s.rising h.messages;
       below = subst (λ (n : ℕ). All (λ x. x.uid < n) mailbox.messages) (sym h.next) (messages_below image m (next_after h.entries) (rows_after h.entries) mailbox.messages s.rows h.messages);
       in_range = messages_fit image m (next_after h.entries) (rows_after h.entries) mailbox.messages s.fits s.rows h.messages;
     }
 
-mailboxes_in_order : (image : Files) (m : MapMeaning) (boxes : List MapBox) (lists : Lists) → AreMailboxes image m boxes lists → All IsMailboxInOrder lists
-mailboxes_in_order image m [] [] h = All-nil IsMailboxInOrder
-mailboxes_in_order image m [] (x ∷ xs) h = absurd h
-mailboxes_in_order image m (box ∷ boxes) [] h = absurd h
-mailboxes_in_order image m (box ∷ boxes) (x ∷ xs) h = All-cons IsMailboxInOrder x xs (mailbox_in_order image m box x h.0) (mailboxes_in_order image m boxes xs h.1)
+mailboxes_in_order : (image : Files) (m : MapMeaning) (high : ℕ) (boxes : List MapBox) (lists : Lists) → All (IsSoundMapBox high) boxes → AreMailboxes image m boxes lists → All IsMailboxInOrder lists
+mailboxes_in_order image m high [] [] s h = All-nil IsMailboxInOrder
+mailboxes_in_order image m high [] (x ∷ xs) s h = absurd h
+mailboxes_in_order image m high (box ∷ boxes) [] s h = absurd h
+mailboxes_in_order image m high (box ∷ boxes) (x ∷ xs) s h =
+    All-cons IsMailboxInOrder x xs (mailbox_in_order image m high box x (All-head (IsSoundMapBox high) box boxes s) h.0) (mailboxes_in_order image m high boxes xs (All-tail (IsSoundMapBox high) box boxes s) h.1)
 
 -- a relation between mailboxes of the map is one between the lists'
 abbrev Carries : Files → MapMeaning → (MapBox → MapBox → Type 0) → (Mailbox → Mailbox → Type 0) → Type 0
@@ -115,5 +128,5 @@ well_formed image lists s =
     record {
       names = pairs_along image m (λ a b. a.name ≢ b.name) (λ x y. x.name ≢ y.name) (λ a b x y p q h e. h (sym p.name ∙ e ∙ q.name)) m.boxes lists sound.names s.by.mailboxes;
       numbers = pairs_along image m (λ a b. a.number < b.number) (λ x y. x.number < y.number) (λ a b x y p q h. let u = p.number in let v = q.number in omega (arith, u, v, h)) m.boxes lists sound.boxes_rising s.by.mailboxes;
-      each = mailboxes_in_order image m m.boxes lists s.by.mailboxes;
+      each = mailboxes_in_order image m m.highest.mailbox m.boxes lists sound.boxes s.by.mailboxes;
     }

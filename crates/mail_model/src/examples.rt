@@ -5,7 +5,7 @@ ghost use Rattle.mail_model.specs.BoxMeaning.{box_meaning};
 ghost use Rattle.mdbox_base.specs.declared.entries.MapEntry.TheVariants as map;
 ghost use Rattle.mail_model.specs.MapMeaning.{map_meaning};
 ghost use Rattle.mail_model.specs.MapFits.{MapFits};
-ghost use Rattle.mail_model.specs.FitExamples.{example_meaning, first};
+ghost use Rattle.mail_model.specs.FitExamples.{example_meaning, first, other_stored, other_guid, two_stored, purge, first_place, second_place, counted};
 ghost use Rattle.mail_model.specs.LogExamples.{example_store, box_entry, map_made, map_stored};
 ghost use Rattle.mail_model.specs.Safe.{Safe};
 ghost use Rattle.mail_model.specs.StoreExample.{example_image, example_lists};
@@ -40,7 +40,8 @@ pub fn example_store_is_safe()
 {}
 
 /// Behind that map log the record's count can be raised, and lowered once; the message can't be stored again; empty lists
-/// fit.
+/// fit. A second message can be stored directly behind the first, but not over it, and not with its GUID; a purge of their
+/// file can move both, but not leave one out. A count of 65,535 can't be raised, and one of 0 neither raised nor lowered.
 pub fn example_fits()
     ensures raised { MapFits example_meaning (map.U first) }
     ensures lowered { MapFits example_meaning (map.D (first ∷ [])) }
@@ -48,4 +49,11 @@ pub fn example_fits()
     ensures stored_again { MapFits example_meaning example_stored → ⊥ }
     ensures none_lowered { MapFits example_meaning (map.D []) }
     ensures none_counted { MapFits example_meaning (map.T []) }
+    ensures other_stored { MapFits example_meaning (other_stored 0x69 other_guid) }
+    ensures overlapping { MapFits example_meaning (other_stored 0x20 other_guid) → ⊥ }
+    ensures same_guid { MapFits example_meaning (other_stored 0x69 example_guid) → ⊥ }
+    ensures purged_whole { MapFits two_stored (purge (first_place ∷ second_place ∷ [])) }
+    ensures purged_part { MapFits two_stored (purge (first_place ∷ [])) → ⊥ }
+    ensures raised_full { MapFits (counted 65535) (map.U first) → ⊥ }
+    ensures raised_none { MapFits (counted 0) (map.U first) → ⊥ }
 {}

@@ -4,13 +4,18 @@ ghost use Rattle.mdbox_base.specs.declared.requests.Request.{Request};
 ghost use Rattle.mdbox_base.specs.declared.replies.Refusal.{Refusal};
 ghost use Rattle.mdbox_base.specs.declared.replies.Reply.{Reply};
 ghost use Rattle.mdbox_base.specs.declared.replies.Reply.TheVariants.{Refused};
-ghost use Rattle.mail_model.specs.Lists.{Lists, refs_of};
-ghost use Rattle.mail_model.specs.Machine.{Run, Event, Answers, refs_added, refs_taken, is_step};
+ghost use Rattle.mail_model.specs.Lists.{Lists, AreWellFormed, refs_of};
+ghost use Rattle.mail_model.specs.Machine.{Run, Event, Answers, RequestInRange, refs_added, refs_taken, is_step};
 
 /// A delivery and a copy add one reference to a GUID, an expunge and the second half of a move take one, and no other step
 /// changes the references of any.
 pub fn steps_change_references()
     ensures { (run : Run) (old : Lists) (request : Request) (event : Event) (reply : Reply) (new : Lists) (guid : List ℕ) → Answers run old request event reply new → refs_of new guid + refs_taken old request event reply guid ≡ refs_of old guid + refs_added old request event reply guid }
+{}
+
+/// Well formed lists stay so at each step of a request that can be asked.
+pub fn steps_keep_order()
+    ensures { (run : Run) (old : Lists) (request : Request) (event : Event) (reply : Reply) (new : Lists) → AreWellFormed old → RequestInRange request → Answers run old request event reply new → AreWellFormed new }
 {}
 
 /// A refusal changes no list, is one of those that are steps, and where one is due nothing else is answered.

@@ -9,7 +9,7 @@ ghost use Rattle.mail_model.specs.MapMeaning.{records_after, record_rules, boxes
 ghost use Rattle.mail_model.specs.SealedLaws.{seals};
 ghost use Rattle.mail_model.specs.MapFits.{AllMapFit};
 ghost use Rattle.mail_model.specs.Entries.{BoxInRange, MapInRange};
-ghost use Rattle.mail_model.specs.Sound.{IsSoundBox, IsSoundMap};
+ghost use Rattle.mail_model.specs.Sound.{IsSoundBox, IsSoundMap, HasOctets, AreInRange};
 
 /// One entry more at the end of a log changes what it meant as `box_applied` and `map_applied` say.
 pub fn one_entry_more()
@@ -24,10 +24,12 @@ pub fn more_entries()
     ensures mailboxes { (entries more : List MapEntry) → boxes_after (entries ++ more) ≡ flat_map (row_behind box_rules more) (boxes_after entries) ++ boxes_after more }
 {}
 
-/// What entries mean that fit one behind another has its numbers in order and in range.
+/// What entries mean that fit one behind another has its numbers in order and in range; so are the highest numbers, those
+/// that GUIDs and ids of instances name too, where the entries' texts are octets, as they are in every file.
 pub fn meanings_are_sound()
     ensures mailbox { (entries : List BoxEntry) → AllBoxFit [] entries → AllByRecursion BoxInRange entries → IsSoundBox (box_meaning entries) }
     ensures map { (store : List ℕ) (entries : List MapEntry) → AllMapFit store [] entries → AllByRecursion MapInRange entries → IsSoundMap (map_meaning store entries) }
+    ensures highest { (store : List ℕ) (entries : List MapEntry) → AllMapFit store [] entries → AllByRecursion MapInRange entries → AllByRecursion HasOctets entries → AreInRange (map_meaning store entries).highest }
 {}
 
 /// A file is sealed exactly where an `E` names it, and the sealed files stand once each, in order of number.

@@ -1,10 +1,11 @@
 // Laws of what an image stands for.
-ghost use Rattle.std.specs.Prelude.{◌≡◌, ◌≤◌, ℕ, List};
+ghost use Rattle.std.specs.Prelude.{◌≡◌, ◌≤◌, ℕ, List, None, length};
 ghost use Rattle.disk_model.specs.Disk.{Files};
 ghost use Rattle.mdbox_base.specs.declared.entries.MapEntry.{MapEntry};
 ghost use Rattle.mail_model.specs.Lists.{Lists, AreWellFormed, refs_of};
-ghost use Rattle.mail_model.specs.MapMeaning.{map_meaning, count_of};
-ghost use Rattle.mail_model.specs.Stands.{HasMap, Stands};
+ghost use Rattle.mail_model.specs.MapMeaning.{MapRecord, map_meaning, count_of};
+ghost use Rattle.mail_model.specs.Stands.{HasMap, IsKept, Stands, whole_size};
+ghost use Rattle.mail_model.specs.Rejoined.{join_error};
 ghost use Rattle.mail_model.specs.Safe.{Safe};
 
 /// An image stands for one lists at most.
@@ -20,6 +21,12 @@ pub fn one_map()
 /// A safe image's counts are at least its references.
 pub fn counts_of_safe_image()
     ensures { (image : Files) (lists : Lists) (store : List ℕ) (entries : List MapEntry) (guid : List ℕ) → Safe image lists → HasMap image store entries → refs_of lists guid ≤ count_of (map_meaning store entries) guid }
+{}
+
+/// What a record keeps rejoins: nothing is wrong with its body, the size that its lines tell, its references and its
+/// instances.
+pub fn kept_messages_rejoin()
+    ensures { (image : Files) (row : MapRecord) (octets : List ℕ) → (kept : IsKept image row octets) → length octets ≤ 4294967295 → join_error kept.message.body (whole_size kept.meta kept.message.body) kept.meta.refs kept.instances ≡ None }
 {}
 
 /// Lists for which an image stands are well formed.

@@ -1,7 +1,7 @@
-//! The program `mdbox`: it makes the real input, output and errors, and runs the words that it is given.
+//! The program `mdbox`: it makes the real input, output, errors and disk, and runs the words that it is given.
 #![tactic(auto)]
 
-use disk_real::{StdSink, StdSource};
+use disk_real::{RealDisk, StdSink, StdSource};
 use mdbox_base::{NoMemory, give_all};
 use mdbox_top::{Status, mdbox_run};
 use std::env;
@@ -20,9 +20,11 @@ fn main(rt: HostRuntime) -> ExitCode {
             return ExitCode::from(5);
         }
     };
-    let Status(status) = mdbox_run(
-        rt.alloc(),
+    let alloc = rt.alloc();
+    let (Status(status), _) = mdbox_run(
+        alloc,
         words.as_slice(),
+        RealDisk::of(rt),
         &mut input,
         &mut output,
         &mut errors,

@@ -3,3 +3,4 @@ pub mod PlaceLaws
 pub mod PrintLaws
 pub mod RunLaws
 pub mod LogPrintLaws
+pub mod StoreLaws

@@ -4,7 +4,7 @@ use Rattle.std.proofs.Common.{sym, ◌∙◌, ap, subst, append_assoc, length-ap
 use Rattle.std.proofs.lemmas.List.{take_at, drop_at}
 use Rattle.mdbox_base.specs.declared.storage_file.MessageAt.{MessageAt}
 use Rattle.mail_model.specs.DumpText.{shown_message, dump_text}
-use Rattle.dbox_file.proofs.ScanSteps.{message_length}
+use Rattle.mail_model.specs.ScanLaws.{message_length}
 use Rattle.mail_model.specs.StorageFile.{line_text, Message, IsMessage, AreMessages, IsFile, place_at, places_from}
 use Rattle.mdbox_top.specs.Printing.{Shows, ShowsAll}
 

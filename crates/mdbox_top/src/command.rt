@@ -18,6 +18,8 @@ pub enum Command {
 /// What `--help` prints.
 pub const HELP: &str = "mdbox WORDS
 
+init ID     makes an empty store in the current folder, with one mailbox, INBOX, and prints OK; ID names
+            the store, in 16 lower-case hexadecimal digits
 dump        reads a storage file (m.N) of mdbox from standard input and prints, for each message,
             MESSAGE with its offset and its body's size, and its metadata lines behind two spaces
 logdump     reads a log of mdbox from standard input and prints LOG with its kind (R, M or B), number
@@ -26,9 +28,10 @@ logdump     reads a log of mdbox from standard input and prints LOG with its kin
 --help      prints this
 --version   prints the version
 
-Exit status: 0 all was printed, 2 other words, 4 the input is refused, 5 memory, 7 read fault, 8 write fault
+Exit status: 0 all was done and printed, 2 other words, 3 the files in the folder forbid it, 4 the input is
+refused, 5 memory, 6 disk fault, 7 read fault, 8 write fault
 
-Example: mdbox dump < storage/m.1
+Example: mdbox init 0011223344556677 && mdbox logdump < storage/root.log
 ";
 
 /// What `--version` prints.

@@ -56,7 +56,7 @@ pub fn report<E: Sink>(alloc: Global, errors: &mut E, outcome: Outcome) -> Statu
 }
 
 /// Gives a text to the errors' sink, where that goes, and answers the status.
-fn tell<E: Sink>(errors: &mut E, text: &[u8], status: u8) -> Status
+pub fn tell<E: Sink>(errors: &mut E, text: &[u8], status: u8) -> Status
     ensures status { result.0 ≡ status }
     ensures gave { Gave (E.held errors.old) (E.faults errors.old) text.now (E.held errors.new) (E.faults errors.new) }
     ensures counted { E.faults errors.old ≤ E.faults errors.new }

@@ -1,5 +1,6 @@
 // What is printed of logs.
 use crate::{Status, mdbox_run};
+use disk_mem::MemDisk;
 use mdbox_base::{MemSink, MemSource, Octets, Seq};
 use std::alloc::Global;
 use std::test::Fail;
@@ -18,9 +19,10 @@ fn logdump(alloc: Global, log: &[u8], printed: &[u8], said: &[u8]) -> Result<(u8
     let mut input = MemSource::of(text, Seq::empty(alloc));
     let mut output = MemSink::of(Octets::empty(alloc), Seq::empty(alloc));
     let mut errors = MemSink::of(Octets::empty(alloc), Seq::empty(alloc));
-    let Status(status) = mdbox_run(
+    let (Status(status), _) = mdbox_run(
         alloc,
         words.as_slice(),
+        MemDisk::fresh(alloc)?,
         &mut input,
         &mut output,
         &mut errors,

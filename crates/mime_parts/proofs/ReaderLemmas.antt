@@ -18,7 +18,7 @@ use Rattle.mail_model.specs.Parts.{part_found, Found, found_in, whole_entity, is
 use Rattle.mail_model.specs.Parts.Found.{APart}
 use Rattle.mime_parts.specs.ToCome.{open_found, own_end, end_here, to_come}
 use Rattle.mime_parts.specs.Marks.{Says, EndsAt}
-use Rattle.mime_parts.specs.Reading.{found_parts, IsOpen, HasLevel, IsRead, Ended}
+use Rattle.mime_parts.specs.Reading.{found_parts, IsOpen, HasLevel, IsRead, IsSettled, EndsAs, Ended}
 use Rattle.mime_parts.specs.declared.reader.Reader.{Reader}
 use Rattle.mime_parts.specs.declared.reader.Place.{Place}
 use Rattle.mime_parts.specs.declared.reader.Place.TheVariants as places
@@ -325,9 +325,22 @@ read_start message s stack now before parts = record {
 no_lines : (message : List ℕ) (at : ℕ) → length message ≤ at → lines_from at (drop at message) ≡ []
 no_lines message at h = rw (nil_from_length (drop at message) (omega (arith, length-drop at message))) refl
 
-pub end_all : (message : List ℕ) (s : Reader) (at : ℕ) (r : IsRead message s at) → length message ≤ at
+pub end_all : (message : List ℕ) (s : Reader) (at : ℕ) → length message ≤ at → EndsAs message s at
+end_all message s at h levels few = rw (no_lines message at h) (flushed message levels 64 s.stack.items s.place s.before (length message) (omega (arith, few)))
+
+-- the end of a message in which no multipart is open
+same_body : (message : List ℕ) (p : Place) (levels levels' : ℕ) (ls : List TextLine) (end : ℕ) → ((start : ℕ) → p ≢ places.Head start) → open_found message levels p ls end ≡ open_found message levels' p [] end
+same_body message places.Between levels levels' ls end h = refl
+same_body message (places.Head start) levels levels' ls end h = absurd (h start refl)
+same_body message (places.Body start body coding other) levels levels' ls end h = refl
+
+pub end_settled : (message : List ℕ) (s : Reader) (at : ℕ) → IsSettled s → EndsAs message s at
+end_settled message s at h levels few = rw h.alone (same_body message s.place 64 levels (lines_from at (drop at message)) (length message) h.body)
+
+-- the end, with nothing behind it
+pub end_behind : (message : List ℕ) (s : Reader) (at : ℕ) (r : IsRead message s at) → EndsAs message s at
     → to_come message 64 s.stack.items s.place s.before (lines_from at (drop at message)) (length message) ≡ open_found message r.levels s.place [] (length message) ++ []
-end_all message s at r h = rw (no_lines message at h) (flushed message r.levels 64 s.stack.items s.place s.before (length message) (omega (arith, r.few)) ∙ sym (append-nil _))
+end_behind message s at r h = h r.levels r.few ∙ sym (append-nil _)
 
 no_deep : (parts : List Part) → list_any is_too_deep (found_parts parts) ≡ false
 no_deep [] = refl
@@ -340,12 +353,12 @@ all_parts (p ∷ parts) = ap (λ (x : List Part). p ∷ x) (all_parts parts)
 few_enough : (n : ℕ) → n ≤ 10000 → nat_lt 10000 n ≡ false
 few_enough n h = grind (arith, nat_tests)
 
-pub parts_end : (message : List ℕ) (s mid : Reader) (at : ℕ) (r : IsRead message s at) → length message ≤ at → Ended message s mid (length message) true → mid.parts.items ≡ parts_in message
+pub parts_end : (message : List ℕ) (s mid : Reader) (at : ℕ) (r : IsRead message s at) → EndsAs message s at → Ended message s mid (length message) true → mid.parts.items ≡ parts_in message
 unfolding parts_in
 parts_end message s mid at r h d =
     let told = d.parts refl in
     let gone : open_found message r.levels s.place [] (length message) ≡ d.found = d.gives r.levels (has_level s.place r.levels at r.open_here) in
-    let all : found_parts mid.parts.items ++ [] ≡ found_in message 64 (whole_entity message) = all_behind (found_parts s.parts.items) (found_parts mid.parts.items) d.found [] (found_in message 64 (whole_entity message)) _ told.1 (end_all message s at r h ∙ ap (λ (x : List Found). x ++ []) gone) r.all in
+    let all : found_parts mid.parts.items ++ [] ≡ found_in message 64 (whole_entity message) = all_behind (found_parts s.parts.items) (found_parts mid.parts.items) d.found [] (found_in message 64 (whole_entity message)) _ told.1 (end_behind message s at r h ∙ ap (λ (x : List Found). x ++ []) gone) r.all in
     let size : length (found_parts mid.parts.items) ≡ length mid.parts.items = length-map mid.parts.items (λ p. APart p) in
     let limits : within_limits (found_parts mid.parts.items) ≡ mid.parts.items = rw (no_deep mid.parts.items, few_enough (length (found_parts mid.parts.items)) (omega (arith, told.0, size))) (all_parts mid.parts.items) in
     sym (ap within_limits (sym all ∙ append-nil (found_parts mid.parts.items)) ∙ limits)

@@ -1,5 +1,5 @@
 -- The state of the reader, against what is found in the message.
-use Rattle.std.specs.Prelude.{◌≡◌, ◌<◌, ◌≤◌, ◌+◌, ℕ, List, [], ◌∷◌, ◌++◌, length, map, drop, Bool, true, false, Option, Some, None}
+use Rattle.std.specs.Prelude.{◌≡◌, ◌≢◌, ◌<◌, ◌≤◌, ◌+◌, ℕ, List, [], ◌∷◌, ◌++◌, length, map, drop, Bool, true, false, Option, Some, None}
 use Rattle.mdbox_base.specs.declared.mime.Part.{Part}
 use Rattle.mail_model.specs.Lines.{lines_from}
 use Rattle.mail_model.specs.Parts.{Found, found_in, whole_entity}
@@ -27,6 +27,17 @@ pub record IsRead (message : List ℕ) (s : Reader) (at : ℕ) : Type 0 where
   pub before : s.before ≤ at
   pub within : at ≤ length message
   pub all : found_parts s.parts.items ++ to_come message 64 s.stack.items s.place s.before (lines_from at (drop at message)) (length message) ≡ found_in message 64 (whole_entity message)
+
+-- no multipart and no header block is open
+pub record IsSettled (s : Reader) : Type 0 where
+  pub alone : s.stack.items ≡ []
+  pub body : (start : ℕ) → s.place ≢ places.Head start
+
+-- From a place on no line changes what is found: it is what would be if the message ended there.
+abbrev pub EndsAs : List ℕ → Reader → ℕ → Type 0
+EndsAs message s at =
+    (levels : ℕ) → levels + length s.stack.items ≡ 64
+    → to_come message 64 s.stack.items s.place s.before (lines_from at (drop at message)) (length message) ≡ open_found message levels s.place [] (length message)
 
 -- a header block is open only on a level that is left
 abbrev pub HasLevel : Place → ℕ → Type 0

@@ -10,7 +10,6 @@ ghost use Rattle.std.specs.Prelude.{◌≡◌, ◌≤◌, length, IfOk};
 ghost use Rattle.mail_model.specs.Parts.{parts_in};
 
 use mdbox_base::{NoMemory, Part, Seq};
-use mime_fields::next_line;
 use reader::Reader;
 use std::alloc::Global;
 
@@ -21,7 +20,7 @@ pub fn leaf_parts(alloc: Global, message: &[u8]) -> Result<Seq<Part>, NoMemory>
 {
     let mut reader = Reader::new(alloc, message);
     let mut at = 0;
-    while let Some(line) = next_line(message, at) {
+    while let Some(line) = reader.next_line(message, at) {
         if !reader.take_line(message, line)? {
             return Ok(Seq::empty(alloc));
         }

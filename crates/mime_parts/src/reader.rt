@@ -1,16 +1,16 @@
 // The reader of a message, line by line, with a stack of boundaries.
-ghost use Rattle.std.specs.Prelude.{◌≡◌, ◌≤◌, ◌<◌, ◌+◌, ◌-◌, ◌==◌, if◌then◌else◌, ℕ, List, [], length, take, Some, None, IfOk, MatchBool, true, false};
+ghost use Rattle.std.specs.Prelude.{◌≡◌, ◌≤◌, ◌<◌, ◌+◌, ◌-◌, ◌==◌, if◌then◌else◌, ℕ, List, [], length, take, Some, None, IfOk, IfSome, IfNone, MatchBool, true, false};
 ghost use Rattle.std.specs.List.{list_any};
 ghost use Rattle.mail_model.specs.Lines.{range, IsLineAt};
 ghost use Rattle.mail_model.specs.Parts.{ends_part, part_of, trimmed_size, parts_in};
 ghost use Rattle.mime_parts.specs.Marks.{Says, EndsAt};
 ghost use Rattle.mime_parts.specs.ToCome.{own_end};
 ghost use Rattle.mime_parts.specs.declared.mark.Mark.{Mark};
-ghost use Rattle.mime_parts.specs.Reading.{IsRead, Flushes, Ended};
+ghost use Rattle.mime_parts.specs.Reading.{IsRead, IsSettled, EndsAs, Flushes, Ended};
 
 use crate::mark::{Ending, ending_of};
 use mdbox_base::{Boundary, Coding, Kind, Line, NoMemory, Part, Seq};
-use mime_fields::read_fields;
+use mime_fields::{next_line, read_fields};
 use std::alloc::Global;
 
 /// The most entities in one another, counted from the message.
@@ -66,6 +66,26 @@ impl Reader {
         ensures { result ≡ self.parts.items }
     {
         Seq::of(self.parts)
+    }
+
+    /// The line that starts at a place. None where no line from there on can change what is found: the message ends there,
+    /// or no multipart and no header block is open.
+    pub fn next_line(&self, message: &[u8], at: usize) -> Option<Line>
+        requires read { IsRead message.now self.now at }
+        ensures line { IfSome result (λ line. IsLineAt message.now at line) }
+        ensures end { IfNone result (EndsAs message.now self.now at) }
+    {
+        if self.is_settled() {
+            return None;
+        }
+        next_line(message, at)
+    }
+
+    /// Whether no multipart and no header block is open.
+    fn is_settled(&self) -> bool
+        ensures { result ≡ true → IsSettled self.now }
+    {
+        self.stack.is_empty() && !matches!(self.place, Place::Head { .. })
     }
 
     /// Takes the next line. False where the message has too many levels or leaves.

@@ -1,9 +1,9 @@
-use Rattle.std.proofs.Common.{length}
-use Rattle.attach_detach.proofs.Breaks.{IsCounted}
+use Rattle.std.proofs.Common.{◌≡◌, ◌+◌, ◌≤◌, length}
+use Rattle.mail_model.specs.VirtualSize.{bare_breaks}
 use Rattle.attach_detach.proofs.size.bare_breaks.Given as goal
 
-abbrev pub invariant-loop-at : goal.invariant-loop-at
-invariant-loop-at l = IsCounted l.message l.rest l.bare
+abbrev pub invariant-loop-rest : goal.invariant-loop-rest
+invariant-loop-rest l = (bare_breaks 0 l.message ≡ l.bare + bare_breaks l.before l.rest) × (l.bare + length l.rest ≤ length l.message)
 
-abbrev pub decreases-loop-at : goal.decreases-loop-at
-decreases-loop-at l = length l.rest
+abbrev pub decreases-loop-rest : goal.decreases-loop-rest
+decreases-loop-rest l = length l.rest

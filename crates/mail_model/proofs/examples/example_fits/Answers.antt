@@ -1,5 +1,5 @@
 use Rattle.mail_model.proofs.examples.example_fits.Goals as goal
-use Rattle.mail_model.specs.FitExamples.{raise_fits, lower_fits, lowered_stays, stored_once, nothing_lowered, nothing_counted}
+use Rattle.mail_model.specs.FitExamples.{raise_fits, lower_fits, lowered_stays, stored_once, nothing_lowered, nothing_counted, other_fits, overlapping_stays, same_guid_stays, whole_fits, part_stays, full_stays, none_stays}
 
 pub returns : goal.returns
 returns c = record {
@@ -9,4 +9,11 @@ returns c = record {
   stored_again = stored_once;
   none_lowered = nothing_lowered;
   none_counted = nothing_counted;
+  other_stored = other_fits;
+  overlapping = overlapping_stays;
+  same_guid = same_guid_stays;
+  purged_whole = whole_fits;
+  purged_part = part_stays;
+  raised_full = full_stays;
+  raised_none = none_stays;
 }

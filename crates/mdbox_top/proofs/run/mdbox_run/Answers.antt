@@ -1,12 +1,20 @@
-use Rattle.mdbox_top.proofs.RunLaws.{ends_last, told_refused, told_printed}
+use Rattle.std.proofs.Common.{sym, ◌∙◌}
+use Rattle.mdbox_top.specs.declared.store_command.StoreCommand.TheVariants as store
+use Rattle.mdbox_top.proofs.StoreLaws.{command_same}
 use Rattle.mdbox_top.proofs.run.mdbox_run.Goals as goal
 
-pub returns-clause-refused : goal.returns-clause-refused
-returns-clause-refused g c =
-    let told = c.report.ensures.told in
-    rw told.2 (told_refused _ (g.I.Source.left c.args.input.now) _ _ told.0 (ends_last _ _ _ _ c.perform-outcome.result told.0 told.1 c.perform-outcome.ensures.ends))
+pub returns-in-None-clause-init : goal.returns-in-None-clause-init
+returns-in-None-clause-init g c = λ id fit words. absurd (c.in-None.ensures.none (store.Init id, fit, words))
 
-pub returns-clause-printed : goal.returns-clause-printed
-returns-clause-printed g c =
-    let told = c.report.ensures.told in
-    rw told.2 (told_printed _ (g.I.Source.left c.args.input.now) _ _ told.0 (ends_last _ _ _ _ c.perform-outcome.result told.0 told.1 c.perform-outcome.ensures.ends))
+pub returns-in-None-clause-init_moments : goal.returns-in-None-clause-init_moments
+returns-in-None-clause-init_moments g c = λ id fit words. absurd (c.in-None.ensures.none (store.Init id, fit, words))
+
+pub returns-in-Some-clause-init : goal.returns-in-Some-clause-init
+returns-in-Some-clause-init g c = λ id fit words.
+    let known = c.in-Some.ensures.some in
+    c.run_command.ensures.init id (command_same c.in-Some.command id known.0 fit (sym known.1 ∙ words))
+
+pub returns-in-Some-clause-init_moments : goal.returns-in-Some-clause-init_moments
+returns-in-Some-clause-init_moments g c = λ id fit words.
+    let known = c.in-Some.ensures.some in
+    c.run_command.ensures.init_moments id (command_same c.in-Some.command id known.0 fit (sym known.1 ∙ words))

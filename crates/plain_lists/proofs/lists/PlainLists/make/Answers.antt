@@ -48,7 +48,8 @@ returns-clause-answers c =
         record {
           number = c.highest_number-highest.result + 1;
           above = rw (← c.self.view_is) (all_below (map mailbox_of boxes) (c.highest_number-highest.result + 1) (omega (arith, most)));
-          some = omega arith;
+          fresh = omega (arith, most, alone.highest, alone.mailboxes, ap (λ (l : _). greatest (λ m. m.number) l) c.self.view_is);
+          drawn = omega (arith, most, alone.mailboxes, ap (λ (l : _). greatest (λ m. m.number) l) c.self.view_is);
           fits = omega (arith, c.if-highest-ge-LAST_NUMBER.false);
           new_is = pushed_empty boxes c.push.new.self.items c.args.self.now (c.highest_number-highest.result + 1) c.args.name _ c.in_ok-push.ensures.items c.self.view_is refl refl refl c.new.ensures.items;
         },

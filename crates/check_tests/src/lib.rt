@@ -1,0 +1,5 @@
+//! Tests of the checks of an opening, on a disk in memory.
+#![tactic(auto)]
+
+#[cfg(test)]
+mod checks;

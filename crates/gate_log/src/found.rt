@@ -1,0 +1,109 @@
+// Logs that were looked at, and how they are repaired.
+ghost use Rattle.std.specs.Prelude.{◌≡◌, ◌↔◌, ℕ, List, Some, IsTrue, IfOk, IfErr, OnOk, IsErr, IsErrOf, IsOk};
+ghost use Rattle.disk_model.specs.Disk.{EachImage, OthersStay, SameButFor, FaultsRoseIf, IfTold, Keeps, reading};
+ghost use Rattle.mail_model.specs.LogFile.{IsLogFile};
+ghost use Rattle.gate_log.specs.State.{IsWhole};
+ghost use Rattle.gate_log.specs.Log.{Reads, Holds, Idle, ReadsRoseIf, IsFound, IsFoundKept};
+ghost use Rattle.gate_log.specs.Reading.{IsReading, IsOpenError};
+
+use crate::device::read_file;
+use crate::error::{DiskFault, LogError};
+use crate::gate::CLOSED;
+use crate::log::GateLog;
+use crate::read::{LogRead, read_log_of};
+use crate::repair::repair;
+use disk_model::{Disk, FileName};
+use mdbox_base::LogHead;
+use std::alloc::Global;
+use std::marker::Model;
+
+/// A log that was looked at: where it ends, and what stands behind its end.
+#[derive(Drop)]
+pub struct FoundLog {
+    name: FileName,
+    head: LogHead,
+    /// Where the last gate stands.
+    end: u64,
+    /// The value of that gate.
+    gate: u8,
+    /// How many octets stand behind it.
+    behind: u64,
+}
+
+impl Model for FoundLog {
+    ghost use Rattle.std.specs.Prelude.{◌<◌, ◌^◌, ◌-◌};
+    ghost use Rattle.gate_log.specs.State.{Found};
+
+    ghost Value = { Found };
+
+    ghost view = { λ log. record { name = log.name; head = log.head; end = log.end; gate = log.gate; behind = log.behind } };
+
+    ghost invariant = { λ log. log.end < 2 ^ 64 - 1 };
+}
+
+/// Reads the log that has this head, and changes nothing.
+pub fn inspect_log<D: Disk>(
+    alloc: Global,
+    disk: &mut D,
+    name: FileName,
+    head: LogHead,
+) -> Result<(FoundLog, LogRead), LogError>
+    // After Ok what was read is what the file has.
+    ensures octets { IfOk result (λ found. (octets : List ℕ) × IsReading octets found.1 × IfTold (D.history disk.old) (λ now. reading (now name) ≡ Some octets)) }
+    ensures log { IfOk result (λ found. (found.0.name ≡ name) × (found.0.head ≡ head) × (found.0.end ≡ found.1.end) × (found.1.head ≡ head)) }
+    ensures found { IfOk result (λ found. IfTold (D.history disk.old) (IsFound found.0 found.1.entries)) }
+
+    // The file still stands so, and where a stop left it as it read, it does.
+    ensures stands { IfOk result (λ found. IfTold (D.history disk.new) (IsFound found.0 found.1.entries)) }
+    ensures kept { IfOk result (λ found. (octets : List ℕ) → IfTold (D.history disk.old) (λ now. Keeps (now name) octets) → IfTold (D.history disk.new) (IsFoundKept found.0 found.1.entries)) }
+
+    ensures idle { Idle (D.history disk.old) (D.history disk.new) }
+    ensures refused { IfErr result (IsOpenError name head (D.history disk.old)) }
+    ensures fault { ReadsRoseIf (IsErrOf result LogError.DiskFault) (D.faults disk.old) (D.faults disk.new) }
+{
+    let octets = read_file(alloc, disk, name)?;
+    let read = read_log_of(alloc, &octets, head)?;
+    let end = read.end as usize;
+    let found = FoundLog {
+        name,
+        head,
+        end: read.end,
+        gate: octets[end],
+        behind: (octets.len() - end - 1) as u64,
+    };
+    Ok((found, read))
+}
+
+impl FoundLog {
+    /// Whether the last gate is closed and nothing stands behind it, so that repairing changes nothing.
+    pub fn is_whole(&self) -> bool
+        ensures { IsTrue result ↔ IsWhole self.now }
+    {
+        self.gate == CLOSED && self.behind == 0
+    }
+
+    /// Cuts off what stands behind the last gate, and closes that gate where it isn't closed.
+    pub fn repair<D: Disk>(self, alloc: Global, disk: &mut D) -> Result<GateLog, DiskFault>
+        requires stands { (entries : List (List ℕ)) × IfTold (D.history disk.old) (IsFound self entries) }
+
+        // At every moment of the call each image has the same entries.
+        ensures any_moment { (entries : List (List ℕ)) → IfTold (D.history disk.old) (IsFoundKept self entries)
+            → EachImage (λ _ image. IsLogFile (image self.name) self.head entries × OthersStay self.name (D.history disk.old) image) (D.history disk.old) (D.history disk.new) }
+
+        // Of the other files each image has what an image had before, whatever this file has.
+        ensures others_stay { EachImage (λ _ image. OthersStay self.name (D.history disk.old) image) (D.history disk.old) (D.history disk.new) }
+
+        // After Ok the file has these entries and a closed gate, and no other file has changed.
+        ensures log { IfOk result (λ log. log ≡ record { name = self.name; head = self.head; end = self.end; room = 0 }) }
+        ensures reads { IfOk result (λ log. (entries : List (List ℕ)) → IfTold (D.history disk.old) (IsFound self entries) → Reads log entries (D.history disk.new)) }
+        ensures holds { IfOk result (λ log. (entries : List (List ℕ)) → IfTold (D.history disk.old) (IsFoundKept self entries) → Holds log entries (D.history disk.new)) }
+        ensures others { OnOk result (SameButFor self.name (D.history disk.old) (D.history disk.new)) }
+
+        // A whole log is left alone.
+        ensures untouched { IsWhole self → IsOk result × (disk.new ≡ disk.old) }
+        ensures fault { FaultsRoseIf (IsErr result) (D.faults disk.old) (D.faults disk.new) }
+    {
+        repair(disk, self.name, self.end, self.gate, self.behind)?;
+        Ok(GateLog::at_rest(alloc, self.name, self.head, self.end))
+    }
+}

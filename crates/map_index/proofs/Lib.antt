@@ -1,0 +1,8 @@
+pub mod Lists
+pub mod InPlace
+pub mod Nearest
+pub mod Pairs
+pub mod Sealed
+pub mod Target
+pub mod Kept
+pub mod Applied

@@ -1,0 +1,9 @@
+use Rattle.std.proofs.Common.{◌≡◌, map}
+use Rattle.mail_model.specs.MapMeaning.{record_changed}
+use Rattle.map_index.specs.Shown.{record_of}
+use Rattle.map_index.proofs.InPlace.{changed_to}
+use Rattle.map_index.proofs.changes.change_each.Given as goal
+
+-- the records before this one are changed
+abbrev pub invariant-loop-place : goal.invariant-loop-place
+invariant-loop-place l = map record_of l.records.items ≡ changed_to (record_changed l.entry) l.place (map record_of l.fn.records.items)

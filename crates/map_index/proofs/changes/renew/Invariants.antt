@@ -1,0 +1,10 @@
+use Rattle.std.proofs.Common.{◌≡◌, map}
+use Rattle.mdbox_base.specs.declared.entries.MapEntry.TheVariants as entry
+use Rattle.mail_model.specs.MapMeaning.{box_changed}
+use Rattle.map_index.specs.Shown.{box_of}
+use Rattle.map_index.proofs.InPlace.{changed_to}
+use Rattle.map_index.proofs.changes.renew.Given as goal
+
+-- the mailboxes before this one are changed
+abbrev pub invariant-loop-place : goal.invariant-loop-place
+invariant-loop-place l = map box_of l.boxes.items ≡ changed_to (box_changed (entry.G l.number l.generation)) l.place (map box_of l.fn.boxes.items)

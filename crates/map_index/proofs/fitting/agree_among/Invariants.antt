@@ -1,0 +1,11 @@
+use Rattle.std.proofs.Common.{length}
+use Rattle.std.specs.Prelude.{AllPairs, ◌↔◌}
+use Rattle.mail_model.specs.MapFits.{AgreesOn}
+use Rattle.map_index.proofs.fitting.agree_among.Given as goal
+
+-- the instances agree exactly where the rest does
+abbrev pub invariant-loop-first : goal.invariant-loop-first
+invariant-loop-first l = AllPairs AgreesOn l.rest ↔ AllPairs AgreesOn l.fn.instances
+
+abbrev pub decreases-loop-first : goal.decreases-loop-first
+decreases-loop-first l = length l.rest

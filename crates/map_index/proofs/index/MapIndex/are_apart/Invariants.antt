@@ -1,0 +1,11 @@
+use Rattle.std.proofs.Common.{length}
+use Rattle.std.specs.Prelude.{AllPairs, ◌↔◌}
+use Rattle.mail_model.specs.MapFits.{ArePlacedApart}
+use Rattle.map_index.proofs.index.MapIndex.are_apart.Given as goal
+
+-- the places are apart exactly where the rest is
+abbrev pub invariant-loop-first : goal.invariant-loop-first
+invariant-loop-first l = AllPairs (ArePlacedApart l.self) l.rest ↔ AllPairs (ArePlacedApart l.self) l.fn.moved
+
+abbrev pub decreases-loop-first : goal.decreases-loop-first
+decreases-loop-first l = length l.rest

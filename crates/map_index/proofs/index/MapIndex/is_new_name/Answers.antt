@@ -1,0 +1,9 @@
+use Rattle.std.proofs.Common.{◌≢◌, ap}
+use Rattle.mail_model.specs.MapMeaning.{MapBox, MapMeaning}
+use Rattle.map_index.specs.Shown.{box_of}
+use Rattle.map_index.proofs.Lists.{all_in}
+use Rattle.map_index.proofs.index.MapIndex.is_new_name.Goals as goal
+
+pub returns : goal.returns
+returns c =
+    all_in (λ (box : MapBox). box.name ≢ c.args.name.now) box_of _ _ _ _ (rw c.as_octets.ensures.same at c.is_new_name.ensures) c.deref.ensures.value (ap (λ (m : MapMeaning). m.boxes) c.self.view_is)

@@ -1,0 +1,20 @@
+-- What holds of the record of a map uid, and of a place that is given to one.
+use Rattle.std.specs.Prelude.{◌≡◌, ◌≤◌, ℕ}
+use Rattle.mdbox_base.specs.declared.entries.MapPlace.{MapPlace}
+use Rattle.mail_model.specs.MapMeaning.{MapMeaning}
+use Rattle.mail_model.specs.MapFits.{FitsPlace, HasRecord, IsKnown}
+
+unfoldable pub HasRow : MapMeaning → ℕ → Type 0
+HasRow m uid = IsKnown m uid
+
+unfoldable pub IsCounted : MapMeaning → ℕ → Type 0
+IsCounted m uid = HasRecord m uid (λ row. 1 ≤ row.count)
+
+unfoldable pub IsIn : MapMeaning → ℕ → ℕ → Type 0
+IsIn m file uid = HasRecord m uid (λ row. row.file ≡ file)
+
+unfoldable pub IsUnused : MapMeaning → ℕ → ℕ → Type 0
+IsUnused m file uid = HasRecord m uid (λ row. (row.file ≡ file) × (row.count ≡ 0))
+
+unfoldable pub HasRoom : MapMeaning → ℕ → MapPlace → Type 0
+HasRoom m target place = FitsPlace m target place

@@ -1,0 +1,14 @@
+//! What a map log means so far: its records, mailboxes, sealed files and highest numbers.
+#![tactic(auto)]
+
+pub use index::MapIndex;
+pub use rows::{BoxAt, MapRow};
+
+mod changes;
+mod fitting;
+mod index;
+mod named;
+mod numbers;
+mod rows;
+#[cfg(test)]
+mod tests;

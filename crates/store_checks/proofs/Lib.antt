@@ -1,0 +1,16 @@
+pub mod Added
+pub mod Calls
+pub mod Checking
+pub mod Counting
+pub mod Failing
+pub mod FirstBare
+pub mod Lying
+pub mod Mailboxes
+pub mod NoEntry
+pub mod Places
+pub mod Reading
+pub mod RootHead
+pub mod Rooted
+pub mod Sorting
+pub mod Taking
+pub mod Walks

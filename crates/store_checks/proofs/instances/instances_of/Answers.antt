@@ -1,0 +1,46 @@
+use Rattle.std.proofs.Common.{◌≡◌, ◌+◌, ◌++◌, map, refl, sym, ◌∙◌, ap, subst, List, IsPermutation, take_all, get_or, length, append-nil, arith}
+use Rattle.std.proofs.lemmas.List.Elements.{All-push}
+use Rattle.std.proofs.lemmas.List.Sorted.{All-permutation}
+use Rattle.store_checks.specs.declared.instances.Instance.{Instance}
+use Rattle.store_checks.specs.Lengths.{instance_of, IsNamedNoLater}
+use Rattle.std.specs.List.{flat_map}
+use Rattle.mail_model.specs.MapMeaning.{MapRecord}
+use Rattle.mdbox_base.specs.declared.entries.InstRow.{InstRow}
+use Rattle.store_checks.proofs.Walks.{grown}
+use Rattle.store_checks.proofs.Sorting.{names_next, named_next, copied_some, chained, named_no_later, named_trans}
+use Rattle.store_checks.proofs.instances.instances_of.Goals as goal
+
+pub unwrap-requires : goal.unwrap-requires
+unwrap-requires c =
+    let n = names_next c.args.map.now c.loop-place.place c.row_at.result c.unwrap-row.result c.is_kept.ensures.records.rising c.row_at.ensures c.unwrap-row.ensures in
+    copied_some c.instances.result _ n.items c.instances.ensures n.found
+
+pub loop-inst-init : goal.loop-inst-init
+loop-inst-init c = record { same = sym (append-nil c.loop-place.instances.items); sized = c.loop-place.invariant.sized }
+
+pub loop-inst-preserved : goal.loop-inst-preserved
+loop-inst-preserved c = record {
+  same = grown instance_of c.as_slice-inst-items.result.now c.loop-inst.inst-index _ c.instance_of.result c.loop-place.instances.items c.loop-inst.instances.items c.push.new.self.items c.loop-inst-test.true c.instance_of.ensures.same c.loop-inst.invariant.same c.in_ok-push.ensures.items;
+  sized = rw c.in_ok-push.ensures.items (All-push (λ (i : Instance). length i.hash.0 ≡ 20) c.loop-inst.instances.items c.instance_of.result c.loop-inst.invariant.sized c.instance_of.ensures.hash);
+}
+
+pub loop-place-preserved : goal.loop-place-preserved
+loop-place-preserved c =
+    let n = names_next c.args.map.now c.loop-place.place c.row_at.result c.unwrap-row.result c.is_kept.ensures.records.rising c.row_at.ensures c.unwrap-row.ensures in
+    record {
+      same = named_next c.args.map.now c.loop-place.place c.unwrap-row.result.uid.0 n c.instances.result c.unwrap.result _ c.as_slice-inst-items.result.now c.loop-place.instances.items c.loop-inst.instances.items
+          c.instances.ensures c.unwrap.ensures refl c.as_slice-inst-items.ensures c.loop-place.invariant.same
+          (c.loop-inst.invariant.same ∙ ap (λ (l : List InstRow). c.loop-place.instances.items ++ map instance_of l) (take_all c.loop-inst.inst-index c.as_slice-inst-items.result.now c.loop-inst-test.false));
+      sized = c.loop-inst.invariant.sized;
+    }
+
+pub returns-clause-same : goal.returns-clause-same
+returns-clause-same c =
+    subst (λ (is : List Instance). IsPermutation is c.sort_unstable.new.self.items)
+    (c.loop-place.invariant.same ∙ ap (λ (l : List MapRecord). map instance_of (flat_map (λ (r : MapRecord). r.instances) l)) (take_all c.loop-place.place c.args.map.now.records (omega (arith, c.rows-place-end.ensures)))) c.sort_unstable.ensures.permutation
+
+pub returns-clause-order : goal.returns-clause-order
+returns-clause-order c =
+    let sized = All-permutation (λ (i : Instance). length i.hash.0 ≡ 20) c.loop-place.instances.items c.sort_unstable.new.self.items c.sort_unstable.ensures.permutation c.loop-place.invariant.sized in
+    chained IsNamedNoLater named_trans c.sort_unstable.new.self.items
+    (λ k d lt. named_no_later (get_or c.sort_unstable.new.self.items k d) (get_or c.sort_unstable.new.self.items (k + 1) d) (sized (k + 1) d lt ∙ sym (sized k d (omega (arith, lt)))) (c.sort_unstable.ensures.sorted k d (omega arith) lt))

@@ -1,0 +1,40 @@
+-- Listed messages without a record of their GUID.
+use Rattle.std.specs.Prelude.{◌≡◌, ◌≤◌, ℕ, List, map, Option, Some, None}
+use Rattle.mdbox_base.specs.declared.entries.BoxEntry.{BoxEntry}
+use Rattle.mdbox_base.specs.declared.entries.BoxEntry.TheVariants as box
+use Rattle.mail_model.specs.BoxMeaning.{LogRow, BoxMeaning, box_meaning, row_at}
+use Rattle.mail_model.specs.MapMeaning.{MapMeaning}
+use Rattle.mail_model.specs.Entries.{box_text, IsBoxText}
+use Rattle.mail_model.specs.Opening.{AreBoxEntries, HasItsRecord, IsBare}
+
+-- the UID of the message that an entry adds
+abbrev pub added_uid : BoxEntry → Option ℕ
+added_uid (box.A uid flags time size map_uid guid) = Some uid.0
+added_uid entry = None
+
+-- a message with this UID is listed and has no record of its GUID
+pub record LacksAt (m : MapMeaning) (b : BoxMeaning) (uid : ℕ) : Type 0 where
+  pub row : LogRow
+  pub found : row_at b uid ≡ Some row
+  pub bare : HasItsRecord m row → ⊥
+
+-- a message with this UID has one, where it is listed
+abbrev pub HasAt : MapMeaning → BoxMeaning → ℕ → Type 0
+HasAt m b uid = (row : LogRow) → row_at b uid ≡ Some row → HasItsRecord m row
+
+-- the text is an entry that adds a message of the first kind
+pub record AddsBare (m : MapMeaning) (b : BoxMeaning) (text : List ℕ) : Type 0 where
+  pub entry : BoxEntry
+  pub is : IsBoxText text entry
+  pub uid : ℕ
+  pub added : added_uid entry ≡ Some uid
+  pub lacks : LacksAt m b uid
+
+-- each message that an entry with this text adds is of the second kind
+abbrev pub AddsNoBare : MapMeaning → BoxMeaning → List ℕ → Type 0
+AddsNoBare m b text = (entry : BoxEntry) (uid : ℕ) → IsBoxText text entry → added_uid entry ≡ Some uid → HasAt m b uid
+
+-- of the entries with these texts and this meaning, the record at this place is the first that adds such a message
+abbrev pub IsFirstBare : MapMeaning → BoxMeaning → List (List ℕ) → ℕ → Type 0
+IsFirstBare m b texts place = (entries : List BoxEntry) → texts ≡ map box_text entries → AreBoxEntries entries → b ≡ box_meaning entries
+    → IsBare m entries place × ((other : ℕ) → IsBare m entries other → place ≤ other)

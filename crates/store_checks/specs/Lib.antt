@@ -1,0 +1,9 @@
+pub mod Bare
+pub mod Boxes
+pub mod Checked
+pub mod Folds
+pub mod Lengths
+pub mod Logs
+pub mod RootId
+pub mod Roots
+pub mod Store

@@ -1,0 +1,21 @@
+//! The checks of an opening: what a store's logs say, and whether its files have what they need. They read the disk, and
+//! change nothing.
+#![tactic(auto)]
+
+pub use check::{Checked, check_store};
+pub use error::CheckError;
+pub use mailbox::CheckedBox;
+
+mod bare;
+mod check;
+mod counts;
+mod error;
+mod fold;
+mod instances;
+mod lengths;
+mod log;
+mod mailbox;
+mod map_log;
+mod no_entry;
+mod regions;
+mod root;

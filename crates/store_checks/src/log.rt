@@ -1,0 +1,53 @@
+// One log of the disk.
+ghost use Rattle.std.specs.Prelude.{◌≡◌, [], ℕ, List, Some, IfOk, IfErr, IsErrOf};
+ghost use Rattle.disk_model.specs.Disk.{IfTold, reading};
+ghost use Rattle.gate_log.specs.Log.{Idle, ReadsRoseIf, IsFound};
+ghost use Rattle.gate_log.specs.Reading.{IsReading};
+ghost use Rattle.store_checks.specs.Logs.{of_log, IsLogCause};
+
+use crate::error::CheckError;
+use crate::fold::{Fold, fold_entries};
+use disk_model::{Disk, FileName};
+use gate_log::{FoundLog, LogError, LogRead, inspect_log};
+use mdbox_base::LogHead;
+use std::alloc::Global;
+
+/// Reads the log that has this head, and takes in its entries.
+pub fn read_log<D: Disk, F: Fold>(
+    alloc: Global,
+    disk: &mut D,
+    name: FileName,
+    head: LogHead,
+    fold: &mut F,
+) -> Result<(FoundLog, LogRead), CheckError>
+    requires { F.is_fold fold.old [] }
+    ensures octets { IfOk result (λ found. (octets : List ℕ) × IsReading octets found.1 × (found.1.head ≡ head) × IfTold (D.history disk.old) (λ now. reading (now name) ≡ Some octets)) }
+    ensures folded { IfOk result (λ found. F.is_fold fold.new found.1.entries) }
+    ensures store { F.store fold.new ≡ F.store fold.old }
+    ensures log { IfOk result (λ found. (found.0.name ≡ name) × (found.0.head ≡ head)) }
+    ensures stands { IfOk result (λ found. IfTold (D.history disk.new) (IsFound found.0 found.1.entries)) }
+    ensures refused { IfErr result (IsLogCause F.is_fold F.refuses fold.new name head (D.history disk.old)) }
+    ensures idle { Idle (D.history disk.old) (D.history disk.new) }
+    ensures fault { ReadsRoseIf (IsErrOf result CheckError.DiskFault) (D.faults disk.old) (D.faults disk.new) }
+{
+    let (log, read) = match inspect_log(alloc, disk, name, head) {
+        Ok(found) => found,
+        Err(error) => return Err(of_log(name, error)),
+    };
+    if let Some(bad) = fold_entries(alloc, fold, read.entries.as_slice())? {
+        return Err(CheckError::Damaged(name, read.places.as_slice()[bad]));
+    }
+    Ok((log, read))
+}
+
+/// What an error of a log means for the store.
+fn of_log(name: FileName, error: LogError) -> CheckError
+    ensures { result ≡ of_log name error }
+{
+    match error {
+        LogError::NoLog => CheckError::Damaged(name, 0),
+        LogError::LogDamaged(place) => CheckError::Damaged(name, place),
+        LogError::DiskFault => CheckError::DiskFault,
+        LogError::NoMemory => CheckError::NoMemory,
+    }
+}

@@ -1,0 +1,75 @@
+// The root log.
+ghost use Rattle.std.specs.Prelude.{◌≡◌, List, IfOk, IfErr, IsErrOf};
+ghost use Rattle.disk_model.specs.Disk.{IfTold};
+ghost use Rattle.mdbox_base.specs.declared.entries.RootEntry.{RootEntry};
+ghost use Rattle.mail_model.specs.Settled.{files_of};
+ghost use Rattle.gate_log.specs.Log.{Idle, ReadsRoseIf};
+ghost use Rattle.store_checks.specs.Roots.{HasId, IsRootRead, IsRootCause};
+ghost use Rattle.store_checks.specs.RootId.{IsIdCause};
+
+use crate::error::CheckError;
+use crate::fold::RootFold;
+use crate::log::read_log;
+use crate::no_entry::has_no_entry;
+use disk_model::{Disk, DiskError, FileName};
+use gate_log::FoundLog;
+use mdbox_base::{LogHead, LogKind, StoreId};
+use std::alloc::Global;
+
+/// How many octets of a root log tell whether it has an entry: its head, a gate, and one octet behind that.
+const TELLING: usize = 27;
+
+/// What a root log says: the store's id, and the generation of the map log in force.
+#[derive(Drop)]
+pub struct Root {
+    pub id: StoreId,
+    pub log: FoundLog,
+    pub generation: u32,
+}
+
+/// Reads the root log.
+pub fn read_root<D: Disk>(alloc: Global, disk: &mut D) -> Result<Root, CheckError>
+    ensures read { IfOk result (λ root. (before : List RootEntry) × IsRootRead root.id.0 root.generation root.log before (D.history disk.old) (D.history disk.new)) }
+    ensures refused { IfErr result (IsRootCause (D.history disk.old)) }
+    ensures idle { Idle (D.history disk.old) (D.history disk.new) }
+    ensures fault { ReadsRoseIf (IsErrOf result CheckError.DiskFault) (D.faults disk.old) (D.faults disk.new) }
+{
+    let id = root_id(alloc, disk)?;
+    let head = LogHead {
+        store: id,
+        kind: LogKind::Root,
+        number: 0,
+        generation: 0,
+    };
+    let mut root = RootFold { last: None };
+    let (log, _) = read_log(alloc, disk, FileName::Root, head, &mut root)?;
+    match root.last {
+        Some(generation) => Ok(Root {
+            id,
+            log,
+            generation,
+        }),
+        None => Err(CheckError::NoStore),
+    }
+}
+
+/// The store's id, from the head of a root log that has an entry.
+fn root_id<D: Disk>(alloc: Global, disk: &mut D) -> Result<StoreId, CheckError>
+    ensures found { IfOk result (λ id. IfTold (D.history disk.old) (λ now. HasId id.0 (files_of now))) }
+    ensures refused { IfErr result (IsIdCause (D.history disk.old)) }
+    ensures idle { Idle (D.history disk.old) (D.history disk.new) }
+    ensures fault { ReadsRoseIf (IsErrOf result CheckError.DiskFault) (D.faults disk.old) (D.faults disk.new) }
+{
+    let mut front = [0; TELLING];
+    let count = match disk.read_at(FileName::Root, 0, &mut front) {
+        Ok(count) => count,
+        Err(DiskError::Absent) => return Err(CheckError::NoStore),
+        Err(DiskError::Failed) => return Err(CheckError::DiskFault),
+    };
+    if has_no_entry(alloc, &front[..count])? {
+        return Err(CheckError::NoStore);
+    }
+    let mut id = [0; 8];
+    id.copy_from_slice(&front[8..16]);
+    Ok(StoreId(id))
+}

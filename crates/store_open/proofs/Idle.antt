@@ -1,0 +1,28 @@
+-- Calls that change nothing, one after another.
+use Rattle.std.proofs.Common.{◌≡◌, Option, Some, None, ◌∙◌, subst}
+use Rattle.disk_model.specs.Disk.{Files, DiskState, History, IsImage, IfTold, EachImage}
+use Rattle.disk_model.proofs.Moments.{each_image-map, each_image-then}
+use Rattle.gate_log.specs.Log.{SameState, Idle}
+
+same-then : (old now new : Option History) → SameState old now → SameState now new → SameState old new
+same-then None None new a b = b
+same-then None (Some now) new a b = absurd (let e : Some now ≡ None = a in cc)
+same-then (Some old) None new a b = elim a [ ]
+same-then (Some old) (Some now) None a b = b
+same-then (Some old) (Some now) (Some new) a b = b ∙ a
+
+image-back : (old now : Option History) (image : Files) → SameState old now → IfTold now (λ disk. IsImage disk image) → IfTold old (λ disk. IsImage disk image)
+image-back None now image same is = tt
+image-back (Some old) None image same is = elim same [ ]
+image-back (Some old) (Some now) image same is = subst (λ (d : DiskState). IsImage d image) same is
+
+pub idle-then : (old now new : Option History) → Idle old now → Idle now new → Idle old new
+idle-then old now new a b = record {
+  same = same-then old now new a.same b.same;
+  each = each_image-then _ old now new a.each (each_image-map _ _ now new (λ m image is. image-back old now image a.same is) b.each);
+}
+
+-- what holds of each image at the beginning holds of each since
+pub idle-images : (P : Files → Type 0) (old new : Option History) → Idle old new → IfTold old (λ disk. (image : Files) → IsImage disk image → P image) → EachImage (λ _ image. P image) old new
+idle-images P None new idle holds = idle.each
+idle-images P (Some old) new idle holds = each_image-map _ _ (Some old) new (λ m image is. holds image is) idle.each

@@ -1,0 +1,106 @@
+-- What is known of a disk on which a store is made.
+use Rattle.std.specs.Prelude.{◌≡◌, ◌≢◌, ◌<◌, ◌^◌, ◌⊎◌, ℕ, List, [], ◌∷◌, Option, Some, None}
+use Rattle.std.specs.declared.cmp.Ordering.{Ordering}
+use Rattle.std.specs.declared.cmp.Ordering.TheVariants.{Less}
+use Rattle.disk_model.specs.Disk.{Files, FileState, DiskState, History, IsThere, IsPast, Keeps, MayLeave, no_file, named, removed, reading}
+use Rattle.disk_model.specs.declared.name.FileName.{FileName}
+use Rattle.disk_model.specs.declared.name.FileName.TheVariants as file
+use Rattle.mdbox_base.specs.declared.log_head.LogHead.{LogHead}
+use Rattle.mdbox_base.specs.declared.log_head.LogKind.TheVariants as kind
+use Rattle.mail_model.specs.LogFile.{IsLogFile}
+use Rattle.mail_model.specs.Entries.{root_text, map_text}
+use Rattle.mail_model.specs.Stands.{head_of}
+use Rattle.mail_model.specs.Safe.{Safe}
+use Rattle.mail_model.specs.Opening.{HasNoEntry, first_root, first_box, empty_inbox}
+use Rattle.gate_log.specs.Log.{IsNoLonger, log_text}
+
+-- a relation of the present states, where the disk tells them
+abbrev pub BothTold : (DiskState → DiskState → Type 0) → Option History → Option History → Type 0
+BothTold R None new = new ≡ None
+BothTold R (Some old) None = ⊥
+BothTold R (Some old) (Some new) = R old.now new.now
+
+-- a log of the store, and no storage file and no instance
+abbrev pub IsLogName : FileName → Type 0
+IsLogName file.Root = Unit {0}
+IsLogName (file.Map generation) = Unit {0}
+IsLogName (file.Box number generation) = Unit {0}
+IsLogName (file.Mail number) = ⊥
+IsLogName (file.Inst hash id) = ⊥
+
+-- a storage file or an instance is there
+abbrev pub HasMailFile : DiskState → Type 0
+HasMailFile disk = (name : FileName) × (IsLogName name → ⊥) × IsThere (disk name)
+
+-- a log is there
+abbrev pub HasAnyLog : DiskState → Type 0
+HasAnyLog disk = (name : FileName) × IsLogName name × IsThere (disk name)
+
+-- the name of a log as the code's type can hold it
+abbrev pub IsLogInRange : FileName → Type 0
+IsLogInRange file.Root = Unit {0}
+IsLogInRange (file.Map generation) = generation < 2 ^ 32
+IsLogInRange (file.Box number generation) = (number < 2 ^ 32) × (generation < 2 ^ 32)
+IsLogInRange (file.Mail number) = ⊥
+IsLogInRange (file.Inst hash id) = ⊥
+
+-- the least log that is there, of those past this name
+abbrev pub IsFirstLog : (FileName → FileName → Ordering) → Option FileName → Option FileName → DiskState → Type 0
+IsFirstLog cmp after None disk = (name : FileName) → IsLogName name → IsThere (disk name) → IsPast cmp after name → ⊥
+IsFirstLog cmp after (Some next) disk = IsLogName next × IsThere (disk next)
+    × ((name : FileName) → IsThere (disk name) → IsPast cmp after name → cmp name next ≢ Less)
+
+-- A store may be made here: the root log has no entry, and no storage file and no instance is there.
+pub record IsFree (disk : DiskState) : Type 0 where
+  pub no_entry : HasNoEntry (reading (disk file.Root))
+  pub no_mail : HasMailFile disk → ⊥
+
+-- whatever a stop leaves of the file, as a root log it has no entry
+abbrev pub NeverHasEntry : FileState → Type 0
+NeverHasEntry f = (left : Option (List ℕ)) → MayLeave f left → HasNoEntry left
+
+-- a log that was there is gone, and its name was synced; any other file is as it was, or its name was synced too
+pub record IsCleared (name : FileName) (f g : FileState) : Type 0 where
+  pub gone : IsLogName name → IsThere f → g ≡ no_file
+  pub stays : (IsLogName name → IsThere f → ⊥) → (g ≡ f) ⊎ (g ≡ named f)
+
+abbrev pub AreCleared : DiskState → DiskState → Type 0
+AreCleared old new = (name : FileName) → IsCleared name (old name) (new name)
+
+-- a log that was there was removed, and any other file is as it was
+pub record IsRemoved (name : FileName) (f g : FileState) : Type 0 where
+  pub gone : IsLogName name → IsThere f → g ≡ removed f
+  pub stays : (IsLogName name → IsThere f → ⊥) → g ≡ f
+
+abbrev pub AreRemoved : DiskState → DiskState → Type 0
+AreRemoved old new = (name : FileName) → IsRemoved name (old name) (new name)
+
+-- no file is there
+abbrev pub IsBare : DiskState → Type 0
+IsBare disk = (name : FileName) → IsThere (disk name) → ⊥
+
+-- A file that is made as a log with one entry: it is no longer than it could be before, or than a log without entries, or
+-- it is the log without the entry, or with it.
+abbrev pub IsBeingMade : LogHead → List ℕ → FileState → Option (List ℕ) → Type 0
+IsBeingMade head entry f left = IsNoLonger 26 f left ⊎ (IsLogFile left head [] ⊎ IsLogFile left head (entry ∷ []))
+
+-- the heads of a new store's logs
+abbrev pub root_head : List ℕ → LogHead
+root_head store = head_of store kind.Root 0 0
+
+abbrev pub map_head : List ℕ → LogHead
+map_head store = head_of store kind.Map 0 1
+
+abbrev pub inbox_head : List ℕ → LogHead
+inbox_head store = head_of store kind.Box 1 1
+
+-- A new store with this id is on the disk: a stop leaves just its three logs, each as it reads.
+pub record IsMade (store : List ℕ) (disk : DiskState) : Type 0 where
+  pub root_log : Keeps (disk file.Root) (log_text (root_head store) (root_text first_root ∷ []))
+  pub map_log : Keeps (disk (file.Map 1)) (log_text (map_head store) (map_text first_box ∷ []))
+  pub inbox : Keeps (disk (file.Box 1 1)) (log_text (inbox_head store) [])
+  pub nothing_else : (name : FileName) → name ≢ file.Root → name ≢ file.Map 1 → name ≢ file.Box 1 1 → disk name ≡ no_file
+
+-- the files have no store, or a new one
+abbrev pub HasNothingOrInbox : Files → Type 0
+HasNothingOrInbox image = HasNoEntry (image file.Root) ⊎ Safe image empty_inbox

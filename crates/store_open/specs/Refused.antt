@@ -1,0 +1,26 @@
+-- Why a store was not made.
+use Rattle.std.specs.Prelude.{◌≡◌, ◌⊎◌, Option, ⊤}
+use Rattle.disk_model.specs.Disk.{History, IfTold, reading}
+use Rattle.disk_model.specs.declared.name.FileName.TheVariants as file
+use Rattle.mail_model.specs.Opening.{HasNoEntry}
+use Rattle.store_open.specs.Making.{HasMailFile}
+use Rattle.store_open.specs.declared.error.OpenError.{OpenError}
+use Rattle.store_open.specs.declared.error.OpenError.TheVariants.{NoStore, StoreWhole, MailFiles, Damaged, DiskFault, NoMemory}
+
+-- Why a store was not made: the root log has an entry; or it has none, and a storage file or an instance is there; or the
+-- device failed, or there was no memory.
+abbrev pub IsMakingError : Option History → OpenError → Type 0
+IsMakingError old StoreWhole = IfTold old (λ disk. HasNoEntry (reading (disk file.Root)) → ⊥)
+IsMakingError old MailFiles = IfTold old (λ disk. HasNoEntry (reading (disk file.Root)) × HasMailFile disk)
+IsMakingError old DiskFault = ⊤
+IsMakingError old NoMemory = ⊤
+IsMakingError old NoStore = ⊥
+IsMakingError old (Damaged name place) = ⊥
+
+-- a fault of the device, or want of memory
+abbrev pub IsFaultOrMemory : OpenError → Type 0
+IsFaultOrMemory error = (error ≡ DiskFault) ⊎ (error ≡ NoMemory)
+
+-- a refusal because of what the disk has
+abbrev pub IsOfFiles : OpenError → Type 0
+IsOfFiles error = (error ≡ StoreWhole) ⊎ (error ≡ MailFiles)

@@ -1,0 +1,58 @@
+// Whether a store may be made.
+ghost use Rattle.std.specs.Prelude.{◌≡◌, ◌↔◌, IsTrue, IfOk, IfErr, IsErr, IsErrOf, OnOk};
+ghost use Rattle.disk_model.specs.Disk.{IfTold, reading};
+ghost use Rattle.disk_model.specs.declared.name.FileName.TheVariants as file;
+ghost use Rattle.mail_model.specs.Opening.{HasNoEntry};
+ghost use Rattle.gate_log.specs.Log.{Idle, OneRoseIf};
+ghost use Rattle.store_open.specs.Making.{HasMailFile, IsFree};
+ghost use Rattle.store_open.specs.Refused.{IsMakingError, IsFaultOrMemory};
+
+use crate::error::OpenError;
+use crate::no_entry::{TELLING, has_no_entry};
+use disk_model::{Disk, DiskError, FileName};
+use gate_log::DiskFault;
+use std::alloc::Global;
+
+/// The greatest name of a log.
+const LAST_LOG: FileName = FileName::Box(u32::MAX, u32::MAX);
+
+/// Refuses a disk with a store, and one with storage files or instances.
+pub fn check_free<D: Disk>(alloc: Global, disk: &mut D) -> Result<(), OpenError>
+    ensures free { OnOk result (IfTold (D.history disk.old) IsFree) }
+    ensures refused { IfErr result (IsMakingError (D.history disk.old)) }
+    ensures idle { Idle (D.history disk.old) (D.history disk.new) }
+    ensures fault { OneRoseIf (IsErrOf result OpenError.DiskFault) (D.faults disk.old) (D.faults disk.new) }
+{
+    if !lacks_entry(alloc, disk)? {
+        return Err(OpenError::StoreWhole);
+    }
+    if has_mail_file(disk)? {
+        return Err(OpenError::MailFiles);
+    }
+    Ok(())
+}
+
+/// Whether the root log has no entry.
+pub fn lacks_entry<D: Disk>(alloc: Global, disk: &mut D) -> Result<bool, OpenError>
+    ensures told { IfOk result (λ lacks. IfTold (D.history disk.old) (λ now. IsTrue lacks ↔ HasNoEntry (reading (now file.Root)))) }
+    ensures refused { IfErr result IsFaultOrMemory }
+    ensures idle { Idle (D.history disk.old) (D.history disk.new) }
+    ensures fault { OneRoseIf (IsErrOf result OpenError.DiskFault) (D.faults disk.old) (D.faults disk.new) }
+{
+    let mut front = [0; TELLING];
+    match disk.read_at(FileName::Root, 0, &mut front) {
+        Ok(count) => Ok(has_no_entry(alloc, &front[..count])?),
+        Err(DiskError::Absent) => Ok(true),
+        Err(DiskError::Failed) => Err(OpenError::DiskFault),
+    }
+}
+
+/// Whether a storage file or an instance is there.
+fn has_mail_file<D: Disk>(disk: &mut D) -> Result<bool, DiskFault>
+    ensures told { IfOk result (λ some. IfTold (D.history disk.old) (λ now. IsTrue some ↔ HasMailFile now)) }
+    ensures idle { Idle (D.history disk.old) (D.history disk.new) }
+    ensures fault { OneRoseIf (IsErr result) (D.faults disk.old) (D.faults disk.new) }
+{
+    let next = disk.next_name(Some(LAST_LOG))?;
+    Ok(next.is_some())
+}

@@ -1,0 +1,57 @@
+// Errors of making and opening a store.
+ghost use Rattle.std.specs.Prelude.{◌≡◌};
+ghost use Rattle.store_open.specs.declared.error.OpenError.TheVariants.{DiskFault as Fault, NoMemory as Memory};
+
+use disk_model::FileName;
+use gate_log::DiskFault;
+use mdbox_base::NoMemory;
+use std::error::Error;
+use std::fmt;
+
+/// Why a store was not made or opened.
+#[derive(Clone, Copy, Debug, PartialEq, Eq)]
+pub enum OpenError {
+    /// There is no store: the root log has no entry.
+    NoStore,
+    /// There is a store already: the root log has an entry.
+    StoreWhole,
+    /// There are storage files or attachment instances, and no store.
+    MailFiles,
+    /// The store is damaged in this file, at this offset in octets.
+    Damaged(FileName, u64),
+    /// The device failed; the disk has counted it.
+    DiskFault,
+    /// There was no memory.
+    NoMemory,
+}
+
+impl fmt::Display for OpenError {
+    fn fmt<W: fmt::Write>(&self, f: &mut fmt::Formatter<W>) -> fmt::Result {
+        match self {
+            OpenError::NoStore => f.write_str("no store"),
+            OpenError::StoreWhole => f.write_str("there is a store already"),
+            OpenError::MailFiles => f.write_str("mail files without a store"),
+            OpenError::Damaged(name, offset) => write!(f, "{name:?} damaged at {offset}"),
+            OpenError::DiskFault => f.write_str("disk fault"),
+            OpenError::NoMemory => f.write_str("out of memory"),
+        }
+    }
+}
+
+impl Error for OpenError {}
+
+impl From<DiskFault> for OpenError {
+    ghost from_gives = { λ _ error. error ≡ Fault };
+
+    fn from(_error: DiskFault) -> OpenError {
+        OpenError::DiskFault
+    }
+}
+
+impl From<NoMemory> for OpenError {
+    ghost from_gives = { λ _ error. error ≡ Memory };
+
+    fn from(_error: NoMemory) -> OpenError {
+        OpenError::NoMemory
+    }
+}

@@ -1,0 +1,25 @@
+// Whether a root log names a map log.
+ghost use Rattle.std.specs.Prelude.{◌↔◌, Some, IsTrue, IfOk};
+ghost use Rattle.mail_model.specs.Opening.{HasNoEntry};
+
+use gate_log::{LogError, read_log};
+use mdbox_base::NoMemory;
+use std::alloc::Global;
+
+/// How many octets of a root log tell whether it has an entry: its head, a gate, and one octet behind that.
+pub(crate) const TELLING: usize = 27;
+
+/// Whether a root log with these octets, or with these first 27, has no entry: it is too short for one, or has a whole
+/// head and a first gate that isn't open.
+pub fn has_no_entry(alloc: Global, octets: &[u8]) -> Result<bool, NoMemory>
+    ensures { IfOk result (λ none. IsTrue none ↔ HasNoEntry (Some octets.now)) }
+{
+    if octets.len() < TELLING {
+        return Ok(true);
+    }
+    match read_log(alloc, &octets[..TELLING]) {
+        Ok(_) => Ok(true),
+        Err(LogError::LogDamaged(_)) => Ok(false),
+        Err(_) => Err(NoMemory),
+    }
+}

@@ -1,0 +1,16 @@
+pub mod Scans
+pub mod Regions
+pub mod Holding
+pub mod Rows
+pub mod Sweeping
+pub mod Order
+pub mod Walking
+pub mod Faults
+pub mod Cutting
+pub mod Repairing
+pub mod Boxes
+pub mod Settling
+pub mod Clearing
+pub mod Logs
+pub mod Whole
+pub mod Syncing

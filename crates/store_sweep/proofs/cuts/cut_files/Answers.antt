@@ -1,0 +1,78 @@
+use Rattle.std.proofs.Common.{Option, subst, arith}
+use Rattle.std.specs.Prelude.{IfSome}
+use Rattle.disk_model.specs.Disk.{IfTold, IsPast, IsNext}
+use Rattle.disk_model.specs.contracts.name.FileNameOrd.TheImpl.{ghosts}
+use Rattle.disk_model.specs.declared.name.FileName.{FileName}
+use Rattle.disk_model.proofs.Moments.{if_told-all}
+use Rattle.store_sweep.specs.Wanted.{is_log, IsNoLonger}
+use Rattle.store_sweep.proofs.Order.{walk_shrinks}
+use Rattle.store_sweep.proofs.Walking.{passed_none, walk_more, walk_ends}
+use Rattle.store_sweep.proofs.Sweeping.{images_now, images_unchanged, keeps_now, keeps_then, keeps_unchanged, where_now, where_then, where_unchanged, none_now, none_then, none_unchanged, kept_images, kept_keeps, walk_same, walk_none}
+use Rattle.store_sweep.proofs.Faults.{read_fault}
+use Rattle.store_sweep.proofs.Syncing.{synced_now, synced_then, synced_unchanged, walk_synced}
+use Rattle.store_sweep.proofs.cuts.cut_files.Goals as goal
+
+pub loop-name-init : goal.loop-name-init
+loop-name-init g c = record {
+  images = λ generation. images_now generation c.args.map.now (g.D.Disk.history c.args.disk.now);
+  keeps = λ generation. keeps_now generation c.args.map.now (g.D.Disk.history c.args.disk.now);
+  logs = where_now is_log (g.D.Disk.history c.args.disk.now);
+  synced = synced_now (g.D.Disk.history c.args.disk.now);
+  none_made = none_now (g.D.Disk.history c.args.disk.now);
+  cut = if_told-all _ (g.D.Disk.history c.args.disk.now) (λ disk. passed_none (IsNoLonger c.args.map.now) disk);
+  in_range = tt;
+  reads = omega arith;
+  changes = omega arith;
+}
+
+pub returns-in_err-name-clause-images : goal.returns-in_err-name-clause-images
+returns-in_err-name-clause-images g c = λ generation. images_unchanged generation c.args.map.now _ _ _ (c.loop-name.invariant.images generation) c.in_err-name.ensures.state
+
+pub returns-in_err-name-clause-fault : goal.returns-in_err-name-clause-fault
+returns-in_err-name-clause-fault g c =
+    read_fault c.in_err-name.field-0.0 _ _ _ _ c.loop-name.invariant.reads c.loop-name.invariant.changes c.in_err-name.ensures.not_absent c.in_err-name.ensures.cause
+
+pub returns-in_err-fit_file-clause-images : goal.returns-in_err-fit_file-clause-images
+returns-in_err-fit_file-clause-images g c = λ generation.
+    kept_images generation c.args.map.now _ _ _ _ (c.loop-name.invariant.images generation) (c.loop-name.invariant.keeps generation) c.in_ok-name.ensures.state (c.in_err-fit_file.ensures.images generation)
+
+pub loop-name-smaller : goal.loop-name-smaller
+loop-name-smaller g c =
+    walk_shrinks c.loop-name.last c.in-Some.name c.loop-name.invariant.in_range c.is_name_in_range.ensures
+    (let F : Option FileName → Type 0 = λ n. IfSome n (IsPast ghosts.cmp c.loop-name.last) in subst F c.in-Some.is c.in_ok-name.ensures.past)
+
+pub loop-name-preserved : goal.loop-name-preserved
+loop-name-preserved g c = record {
+  images = λ generation. kept_images generation c.args.map.now _ _ _ _ (c.loop-name.invariant.images generation) (c.loop-name.invariant.keeps generation) c.in_ok-name.ensures.state (c.in_ok-fit_file.ensures.images generation);
+  keeps = λ generation. kept_keeps generation c.args.map.now _ _ _ _ (c.loop-name.invariant.keeps generation) c.in_ok-name.ensures.state (c.in_ok-fit_file.ensures.keeps generation);
+  logs = walk_same is_log _ _ _ _ c.loop-name.invariant.logs c.in_ok-name.ensures.state c.in_ok-fit_file.ensures.logs;
+  synced = walk_synced _ _ _ _ c.loop-name.invariant.synced c.in_ok-name.ensures.state c.in_ok-fit_file.ensures.synced;
+  none_made = walk_none _ _ _ _ c.loop-name.invariant.none_made c.in_ok-name.ensures.state c.in_ok-fit_file.ensures.none_made;
+  cut = walk_more (IsNoLonger c.args.map.now) c.loop-name.last c.in-Some.name _ _ _ c.in_ok-name.ensures.state
+      (let F : Option FileName → Type 0 = λ n. IfTold (g.D.Disk.history c.loop-name.disk) (IsNext ghosts.cmp c.loop-name.last n) in subst F c.in-Some.is c.in_ok-name.ensures.next)
+      c.loop-name.invariant.cut c.in_ok-fit_file.ensures.others c.in_ok-fit_file.ensures.cut;
+  in_range = c.is_name_in_range.ensures;
+  reads = omega (arith, c.loop-name.invariant.reads, c.in_ok-name.ensures.cause.no_less, c.in_ok-fit_file.ensures.fault.reads);
+  changes = omega (arith, c.loop-name.invariant.changes, c.in_ok-name.ensures.cause.changes, c.in_ok-fit_file.ensures.fault.changes);
+}
+
+pub returns-clause-images : goal.returns-clause-images
+returns-clause-images g c = λ generation. images_unchanged generation c.args.map.now _ _ _ (c.loop-name.invariant.images generation) c.in_ok-name.ensures.state
+
+pub returns-clause-keeps : goal.returns-clause-keeps
+returns-clause-keeps g c = λ generation. keeps_then generation c.args.map.now _ _ _ (c.loop-name.invariant.keeps generation) (keeps_unchanged generation c.args.map.now _ _ c.in_ok-name.ensures.state)
+
+pub returns-clause-logs : goal.returns-clause-logs
+returns-clause-logs g c = where_then is_log _ _ _ c.loop-name.invariant.logs (where_unchanged is_log _ _ c.in_ok-name.ensures.state)
+
+pub returns-clause-none_made : goal.returns-clause-none_made
+returns-clause-none_made g c = none_then _ _ _ c.loop-name.invariant.none_made (none_unchanged _ _ c.in_ok-name.ensures.state)
+
+pub returns-clause-cut : goal.returns-clause-cut
+returns-clause-cut g c =
+    walk_ends (IsNoLonger c.args.map.now) c.loop-name.last _ _ c.in_ok-name.ensures.state
+    (let F : Option FileName → Type 0 = λ n. IfTold (g.D.Disk.history c.loop-name.disk) (IsNext ghosts.cmp c.loop-name.last n) in subst F c.in_default.is c.in_ok-name.ensures.next)
+    c.loop-name.invariant.cut
+
+pub returns-clause-synced : goal.returns-clause-synced
+returns-clause-synced g c = synced_then _ _ _ c.loop-name.invariant.synced (synced_unchanged _ _ c.in_ok-name.ensures.state)

@@ -1,0 +1,47 @@
+use Rattle.std.proofs.Common.{ℕ, sym, subst}
+use Rattle.disk_model.proofs.OneFile.{same-begins}
+use Rattle.disk_model.proofs.Moments.{if_told-all}
+use Rattle.store_sweep.specs.Wanted.{is_log, EndBy}
+use Rattle.store_sweep.proofs.Cutting.{end_by, fits_anyway}
+use Rattle.store_sweep.proofs.Sweeping.{images_now, keeps_now, where_now, none_now}
+use Rattle.store_sweep.proofs.Syncing.{synced_now}
+use Rattle.store_sweep.proofs.cuts.fit_file.Goals as goal
+
+pub returns-in_default-clause-images : goal.returns-in_default-clause-images
+returns-in_default-clause-images g c = λ generation. images_now generation c.args.map.now (g.D.Disk.history c.args.disk.now)
+
+pub returns-in_default-clause-keeps : goal.returns-in_default-clause-keeps
+returns-in_default-clause-keeps g c = λ generation. keeps_now generation c.args.map.now (g.D.Disk.history c.args.disk.now)
+
+pub returns-in_default-clause-logs : goal.returns-in_default-clause-logs
+returns-in_default-clause-logs g c = where_now is_log (g.D.Disk.history c.args.disk.now)
+
+pub returns-in_default-clause-none_made : goal.returns-in_default-clause-none_made
+returns-in_default-clause-none_made g c = none_now (g.D.Disk.history c.args.disk.now)
+
+pub returns-in_default-clause-others : goal.returns-in_default-clause-others
+returns-in_default-clause-others g c = same-begins c.args.name (g.D.Disk.history c.args.disk.now)
+
+pub returns-in_default-clause-cut : goal.returns-in_default-clause-cut
+returns-in_default-clause-cut g c = if_told-all _ (g.D.Disk.history c.args.disk.now) (λ disk there. fits_anyway c.args.map.now c.args.name (disk c.args.name) c.in_default.not-Mail)
+
+pub returns-then-is_sealed-clause-images : goal.returns-then-is_sealed-clause-images
+returns-then-is_sealed-clause-images g c = λ generation. images_now generation c.args.map.now (g.D.Disk.history c.args.disk.now)
+
+pub returns-in_err-cut_behind-clause-images : goal.returns-in_err-cut_behind-clause-images
+returns-in_err-cut_behind-clause-images g c = λ generation.
+    c.in_err-cut_behind.ensures.images generation c.args.map.now (let F : ℕ → Type 0 = λ end. EndBy c.args.map.now c.in-Mail.number end in subst F (sym c.end_of.ensures) (end_by c.args.map.now c.in-Mail.number))
+
+pub returns-clause-images : goal.returns-clause-images
+returns-clause-images g c = λ generation.
+    c.in_ok-cut_behind.ensures.images generation c.args.map.now (let F : ℕ → Type 0 = λ end. EndBy c.args.map.now c.in-Mail.number end in subst F (sym c.end_of.ensures) (end_by c.args.map.now c.in-Mail.number))
+
+pub returns-clause-keeps : goal.returns-clause-keeps
+returns-clause-keeps g c = λ generation.
+    c.in_ok-cut_behind.ensures.keeps generation c.args.map.now (let F : ℕ → Type 0 = λ end. EndBy c.args.map.now c.in-Mail.number end in subst F (sym c.end_of.ensures) (end_by c.args.map.now c.in-Mail.number))
+
+pub returns-in_default-clause-synced : goal.returns-in_default-clause-synced
+returns-in_default-clause-synced g c = synced_now (g.D.Disk.history c.args.disk.now)
+
+pub returns-then-is_sealed-clause-synced : goal.returns-then-is_sealed-clause-synced
+returns-then-is_sealed-clause-synced g c = synced_now (g.D.Disk.history c.args.disk.now)

@@ -1,0 +1,30 @@
+use Rattle.store_sweep.proofs.Cutting.{cut_fails, sync_fails, shortened_images, shortened_keeps, sync_there, shortened_made, shortened_others, shortened_length}
+use Rattle.store_sweep.proofs.Syncing.{shortened_synced}
+use Rattle.store_sweep.proofs.cuts.shorten.Goals as goal
+
+pub sync-requires : goal.sync-requires
+sync-requires g c = sync_there c.args.number c.args.end _ _ c.requires c.in_ok-cut.ensures.state
+
+pub returns-in_err-cut-clause-images : goal.returns-in_err-cut-clause-images
+returns-in_err-cut-clause-images g c = λ generation m ends. cut_fails generation m c.args.number c.args.end _ _ ends c.in_err-cut.ensures.failed
+
+pub returns-in_err-sync-clause-images : goal.returns-in_err-sync-clause-images
+returns-in_err-sync-clause-images g c = λ generation m ends. sync_fails generation m c.args.number c.args.end _ _ _ ends c.requires c.in_ok-cut.ensures.state c.in_err-sync.ensures.failed
+
+pub returns-clause-images : goal.returns-clause-images
+returns-clause-images g c = λ generation m ends. shortened_images generation m c.args.number c.args.end _ _ _ ends c.requires c.in_ok-cut.ensures.state c.in_ok-sync.ensures.state
+
+pub returns-clause-keeps : goal.returns-clause-keeps
+returns-clause-keeps g c = λ generation m ends. shortened_keeps generation m c.args.number c.args.end _ _ _ ends c.requires c.in_ok-cut.ensures.state c.in_ok-sync.ensures.state
+
+pub returns-clause-none_made : goal.returns-clause-none_made
+returns-clause-none_made g c = shortened_made c.args.number c.args.end (g.D.Disk.history c.args.disk.now) _ _ c.in_ok-cut.ensures.state c.in_ok-sync.ensures.state
+
+pub returns-clause-others : goal.returns-clause-others
+returns-clause-others g c = shortened_others c.args.number c.args.end (g.D.Disk.history c.args.disk.now) _ _ c.in_ok-cut.ensures.state c.in_ok-sync.ensures.state
+
+pub returns-clause-cut : goal.returns-clause-cut
+returns-clause-cut g c = shortened_length c.args.number c.args.end (g.D.Disk.history c.args.disk.now) _ _ c.requires c.in_ok-cut.ensures.state c.in_ok-sync.ensures.state
+
+pub returns-clause-synced : goal.returns-clause-synced
+returns-clause-synced g c = shortened_synced c.args.number c.args.end (g.D.Disk.history c.args.disk.now) _ _ c.in_ok-cut.ensures.state c.in_ok-sync.ensures.state

@@ -1,0 +1,72 @@
+use Rattle.std.proofs.Common.{◌≡◌, Option, true, subst, arith}
+use Rattle.std.specs.Prelude.{IfSome}
+use Rattle.disk_model.specs.Disk.{FileState, IfTold, IsPast, IsNext}
+use Rattle.disk_model.specs.contracts.name.FileNameOrd.TheImpl.{ghosts}
+use Rattle.disk_model.specs.declared.name.FileName.{FileName}
+use Rattle.disk_model.proofs.Moments.{if_told-all}
+use Rattle.store_sweep.specs.Wanted.{is_wanted}
+use Rattle.store_sweep.proofs.Order.{walk_shrinks}
+use Rattle.store_sweep.proofs.Walking.{passed_none, walk_more, walk_ends}
+use Rattle.store_sweep.proofs.Sweeping.{images_now, images_unchanged, where_now, where_then, where_unchanged, walk_images, walk_same}
+use Rattle.std.proofs.lemmas.Bool.{or_parts}
+use Rattle.store_sweep.proofs.Syncing.{state_now, state_then, state_unchanged}
+use Rattle.store_sweep.proofs.Faults.{read_fault}
+use Rattle.store_sweep.proofs.strays.remove_strays.Goals as goal
+
+pub loop-name-init : goal.loop-name-init
+loop-name-init g c = record {
+  images = images_now c.args.generation c.args.map.now (g.D.Disk.history c.args.disk.now);
+  same = where_now (is_wanted c.args.generation c.args.map.now) (g.D.Disk.history c.args.disk.now);
+  gone = if_told-all _ (g.D.Disk.history c.args.disk.now) (λ disk. passed_none (λ (name : FileName) (f : FileState). is_wanted c.args.generation c.args.map.now name ≡ true) disk);
+  none = λ e. state_now (g.D.Disk.history c.args.disk.now);
+  in_range = tt;
+  reads = omega arith;
+  changes = omega arith;
+}
+
+pub returns-in_err-name-clause-images : goal.returns-in_err-name-clause-images
+returns-in_err-name-clause-images g c = images_unchanged c.args.generation c.args.map.now _ _ _ c.loop-name.invariant.images c.in_err-name.ensures.state
+
+pub returns-in_err-name-clause-fault : goal.returns-in_err-name-clause-fault
+returns-in_err-name-clause-fault g c =
+    read_fault c.in_err-name.field-0.0 _ _ _ _ c.loop-name.invariant.reads c.loop-name.invariant.changes c.in_err-name.ensures.not_absent c.in_err-name.ensures.cause
+
+pub returns-in_err-removed-clause-images : goal.returns-in_err-removed-clause-images
+returns-in_err-removed-clause-images g c =
+    walk_images c.args.generation c.args.map.now _ _ _ _ c.loop-name.invariant.images c.loop-name.invariant.same c.in_ok-name.ensures.state c.in_err-removed.ensures.images
+
+pub loop-name-smaller : goal.loop-name-smaller
+loop-name-smaller g c =
+    walk_shrinks c.loop-name.last c.in-Some.name c.loop-name.invariant.in_range c.is_name_in_range.ensures
+    (let F : Option FileName → Type 0 = λ n. IfSome n (IsPast ghosts.cmp c.loop-name.last) in subst F c.in-Some.is c.in_ok-name.ensures.past)
+
+pub loop-name-preserved : goal.loop-name-preserved
+loop-name-preserved g c = record {
+  images = walk_images c.args.generation c.args.map.now _ _ _ _ c.loop-name.invariant.images c.loop-name.invariant.same c.in_ok-name.ensures.state c.in_ok-removed.ensures.images;
+  same = walk_same (is_wanted c.args.generation c.args.map.now) _ _ _ _ c.loop-name.invariant.same c.in_ok-name.ensures.state c.in_ok-removed.ensures.same;
+  gone = walk_more (λ (name : FileName) (f : FileState). is_wanted c.args.generation c.args.map.now name ≡ true) c.loop-name.last c.in-Some.name _ _ _ c.in_ok-name.ensures.state
+      (let F : Option FileName → Type 0 = λ n. IfTold (g.D.Disk.history c.loop-name.disk) (IsNext ghosts.cmp c.loop-name.last n) in subst F c.in-Some.is c.in_ok-name.ensures.next)
+      c.loop-name.invariant.gone c.in_ok-removed.ensures.others c.in_ok-removed.ensures.gone;
+  none = λ e.
+      let parts = or_parts c.loop-name.removed c.in_ok-removed.field-0 e in
+      state_then _ _ _ (c.loop-name.invariant.none parts.0) (state_then _ _ _ (state_unchanged _ _ c.in_ok-name.ensures.state) (c.in_ok-removed.ensures.none parts.1));
+  in_range = c.is_name_in_range.ensures;
+  reads = omega (arith, c.loop-name.invariant.reads, c.in_ok-name.ensures.cause.no_less, c.in_ok-removed.ensures.fault.reads);
+  changes = omega (arith, c.loop-name.invariant.changes, c.in_ok-name.ensures.cause.changes, c.in_ok-removed.ensures.fault.changes);
+}
+
+pub returns-clause-images : goal.returns-clause-images
+returns-clause-images g c = images_unchanged c.args.generation c.args.map.now _ _ _ c.loop-name.invariant.images c.in_ok-name.ensures.state
+
+pub returns-clause-same : goal.returns-clause-same
+returns-clause-same g c =
+    where_then (is_wanted c.args.generation c.args.map.now) _ _ _ c.loop-name.invariant.same (where_unchanged (is_wanted c.args.generation c.args.map.now) _ _ c.in_ok-name.ensures.state)
+
+pub returns-clause-none : goal.returns-clause-none
+returns-clause-none g c = λ e. state_then _ _ _ (c.loop-name.invariant.none e) (state_unchanged _ _ c.in_ok-name.ensures.state)
+
+pub returns-clause-gone : goal.returns-clause-gone
+returns-clause-gone g c =
+    walk_ends (λ (name : FileName) (f : FileState). is_wanted c.args.generation c.args.map.now name ≡ true) c.loop-name.last _ _ c.in_ok-name.ensures.state
+    (let F : Option FileName → Type 0 = λ n. IfTold (g.D.Disk.history c.loop-name.disk) (IsNext ghosts.cmp c.loop-name.last n) in subst F c.in_default.is c.in_ok-name.ensures.next)
+    c.loop-name.invariant.gone

@@ -1,0 +1,25 @@
+use Rattle.std.proofs.Common.{◌≡◌, ◌≤◌, ◌+◌, ◌-◌, true, false}
+use Rattle.gate_log.specs.Log.{SameState}
+use Rattle.std.specs.Prelude.{IfSome}
+use Rattle.disk_model.specs.Disk.{IfTold, IsThere, IsPast}
+use Rattle.disk_model.specs.contracts.name.FileNameOrd.TheImpl.{ghosts}
+use Rattle.disk_model.specs.declared.name.FileName.{FileName}
+use Rattle.store_sweep.specs.Names.{IsNameInRange}
+use Rattle.store_sweep.specs.Wanted.{is_wanted}
+use Rattle.store_sweep.specs.Moments.{ImagesCarry, SameWhere}
+use Rattle.store_sweep.proofs.Order.{top, passed}
+use Rattle.store_sweep.proofs.strays.remove_strays.Given as goal
+
+abbrev pub invariant-loop-name : goal.invariant-loop-name
+invariant-loop-name g l = record {
+  images : ImagesCarry l.generation l.map (g.D.Disk.history l.initial.disk) (g.D.Disk.history l.disk);
+  same : SameWhere (is_wanted l.generation l.map) (g.D.Disk.history l.initial.disk) (g.D.Disk.history l.disk);
+  gone : IfTold (g.D.Disk.history l.disk) (λ now. (name : FileName) → IsThere (now name) → (IsPast ghosts.cmp l.last name → ⊥) → is_wanted l.generation l.map name ≡ true);
+  none : l.removed ≡ false → SameState (g.D.Disk.history l.initial.disk) (g.D.Disk.history l.disk);
+  in_range : IfSome l.last IsNameInRange;
+  reads : (g.D.Disk.faults l.initial.disk).reads ≤ (g.D.Disk.faults l.disk).reads;
+  changes : (g.D.Disk.faults l.initial.disk).changes ≤ (g.D.Disk.faults l.disk).changes;
+}
+
+abbrev pub decreases-loop-name : goal.decreases-loop-name
+decreases-loop-name g l = (top + 1) - passed l.last

@@ -1,0 +1,57 @@
+-- Which files a store needs, and where its storage files end.
+use Rattle.std.specs.Prelude.{◌≡◌, ◌+◌, ◌==◌, ◌&&◌, ◌||◌, ◌≤◌, ℕ, Bool, true, false, List, length, if◌then◌else◌, All}
+use Rattle.std.specs.List.{list_any}
+use Rattle.std.specs.Str.{bytes_eq}
+use Rattle.disk_model.specs.Disk.{FileState}
+use Rattle.disk_model.specs.declared.name.FileName.{FileName}
+use Rattle.disk_model.specs.declared.name.FileName.TheVariants as file
+use Rattle.mail_model.specs.MapMeaning.{MapRecord, MapMeaning, greatest, is_sealed}
+
+-- a mailbox of the map has this log
+abbrev pub has_box : MapMeaning → ℕ → ℕ → Bool
+has_box m number generation = list_any (λ box. (box.number == number) && (box.generation == generation)) m.boxes
+
+-- a record's region lies in this storage file
+abbrev pub has_region : MapMeaning → ℕ → Bool
+has_region m number = list_any (λ row. row.file == number) m.records
+
+-- a record names the instance of this hash and id
+abbrev pub row_names : List ℕ → List ℕ → MapRecord → Bool
+row_names hash id row = list_any (λ inst. bytes_eq inst.hash.0 hash && bytes_eq inst.id.0 id) row.instances
+
+abbrev pub has_instance : MapMeaning → List ℕ → List ℕ → Bool
+has_instance m hash id = list_any (row_names hash id) m.records
+
+-- The store needs the file, or it is sealed: the root log, the map log of this generation, the mailbox logs of the map,
+-- the storage files with a region, and the instances that records name.
+abbrev pub is_wanted : ℕ → MapMeaning → FileName → Bool
+is_wanted generation m file.Root = true
+is_wanted generation m (file.Map g) = g == generation
+is_wanted generation m (file.Box number g) = has_box m number g
+is_wanted generation m (file.Mail number) = is_sealed m number || has_region m number
+is_wanted generation m (file.Inst hash id) = has_instance m hash id
+
+-- where a record's region ends, if it lies in this storage file
+abbrev pub ends_at : ℕ → MapRecord → ℕ
+ends_at number row = if row.file == number then row.offset + row.size else 0
+
+-- where the last region of a storage file ends, or 0
+abbrev pub end_of : MapMeaning → ℕ → ℕ
+end_of m number = greatest (ends_at number) m.records
+
+-- each region of the storage file ends there or before
+abbrev pub EndBy : MapMeaning → ℕ → ℕ → Type 0
+EndBy m number end = All (λ row. row.file ≡ number → row.offset + row.size ≤ end) m.records
+
+-- a storage file that isn't sealed has no octet behind its last region
+abbrev pub IsNoLonger : MapMeaning → FileName → FileState → Type 0
+IsNoLonger m (file.Mail number) f = is_sealed m number ≡ false → length f.octets ≤ end_of m number
+IsNoLonger m other f = Unit {0}
+
+-- the name of a log
+abbrev pub is_log : FileName → Bool
+is_log file.Root = true
+is_log (file.Map g) = true
+is_log (file.Box number g) = true
+is_log (file.Mail number) = false
+is_log (file.Inst hash id) = false

@@ -1,0 +1,96 @@
+// Storage files that are longer than their last region.
+ghost use Rattle.std.specs.Prelude.{◌≤◌, ℕ, length, OnOk, IsErr};
+ghost use Rattle.disk_model.specs.Disk.{IfTold, IsThere, Reaches, SameButFor, FaultsRoseIf};
+ghost use Rattle.disk_model.specs.declared.name.FileName.{FileName};
+ghost use Rattle.disk_model.specs.declared.name.FileName.TheVariants as file;
+ghost use Rattle.gate_log.specs.Log.{OneRoseIf};
+ghost use Rattle.mail_model.specs.MapMeaning.{MapMeaning};
+ghost use Rattle.store_sweep.specs.Wanted.{is_log, EndBy, IsNoLonger};
+ghost use Rattle.store_sweep.specs.Moments.{ImagesCarry, KeepsStore, SameWhere, SyncedWhereCut, NoneMade};
+
+use crate::names::is_name_in_range;
+use crate::wanted::end_of;
+use disk_model::{Disk, DiskError, FileName};
+use gate_log::DiskFault;
+use map_index::MapIndex;
+use mdbox_base::FileNo;
+
+/// Cuts each storage file that isn't sealed and is longer than the end of its last region to that end, in order of number,
+/// and syncs it.
+pub fn cut_files<D: Disk>(disk: &mut D, map: &MapIndex) -> Result<(), DiskFault>
+    ensures images { (generation : ℕ) → ImagesCarry generation map.now (D.history disk.old) (D.history disk.new) }
+    ensures keeps { OnOk result ((generation : ℕ) → KeepsStore generation map.now (D.history disk.old) (D.history disk.new)) }
+    ensures logs { OnOk result (SameWhere is_log (D.history disk.old) (D.history disk.new)) }
+    ensures synced { OnOk result (SyncedWhereCut (D.history disk.old) (D.history disk.new)) }
+    ensures none_made { OnOk result (NoneMade (D.history disk.old) (D.history disk.new)) }
+    ensures cut { OnOk result (IfTold (D.history disk.new) (λ now. (name : FileName) → IsThere (now name) → IsNoLonger map.now name (now name))) }
+    ensures fault { OneRoseIf (IsErr result) (D.faults disk.old) (D.faults disk.new) }
+{
+    let mut last = None;
+    while let Some(name) = disk.next_name(last)? {
+        is_name_in_range(name);
+        fit_file(disk, name, map)?;
+        last = Some(name);
+    }
+    Ok(())
+}
+
+/// Cuts the file of this name, if it is a storage file that isn't sealed and is longer than the end of its last region.
+fn fit_file<D: Disk>(disk: &mut D, name: FileName, map: &MapIndex) -> Result<(), DiskFault>
+    ensures images { (generation : ℕ) → ImagesCarry generation map.now (D.history disk.old) (D.history disk.new) }
+    ensures keeps { OnOk result ((generation : ℕ) → KeepsStore generation map.now (D.history disk.old) (D.history disk.new)) }
+    ensures logs { OnOk result (SameWhere is_log (D.history disk.old) (D.history disk.new)) }
+    ensures synced { OnOk result (SyncedWhereCut (D.history disk.old) (D.history disk.new)) }
+    ensures none_made { OnOk result (NoneMade (D.history disk.old) (D.history disk.new)) }
+    ensures others { OnOk result (SameButFor name (D.history disk.old) (D.history disk.new)) }
+    ensures cut { OnOk result (IfTold (D.history disk.new) (λ now. IsThere (now name) → IsNoLonger map.now name (now name))) }
+    ensures fault { OneRoseIf (IsErr result) (D.faults disk.old) (D.faults disk.new) }
+{
+    let FileName::Mail(number) = name else {
+        return Ok(());
+    };
+    if map.is_sealed(FileNo(number)) {
+        return Ok(());
+    }
+    cut_behind(disk, number, end_of(map, number))?;
+    Ok(())
+}
+
+/// Cuts the storage file of this number to this size, if it is longer.
+fn cut_behind<D: Disk>(disk: &mut D, number: u32, end: u64) -> Result<(), DiskFault>
+    ensures images { (generation : ℕ) (m : MapMeaning) → EndBy m number end → ImagesCarry generation m (D.history disk.old) (D.history disk.new) }
+    ensures keeps { OnOk result ((generation : ℕ) (m : MapMeaning) → EndBy m number end → KeepsStore generation m (D.history disk.old) (D.history disk.new)) }
+    ensures synced { OnOk result (SyncedWhereCut (D.history disk.old) (D.history disk.new)) }
+    ensures none_made { OnOk result (NoneMade (D.history disk.old) (D.history disk.new)) }
+    ensures others { OnOk result (SameButFor (file.Mail number) (D.history disk.old) (D.history disk.new)) }
+    ensures cut { OnOk result (IfTold (D.history disk.new) (λ now. IsThere (now (file.Mail number)) → length (now (file.Mail number)).octets ≤ end)) }
+    ensures fault { OneRoseIf (IsErr result) (D.faults disk.old) (D.faults disk.new) }
+{
+    match disk.length(FileName::Mail(number)) {
+        Ok(length) => {
+            if length <= end {
+                return Ok(());
+            }
+            shorten(disk, number, end)?;
+            Ok(())
+        }
+        Err(DiskError::Absent) => Ok(()),
+        Err(DiskError::Failed) => Err(DiskFault),
+    }
+}
+
+/// Cuts the storage file of this number to this size, and syncs it.
+fn shorten<D: Disk>(disk: &mut D, number: u32, end: u64) -> Result<(), DiskFault>
+    requires { IfTold (D.history disk.old) (λ now. Reaches (now (file.Mail number)) end) }
+    ensures images { (generation : ℕ) (m : MapMeaning) → EndBy m number end → ImagesCarry generation m (D.history disk.old) (D.history disk.new) }
+    ensures keeps { OnOk result ((generation : ℕ) (m : MapMeaning) → EndBy m number end → KeepsStore generation m (D.history disk.old) (D.history disk.new)) }
+    ensures synced { OnOk result (SyncedWhereCut (D.history disk.old) (D.history disk.new)) }
+    ensures none_made { OnOk result (NoneMade (D.history disk.old) (D.history disk.new)) }
+    ensures others { OnOk result (SameButFor (file.Mail number) (D.history disk.old) (D.history disk.new)) }
+    ensures cut { OnOk result (IfTold (D.history disk.new) (λ now. length (now (file.Mail number)).octets ≤ end)) }
+    ensures fault { FaultsRoseIf (IsErr result) (D.faults disk.old) (D.faults disk.new) }
+{
+    disk.cut(FileName::Mail(number), end)?;
+    disk.sync(FileName::Mail(number))?;
+    Ok(())
+}

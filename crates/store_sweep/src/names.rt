@@ -1,0 +1,27 @@
+// Names of files.
+ghost use Rattle.std.specs.Prelude.{◌<◌, All};
+ghost use Rattle.store_sweep.specs.Names.{IsNameInRange};
+
+use disk_model::FileName;
+
+/// The numbers and octets of a name are in their types' ranges.
+pub fn is_name_in_range(name: FileName)
+    ensures { IsNameInRange name }
+{
+    match name {
+        FileName::Root => (),
+        FileName::Map(_generation) => (),
+        FileName::Box(_number, _generation) => (),
+        FileName::Mail(_number) => (),
+        FileName::Inst(hash, id) => {
+            are_octets(&hash);
+            are_octets(&id);
+        }
+    }
+}
+
+fn are_octets(octets: &[u8])
+    ensures { All (λ octet. octet < 256) octets.now }
+{
+    let _length = octets.len();
+}

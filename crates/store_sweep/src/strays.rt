@@ -1,0 +1,57 @@
+// Files that the store doesn't need.
+ghost use Rattle.std.specs.Prelude.{◌≡◌, true, false, IfOk, OnOk, IsErr};
+ghost use Rattle.disk_model.specs.Disk.{IfTold, IsThere, SameButFor, FaultsRoseIf};
+ghost use Rattle.disk_model.specs.declared.name.FileName.{FileName};
+ghost use Rattle.gate_log.specs.Log.{SameState, OneRoseIf};
+ghost use Rattle.store_sweep.specs.Wanted.{is_wanted};
+ghost use Rattle.store_sweep.specs.Moments.{ImagesCarry, SameWhere};
+
+use crate::names::is_name_in_range;
+use crate::wanted::is_wanted;
+use disk_model::{Disk, FileName};
+use gate_log::DiskFault;
+use map_index::MapIndex;
+
+/// Removes every file that the store doesn't need and that isn't sealed, in the order of names. Answers whether there was
+/// one.
+pub fn remove_strays<D: Disk>(
+    disk: &mut D,
+    generation: u32,
+    map: &MapIndex,
+) -> Result<bool, DiskFault>
+    ensures images { ImagesCarry generation map.now (D.history disk.old) (D.history disk.new) }
+    ensures same { OnOk result (SameWhere (is_wanted generation map.now) (D.history disk.old) (D.history disk.new)) }
+    ensures none { IfOk result (λ removed. removed ≡ false → SameState (D.history disk.old) (D.history disk.new)) }
+    ensures gone { OnOk result (IfTold (D.history disk.new) (λ now. (name : FileName) → IsThere (now name) → is_wanted generation map.now name ≡ true)) }
+    ensures fault { OneRoseIf (IsErr result) (D.faults disk.old) (D.faults disk.new) }
+{
+    let mut last = None;
+    let mut removed = false;
+    while let Some(name) = disk.next_name(last)? {
+        is_name_in_range(name);
+        removed |= remove_stray(disk, name, generation, map)?;
+        last = Some(name);
+    }
+    Ok(removed)
+}
+
+/// Removes the file of this name, unless the store needs it or it is sealed.
+fn remove_stray<D: Disk>(
+    disk: &mut D,
+    name: FileName,
+    generation: u32,
+    map: &MapIndex,
+) -> Result<bool, DiskFault>
+    ensures images { ImagesCarry generation map.now (D.history disk.old) (D.history disk.new) }
+    ensures same { OnOk result (SameWhere (is_wanted generation map.now) (D.history disk.old) (D.history disk.new)) }
+    ensures others { OnOk result (SameButFor name (D.history disk.old) (D.history disk.new)) }
+    ensures none { IfOk result (λ removed. removed ≡ false → SameState (D.history disk.old) (D.history disk.new)) }
+    ensures gone { OnOk result (IfTold (D.history disk.new) (λ now. IsThere (now name) → is_wanted generation map.now name ≡ true)) }
+    ensures fault { FaultsRoseIf (IsErr result) (D.faults disk.old) (D.faults disk.new) }
+{
+    if is_wanted(name, generation, map) {
+        return Ok(false);
+    }
+    disk.remove(name)?;
+    Ok(true)
+}

@@ -1,0 +1,121 @@
+// Which files a store needs.
+ghost use Rattle.std.specs.Prelude.{◌≡◌, ◌==◌, ◌&&◌, false, ◌+◌, slice_get, max, if◌then◌else◌};
+ghost use Rattle.std.specs.List.{list_any};
+ghost use Rattle.std.specs.Str.{bytes_eq};
+ghost use Rattle.std.specs.Option.{option_map_or};
+ghost use Rattle.store_sweep.specs.Wanted.{has_box, has_region, row_names, has_instance, is_wanted, end_of};
+
+use disk_model::FileName;
+use map_index::{BoxAt, MapIndex, MapRow};
+use mdbox_base::{FileNo, Hash, InstId, InstRow};
+
+/// Whether the store needs the file, or it is sealed. The generation is that of the map log in force.
+pub fn is_wanted(name: FileName, generation: u32, map: &MapIndex) -> bool
+    ensures { result ≡ is_wanted generation map.now name }
+{
+    match name {
+        FileName::Root => true,
+        FileName::Map(other) => other == generation,
+        FileName::Box(number, other) => has_box(map, number, other),
+        FileName::Mail(number) => map.is_sealed(FileNo(number)) || has_region(map, number),
+        FileName::Inst(hash, id) => has_instance(map, Hash(hash), InstId(id)),
+    }
+}
+
+/// Whether a mailbox of the map has this log.
+fn has_box(map: &MapIndex, number: u32, generation: u32) -> bool
+    ensures { result ≡ has_box map.now number generation }
+{
+    for place in 0..map.boxes() {
+        if has_log(map.box_at(place), number, generation) {
+            return true;
+        }
+    }
+    false
+}
+
+fn has_log(mailbox: Option<BoxAt>, number: u32, generation: u32) -> bool
+    ensures { result ≡ option_map_or (λ box. (box.number.0 == number) && (box.generation == generation)) mailbox false }
+{
+    match mailbox {
+        Some(at) => at.number.0 == number && at.generation == generation,
+        None => false,
+    }
+}
+
+/// Whether a record's region lies in this storage file.
+fn has_region(map: &MapIndex, number: u32) -> bool
+    ensures { result ≡ has_region map.now number }
+{
+    for place in 0..map.rows() {
+        if lies_in(map.row_at(place), number) {
+            return true;
+        }
+    }
+    false
+}
+
+fn lies_in(row: Option<MapRow>, number: u32) -> bool
+    ensures { result ≡ option_map_or (λ row. row.file.0 == number) row false }
+{
+    match row {
+        Some(row) => row.file.0 == number,
+        None => false,
+    }
+}
+
+/// Whether a record names the instance of this hash and id.
+fn has_instance(map: &MapIndex, hash: Hash, id: InstId) -> bool
+    ensures { result ≡ has_instance map.now hash.0 id.0 }
+{
+    if !map.is_named(id) {
+        return false;
+    }
+    for place in 0..map.rows() {
+        if row_names(map, place, hash, id) {
+            return true;
+        }
+    }
+    false
+}
+
+/// Whether the record at this place names the instance.
+fn row_names(map: &MapIndex, place: u32, hash: Hash, id: InstId) -> bool
+    ensures { result ≡ option_map_or (row_names hash.0 id.0) (slice_get map.now.records place) false }
+{
+    map.is_kept();
+    let Some(row) = map.row_at(place) else {
+        return false;
+    };
+    let Some(instances) = map.instances(row.uid) else {
+        return false;
+    };
+    is_among(instances.as_slice(), hash, id)
+}
+
+fn is_among(instances: &[InstRow], hash: Hash, id: InstId) -> bool
+    ensures { result ≡ list_any (λ inst. bytes_eq inst.hash.0 hash.0 && bytes_eq inst.id.0 id.0) instances.now }
+{
+    instances.iter().any(|instance| instance.hash.0 == hash.0 && instance.id.0 == id.0)
+}
+
+/// Where the last region of a storage file ends, or 0.
+pub fn end_of(map: &MapIndex, number: u32) -> u64
+    ensures { result ≡ end_of map.now number }
+{
+    let mut end = 0;
+    for place in 0..map.rows() {
+        end = end_in(map.row_at(place), number, end);
+    }
+    end
+}
+
+/// The greater of this end and that of the record's region, if it lies in this storage file.
+fn end_in(row: Option<MapRow>, number: u32, end: u64) -> u64
+    ensures { result ≡ option_map_or (λ row. max end (if row.file.0 == number then row.offset + row.size else 0)) row end }
+{
+    match row {
+        Some(row) if row.file.0 == number => end.max(row.offset as u64 + row.size as u64),
+        _ => end,
+    }
+}
