@@ -7,23 +7,24 @@ all:
 	cd crates/mdbox && rt run -- --version
 	cp crates/mdbox/out/mdbox mdbox
 
-# Prints the messages of a storage file that Dovecot 2.3.19 wrote; then makes a store in a folder of its own, and prints
-# the entries of its root log and of its map log.
+# Prints the messages of a storage file that Dovecot 2.3.19 wrote; then makes a store in a folder of its own, lists its
+# INBOX, and prints the entries of its root log and of its map log.
 demo: all
 	./mdbox dump < demo/plain.m
-	folder=$$(mktemp -d) && cd $$folder && $(CURDIR)/mdbox init 0011223344556677 && \
+	folder=$$(mktemp -d) && cd $$folder && $(CURDIR)/mdbox init 0011223344556677 && $(CURDIR)/mdbox list INBOX && \
 	$(CURDIR)/mdbox logdump < storage/root.log && $(CURDIR)/mdbox logdump < storage/map.1.log && rm -r $$folder
 
 # The gate: every proof, every edit that must fail, every test and program.
 check:
 	rt ci
 
-# Times the program on a storage file of 200 MB and a log of 100 MB, and taking messages apart.
+# Times the program on a storage file of 200 MB, a log of 100 MB and a store of 10,000 messages, and taking messages apart.
 bench: all
 	bench/dump
 	bench/logdump
 	cd crates/parts_bench && rt run -- read <stdin
 	bench/parts
+	bench/open
 
 clean:
 	rm -rf mdbox crates/*/out

@@ -4,10 +4,10 @@ use disk_model::{Disk, DiskError, FileName};
 use mdbox_base::StoreId;
 use std::alloc::Global;
 use std::test::Fail;
-use store_checks::{CheckError, check_store};
+use store_checks::{CheckError, check_store, has_no_entry};
 
 /// The root log, which names map log 1.
-const ROOT: [u8; 36] = [
+pub const ROOT: [u8; 36] = [
     0x4d, 0x44, 0x42, 0x58, 0x4c, 0x4f, 0x47, 0x31, 0x00, 0x11, 0x22, 0x33, 0x44, 0x55, 0x66, 0x77,
     0x52, 0, 0, 0, 0, 0, 0, 0, 0, 1, 0, 0, 0, 5, 0x4d, 0, 0, 0, 1, 0,
 ];
@@ -28,7 +28,7 @@ const MAILBOX: [u8; 69] = [
     0x10, 0,
 ];
 
-fn put(disk: &mut MemDisk, name: FileName, octets: &[u8]) -> Result<(), DiskError> {
+pub fn put(disk: &mut MemDisk, name: FileName, octets: &[u8]) -> Result<(), DiskError> {
     disk.make(name)?;
     disk.write_at(name, 0, octets)
 }
@@ -161,5 +161,36 @@ fn an_instance(rt: HostRuntime) -> Result<(), Fail> {
     let mut disk = store(alloc, &ROOT, &map, &MAILBOX, 105)?;
     put(&mut disk, name, b"xyz")?;
     assert_eq!(rt; refusal(alloc, disk), None);
+    Ok(())
+}
+
+#[test]
+fn root_logs_with_an_entry(rt: HostRuntime) -> Result<(), Fail> {
+    let mut closed = ROOT;
+    closed[25] = 0;
+    let mut of_a_mailbox = MAILBOX;
+    of_a_mailbox[25] = 0;
+    let mut other_name = ROOT;
+    other_name[0] = 0x6d;
+    let cases = [
+        (&ROOT[..], false),
+        (&ROOT[..27], false),
+        (&ROOT[..26], true),
+        (&ROOT[..0], true),
+        (&closed[..27], true),
+        (&closed[..26], true),
+        (&of_a_mailbox[..], true),
+        (&MAP[..], false),
+        (&other_name[..], false),
+        (&other_name[..26], true),
+    ];
+    for (octets, expected) in cases {
+        assert_eq!(rt;
+            has_no_entry(rt.alloc(), octets),
+            Ok(expected),
+            "{} octets",
+            octets.len()
+        );
+    }
     Ok(())
 }

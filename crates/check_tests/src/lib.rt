@@ -2,4 +2,10 @@
 #![tactic(auto)]
 
 #[cfg(test)]
+mod changes;
+#[cfg(test)]
 mod checks;
+#[cfg(test)]
+mod cuts;
+#[cfg(test)]
+mod logs;

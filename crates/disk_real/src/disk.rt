@@ -1,20 +1,17 @@
-// Files in the current folder.
-ghost use Rattle.std.specs.Prelude.{ℕ, ◌≡◌, ◌≤◌, ◌<◌, ◌^◌, ◌+◌, length, drop, IfOk, OnOk, IsErr};
+// A disk over the files of the current folder.
+ghost use Rattle.std.specs.Prelude.{None, ◌≡◌, ◌≤◌, OnOk, IsOk, find};
 ghost use Rattle.disk_model.specs.Disk.{Rose, ReadCause, ChangeCause};
 ghost use Rattle.disk_model.specs.declared.error.DiskError.TheVariants.{Failed};
+ghost use Rattle.disk_real.specs.Counts.{faults_of};
+ghost use Rattle.disk_real.specs.Past.{is_past};
 
-use crate::listing::sync_inst_folder;
-use crate::paths::{inst_folder, path_of};
-use disk_model::{DiskError, FileName};
-use std::fs::{DirBuilder, File, OpenOptions};
-use std::io::{ErrorKind, Read, Seek, SeekFrom, Write};
-use std::os::unix::fs::{DirBuilderExt, OpenOptionsExt};
-use std::{fs, io};
-
-/// Files that are made can be read and written by their owner alone, and so can their folders.
-const FILE_MODE: u32 = 0o600;
-
-const FOLDER_MODE: u32 = 0o700;
+use crate::files::{
+    cut_in, length_of, lock_store, make_in, open_at, read_all, remove_in, sync_in, write_in,
+};
+use crate::folders::{sorted_names, sync_folders};
+use disk_model::{Disk, DiskError, FileName, order};
+use std::fs::File;
+use std::io::{self, ErrorKind};
 
 /// The store's files in the current folder. Trusted: it tells no content, and no clause says what the system keeps.
 ///
@@ -22,22 +19,23 @@ const FOLDER_MODE: u32 = 0o700;
 /// Files that aren't the store's are passed over.
 #[derive(Drop)]
 pub struct RealDisk {
-    pub(crate) rt: HostRuntime,
+    rt: HostRuntime,
     /// The locked file, from the first call that could lock it.
-    pub(crate) lock: Option<File>,
+    lock: Option<File>,
     /// The names of the files that are there, in order, where they are known.
-    pub(crate) names: Option<Vec<FileName>>,
+    names: Option<Vec<FileName>>,
     /// Whether names may have changed in any folder, as an earlier run may have left them.
-    pub(crate) is_all_loose: bool,
-    pub(crate) failed_reads: u64,
-    pub(crate) failed_changes: u64,
+    is_all_loose: bool,
+    failed_reads: u64,
+    failed_changes: u64,
 }
 
 impl RealDisk {
-    ghost use Rattle.disk_real.specs.Counts.{faults_of};
-
     /// The files of the current folder. Nothing is looked at until the first call.
-    pub fn of(rt: HostRuntime) -> RealDisk {
+    pub fn of(rt: HostRuntime) -> RealDisk
+        ensures reads { (⟦<RealDisk as Disk>⟧.faults result).reads ≡ 0 }
+        ensures changes { (⟦<RealDisk as Disk>⟧.faults result).changes ≡ 0 }
+    {
         RealDisk {
             rt,
             lock: None,
@@ -48,24 +46,18 @@ impl RealDisk {
         }
     }
 
-    /// Whether this process has the store. The first call locks it.
-    pub(crate) fn is_locked(&mut self) -> bool
+    /// The runtime, once this process has the store. The first call locks it.
+    fn locked(&mut self) -> io::Result<HostRuntime>
         ensures { faults_of self.new ≡ faults_of self.old }
     {
-        if self.lock.is_some() {
-            return true;
+        if self.lock.is_none() {
+            self.lock = Some(lock_store(&self.rt).map_err(|_| ErrorKind::WouldBlock)?);
         }
-        match lock_store(&self.rt) {
-            Ok(file) => {
-                self.lock = Some(file);
-                true
-            }
-            Err(_) => false,
-        }
+        Ok(self.rt)
     }
 
     /// Counts a read that failed.
-    pub(crate) fn fail_read(&mut self) -> DiskError
+    fn fail_read(&mut self) -> DiskError
         ensures failed { result ≡ Failed }
         ensures faults { (faults_of self.new).changes ≡ self.old.failed_changes }
         ensures rose { Rose self.old.failed_reads self.new.failed_reads × (self.old.failed_reads ≤ self.new.failed_reads) }
@@ -74,17 +66,8 @@ impl RealDisk {
         DiskError::Failed
     }
 
-    /// Counts a change that failed.
-    pub(crate) fn fail_change(&mut self) -> Result<(), DiskError>
-        ensures is_err { IsErr result }
-        ensures cause { ChangeCause result (faults_of self.old) (faults_of self.new) }
-    {
-        self.failed_changes = self.failed_changes.saturating_add(1);
-        Err(DiskError::Failed)
-    }
-
     /// What an answer of the system to a read means. Other errors than a missing file are counted.
-    pub(crate) fn answer<T: Drop>(&mut self, answer: io::Result<T>) -> Result<T, DiskError>
+    fn read<T: Drop>(&mut self, answer: io::Result<T>) -> Result<T, DiskError>
         ensures cause { ReadCause result (faults_of self.old) (faults_of self.new) }
         ensures ok { OnOk result (faults_of self.new ≡ faults_of self.old) }
     {
@@ -95,141 +78,102 @@ impl RealDisk {
             Err(_) => Err(self.fail_read()),
         }
     }
-}
 
-/// Locks the store. Another process's lock is an error.
-fn lock_store(rt: &HostRuntime) -> io::Result<File> {
-    let file = OpenOptions::new()
-        .write(true)
-        .create(true)
-        .mode(FILE_MODE)
-        .open(rt, "mdbox.lock")?;
-    match file.try_lock() {
-        Ok(()) => Ok(file),
-        Err(_) => Err(io::Error::from(ErrorKind::WouldBlock)),
-    }
-}
-
-pub(crate) fn length_of(rt: &HostRuntime, name: FileName) -> io::Result<u64> {
-    let path = path_of(rt.alloc(), name)?;
-    Ok(fs::metadata(rt, path.as_str())?.len())
-}
-
-pub(crate) fn open_at(rt: &HostRuntime, name: FileName, offset: u64) -> io::Result<File> {
-    let path = path_of(rt.alloc(), name)?;
-    let mut file = File::open(rt, path.as_str())?;
-    file.seek(SeekFrom::Start(offset))?;
-    Ok(file)
-}
-
-/// What is read at a time.
-const PIECE: usize = 16384;
-
-/// Reads to the end of the file or of `into`, and tells how many octets.
-pub(crate) fn read_all(file: &mut File, into: &mut [u8]) -> io::Result<usize>
-    ensures count { IfOk result (λ n. n ≤ length into.new) }
-    ensures rest { IfOk result (λ n. drop n into.new ≡ drop n into.old) }
-{
-    let mut done = 0;
-    for _ in 0..u64::MAX {
-        let count = read_piece(file, into, done)?;
-        if count == 0 {
-            break;
+    /// What an answer of the system to a change means. Errors are counted.
+    fn change(&mut self, answer: io::Result<()>) -> Result<(), DiskError>
+        ensures cause { ChangeCause result (faults_of self.old) (faults_of self.new) }
+        ensures ok { OnOk result (IsOk answer) }
+    {
+        let _count = self.failed_changes;
+        if answer.is_ok() {
+            return Ok(());
         }
-        done += count;
+        self.failed_changes = self.failed_changes.saturating_add(1);
+        Err(DiskError::Failed)
     }
-    Ok(done)
 }
 
-/// Reads at most a piece to this place, through a buffer: the system promises nothing of the rest of a slice.
-fn read_piece(file: &mut File, into: &mut [u8], done: usize) -> io::Result<usize>
-    requires { done ≤ length into.old }
-    ensures count { IfOk result (λ n. done + n ≤ length into.new) }
-    ensures rest { IfOk result (λ n. (k : ℕ) → done + n ≤ k → drop k into.new ≡ drop k into.old) }
-{
-    let mut piece = [0u8; PIECE];
-    let most = (into.len() - done).min(PIECE);
-    let count = file.read(&mut piece[..most])?;
-    into[done..done + count].copy_from_slice(&piece[..count]);
-    Ok(count)
-}
+impl Disk for RealDisk {
+    ghost history = { λ _. None };
 
-/// Opens a file that is there and at least so long, for writing.
-pub(crate) fn open_reaching(rt: &HostRuntime, name: FileName, length: u64) -> io::Result<File> {
-    let path = path_of(rt.alloc(), name)?;
-    let file = OpenOptions::new().write(true).open(rt, path.as_str())?;
-    if file.metadata()?.len() < length {
-        return Err(io::Error::from(ErrorKind::InvalidInput));
+    ghost faults = { faults_of };
+
+    fn length(&mut self, name: FileName) -> Result<u64, DiskError> {
+        let answer = self.locked().and_then(|rt| length_of(&rt, name));
+        self.read(answer)
     }
-    Ok(file)
-}
 
-pub(crate) fn write_in(rt: &HostRuntime, name: FileName, offset: u64, from: &[u8]) -> io::Result<()>
-    ensures { OnOk result (offset + length from.now < 2 ^ 64) }
-{
-    if offset.checked_add(from.len() as u64).is_none() {
-        return Err(io::Error::from(ErrorKind::FileTooLarge));
-    }
-    let mut file = open_reaching(rt, name, offset)?;
-    file.seek(SeekFrom::Start(offset))?;
-    file.write_all(from)
-}
-
-/// Makes a file, and its folder where it isn't there.
-pub(crate) fn make_in(rt: &HostRuntime, name: FileName) -> io::Result<()> {
-    let path = path_of(rt.alloc(), name)?;
-    make_folder(rt, name)?;
-    let _made = OpenOptions::new()
-        .write(true)
-        .create(true)
-        .truncate(true)
-        .mode(FILE_MODE)
-        .open(rt, path.as_str())?;
-    sync_inst(rt, name)
-}
-
-fn make_folder(rt: &HostRuntime, name: FileName) -> io::Result<()> {
-    match name {
-        FileName::Root | FileName::Map(_) | FileName::Mail(_) => make_folders(rt, "storage"),
-        FileName::Box(_, _) => make_folders(rt, "mailboxes"),
-        FileName::Inst(hash, _) => {
-            let path = inst_folder(rt.alloc(), hash[0], hash[1])?;
-            make_folders(rt, path.as_str())
+    fn read_at(
+        &mut self,
+        name: FileName,
+        offset: u64,
+        into: &mut [u8],
+    ) -> Result<usize, DiskError> {
+        let opened = self.locked().and_then(|rt| open_at(&rt, name, offset));
+        let mut file = self.read(opened)?;
+        match read_all(&mut file, into) {
+            Ok(count) => Ok(count),
+            Err(_) => Err(self.fail_read()),
         }
     }
-}
 
-fn make_folders(rt: &HostRuntime, path: &str) -> io::Result<()> {
-    DirBuilder::new()
-        .recursive(true)
-        .mode(FOLDER_MODE)
-        .create(rt, path)
-}
-
-/// Removes a file, where it is there.
-pub(crate) fn remove_in(rt: &HostRuntime, name: FileName) -> io::Result<()> {
-    let path = path_of(rt.alloc(), name)?;
-    match fs::remove_file(rt, path.as_str()) {
-        Ok(()) => sync_inst(rt, name),
-        Err(error) if error.kind() == ErrorKind::NotFound => Ok(()),
-        Err(error) => Err(error),
+    fn next_name(&mut self, after: Option<FileName>) -> Result<Option<FileName>, DiskError> {
+        let names = match self.names.take() {
+            Some(names) => names,
+            None => match self.locked().and_then(|rt| sorted_names(&rt)) {
+                Ok(names) => names,
+                Err(_) => return Err(self.fail_read()),
+            },
+        };
+        let next = first_past(&names, after);
+        self.names = Some(names);
+        Ok(next)
     }
-}
 
-/// Syncs the names in an instance's folder, since a sync of names passes over these many folders.
-fn sync_inst(rt: &HostRuntime, name: FileName) -> io::Result<()> {
-    match name {
-        FileName::Inst(hash, _) => sync_inst_folder(rt, hash[0], hash[1]),
-        _ => Ok(()),
+    fn write_at(&mut self, name: FileName, offset: u64, from: &[u8]) -> Result<(), DiskError> {
+        let answer = self
+            .locked()
+            .and_then(|rt| write_in(&rt, name, offset, from));
+        self.change(answer)
     }
+
+    fn cut(&mut self, name: FileName, length: u64) -> Result<(), DiskError> {
+        let answer = self.locked().and_then(|rt| cut_in(&rt, name, length));
+        self.change(answer)
+    }
+
+    fn sync(&mut self, name: FileName) -> Result<(), DiskError> {
+        let answer = self.locked().and_then(|rt| sync_in(&rt, name));
+        self.change(answer)
+    }
+
+    fn make(&mut self, name: FileName) -> Result<(), DiskError> {
+        self.names = None;
+        let answer = self.locked().and_then(|rt| make_in(&rt, name));
+        self.change(answer)
+    }
+
+    fn remove(&mut self, name: FileName) -> Result<(), DiskError> {
+        self.names = None;
+        let answer = self.locked().and_then(|rt| remove_in(&rt, name));
+        self.change(answer)
+    }
+
+    fn sync_names(&mut self) -> Result<(), DiskError> {
+        let is_all = self.is_all_loose;
+        let answer = self.locked().and_then(|rt| sync_folders(&rt, is_all));
+        if answer.is_ok() {
+            self.is_all_loose = false;
+        }
+        self.change(answer)
+    }
+
+    ghost reads_image = { λ _. tt };
 }
 
-/// Shortens a file.
-pub(crate) fn cut_in(rt: &HostRuntime, name: FileName, length: u64) -> io::Result<()> {
-    open_reaching(rt, name, length)?.set_len(length)
-}
-
-/// Syncs a file's octets and its length.
-pub(crate) fn sync_in(rt: &HostRuntime, name: FileName) -> io::Result<()> {
-    open_reaching(rt, name, 0)?.sync_all()
+/// The first of these names that is greater than one.
+fn first_past(names: &[FileName], after: Option<FileName>) -> Option<FileName>
+    ensures { result ≡ find (is_past ⟦<FileName as Ord>⟧.cmp after) names.now }
+{
+    names.iter().copied().find(|name| after.is_none_or(|after| order(after, *name).is_lt()))
 }

@@ -5,10 +5,9 @@
 pub use disk::RealDisk;
 pub use streams::{StdSink, StdSource};
 
-mod calls;
 mod disk;
-mod listing;
-mod paths;
+mod files;
+mod folders;
 mod streams;
 #[cfg(test)]
 mod tests;

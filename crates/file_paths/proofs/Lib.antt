@@ -1,0 +1,4 @@
+pub mod HexLaws
+pub mod InstLaws
+pub mod OneFileLaws
+pub mod ReadLaws

@@ -1,0 +1,2 @@
+pub mod InstPath
+pub mod OneFile

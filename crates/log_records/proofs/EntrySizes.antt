@@ -1,5 +1,5 @@
 -- How many octets an entry of the map log has, and entries written piece by piece.
-use Rattle.std.proofs.Common.{◌≡◌, ℕ, ◌+◌, ◌*◌, ◌≤◌, List, [], ◌∷◌, ◌++◌, length, take, refl, sym, ap, ◌∙◌, subst, ◌<◌, ◌^◌, append_assoc, length-append, arith}
+use Rattle.std.proofs.Common.{◌≡◌, ℕ, ◌+◌, ◌*◌, ◌≤◌, List, [], ◌∷◌, ◌++◌, length, take, refl, sym, ap, ◌∙◌, subst, ◌<◌, ◌^◌, length-append, arith}
 use Rattle.std.specs.List.{flat_map, AllByRecursion}
 use Rattle.std.specs.Int.{w16, to_be_bytes}
 use Rattle.std.proofs.lemmas.List.{take_all}
@@ -60,15 +60,3 @@ stored_filled s slice is i1 i2 i3 r1 r2 r3 same e1 e2 e3 l =
     let front : take r2 i2 ≡ 83 ∷ stored_text s = e2 ∙ ap (λ (t : List ℕ). t ++ stored_text s) e1 in
     filled r3 i3 _ (e3 ∙ ap (λ (t : List ℕ). t ++ (to_be_bytes w16 (length slice) ++ flat_map row_text slice)) front) l
     ∙ ap (λ (xs : List InstRow). 83 ∷ (stored_text s ++ (to_be_bytes w16 (length xs) ++ flat_map row_text xs))) same
-
-pub purged_filled : (file : FileNo) (target : ℕ) (ps qs : List MapPlace) (us vs : List MapUid) (x i1 i2 i3 i4 : List ℕ) (r1 r2 r3 r4 : ℕ) → ps ≡ qs → us ≡ vs → take r1 i1 ≡ 80 ∷ four file.0 → take r2 i2 ≡ take r1 i1 ++ x → x ≡ four target
-    → take r3 i3 ≡ take r2 i2 ++ list_text (λ (p : MapPlace). four p.uid.0 ++ four p.offset) ps → take r4 i4 ≡ take r3 i3 ++ list_text (λ (u : MapUid). four u.0) us → length i4 ≤ r4 → i4 ≡ map_text (map.P file target qs vs)
-purged_filled file target ps qs us vs x i1 i2 i3 i4 r1 r2 r3 r4 same same2 e1 e2 e e3 e4 l =
-    let moved = list_text (λ (p : MapPlace). four p.uid.0 ++ four p.offset) ps in
-    let dropped = list_text (λ (u : MapUid). four u.0) us in
-    let front : take r2 i2 ≡ (80 ∷ four file.0) ++ four target = e2 ∙ ap (λ (t : List ℕ). t ++ x) e1 ∙ ap (λ (t : List ℕ). (80 ∷ four file.0) ++ t) e in
-    let middle : take r3 i3 ≡ ((80 ∷ four file.0) ++ four target) ++ moved = e3 ∙ ap (λ (t : List ℕ). t ++ moved) front in
-    let all : take r4 i4 ≡ (((80 ∷ four file.0) ++ four target) ++ moved) ++ dropped = e4 ∙ ap (λ (t : List ℕ). t ++ dropped) middle in
-    filled r4 i4 _ (all ∙ append_assoc ((80 ∷ four file.0) ++ four target) moved dropped) l
-    ∙ ap (λ (zs : List MapPlace). map_text (map.P file target zs us)) same
-    ∙ ap (λ (zs : List MapUid). map_text (map.P file target qs zs)) same2

@@ -19,6 +19,7 @@ pub mod Fields
 pub mod FileLaws
 pub mod FitExamples
 pub mod FitLaws
+pub mod GoodLogs
 pub mod Grammars
 pub mod HexTextLaws
 pub mod HighestLaws
@@ -60,6 +61,7 @@ pub mod ReferenceLaws
 pub mod References
 pub mod Rejoined
 pub mod RejoinedLaws
+pub mod ReplyText
 pub mod RowLaws
 pub mod Rows
 pub mod Safe

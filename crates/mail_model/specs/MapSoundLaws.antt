@@ -125,11 +125,11 @@ record AreHighest (uid number : ℕ) : Type 0 where
   mailbox : number ≤ 4294967294
 
 -- numbers up to a bound
-greatest_from : {X : Type 0} → (f : X → ℕ) (seed n : ℕ) (xs : List X) → seed ≤ n → All (λ x. f x ≤ n) xs → fold (λ most x. max most (f x)) seed xs ≤ n
-greatest_from f seed n [] le a = le
-greatest_from f seed n (x ∷ xs) le a =
+greatest_from : {X : Type 0} → (f : X → ℕ) (first n : ℕ) (xs : List X) → first ≤ n → All (λ x. f x ≤ n) xs → fold (λ most x. max most (f x)) first xs ≤ n
+greatest_from f first n [] le a = le
+greatest_from f first n (x ∷ xs) le a =
     let h = All-head (λ x. f x ≤ n) x xs a in
-    greatest_from f (max seed (f x)) n xs (omega (arith, le, h)) (All-tail (λ x. f x ≤ n) x xs a)
+    greatest_from f (max first (f x)) n xs (omega (arith, le, h)) (All-tail (λ x. f x ≤ n) x xs a)
 
 pub greatest_fits : {X : Type 0} → (f : X → ℕ) (n : ℕ) (xs : List X) → All (λ x. f x ≤ n) xs → greatest f xs ≤ n
 greatest_fits f n xs a = greatest_from f 0 n xs (omega arith) a

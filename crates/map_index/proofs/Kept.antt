@@ -1,14 +1,15 @@
 -- One entry more that fits keeps the order of an index.
 use Rattle.std.proofs.Common.{◌≡◌, ◌≢◌, ◌<◌, ◌≤◌, ◌^◌, ◌==◌, ℕ, max, Bool, true, false, List, [], ◌∷◌, ◌++◌, refl, sym, ap, subst, ◌∙◌, arith, append-nil, length-append}
-use Rattle.std.specs.Prelude.{All, AllPairs, nat_lt, if◌then◌else◌, slice_index_or}
+use Rattle.std.specs.Prelude.{AllPairs, nat_lt, if◌then◌else◌, slice_index_or}
 use Rattle.std.proofs.lemmas.Grind.{common_steps}
-use Rattle.std.proofs.lemmas.List.Elements.{All-nil, All-cons, All-weaker, All-push, All-head, All-tail}
+use Rattle.std.proofs.lemmas.List.Elements.{All-nil, All-cons, All-weaker, All-push}
 use Rattle.std.proofs.lemmas.List.Kept.{AllPairs-cons}
 use Rattle.mdbox_base.specs.declared.entries.MapEntry.{MapEntry}
 use Rattle.mdbox_base.specs.declared.entries.MapEntry.TheVariants as map
 use Rattle.mail_model.specs.MapMeaning.{MapRecord, MapBox, MapMeaning, map_applied, record_rules, box_changed, box_rules, with_number, sealed_by}
 use Rattle.mail_model.specs.MapFits.{IsNumber, MapFits}
 use Rattle.mail_model.specs.MapPlaceLaws.{changed_same, equal_is, equal_yes}
+use Rattle.mail_model.specs.SealedLaws.{all_with}
 use Rattle.mail_model.specs.PairLaws.{found_only, kept_all, kept_length, kept_pairs, kept_rows, pairs_nil, pairs_push, pairs_head, pairs_tail}
 use Rattle.map_index.specs.Kept.{AreKeptRecords, AreKeptBoxes, AreKeptFiles, IsKept}
 use Rattle.map_index.specs.Shown.{CanRise}
@@ -114,15 +115,6 @@ less_is a b h = grind (arith, common_steps, h)
 
 more_is : (a b : ℕ) → nat_lt a b ≡ false → (a == b) ≡ false → b < a
 more_is a b h k = grind (arith, common_steps, h, k)
-
-all_with : (P : ℕ → Type 0) (n : ℕ) (ns : List ℕ) → P n → All P ns → All P (with_number n ns)
-all_with P n [] p a = All-cons P n [] p (All-nil P)
-all_with P n (m ∷ rest) p a = put (nat_lt n m) (n == m) (all_with P n rest p (All-tail P m rest a))
-  where
-    put : (less same : Bool) → All P (with_number n rest) → All P (if less then n ∷ m ∷ rest else (if same then m ∷ rest else m ∷ with_number n rest))
-    put true same t = All-cons P n (m ∷ rest) p a
-    put false true t = a
-    put false false t = All-cons P m (with_number n rest) (All-head P m rest a) t
 
 rises_with : (n : ℕ) (ns : List ℕ) → AllPairs Below ns → AllPairs Below (with_number n ns)
 rises_with n [] a = AllPairs-cons Below n [] (All-nil (Below n)) (pairs_nil Below)

@@ -77,6 +77,10 @@ box_of_name m name = find (λ box. bytes_eq box.name name) m.boxes
 abbrev pub is_named : MapMeaning → List ℕ → Bool
 is_named m id = list_any (λ i. bytes_eq i.id.0 id) (named m)
 
+-- a record names the instance of this hash and id
+abbrev pub names_file : MapMeaning → List ℕ → List ℕ → Bool
+names_file m hash id = list_any (λ row. list_any (λ i. bytes_eq i.hash.0 hash && bytes_eq i.id.0 id) row.instances) m.records
+
 -- the same of rows
 abbrev pub is_row_from : ℕ → ℕ → MapRow → Bool
 is_row_from file from row = (row.file.0 == file) && nat_le from row.offset

@@ -3,16 +3,17 @@ ghost use Rattle.std.specs.Prelude.{◌≡◌, [], length, slice_get, IsErr, IfO
 ghost use Rattle.std.specs.Option.{option_map, option_copied};
 ghost use Rattle.mail_model.specs.MapMeaning.{MapMeaning, map_meaning, map_applied, record_at, record_of, count_of, box_at, is_sealed};
 ghost use Rattle.mail_model.specs.MapFits.{MapFits};
-ghost use Rattle.map_index.specs.Shown.{record_of as record_held, box_of, shown, shown_box, shown_file, record_from, box_of_name, is_named, TakesMemory};
+ghost use Rattle.map_index.specs.Shown.{record_of as record_held, box_of, shown, shown_box, shown_file, record_from, box_of_name, is_named, names_file, TakesMemory};
 
 use crate::changes::{change_boxes, change_files, change_records};
 use crate::numbers::{higher, numbers_of};
 use crate::rows::{
-    BoxAt, Mailbox, MapRow, Record, first_in_file, has_file, names_instance, with_guid, with_name,
-    with_number, with_uid,
+    BoxAt, Mailbox, MapRow, Record, first_in_file, has_file, names_file, names_instance, with_guid,
+    with_name, with_number, with_uid,
 };
 use mdbox_base::{
-    BoxNo, FileNo, Guid, Highest, InstId, InstRow, MapEntry, MapUid, Name, NoMemory, Seq, StoreId,
+    BoxNo, FileNo, Guid, Hash, Highest, InstId, InstRow, MapEntry, MapUid, Name, NoMemory, Seq,
+    StoreId,
 };
 use std::alloc::Global;
 use std::marker::Model;
@@ -212,6 +213,13 @@ impl MapIndex {
         ensures { result ≡ is_named self.now id.0 }
     {
         names_instance(&self.records, id)
+    }
+
+    /// Whether a record names the instance of this hash and id.
+    pub fn names_file(&self, hash: Hash, id: InstId) -> bool
+        ensures { result ≡ names_file self.now hash.0 id.0 }
+    {
+        names_file(&self.records, hash, id)
     }
 
     /// Takes in an entry that fits. Only one that makes a mailbox, stores a message or seals a file takes memory; without

@@ -1,11 +1,11 @@
 // Records and mailboxes of the map in vectors, and the look-ups that walk them.
-ghost use Rattle.std.specs.Prelude.{◌≡◌, ◌==◌, map, find, filter, fold, nat_le, Some, None};
+ghost use Rattle.std.specs.Prelude.{◌≡◌, ◌==◌, ◌&&◌, map, find, filter, fold, nat_le, Some, None};
 ghost use Rattle.std.specs.Option.{option_copied};
 ghost use Rattle.std.specs.List.{list_any, position_or_len};
 ghost use Rattle.std.specs.Str.{bytes_eq};
 ghost use Rattle.map_index.specs.Shown.{nearer_row, is_row_from};
 
-use mdbox_base::{BoxNo, FileNo, Guid, InstId, InstRow, MapUid, Name, Seq};
+use mdbox_base::{BoxNo, FileNo, Guid, Hash, InstId, InstRow, MapUid, Name, Seq};
 
 /// A record of the map: a message in a region of `size` octets of a storage file, from `offset` on. Origin 0 is stored,
 /// 1 is found by a rebuild. The count says how often it is referred to.
@@ -98,6 +98,19 @@ fn has_instance(instances: &[InstRow], id: InstId) -> bool
     ensures { result ≡ list_any (λ i. bytes_eq i.id.0 id.0) instances.now }
 {
     instances.iter().any(|instance| instance.id.0 == id.0)
+}
+
+/// Whether a record names the instance of this hash and id.
+pub fn names_file(records: &[Record], hash: Hash, id: InstId) -> bool
+    ensures { result ≡ list_any (λ r. list_any (λ i. bytes_eq i.hash.0 hash.0 && bytes_eq i.id.0 id.0) r.instances) records.now }
+{
+    records.iter().any(|record| has_instance_of(record.instances.as_slice(), hash, id))
+}
+
+fn has_instance_of(instances: &[InstRow], hash: Hash, id: InstId) -> bool
+    ensures { result ≡ list_any (λ i. bytes_eq i.hash.0 hash.0 && bytes_eq i.id.0 id.0) instances.now }
+{
+    instances.iter().any(|instance| instance.hash.0 == hash.0 && instance.id.0 == id.0)
 }
 
 /// The first mailbox with this number.

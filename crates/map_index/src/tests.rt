@@ -1,7 +1,8 @@
 // The map log of a store with one message.
 use crate::MapIndex;
 use mdbox_base::{
-    BoxNo, FileNo, Guid, Highest, InstId, MapEntry, MapPlace, MapUid, Seq, StoreId, name_of,
+    BoxNo, FileNo, Guid, Hash, Highest, InstId, InstRow, MapEntry, MapPlace, MapUid, Seq, StoreId,
+    name_of,
 };
 use std::alloc::Global;
 use std::process::Abort;
@@ -22,7 +23,7 @@ fn made(alloc: Global) -> Result<MapEntry, Fail> {
     })
 }
 
-fn stored(alloc: Global) -> MapEntry {
+fn stored(instances: Seq<InstRow>) -> MapEntry {
     MapEntry::S {
         origin: 0,
         count: 1,
@@ -31,7 +32,7 @@ fn stored(alloc: Global) -> MapEntry {
         offset: 16,
         size: 89,
         guid: GUID,
-        instances: Seq::empty(alloc),
+        instances,
     }
 }
 
@@ -43,7 +44,7 @@ fn take_in(index: &mut MapIndex, entry: &MapEntry, rt: &impl Abort) {
 fn one_message(alloc: Global, rt: &impl Abort) -> Result<MapIndex, Fail> {
     let mut index = MapIndex::empty(alloc, STORE)?;
     take_in(&mut index, &made(alloc)?, rt);
-    take_in(&mut index, &stored(alloc), rt);
+    take_in(&mut index, &stored(Seq::empty(alloc)), rt);
     Ok(index)
 }
 
@@ -68,6 +69,22 @@ fn a_stored_message_is_found(rt: HostRuntime) -> Result<(), Fail> {
         Some(0)
     );
     assert!(rt; !index.is_named(InstId([7; 16])));
+    Ok(())
+}
+
+#[test]
+fn a_named_instance_is_found(rt: HostRuntime) -> Result<(), Fail> {
+    let mut index = MapIndex::empty(rt.alloc(), STORE)?;
+    let mut instances = Seq::empty(rt.alloc());
+    instances.push(InstRow {
+        hash: Hash([5; 20]),
+        id: InstId([7; 16]),
+        size: 131_072,
+    })?;
+    take_in(&mut index, &stored(instances), &rt);
+    assert!(rt; index.is_named(InstId([7; 16])));
+    assert!(rt; index.names_file(Hash([5; 20]), InstId([7; 16])));
+    assert!(rt; !index.names_file(Hash([6; 20]), InstId([7; 16])));
     Ok(())
 }
 
@@ -102,7 +119,7 @@ fn what_fits_behind_one_message(rt: HostRuntime) -> Result<(), Fail> {
     let lowered = MapEntry::D { uids };
     assert!(rt; index.fits(&MapEntry::U { uid: MapUid(1) }));
     assert!(rt; index.fits(&lowered));
-    assert!(rt; !index.fits(&stored(rt.alloc())));
+    assert!(rt; !index.fits(&stored(Seq::empty(rt.alloc()))));
     take_in(&mut index, &lowered, &rt);
     assert_eq!(rt; index.count_of(GUID), 0);
     assert!(rt; !index.fits(&lowered));

@@ -1,5 +1,5 @@
 // Mailbox names.
-ghost use Rattle.std.specs.Prelude.{◌≡◌, ◌≢◌, ◌≤◌, ◌↔◌, ℕ, List, All, IsTrue, IfOk, IfSome, IfNone};
+ghost use Rattle.std.specs.Prelude.{◌≡◌, ◌≢◌, ◌≤◌, ◌↔◌, ℕ, List, All, IsTrue, IsErr, IfOk, IfSome, IfNone};
 ghost use Rattle.mdbox_base.specs.Words.{IsName};
 
 use crate::memory::NoMemory;
@@ -31,10 +31,11 @@ impl Name {
     }
 }
 
-/// The name of this text, where it is a name.
+/// The name of this text, where it is a name. Only a name takes memory.
 pub fn name_of(alloc: Global, text: &[u8]) -> Result<Option<Name>, NoMemory>
     ensures some { IfOk result (λ name. IfSome name (λ n. (n ≡ text.now) × IsName text.now)) }
     ensures none { IfOk result (λ name. IfNone name (IsName text.now → ⊥)) }
+    ensures memory { IsErr result → IsName text.now }
 {
     if !is_name(text) {
         return Ok(None);

@@ -4,3 +4,5 @@ pub mod PrintLaws
 pub mod RunLaws
 pub mod LogPrintLaws
 pub mod StoreLaws
+pub mod ListLaws
+pub mod ReplyPrintLaws

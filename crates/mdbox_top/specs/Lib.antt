@@ -1,4 +1,5 @@
 pub mod Commands
+pub mod ListRun
 pub mod Printing
 pub mod Run
 pub mod StoreRun

@@ -1,6 +1,6 @@
 -- How a command on the store ends.
-use Rattle.std.specs.Prelude.{◌≡◌, ◌≤◌, ℕ, List, [], ◌∷◌, ◌++◌, codes, Option, ◌⊎◌}
-use Rattle.disk_model.specs.Disk.{History, IfTold, EachImage, MayLeave}
+use Rattle.std.specs.Prelude.{◌≡◌, ℕ, List, [], ◌∷◌, ◌++◌, codes, Option, ◌⊎◌}
+use Rattle.disk_model.specs.Disk.{History, IfTold, EachImage}
 use Rattle.disk_model.specs.declared.name.FileName.TheVariants as file
 use Rattle.mdbox_base.specs.Numbers.{decimal_text}
 use Rattle.mdbox_base.specs.Streams.{Appended}
@@ -8,7 +8,7 @@ use Rattle.mail_model.specs.Paths.{path_text}
 use Rattle.mail_model.specs.Opening.{empty_inbox}
 use Rattle.mail_model.specs.Settled.{IsSettled}
 use Rattle.gate_log.specs.Log.{Idle}
-use Rattle.store_open.specs.Making.{IsFree, IsMade, NeverHasEntry, HasNothingOrInbox}
+use Rattle.store_open.specs.Making.{IdleUnless, IsFree, IsMade, NeverHasEntry, HasNothingOrInbox}
 use Rattle.store_open.specs.Refused.{IsMakingError, IsOfFiles}
 use Rattle.store_open.specs.declared.error.OpenError.{OpenError}
 use Rattle.store_open.specs.declared.error.OpenError.TheVariants as error
@@ -19,6 +19,7 @@ use Rattle.mdbox_top.specs.declared.store_outcome.StoreOutcome.TheVariants as ou
 -- the exit status
 abbrev pub store_status : StoreOutcome → ℕ
 store_status outcome.Done = 0
+store_status outcome.No = 1
 store_status (outcome.Refused error.NoStore) = 3
 store_status (outcome.Refused error.StoreWhole) = 3
 store_status (outcome.Refused error.MailFiles) = 3
@@ -39,13 +40,20 @@ store_text error.NoMemory = codes "memory"
 -- what is told on the errors' sink
 abbrev pub store_error_text : StoreOutcome → List ℕ
 store_error_text outcome.Done = []
+store_error_text outcome.No = []
 store_error_text (outcome.Refused why) = codes "mdbox: " ++ (store_text why ++ 10 ∷ [])
 store_error_text outcome.WriteFault = codes "mdbox: write fault" ++ 10 ∷ []
 
+-- damage, whose text takes memory
+abbrev pub IsDamage : OpenError → Type 0
+IsDamage (error.Damaged name place) = Unit {0}
+IsDamage other = ⊥
+
 -- the same end, or want of memory where there was none for the text of a refusal
 abbrev pub StoreYields : StoreOutcome → StoreOutcome → Type 0
-StoreYields (outcome.Refused why) last = (last ≡ outcome.Refused why) ⊎ (last ≡ outcome.Refused error.NoMemory)
+StoreYields (outcome.Refused why) last = (last ≡ outcome.Refused why) ⊎ (IsDamage why × (last ≡ outcome.Refused error.NoMemory))
 StoreYields outcome.Done last = last ≡ outcome.Done
+StoreYields outcome.No last = last ≡ outcome.No
 StoreYields outcome.WriteFault last = last ≡ outcome.WriteFault
 
 -- A store was made: there was none, and no mail files; now the disk is settled for an empty INBOX, in logs of this id.
@@ -54,14 +62,23 @@ pub record IsNew (id : List ℕ) (old new : Option History) : Type 0 where
   pub settled : IfTold new (λ disk. IsSettled disk empty_inbox)
   pub made : IfTold new (IsMade id)
 
+-- `OK` was printed, or a front of it
+abbrev pub ShowsOk : Option (List ℕ) → Option (List ℕ) → StoreOutcome → Type 0
+ShowsOk held later outcome.Done = Appended held (codes "OK" ++ 10 ∷ []) later
+ShowsOk held later outcome.WriteFault = Cut held [] (codes "OK" ++ 10 ∷ []) later
+ShowsOk held later outcome.No = ⊥
+ShowsOk held later (outcome.Refused why) = ⊥
+
 -- How `init` ends: the store is made and `OK` is printed, or a front of it; or nothing is printed, for a cause in the files,
 -- which then stay as they were, a fault, or want of memory.
 abbrev pub Inits : List ℕ → Option (List ℕ) → Option (List ℕ) → Option History → Option History → StoreOutcome → Type 0
 Inits id held later old new outcome.Done = IsNew id old new × Appended held (codes "OK" ++ 10 ∷ []) later
+Inits id held later old new outcome.No = ⊥
 Inits id held later old new outcome.WriteFault = IsNew id old new × Cut held [] (codes "OK" ++ 10 ∷ []) later
 Inits id held later old new (outcome.Refused why) = (later ≡ held) × IsMakingError old why × (IsOfFiles why → Idle old new)
 
 -- A stop at any moment of an `init` that began where no image has a root entry: each image has none, or is safe for an empty
--- INBOX.
-abbrev pub InitMoments : Option History → Option History → Type 0
-InitMoments old new = IfTold old (λ disk. NeverHasEntry (disk file.Root)) → EachImage (λ _ image. HasNothingOrInbox image) old new
+-- INBOX. Where a store may not be made nothing changes, whatever is answered.
+pub record InitMoments (old new : Option History) : Type 0 where
+  pub each : IfTold old (λ disk. NeverHasEntry (disk file.Root)) → EachImage (λ _ image. HasNothingOrInbox image) old new
+  pub untouched : IdleUnless IsFree old new

@@ -20,6 +20,9 @@ pub const HELP: &str = "mdbox WORDS
 
 init ID     makes an empty store in the current folder, with one mailbox, INBOX, and prints OK; ID names
             the store, in 16 lower-case hexadecimal digits
+list BOX    prints the messages of a mailbox of the store in the current folder: OK and how many, then for each
+            its UID, its flags (1 answered, 2 flagged, 4 deleted, 8 seen, 16 draft), its size in octets, the
+            time it was received (Unix seconds) and its GUID; or NO 10 where no mailbox has the name
 dump        reads a storage file (m.N) of mdbox from standard input and prints, for each message,
             MESSAGE with its offset and its body's size, and its metadata lines behind two spaces
 logdump     reads a log of mdbox from standard input and prints LOG with its kind (R, M or B), number
@@ -28,10 +31,10 @@ logdump     reads a log of mdbox from standard input and prints LOG with its kin
 --help      prints this
 --version   prints the version
 
-Exit status: 0 all was done and printed, 2 other words, 3 the files in the folder forbid it, 4 the input is
-refused, 5 memory, 6 disk fault, 7 read fault, 8 write fault
+Exit status: 0 all was done and printed, 1 the reply is NO, 2 other words, 3 the files in the folder forbid it,
+4 the input is refused, 5 memory, 6 disk fault, 7 read fault, 8 write fault
 
-Example: mdbox init 0011223344556677 && mdbox logdump < storage/root.log
+Example: mdbox init 0011223344556677 && mdbox list INBOX
 ";
 
 /// What `--version` prints.

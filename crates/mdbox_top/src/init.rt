@@ -1,20 +1,20 @@
 // Making a store.
-ghost use Rattle.std.specs.Prelude.{◌≡◌, ◌≤◌, ◌∷◌, [], IsErrOf, length};
+ghost use Rattle.std.specs.Prelude.{◌≡◌, ◌≤◌, ◌∷◌, [], length, codes, ◌++◌};
 ghost use Rattle.mdbox_base.specs.Words.{IsOctets};
-ghost use Rattle.mdbox_base.specs.Streams.{Rose};
+ghost use Rattle.mdbox_base.specs.Streams.{Rose, Appended};
 ghost use Rattle.gate_log.specs.Log.{OneRoseIf};
-ghost use Rattle.mdbox_top.specs.StoreRun.{Inits, InitMoments, store_status, store_error_text};
+ghost use Rattle.mdbox_top.specs.Printing.{Cut};
+ghost use Rattle.mdbox_top.specs.StoreRun.{Inits, InitMoments, ShowsOk, store_status, store_error_text};
 ghost use Rattle.mdbox_top.specs.Run.{Gave, IsOneOf};
 ghost use Rattle.mdbox_top.specs.declared.store_outcome.StoreOutcome.{StoreOutcome};
 ghost use Rattle.mdbox_top.specs.declared.store_outcome.StoreOutcome.TheVariants as outcome;
-ghost use Rattle.store_open.specs.declared.error.OpenError.TheVariants as error;
 
 use crate::status::Status;
 use crate::store_outcome::{StoreOutcome, report_store};
 use disk_model::Disk;
 use mdbox_base::{Sink, SinkFault, StoreId, give_all};
 use std::alloc::Global;
-use store_open::make_files;
+use store_open::{OpenRefused, init_store};
 
 /// Makes an empty store, prints `OK`, tells the errors' sink what went wrong, and hands the disk back.
 pub fn run_init<D: Disk, O: Sink, E: Sink>(
@@ -34,24 +34,24 @@ pub fn run_init<D: Disk, O: Sink, E: Sink>(
     ensures known { IsOneOf (0 ∷ 3 ∷ 5 ∷ 6 ∷ 8 ∷ []) result.0.0 }
     ensures counted { (O.faults output.old ≤ O.faults output.new) × (E.faults errors.old ≤ E.faults errors.new) }
 {
-    let mut disk = disk;
-    let outcome = init(alloc, id, &mut disk, output);
-    let status = report_store(alloc, errors, outcome);
-    (status, disk)
+    match init_store(alloc, disk, id) {
+        Ok(store) => {
+            let outcome = print_ok(output);
+            (report_store(alloc, errors, outcome), store.into_disk())
+        }
+        Err(OpenRefused { error, disk }) => {
+            let outcome = StoreOutcome::Refused(error);
+            (report_store(alloc, errors, outcome), disk)
+        }
+    }
 }
 
-/// Makes an empty store, and prints `OK`.
-fn init<D: Disk, O: Sink>(alloc: Global, id: StoreId, disk: &mut D, output: &mut O) -> StoreOutcome
-    requires id { (length id.0 ≡ 8) × IsOctets id.0 }
-    ensures ends { Inits id.0 (O.held output.old) (O.held output.new) (D.history disk.old) (D.history disk.new) result }
-    ensures moments { InitMoments (D.history disk.old) (D.history disk.new) }
-    ensures disk_fault { OneRoseIf (result ≡ outcome.Refused error.DiskFault) (D.faults disk.old) (D.faults disk.new) }
+/// Prints `OK`.
+fn print_ok<O: Sink>(output: &mut O) -> StoreOutcome
+    ensures shown { ShowsOk (O.held output.old) (O.held output.new) result }
     ensures write_fault { result ≡ outcome.WriteFault → Rose (O.faults output.old) (O.faults output.new) }
     ensures counted { O.faults output.old ≤ O.faults output.new }
 {
-    if let Err(why) = make_files(alloc, disk, id) {
-        return StoreOutcome::Refused(why);
-    }
     match give_all(output, b"OK\n") {
         Ok(()) => StoreOutcome::Done,
         Err(SinkFault) => StoreOutcome::WriteFault,

@@ -10,9 +10,11 @@ pub use store_outcome::StoreOutcome;
 
 mod command;
 mod init;
+mod list;
 mod log_print;
 mod outcome;
 mod print;
+mod reply_print;
 mod run;
 mod status;
 mod store_command;

@@ -1,7 +1,7 @@
 // How a command on the store ends, and what is told of it.
 ghost use Rattle.std.specs.Prelude.{◌≡◌, ◌≤◌, ◌∷◌, [], codes, ◌++◌, ◌⊎◌, IfOk};
 ghost use Rattle.mdbox_top.specs.Run.{Gave};
-ghost use Rattle.mdbox_top.specs.StoreRun.{store_status, store_text, store_error_text, StoreYields};
+ghost use Rattle.mdbox_top.specs.StoreRun.{IsDamage, store_status, store_text, store_error_text, StoreYields};
 ghost use Rattle.mdbox_top.specs.declared.store_outcome.StoreOutcome.{StoreOutcome};
 ghost use Rattle.mdbox_top.specs.declared.store_outcome.StoreOutcome.TheVariants as outcome;
 ghost use Rattle.store_open.specs.declared.error.OpenError.{OpenError};
@@ -20,6 +20,8 @@ use store_open::OpenError;
 pub enum StoreOutcome {
     /// It was done, and all was printed.
     Done,
+    /// A reply was printed that begins with `NO`.
+    No,
     /// The store was not made or opened.
     Refused(OpenError),
     /// The output failed.
@@ -35,6 +37,7 @@ pub fn report_store<E: Sink>(alloc: Global, errors: &mut E, outcome: StoreOutcom
 {
     match outcome {
         StoreOutcome::Done => Status(0),
+        StoreOutcome::No => Status(1),
         StoreOutcome::WriteFault => tell(errors, b"mdbox: write fault\n", 8),
         StoreOutcome::Refused(why) => report_refusal(alloc, errors, why),
     }
@@ -42,7 +45,7 @@ pub fn report_store<E: Sink>(alloc: Global, errors: &mut E, outcome: StoreOutcom
 
 /// Tells why a store was not made or opened, and answers the exit status.
 fn report_refusal<E: Sink>(alloc: Global, errors: &mut E, why: OpenError) -> Status
-    ensures told { (last : OpenError) × ((last ≡ why) ⊎ (last ≡ error.NoMemory)) × (result.0 ≡ store_status (outcome.Refused last))
+    ensures told { (last : OpenError) × ((last ≡ why) ⊎ (IsDamage why × (last ≡ error.NoMemory))) × (result.0 ≡ store_status (outcome.Refused last))
         × Gave (E.held errors.old) (E.faults errors.old) (store_error_text (outcome.Refused last)) (E.held errors.new) (E.faults errors.new) }
     ensures counted { E.faults errors.old ≤ E.faults errors.new }
 {

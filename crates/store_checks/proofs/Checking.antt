@@ -1,6 +1,7 @@
 -- The checks, one after another.
-use Rattle.std.proofs.Common.{◌≡◌, ◌<◌, ◌≤◌, ◌+◌, ℕ, List, [], ◌∷◌, map, Option, All, inl, inr, refl, sym, ◌∙◌, ap, subst}
+use Rattle.std.proofs.Common.{◌≡◌, ◌<◌, ◌≤◌, ◌+◌, ℕ, List, [], ◌∷◌, length, map, Option, All, inl, inr, refl, sym, ◌∙◌, ap, subst}
 use Rattle.std.specs.Prelude.{sum_by}
+use Rattle.std.specs.List.{AllByRecursion}
 use Rattle.std.proofs.lemmas.List.Elements.{All-weaker}
 use Rattle.std.proofs.lemmas.List.Sums.{sum_by-cons}
 use Rattle.disk_model.specs.Disk.{DiskState, History, IfTold, reading}
@@ -9,12 +10,13 @@ use Rattle.disk_model.specs.declared.name.FileName.TheVariants as file
 use Rattle.disk_model.proofs.Moments.{if_told-map, if_told-both}
 use Rattle.mdbox_base.specs.declared.entries.BoxEntry.{BoxEntry}
 use Rattle.mdbox_base.specs.declared.entries.MapEntry.{MapEntry}
-use Rattle.mail_model.specs.BoxMeaning.{box_meaning}
+use Rattle.mail_model.specs.BoxMeaning.{box_meaning, rows_after}
 use Rattle.mail_model.specs.MapMeaning.{MapMeaning, map_meaning, named}
+use Rattle.mail_model.specs.GoodLogs.{AreGoodLogs}
 use Rattle.mail_model.specs.Settled.{files_of}
 use Rattle.mail_model.specs.Stands.{HasRoot, HasMap}
 use Rattle.mail_model.specs.Safe.{LiesInFile, IsThereWhole}
-use Rattle.mail_model.specs.Opening.{PassLogs, PassBoxes, listed_of, IsCounted, IsMiscounted, IsFirstCutOff, IsFirstMissing, Opens, IsBadMapLog, IsBadBox, IsDamaged}
+use Rattle.mail_model.specs.Opening.{AreMapEntries, HasItsRecord, PassLogs, PassBoxes, listed_of, IsCounted, IsMiscounted, IsFirstCutOff, IsFirstMissing, Opens, IsBadMapLog, IsBadBox, IsDamaged}
 use Rattle.gate_log.specs.Log.{Idle}
 use Rattle.gate_log.specs.State.{Found}
 use Rattle.gate_log.proofs.Idling.{idle-back}
@@ -153,3 +155,14 @@ opens store generation entries m logs old mid now before idle means passed count
       instances = subst (λ (k : MapMeaning). All (IsThereWhole (files_of disk)) (named k)) means i;
     })
     (idle-back (λ (disk : DiskState). All (LiesInFile (files_of disk)) m.records) old mid before regions) (idle-back (λ (disk : DiskState). All (IsThereWhole (files_of disk)) (named m)) old now idle instances))
+
+-- the logs are good, whatever is told of the disk
+pub good_logs : (store : List ℕ) (entries : List MapEntry) (m : MapMeaning) (boxes : List CheckedBox) (logs : List (List BoxEntry)) (old new : Option History) → m ≡ map_meaning store entries → AreMapEntries store entries
+    → AreRead store m m.boxes boxes logs old new → All (IsCounted logs) m.records → AreGoodLogs store entries logs
+good_logs store entries m boxes logs old new means good r counts = record {
+  map_entries = good;
+  box_entries = r.box_entries;
+  one_each = r.one_each ∙ ap (λ (k : MapMeaning). length k.boxes) means;
+  records = subst (λ (k : MapMeaning). AllByRecursion (λ (log : List BoxEntry). All (HasItsRecord k) (rows_after log)) logs) means r.records;
+  counts = subst (λ (k : MapMeaning). All (IsCounted logs) k.records) means counts;
+}

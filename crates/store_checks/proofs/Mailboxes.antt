@@ -1,7 +1,8 @@
 -- Mailboxes that were read, one after another.
-use Rattle.std.proofs.Common.{◌≡◌, ◌+◌, ℕ, List, [], ◌∷◌, ◌++◌, map, take, drop, slice_get, ◌⊎◌, Option, Some, refl, sym, ◌∙◌, ap, subst}
+use Rattle.std.proofs.Common.{◌≡◌, ◌+◌, ℕ, List, [], ◌∷◌, ◌++◌, length, map, take, drop, slice_get, ◌⊎◌, All, Option, Some, refl, sym, ◌∙◌, ap, subst}
+use Rattle.std.specs.List.{AllByRecursion}
 use Rattle.std.specs.Option.{option_map}
-use Rattle.std.proofs.lemmas.List.{map-append}
+use Rattle.std.proofs.lemmas.List.{length-append, map-append}
 use Rattle.disk_model.specs.Disk.{Files, DiskState, History, IfTold}
 use Rattle.disk_model.specs.declared.name.FileName.{FileName}
 use Rattle.disk_model.specs.declared.name.FileName.TheVariants as file
@@ -9,12 +10,12 @@ use Rattle.disk_model.proofs.Moments.{if_told-all, if_told-both}
 use Rattle.mdbox_base.specs.declared.log_head.LogHead.{LogHead}
 use Rattle.mdbox_base.specs.declared.log_head.LogKind.TheVariants as kind
 use Rattle.mdbox_base.specs.declared.entries.BoxEntry.{BoxEntry}
-use Rattle.mail_model.specs.BoxMeaning.{BoxMeaning, box_meaning}
+use Rattle.mail_model.specs.BoxMeaning.{BoxMeaning, box_meaning, rows_after}
 use Rattle.mail_model.specs.MapMeaning.{MapBox, MapMeaning}
 use Rattle.mail_model.specs.Entries.{box_text}
 use Rattle.mail_model.specs.Settled.{files_of}
 use Rattle.mail_model.specs.Stands.{head_of, HasLog}
-use Rattle.mail_model.specs.Opening.{PassesBox, PassBoxes, IsBadLog, LacksRecord, AreBoxEntries}
+use Rattle.mail_model.specs.Opening.{HasItsRecord, PassesBox, PassBoxes, IsBadLog, LacksRecord, AreBoxEntries}
 use Rattle.gate_log.specs.State.{Found}
 use Rattle.gate_log.specs.Log.{Idle, IsFound}
 use Rattle.gate_log.proofs.Idling.{idle-told, idle-back}
@@ -54,9 +55,16 @@ pass_push files m (y ∷ xs) (k ∷ ls) x l p q = (p.0, pass_push files m xs ls 
 pass_push files m [] (k ∷ ls) x l p q = absurd p
 pass_push files m (y ∷ xs) [] x l p q = absurd p
 
+each_push : {X : Type 0} → (P : X → Type 0) (xs : List X) (x : X) → AllByRecursion P xs → P x → AllByRecursion P (xs ++ x ∷ [])
+each_push P [] x all p = (p, tt)
+each_push P (y ∷ ys) x all p = (all.0, each_push P ys x all.1 p)
+
+one_each_push : {X Y : Type 0} → (xs : List X) (ys : List Y) (x : X) (y : Y) → length xs ≡ length ys → length (xs ++ x ∷ []) ≡ length (ys ++ y ∷ [])
+one_each_push xs ys x y e = length-append xs (x ∷ []) ∙ ap (λ (n : ℕ). n + 1) e ∙ sym (length-append ys (y ∷ []))
+
 -- none was read yet
 pub none_read : (store : List ℕ) (m : MapMeaning) (old : Option History) → AreRead store m [] [] [] old old
-none_read store m old = record { pass = if_told-all _ old (λ disk. tt); meanings = refl; found = tt }
+none_read store m old = record { pass = if_told-all _ old (λ disk. tt); box_entries = tt; one_each = refl; records = tt; meanings = refl; found = tt }
 
 read_as : (P : BoxAt → Type 0) (at : BoxAt) (mailbox : MapBox) → at ≡ shown_box mailbox → P at → P (shown_box mailbox)
 read_as P at mailbox e p = subst P e p
@@ -75,6 +83,9 @@ one_read store m place o at boxes more logs b l old now new same e is idle next 
     (subst (λ (bs : List CheckedBox). AreRead store m (take place m.boxes ++ x.0 ∷ []) bs (logs ++ l ∷ []) old new) (sym push) (record {
       pass = if_told-both _ _ _ old
           (λ disk p has. pass_push (files_of disk) m (take place m.boxes) logs x.0 l p (record { log = record { log = has; in_range = read.good.0; fit = read.good.1 }; records = read.records })) r.pass (idle-back _ old now idle log'');
+      box_entries = each_push AreBoxEntries logs l r.box_entries read.good;
+      one_each = one_each_push logs (take place m.boxes) l x.0 r.one_each;
+      records = each_push (λ (log : List BoxEntry). All (HasItsRecord m) (rows_after log)) logs l r.records read.records;
       meanings = map-append (λ (c : CheckedBox). c.index) boxes (b ∷ []) ∙ ap (λ (ms : List BoxMeaning). ms ++ b.index ∷ []) r.meanings ∙ ap (λ (i : BoxMeaning). map box_meaning logs ++ i ∷ []) read.meaning ∙ sym (map-append box_meaning logs (l ∷ []));
       found = found_push store (take place m.boxes) boxes logs new x.0 b l (are_found-then store (take place m.boxes) boxes logs now new next r.found) found';
     }))

@@ -1,56 +1,53 @@
--- When a root log has no entry.
-use Rattle.std.proofs.Common.{◌≡◌, ◌<◌, ℕ, List, [], ◌∷◌, ◌++◌, length, take, drop, get_or, None, Some, inl, inr, refl, sym, ◌∙◌, ap, subst, arith, append_assoc, append-nil, length-append, drop-cons, take-take, take_at}
-use Rattle.std.proofs.lemmas.List.{take-append-drop, get_or_at}
-use Rattle.std.proofs.lemmas.List.Elements.{All-nil}
+-- The first 27 octets of a root log are a log exactly where it has no entry.
+use Rattle.std.proofs.Common.{◌≡◌, inl, inr, ℕ, ◌+◌, ◌≤◌, List, [], ◌∷◌, ◌++◌, length, take, drop, Some, None, sym, ◌∙◌, ap, append_assoc, append-nil, length-append, arith}
+use Rattle.std.proofs.lemmas.List.{take-append-drop, length-take-le}
+use Rattle.std.proofs.Math.Seq.{take-append-add}
+use Rattle.std.proofs.lemmas.List.Elements.{All-nil, All-head}
 use Rattle.mdbox_base.specs.declared.log_head.LogHead.{LogHead}
-use Rattle.mail_model.specs.LogFile.{HeadFits, head_octets, EntryFits, opened, IsLog, IsDamagedAt}
+use Rattle.mail_model.specs.LogFile.{HeadFits, head_octets, record_octets, EntryFits, opened, log_front, IsLog, IsDamagedAt}
 use Rattle.mail_model.specs.LogFileLaws.{head_length, not_both}
 use Rattle.mail_model.specs.Opening.{HasClosedHead, HasNoEntry}
-use Rattle.gate_log.specs.Reading.{IsReadError}
-use Rattle.gate_log.specs.declared.error.LogError.{LogError}
-use Rattle.gate_log.specs.declared.error.LogError.TheVariants as error
 
-first_gate : (head : LogHead) (octets rest : List ℕ) (gate : ℕ) → HeadFits head → octets ≡ head_octets head ++ gate ∷ rest → get_or octets 25 0 ≡ gate
-first_gate head octets rest gate f e = ap (λ (o : List ℕ). get_or o 25 0) e ∙ get_or_at (head_octets head) gate rest 0 25 (head_length head f)
+no_more : (head : LogHead) (entry : List ℕ) (entries : List (List ℕ)) (gate : ℕ) (behind octets : List ℕ) → HeadFits head → length octets ≡ 27
+    → octets ≡ log_front head (entry ∷ entries) ++ gate ∷ behind → EntryFits entry → ⊥
+no_more head entry entries gate behind octets fits long spelled entry_fits =
+    let whole : length octets ≡ length (log_front head (entry ∷ entries)) + length (gate ∷ behind) = ap length spelled ∙ length-append (log_front head (entry ∷ entries)) (gate ∷ behind) in
+    let front : length (log_front head (entry ∷ entries)) ≡ length (head_octets head) + length (opened (entry ∷ entries)) = length-append (head_octets head) (opened (entry ∷ entries)) in
+    let first : length (opened (entry ∷ entries)) ≡ length (1 ∷ record_octets entry) + length (opened entries) = length-append (1 ∷ record_octets entry) (opened entries) in
+    omega (arith, whole, front, first, long, head_length head fits)
 
--- an open gate that isn't the last octet
-pub open_entry : (octets : List ℕ) → 26 < length octets → get_or octets 25 0 ≡ 1 → HasNoEntry (Some octets) → ⊥
-open_entry octets long one (inl short) = omega (arith, long, short)
-open_entry octets long one (inr closed) = closed.closed (sym (first_gate closed.head octets closed.behind closed.gate closed.fits closed.spelled) ∙ one)
-
--- a whole head and a gate that isn't open
-pub closed_head : (octets : List ℕ) (head : LogHead) (entries : List (List ℕ)) → 26 < length octets → (get_or octets 25 0 ≡ 1 → ⊥) → IsLog (take 26 octets) head entries → HasClosedHead octets
-closed_head octets head entries long closed log =
-    let front : take 26 octets ≡ head_octets head ++ (opened entries ++ log.gate ∷ log.behind) = log.spelled ∙ append_assoc (head_octets head) (opened entries) (log.gate ∷ log.behind) in
-    let text : take 25 octets ≡ head_octets head = sym (take-take 25 26 octets (omega arith)) ∙ ap (take 25) front ∙ take_at (head_octets head) (opened entries ++ log.gate ∷ log.behind) 25 (head_length head log.head_fits) in
+-- 27 octets that are a log have no entry, and so their gate is closed
+pub closed : (octets : List ℕ) (head : LogHead) (entries : List (List ℕ)) → 27 ≤ length octets → IsLog (take 27 octets) head entries → HasClosedHead octets
+closed octets head (entry ∷ entries) long l =
+    absurd (no_more head entry entries l.gate l.behind (take 27 octets) l.head_fits (length-take-le 27 octets long) l.spelled (All-head EntryFits entry entries l.entries_fit))
+closed octets head [] long l =
+    let e : take 27 octets ≡ head_octets head ++ l.gate ∷ l.behind = l.spelled ∙ ap (λ (t : List ℕ). t ++ l.gate ∷ l.behind) (append-nil (head_octets head)) in
+    let n : 27 ≡ length (head_octets head) + length (l.gate ∷ l.behind) = sym (length-take-le 27 octets long) ∙ ap length e ∙ length-append (head_octets head) (l.gate ∷ l.behind) in
     record {
       head = head;
-      fits = log.head_fits;
-      gate = get_or octets 25 0;
-      behind = drop 26 octets;
-      spelled = sym (take-append-drop 25 octets) ∙ ap (λ (o : List ℕ). o ++ drop 25 octets) text ∙ ap (λ (o : List ℕ). head_octets head ++ o) (drop-cons octets 25 0 (omega (arith, long)));
-      closed = closed;
+      fits = l.head_fits;
+      gate = l.gate;
+      behind = l.behind ++ drop 27 octets;
+      spelled = sym (take-append-drop 27 octets) ∙ ap (λ (t : List ℕ). t ++ drop 27 octets) e ∙ append_assoc (head_octets head) (l.gate ∷ l.behind) (drop 27 octets);
+      closed = elim l.ends [ inl shut ↦ shut | inr nothing ↦ absurd (omega (arith, n, head_length head l.head_fits, ap length nothing)) ];
     }
 
-closed_log : (octets : List ℕ) (h : HasClosedHead octets) → IsLog (take 26 octets) h.head []
-closed_log octets h =
-    let long : length (head_octets h.head ++ h.gate ∷ []) ≡ 26 = (let l = head_length h.head h.fits in omega (arith, l, length-append (head_octets h.head) (h.gate ∷ []))) in
-    let text : take 26 octets ≡ head_octets h.head ++ h.gate ∷ [] =
-    ap (take 26) (h.spelled ∙ sym (append_assoc (head_octets h.head) (h.gate ∷ []) h.behind)) ∙ take_at (head_octets h.head ++ h.gate ∷ []) h.behind 26 long in
+-- the first 27 octets behind a whole head and a closed gate are a log without entries
+front_log : (octets : List ℕ) (c : HasClosedHead octets) → 27 ≤ length octets → IsLog (take 27 octets) c.head []
+front_log octets c long =
+    let l : length (head_octets c.head) ≡ 25 = head_length c.head c.fits in
+    let e : take 27 octets ≡ head_octets c.head ++ c.gate ∷ take 1 c.behind =
+    ap (take 27) c.spelled ∙ ap (λ (n : ℕ). take n (head_octets c.head ++ c.gate ∷ c.behind)) (let s : 27 ≡ length (head_octets c.head) + 2 = omega (arith, l) in s) ∙ take-append-add (head_octets c.head) (c.gate ∷ c.behind) 2 in
     record {
-      head_fits = h.fits;
+      head_fits = c.fits;
       entries_fit = All-nil EntryFits;
-      gate = h.gate;
-      behind = [];
-      spelled = text ∙ ap (λ (o : List ℕ). o ++ h.gate ∷ []) (sym (append-nil (head_octets h.head)));
-      ends = inr refl;
+      gate = c.gate;
+      behind = take 1 c.behind;
+      spelled = e ∙ ap (λ (t : List ℕ). t ++ c.gate ∷ take 1 c.behind) (sym (append-nil (head_octets c.head)));
+      ends = inl c.closed;
     }
 
--- octets that are no log
-pub no_head : (octets : List ℕ) (place : ℕ) → 26 < length octets → IsDamagedAt None (take 26 octets) place → HasNoEntry (Some octets) → ⊥
-no_head octets place long d (inl short) = omega (arith, long, short)
-no_head octets place long d (inr h) = not_both None (take 26 octets) h.head [] place (closed_log octets h) tt d
-
--- an error of a reading
-pub damaged : (octets front : List ℕ) (e : LogError) (place : ℕ) → front ≡ take 26 octets → e ≡ error.LogDamaged place → IsReadError None front e → IsDamagedAt None (take 26 octets) place
-damaged octets front e place is k r = subst (λ (o : List ℕ). IsDamagedAt None o place) is (subst (IsReadError None front) k r)
+-- so they are not damaged
+pub whole : (octets : List ℕ) (place : ℕ) → 27 ≤ length octets → IsDamagedAt None (take 27 octets) place → HasNoEntry (Some octets) → ⊥
+whole octets place long damaged (inl short) = omega (arith, long, short)
+whole octets place long damaged (inr c) = not_both None (take 27 octets) c.head [] place (front_log octets c long) tt damaged

@@ -1,5 +1,6 @@
 -- What the reading of a mailbox log answers.
-use Rattle.std.specs.Prelude.{◌≡◌, ℕ, List, [], ◌∷◌, map, All, Option, ◌⊎◌, ⊤}
+use Rattle.std.specs.Prelude.{◌≡◌, ℕ, List, [], ◌∷◌, length, map, All, Option, ◌⊎◌, ⊤}
+use Rattle.std.specs.List.{AllByRecursion}
 use Rattle.disk_model.specs.Disk.{Files, History, IfTold}
 use Rattle.disk_model.specs.declared.name.FileName.{FileName}
 use Rattle.disk_model.specs.declared.name.FileName.TheVariants as file
@@ -60,9 +61,13 @@ AreFound store (mailbox ∷ mailboxes) (checked ∷ boxes) (entries ∷ logs) no
     IsFoundAs checked.log (file.Box mailbox.number mailbox.generation) (head_of store kind.Box mailbox.number mailbox.generation) (map box_text entries) now × AreFound store mailboxes boxes logs now
 AreFound store mailboxes boxes logs now = ⊥
 
--- Mailboxes were read: they pass with these logs, the indexes are what the logs mean, and the logs stand as they were found.
+-- Mailboxes were read: they pass with these logs, one each, whose entries fit and whose listed messages have their records,
+-- the indexes are what the logs mean, and the logs stand as they were found.
 pub record AreRead (store : List ℕ) (m : MapMeaning) (mailboxes : List MapBox) (boxes : List CheckedBox) (logs : List (List BoxEntry)) (old new : Option History) : Type 0 where
   pub pass : IfTold old (λ disk. PassBoxes (files_of disk) m mailboxes logs)
+  pub box_entries : AllByRecursion AreBoxEntries logs
+  pub one_each : length logs ≡ length mailboxes
+  pub records : AllByRecursion (λ log. All (HasItsRecord m) (rows_after log)) logs
   pub meanings : map (λ b. b.index) boxes ≡ map box_meaning logs
   pub found : AreFound store mailboxes boxes logs new
 

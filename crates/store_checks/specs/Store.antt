@@ -1,5 +1,5 @@
 -- What the checks of a store answer.
-use Rattle.std.specs.Prelude.{◌≡◌, List, map, Option, ⊤}
+use Rattle.std.specs.Prelude.{◌≡◌, ℕ, List, map, Option, codes, ⊤}
 use Rattle.disk_model.specs.Disk.{History, IfTold, reading}
 use Rattle.disk_model.specs.declared.name.FileName.TheVariants as file
 use Rattle.mdbox_base.specs.declared.entries.BoxEntry.{BoxEntry}
@@ -8,6 +8,7 @@ use Rattle.mdbox_base.specs.declared.entries.RootEntry.{RootEntry}
 use Rattle.mail_model.specs.BoxMeaning.{box_meaning}
 use Rattle.mail_model.specs.MapMeaning.{map_meaning}
 use Rattle.mail_model.specs.Entries.{map_text}
+use Rattle.mail_model.specs.GoodLogs.{AreGoodLogs}
 use Rattle.mail_model.specs.Settled.{files_of}
 use Rattle.mail_model.specs.Opening.{HasNoEntry, Opens, IsDamaged}
 use Rattle.store_checks.specs.Boxes.{IsFoundAs, AreFound}
@@ -16,10 +17,11 @@ use Rattle.store_checks.specs.declared.check.Checked.{Checked}
 use Rattle.store_checks.specs.declared.error.CheckError.{CheckError}
 use Rattle.store_checks.specs.declared.error.CheckError.TheVariants as check
 
--- The store opens with these entries of its map log and these logs of its mailboxes, the indexes are what they mean, and
--- each log stands as it was found, the root log with these entries before its last.
+-- The store opens with these entries of its map log and these logs of its mailboxes, which are good on every disk, the
+-- indexes are what they mean, and each log stands as it was found, the root log with these entries before its last.
 pub record IsChecked (c : Checked) (before : List RootEntry) (entries : List MapEntry) (logs : List (List BoxEntry)) (old new : Option History) : Type 0 where
   pub opens : IfTold old (λ disk. Opens (files_of disk) c.id.0 entries logs)
+  pub good : AreGoodLogs c.id.0 entries logs
   pub map_is : c.map ≡ map_meaning c.id.0 entries
   pub boxes_are : map (λ b. b.index) c.boxes ≡ map box_meaning logs
   pub root_log : IsFoundAs c.root_log file.Root (root_log_head c.id.0) (root_texts before c.generation) new
@@ -32,3 +34,10 @@ IsCheckCause old check.NoStore = IfTold old (λ disk. HasNoEntry (reading (disk 
 IsCheckCause old (check.Damaged name place) = IfTold old (λ disk. IsDamaged (files_of disk) name place)
 IsCheckCause old check.DiskFault = ⊤
 IsCheckCause old check.NoMemory = ⊤
+
+-- what an error says when it is printed
+abbrev pub check_error_text : CheckError → List ℕ
+check_error_text check.NoStore = codes "no store"
+check_error_text (check.Damaged name place) = codes "store damaged"
+check_error_text check.DiskFault = codes "disk fault"
+check_error_text check.NoMemory = codes "out of memory"

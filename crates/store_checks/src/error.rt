@@ -1,5 +1,6 @@
 // Errors of the checks.
-ghost use Rattle.std.specs.Prelude.{◌≡◌};
+ghost use Rattle.std.specs.Prelude.{◌≡◌, Some};
+ghost use Rattle.store_checks.specs.Store.{check_error_text};
 ghost use Rattle.store_checks.specs.declared.error.CheckError.TheVariants.{DiskFault, NoMemory};
 
 use disk_model::FileName;
@@ -22,6 +23,8 @@ pub enum CheckError {
 }
 
 impl fmt::Display for CheckError {
+    ghost output = { λ error. Some (check_error_text error) };
+
     fn fmt<W: fmt::Write>(&self, f: &mut fmt::Formatter<W>) -> fmt::Result {
         f.write_str(match self {
             CheckError::NoStore => "no store",

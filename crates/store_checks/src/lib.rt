@@ -5,6 +5,7 @@
 pub use check::{Checked, check_store};
 pub use error::CheckError;
 pub use mailbox::CheckedBox;
+pub use no_entry::{ROOT_FRONT, has_no_entry};
 
 mod bare;
 mod check;

@@ -6,27 +6,18 @@ use gate_log::{LogError, read_log};
 use mdbox_base::NoMemory;
 use std::alloc::Global;
 
-/// How many octets a head and a gate have.
-const SHORTEST: usize = 26;
+/// How many octets of a root log tell whether it has an entry: its head, a gate, and one octet behind that.
+pub const ROOT_FRONT: usize = 27;
 
-/// Where the first gate stands.
-const FIRST_GATE: usize = 25;
-
-/// The gate behind which an entry stands.
-const OPEN: u8 = 1;
-
-/// Whether the octets of a root log are too few for an entry, or a whole head of a log and a gate that isn't open.
+/// Whether a root log with these octets, or with these first 27, has no entry: it is too short for one, or has a whole
+/// head and a first gate that isn't open.
 pub fn has_no_entry(alloc: Global, octets: &[u8]) -> Result<bool, NoMemory>
     ensures { IfOk result (λ none. IsTrue none ↔ HasNoEntry (Some octets.now)) }
 {
-    if octets.len() <= SHORTEST {
+    if octets.len() < ROOT_FRONT {
         return Ok(true);
     }
-    if octets[FIRST_GATE] == OPEN {
-        return Ok(false);
-    }
-    let (front, _) = octets.split_at(SHORTEST);
-    match read_log(alloc, front) {
+    match read_log(alloc, &octets[..ROOT_FRONT]) {
         Ok(_) => Ok(true),
         Err(LogError::LogDamaged(_)) => Ok(false),
         Err(_) => Err(NoMemory),

@@ -10,14 +10,11 @@ ghost use Rattle.store_checks.specs.RootId.{IsIdCause};
 use crate::error::CheckError;
 use crate::fold::RootFold;
 use crate::log::read_log;
-use crate::no_entry::has_no_entry;
+use crate::no_entry::{ROOT_FRONT, has_no_entry};
 use disk_model::{Disk, DiskError, FileName};
 use gate_log::FoundLog;
 use mdbox_base::{LogHead, LogKind, StoreId};
 use std::alloc::Global;
-
-/// How many octets of a root log tell whether it has an entry: its head, a gate, and one octet behind that.
-const TELLING: usize = 27;
 
 /// What a root log says: the store's id, and the generation of the map log in force.
 #[derive(Drop)]
@@ -60,7 +57,7 @@ fn root_id<D: Disk>(alloc: Global, disk: &mut D) -> Result<StoreId, CheckError>
     ensures idle { Idle (D.history disk.old) (D.history disk.new) }
     ensures fault { ReadsRoseIf (IsErrOf result CheckError.DiskFault) (D.faults disk.old) (D.faults disk.new) }
 {
-    let mut front = [0; TELLING];
+    let mut front = [0; ROOT_FRONT];
     let count = match disk.read_at(FileName::Root, 0, &mut front) {
         Ok(count) => count,
         Err(DiskError::Absent) => return Err(CheckError::NoStore),

@@ -1,8 +1,14 @@
+pub mod Carried
+pub mod Checked
 pub mod Clearing
 pub mod Counts
 pub mod Files
 pub mod Idle
 pub mod NewLog
 pub mod NewStore
+pub mod NewlyOpened
 pub mod NoEntry
+pub mod Parting
 pub mod Ranks
+pub mod Running
+pub mod Settled

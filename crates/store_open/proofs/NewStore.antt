@@ -220,7 +220,7 @@ with-root store head entry (Some old) new h e p each =
 
 -- the disk is settled
 
-made-new : (store : List ℕ) (disk : DiskState) → IsMade store disk → HeadFits (inbox_head store) → IsNewStore (files_of disk) store
+pub made-new : (store : List ℕ) (disk : DiskState) → IsMade store disk → HeadFits (inbox_head store) → IsNewStore (files_of disk) store
 made-new store disk m f = record {
   root_log = record { octets = log_text (root_head store) (root_text first_root ∷ []); there = m.root_log.reads; whole = text-log (root_head store) (root_text first_root ∷ []) (root-fits store f) root-entry-fits };
   map_log = record { octets = log_text (map_head store) (map_text first_box ∷ []); there = m.map_log.reads; whole = text-log (map_head store) (map_text first_box ∷ []) (map-fits store f) first-fits };

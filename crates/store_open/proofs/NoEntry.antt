@@ -1,97 +1,17 @@
--- The first 27 octets of a root log are a log exactly where it has no entry.
-use Rattle.std.proofs.Common.{◌≡◌, ◌↔◌, Bool, IsTrue, inl, inr, ℕ, ◌+◌, ◌≤◌, List, [], ◌∷◌, ◌++◌, length, take, drop, Option, Some, None, sym, ◌∙◌, ap, subst, append_assoc, append-nil, length-append, arith}
-use Rattle.std.proofs.lemmas.List.{take-append-drop, length-take-le, length-take, take_all}
-use Rattle.std.proofs.Math.Seq.{take-append-add}
-use Rattle.std.proofs.lemmas.Bool.{cases_lt}
-use Rattle.std.proofs.lemmas.List.Elements.{All-nil, All-head}
+-- What the first 27 octets of a root log tell.
+use Rattle.std.proofs.Common.{◌≡◌, ◌↔◌, Bool, IsTrue, ℕ, List, take, Option, Some, sym, subst}
 use Rattle.disk_model.specs.Disk.{History, IfTold, reading}
 use Rattle.disk_model.specs.declared.name.FileName.TheVariants as file
 use Rattle.disk_model.proofs.Moments.{if_told-map}
-use Rattle.mdbox_base.specs.declared.log_head.LogHead.{LogHead}
-use Rattle.mail_model.specs.LogFile.{HeadFits, head_octets, record_octets, EntryFits, opened, log_front, IsLog, IsDamagedAt}
-use Rattle.mail_model.specs.LogFileLaws.{head_length, not_both}
-use Rattle.mail_model.specs.Opening.{HasClosedHead, HasNoEntry}
-
-no_more : (head : LogHead) (entry : List ℕ) (entries : List (List ℕ)) (gate : ℕ) (behind octets : List ℕ) → HeadFits head → length octets ≡ 27
-    → octets ≡ log_front head (entry ∷ entries) ++ gate ∷ behind → EntryFits entry → ⊥
-no_more head entry entries gate behind octets fits long spelled entry_fits =
-    let whole : length octets ≡ length (log_front head (entry ∷ entries)) + length (gate ∷ behind) = ap length spelled ∙ length-append (log_front head (entry ∷ entries)) (gate ∷ behind) in
-    let front : length (log_front head (entry ∷ entries)) ≡ length (head_octets head) + length (opened (entry ∷ entries)) = length-append (head_octets head) (opened (entry ∷ entries)) in
-    let first : length (opened (entry ∷ entries)) ≡ length (1 ∷ record_octets entry) + length (opened entries) = length-append (1 ∷ record_octets entry) (opened entries) in
-    omega (arith, whole, front, first, long, head_length head fits)
-
--- 27 octets that are a log have no entry, and so their gate is closed
-pub closed : (octets : List ℕ) (head : LogHead) (entries : List (List ℕ)) → 27 ≤ length octets → IsLog (take 27 octets) head entries → HasClosedHead octets
-closed octets head (entry ∷ entries) long l =
-    absurd (no_more head entry entries l.gate l.behind (take 27 octets) l.head_fits (length-take-le 27 octets long) l.spelled (All-head EntryFits entry entries l.entries_fit))
-closed octets head [] long l =
-    let e : take 27 octets ≡ head_octets head ++ l.gate ∷ l.behind = l.spelled ∙ ap (λ (t : List ℕ). t ++ l.gate ∷ l.behind) (append-nil (head_octets head)) in
-    let n : 27 ≡ length (head_octets head) + length (l.gate ∷ l.behind) = sym (length-take-le 27 octets long) ∙ ap length e ∙ length-append (head_octets head) (l.gate ∷ l.behind) in
-    record {
-      head = head;
-      fits = l.head_fits;
-      gate = l.gate;
-      behind = l.behind ++ drop 27 octets;
-      spelled = sym (take-append-drop 27 octets) ∙ ap (λ (t : List ℕ). t ++ drop 27 octets) e ∙ append_assoc (head_octets head) (l.gate ∷ l.behind) (drop 27 octets);
-      closed = elim l.ends [ inl shut ↦ shut | inr nothing ↦ absurd (omega (arith, n, head_length head l.head_fits, ap length nothing)) ];
-    }
-
--- the first 27 octets behind a whole head and a closed gate are a log without entries
-front_log : (octets : List ℕ) (c : HasClosedHead octets) → 27 ≤ length octets → (IsLog (take 27 octets) c.head []) × HasClosedHead (take 27 octets)
-front_log octets c long =
-    let l : length (head_octets c.head) ≡ 25 = head_length c.head c.fits in
-    let e : take 27 octets ≡ head_octets c.head ++ c.gate ∷ take 1 c.behind =
-    ap (take 27) c.spelled ∙ ap (λ (n : ℕ). take n (head_octets c.head ++ c.gate ∷ c.behind)) (let s : 27 ≡ length (head_octets c.head) + 2 = omega (arith, l) in s) ∙ take-append-add (head_octets c.head) (c.gate ∷ c.behind) 2 in (
-      record {
-        head_fits = c.fits;
-        entries_fit = All-nil EntryFits;
-        gate = c.gate;
-        behind = take 1 c.behind;
-        spelled = e ∙ ap (λ (t : List ℕ). t ++ c.gate ∷ take 1 c.behind) (sym (append-nil (head_octets c.head)));
-        ends = inl c.closed;
-      },
-      record { head = c.head; fits = c.fits; gate = c.gate; behind = take 1 c.behind; spelled = e; closed = c.closed },
-    )
-
--- so they are not damaged
-pub whole : (octets : List ℕ) (place : ℕ) → 27 ≤ length octets → IsDamagedAt None (take 27 octets) place → HasNoEntry (Some octets) → ⊥
-whole octets place long damaged (inl short) = omega (arith, long, short)
-whole octets place long damaged (inr c) = not_both None (take 27 octets) c.head [] place (front_log octets c long).0 tt damaged
-
--- they tell as much as all octets
-pub tell : (octets : List ℕ) → HasNoEntry (Some octets) ↔ HasNoEntry (Some (take 27 octets))
-tell octets = (forth, back)
-  where
-    forth : HasNoEntry (Some octets) → HasNoEntry (Some (take 27 octets))
-    forth (inl short) = inl (omega (arith, length-take 27 octets, short))
-    forth (inr c) = elim (cases_lt (length octets) 27) [
-      | inl short ↦ inr (subst HasClosedHead (sym (take_all 27 octets (omega arith))) c)
-      | inr long ↦ inr (front_log octets c long).1
-    ]
-
-    back : HasNoEntry (Some (take 27 octets)) → HasNoEntry (Some octets)
-    back none = elim (cases_lt (length octets) 27) [
-      | inl short ↦ inl (omega arith)
-      | inr long ↦ elim none [
-        | inl short ↦ absurd (omega (arith, length-take-le 27 octets long, short))
-        | inr c ↦ inr (record {
-          head = c.head;
-          fits = c.fits;
-          gate = c.gate;
-          behind = c.behind ++ drop 27 octets;
-          spelled = sym (take-append-drop 27 octets) ∙ ap (λ (t : List ℕ). t ++ drop 27 octets) c.spelled ∙ append_assoc (head_octets c.head) (c.gate ∷ c.behind) (drop 27 octets);
-          closed = c.closed;
-        })
-      ]
-    ]
+use Rattle.mail_model.specs.Opening.{HasNoEntry}
+use Rattle.store_checks.proofs.RootHead.{none_in_front, none_in_all}
 
 -- what was read of a root log's front tells whether it has an entry
 pub front_tells : (old : Option History) (lacks : Bool) (front : List ℕ) → IsTrue lacks ↔ HasNoEntry (Some front)
     → IfTold old (λ disk. (reading (disk file.Root) ≡ Some (disk file.Root).octets) × (front ≡ take 27 (disk file.Root).octets))
     → IfTold old (λ disk. IsTrue lacks ↔ HasNoEntry (reading (disk file.Root)))
 front_tells old lacks front tells read = if_told-map _ _ old (λ disk r.
-    let t = tell (disk file.Root).octets in
     let e : front ≡ take 27 (disk file.Root).octets = r.1 in
     let back = subst (λ (o : Option (List ℕ)). HasNoEntry o) (sym r.0) in
     let forth = subst (λ (o : Option (List ℕ)). HasNoEntry o) r.0 in
-    ((λ is. back (t.1 (subst (λ (o : List ℕ). HasNoEntry (Some o)) e (tells.0 is)))), (λ none. tells.1 (subst (λ (o : List ℕ). HasNoEntry (Some o)) (sym e) (t.0 (forth none)))))) read
+    ((λ is. back (none_in_front (disk file.Root).octets (subst (λ (o : List ℕ). HasNoEntry (Some o)) e (tells.0 is)))), (λ none. tells.1 (subst (λ (o : List ℕ). HasNoEntry (Some o)) (sym e) (none_in_all (disk file.Root).octets (forth none)))))) read

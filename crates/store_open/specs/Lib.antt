@@ -1,2 +1,5 @@
+pub mod Causes
 pub mod Making
+pub mod Opened
+pub mod Parts
 pub mod Refused

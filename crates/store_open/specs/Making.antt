@@ -2,7 +2,7 @@
 use Rattle.std.specs.Prelude.{◌≡◌, ◌≢◌, ◌<◌, ◌^◌, ◌⊎◌, ℕ, List, [], ◌∷◌, Option, Some, None}
 use Rattle.std.specs.declared.cmp.Ordering.{Ordering}
 use Rattle.std.specs.declared.cmp.Ordering.TheVariants.{Less}
-use Rattle.disk_model.specs.Disk.{Files, FileState, DiskState, History, IsThere, IsPast, Keeps, MayLeave, no_file, named, removed, reading}
+use Rattle.disk_model.specs.Disk.{Files, FileState, DiskState, History, IsThere, IfTold, IsPast, Keeps, MayLeave, no_file, named, removed, reading}
 use Rattle.disk_model.specs.declared.name.FileName.{FileName}
 use Rattle.disk_model.specs.declared.name.FileName.TheVariants as file
 use Rattle.mdbox_base.specs.declared.log_head.LogHead.{LogHead}
@@ -12,13 +12,17 @@ use Rattle.mail_model.specs.Entries.{root_text, map_text}
 use Rattle.mail_model.specs.Stands.{head_of}
 use Rattle.mail_model.specs.Safe.{Safe}
 use Rattle.mail_model.specs.Opening.{HasNoEntry, first_root, first_box, empty_inbox}
-use Rattle.gate_log.specs.Log.{IsNoLonger, log_text}
+use Rattle.gate_log.specs.Log.{Idle, IsNoLonger, log_text}
 
 -- a relation of the present states, where the disk tells them
 abbrev pub BothTold : (DiskState → DiskState → Type 0) → Option History → Option History → Type 0
 BothTold R None new = new ≡ None
 BothTold R (Some old) None = ⊥
 BothTold R (Some old) (Some new) = R old.now new.now
+
+-- Where the disk has not this at the beginning, nothing has changed.
+abbrev pub IdleUnless : (DiskState → Type 0) → Option History → Option History → Type 0
+IdleUnless P old new = IfTold old (λ now. (P now → ⊥) → Idle old new)
 
 -- a log of the store, and no storage file and no instance
 abbrev pub IsLogName : FileName → Type 0

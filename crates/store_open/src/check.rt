@@ -8,10 +8,10 @@ ghost use Rattle.store_open.specs.Making.{HasMailFile, IsFree};
 ghost use Rattle.store_open.specs.Refused.{IsMakingError, IsFaultOrMemory};
 
 use crate::error::OpenError;
-use crate::no_entry::{TELLING, has_no_entry};
 use disk_model::{Disk, DiskError, FileName};
 use gate_log::DiskFault;
 use std::alloc::Global;
+use store_checks::{ROOT_FRONT, has_no_entry};
 
 /// The greatest name of a log.
 const LAST_LOG: FileName = FileName::Box(u32::MAX, u32::MAX);
@@ -39,7 +39,7 @@ pub fn lacks_entry<D: Disk>(alloc: Global, disk: &mut D) -> Result<bool, OpenErr
     ensures idle { Idle (D.history disk.old) (D.history disk.new) }
     ensures fault { OneRoseIf (IsErrOf result OpenError.DiskFault) (D.faults disk.old) (D.faults disk.new) }
 {
-    let mut front = [0; TELLING];
+    let mut front = [0; ROOT_FRONT];
     match disk.read_at(FileName::Root, 0, &mut front) {
         Ok(count) => Ok(has_no_entry(alloc, &front[..count])?),
         Err(DiskError::Absent) => Ok(true),

@@ -7,18 +7,25 @@ use log_records::{push_map_entry, push_root_entry};
 use mdbox_base::{BoxNo, MapEntry, NoMemory, Octets, RootEntry, name_of};
 use std::alloc::Global;
 
-/// The text of the map log's first entry: mailbox 1, INBOX, whose log has generation 1.
-pub fn inbox_entry(alloc: Global) -> Result<Octets, NoMemory>
-    ensures { IfOk result (λ text. text ≡ map_text first_box) }
+/// The map log's first entry: mailbox 1, INBOX, whose log has generation 1.
+pub fn inbox(alloc: Global) -> Result<MapEntry, NoMemory>
+    ensures { IfOk result (λ entry. entry ≡ first_box) }
 {
     let Some(name) = name_of(alloc, b"INBOX")? else {
         unreachable!()
     };
-    let entry = MapEntry::B {
+    Ok(MapEntry::B {
         mailbox: BoxNo(1),
         generation: 1,
         name,
-    };
+    })
+}
+
+/// The text of that entry.
+pub fn inbox_entry(alloc: Global) -> Result<Octets, NoMemory>
+    ensures { IfOk result (λ text. text ≡ map_text first_box) }
+{
+    let entry = inbox(alloc)?;
     let mut text = Octets::empty(alloc);
     push_map_entry(alloc, &mut text, &entry)?;
     Ok(text)

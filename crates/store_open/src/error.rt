@@ -1,12 +1,16 @@
 // Errors of making and opening a store.
 ghost use Rattle.std.specs.Prelude.{◌≡◌};
+ghost use Rattle.store_open.specs.Causes.{of_check, of_sweep};
 ghost use Rattle.store_open.specs.declared.error.OpenError.TheVariants.{DiskFault as Fault, NoMemory as Memory};
 
 use disk_model::FileName;
 use gate_log::DiskFault;
 use mdbox_base::NoMemory;
+use std::alloc::AllocError;
 use std::error::Error;
 use std::fmt;
+use store_checks::CheckError;
+use store_sweep::SweepError;
 
 /// Why a store was not made or opened.
 #[derive(Clone, Copy, Debug, PartialEq, Eq)]
@@ -40,6 +44,12 @@ impl fmt::Display for OpenError {
 
 impl Error for OpenError {}
 
+/// Why a store was not made or opened, and its disk.
+pub struct OpenRefused<D> {
+    pub error: OpenError,
+    pub disk: D,
+}
+
 impl From<DiskFault> for OpenError {
     ghost from_gives = { λ _ error. error ≡ Fault };
 
@@ -53,5 +63,37 @@ impl From<NoMemory> for OpenError {
 
     fn from(_error: NoMemory) -> OpenError {
         OpenError::NoMemory
+    }
+}
+
+impl From<AllocError> for OpenError {
+    ghost from_gives = { λ _ error. error ≡ Memory };
+
+    fn from(_error: AllocError) -> OpenError {
+        OpenError::NoMemory
+    }
+}
+
+impl From<CheckError> for OpenError {
+    ghost from_gives = { λ given error. error ≡ of_check given };
+
+    fn from(error: CheckError) -> OpenError {
+        match error {
+            CheckError::NoStore => OpenError::NoStore,
+            CheckError::Damaged(name, place) => OpenError::Damaged(name, place),
+            CheckError::DiskFault => OpenError::DiskFault,
+            CheckError::NoMemory => OpenError::NoMemory,
+        }
+    }
+}
+
+impl From<SweepError> for OpenError {
+    ghost from_gives = { λ given error. error ≡ of_sweep given };
+
+    fn from(error: SweepError) -> OpenError {
+        match error {
+            SweepError::DiskFault => OpenError::DiskFault,
+            SweepError::NoMemory => OpenError::NoMemory,
+        }
     }
 }

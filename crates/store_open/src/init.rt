@@ -6,7 +6,7 @@ ghost use Rattle.mail_model.specs.Entries.{map_text};
 ghost use Rattle.mail_model.specs.Settled.{IsSettled};
 ghost use Rattle.mail_model.specs.Opening.{first_box, empty_inbox};
 ghost use Rattle.gate_log.specs.Log.{Holds, Idle, OneRoseIf};
-ghost use Rattle.store_open.specs.Making.{IsFree, IsMade, NeverHasEntry, HasNothingOrInbox, map_head, inbox_head};
+ghost use Rattle.store_open.specs.Making.{IdleUnless, IsFree, IsMade, NeverHasEntry, HasNothingOrInbox, map_head, inbox_head};
 ghost use Rattle.store_open.specs.Refused.{IsMakingError, IsOfFiles};
 
 use crate::check::check_free;
@@ -27,6 +27,9 @@ pub fn make_files<D: Disk>(alloc: Global, disk: &mut D, id: StoreId) -> Result<M
     ensures refused { IfErr result (IsMakingError (D.history disk.old)) }
     ensures free { OnOk result (IfTold (D.history disk.old) IsFree) }
     ensures idle { IfErr result (λ error. IsOfFiles error → Idle (D.history disk.old) (D.history disk.new)) }
+
+    // Whatever is answered, nothing changes where a store may not be made.
+    ensures untouched { IdleUnless IsFree (D.history disk.old) (D.history disk.new) }
 
     // Where at the beginning each image's root log has no entry, at every moment of the call each image has no entry there,
     // or is safe for the lists with an empty INBOX.

@@ -1,10 +1,11 @@
 //! Making a store's files and opening them.
 #![tactic(auto)]
 
-pub use error::OpenError;
+pub use error::{OpenError, OpenRefused};
 pub use init::make_files;
 pub use make::MadeLogs;
-pub use no_entry::has_no_entry;
+pub use new_store::init_store;
+pub use open::open_store;
 
 mod check;
 mod clear;
@@ -12,6 +13,8 @@ mod entries;
 mod error;
 mod init;
 mod make;
-mod no_entry;
+mod new_store;
+mod open;
+mod parts;
 #[cfg(test)]
 mod tests;

@@ -1,9 +1,10 @@
 // A new store on a disk in memory.
-use crate::{OpenError, has_no_entry, make_files};
+use crate::{OpenError, OpenRefused, init_store, make_files, open_store};
 use disk_mem::{Choice, MemDisk};
 use disk_model::{Disk, DiskError, FileName};
-use mdbox_base::{Seq, StoreId};
+use mdbox_base::{BoxNo, Seq, StoreId};
 use std::test::Fail;
+use store_core::Store;
 
 const ID: StoreId = StoreId([0x00, 0x11, 0x22, 0x33, 0x44, 0x55, 0x66, 0x77]);
 
@@ -111,29 +112,35 @@ fn a_making_that_fails(rt: HostRuntime) -> Result<(), Fail> {
     Ok(())
 }
 
-/// Whether a root log with these octets before others has an entry.
-#[test]
-fn root_logs_with_an_entry(rt: HostRuntime) -> Result<(), Fail> {
-    let mut other_name = ROOT_LOG;
-    other_name[0] = 0x6d;
-    let cases = [
-        (ROOT_LOG, 36, false),
-        (ROOT_LOG, 27, false),
-        (ROOT_LOG, 26, true),
-        (ROOT_LOG, 0, true),
-        (INBOX_LOG, 26, true),
-        (INBOX_LOG, 48, true),
-        (MAP_LOG, 46, false),
-        (other_name, 36, false),
-        (other_name, 26, true),
-    ];
-    for (text, size, expected) in cases {
-        let (front, _) = text.split_at_checked(size).ok_or("longer than the log")?;
-        assert_eq!(rt;
-            has_no_entry(rt.alloc(), front),
-            Ok(expected),
-            "{size} octets"
-        );
+/// The disk of an answer, and why there is no store of this id for so many lanes whose INBOX is empty.
+fn taken(
+    answer: Result<Store<MemDisk>, OpenRefused<MemDisk>>,
+    lanes: u32,
+) -> (MemDisk, Option<OpenError>) {
+    match answer {
+        Ok(store) => {
+            let inbox = store.mailbox(BoxNo(1)).map(|index| index.length());
+            let is_new = store.id() == ID && store.lanes() == lanes && inbox == Some(0);
+            (store.into_disk(), (!is_new).then_some(OpenError::NoStore))
+        }
+        Err(OpenRefused { error, disk }) => (disk, Some(error)),
     }
+}
+
+#[test]
+fn a_new_store_is_opened(rt: HostRuntime) -> Result<(), Fail> {
+    let disk = MemDisk::fresh(rt.alloc())?;
+    let (disk, error) = taken(open_store(rt.alloc(), disk, 1), 1);
+    assert_eq!(rt; error, Some(OpenError::NoStore));
+    let (disk, error) = taken(init_store(rt.alloc(), disk, ID), 1);
+    assert_eq!(rt; error, None);
+    let (disk, error) = taken(open_store(rt.alloc(), disk, 64), 64);
+    assert_eq!(rt; error, None);
+    let (mut disk, error) = taken(init_store(rt.alloc(), disk, ID), 1);
+    assert_eq!(rt; error, Some(OpenError::StoreWhole));
+    assert!(rt; is_new_store(&mut disk));
+    disk.remove(FileName::Box(1, 1))?;
+    let (_disk, error) = taken(open_store(rt.alloc(), disk, 1), 1);
+    assert_eq!(rt; error, Some(OpenError::Damaged(FileName::Box(1, 1), 0)));
     Ok(())
 }

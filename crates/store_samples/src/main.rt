@@ -1,4 +1,5 @@
-//! Makes a store in the folder that it runs in, through the whole program, and prints what each run answers.
+//! Makes a store in the folder that it runs in, lists it and damages it, through the whole program, and prints what each run
+//! answers.
 #![tactic(auto)]
 
 use anyhow::Result;
@@ -6,22 +7,34 @@ use disk_real::RealDisk;
 use mdbox_base::{MemSink, MemSource, Octets, Seq};
 use mdbox_top::{Status, mdbox_run};
 use std::fs;
+use std::fs::OpenOptions;
 use std::rt::Files;
 
 /// Lines of words, each a run of the program. `logdump` reads the root log.
-const RUNS: [&[&str]; 5] = [
+const RUNS: [&[&str]; 11] = [
+    &["list", "INBOX"],
     &["init", "0011223344556677"],
+    &["list", "INBOX"],
+    &["list", "A"],
     &["logdump"],
     &["init", "0011223344556677"],
     &["init", "00112233445566GG"],
     &["init"],
+    &["list"],
+    &["list", ""],
+    &["list", "INBOX", "A"],
 ];
 
 fn main(rt: HostRuntime) -> Result<()> {
     for words in RUNS {
         run(rt, words)?;
     }
-    Ok(())
+    // The entry of the map log, which has 46 octets, is cut off.
+    OpenOptions::new()
+        .write(true)
+        .open(&rt, "storage/map.1.log")?
+        .set_len(40)?;
+    run(rt, &["list", "INBOX"])
 }
 
 /// Runs the program once, and prints its status, its output and what it said.

@@ -1,13 +1,11 @@
 -- Lists that a loop walks by place, and tests of them.
-use Rattle.std.proofs.Common.{◌≡◌, ℕ, ◌+◌, ◌<◌, ◌≤◌, ◌==◌, ◌&&◌, zero, suc, max, Bool, true, false, List, [], ◌∷◌, ◌++◌, length, take, slice_get, get_or, Option, Some, None, All, refl, sym, ◌∙◌, ap, subst, arith, add-one}
-use Rattle.std.specs.Prelude.{AllPairs, find, fold, flat_map}
+use Rattle.std.proofs.Common.{◌≡◌, ℕ, ◌+◌, ◌<◌, ◌≤◌, zero, suc, max, Bool, true, false, List, [], ◌∷◌, ◌++◌, length, take, slice_get, Option, Some, None, All, refl, sym, ◌∙◌, ap, arith, add-one}
+use Rattle.std.specs.Prelude.{fold}
 use Rattle.std.specs.List.{list_any}
 use Rattle.std.specs.Option.{option_map, option_map_or}
 use Rattle.std.proofs.lemmas.List.Elements.{All-nil, All-cons}
-use Rattle.std.proofs.lemmas.Bool.{or_parts, or_left, or_right, or_from, and_right, false≢true, eq-eqb, ne_eqb, cond-true, cond-false}
-use Rattle.std.proofs.lemmas.Option.{slice_get_within, get_or_from_slice_get}
-use Rattle.mail_model.specs.MapMeaning.{MapRecord, greatest}
-use Rattle.mail_model.specs.PairLaws.{pairs_tail}
+use Rattle.std.proofs.lemmas.Bool.{or_parts, or_left, or_right, or_from, false≢true}
+use Rattle.mail_model.specs.MapMeaning.{greatest}
 
 -- what a look-up by place shows, and what it shows it of
 pub record At {X Y : Type 0} (show : X → Y) (xs : List X) (i : ℕ) (y : Y) : Type 0 where
@@ -100,45 +98,6 @@ any_unseen p xs i b is e within none =
     within_get [] i l = absurd (omega (arith, l))
     within_get (x ∷ xs) zero l = (x, refl)
     within_get (x ∷ xs) (suc i) l = within_get xs i (omega (arith, l))
-
--- ---- rows of rising numbers
-
--- the first row of a row's own number is that row
-pub found_own : (rows : List MapRecord) (i : ℕ) (row : MapRecord) → AllPairs (λ a b. a.uid < b.uid) rows → slice_get rows i ≡ Some row → find (λ r. r.uid == row.uid) rows ≡ Some row
-found_own [] i row rising e = absurd (cc (let h : None ≡ Some row = e in h))
-found_own (r ∷ rows) zero row rising e =
-    let h : Some r ≡ Some row = e in
-    let s : r ≡ row = cc in
-    cond-true (r.uid == row.uid) (Some r) (find (λ o. o.uid == row.uid) rows) (eq-eqb r.uid row.uid (ap (λ (o : MapRecord). o.uid) s)) ∙ h
-found_own (r ∷ rows) (suc i) row rising e =
-    let l : i < length rows = slice_get_within rows i row e in
-    let below : r.uid < (get_or rows i row).uid = rising 0 (suc i) row (omega arith) (omega arith) in
-    let own : get_or rows i row ≡ row = get_or_from_slice_get rows i row row e in
-    let less : r.uid < row.uid = subst (λ (o : MapRecord). r.uid < o.uid) own below in
-    cond-false (r.uid == row.uid) (Some r) (find (λ o. o.uid == row.uid) rows) (ne_eqb r.uid row.uid (λ s. omega (arith, less, s)))
-    ∙ found_own rows i row (pairs_tail (λ (a b : MapRecord). a.uid < b.uid) r rows rising) e
-
--- ---- instances
-
-any_split : {X : Type 0} → (p : X → Bool) (xs ys : List X) → list_any p (xs ++ ys) ≡ false → (list_any p xs ≡ false) × (list_any p ys ≡ false)
-any_split p [] ys e = (refl, e)
-any_split p (x ∷ xs) ys e =
-    let parts = or_parts (p x) (list_any p (xs ++ ys)) e in
-    let r = any_split p xs ys parts.1 in
-    (or_from (p x) (list_any p xs) parts.0 r.0, r.1)
-
-any_fewer : {X : Type 0} → (p q : X → Bool) (xs : List X) → list_any p xs ≡ false → list_any (λ x. q x && p x) xs ≡ false
-any_fewer p q [] e = refl
-any_fewer p q (x ∷ xs) e =
-    let parts = or_parts (p x) (list_any p xs) e in
-    or_from (q x && p x) (list_any (λ y. q y && p y) xs) (and_right (q x) (p x) parts.0) (any_fewer p q xs parts.1)
-
--- where no record names the id, none names the hash and the id
-pub unnamed : {X Y : Type 0} → (f : X → List Y) (p q : Y → Bool) (xs : List X) → list_any p (flat_map f xs) ≡ false → list_any (λ x. list_any (λ y. q y && p y) (f x)) xs ≡ false
-unnamed f p q [] e = refl
-unnamed f p q (x ∷ xs) e =
-    let parts = any_split p (f x) (flat_map f xs) e in
-    or_from (list_any (λ y. q y && p y) (f x)) (list_any (λ z. list_any (λ y. q y && p y) (f z)) xs) (any_fewer p q (f x) parts.0) (unnamed f p q xs parts.1)
 
 -- ---- the greatest end
 

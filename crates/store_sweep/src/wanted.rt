@@ -1,13 +1,11 @@
 // Which files a store needs.
-ghost use Rattle.std.specs.Prelude.{◌≡◌, ◌==◌, ◌&&◌, false, ◌+◌, slice_get, max, if◌then◌else◌};
-ghost use Rattle.std.specs.List.{list_any};
-ghost use Rattle.std.specs.Str.{bytes_eq};
+ghost use Rattle.std.specs.Prelude.{◌≡◌, ◌==◌, ◌&&◌, false, ◌+◌, max, if◌then◌else◌};
 ghost use Rattle.std.specs.Option.{option_map_or};
-ghost use Rattle.store_sweep.specs.Wanted.{has_box, has_region, row_names, has_instance, is_wanted, end_of};
+ghost use Rattle.store_sweep.specs.Wanted.{has_box, has_region, has_instance, is_wanted, end_of};
 
 use disk_model::FileName;
 use map_index::{BoxAt, MapIndex, MapRow};
-use mdbox_base::{FileNo, Hash, InstId, InstRow};
+use mdbox_base::{FileNo, Hash, InstId};
 
 /// Whether the store needs the file, or it is sealed. The generation is that of the map log in force.
 pub fn is_wanted(name: FileName, generation: u32, map: &MapIndex) -> bool
@@ -68,35 +66,7 @@ fn lies_in(row: Option<MapRow>, number: u32) -> bool
 fn has_instance(map: &MapIndex, hash: Hash, id: InstId) -> bool
     ensures { result ≡ has_instance map.now hash.0 id.0 }
 {
-    if !map.is_named(id) {
-        return false;
-    }
-    for place in 0..map.rows() {
-        if row_names(map, place, hash, id) {
-            return true;
-        }
-    }
-    false
-}
-
-/// Whether the record at this place names the instance.
-fn row_names(map: &MapIndex, place: u32, hash: Hash, id: InstId) -> bool
-    ensures { result ≡ option_map_or (row_names hash.0 id.0) (slice_get map.now.records place) false }
-{
-    map.is_kept();
-    let Some(row) = map.row_at(place) else {
-        return false;
-    };
-    let Some(instances) = map.instances(row.uid) else {
-        return false;
-    };
-    is_among(instances.as_slice(), hash, id)
-}
-
-fn is_among(instances: &[InstRow], hash: Hash, id: InstId) -> bool
-    ensures { result ≡ list_any (λ inst. bytes_eq inst.hash.0 hash.0 && bytes_eq inst.id.0 id.0) instances.now }
-{
-    instances.iter().any(|instance| instance.hash.0 == hash.0 && instance.id.0 == id.0)
+    map.names_file(hash, id)
 }
 
 /// Where the last region of a storage file ends, or 0.

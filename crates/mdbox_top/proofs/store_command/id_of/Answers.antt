@@ -1,4 +1,4 @@
-use Rattle.std.proofs.Common.{◌≡◌, ◌∙◌, sym, true, length, refl}
+use Rattle.std.proofs.Common.{◌∙◌, sym}
 use Rattle.mdbox_top.proofs.StoreLaws.{decoded}
 use Rattle.mdbox_top.proofs.store_command.id_of.Goals as goal
 

@@ -1,4 +1,4 @@
-use Rattle.std.proofs.Common.{refl, sym, inl}
+use Rattle.std.proofs.Common.{sym, inl}
 use Rattle.store_open.specs.declared.error.OpenError.TheVariants as error
 use Rattle.mdbox_top.proofs.store_outcome.report_refusal.Goals as goal
 

@@ -4,7 +4,7 @@ use Rattle.store_checks.specs.Checked.{IsCountedIn, IsMiscountedIn}
 use Rattle.store_checks.specs.declared.mailbox.CheckedBox.{CheckedBox}
 use Rattle.store_checks.proofs.Calls.{idle-then}
 use Rattle.store_checks.proofs.Mailboxes.{found-then, are_found-then}
-use Rattle.store_checks.proofs.Checking.{root_fails, map_fails, has_map, boxes_fail, logs_pass, counted, counts_fail, regions_fail, instances_fail, opens}
+use Rattle.store_checks.proofs.Checking.{root_fails, map_fails, has_map, boxes_fail, logs_pass, counted, counts_fail, regions_fail, instances_fail, opens, good_logs}
 use Rattle.store_checks.proofs.check.check_store.Goals as goal
 
 pub returns-in_err-root-clause-refused : goal.returns-in_err-root-clause-refused
@@ -91,6 +91,7 @@ returns-clause-checked g c =
       b.0,
       record {
         opens = opens c.in_ok-root.root.id.0 c.in_ok-root.root.generation m.0 c.in_ok-map_log.map b.0 _ _ _ before (idle-then _ _ _ before c.in_ok-check_regions.ensures.idle) m.1.meaning passed counts c.in_ok-check_regions.ensures.passed c.in_ok-check_instances.ensures.passed;
+        good = good_logs c.in_ok-root.root.id.0 m.0 c.in_ok-map_log.map c.in_ok-boxes.boxes b.0 _ _ m.1.meaning m.1.good b.1 counts;
         map_is = m.1.meaning;
         boxes_are = b.1.meanings;
         root_log = found-then c.in_ok-root.root.log _ _ _ _ _ (idle-then _ _ _ c.in_ok-map_log.ensures.idle from_boxes) r.1.log;

@@ -1,0 +1,101 @@
+"""Writes the files of a store, by their formats alone, for the benchmarks beside this file."""
+
+import os
+import random
+
+STORE = bytes.fromhex("0011223344556677")
+FIRST_TIME = 0x65000000
+LARGEST_FILE = 10_485_760
+LEAST_SIZE, LARGEST_SIZE = 2_000, 12_000
+
+
+class Message:
+    """A message, and where the store has it."""
+
+    def __init__(self, number, sizes):
+        self.number = number
+        self.flags = number % 32
+        self.time = FIRST_TIME + number
+        head = b"From: a@example.org\nTo: b@example.org\nSubject: message %d\n\n" % number
+        line = b"The quick brown fox jumps over the lazy dog, again and again and again.\n"
+        size = sizes.randint(LEAST_SIZE, LARGEST_SIZE)
+        self.octets = (head + line * (size // len(line) + 1))[:size]
+
+    def stored(self, file, offset):
+        """Its octets in a storage file, from its header to the empty line behind its metadata."""
+        self.file, self.offset = file, offset
+        self.guid = STORE + file.to_bytes(4, "big") + offset.to_bytes(4, "big")
+        size = len(self.octets)
+        header = b"\x01\x02N" + b" " * 10 + b"%016X\n" % size
+        virtual = size + self.octets.count(b"\n") - self.octets.count(b"\r\n")
+        metadata = f"R{self.time:x}\nV{virtual:x}\nG{self.guid.hex()}\nBINBOX\n\n".encode()
+        region = header + self.octets + b"\n\x01\x03\n" + metadata
+        self.region_size = len(region)
+        return region
+
+    def stored_entry(self):
+        """The entry of the map log that stores it, with count 1."""
+        numbers = (self.number, self.file, self.offset, self.region_size)
+        return b"S\x00\x00\x01" + b"".join(map(four, numbers)) + self.guid + b"\x00\x00"
+
+    def added_entry(self):
+        """The entry of the mailbox log that adds it."""
+        time, size = self.time.to_bytes(8, "big"), four(len(self.octets))
+        return b"A" + four(self.number) + bytes([self.flags]) + time + size + four(self.number) + self.guid
+
+    def row(self):
+        """The line that lists it."""
+        return f"{self.number} {self.flags} {len(self.octets)} {self.time} {self.guid.hex()}\n"
+
+
+def four(number):
+    return number.to_bytes(4, "big")
+
+
+def write_log(path, kind, number, generation, entries):
+    """Writes a log: its head, an open gate and a record for each entry, and the last gate."""
+    records = b"".join(b"\x01" + four(len(entry)) + entry for entry in entries)
+    with open(path, "wb") as out:
+        out.write(b"MDBXLOG1" + STORE + kind + four(number) + four(generation) + records + b"\x00")
+
+
+def write_mail_files(folder, messages):
+    """Writes the messages one behind another, into as few storage files as their size allows."""
+    file, written, out = 0, LARGEST_FILE, None
+    for message in messages:
+        region = message.stored(file, written)
+        if written + len(region) > LARGEST_FILE:
+            if out:
+                out.close()
+            file += 1
+            out = open(os.path.join(folder, f"m.{file}"), "wb")
+            written = out.write(b"2 M1e C%x\n" % message.time)
+            region = message.stored(file, written)
+        written += out.write(region)
+    out.close()
+
+
+def write_store(folder, count):
+    """Writes a store with one mailbox, INBOX, of so many messages, into a folder. Answers the messages."""
+    sizes = random.Random(count)
+    messages = [Message(number, sizes) for number in range(1, count + 1)]
+    storage, mailboxes = (os.path.join(folder, name) for name in ("storage", "mailboxes"))
+    os.mkdir(storage)
+    os.mkdir(mailboxes)
+    write_mail_files(storage, messages)
+    inbox = b"B" + four(1) + four(1) + b"\x05INBOX"
+    write_log(os.path.join(storage, "root.log"), b"R", 0, 0, [b"M" + four(1)])
+    write_log(os.path.join(storage, "map.1.log"), b"M", 0, 1, [inbox, *(one.stored_entry() for one in messages)])
+    write_log(os.path.join(mailboxes, "b.1.1.log"), b"B", 1, 1, [one.added_entry() for one in messages])
+    return messages
+
+
+def write_maildir(folder, messages):
+    """Writes the messages as a Maildir, with their times."""
+    for name in ("cur", "new", "tmp"):
+        os.makedirs(os.path.join(folder, name))
+    for one in messages:
+        path = os.path.join(folder, "cur", f"{one.time}.M{one.number}.bench:2,")
+        with open(path, "wb") as out:
+            out.write(one.octets)
+        os.utime(path, (one.time, one.time))

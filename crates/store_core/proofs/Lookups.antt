@@ -1,0 +1,103 @@
+-- Mailboxes that are looked up by number and by name.
+use Rattle.std.proofs.Common.{◌≡◌, ◌<◌, ◌==◌, ℕ, Bool, true, false, cond, List, [], ◌∷◌, find, Option, Some, None, All, refl, sym, ◌∙◌, ap, subst, arith}
+use Rattle.std.specs.Prelude.{AllPairs}
+use Rattle.std.specs.Str.{bytes_eq}
+use Rattle.std.specs.Option.{option_map}
+use Rattle.std.proofs.lemmas.Bool.{cond-true, cond-false, ne_eqb, eq-eqb}
+use Rattle.std.proofs.lemmas.List.Elements.{All-head, All-tail}
+use Rattle.mdbox_base.specs.declared.ids.BoxNo.{BoxNo}
+use Rattle.mail_model.specs.PairLaws.{pairs_head, pairs_tail}
+use Rattle.mail_model.specs.BoxMeaning.{BoxMeaning}
+use Rattle.mail_model.specs.MapMeaning.{MapBox, MapMeaning}
+use Rattle.mail_model.specs.Listing.{meaning_named, meaning_numbered}
+use Rattle.store_core.specs.Value.{indexes_of}
+use Rattle.store_core.specs.Running.{AreBoxLogs}
+use Rattle.store_core.specs.declared.store.OpenBox.{OpenBox}
+
+through : (b : Bool) (x : OpenBox) (rest : Option OpenBox) → option_map (λ (o : OpenBox). o.index) (cond b (Some x) rest) ≡ cond b (Some x.index) (option_map (λ (o : OpenBox). o.index) rest)
+through true x rest = refl
+through false x rest = refl
+
+-- the mailbox with this number, among those that are open
+pub by_number : (number : ℕ) (store : List ℕ) (mailboxes : List MapBox) (boxes : List OpenBox) → AreBoxLogs store mailboxes boxes
+    → option_map (λ b. b.index) (find (λ b. b.number.0 == number) boxes) ≡ meaning_numbered number mailboxes (indexes_of boxes)
+by_number number store [] [] h = refl
+by_number number store [] (b ∷ bs) h = absurd h
+by_number number store (m ∷ ms) [] h = absurd h
+by_number number store (m ∷ ms) (b ∷ bs) h =
+    through (b.number.0 == number) b (find (λ (b : OpenBox). b.number.0 == number) bs)
+    ∙ ap (λ (n : ℕ). cond (n == number) (Some b.index) (option_map (λ (o : OpenBox). o.index) (find (λ (b : OpenBox). b.number.0 == number) bs))) h.0
+    ∙ ap (cond (m.number == number) (Some b.index)) (by_number number store ms bs h.3)
+
+-- no mailbox with this name
+pub none_named : (name : List ℕ) (mailboxes : List MapBox) (meanings : List BoxMeaning) → None ≡ find (λ box. bytes_eq box.name name) mailboxes → None ≡ meaning_named name mailboxes meanings
+none_named name [] [] e = refl
+none_named name [] (b ∷ bs) e = refl
+none_named name (m ∷ ms) [] e = refl
+none_named name (m ∷ ms) (b ∷ bs) e = none_by (bytes_eq m.name name) m b (find (λ (box : MapBox). bytes_eq box.name name) ms) (meaning_named name ms bs) (none_named name ms bs) e
+  where
+    none_by : (t : Bool) (m : MapBox) (b : BoxMeaning) (found : Option MapBox) (meant : Option BoxMeaning) → (None ≡ found → None ≡ meant) → None ≡ cond t (Some m) found → None ≡ cond t (Some b) meant
+    none_by true m b found meant rest e = absurd (cc (let h : None ≡ Some m = e in h))
+    none_by false m b found meant rest e = rest e
+
+-- the mailbox that is found has a number that one of them has
+is_one : (name : List ℕ) (n : BoxNo) (m : MapBox) (mailboxes : List MapBox) → Some n ≡ option_map (λ b. record { 0 = b.number }) (find (λ box. bytes_eq box.name name) mailboxes) → All (λ (box : MapBox). m.number < box.number) mailboxes → m.number < n.0
+is_one name n m [] e above = absurd (cc (let h : Some n ≡ None = e in h))
+is_one name n m (x ∷ xs) e above =
+    one_by (bytes_eq x.name name) x (find (λ (box : MapBox). bytes_eq box.name name) xs) e (All-head (λ (box : MapBox). m.number < box.number) x xs above)
+    (λ h. is_one name n m xs h (All-tail (λ (box : MapBox). m.number < box.number) x xs above))
+  where
+    one_by : (t : Bool) (x : MapBox) (found : Option MapBox) → Some n ≡ option_map (λ b. record { 0 = b.number }) (cond t (Some x) found) → m.number < x.number
+        → (Some n ≡ option_map (λ b. record { 0 = b.number }) found → m.number < n.0) → m.number < n.0
+    one_by true x found e less rest =
+        let h : Some n ≡ Some (record { 0 = x.number }) = e in
+        let s : n.0 ≡ x.number = cc in
+        subst (λ (k : ℕ). m.number < k) (sym s) less
+    one_by false x found e less rest = rest e
+
+-- the mailbox with this name, by its number
+pub by_name : (name : List ℕ) (n : BoxNo) (mailboxes : List MapBox) (meanings : List BoxMeaning) → AllPairs (λ a b. a.number < b.number) mailboxes
+    → Some n ≡ option_map (λ b. record { 0 = b.number }) (find (λ box. bytes_eq box.name name) mailboxes) → meaning_numbered n.0 mailboxes meanings ≡ meaning_named name mailboxes meanings
+by_name name n [] meanings rising e = absurd (cc (let h : Some n ≡ None = e in h))
+by_name name n (m ∷ ms) [] rising e = refl
+by_name name n (m ∷ ms) (b ∷ bs) rising e =
+    named_by (bytes_eq m.name name) (find (λ (box : MapBox). bytes_eq box.name name) ms) e
+    (λ h. is_one name n m ms h (pairs_head (λ (a b : MapBox). a.number < b.number) m ms rising))
+    (λ h. by_name name n ms bs (pairs_tail (λ (a b : MapBox). a.number < b.number) m ms rising) h)
+  where
+    named_by : (t : Bool) (found : Option MapBox) → Some n ≡ option_map (λ b. record { 0 = b.number }) (cond t (Some m) found)
+        → (Some n ≡ option_map (λ b. record { 0 = b.number }) found → m.number < n.0)
+        → (Some n ≡ option_map (λ b. record { 0 = b.number }) found → meaning_numbered n.0 ms bs ≡ meaning_named name ms bs)
+        → cond (m.number == n.0) (Some b) (meaning_numbered n.0 ms bs) ≡ cond t (Some b) (meaning_named name ms bs)
+    named_by true found e less rest =
+        let h : Some n ≡ Some (record { 0 = m.number }) = e in
+        let s : n.0 ≡ m.number = cc in
+        cond-true (m.number == n.0) (Some b) (meaning_numbered n.0 ms bs) (eq-eqb m.number n.0 (sym s))
+    named_by false found e less rest =
+        cond-false (m.number == n.0) (Some b) (meaning_numbered n.0 ms bs) (ne_eqb m.number n.0 (λ (h : m.number ≡ n.0). omega (arith, less e, h))) ∙ rest e
+
+abbrev the_number : MapBox → BoxNo
+the_number b = record { 0 = b.number }
+
+-- the same in a store, whose fields are known under two names
+pub numbered_in : (number : ℕ) (store : List ℕ) (m n : MapMeaning) (bs cs ds : List OpenBox) (r : Option BoxMeaning) → AreBoxLogs store m.boxes bs → m ≡ n → bs ≡ cs → ds ≡ bs
+    → r ≡ option_map (λ b. b.index) (find (λ b. b.number.0 == number) ds) → r ≡ meaning_numbered number n.boxes (indexes_of cs)
+numbered_in number store m n bs cs ds r logs same_map same_boxes held e =
+    e ∙ ap (λ (xs : List OpenBox). option_map (λ (b : OpenBox). b.index) (find (λ (b : OpenBox). b.number.0 == number) xs)) held
+    ∙ by_number number store m.boxes bs logs
+    ∙ ap (λ (k : MapMeaning). meaning_numbered number k.boxes (indexes_of bs)) same_map
+    ∙ ap (λ (xs : List OpenBox). meaning_numbered number n.boxes (indexes_of xs)) same_boxes
+
+pub named_in : (name : List ℕ) (k : BoxNo) (m n : MapMeaning) (meanings : List BoxMeaning) (r : Option BoxMeaning) → AllPairs (λ a b. a.number < b.number) m.boxes → m ≡ n
+    → Some k ≡ option_map (λ b. record { 0 = b.number }) (find (λ box. bytes_eq box.name name) m.boxes) → r ≡ meaning_numbered k.0 n.boxes meanings → r ≡ meaning_named name n.boxes meanings
+named_in name k m n meanings r rising same found e =
+    e ∙ ap (λ (o : MapMeaning). meaning_numbered k.0 o.boxes meanings) (sym same) ∙ by_name name k m.boxes meanings rising found ∙ ap (λ (o : MapMeaning). meaning_named name o.boxes meanings) same
+
+pub unnamed_in : (name : List ℕ) (m n : MapMeaning) (meanings : List BoxMeaning) (r : Option BoxMeaning) → m ≡ n
+    → None ≡ option_map (λ b. the_number b) (find (λ box. bytes_eq box.name name) m.boxes) → r ≡ None → r ≡ meaning_named name n.boxes meanings
+unnamed_in name m n meanings r same lost e =
+    e ∙ none_named name m.boxes meanings (is_none (find (λ (box : MapBox). bytes_eq box.name name) m.boxes) lost) ∙ ap (λ (o : MapMeaning). meaning_named name o.boxes meanings) same
+  where
+    is_none : (o : Option MapBox) → None ≡ option_map (λ b. the_number b) o → None ≡ o
+    is_none None h = refl
+    is_none (Some x) h = absurd (cc (let k : None ≡ Some (the_number x) = h in k))

@@ -1,0 +1,222 @@
+// A store that is open.
+ghost use Rattle.std.specs.Prelude.{◌≡◌, ◌<◌, ◌≤◌, ◌^◌, ◌==◌, false, length, find, count_by, sum_by, if◌then◌else◌};
+ghost use Rattle.std.specs.Option.{option_copied, option_map, option_map_or};
+ghost use Rattle.std.specs.Str.{bytes_eq};
+ghost use Rattle.mail_model.specs.MapMeaning.{count_of};
+ghost use Rattle.mail_model.specs.Listing.{meaning_named, meaning_numbered, refs_in};
+ghost use Rattle.store_core.specs.Value.{indexes_of};
+ghost use Rattle.store_core.specs.Running.{IsStore};
+
+use box_index::{BoxIndex, BoxRow};
+use disk_model::Disk;
+use gate_log::GateLog;
+use map_index::MapIndex;
+use mdbox_base::{BoxNo, Guid, Name, StoreId};
+use std::alloc::Global;
+use std::marker::Model;
+
+/// A mailbox of an open store: its log, and what that means.
+#[derive(Drop)]
+pub struct OpenBox {
+    pub number: BoxNo,
+    pub log: GateLog,
+    pub index: BoxIndex,
+}
+
+/// A store that is open. It has its disk until that is asked back.
+pub struct Store<D: Disk> {
+    alloc: Global,
+    disk: D,
+    id: StoreId,
+    map_log: GateLog,
+    map: MapIndex,
+    boxes: Vec<OpenBox>,
+    lanes: u32,
+    stopped: bool,
+}
+
+impl<D: Disk> Model for Store<D> {
+    ghost use Rattle.std.specs.Prelude.{◌≡◌};
+    ghost use Rattle.store_core.specs.Value.{StoreValue};
+    ghost use Rattle.store_core.specs.Running.{IsStore};
+
+    ghost Value = { StoreValue D };
+
+    ghost view = { λ s. record { alloc = s.alloc; disk = s.disk; map = s.map; map_log = s.map_log; boxes = s.boxes.items; lanes = s.lanes; stopped = s.stopped } };
+
+    ghost invariant = { λ s. (s.id.0 ≡ s.map.store) × IsStore (D.history s.disk) s.map s.map_log s.boxes.items s.lanes s.stopped };
+}
+
+impl<D: Disk> Store<D> {
+    /// A store whose logs were opened, for so many lanes: the map's log and what it means, and the mailboxes of the map in
+    /// order of number.
+    pub fn of(
+        alloc: Global,
+        disk: D,
+        id: StoreId,
+        map_log: GateLog,
+        map: MapIndex,
+        boxes: Vec<OpenBox>,
+        lanes: u32,
+    ) -> Store<D>
+        requires id { map.store ≡ id.0 }
+        requires store { IsStore (D.history disk) map map_log boxes.items lanes false }
+        ensures { result ≡ record { alloc = alloc; disk = disk; map = map; map_log = map_log; boxes = boxes.items; lanes = lanes; stopped = false } }
+    {
+        Store {
+            alloc,
+            disk,
+            id,
+            map_log,
+            map,
+            boxes,
+            lanes,
+            stopped: false,
+        }
+    }
+
+    /// What is true of every open store.
+    pub fn facts(&self)
+        ensures { IsStore (D.history self.now.disk) self.now.map self.now.map_log self.now.boxes self.now.lanes self.now.stopped }
+    {
+        let _ = &self.id;
+    }
+
+    /// The allocator that the store keeps.
+    pub fn alloc(&self) -> Global
+        ensures { result ≡ self.now.alloc }
+    {
+        self.alloc
+    }
+
+    /// The id in the heads of the store's logs.
+    pub fn id(&self) -> StoreId
+        ensures { result.0 ≡ self.now.map.store }
+    {
+        self.id
+    }
+
+    /// What the map log means.
+    pub fn map(&self) -> &MapIndex
+        ensures { result.now ≡ self.now.map }
+    {
+        &self.map
+    }
+
+    /// What the log of the mailbox with this number means. None exactly where the map has no such mailbox.
+    pub fn mailbox(&self, number: BoxNo) -> Option<&BoxIndex>
+        ensures { option_copied result ≡ meaning_numbered number.0 self.now.map.boxes (indexes_of self.now.boxes) }
+    {
+        index_of(&self.boxes, number)
+    }
+
+    /// What the log of the mailbox with this name means. None exactly where no mailbox has the name.
+    pub fn list_of(&self, name: &Name) -> Option<&BoxIndex>
+        ensures { option_copied result ≡ meaning_named name.now self.now.map.boxes (indexes_of self.now.boxes) }
+    {
+        self.map.is_kept();
+        let number = self.map.box_named(name)?;
+        self.mailbox(number)
+    }
+
+    /// How many listed messages have this GUID.
+    pub fn refs_of(&self, guid: Guid) -> u64
+        ensures { result ≡ refs_in (indexes_of self.now.boxes) guid.0 }
+    {
+        self.map.is_kept();
+        listed_in_all(&self.boxes, guid)
+    }
+
+    /// The count that is kept of this GUID's record, 0 where there is none.
+    pub fn count_of(&self, guid: Guid) -> u16
+        ensures { result ≡ count_of self.now.map guid.0 }
+    {
+        self.map.count_of(guid)
+    }
+
+    /// For how many lanes the store was opened.
+    pub fn lanes(&self) -> u32
+        ensures { result ≡ self.now.lanes }
+    {
+        self.lanes
+    }
+
+    /// Whether a change of the disk failed. A store that is stopped changes nothing more.
+    pub fn stopped(&self) -> bool
+        ensures { result ≡ self.now.stopped }
+    {
+        self.stopped
+    }
+
+    /// The disk, which the store gives back.
+    pub fn into_disk(self) -> D
+        ensures { result ≡ self.disk }
+    {
+        let Store {
+            alloc: _,
+            disk,
+            id: _,
+            map_log: _map_log,
+            map: _map,
+            boxes: _boxes,
+            lanes: _,
+            stopped: _,
+        } = self;
+        disk
+    }
+}
+
+/// What the log of the first mailbox with this number means.
+fn index_of(boxes: &[OpenBox], number: BoxNo) -> Option<&BoxIndex>
+    ensures { option_copied result ≡ option_map (λ b. b.index) (find (λ b. b.number.0 == number.0) boxes.now) }
+{
+    with_number(boxes, number).map(|open_box| &open_box.index)
+}
+
+/// The first mailbox with this number.
+fn with_number(boxes: &[OpenBox], number: BoxNo) -> Option<&OpenBox>
+    ensures { option_copied result ≡ find (λ b. b.number.0 == number.0) boxes.now }
+{
+    boxes.iter().find(|open_box| open_box.number.0 == number.0)
+}
+
+/// How many messages of mailboxes have this GUID.
+fn listed_in_all(boxes: &[OpenBox], guid: Guid) -> u64
+    requires { length boxes.now ≤ 1024 }
+    ensures { result ≡ sum_by (λ b. count_by (λ row. bytes_eq row.guid guid.0) b.index.rows) boxes.now }
+{
+    let mut count = 0;
+    for open_box in boxes {
+        count += listed_in(&open_box.index, guid);
+    }
+    count
+}
+
+/// How many messages of a mailbox have this GUID.
+fn listed_in(index: &BoxIndex, guid: Guid) -> u64
+    ensures count { result ≡ count_by (λ row. bytes_eq row.guid guid.0) index.now.rows }
+    ensures short { result < 2 ^ 32 }
+{
+    let mut count = 0;
+    for place in 0..index.length() {
+        count += one_if(index.row_at(place), guid);
+    }
+    count
+}
+
+/// 1 where the message is there and has this GUID, else 0.
+fn one_if(row: Option<BoxRow>, guid: Guid) -> u64
+    ensures one { result ≡ if option_map_or (λ row. bytes_eq row.guid.0 guid.0) row false then 1 else 0 }
+    ensures most { result ≤ 1 }
+{
+    if has_guid(row, guid) { 1 } else { 0 }
+}
+
+fn has_guid(row: Option<BoxRow>, guid: Guid) -> bool
+    ensures { result ≡ option_map_or (λ row. bytes_eq row.guid.0 guid.0) row false }
+{
+    match row {
+        Some(row) => row.guid.0 == guid.0,
+        None => false,
+    }
+}

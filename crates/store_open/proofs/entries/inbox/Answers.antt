@@ -1,0 +1,5 @@
+use Rattle.mail_model.specs.StoreExampleLaws.{inbox_is_name}
+use Rattle.store_open.proofs.entries.inbox.Goals as goal
+
+pub unreachable-requires : goal.unreachable-requires
+unreachable-requires c = (rw c.in_default.is at c.in_ok-name.ensures.none) inbox_is_name

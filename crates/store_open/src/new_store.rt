@@ -1,0 +1,107 @@
+// Making a store and opening it.
+ghost use Rattle.std.specs.Prelude.{◌≡◌, ◌∷◌, [], false, MatchResult, IfOk, IfErr, IsErrOf, OnOk};
+ghost use Rattle.disk_model.specs.Disk.{IfTold, EachImage};
+ghost use Rattle.disk_model.specs.declared.name.FileName.TheVariants as file;
+ghost use Rattle.gate_log.specs.Log.{Idle, OneRoseIf};
+ghost use Rattle.mail_model.specs.BoxMeaning.{box_meaning};
+ghost use Rattle.mail_model.specs.MapMeaning.{map_meaning};
+ghost use Rattle.mail_model.specs.Opening.{first_box, empty_inbox};
+ghost use Rattle.mail_model.specs.Settled.{IsSettled};
+ghost use Rattle.store_core.specs.Value.{indexes_of};
+ghost use Rattle.store_core.specs.Running.{IsStore};
+ghost use Rattle.store_open.specs.Making.{IdleUnless, IsFree, IsMade, NeverHasEntry, HasNothingOrInbox};
+ghost use Rattle.store_open.specs.Opened.{disk_of};
+ghost use Rattle.store_open.specs.Refused.{IsMakingError, IsOfFiles};
+
+use crate::entries::inbox;
+use crate::error::{OpenError, OpenRefused};
+use crate::init::make_files;
+use crate::open::OpenFiles;
+use crate::parts::push_box;
+use box_index::BoxIndex;
+use disk_model::Disk;
+use map_index::MapIndex;
+use mdbox_base::{BoxNo, NoMemory, StoreId};
+use std::alloc::Global;
+use store_core::{OpenBox, Store};
+
+/// Makes an empty store with INBOX, as opened for one lane.
+///
+/// `StoreWhole` exactly where the root log has an entry, `MailFiles` exactly where it has none and a storage file or an
+/// attachment instance is there.
+pub fn init_store<D: Disk>(alloc: Global, disk: D, id: StoreId) -> Result<Store<D>, OpenRefused<D>>
+    ensures refused { IfErr result (λ refused. IsMakingError (D.history disk) refused.error) }
+    ensures free { OnOk result (IfTold (D.history disk) IsFree) }
+    ensures idle { IfErr result (λ refused. IsOfFiles refused.error → Idle (D.history disk) (D.history refused.disk)) }
+
+    // Whatever is answered, nothing changes where a store may not be made.
+    ensures untouched { IdleUnless IsFree (D.history disk) (D.history (disk_of result)) }
+
+    // Where at the beginning each image's root log has no entry, at every moment of the call each image has no entry there,
+    // or is safe for the lists with an empty INBOX.
+    ensures any_moment { IfTold (D.history disk) (λ now. NeverHasEntry (now file.Root)) → EachImage (λ _ image. HasNothingOrInbox image) (D.history disk) (D.history (disk_of result)) }
+
+    // After Ok the disk has the new store and no other file, and the store is that, for one lane.
+    ensures settled { IfOk result (λ store. IfTold (D.history store.disk) (λ now. IsSettled now empty_inbox)) }
+    ensures store { IfOk result (λ store. IfTold (D.history store.disk) (IsMade id.0)) }
+    ensures made { IfOk result (λ store. (store.map ≡ map_meaning id.0 (first_box ∷ [])) × (indexes_of store.boxes ≡ box_meaning [] ∷ []) × (store.lanes ≡ 1) × (store.stopped ≡ false)) }
+
+    ensures fault { OneRoseIf (MatchResult result (λ _. ⊥) (λ refused. refused.error ≡ OpenError.DiskFault)) (D.faults disk) (D.faults (disk_of result)) }
+{
+    let mut disk = disk;
+    match new_files(alloc, &mut disk, id) {
+        Ok(
+            OpenFiles {
+                id,
+                map_log,
+                map,
+                boxes,
+            },
+        ) => Ok(Store::of(alloc, disk, id, map_log, map, boxes, 1)),
+        Err(error) => Err(OpenRefused { error, disk }),
+    }
+}
+
+/// Makes the files of a new store, with what its logs mean. Nothing wants memory once they are made.
+fn new_files<D: Disk>(alloc: Global, disk: &mut D, id: StoreId) -> Result<OpenFiles, OpenError>
+    ensures id { IfOk result (λ files. files.map.store ≡ files.id.0) }
+    ensures store { IfOk result (λ files. IsStore (D.history disk.new) files.map files.map_log files.boxes.items 1 false) }
+    ensures made { IfOk result (λ files. (files.map ≡ map_meaning id.0 (first_box ∷ [])) × (indexes_of files.boxes.items ≡ box_meaning [] ∷ [])) }
+    ensures settled { OnOk result (IfTold (D.history disk.new) (λ now. IsSettled now empty_inbox)) }
+    ensures there { OnOk result (IfTold (D.history disk.new) (IsMade id.0)) }
+    ensures any_moment { IfTold (D.history disk.old) (λ now. NeverHasEntry (now file.Root)) → EachImage (λ _ image. HasNothingOrInbox image) (D.history disk.old) (D.history disk.new) }
+    ensures refused { IfErr result (IsMakingError (D.history disk.old)) }
+    ensures free { OnOk result (IfTold (D.history disk.old) IsFree) }
+    ensures idle { IfErr result (λ error. IsOfFiles error → Idle (D.history disk.old) (D.history disk.new)) }
+    ensures untouched { IdleUnless IsFree (D.history disk.old) (D.history disk.new) }
+    ensures fault { OneRoseIf (IsErrOf result OpenError.DiskFault) (D.faults disk.old) (D.faults disk.new) }
+{
+    let map = new_map(alloc, id)?;
+    let index = BoxIndex::empty(alloc)?;
+    let mut boxes = Vec::with_capacity(alloc, 1)?;
+    let made = make_files(alloc, disk, id)?;
+    push_box(
+        &mut boxes,
+        OpenBox {
+            number: BoxNo(1),
+            log: made.box_log,
+            index,
+        },
+    );
+    Ok(OpenFiles {
+        id,
+        map_log: made.map_log,
+        map,
+        boxes,
+    })
+}
+
+/// What the map log of a new store means.
+fn new_map(alloc: Global, id: StoreId) -> Result<MapIndex, NoMemory>
+    ensures { IfOk result (λ map. map ≡ map_meaning id.0 (first_box ∷ [])) }
+{
+    let inbox = inbox(alloc)?;
+    let mut map = MapIndex::empty(alloc, id)?;
+    map.apply(&inbox)?;
+    Ok(map)
+}

@@ -1,0 +1,106 @@
+// Opening a store.
+ghost use Rattle.std.specs.Prelude.{◌≡◌, ◌≤◌, false, ℕ, ⊤, MatchResult, IfOk, IfErr, IsErrOf};
+ghost use Rattle.disk_model.specs.Disk.{EachImage};
+ghost use Rattle.disk_model.specs.declared.name.FileName.TheVariants as file;
+ghost use Rattle.gate_log.specs.Log.{Idle, OneRoseIf};
+ghost use Rattle.mail_model.specs.Lists.{Lists};
+ghost use Rattle.mail_model.specs.Listing.{ShowLists};
+ghost use Rattle.mail_model.specs.Safe.{Safe};
+ghost use Rattle.store_core.specs.Value.{indexes_of};
+ghost use Rattle.store_core.specs.Running.{IsStore, IsSettledFor};
+ghost use Rattle.store_open.specs.Making.{IdleUnless};
+ghost use Rattle.store_open.specs.Opened.{Opening, IsOpenedAs, IsSwept, IsOpeningError, disk_of};
+
+use crate::error::{OpenError, OpenRefused};
+use crate::parts::{join, part};
+use disk_model::Disk;
+use gate_log::GateLog;
+use map_index::MapIndex;
+use mdbox_base::StoreId;
+use std::alloc::Global;
+use store_checks::{Checked, check_store};
+use store_core::{OpenBox, Store, listings_are_shown};
+use store_sweep::sweep;
+
+/// Opens the store: makes the checks, and then sweeps the disk.
+pub fn open_store<D: Disk>(alloc: Global, disk: D, lanes: u32) -> Result<Store<D>, OpenRefused<D>>
+    requires lanes { (1 ≤ lanes) × (lanes ≤ 64) }
+
+    // The store has what the files meant, and isn't stopped.
+    ensures opened { IfOk result (λ store. IsOpenedAs (D.history disk) store.map (indexes_of store.boxes)) }
+    ensures state { IfOk result (λ store. (store.lanes ≡ lanes) × (store.stopped ≡ false)) }
+
+    // Of a settled disk it shows the lists, and leaves the disk settled for them.
+    ensures shows { IfOk result (λ store. (lists : Lists) → IsSettledFor lists (D.history disk) → ShowLists store.map.boxes (indexes_of store.boxes) lists) }
+    ensures settled { IfOk result (λ store. (lists : Lists) → IsSettledFor lists (D.history disk) → IsSettledFor lists (D.history store.disk)) }
+    ensures swept { IfOk result (λ store. (generation : ℕ) × (store.map_log.name ≡ file.Map generation) × IsSwept generation store.map (D.history disk) (D.history store.disk)) }
+
+    // At every moment, whatever fails, each image of a settled disk is safe for the same lists.
+    ensures any_moment { (lists : Lists) → IsSettledFor lists (D.history disk) → EachImage (λ _ image. Safe image lists) (D.history disk) (D.history (disk_of result)) }
+
+    ensures refused { IfErr result (λ refused. IsOpeningError (D.history disk) refused.error) }
+    ensures idle { IfErr result (λ refused. (refused.error ≡ OpenError.DiskFault → ⊥) → Idle (D.history disk) (D.history refused.disk)) }
+
+    // Whatever is answered, nothing changes where the files don't open.
+    ensures untouched { IdleUnless Opening (D.history disk) (D.history (disk_of result)) }
+    ensures fault { OneRoseIf (MatchResult result (λ _. ⊥) (λ refused. refused.error ≡ OpenError.DiskFault)) (D.faults disk) (D.faults (disk_of result)) }
+{
+    let mut disk = disk;
+    match open_files(alloc, &mut disk) {
+        Ok(
+            OpenFiles {
+                id,
+                map_log,
+                map,
+                boxes,
+            },
+        ) => Ok(Store::of(alloc, disk, id, map_log, map, boxes, lanes)),
+        Err(error) => Err(OpenRefused { error, disk }),
+    }
+}
+
+/// The files of a store that were opened: its logs, and what they mean.
+#[derive(Drop)]
+pub(crate) struct OpenFiles {
+    pub id: StoreId,
+    pub map_log: GateLog,
+    pub map: MapIndex,
+    /// The mailboxes, in order of number.
+    pub boxes: Vec<OpenBox>,
+}
+
+/// Makes the checks and sweeps the disk. Behind the checks nothing wants memory once the disk changes.
+fn open_files<D: Disk>(alloc: Global, disk: &mut D) -> Result<OpenFiles, OpenError>
+    ensures id { IfOk result (λ files. files.map.store ≡ files.id.0) }
+    ensures store { IfOk result (λ files. (lanes : ℕ) → 1 ≤ lanes → lanes ≤ 64 → IsStore (D.history disk.new) files.map files.map_log files.boxes.items lanes false) }
+    ensures opened { IfOk result (λ files. IsOpenedAs (D.history disk.old) files.map (indexes_of files.boxes.items)) }
+    ensures shows { IfOk result (λ files. (lists : Lists) → IsSettledFor lists (D.history disk.old) → ShowLists files.map.boxes (indexes_of files.boxes.items) lists) }
+    ensures settled { IfOk result (λ files. (lists : Lists) → IsSettledFor lists (D.history disk.old) → IsSettledFor lists (D.history disk.new)) }
+    ensures swept { IfOk result (λ files. (generation : ℕ) × (files.map_log.name ≡ file.Map generation) × IsSwept generation files.map (D.history disk.old) (D.history disk.new)) }
+    ensures any_moment { (lists : Lists) → IsSettledFor lists (D.history disk.old) → EachImage (λ _ image. Safe image lists) (D.history disk.old) (D.history disk.new) }
+    ensures refused { IfErr result (IsOpeningError (D.history disk.old)) }
+    ensures idle { IfErr result (λ error. (error ≡ OpenError.DiskFault → ⊥) → Idle (D.history disk.old) (D.history disk.new)) }
+    ensures untouched { IdleUnless Opening (D.history disk.old) (D.history disk.new) }
+    ensures fault { OneRoseIf (IsErrOf result OpenError.DiskFault) (D.faults disk.old) (D.faults disk.new) }
+{
+    let Checked {
+        id,
+        root_log,
+        map_log,
+        generation,
+        map,
+        boxes,
+    } = check_store(alloc, disk)?;
+    let boxes = boxes.into_vec();
+    let mut opened = Vec::with_capacity(alloc, boxes.as_slice().len())?;
+    let parts = part(alloc, &map, boxes)?;
+    let swept = sweep(alloc, disk, generation, root_log, map_log, parts.logs, &map)?;
+    join(swept.box_logs, parts.rest, &mut opened);
+    listings_are_shown();
+    Ok(OpenFiles {
+        id,
+        map_log: swept.map_log,
+        map,
+        boxes: opened,
+    })
+}
