@@ -4,11 +4,11 @@ use Rattle.std.specs.Prelude.{All, map, filter, not}
 use Rattle.std.proofs.Math.Seq.{drop-cons, take-length}
 use Rattle.std.proofs.lemmas.List.{length-drop, nil_from_length, map-append}
 use Rattle.std.proofs.lemmas.List.Elements.{All-append}
-use Rattle.mdbox_base.specs.declared.mime.Part.{Part}
-use Rattle.mail_model.specs.Lines.{range}
-use Rattle.mail_model.specs.PartsLaws.{InOrder}
-use Rattle.mail_model.specs.Detached.{Piece, AreCut}
-use Rattle.mail_model.specs.DetachedLaws.{end_in_order}
+use Rattle.model_mime.specs.declared.mime.Part.{Part}
+use Rattle.model_mime.specs.Lines.{range}
+use Rattle.model_mime.specs.Parts.{InOrder}
+use Rattle.model_attach.specs.Detached.{Piece, AreCut}
+use Rattle.model_attach.proofs.DetachedLemmas.{end_in_order}
 use Rattle.attach_detach.specs.declared.message.Detached.{Detached}
 use Rattle.attach_detach.specs.Prepared.{piece_of, HasHash, IsPieceOf}
 

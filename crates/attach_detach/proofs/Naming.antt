@@ -1,7 +1,7 @@
 -- References that name the parts of a prepared message.
 use Rattle.std.proofs.Common.{refl, ◌≡◌, ℕ, List, [], ◌∷◌, length, map, sym, ◌∙◌, ap, subst, arith}
 use Rattle.mdbox_base.specs.declared.metadata.ExtRef.{ExtRef}
-use Rattle.mail_model.specs.Detached.{Piece, IsDetached, pieces_of, AreDetached}
+use Rattle.model_attach.specs.Detached.{Piece, IsDetached, pieces_of, AreDetached}
 use Rattle.attach_detach.specs.declared.message.Detached.{Detached}
 use Rattle.attach_detach.specs.declared.message.Prepared.{Prepared}
 use Rattle.attach_detach.specs.Prepared.{piece_of, IsPrepared, NameParts}

@@ -2,10 +2,10 @@
 use Rattle.std.specs.Prelude.{◌≡◌, ◌+◌, ℕ, List, [], ◌∷◌, All, length, map}
 use Rattle.sha1.specs.Sha1.{sha1}
 use Rattle.mdbox_base.specs.declared.metadata.ExtRef.{ExtRef}
-use Rattle.mdbox_base.specs.declared.mime.Part.{Part}
-use Rattle.mail_model.specs.Lines.{range}
-use Rattle.mail_model.specs.Detached.{Piece, IsDetached, IsInstance}
-use Rattle.mail_model.specs.VirtualSize.{virtual_size}
+use Rattle.model_mime.specs.declared.mime.Part.{Part}
+use Rattle.model_mime.specs.Lines.{range}
+use Rattle.model_attach.specs.Detached.{Piece, IsDetached, IsInstance}
+use Rattle.model_attach.specs.VirtualSize.{virtual_size}
 use Rattle.attach_detach.specs.declared.message.Detached.{Detached}
 use Rattle.attach_detach.specs.declared.message.Prepared.{Prepared}
 

@@ -1,13 +1,14 @@
 // Parts cut out of a message.
 ghost use Rattle.std.specs.Prelude.{◌≡◌, ◌≤◌, ◌+◌, ℕ, List, All, length, map, filter, IfOk};
-ghost use Rattle.mail_model.specs.Lines.{range};
-ghost use Rattle.mail_model.specs.PartsLaws.{InOrder};
-ghost use Rattle.mail_model.specs.Detached.{AreCut, IsInstance};
+ghost use Rattle.model_mime.specs.Lines.{range};
+ghost use Rattle.model_mime.specs.Parts.{InOrder};
+ghost use Rattle.model_attach.specs.Detached.{AreCut, IsInstance};
 ghost use Rattle.attach_detach.specs.Prepared.{piece_of, HasHash, IsPieceOf};
 
 use crate::message::Detached;
 use b64_lines::recognise;
-use mdbox_base::{Coding, Hash, LineForm, NoMemory, Octets, Part, Seq};
+use mdbox_base::{Hash, LineForm, NoMemory, Octets, Seq};
+use model_mime::{Coding, Part};
 use sha1::Sha1;
 use std::alloc::Global;
 

@@ -1,7 +1,7 @@
 // Laws of prepared messages.
 ghost use Rattle.std.specs.Prelude.{ℕ, List, map};
 ghost use Rattle.mdbox_base.specs.declared.metadata.ExtRef.{ExtRef};
-ghost use Rattle.mail_model.specs.Detached.{AreDetached};
+ghost use Rattle.model_attach.specs.Detached.{AreDetached};
 ghost use Rattle.attach_detach.specs.declared.message.Prepared.{Prepared};
 ghost use Rattle.attach_detach.specs.Prepared.{IsPrepared, NameParts};
 

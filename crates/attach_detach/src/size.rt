@@ -1,6 +1,6 @@
 // The virtual size.
 ghost use Rattle.std.specs.Prelude.{◌≡◌, ◌≤◌, ◌+◌, ◌++◌, ℕ, List, length};
-ghost use Rattle.mail_model.specs.VirtualSize.{bare_breaks};
+ghost use Rattle.model_attach.specs.VirtualSize.{bare_breaks};
 
 /// So many octets are counted at once that their number fits an octet: the compiler then counts sixteen in one step.
 const PIECE: usize = 240;

@@ -6,9 +6,9 @@ use Rattle.std.proofs.lemmas.List.{length-drop, nil_from_length}
 use Rattle.std.proofs.lemmas.List.Sums.{sum_by-cons}
 use Rattle.std.proofs.Math.Seq.{drop-cons}
 use Rattle.mdbox_base.specs.declared.metadata.ExtRef.{ExtRef}
-use Rattle.mdbox_base.specs.declared.join_error.JoinError.{JoinError}
-use Rattle.mdbox_base.specs.declared.join_error.JoinError.TheVariants.{InstanceDiffers}
-use Rattle.mail_model.specs.Rejoined.{part_text, is_bad, first_bad, first_differs, one_later}
+use Rattle.model_attach.specs.declared.join_error.JoinError.{JoinError}
+use Rattle.model_attach.specs.declared.join_error.JoinError.TheVariants.{InstanceDiffers}
+use Rattle.model_attach.specs.Rejoined.{part_text, is_bad, first_bad, first_differs, one_later}
 
 pub or_none : (x y : Bool) → (x || y) ≡ false → (x ≡ false) × (y ≡ false)
 or_none true y e = absurd (cc)

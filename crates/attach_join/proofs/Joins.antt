@@ -4,9 +4,9 @@ use Rattle.std.specs.Prelude.{◌==◌, option_map, Option, sum_by}
 use Rattle.std.proofs.lemmas.Bool.Decides.{nat_tests}
 use Rattle.std.proofs.lemmas.List.{length-drop, nil_from_length}
 use Rattle.mdbox_base.specs.declared.metadata.ExtRef.{ExtRef}
-use Rattle.mdbox_base.specs.declared.join_error.JoinError.TheVariants.{InstanceDiffers}
-use Rattle.mail_model.specs.Rejoined.{IsWhole, IsWholeFrom, part_text, is_bad, first_bad, first_differs, one_later}
-use Rattle.mail_model.specs.RejoinedLaws.{whole_size}
+use Rattle.model_attach.specs.declared.join_error.JoinError.TheVariants.{InstanceDiffers}
+use Rattle.model_attach.specs.Rejoined.{IsWhole, IsWholeFrom, part_text, is_bad, first_bad, first_differs, one_later}
+use Rattle.model_attach.proofs.RejoinedLemmas.{whole_size}
 use Rattle.attach_join.proofs.Checks.{good, next_of}
 
 map_none : {A B : Type 0} (f : A → B) (o : Option A) → option_map f o ≡ None → o ≡ None

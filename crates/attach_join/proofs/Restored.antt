@@ -5,17 +5,17 @@ use Rattle.std.specs.List.{list_any}
 use Rattle.std.proofs.lemmas.Bool.Decides.{nat_tests}
 use Rattle.mdbox_base.specs.declared.metadata.LineForm.{LineForm}
 use Rattle.mdbox_base.specs.declared.metadata.ExtRef.{ExtRef}
-use Rattle.mdbox_base.specs.declared.mime.Coding.{Coding}
-use Rattle.mdbox_base.specs.declared.mime.Part.{Part}
-use Rattle.mdbox_base.specs.declared.join_error.JoinError.{JoinError}
-use Rattle.mdbox_base.specs.declared.join_error.JoinError.TheVariants.{NoMemory}
-use Rattle.mail_model.specs.Lines.{range}
-use Rattle.mail_model.specs.Parts.{Found, is_too_deep, part_found, within_limits, parts_in, found_in, whole_entity}
-use Rattle.mail_model.specs.Base64Text.{IsForm}
-use Rattle.mail_model.specs.Rejoined.{IsWhole, join_error}
-use Rattle.mail_model.specs.RejoinedLaws.{whole_accepted, whole_same}
-use Rattle.mail_model.specs.Detached.{IsInstance, AreCut, pieces_of, AreDetached}
-use Rattle.mail_model.specs.DetachedLaws.{whole_of_detached}
+use Rattle.model_mime.specs.declared.mime.Coding.{Coding}
+use Rattle.model_mime.specs.declared.mime.Part.{Part}
+use Rattle.model_attach.specs.declared.join_error.JoinError.{JoinError}
+use Rattle.model_attach.specs.declared.join_error.JoinError.TheVariants.{NoMemory}
+use Rattle.model_mime.specs.Lines.{range}
+use Rattle.model_mime.specs.Parts.{Found, is_too_deep, part_found, within_limits, parts_in, found_in, whole_entity}
+use Rattle.model_base64.specs.Base64Text.{IsForm}
+use Rattle.model_attach.specs.Rejoined.{IsWhole, join_error}
+use Rattle.model_attach.proofs.RejoinedLemmas.{whole_accepted, whole_same}
+use Rattle.model_attach.specs.Detached.{IsInstance, AreCut, pieces_of, AreDetached}
+use Rattle.model_attach.proofs.DetachedLemmas.{whole_of_detached}
 
 form_fits : (coding : Coding) (text : List ℕ) (form : Option LineForm) (octets : List ℕ) → IsInstance coding text form octets → IfSome form IsForm
 form_fits coding text None octets h = tt

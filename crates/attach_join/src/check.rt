@@ -1,11 +1,12 @@
 // What may be wrong with references and instances.
 ghost use Rattle.std.specs.Prelude.{◌≡◌, ◌≢◌, ◌⊎◌, ◌≤◌, ◌<◌, ◌^◌, ◌+◌, ◌-◌, ℕ, List, length, All, sum_by, if◌then◌else◌, None, Some, IsErrOf, IfOk, IfErr, IfSome, MatchResult, OnOk};
-ghost use Rattle.mdbox_base.specs.declared.join_error.JoinError.TheVariants.{RangeBad, Compressed, SizeDiffers, NoMemory};
-ghost use Rattle.mail_model.specs.Base64Text.{IsForm};
-ghost use Rattle.mail_model.specs.Rejoined.{part_text, is_bad, first_bad, is_compressed, first_differs};
+ghost use Rattle.model_attach.specs.declared.join_error.JoinError.TheVariants.{RangeBad, Compressed, SizeDiffers, NoMemory};
+ghost use Rattle.model_base64.specs.Base64Text.{IsForm};
+ghost use Rattle.model_attach.specs.Rejoined.{part_text, is_bad, first_bad, is_compressed, first_differs};
 
 use b64_lines::text_length;
-use mdbox_base::{ExtRef, JoinError, LineForm, Octets};
+use mdbox_base::{ExtRef, LineForm, Octets};
+use model_attach::JoinError;
 
 /// The sum of all counts, where each range is good. Else the first that is bad.
 pub fn counted(stored: u64, refs: &[ExtRef]) -> Result<u64, JoinError>

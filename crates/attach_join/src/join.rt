@@ -1,11 +1,12 @@
 // Rejoining.
 ghost use Rattle.std.specs.Prelude.{◌≡◌, ◌⊎◌, ◌≤◌, ◌<◌, ◌^◌, ◌+◌, ◌++◌, ℕ, List, length, take, drop, All, IsOk, IsErrOf, IfOk, IfErr, IfSome, OnOk, None, Some};
-ghost use Rattle.mail_model.specs.Base64Text.{IsForm};
-ghost use Rattle.mail_model.specs.Rejoined.{IsWhole, part_text, first_bad, first_differs, join_error};
+ghost use Rattle.model_base64.specs.Base64Text.{IsForm};
+ghost use Rattle.model_attach.specs.Rejoined.{IsWhole, part_text, first_bad, first_differs, join_error};
 
 use crate::check::{compare_sizes, compare_texts, counted};
 use b64_lines::push_lines;
-use mdbox_base::{ExtRef, JoinError, LineForm, NoMemory, Octets, Seq};
+use mdbox_base::{ExtRef, LineForm, NoMemory, Octets, Seq};
+use model_attach::JoinError;
 use std::alloc::Global;
 
 /// The whole of a stored body, references and their instances, where its size is `whole` octets. What is wrong else, in

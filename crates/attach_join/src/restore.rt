@@ -1,9 +1,10 @@
 // A message from its detached form.
 ghost use Rattle.std.specs.Prelude.{◌≡◌, ◌≤◌, ℕ, List, length, IfOk};
-ghost use Rattle.mail_model.specs.Detached.{AreDetached};
+ghost use Rattle.model_attach.specs.Detached.{AreDetached};
 
 use crate::join::rejoin;
-use mdbox_base::{ExtRef, JoinError, NoMemory, Octets, Seq};
+use mdbox_base::{ExtRef, NoMemory, Octets, Seq};
+use model_attach::JoinError;
 use std::alloc::Global;
 
 /// The message whose detached form these are. Rejoining finds nothing wrong with one.

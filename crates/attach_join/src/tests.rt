@@ -1,10 +1,11 @@
 // Small bodies, worked out by hand.
 ghost use Rattle.std.specs.Prelude.{◌≡◌, IfOk, IfSome, List, [], ◌∷◌};
 ghost use Rattle.mdbox_base.specs.declared.metadata.LineForm.{LineForm};
-ghost use Rattle.mail_model.specs.Base64Text.{IsForm};
+ghost use Rattle.model_base64.specs.Base64Text.{IsForm};
 
 use crate::{rejoin, rejoin_detached};
-use mdbox_base::{ExtRef, Hash, InstId, JoinError, LineForm, NoMemory, Octets, Seq};
+use mdbox_base::{ExtRef, Hash, InstId, LineForm, NoMemory, Octets, Seq};
+use model_attach::JoinError;
 use std::alloc::Global;
 use std::test::Fail;
 

@@ -3,9 +3,9 @@ use Rattle.std.proofs.Common.{refl, ◌≡◌, ◌<◌, ◌≤◌, ℕ, Bool, tr
 use Rattle.std.proofs.lemmas.List.{take-append-drop, length-take-le}
 use Rattle.std.specs.Prelude.{◌==◌}
 use Rattle.std.proofs.lemmas.Bool.Decides.{nat_tests}
-use Rattle.mail_model.specs.Base64Text.{in_lines}
-use Rattle.mail_model.specs.Base64Laws.{line_last, line_more, more_lines, some_lines, at_least}
-use Rattle.mail_model.specs.Pieces.{split_same}
+use Rattle.model_base64.specs.Base64Text.{in_lines}
+use Rattle.model_base64.proofs.Base64Lemmas.{line_last, line_more, more_lines, some_lines, at_least}
+use Rattle.model_octets.proofs.PiecesLemmas.{split_same}
 
 -- Some characters are cut off, and the rest of the text is the rest of the characters in lines.
 pub record IsCut (text : List ℕ) (n : ℕ) (break rest out : List ℕ) : Type 0 where

@@ -5,8 +5,8 @@ use Rattle.std.proofs.lemmas.Bool.Decides.{leb_tells, nat_tests}
 use Rattle.base64.specs.GeneralPurpose.{IsBytes}
 use Rattle.memchr.specs.Find.{IsFirstByte, is_byte}
 use Rattle.mdbox_base.specs.declared.metadata.LineForm.{LineForm}
-use Rattle.mail_model.specs.Base64Text.{in_lines, line_break, padded, IsForm, IsCanonical}
-use Rattle.mail_model.specs.Base64Laws.{line_last, length-padded, no_break, one_or_more, broken}
+use Rattle.model_base64.specs.Base64Text.{in_lines, line_break, padded, IsForm, IsCanonical}
+use Rattle.model_base64.proofs.Base64Lemmas.{line_last, length-padded, no_break, one_or_more, broken}
 
 -- the first LF of a text
 is_ten : (c : ℕ) → (c == 10) ≡ true → c ≡ 10

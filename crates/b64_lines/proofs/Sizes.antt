@@ -3,8 +3,8 @@ use Rattle.std.proofs.Common.{◌≡◌, ◌<◌, ◌≤◌, ◌+◌, ◌-◌, �
 use Rattle.std.specs.Int.{div_ceil}
 use Rattle.std.proofs.lemmas.Nat.{div-mul-add, div-add-mod'}
 use Rattle.mdbox_base.specs.declared.metadata.LineForm.{LineForm}
-use Rattle.mail_model.specs.Base64Text.{in_lines, line_break, padded, text_of, IsForm}
-use Rattle.mail_model.specs.Base64Laws.{length-padded}
+use Rattle.model_base64.specs.Base64Text.{in_lines, line_break, padded, text_of, IsForm}
+use Rattle.model_base64.proofs.Base64Lemmas.{length-padded}
 
 small : (m n : ℕ) → m < n → m / n ≡ 0
 small m n h = let e : m ≡ 0 * n + m = omega arith in ap (λ (x : ℕ). x / n) e ∙ div-mul-add 0 n m h

@@ -3,8 +3,8 @@ use Rattle.std.proofs.Common.{refl, ◌≡◌, ◌<◌, ◌≤◌, ◌+◌, ◌*
 use Rattle.base64.specs.Engines.{standard}
 use Rattle.base64.proofs.EngineFacts.{encode_of-append}
 use Rattle.mdbox_base.specs.declared.metadata.LineForm.{LineForm}
-use Rattle.mail_model.specs.Base64Text.{in_lines, line_break, padded, text_of, IsForm}
-use Rattle.mail_model.specs.Base64Laws.{line_last, line_more, length-padded}
+use Rattle.model_base64.specs.Base64Text.{in_lines, line_break, padded, text_of, IsForm}
+use Rattle.model_base64.proofs.Base64Lemmas.{line_last, line_more, length-padded}
 
 -- What is written, and the text of the rest, are the text.
 pub record IsWritten (form : LineForm) (octets rest old out : List ℕ) : Type 0 where

@@ -2,7 +2,7 @@
 ghost use Rattle.std.specs.Prelude.{◌≡◌, ◌≢◌, ◌≤◌, ◌<◌, ◌-◌, ◌%◌, ◌==◌, ◌&&◌, ◌++◌, ℕ, List, length, slice_index, IfOk, IfSome, IfNone, true, false, Some, None, nat_le, if◌then◌else◌};
 ghost use Rattle.base64.specs.GeneralPurpose.{IsBytes};
 ghost use Rattle.mdbox_base.specs.declared.metadata.LineForm.{LineForm};
-ghost use Rattle.mail_model.specs.Base64Text.{IsCanonical, IsForm, in_lines, line_break, padded};
+ghost use Rattle.model_base64.specs.Base64Text.{IsCanonical, IsForm, in_lines, line_break, padded};
 
 use base64::DecodeAllocError;
 use base64::engine::general_purpose::STANDARD;

@@ -1,6 +1,6 @@
 // The length of text in lines.
 ghost use Rattle.std.specs.Prelude.{◌≡◌, ◌<◌, ◌^◌, ◌*◌, ◌/◌, ◌+◌, ◌-◌, ℕ, List, length};
-ghost use Rattle.mail_model.specs.Base64Text.{IsForm, text_of, line_break};
+ghost use Rattle.model_base64.specs.Base64Text.{IsForm, text_of, line_break};
 
 use mdbox_base::LineForm;
 

@@ -1,6 +1,6 @@
 // Base64 text, written line by line.
 ghost use Rattle.std.specs.Prelude.{◌≡◌, ◌≤◌, ◌++◌, ℕ, List, length, IfOk, OnOk, OnErr};
-ghost use Rattle.mail_model.specs.Base64Text.{IsForm, line_break, padded, text_of};
+ghost use Rattle.model_base64.specs.Base64Text.{IsForm, line_break, padded, text_of};
 
 use crate::size::text_size;
 use base64::engine::general_purpose::STANDARD;

@@ -5,7 +5,7 @@ use Rattle.mdbox_base.specs.declared.ids.Uid.{Uid}
 use Rattle.mdbox_base.specs.declared.ids.MapUid.{MapUid}
 use Rattle.mdbox_base.specs.declared.ids.Guid.{Guid}
 use Rattle.mdbox_base.specs.declared.entries.BoxEntry.TheVariants as entry
-use Rattle.mail_model.specs.BoxMeaning.{LogRow, BoxMeaning, box_applied, BoxFits, row_changed, row_removed}
+use Rattle.model_meaning.specs.BoxMeaning.{LogRow, BoxMeaning, box_applied, BoxFits, row_changed, row_removed}
 use Rattle.box_index.specs.declared.index.BoxRow.{BoxRow}
 use Rattle.box_index.specs.Row.{row_of, UidsRise, IsInOrder, flagged}
 use Rattle.box_index.proofs.RowLemmas.{filter-all, map-same, map-append, flagged-rows, removed-rows, rise-higher, rise-append, rise-flagged, rise-removed}

@@ -2,7 +2,7 @@
 use Rattle.std.proofs.lemmas.Bool.Decides.{nat_tests}
 use Rattle.std.proofs.Common.{eq-eqb, ◌≡◌, ◌<◌, ◌+◌, ◌==◌, ℕ, ◌≤◌, suc, zero, List, [], ◌∷◌, ◌++◌, length, map, filter, not, take, drop, get_or, slice_set, refl, sym, ap, ◌∙◌, arith, Bool, true, false, Option, Some, None, cond, find}
 use Rattle.std.specs.Option.{option_map}
-use Rattle.mail_model.specs.BoxMeaning.{LogRow, row_changed, row_removed}
+use Rattle.model_meaning.specs.BoxMeaning.{LogRow, row_changed, row_removed}
 use Rattle.mdbox_base.specs.declared.ids.Uid.{Uid}
 use Rattle.mdbox_base.specs.declared.entries.BoxEntry.TheVariants as entry
 use Rattle.std.specs.List.{remove}

@@ -2,7 +2,7 @@
 use Rattle.std.specs.Prelude.{◌==◌, if◌then◌else◌, ◌+◌, ◌<◌, ◌≤◌, ◌^◌, ℕ, List, [], ◌∷◌, length, map, Option, None, Some}
 use Rattle.std.specs.List.{AllByRecursion}
 use Rattle.mdbox_base.specs.declared.ids.Uid.{Uid}
-use Rattle.mail_model.specs.BoxMeaning.{LogRow, BoxMeaning}
+use Rattle.model_meaning.specs.BoxMeaning.{LogRow, BoxMeaning}
 use Rattle.mdbox_base.specs.declared.entries.BoxEntry.{BoxEntry}
 use Rattle.mdbox_base.specs.declared.entries.BoxEntry.TheVariants as entry
 use Rattle.box_index.specs.declared.index.BoxRow.{BoxRow}

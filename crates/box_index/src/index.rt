@@ -1,7 +1,7 @@
 // The index of a mailbox.
 ghost use Rattle.std.specs.Prelude.{◌≡◌, ◌≢◌, ◌<◌, ◌≤◌, ◌↔◌, ◌++◌, ◌∷◌, [], ℕ, List, length, map, slice_get, Option, Some, None, IsTrue, IsNone, IsErr, IfOk, IfSome, IfNone, OnOk, OnErr, find, filter, not, ◌==◌};
 ghost use Rattle.std.specs.Option.{option_map};
-ghost use Rattle.mail_model.specs.BoxMeaning.{LogRow, box_meaning, box_applied, BoxFits, row_at, row_changed, row_removed};
+ghost use Rattle.model_meaning.specs.BoxMeaning.{LogRow, box_meaning, box_applied, BoxFits, row_at, row_changed, row_removed};
 ghost use Rattle.mdbox_base.specs.declared.entries.BoxEntry.TheVariants as entry;
 ghost use Rattle.box_index.specs.Row.{row_of, flagged};
 
@@ -38,7 +38,7 @@ pub struct BoxIndex {
 
 impl Model for BoxIndex {
     ghost use Rattle.std.specs.Prelude.{map};
-    ghost use Rattle.mail_model.specs.BoxMeaning.{BoxMeaning};
+    ghost use Rattle.model_meaning.specs.BoxMeaning.{BoxMeaning};
 
     ghost Value = { BoxMeaning };
 

@@ -1,8 +1,8 @@
 -- One spelling behind another.
 use Rattle.std.specs.Prelude.{◌≡◌, ℕ, List, [], ◌∷◌, ◌++◌, length, refl, ◌⊎◌}
 use Rattle.std.proofs.Common.{sym, ◌∙◌, ap, subst, inl, inr, append_assoc, append-nil}
-use Rattle.mail_model.specs.Grammars.{Grammar, Begins, IsFrontOf, IsPrefixFree}
-use Rattle.mail_model.specs.Pieces.{split_same}
+use Rattle.model_storage.specs.Grammars.{Grammar, Begins, IsFrontOf, IsPrefixFree}
+use Rattle.model_octets.proofs.PiecesLemmas.{split_same}
 use Rattle.dbox_file.specs.declared.reading.Flaw.{Flaw}
 use Rattle.dbox_file.specs.declared.reading.Flaw.TheVariants.{Short, Bad}
 use Rattle.dbox_file.specs.Reading.{Found, Flawed}

@@ -8,8 +8,9 @@ use Rattle.std.proofs.lemmas.Bool.Decides.{nat_tests}
 use Rattle.std.proofs.lemmas.Grind.{common_steps}
 use Rattle.std.proofs.lemmas.List.{take-append-drop}
 use Rattle.mdbox_base.specs.Numbers.{IsHex}
-use Rattle.mail_model.specs.FileLaws.{Ends, run_same, line_of, first, second}
-use Rattle.mail_model.specs.StorageFile.{Line, IsField, field_text, values_of, is_letter, is_letter_or_digit, is_no_end, IsHeaderLine}
+use Rattle.model_storage.proofs.FileLemmas.{run_same, line_of, first, second}
+use Rattle.model_storage.specs.Grammars.{Ends}
+use Rattle.model_storage.specs.StorageFile.{Line, IsField, field_text, values_of, is_letter, is_letter_or_digit, is_no_end, IsHeaderLine}
 use Rattle.dbox_file.specs.HeaderFields.{TimeFits, CanEnd, Completes, IsNextField, HasHeaderLine}
 use Rattle.dbox_file.proofs.RowLaws.{longer_value, none_before}
 use Rattle.dbox_file.proofs.RunLaws.{all_joined}

@@ -3,10 +3,10 @@ use Rattle.std.specs.Prelude.{◌≡◌, ◌≤◌, ◌<◌, ◌-◌, ℕ, repli
 use Rattle.std.proofs.Common.{sym, ◌∙◌, ap, subst, length-append, arith, lit≤}
 use Rattle.std.proofs.lemmas.List.{length-replicate, take-append-drop, length-take-le}
 use Rattle.mdbox_base.specs.Numbers.{is_between}
-use Rattle.mail_model.specs.Grammars.{Grammar, IsPrefixFree}
-use Rattle.mail_model.specs.Pieces.{split_same}
-use Rattle.mail_model.specs.StorageFile.{Line, line_text, Message, IsMessageHeader, IsBlock, IsMessage}
-use Rattle.mail_model.specs.FileLaws.{message_header_same}
+use Rattle.model_storage.specs.Grammars.{Grammar, IsPrefixFree}
+use Rattle.model_octets.proofs.PiecesLemmas.{split_same}
+use Rattle.model_storage.specs.StorageFile.{Line, line_text, Message, IsMessageHeader, IsBlock, IsMessage}
+use Rattle.model_storage.proofs.FileLemmas.{message_header_same}
 use Rattle.dbox_file.specs.declared.reading.Flaw.{Flaw}
 use Rattle.dbox_file.specs.declared.reading.Flaw.TheVariants.{Short}
 use Rattle.dbox_file.specs.MessageFound.{HasMessage}

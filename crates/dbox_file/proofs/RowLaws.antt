@@ -5,9 +5,9 @@ use Rattle.std.proofs.Common.{sym, ◌∙◌, ap, subst, append_assoc, append-ni
 use Rattle.std.proofs.Math.Seq.{drop-cons}
 use Rattle.std.proofs.lemmas.Bool.{ne_eqb, eqb-true}
 use Rattle.std.proofs.lemmas.List.{take-append-drop, length-take-le, take_all}
-use Rattle.mail_model.specs.Grammars.{Begins, IsFrontOf}
-use Rattle.mail_model.specs.StorageFile.{Line, IsLine, line_text, is_no_end}
-use Rattle.mail_model.specs.FileLaws.{run_same, no_key, line_of, first, second}
+use Rattle.model_storage.specs.Grammars.{Begins, IsFrontOf}
+use Rattle.model_storage.specs.StorageFile.{Line, IsLine, line_text, is_no_end}
+use Rattle.model_storage.proofs.FileLemmas.{run_same, no_key, line_of, first, second}
 use Rattle.dbox_file.specs.declared.reading.Flaw.{Flaw}
 use Rattle.dbox_file.specs.declared.reading.Flaw.TheVariants.{Short, Bad}
 use Rattle.dbox_file.specs.Reading.{FoundSome, Flawed}

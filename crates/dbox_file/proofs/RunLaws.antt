@@ -4,9 +4,9 @@ use Rattle.std.specs.List.{list_all}
 use Rattle.std.proofs.Common.{sym, ◌∙◌, ap, subst, length-append, arith}
 use Rattle.std.proofs.lemmas.List.{length-replicate}
 use Rattle.std.proofs.lemmas.List.Folds.{list_all-append}
-use Rattle.mail_model.specs.Grammars.{Begins, IsPrefixFree}
-use Rattle.mail_model.specs.Pieces.{split_same}
-use Rattle.mail_model.specs.FileLaws.{first, second}
+use Rattle.model_storage.specs.Grammars.{Begins, IsPrefixFree}
+use Rattle.model_octets.proofs.PiecesLemmas.{split_same}
+use Rattle.model_storage.proofs.FileLemmas.{first, second}
 use Rattle.dbox_file.specs.declared.reading.Flaw.TheVariants.{Short, Bad}
 use Rattle.dbox_file.specs.Reading.{Flawed, IsText, IsRun}
 

@@ -2,13 +2,13 @@
 use Rattle.std.specs.Prelude.{◌≡◌, ◌≤◌, ◌<◌, ◌+◌, ℕ, List, [], ◌∷◌, ◌++◌, length, drop, refl, Err}
 use Rattle.std.proofs.Common.{sym, ◌∙◌, ap, subst, append_assoc, append-nil, length-append, length-drop, arith}
 use Rattle.std.proofs.lemmas.List.{drop_all, drop_at, drop-drop}
-use Rattle.mdbox_base.specs.Places.{refusal_of}
-use Rattle.mdbox_base.specs.declared.storage_file.MessageAt.{MessageAt}
-use Rattle.mdbox_base.specs.declared.storage_file.PlaceError.{PlaceError}
-use Rattle.mdbox_base.specs.declared.storage_file.PlaceError.TheVariants as at
-use Rattle.mail_model.specs.Grammars.{Begins}
-use Rattle.mail_model.specs.ScanLaws.{message_length}
-use Rattle.mail_model.specs.StorageFile.{Message, IsMessage, AreMessages, IsHeaderLine, place_at, places_from, StandsAt, PlaceGives, HasPlaces, StopsAt, IsRefused}
+use Rattle.model_storage.specs.Places.{refusal_of}
+use Rattle.model_storage.specs.declared.places.MessageAt.{MessageAt}
+use Rattle.model_storage.specs.declared.places.PlaceError.{PlaceError}
+use Rattle.model_storage.specs.declared.places.PlaceError.TheVariants as at
+use Rattle.model_storage.specs.Grammars.{Begins}
+use Rattle.model_storage.proofs.ScanLemmas.{message_length}
+use Rattle.model_storage.specs.StorageFile.{Message, IsMessage, AreMessages, IsHeaderLine, place_at, places_from, StandsAt, PlaceGives, HasPlaces, StopsAt, IsRefused}
 use Rattle.dbox_file.specs.HeaderFields.{HasHeaderLine}
 
 messages_more : (front first : List ℕ) (ms : List Message) (m : Message) → AreMessages front ms → IsMessage first m → AreMessages (front ++ first) (ms ++ m ∷ [])

@@ -9,9 +9,9 @@ use Rattle.std.proofs.lemmas.Bool.Decides.{nat_tests}
 use Rattle.std.proofs.lemmas.List.{length-replicate, take_all, take-take, take-append-le, take-append-drop}
 use Rattle.std.proofs.lemmas.Option.{option_and_then_some}
 use Rattle.mdbox_base.specs.Numbers.{hex_digit_value, hex_from}
-use Rattle.mail_model.specs.Grammars.{Begins, IsFrontOf, IsPrefixFree}
-use Rattle.mail_model.specs.Pieces.{split_same}
-use Rattle.mail_model.specs.FileLaws.{first, second}
+use Rattle.model_storage.specs.Grammars.{Begins, IsFrontOf, IsPrefixFree}
+use Rattle.model_octets.proofs.PiecesLemmas.{split_same}
+use Rattle.model_storage.proofs.FileLemmas.{first, second}
 use Rattle.dbox_file.specs.declared.reading.Flaw.TheVariants.{Short, Bad}
 use Rattle.dbox_file.specs.Reading.{Flawed}
 use Rattle.dbox_file.specs.Sizes.{IsSize, is_zero_digit}

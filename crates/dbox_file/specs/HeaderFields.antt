@@ -2,8 +2,8 @@
 use Rattle.std.specs.Prelude.{◌≡◌, ◌≤◌, ℕ, Bool, true, false, Option, Some, None, List, [], ◌∷◌, ◌++◌, length, take, drop, flat_map, IsTrue, ◌⊎◌}
 use Rattle.std.specs.List.{AllByRecursion, list_all}
 use Rattle.mdbox_base.specs.Numbers.{IsHex}
-use Rattle.mail_model.specs.FileLaws.{Ends}
-use Rattle.mail_model.specs.StorageFile.{Line, IsField, field_text, values_of, is_letter_or_digit, IsHeaderLine}
+use Rattle.model_storage.specs.Grammars.{Ends}
+use Rattle.model_storage.specs.StorageFile.{Line, IsField, field_text, values_of, is_letter_or_digit, IsHeaderLine}
 
 -- a header line of this length, with this size of message headers, stands at the front
 abbrev pub HasHeaderLine : List ℕ → ℕ → ℕ → Type 0

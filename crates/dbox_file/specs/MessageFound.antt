@@ -1,6 +1,6 @@
 -- A message at the front of a text.
 use Rattle.std.specs.Prelude.{◌≡◌, ℕ, List, length}
-use Rattle.mail_model.specs.StorageFile.{Message, IsMessage}
+use Rattle.model_storage.specs.StorageFile.{Message, IsMessage}
 use Rattle.dbox_file.specs.Reading.{Found}
 
 -- a message with a body of this size stands at the front, and this rest follows it

@@ -1,7 +1,7 @@
 -- What a reader finds at the front of a text.
 use Rattle.std.specs.Prelude.{◌≡◌, ℕ, Bool, List, ◌++◌, length, IsTrue}
 use Rattle.std.specs.List.{list_all}
-use Rattle.mail_model.specs.Grammars.{Grammar, Begins, IsFrontOf}
+use Rattle.model_storage.specs.Grammars.{Grammar, Begins, IsFrontOf}
 use Rattle.dbox_file.specs.declared.reading.Flaw.{Flaw}
 use Rattle.dbox_file.specs.declared.reading.Flaw.TheVariants.{Short, Bad}
 

@@ -1,7 +1,7 @@
 -- The lines of a block of metadata.
 use Rattle.std.specs.Prelude.{◌≡◌, ◌≤◌, ℕ, List, [], ◌∷◌, ◌++◌, length, drop, flat_map}
 use Rattle.std.specs.List.{AllByRecursion}
-use Rattle.mail_model.specs.StorageFile.{Line, IsLine, line_text}
+use Rattle.model_storage.specs.StorageFile.{Line, IsLine, line_text}
 
 -- lines and an empty line, with so many octets at most
 pub record IsRows (room : ℕ) (octets : List ℕ) (lines : List Line) : Type 0 where

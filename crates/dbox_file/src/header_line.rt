@@ -2,11 +2,12 @@
 ghost use Rattle.std.specs.Prelude.{◌≡◌, ◌≢◌, ◌<◌, ◌++◌, ◌↔◌, ◌⊎◌, ◌∷◌, ℕ, true, false, IsTrue, IsSome, List, length, flat_map, None, IfSome, IfNone, IfOk, IfErr};
 ghost use Rattle.std.specs.List.{AllByRecursion};
 ghost use Rattle.mdbox_base.specs.Numbers.{IsHex};
-ghost use Rattle.mail_model.specs.Grammars.{Begins};
-ghost use Rattle.mail_model.specs.StorageFile.{Line, IsField, field_text, IsHeaderLine, IsRefused};
+ghost use Rattle.model_storage.specs.Grammars.{Begins};
+ghost use Rattle.model_storage.specs.StorageFile.{Line, IsField, field_text, IsHeaderLine, IsRefused};
 ghost use Rattle.dbox_file.specs.HeaderFields.{CanEnd, Completes, HasHeaderLine, line_of, IsNextField, IsRunLength};
 
-use mdbox_base::{ScanError, read_hex};
+use mdbox_base::read_hex;
+use model_storage::ScanError;
 use memchr::memchr;
 
 /// How many octets a header line may have, its LF included.

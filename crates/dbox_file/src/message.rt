@@ -2,14 +2,15 @@
 ghost use Rattle.std.specs.Prelude.{◌≡◌, ◌≤◌, ◌<◌, ◌+◌, ◌↔◌, min, take, drop, ℕ, List, length, IsTrue, IfOk, IfErr};
 ghost use Rattle.std.specs.Char.{is_ascii_hexdigit};
 ghost use Rattle.std.specs.List.{list_all};
-ghost use Rattle.mail_model.specs.StorageFile.{IsMessageHeader, IsBlock, IsMessage, PlaceGives};
+ghost use Rattle.model_storage.specs.StorageFile.{IsMessageHeader, IsBlock, IsMessage, PlaceGives};
 ghost use Rattle.dbox_file.specs.Reading.{Found, FoundSome, Flawed};
 ghost use Rattle.dbox_file.specs.Sizes.{IsSize, is_zero_digit};
 ghost use Rattle.dbox_file.specs.MessageFound.{HasMessage};
 
 use crate::lines::behind_lines;
 use crate::reading::{Flaw, behind, behind_any, behind_printing};
-use mdbox_base::{MessageAt, PlaceError, read_hex};
+use mdbox_base::read_hex;
+use model_storage::{MessageAt, PlaceError};
 
 /// How a message's header begins.
 const MARK: &[u8] = b"\x01\x02N";

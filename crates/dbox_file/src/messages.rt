@@ -1,12 +1,13 @@
 // The messages of a storage file.
 ghost use Rattle.std.specs.Prelude.{◌≡◌, ◌⊎◌, List, Result, Err};
-ghost use Rattle.mdbox_base.specs.declared.storage_file.MessageAt.{MessageAt};
-ghost use Rattle.mdbox_base.specs.declared.storage_file.ScanError.{ScanError};
-ghost use Rattle.mail_model.specs.StorageFile.{ScanGives};
+ghost use Rattle.model_storage.specs.declared.places.MessageAt.{MessageAt};
+ghost use Rattle.model_storage.specs.declared.places.ScanError.{ScanError};
+ghost use Rattle.model_storage.specs.StorageFile.{ScanGives};
 
 use crate::header_line::header_line;
 use crate::message::message_at;
-use mdbox_base::{MessageAt, ScanError, Seq};
+use mdbox_base::Seq;
+use model_storage::{MessageAt, ScanError};
 use std::alloc::Global;
 
 /// The places of all messages of a storage file, in order.

@@ -1,6 +1,6 @@
 // Files in the current folder.
 ghost use Rattle.std.specs.Prelude.{◌≡◌, ◌≤◌, ◌<◌, ◌^◌, ◌+◌, length, drop, IfOk, OnOk, string_bytes};
-ghost use Rattle.mail_model.specs.Paths.{path_text};
+ghost use Rattle.file_paths.specs.Paths.{path_text};
 
 use crate::folders::sync_inst;
 use disk_model::FileName;

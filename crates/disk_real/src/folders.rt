@@ -1,6 +1,6 @@
 // Folders of the store's files in the current folder.
 ghost use Rattle.std.specs.Prelude.{All, IfOk, IsSorted};
-ghost use Rattle.mail_model.specs.Paths.{IsStoreFile};
+ghost use Rattle.file_paths.specs.Paths.{IsStoreFile};
 
 use disk_model::FileName;
 use file_paths::{name_of_path, octet_of};

@@ -6,10 +6,10 @@ use Rattle.std.proofs.lemmas.Grind.{common_steps}
 use Rattle.hex.specs.Hex.{encode_with, encode_lower, lower_digits}
 use Rattle.hex.proofs.HexLemmas.{length-encode_with}
 use Rattle.disk_model.specs.declared.name.FileName.TheVariants.{Inst}
-use Rattle.mdbox_base.specs.Words.{IsOctets}
-use Rattle.mail_model.specs.Paths.{path_text, IsStoreFile}
-use Rattle.mail_model.specs.Pieces.{split_same}
-use Rattle.mail_model.specs.ReferenceLaws.{is_other_than, until_same, hex_same}
+use Rattle.mdbox_base.specs.Words.{IsOctets, is_other_than}
+use Rattle.file_paths.specs.Paths.{path_text, IsStoreFile}
+use Rattle.model_octets.proofs.PiecesLemmas.{split_same}
+use Rattle.model_storage.proofs.ReferenceLemmas.{until_same, hex_same}
 use Rattle.file_paths.specs.InstPath.{inst_path}
 use Rattle.file_paths.proofs.HexLaws.{lower_digit}
 

@@ -6,10 +6,10 @@ use Rattle.std.proofs.lemmas.Bool.{eqb-false}
 use Rattle.hex.specs.Hex.{encode_lower}
 use Rattle.disk_model.specs.declared.name.FileName.TheVariants as file
 use Rattle.mdbox_base.specs.Numbers.{decimal_text}
-use Rattle.mail_model.specs.MapFits.{IsNumber}
-use Rattle.mail_model.specs.Paths.{path_text, IsStoreFile}
-use Rattle.mail_model.specs.Pieces.{split_same}
-use Rattle.mail_model.specs.ReferenceLaws.{number_until, hex_same}
+use Rattle.mdbox_base.specs.Words.{IsNumber}
+use Rattle.file_paths.specs.Paths.{path_text, IsStoreFile}
+use Rattle.model_octets.proofs.PiecesLemmas.{split_same}
+use Rattle.model_storage.proofs.ReferenceLemmas.{number_until, hex_same}
 use Rattle.file_paths.specs.OneFile.{HaveOwnPaths}
 use Rattle.file_paths.proofs.InstLaws.{inst_text, named, same_digits}
 use Rattle.file_paths.proofs.ReadLaws.{middle_same, regroup}

@@ -5,10 +5,10 @@ use Rattle.std.specs.List.{list_all}
 use Rattle.std.specs.Fmt.{decimal}
 use Rattle.disk_model.specs.declared.name.FileName.{FileName}
 use Rattle.disk_model.specs.declared.name.FileName.TheVariants as file
-use Rattle.mail_model.specs.MapFits.{IsNumber}
-use Rattle.mail_model.specs.Paths.{path_text, IsStoreFile}
-use Rattle.mail_model.specs.ReferenceLaws.{is_digit, is_other_than, decimal_digits, others, until_same}
-use Rattle.mail_model.specs.Pieces.{split_same}
+use Rattle.mdbox_base.specs.Words.{IsNumber, is_other_than}
+use Rattle.file_paths.specs.Paths.{path_text, IsStoreFile}
+use Rattle.model_storage.proofs.ReferenceLemmas.{is_digit, decimal_digits, others, until_same}
+use Rattle.model_octets.proofs.PiecesLemmas.{split_same}
 
 -- what stands in front of an end, where that is looked for
 abbrev pub StripsEnd : Option (Bor (List ℕ)) → List ℕ → List ℕ → Type 0

@@ -1,2 +1,3 @@
 pub mod InstPath
 pub mod OneFile
+pub mod Paths

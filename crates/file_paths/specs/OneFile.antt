@@ -1,7 +1,7 @@
 -- A path tells its file.
 use Rattle.std.specs.Prelude.{◌≡◌}
 use Rattle.disk_model.specs.declared.name.FileName.{FileName}
-use Rattle.mail_model.specs.Paths.{path_text, IsStoreFile}
+use Rattle.file_paths.specs.Paths.{path_text, IsStoreFile}
 
 -- no two files of a store have one path
 abbrev pub HaveOwnPaths : Type 0

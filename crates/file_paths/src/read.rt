@@ -6,10 +6,8 @@ ghost use Rattle.disk_model.specs.declared.name.FileName.{FileName};
 ghost use Rattle.disk_model.specs.declared.name.FileName.TheVariants.{Map, Box, Mail, Inst};
 ghost use Rattle.hex.specs.Hex.{encode_lower};
 ghost use Rattle.mdbox_base.specs.Numbers.{decimal_text};
-ghost use Rattle.mdbox_base.specs.Words.{IsOctets};
-ghost use Rattle.mail_model.specs.MapFits.{IsNumber};
-ghost use Rattle.mail_model.specs.Paths.{path_text, IsStoreFile};
-ghost use Rattle.mail_model.specs.ReferenceLaws.{is_other_than};
+ghost use Rattle.mdbox_base.specs.Words.{IsOctets, IsNumber, is_other_than};
+ghost use Rattle.file_paths.specs.Paths.{path_text, IsStoreFile};
 ghost use Rattle.file_paths.specs.InstPath.{inst_path};
 
 use disk_model::FileName;

@@ -1,7 +1,7 @@
 // The path of a file.
 ghost use Rattle.std.specs.Prelude.{◌≡◌, ◌++◌, ◌∷◌, List, ℕ, take, drop, IfOk, OnOk, OnErr, string_bytes};
 ghost use Rattle.hex.specs.Hex.{encode_lower};
-ghost use Rattle.mail_model.specs.Paths.{path_text};
+ghost use Rattle.file_paths.specs.Paths.{path_text};
 
 use disk_model::FileName;
 use mdbox_base::{NoMemory, Octets, push_decimal};

@@ -13,9 +13,9 @@ use Rattle.disk_model.proofs.Moments.{if_told-map}
 use Rattle.disk_model.proofs.OneFile.{IsAlong, Along, one_file-then}
 use Rattle.disk_model.proofs.ChangeAndSync.{Can, CanNow, changed_state, state, change_fails, sync_fails, along, images}
 use Rattle.disk_model.proofs.Firm.{IsFirm, firm_from_keeps, keeps_from_firm, synced_firm, reading_from_there, reads_there, end_written_left, end_half_left, one_written_left, one_half_left, end_octets, one_octets}
-use Rattle.mdbox_base.specs.declared.log_head.LogHead.{LogHead}
-use Rattle.mail_model.specs.LogFile.{HeadFits, record_octets, EntryFits, log_front, IsLog}
-use Rattle.mail_model.specs.LogFileLaws.{front_more}
+use Rattle.model_logs.specs.declared.log_head.LogHead.{LogHead}
+use Rattle.model_logs.specs.LogFile.{HeadFits, record_octets, EntryFits, log_front, IsLog}
+use Rattle.model_logs.proofs.LogFileLemmas.{front_more}
 use Rattle.gate_log.specs.State.{LogState}
 use Rattle.gate_log.specs.Log.{log_text, IsRead, Reads, Holds, IsLogWithOrWithout}
 

@@ -5,8 +5,8 @@ use Rattle.disk_model.specs.Disk.{Files, DiskState, History, IfTold, EachImage, 
 use Rattle.disk_model.specs.declared.name.FileName.{FileName}
 use Rattle.disk_model.proofs.Moments.{if_told-map, if_told-both, each_image-map, each_image-then}
 use Rattle.disk_model.proofs.OneFile.{IsAlong, Along, along-begins, one_file-then, others-back}
-use Rattle.mdbox_base.specs.declared.log_head.LogHead.{LogHead}
-use Rattle.mail_model.specs.LogFile.{HeadFits, EntryFits, log_front, Ends, IsLogFile}
+use Rattle.model_logs.specs.declared.log_head.LogHead.{LogHead}
+use Rattle.model_logs.specs.LogFile.{HeadFits, EntryFits, log_front, Ends, IsLogFile}
 use Rattle.gate_log.specs.Log.{IsStanding, IsKept, ReadsParts, KeepsParts, BeginsWith, IsOneBetween, log_text}
 
 -- of each image, where something is known where the disk tells

@@ -2,11 +2,11 @@
 use mir.Syntax.{w8}
 use Rattle.std.specs.Int.{w32, from_be_bytes}
 use Rattle.mdbox_base.specs.Words.{IsOctets}
-use Rattle.mdbox_base.specs.declared.log_head.LogHead.{LogHead}
-use Rattle.mdbox_base.specs.declared.log_head.LogKind.{LogKind}
-use Rattle.mail_model.specs.LogFile.{HeadFits, head_octets, kind_letter, IsHeadDamaged}
-use Rattle.mail_model.specs.LogFileLaws.{head_length}
-use Rattle.mail_model.specs.LogHeadLaws.{MayStand, head_damaged, head_short, same_front, head_in}
+use Rattle.model_logs.specs.declared.log_head.LogHead.{LogHead}
+use Rattle.model_logs.specs.declared.log_head.LogKind.{LogKind}
+use Rattle.model_logs.specs.LogFile.{HeadFits, head_octets, kind_letter, IsHeadDamaged}
+use Rattle.model_logs.proofs.LogFileLemmas.{head_length}
+use Rattle.model_logs.proofs.LogHeadLemmas.{MayStand, head_damaged, head_short, same_front, head_in}
 use Rattle.std.proofs.lemmas.List.{length-take-le, get_or-take, take_all, take-take}
 use Rattle.std.proofs.lemmas.List.Elements.{All-from_get_or, All-take}
 use Rattle.std.specs.Prelude.{position, not, ◌==◌}

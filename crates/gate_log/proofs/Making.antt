@@ -7,9 +7,9 @@ use Rattle.disk_model.proofs.Moments.{if_told-all, if_told-map, if_told-after}
 use Rattle.disk_model.proofs.OneFile.{IsAlong, Along, along-begins, along-goes_on, along-fails, along-fails_still, along-named, named-narrows}
 use Rattle.disk_model.proofs.ChangeAndSync.{changed_state}
 use Rattle.disk_model.proofs.Firm.{keeps_from_firm, end_octets}
-use Rattle.mdbox_base.specs.declared.log_head.LogHead.{LogHead}
-use Rattle.mail_model.specs.LogFile.{HeadFits, log_front}
-use Rattle.mail_model.specs.LogFileLaws.{front_length}
+use Rattle.model_logs.specs.declared.log_head.LogHead.{LogHead}
+use Rattle.model_logs.specs.LogFile.{HeadFits, log_front}
+use Rattle.model_logs.proofs.LogFileLemmas.{front_length}
 use Rattle.gate_log.specs.Log.{IsNoLonger, NamedButFor, log_text}
 
 -- the file could be so long before, or is no longer than the text

@@ -7,9 +7,9 @@ use Rattle.disk_model.specs.declared.name.FileName.{FileName}
 use Rattle.disk_model.proofs.Moments.{if_told-all, if_told-map, if_told-both}
 use Rattle.disk_model.proofs.OneFile.{IsAlong, Along, one_file-then}
 use Rattle.disk_model.proofs.Others.{apart_images}
-use Rattle.mdbox_base.specs.declared.log_head.LogHead.{LogHead}
-use Rattle.mail_model.specs.LogFile.{log_front, log_end, Ends, IsLog, IsLogFile}
-use Rattle.mail_model.specs.LogFileLaws.{front_length, one_log}
+use Rattle.model_logs.specs.declared.log_head.LogHead.{LogHead}
+use Rattle.model_logs.specs.LogFile.{log_front, log_end, Ends, IsLog, IsLogFile}
+use Rattle.model_logs.proofs.LogFileLemmas.{front_length, one_log}
 use Rattle.gate_log.specs.Reading.{IsReading}
 use Rattle.gate_log.specs.declared.read.LogRead.{LogRead}
 use Rattle.gate_log.specs.State.{Found}

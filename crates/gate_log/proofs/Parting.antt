@@ -1,8 +1,7 @@
 -- A change of a file that stands still, and its sync: a cut, or one octet written over another.
 use Rattle.std.proofs.Common.{◌≡◌, ℕ, ◌<◌, List, [], ◌∷◌, ◌++◌, length, Option, Some, true, All, sym, ◌∙◌, subst, ap, append-nil, length-append, arith}
-use Rattle.std.proofs.Math.Seq.{take-append_seam}
+use Rattle.std.proofs.Math.Seq.{take-append_seam, drop-append_seam}
 use Rattle.std.proofs.lemmas.List.Elements.{All-take, All-append, All-cons, All-tail, All-drop}
-use Rattle.std.proofs.Math.Seq.{drop-append_seam}
 use Rattle.disk_model.specs.Disk.{FileState, History, IsThere, Reaches, Keeps, IfTold, after, change, cut_to, half_cut, written, half_written, synced, reading}
 use Rattle.disk_model.specs.declared.name.FileName.{FileName}
 use Rattle.disk_model.proofs.Moments.{if_told-map}

@@ -4,9 +4,9 @@ use Rattle.std.proofs.Common.{◌≡◌, inl, inr, ℕ, ◌+◌, ◌-◌, ◌<�
 use Rattle.std.proofs.Math.Seq.{get_or-append_seam}
 use Rattle.std.proofs.lemmas.List.{take-append-drop, take_all}
 use Rattle.std.proofs.lemmas.List.Elements.{All-nil, All-push}
-use Rattle.mdbox_base.specs.declared.log_head.LogHead.{LogHead}
-use Rattle.mail_model.specs.LogFile.{HeadFits, head_octets, record_octets, EntryFits, log_front, log_end, record_places, IsLog, IsTaken, BeginsRecord, IsRecordDamaged}
-use Rattle.mail_model.specs.LogFileLaws.{front_more, front_length, behind_front, places_from_more}
+use Rattle.model_logs.specs.declared.log_head.LogHead.{LogHead}
+use Rattle.model_logs.specs.LogFile.{HeadFits, head_octets, record_octets, EntryFits, log_front, log_end, record_places, IsLog, IsTaken, BeginsRecord, IsRecordDamaged}
+use Rattle.model_logs.proofs.LogFileLemmas.{front_more, front_length, behind_front, places_from_more}
 
 -- the rest of a list, as a slice of it
 pub rest_is : (n : ℕ) (xs : List ℕ) → take (length xs - n) (drop n xs) ≡ drop n xs

@@ -4,8 +4,8 @@ use Rattle.std.proofs.Math.ListN.{replicate}
 use Rattle.std.proofs.lemmas.List.{length-replicate}
 use Rattle.disk_model.specs.Disk.{History, IfTold, EachImage, OthersStay, SameButFor, Keeps, reading}
 use Rattle.disk_model.proofs.Moments.{if_told-map, if_told-both}
-use Rattle.mdbox_base.specs.declared.log_head.LogHead.{LogHead}
-use Rattle.mail_model.specs.LogFile.{IsLogFile}
+use Rattle.model_logs.specs.declared.log_head.LogHead.{LogHead}
+use Rattle.model_logs.specs.LogFile.{IsLogFile}
 use Rattle.gate_log.specs.State.{LogState, Found}
 use Rattle.gate_log.specs.Log.{IsStanding, IsKept, IsFound, IsFoundKept, Reads, Holds, log_text}
 use Rattle.gate_log.proofs.Ending.{Frame, carried}

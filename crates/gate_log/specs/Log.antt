@@ -2,8 +2,8 @@
 use Rattle.std.specs.Prelude.{◌≡◌, ◌≢◌, ◌⊎◌, ◌≤◌, ℕ, List, [], ◌∷◌, ◌++◌, length, max, All, Option, Some, None, IfSome}
 use Rattle.disk_model.specs.Disk.{FileState, DiskState, History, IfTold, IsImage, EachImage, Keeps, named, reading, Faults, Rose}
 use Rattle.disk_model.specs.declared.name.FileName.{FileName}
-use Rattle.mdbox_base.specs.declared.log_head.LogHead.{LogHead}
-use Rattle.mail_model.specs.LogFile.{HeadFits, EntryFits, log_front, Ends, IsLogFile}
+use Rattle.model_logs.specs.declared.log_head.LogHead.{LogHead}
+use Rattle.model_logs.specs.LogFile.{HeadFits, EntryFits, log_front, Ends, IsLogFile}
 use Rattle.gate_log.specs.State.{LogState, Found}
 
 -- the octets of a log at rest: its head, its entries, and a closed gate

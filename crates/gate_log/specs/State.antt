@@ -2,7 +2,7 @@
 -- octets of a record with two gates it can lay out without memory.
 use Rattle.std.specs.Prelude.{◌≡◌, ℕ}
 use Rattle.disk_model.specs.declared.name.FileName.{FileName}
-use Rattle.mdbox_base.specs.declared.log_head.LogHead.{LogHead}
+use Rattle.model_logs.specs.declared.log_head.LogHead.{LogHead}
 
 pub record LogState : Type 0 where
   pub name : FileName

@@ -1,7 +1,7 @@
 // Logs that were looked at, and how they are repaired.
 ghost use Rattle.std.specs.Prelude.{◌≡◌, ◌↔◌, ℕ, List, Some, IsTrue, IfOk, IfErr, OnOk, IsErr, IsErrOf, IsOk};
 ghost use Rattle.disk_model.specs.Disk.{EachImage, OthersStay, SameButFor, FaultsRoseIf, IfTold, Keeps, reading};
-ghost use Rattle.mail_model.specs.LogFile.{IsLogFile};
+ghost use Rattle.model_logs.specs.LogFile.{IsLogFile};
 ghost use Rattle.gate_log.specs.State.{IsWhole};
 ghost use Rattle.gate_log.specs.Log.{Reads, Holds, Idle, ReadsRoseIf, IsFound, IsFoundKept};
 ghost use Rattle.gate_log.specs.Reading.{IsReading, IsOpenError};
@@ -13,7 +13,7 @@ use crate::log::GateLog;
 use crate::read::{LogRead, read_log_of};
 use crate::repair::repair;
 use disk_model::{Disk, FileName};
-use mdbox_base::LogHead;
+use model_logs::LogHead;
 use std::alloc::Global;
 use std::marker::Model;
 

@@ -1,14 +1,15 @@
 // The head of a log, as octets.
 ghost use Rattle.std.specs.Prelude.{◌≡◌, ◌≢◌, ◌+◌, ◌<◌, ◌≤◌, ◌^◌, length, take, drop, MatchOption, MatchResult, position, Some, None, not, ◌==◌, []};
-ghost use Rattle.mdbox_base.specs.declared.log_head.LogKind.{LogKind};
+ghost use Rattle.model_logs.specs.declared.log_head.LogKind.{LogKind};
 ghost use Rattle.std.specs.Int.{w32, from_be_bytes};
 ghost use Rattle.std.specs.List.{zip};
 ghost use Rattle.mdbox_base.specs.Words.{IsOctets};
 ghost use Rattle.gate_log.specs.Log.{log_text};
-ghost use Rattle.mail_model.specs.LogFile.{HeadFits, head_octets, kind_letter, IsHeadDamaged};
+ghost use Rattle.model_logs.specs.LogFile.{HeadFits, head_octets, kind_letter, IsHeadDamaged};
 
 use crate::gate::CLOSED;
-use mdbox_base::{LogHead, LogKind, StoreId};
+use mdbox_base::StoreId;
+use model_logs::{LogHead, LogKind};
 
 /// How many octets a head has.
 pub const HEAD_SIZE: usize = 25;

@@ -1,7 +1,7 @@
 // Logs on a disk.
 ghost use Rattle.std.specs.Prelude.{◌≡◌, ◌≢◌, Some, IsErrOf, ◌+◌, ◌-◌, ◌<◌, ◌≤◌, ◌^◌, ◌++◌, ◌∷◌, [], ℕ, List, length, take, OnOk, OnErr, IfOk, IfErr, IsErr};
 ghost use Rattle.disk_model.specs.Disk.{EachImage, OthersStay, SameButFor, FaultsRoseIf, IfTold, Keeps, reading};
-ghost use Rattle.mail_model.specs.LogFile.{record_octets, IsLog, IsLogFile};
+ghost use Rattle.model_logs.specs.LogFile.{record_octets, IsLog, IsLogFile};
 ghost use Rattle.gate_log.specs.State.{LogState, IsSameLog};
 ghost use Rattle.gate_log.specs.Log.{Reads, Holds, IsLogWithOrWithout, IsNoLonger, NamedButFor, Idle, OneRoseIf};
 ghost use Rattle.gate_log.specs.Reading.{IsReading, IsOpenError};
@@ -13,7 +13,8 @@ use crate::head::{HEAD_SIZE, first_text};
 use crate::make::make_file;
 use crate::read::LogRead;
 use disk_model::{Disk, FileName};
-use mdbox_base::{LogHead, NoMemory};
+use mdbox_base::NoMemory;
+use model_logs::LogHead;
 use std::alloc::Global;
 use std::marker::Model;
 

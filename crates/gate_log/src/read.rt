@@ -1,14 +1,15 @@
 // Reading a log.
 ghost use Rattle.std.specs.Prelude.{◌≡◌, ◌<◌, ℕ, List, Option, Some, None, length, take, IfOk, IfErr};
-ghost use Rattle.mdbox_base.specs.declared.log_head.LogHead.{LogHead};
-ghost use Rattle.mail_model.specs.LogFile.{HeadFits, head_octets, IsTaken};
+ghost use Rattle.model_logs.specs.declared.log_head.LogHead.{LogHead};
+ghost use Rattle.model_logs.specs.LogFile.{HeadFits, head_octets, IsTaken};
 ghost use Rattle.gate_log.specs.Reading.{IsReading, IsReadError};
 
 use crate::error::LogError;
 use crate::gate::OPEN;
 use crate::head::{HEAD_SIZE, check_head, read_head};
 use crate::record::first_entry;
-use mdbox_base::{LogHead, NoMemory, Octets, Seq};
+use mdbox_base::{NoMemory, Octets, Seq};
+use model_logs::LogHead;
 use std::alloc::Global;
 
 /// What a log has.

@@ -1,6 +1,6 @@
 // Records of a log.
 ghost use Rattle.std.specs.Prelude.{◌≡◌, MatchOption};
-ghost use Rattle.mail_model.specs.LogFile.{BeginsRecord};
+ghost use Rattle.model_logs.specs.LogFile.{BeginsRecord};
 
 /// The entry of the record that octets begin with. None exactly where no whole record with a gate stands there.
 pub fn first_entry(octets: &[u8]) -> Option<&[u8]>

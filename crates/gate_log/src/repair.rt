@@ -1,8 +1,8 @@
 // The end of a log that was found.
 ghost use Rattle.std.specs.Prelude.{◌≡◌, ◌-◌, ◌<◌, ◌^◌, ℕ, List, [], length, Some, OnOk, IsOk, IsErr};
 ghost use Rattle.disk_model.specs.Disk.{EachImage, OthersStay, SameButFor, FaultsRoseIf, IfTold, Keeps, reading};
-ghost use Rattle.mdbox_base.specs.declared.log_head.LogHead.{LogHead};
-ghost use Rattle.mail_model.specs.LogFile.{IsLogFile};
+ghost use Rattle.model_logs.specs.declared.log_head.LogHead.{LogHead};
+ghost use Rattle.model_logs.specs.LogFile.{IsLogFile};
 ghost use Rattle.gate_log.specs.Log.{IsStanding, IsKept, log_text, ReadsParts, KeepsParts, BeginsWith};
 
 use crate::device::put_octet;

@@ -1,7 +1,8 @@
 // Logs octet for octet, and where they are damaged.
 use crate::error::LogError;
 use crate::read::read_log;
-use mdbox_base::{LogHead, LogKind, StoreId};
+use mdbox_base::StoreId;
+use model_logs::{LogHead, LogKind};
 use std::alloc::Global;
 use std::test::Fail;
 

@@ -11,7 +11,7 @@ use Rattle.mdbox_base.specs.declared.entries.MapCount.{MapCount}
 use Rattle.mdbox_base.specs.declared.entries.MapPlace.{MapPlace}
 use Rattle.mdbox_base.specs.declared.entries.MapEntry.{MapEntry}
 use Rattle.mdbox_base.specs.declared.entries.MapEntry.TheVariants as map
-use Rattle.mail_model.specs.Entries.{four, list_text, row_text, map_text, MapInRange, RowInRange}
+use Rattle.model_logs.specs.Entries.{four, list_text, row_text, map_text, MapInRange, RowInRange}
 use Rattle.log_records.specs.declared.stored.Stored.{Stored}
 use Rattle.log_records.specs.Stored.{stored_text}
 use Rattle.log_records.proofs.ListItems.{Sized, flat_size, row_sized}

@@ -5,9 +5,9 @@ use Rattle.std.specs.Prelude.{MatchOption, Option, Some, None}
 use Rattle.std.specs.Int.{w16, to_be_bytes}
 use Rattle.std.proofs.Math.Nat.{mul-suc, mul-le-mul_left}
 use Rattle.std.proofs.lemmas.List.Concat.{flat_map-append}
-use Rattle.mail_model.specs.Entries.{four, list_text, row_text, RowInRange}
-use Rattle.mail_model.specs.Pieces.{split_same}
-use Rattle.mail_model.specs.NumberLaws.{next_four, next_two}
+use Rattle.model_logs.specs.Entries.{four, list_text, row_text, RowInRange}
+use Rattle.model_octets.proofs.PiecesLemmas.{split_same}
+use Rattle.model_octets.proofs.NumberLemmas.{next_four, next_two}
 
 -- each item in range has that size
 abbrev pub Sized : {X : Type 0} → (X → List ℕ) → (X → Type 0) → ℕ → Type 0

@@ -4,8 +4,8 @@ use Rattle.std.proofs.lemmas.List.{take_all, length-drop}
 use Rattle.std.specs.Prelude.{MatchOption, Option}
 use Rattle.mdbox_base.specs.declared.entries.MapEntry.{MapEntry}
 use Rattle.mdbox_base.specs.declared.entries.MapEntry.TheVariants as map
-use Rattle.mail_model.specs.Entries.{IsMapText}
-use Rattle.mail_model.specs.NumberLaws.{behind, differ}
+use Rattle.model_logs.specs.Entries.{IsMapText}
+use Rattle.model_octets.proofs.NumberLemmas.{behind, differ}
 use Rattle.log_records.specs.Refused.{IsNotStored}
 use Rattle.log_records.proofs.ListItems.{match_weaker}
 

@@ -9,7 +9,7 @@ use Rattle.mdbox_base.specs.declared.ids.MapUid.{MapUid}
 use Rattle.mdbox_base.specs.declared.entries.InstRow.{InstRow}
 use Rattle.mdbox_base.specs.declared.entries.MapCount.{MapCount}
 use Rattle.mdbox_base.specs.declared.entries.MapPlace.{MapPlace}
-use Rattle.mail_model.specs.Entries.{four, list_text, name_text, row_text, RowInRange}
+use Rattle.model_logs.specs.Entries.{four, list_text, name_text, row_text, RowInRange}
 
 abbrev pub IsNotMade : List ℕ → Type 0
 IsNotMade fields = (mailbox generation : ℕ) (name : List ℕ) → mailbox < 2 ^ 32 → generation < 2 ^ 32 → IsName name → fields ≡ four mailbox ++ (four generation ++ name_text name) → ⊥

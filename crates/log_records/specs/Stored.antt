@@ -1,7 +1,7 @@
 -- The fields of a stored message's entry before its instances.
 use Rattle.std.specs.Prelude.{◌≡◌, ◌<◌, ◌^◌, ℕ, List, ◌∷◌, ◌++◌, length}
 use Rattle.std.specs.Int.{w16, to_be_bytes}
-use Rattle.mail_model.specs.Entries.{four}
+use Rattle.model_logs.specs.Entries.{four}
 use Rattle.mdbox_base.specs.declared.entries.MapEntry.{MapEntry}
 use Rattle.mdbox_base.specs.declared.entries.MapEntry.TheVariants as map
 use Rattle.log_records.specs.declared.stored.Stored.{Stored}

@@ -1,7 +1,7 @@
 // Fields of an entry, read from the front of a text and written to a place of one. Numbers are big-endian.
 ghost use Rattle.std.specs.Prelude.{◌≡◌, ◌≢◌, ◌+◌, ◌<◌, ◌≤◌, ◌∷◌, ◌++◌, length, take, MatchOption};
 ghost use Rattle.std.specs.Int.{w16, w64, to_be_bytes};
-ghost use Rattle.mail_model.specs.Entries.{four};
+ghost use Rattle.model_logs.specs.Entries.{four};
 
 use mdbox_base::Guid;
 

@@ -1,7 +1,7 @@
 // The items of the lists that entries have.
 ghost use Rattle.std.specs.Prelude.{◌≡◌, ◌+◌, ◌<◌, ◌≤◌, ◌^◌, ◌++◌, ℕ, List, length, take, MatchOption};
 ghost use Rattle.std.specs.Int.{w16, to_be_bytes};
-ghost use Rattle.mail_model.specs.Entries.{four, row_text, RowInRange};
+ghost use Rattle.model_logs.specs.Entries.{four, row_text, RowInRange};
 
 use crate::fields::{array_at, number_at, put, short_at};
 use mdbox_base::{Hash, InstId, InstRow, MapCount, MapPlace, MapUid};

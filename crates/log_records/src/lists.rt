@@ -2,7 +2,7 @@
 ghost use Rattle.std.specs.Prelude.{◌≡◌, ◌+◌, ◌*◌, ◌<◌, ◌≤◌, ◌^◌, ◌++◌, ℕ, List, length, take, flat_map, IfOk, MatchOption};
 ghost use Rattle.std.specs.List.{AllByRecursion};
 ghost use Rattle.std.specs.Int.{w16, to_be_bytes};
-ghost use Rattle.mail_model.specs.Entries.{list_text, row_text, RowInRange};
+ghost use Rattle.model_logs.specs.Entries.{list_text, row_text, RowInRange};
 ghost use Rattle.mdbox_base.specs.declared.entries.InstRow.{InstRow};
 
 use crate::fields::{number_at, put, short_at};

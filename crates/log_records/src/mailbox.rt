@@ -1,7 +1,7 @@
 // Entries of a mailbox log.
 ghost use Rattle.std.specs.Prelude.{◌≡◌, ◌≢◌, ◌++◌, ◌∷◌, ℕ, length, MatchOption, MatchResult, OnOk, OnErr};
 ghost use Rattle.mdbox_base.specs.declared.entries.BoxEntry.{BoxEntry};
-ghost use Rattle.mail_model.specs.Entries.{box_text, BoxInRange, IsBoxText};
+ghost use Rattle.model_logs.specs.Entries.{box_text, BoxInRange, IsBoxText};
 
 use crate::fields::{long_at, number_at, octet_at, only_guid, only_number, put};
 use mdbox_base::{BoxEntry, MapUid, NoMemory, Octets, Uid};

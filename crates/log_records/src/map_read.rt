@@ -1,7 +1,7 @@
 // Reading entries of the map log.
 ghost use Rattle.std.specs.Prelude.{◌≡◌, ◌≢◌, ◌<◌, ◌^◌, ◌++◌, ◌∷◌, ℕ, List, length, IfOk, MatchOption};
 ghost use Rattle.mdbox_base.specs.declared.entries.MapEntry.{MapEntry};
-ghost use Rattle.mail_model.specs.Entries.{map_text, MapInRange, IsMapText};
+ghost use Rattle.model_logs.specs.Entries.{map_text, MapInRange, IsMapText};
 ghost use Rattle.log_records.specs.Refused.{IsNotMade, IsNotStored, IsNotLowered, IsNotCounted, IsNotPurged};
 
 use crate::fields::{number_at, octet_at, only_number};

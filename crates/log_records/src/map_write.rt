@@ -2,7 +2,7 @@
 ghost use Rattle.std.specs.Prelude.{◌≡◌, ◌+◌, ◌*◌, ◌<◌, ◌≤◌, ◌^◌, ◌++◌, ◌∷◌, ℕ, List, length, take, OnOk, OnErr};
 ghost use Rattle.mdbox_base.specs.declared.entries.MapEntry.{MapEntry};
 ghost use Rattle.mdbox_base.specs.declared.entries.MapEntry.TheVariants as entry;
-ghost use Rattle.mail_model.specs.Entries.{four, list_text, map_text, MapInRange};
+ghost use Rattle.model_logs.specs.Entries.{four, list_text, map_text, MapInRange};
 ghost use Rattle.log_records.specs.Stored.{IsStored};
 
 use crate::fields::put;

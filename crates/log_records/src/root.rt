@@ -1,7 +1,7 @@
 // Entries of the root log.
 ghost use Rattle.std.specs.Prelude.{◌≡◌, ◌++◌, ℕ, MatchOption, MatchResult, OnOk, OnErr};
 ghost use Rattle.mdbox_base.specs.declared.entries.RootEntry.{RootEntry};
-ghost use Rattle.mail_model.specs.Entries.{root_text, RootInRange, IsRootText};
+ghost use Rattle.model_logs.specs.Entries.{root_text, RootInRange, IsRootText};
 
 use crate::fields::only_number;
 use mdbox_base::{NoMemory, Octets, RootEntry};

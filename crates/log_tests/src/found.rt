@@ -2,7 +2,8 @@
 use disk_mem::MemDisk;
 use disk_model::{Disk, DiskError, FileName};
 use gate_log::inspect_log;
-use mdbox_base::{LogHead, LogKind, StoreId};
+use mdbox_base::StoreId;
+use model_logs::{LogHead, LogKind};
 use std::alloc::Global;
 use std::test::Fail;
 

@@ -6,7 +6,8 @@ ghost use Rattle.gate_log.specs.Log.{Holds, Reads};
 use disk_mem::{Choice, MemDisk};
 use disk_model::{Disk, FileName};
 use gate_log::{DiskFault, GateLog, LogError, create_log, open_log};
-use mdbox_base::{LogHead, LogKind, Seq, StoreId};
+use mdbox_base::{Seq, StoreId};
+use model_logs::{LogHead, LogKind};
 use std::alloc::Global;
 use std::test::Fail;
 

@@ -4,8 +4,8 @@ use Rattle.std.specs.Option.{option_map}
 use Rattle.std.proofs.lemmas.List.{map-append, take_more}
 use Rattle.std.proofs.lemmas.Option.{slice_get_within, get_or_from_slice_get}
 use Rattle.mdbox_base.specs.declared.replies.ListRow.{ListRow}
-use Rattle.mail_model.specs.BoxMeaning.{LogRow}
-use Rattle.mail_model.specs.Listing.{listed_row}
+use Rattle.model_meaning.specs.BoxMeaning.{LogRow}
+use Rattle.model_store.specs.Listing.{listed_row}
 use Rattle.box_index.specs.Row.{row_of}
 use Rattle.box_index.specs.declared.index.BoxRow.{BoxRow}
 

@@ -5,7 +5,7 @@ use Rattle.mdbox_base.specs.declared.replies.Reply.{Reply}
 use Rattle.mdbox_base.specs.declared.replies.Reply.TheVariants as reply
 use Rattle.mdbox_base.specs.declared.requests.Request.{Request}
 use Rattle.mdbox_base.specs.declared.requests.Request.TheVariants as request
-use Rattle.mail_model.specs.Listing.{meaning_named, listing_of}
+use Rattle.model_store.specs.Listing.{meaning_named, listing_of}
 use Rattle.store_core.specs.Value.{StoreValue, indexes_of}
 
 abbrev pub IsListing : Request → Type 0

@@ -10,9 +10,9 @@ use Rattle.mdbox_base.specs.declared.entries.MapPlace.{MapPlace}
 use Rattle.mdbox_base.specs.declared.entries.Highest.{Highest}
 use Rattle.mdbox_base.specs.declared.entries.MapEntry.{MapEntry}
 use Rattle.mdbox_base.specs.declared.entries.MapEntry.TheVariants as entry
-use Rattle.mail_model.specs.Rows.{rows_by}
-use Rattle.mail_model.specs.MapMeaning.{MapRecord, MapBox, MapMeaning, record_rules, record_changed, box_rules}
-use Rattle.mail_model.specs.AppliedLaws.{records_by_mailbox, records_by_sealed, boxes_by_highest, boxes_by_stored, boxes_by_raised, boxes_by_lowered, boxes_by_counted, boxes_by_purged, boxes_by_sealed, only_changes}
+use Rattle.model_meaning.specs.Rows.{rows_by}
+use Rattle.model_meaning.specs.MapMeaning.{MapRecord, MapBox, MapMeaning, record_rules, record_changed, box_rules}
+use Rattle.model_meaning.proofs.AppliedLemmas.{records_by_mailbox, records_by_sealed, boxes_by_highest, boxes_by_stored, boxes_by_raised, boxes_by_lowered, boxes_by_counted, boxes_by_purged, boxes_by_sealed, only_changes}
 use Rattle.map_index.specs.Shown.{IsMade, IsSealing}
 
 -- what is said of an error holds of any result

@@ -6,11 +6,13 @@ use Rattle.std.proofs.lemmas.List.Elements.{All-nil, All-cons, All-weaker, All-p
 use Rattle.std.proofs.lemmas.List.Kept.{AllPairs-cons}
 use Rattle.mdbox_base.specs.declared.entries.MapEntry.{MapEntry}
 use Rattle.mdbox_base.specs.declared.entries.MapEntry.TheVariants as map
-use Rattle.mail_model.specs.MapMeaning.{MapRecord, MapBox, MapMeaning, map_applied, record_rules, box_changed, box_rules, with_number, sealed_by}
-use Rattle.mail_model.specs.MapFits.{IsNumber, MapFits}
-use Rattle.mail_model.specs.MapPlaceLaws.{changed_same, equal_is, equal_yes}
-use Rattle.mail_model.specs.SealedLaws.{all_with}
-use Rattle.mail_model.specs.PairLaws.{found_only, kept_all, kept_length, kept_pairs, kept_rows, pairs_nil, pairs_push, pairs_head, pairs_tail}
+use Rattle.model_meaning.specs.MapMeaning.{MapRecord, MapBox, MapMeaning, map_applied, record_rules, box_changed, box_rules, with_number, sealed_by}
+use Rattle.model_meaning.specs.MapFits.{MapFits}
+use Rattle.mdbox_base.specs.Words.{IsNumber}
+use Rattle.model_meaning.proofs.MapPlaceLemmas.{changed_same, equal_is, equal_yes}
+use Rattle.model_meaning.proofs.SealedLemmas.{all_with}
+use Rattle.model_octets.proofs.PairLemmas.{found_only, pairs_nil, pairs_push, pairs_head, pairs_tail}
+use Rattle.model_meaning.proofs.KeptRowLemmas.{kept_all, kept_length, kept_pairs, kept_rows}
 use Rattle.map_index.specs.Kept.{AreKeptRecords, AreKeptBoxes, AreKeptFiles, IsKept}
 use Rattle.map_index.specs.Shown.{CanRise}
 use Rattle.map_index.proofs.Pairs.{few_rising}

@@ -2,7 +2,7 @@
 use Rattle.std.proofs.Common.{◌≡◌, ℕ, Bool, true, false, cond, Option, Some, None, List, [], ◌∷◌, map, filter, fold, refl, ap, ◌∙◌}
 use Rattle.std.specs.Prelude.{nat_le}
 use Rattle.std.specs.Option.{option_map}
-use Rattle.mail_model.specs.MapMeaning.{MapRecord}
+use Rattle.model_meaning.specs.MapMeaning.{MapRecord}
 use Rattle.map_index.specs.declared.rows.MapRow.{MapRow}
 use Rattle.map_index.specs.declared.rows.Record.{Record}
 use Rattle.map_index.specs.Shown.{shown, record_of, nearer, nearer_row, is_from, is_row_from}

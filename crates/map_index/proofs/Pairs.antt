@@ -4,8 +4,8 @@ use Rattle.std.specs.Prelude.{All, AllPairs}
 use Rattle.std.proofs.lemmas.List.{get_or-map}
 use Rattle.std.proofs.lemmas.List.Elements.{All-head, All-tail}
 use Rattle.std.proofs.lemmas.List.Kept.{AllPairs-cons}
-use Rattle.mail_model.specs.PairLaws.{pairs_head, pairs_tail}
-use Rattle.mail_model.specs.MapFits.{IsNumber}
+use Rattle.model_octets.proofs.PairLemmas.{pairs_head, pairs_tail}
+use Rattle.mdbox_base.specs.Words.{IsNumber}
 
 -- the pairs of a list are those of its first item, and those of the rest
 pub pairs_split : {X : Type 0} → (R : X → X → Type 0) (x : X) (xs ys : List X) → ys ≡ x ∷ xs → AllPairs R ys → All (R x) xs × AllPairs R xs

@@ -5,7 +5,7 @@ use Rattle.std.specs.List.{position_or_len}
 use Rattle.std.specs.Option.{option_map_or}
 use Rattle.std.proofs.lemmas.Bool.Decides.{nat_tests}
 use Rattle.mdbox_base.specs.declared.ids.FileNo.{FileNo}
-use Rattle.mail_model.specs.MapMeaning.{with_number}
+use Rattle.model_meaning.specs.MapMeaning.{with_number}
 
 abbrev number : FileNo → ℕ
 number f = f.0

@@ -1,8 +1,8 @@
 -- What holds of the record of a map uid, and of a place that is given to one.
 use Rattle.std.specs.Prelude.{◌≡◌, ◌≤◌, ℕ}
 use Rattle.mdbox_base.specs.declared.entries.MapPlace.{MapPlace}
-use Rattle.mail_model.specs.MapMeaning.{MapMeaning}
-use Rattle.mail_model.specs.MapFits.{FitsPlace, HasRecord, IsKnown}
+use Rattle.model_meaning.specs.MapMeaning.{MapMeaning}
+use Rattle.model_meaning.specs.MapFits.{FitsPlace, HasRecord, IsKnown}
 
 unfoldable pub HasRow : MapMeaning → ℕ → Type 0
 HasRow m uid = IsKnown m uid

@@ -1,7 +1,7 @@
 -- What every index keeps.
 use Rattle.std.specs.Prelude.{◌≢◌, ◌≤◌, ◌<◌, ◌^◌, ℕ, List, length, All, AllPairs}
-use Rattle.mail_model.specs.MapMeaning.{MapRecord, MapBox, MapMeaning}
-use Rattle.mail_model.specs.MapFits.{IsNumber}
+use Rattle.model_meaning.specs.MapMeaning.{MapRecord, MapBox, MapMeaning}
+use Rattle.mdbox_base.specs.Words.{IsNumber}
 
 -- Map uids rise up to the highest one, so there are no more records than that, and GUIDs differ.
 pub record AreKeptRecords (highest : ℕ) (rows : List MapRecord) : Type 0 where

@@ -7,7 +7,7 @@ use Rattle.mdbox_base.specs.declared.entries.MapEntry.{MapEntry}
 use Rattle.mdbox_base.specs.declared.entries.MapEntry.TheVariants as entry
 use Rattle.mdbox_base.specs.declared.ids.FileNo.{FileNo}
 use Rattle.mdbox_base.specs.declared.ids.StoreId.{StoreId}
-use Rattle.mail_model.specs.MapMeaning.{MapRecord, MapBox, MapMeaning, named}
+use Rattle.model_meaning.specs.MapMeaning.{MapRecord, MapBox, MapMeaning, named}
 use Rattle.map_index.specs.declared.rows.MapRow.{MapRow}
 use Rattle.map_index.specs.declared.rows.BoxAt.{BoxAt}
 use Rattle.map_index.specs.declared.rows.Record.{Record}

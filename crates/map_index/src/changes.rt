@@ -1,8 +1,8 @@
 // What an entry of the map log does to the records, the mailboxes and the sealed files.
 ghost use Rattle.std.specs.Prelude.{◌≡◌, ◌==◌, ℕ, List, map, filter, not, false, slice_get, IsErr, IfOk, OnOk, OnErr};
 ghost use Rattle.std.specs.Option.{option_map_or};
-ghost use Rattle.mail_model.specs.Rows.{rows_by};
-ghost use Rattle.mail_model.specs.MapMeaning.{record_rules, record_changed, box_changed, box_rules, sealed_by, with_number, has_uid, placed};
+ghost use Rattle.model_meaning.specs.Rows.{rows_by};
+ghost use Rattle.model_meaning.specs.MapMeaning.{record_rules, record_changed, box_changed, box_rules, sealed_by, with_number, has_uid, placed};
 ghost use Rattle.mdbox_base.specs.declared.entries.InstRow.{InstRow};
 ghost use Rattle.mdbox_base.specs.declared.entries.MapEntry.TheVariants as entry;
 ghost use Rattle.map_index.specs.Shown.{record_of, box_of, CanRise, IsRisen, IsStored, IsMade, IsSealing};

@@ -1,6 +1,7 @@
 // What an entry of the map log needs of the records and mailboxes that there are.
 ghost use Rattle.std.specs.Prelude.{◌≡◌, ◌≢◌, ◌+◌, ◌≤◌, ◌↔◌, ◌⊎◌, IsTrue, All, AllPairs};
-ghost use Rattle.mail_model.specs.MapFits.{IsNumber, IsRaised, IsApart, AgreesOn};
+ghost use Rattle.model_meaning.specs.MapFits.{IsRaised, IsApart, AgreesOn};
+ghost use Rattle.mdbox_base.specs.Words.{IsNumber};
 ghost use Rattle.map_index.specs.Shown.{record_of};
 
 use crate::rows::{Mailbox, MapRow, Record};

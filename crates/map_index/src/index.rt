@@ -1,8 +1,8 @@
 // The index of the map.
 ghost use Rattle.std.specs.Prelude.{◌≡◌, [], length, slice_get, IsErr, IfOk, OnOk, OnErr};
 ghost use Rattle.std.specs.Option.{option_map, option_copied};
-ghost use Rattle.mail_model.specs.MapMeaning.{MapMeaning, map_meaning, map_applied, record_at, record_of, count_of, box_at, is_sealed};
-ghost use Rattle.mail_model.specs.MapFits.{MapFits};
+ghost use Rattle.model_meaning.specs.MapMeaning.{MapMeaning, map_meaning, map_applied, record_at, record_of, count_of, box_at, is_sealed};
+ghost use Rattle.model_meaning.specs.MapFits.{MapFits};
 ghost use Rattle.map_index.specs.Shown.{record_of as record_held, box_of, shown, shown_box, shown_file, record_from, box_of_name, is_named, names_file, TakesMemory};
 
 use crate::changes::{change_boxes, change_files, change_records};
@@ -33,7 +33,7 @@ pub struct MapIndex {
 }
 
 impl Model for MapIndex {
-    ghost use Rattle.mail_model.specs.MapMeaning.{MapMeaning};
+    ghost use Rattle.model_meaning.specs.MapMeaning.{MapMeaning};
 
     ghost Value = { MapMeaning };
 

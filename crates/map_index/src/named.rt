@@ -3,8 +3,8 @@ ghost use Rattle.std.specs.Prelude.{◌≡◌, ◌==◌, map, find, not, All, Is
 ghost use Rattle.std.specs.List.{list_any};
 ghost use Rattle.std.specs.Option.{option_copied};
 ghost use Rattle.std.specs.List.Sorted.{IsStrictlyIncreasing};
-ghost use Rattle.mail_model.specs.MapMeaning.{has_uid, count_given, place_given};
-ghost use Rattle.mail_model.specs.MapFits.{IsMovedOrDropped};
+ghost use Rattle.model_meaning.specs.MapMeaning.{has_uid, count_given, place_given};
+ghost use Rattle.model_meaning.specs.MapFits.{IsMovedOrDropped};
 ghost use Rattle.map_index.specs.Shown.{record_of};
 
 use crate::numbers::NamesRecord;

@@ -1,6 +1,6 @@
 // The greatest numbers that entries of the map log name.
 ghost use Rattle.std.specs.Prelude.{◌≡◌, ◌==◌, ◌&&◌, ℕ};
-ghost use Rattle.mail_model.specs.MapMeaning.{greatest, guid_file, instance_number, own_number, is_own, number_at, no_numbers, numbers_of, higher};
+ghost use Rattle.model_meaning.specs.MapMeaning.{greatest, guid_file, instance_number, own_number, is_own, number_at, no_numbers, numbers_of, higher};
 
 use mdbox_base::{Guid, Highest, InstRow, MapCount, MapEntry, MapPlace, MapUid, StoreId};
 

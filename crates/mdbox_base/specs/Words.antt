@@ -1,5 +1,5 @@
 -- Plain words on octets.
-use Rattle.std.specs.Prelude.{ℕ, ◌<◌, ◌≤◌, List, length, All, ◌≢◌, IsUtf8}
+use Rattle.std.specs.Prelude.{ℕ, ◌<◌, ◌≤◌, List, length, All, ◌≢◌, IsUtf8, Bool, not, ◌==◌}
 
 -- each is an octet
 abbrev pub IsOctets : List ℕ → Type 0
@@ -12,3 +12,12 @@ pub record IsName (text : List ℕ) : Type 0 where
   pub printing : All (λ octet. 32 ≤ octet) text
   pub no_delete : All (λ octet. octet ≢ 127) text
   pub utf8 : IsUtf8 text
+
+-- a number of a storage file, a mailbox, a record or a generation
+pub record IsNumber (n : ℕ) : Type 0 where
+  pub low : 1 ≤ n
+  pub high : n ≤ 4294967294
+
+-- another octet than the mark
+abbrev pub is_other_than : ℕ → ℕ → Bool
+is_other_than mark c = not (c == mark)

@@ -1,8 +1,5 @@
-// Metadata of a message, as the storage file has it.
-use crate::ids::{Guid, Hash, InstId};
-use crate::name::Name;
-use crate::octets::Octets;
-use crate::seq::Seq;
+// References to attachments that are stored outside a message.
+use crate::ids::{Hash, InstId};
 
 /// How base64 text is broken into lines: the characters of a line, a multiple of 4 from 4 to 996, and whether
 /// lines end with CRLF.
@@ -21,20 +18,4 @@ pub struct ExtRef {
     pub form: Option<LineForm>,
     pub hash: Hash,
     pub id: InstId,
-}
-
-/// What the metadata lines of a message say. Times are Unix seconds, sizes octets.
-#[derive(Drop)]
-pub struct Metadata {
-    pub guid: Option<Guid>,
-    pub received: Option<u64>,
-    /// The size of the whole message, where it isn't that of the stored body.
-    pub physical: Option<u64>,
-    /// The size of the whole message with each bare LF counted as two octets.
-    pub virtual_size: Option<u64>,
-    /// The mailbox where it was first saved.
-    pub origin: Option<Name>,
-    pub refs: Seq<ExtRef>,
-    /// All other lines, octet for octet, in their order.
-    pub unknown: Octets,
 }

@@ -5,22 +5,21 @@ use Rattle.disk_model.specs.Disk.{History, EachImage}
 use Rattle.disk_model.proofs.Moments.{since-begins}
 use Rattle.mdbox_base.specs.declared.replies.Reply.{Reply}
 use Rattle.mdbox_base.specs.declared.requests.Request.TheVariants as request
-use Rattle.mail_model.specs.Lists.{Lists}
-use Rattle.mail_model.specs.Machine.{Run, First, Answers}
-use Rattle.mail_model.specs.BoxMeaning.{BoxMeaning}
-use Rattle.mail_model.specs.MapMeaning.{MapBox, MapMeaning}
-use Rattle.mail_model.specs.Listing.{ShowLists, meaning_named, listing_of}
-use Rattle.mail_model.specs.Safe.{Safe}
-use Rattle.mail_model.specs.Settled.{files_of}
-use Rattle.mail_model.specs.SettledLaws.{settled_safe}
-use Rattle.mail_model.specs.OpeningLaws.{no_store_or_opens, opens_or_damaged}
-use Rattle.mail_model.specs.OpeningSafeLaws.{safe_opens}
+use Rattle.model_lists.specs.Lists.{Lists}
+use Rattle.list_machine.specs.Machine.{Run, First, Answers}
+use Rattle.model_meaning.specs.BoxMeaning.{BoxMeaning}
+use Rattle.model_meaning.specs.MapMeaning.{MapBox, MapMeaning}
+use Rattle.model_store.specs.Listing.{ShowLists, meaning_named, listing_of}
+use Rattle.model_store.specs.Safe.{Safe}
+use Rattle.model_store.specs.Settled.{files_of}
+use Rattle.model_store.proofs.SettledLemmas.{settled_safe}
+use Rattle.model_store.proofs.OpeningLemmas.{no_store_or_opens, opens_or_damaged}
+use Rattle.model_store.proofs.OpeningSafeLemmas.{safe_opens}
 use Rattle.gate_log.specs.Log.{Idle}
 use Rattle.gate_log.proofs.Idling.{idle-begins}
-use Rattle.store_core.specs.Running.{IsSettledFor}
+use Rattle.store_core.specs.Running.{IsSettledFor, IsStore}
 use Rattle.store_open.specs.Making.{IdleUnless}
 use Rattle.store_open.specs.Opened.{Opening, IsOpenedAs, IsOpeningError}
-use Rattle.store_core.specs.Running.{IsStore}
 use Rattle.store_core.specs.Value.{indexes_of}
 use Rattle.store_core.specs.declared.store.OpenBox.{OpenBox}
 use Rattle.gate_log.specs.State.{LogState}

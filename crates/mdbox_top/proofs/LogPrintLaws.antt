@@ -2,9 +2,9 @@
 use Rattle.std.specs.Prelude.{◌≡◌, ◌≤◌, ◌<◌, ◌+◌, ℕ, List, [], ◌∷◌, ◌++◌, length, take, drop, get_or, refl, Option}
 use Rattle.std.proofs.Common.{zero, suc, sym, ◌∙◌, ap, subst, append_assoc, append-nil, arith}
 use Rattle.std.proofs.lemmas.List.{take-append-drop, take_all, take_more}
-use Rattle.mdbox_base.specs.declared.log_head.LogHead.{LogHead}
-use Rattle.mail_model.specs.LogFile.{end_from, log_end, places_from, record_places}
-use Rattle.mail_model.specs.LogDumpText.{head_line, entry_line, entry_lines, end_line, log_dump_text}
+use Rattle.model_logs.specs.declared.log_head.LogHead.{LogHead}
+use Rattle.model_logs.specs.LogFile.{end_from, log_end, places_from, record_places}
+use Rattle.mdbox_top.specs.LogDumpText.{head_line, entry_line, entry_lines, end_line, log_dump_text}
 use Rattle.mdbox_top.specs.Printing.{Passed, Cut}
 use Rattle.mdbox_top.proofs.PrintLaws.{cut_before, cut_more, passed_more, passed_kept}
 

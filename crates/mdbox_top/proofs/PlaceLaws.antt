@@ -2,10 +2,10 @@
 use Rattle.std.specs.Prelude.{◌≡◌, ◌-◌, ℕ, List, [], ◌∷◌, ◌++◌, length, take, drop, flat_map, refl}
 use Rattle.std.proofs.Common.{sym, ◌∙◌, ap, subst, append_assoc, length-append, arith}
 use Rattle.std.proofs.lemmas.List.{take_at, drop_at}
-use Rattle.mdbox_base.specs.declared.storage_file.MessageAt.{MessageAt}
-use Rattle.mail_model.specs.DumpText.{shown_message, dump_text}
-use Rattle.mail_model.specs.ScanLaws.{message_length}
-use Rattle.mail_model.specs.StorageFile.{line_text, Message, IsMessage, AreMessages, IsFile, place_at, places_from}
+use Rattle.model_storage.specs.declared.places.MessageAt.{MessageAt}
+use Rattle.mdbox_top.specs.DumpText.{shown_message, dump_text}
+use Rattle.model_storage.proofs.ScanLemmas.{message_length}
+use Rattle.model_storage.specs.StorageFile.{line_text, Message, IsMessage, AreMessages, IsFile, place_at, places_from}
 use Rattle.mdbox_top.specs.Printing.{Shows, ShowsAll}
 
 -- a message between what stands before and behind it, cut before its lines and behind them

@@ -6,10 +6,10 @@ use Rattle.std.proofs.Common.{sym, ◌∙◌, ap, subst, append_assoc, append-ni
 use Rattle.std.proofs.lemmas.Bool.{eq-eqb}
 use Rattle.std.proofs.lemmas.List.{take-append-drop, take_at, drop_all, drop_at, drop_more, get_or_at}
 use Rattle.mdbox_base.specs.Streams.{Appended}
-use Rattle.mdbox_base.specs.declared.storage_file.MessageAt.{MessageAt}
-use Rattle.mail_model.specs.FileLaws.{second}
-use Rattle.mail_model.specs.DumpText.{message_heading, shown_line}
-use Rattle.mail_model.specs.StorageFile.{Line, line_text, is_no_end, AreLines}
+use Rattle.model_storage.specs.declared.places.MessageAt.{MessageAt}
+use Rattle.model_storage.proofs.FileLemmas.{second}
+use Rattle.mdbox_top.specs.DumpText.{message_heading, shown_line}
+use Rattle.model_storage.specs.StorageFile.{Line, line_text, is_no_end, AreLines}
 use Rattle.mdbox_top.specs.Printing.{Passed, Cut, Shows, ShowsAll}
 
 pub appended_nothing : (h : Option (List ℕ)) → Appended h [] h

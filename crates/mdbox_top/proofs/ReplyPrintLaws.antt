@@ -5,7 +5,7 @@ use Rattle.std.proofs.lemmas.Grind.{flat_map-append}
 use Rattle.std.proofs.lemmas.List.{take-append-drop, take_all, take_more}
 use Rattle.mdbox_base.specs.Numbers.{decimal_text}
 use Rattle.mdbox_base.specs.declared.replies.ListRow.{ListRow}
-use Rattle.mail_model.specs.ReplyText.{numbers_text, row_text, ok_line, listing_text}
+use Rattle.mdbox_top.specs.ReplyText.{numbers_text, row_text, ok_line, listing_text}
 use Rattle.mdbox_top.specs.Printing.{Passed, Cut}
 use Rattle.mdbox_top.proofs.PrintLaws.{cut_before, cut_more, passed_more, passed_kept}
 

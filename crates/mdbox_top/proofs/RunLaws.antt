@@ -3,15 +3,15 @@ use Rattle.std.specs.Prelude.{◌≡◌, ◌≤◌, ◌<◌, ◌+◌, ℕ, List,
 use Rattle.std.proofs.Common.{sym, ◌∙◌, ap, subst, inl, inr, append-nil, length-append, arith}
 use Rattle.std.proofs.lemmas.Bool.{eqb-false}
 use Rattle.std.proofs.lemmas.List.{take-append-drop}
-use Rattle.mdbox_base.specs.declared.storage_file.MessageAt.{MessageAt}
-use Rattle.mail_model.specs.DumpText.{dump_text}
-use Rattle.mail_model.specs.StorageFile.{HasPlaces}
+use Rattle.model_storage.specs.declared.places.MessageAt.{MessageAt}
+use Rattle.mdbox_top.specs.DumpText.{dump_text}
+use Rattle.model_storage.specs.StorageFile.{HasPlaces}
 use Rattle.mdbox_top.proofs.PlaceLaws.{file_shown}
 use Rattle.mdbox_base.specs.Streams.{Appended, Rose, Taken, IsAtEnd}
-use Rattle.mdbox_base.specs.declared.storage_file.ScanError.{ScanError}
+use Rattle.model_storage.specs.declared.places.ScanError.{ScanError}
 use Rattle.mdbox_base.specs.declared.stream.SinkFault.{SinkFault}
-use Rattle.mail_model.specs.LogFileLaws.{not_both as log_not_damaged}
-use Rattle.mail_model.specs.ScanLaws.{file_not_refused}
+use Rattle.model_logs.proofs.LogFileLemmas.{not_both as log_not_damaged}
+use Rattle.model_storage.proofs.ScanLemmas.{file_not_refused}
 use Rattle.mdbox_top.specs.Commands.{words_of, IsCommandLine}
 use Rattle.mdbox_top.specs.Printing.{Cut, ShowsAll}
 use Rattle.mdbox_top.specs.Run.{Prints, Refuses, Told, Answers, IsInputRefused, PrintsPart, Ends, Shown, Gave, Yields, status_of, IsOneOf}

@@ -3,7 +3,7 @@ use Rattle.std.specs.Prelude.{◌≡◌, ℕ, List, [], ◌∷◌, codes, length
 use Rattle.std.proofs.Common.{sym, ◌∙◌, ap, subst, inl, inr, arith}
 use Rattle.hex.specs.Hex.{encode_lower, decode_sized}
 use Rattle.hex.specs.declared.error.FromHexError.{FromHexError}
-use Rattle.mail_model.specs.ReferenceLaws.{octets_are_bytes, hex_same}
+use Rattle.model_storage.proofs.ReferenceLemmas.{octets_are_bytes, hex_same}
 use Rattle.hex.proofs.HexLemmas.{decode_sized-encode_lower}
 use Rattle.mdbox_base.specs.Words.{IsOctets}
 use Rattle.mdbox_base.specs.declared.ids.StoreId.{StoreId}

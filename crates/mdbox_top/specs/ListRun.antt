@@ -5,12 +5,12 @@ use Rattle.mdbox_base.specs.Streams.{Appended}
 use Rattle.mdbox_base.specs.declared.replies.Reply.{Reply}
 use Rattle.mdbox_base.specs.declared.replies.Reply.TheVariants as reply
 use Rattle.mdbox_base.specs.declared.requests.Request.TheVariants as request
-use Rattle.mail_model.specs.Lists.{Lists}
-use Rattle.mail_model.specs.Machine.{Run, First, Answers}
-use Rattle.mail_model.specs.BoxMeaning.{BoxMeaning}
-use Rattle.mail_model.specs.MapMeaning.{MapMeaning}
-use Rattle.mail_model.specs.Listing.{meaning_named, listing_of}
-use Rattle.mail_model.specs.ReplyText.{reply_text}
+use Rattle.model_lists.specs.Lists.{Lists}
+use Rattle.list_machine.specs.Machine.{Run, First, Answers}
+use Rattle.model_meaning.specs.BoxMeaning.{BoxMeaning}
+use Rattle.model_meaning.specs.MapMeaning.{MapMeaning}
+use Rattle.model_store.specs.Listing.{meaning_named, listing_of}
+use Rattle.mdbox_top.specs.ReplyText.{reply_text}
 use Rattle.gate_log.specs.Log.{Idle}
 use Rattle.store_core.specs.Running.{IsSettledFor}
 use Rattle.store_open.specs.Making.{IdleUnless}

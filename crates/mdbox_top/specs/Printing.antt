@@ -1,9 +1,9 @@
 -- What reaches an output when a text is gathered in pieces.
 use Rattle.std.specs.Prelude.{◌≡◌, ◌≤◌, ◌+◌, ◌-◌, ℕ, List, [], ◌∷◌, ◌++◌, length, take, drop, flat_map, Option}
 use Rattle.mdbox_base.specs.Streams.{Appended, Rose}
-use Rattle.mdbox_base.specs.declared.storage_file.MessageAt.{MessageAt}
-use Rattle.mail_model.specs.DumpText.{message_heading, shown_line}
-use Rattle.mail_model.specs.StorageFile.{Line, AreLines}
+use Rattle.model_storage.specs.declared.places.MessageAt.{MessageAt}
+use Rattle.mdbox_top.specs.DumpText.{message_heading, shown_line}
+use Rattle.model_storage.specs.StorageFile.{Line, AreLines}
 use Rattle.mdbox_top.specs.declared.print.PrintError.{PrintError}
 use Rattle.mdbox_top.specs.declared.print.PrintError.TheVariants as print
 

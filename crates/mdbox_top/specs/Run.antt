@@ -2,12 +2,12 @@
 use Rattle.std.specs.Prelude.{◌≡◌, ◌≤◌, ◌<◌, ℕ, List, [], ◌∷◌, ◌++◌, length, codes, Option, None, IfSome, ◌⊎◌}
 use Rattle.mdbox_base.specs.Numbers.{decimal_text}
 use Rattle.mdbox_base.specs.Streams.{Appended, Rose}
-use Rattle.mdbox_base.specs.declared.storage_file.ScanError.TheVariants as scan
-use Rattle.mail_model.specs.DumpText.{dump_text}
-use Rattle.mdbox_base.specs.declared.log_head.LogHead.{LogHead}
-use Rattle.mail_model.specs.LogDumpText.{log_dump_text}
-use Rattle.mail_model.specs.LogFile.{IsLog, IsDamagedAt}
-use Rattle.mail_model.specs.StorageFile.{Message, IsFile, IsRefused}
+use Rattle.model_storage.specs.declared.places.ScanError.TheVariants as scan
+use Rattle.mdbox_top.specs.DumpText.{dump_text}
+use Rattle.model_logs.specs.declared.log_head.LogHead.{LogHead}
+use Rattle.mdbox_top.specs.LogDumpText.{log_dump_text}
+use Rattle.model_logs.specs.LogFile.{IsLog, IsDamagedAt}
+use Rattle.model_storage.specs.StorageFile.{Message, IsFile, IsRefused}
 use Rattle.mdbox_top.specs.Commands.{words_of, IsCommandLine}
 use Rattle.mdbox_top.specs.Printing.{Cut}
 use Rattle.mdbox_top.specs.declared.command.Command.{Command}

@@ -4,9 +4,9 @@ use Rattle.disk_model.specs.Disk.{History, IfTold, EachImage}
 use Rattle.disk_model.specs.declared.name.FileName.TheVariants as file
 use Rattle.mdbox_base.specs.Numbers.{decimal_text}
 use Rattle.mdbox_base.specs.Streams.{Appended}
-use Rattle.mail_model.specs.Paths.{path_text}
-use Rattle.mail_model.specs.Opening.{empty_inbox}
-use Rattle.mail_model.specs.Settled.{IsSettled}
+use Rattle.file_paths.specs.Paths.{path_text}
+use Rattle.model_store.specs.Opening.{empty_inbox}
+use Rattle.model_store.specs.Settled.{IsSettled}
 use Rattle.gate_log.specs.Log.{Idle}
 use Rattle.store_open.specs.Making.{IdleUnless, IsFree, IsMade, NeverHasEntry, HasNothingOrInbox}
 use Rattle.store_open.specs.Refused.{IsMakingError, IsOfFiles}

@@ -1,13 +1,14 @@
 // Printing the entries of a log, gathered in pieces.
 ghost use Rattle.std.specs.Prelude.{◌≡◌, ◌≤◌, ◌<◌, ◌++◌, ◌∷◌, [], ℕ, List, length, IfOk, IfErr, OnOk, OnErr};
 ghost use Rattle.mdbox_base.specs.Streams.{Appended};
-ghost use Rattle.mail_model.specs.LogFile.{kind_letter, record_places, log_end};
-ghost use Rattle.mail_model.specs.LogDumpText.{head_line, entry_line, end_line, log_dump_text};
+ghost use Rattle.model_logs.specs.LogFile.{kind_letter, record_places, log_end};
+ghost use Rattle.mdbox_top.specs.LogDumpText.{head_line, entry_line, end_line, log_dump_text};
 ghost use Rattle.mdbox_top.specs.Printing.{Passed, Cut, IsCause};
 
 use crate::print::{PrintError, put};
 use gate_log::LogRead;
-use mdbox_base::{LogHead, LogKind, NoMemory, Octets, Sink, give_all, push_decimal};
+use mdbox_base::{NoMemory, Octets, Sink, give_all, push_decimal};
+use model_logs::{LogHead, LogKind};
 use std::alloc::Global;
 
 /// The letter of a log's kind.

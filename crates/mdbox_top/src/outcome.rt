@@ -5,7 +5,8 @@ ghost use Rattle.mdbox_top.specs.Run.{status_of, reason_text, error_text, Yields
 ghost use Rattle.mdbox_top.specs.declared.outcome.Outcome.{Outcome};
 
 use crate::status::Status;
-use mdbox_base::{NoMemory, Octets, ScanError, Sink, give_all, push_decimal};
+use mdbox_base::{NoMemory, Octets, Sink, give_all, push_decimal};
+use model_storage::ScanError;
 use std::alloc::Global;
 
 /// Why the input is refused.

@@ -1,11 +1,12 @@
 // Printing the messages of a storage file, gathered in pieces.
 ghost use Rattle.std.specs.Prelude.{◌≡◌, ◌≤◌, ◌<◌, ◌+◌, ◌++◌, ◌∷◌, [], take, drop, ℕ, List, length, flat_map, IfOk, IfErr, OnOk, OnErr};
 ghost use Rattle.mdbox_base.specs.Streams.{Appended};
-ghost use Rattle.mail_model.specs.DumpText.{message_heading, shown_line};
-ghost use Rattle.mail_model.specs.StorageFile.{Line, line_text, AreLines};
+ghost use Rattle.mdbox_top.specs.DumpText.{message_heading, shown_line};
+ghost use Rattle.model_storage.specs.StorageFile.{Line, line_text, AreLines};
 ghost use Rattle.mdbox_top.specs.Printing.{Passed, Cut, IsCause, Shows, ShowsAll};
 
-use mdbox_base::{MessageAt, NoMemory, Octets, Sink, SinkFault, give_all, push_decimal};
+use mdbox_base::{NoMemory, Octets, Sink, SinkFault, give_all, push_decimal};
+use model_storage::MessageAt;
 use memchr::memchr;
 use std::alloc::Global;
 

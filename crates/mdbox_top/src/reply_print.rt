@@ -3,7 +3,7 @@ ghost use Rattle.std.specs.Prelude.{◌≡◌, ◌≤◌, ◌++◌, ◌∷◌, [
 ghost use Rattle.mdbox_base.specs.Streams.{Appended};
 ghost use Rattle.mdbox_base.specs.declared.replies.Refusal.TheVariants as refusal;
 ghost use Rattle.mdbox_base.specs.declared.replies.Reply.TheVariants as reply;
-ghost use Rattle.mail_model.specs.ReplyText.{numbers_text, guid_text, row_text, ok_line, listing_text, refusal_text, reply_text};
+ghost use Rattle.mdbox_top.specs.ReplyText.{numbers_text, guid_text, row_text, ok_line, listing_text, refusal_text, reply_text};
 ghost use Rattle.mdbox_top.specs.Printing.{Passed, Cut, IsCause};
 
 use crate::print::{PrintError, put};

@@ -1,15 +1,14 @@
 // One run of the program.
 ghost use Rattle.std.specs.Prelude.{◌≡◌, ◌≢◌, ◌≤◌, ◌↔◌, ◌∷◌, [], length, map, string_bytes, List, ℕ, IfSome, Some};
-ghost use Rattle.mdbox_base.specs.Words.{IsOctets};
+ghost use Rattle.mdbox_base.specs.Words.{IsOctets, IsName};
 ghost use Rattle.mdbox_base.specs.Streams.{Rose};
 ghost use Rattle.mdbox_base.specs.declared.ids.StoreId.{StoreId};
 ghost use Rattle.gate_log.specs.Log.{OneRoseIf};
 ghost use Rattle.mdbox_top.specs.Commands.{words_of, IsCommandLine, store_words, IsFit, IsStoreLine};
 ghost use Rattle.mdbox_top.specs.Run.{Prints, Refuses, Ends, status_of, error_text, Gave, IsOneOf};
-ghost use Rattle.mdbox_base.specs.Words.{IsName};
 ghost use Rattle.disk_model.specs.Disk.{EachImage};
-ghost use Rattle.mail_model.specs.Lists.{Lists};
-ghost use Rattle.mail_model.specs.Safe.{Safe};
+ghost use Rattle.model_lists.specs.Lists.{Lists};
+ghost use Rattle.model_store.specs.Safe.{Safe};
 ghost use Rattle.store_core.specs.Running.{IsSettledFor};
 ghost use Rattle.mdbox_top.specs.ListRun.{ListEnds};
 ghost use Rattle.mdbox_top.specs.StoreRun.{Inits, InitMoments, store_status, store_error_text};

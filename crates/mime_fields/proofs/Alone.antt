@@ -4,9 +4,9 @@ use Rattle.std.specs.Prelude.{◌==◌, codes}
 use Rattle.std.specs.List.{list_all}
 use Rattle.std.specs.Char.{eq_ignore_ascii_case, to_ascii_lowercase}
 use Rattle.std.proofs.lemmas.Bool.Decides.{nat_tests}
-use Rattle.mdbox_base.specs.declared.mime.Coding.TheVariants as codings
-use Rattle.mail_model.specs.Lines.{is_blank}
-use Rattle.mail_model.specs.Fields.{behind_blanks, before_blanks, is_word, coding_of}
+use Rattle.model_mime.specs.declared.mime.Coding.TheVariants as codings
+use Rattle.model_mime.specs.Lines.{is_blank}
+use Rattle.model_mime.specs.Fields.{behind_blanks, before_blanks, is_word, coding_of}
 use Rattle.mime_fields.specs.Alone.{is_alone}
 
 either : (b : Bool) → (b ≡ true) ⊎ (b ≡ false)

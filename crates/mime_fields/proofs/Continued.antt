@@ -1,9 +1,9 @@
 -- The first line of a text, where it continues a field.
 use Rattle.std.proofs.Common.{refl, ◌≡◌, ◌≢◌, ◌<◌, ◌+◌, ◌-◌, ℕ, zero, suc, Bool, true, false, cond, List, [], ◌∷◌, ◌++◌, length, get_or, take, drop, map, sym, ◌∙◌, ap, arith}
 use Rattle.std.proofs.lemmas.List.{length-take-le}
-use Rattle.mdbox_base.specs.declared.mime.Line.{Line}
-use Rattle.mail_model.specs.Lines.{TextLine, placed, raw_lines, texts, content, is_blank, range, IsLineAt}
-use Rattle.mail_model.specs.Fields.{continuation}
+use Rattle.model_mime.specs.declared.mime.Line.{Line}
+use Rattle.model_mime.specs.Lines.{TextLine, placed, raw_lines, texts, content, is_blank, range, IsLineAt}
+use Rattle.model_mime.specs.Fields.{continuation}
 use Rattle.mime_fields.proofs.LineLemmas.{rest_is}
 
 pub texts_placed : (at : ℕ) (raws : List (List ℕ)) → map (λ l. l.text) (placed at raws) ≡ map content raws

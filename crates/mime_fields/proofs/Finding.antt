@@ -1,8 +1,8 @@
 -- The first field of a name, line by line.
 use Rattle.std.proofs.Common.{◌≡◌, ◌-◌, ℕ, Bool, true, false, cond, List, ◌∷◌, ◌++◌, length, take, drop, map, sym, ◌∙◌, ap, Some}
-use Rattle.mdbox_base.specs.declared.mime.Line.{Line}
-use Rattle.mail_model.specs.Lines.{TextLine, raw_lines, texts, range, IsLineAt}
-use Rattle.mail_model.specs.Fields.{continuation, is_named, value_of}
+use Rattle.model_mime.specs.declared.mime.Line.{Line}
+use Rattle.model_mime.specs.Lines.{TextLine, raw_lines, texts, range, IsLineAt}
+use Rattle.model_mime.specs.Fields.{continuation, is_named, value_of}
 use Rattle.mime_fields.proofs.LineLemmas.{rest_is}
 use Rattle.mime_fields.proofs.Continued.{texts_placed}
 

@@ -4,10 +4,8 @@ use Rattle.std.specs.Prelude.{Some, None, reverse, ◌==◌}
 use Rattle.std.proofs.lemmas.Bool.Decides.{nat_tests}
 use Rattle.std.proofs.lemmas.List.{reverse-append, reverse-reverse, take-append-drop, length-take-le, get_or-take, length-drop, drop-drop}
 use Rattle.std.proofs.Math.Seq.{take-suc, drop-cons, take-length, drop-length}
-use Rattle.mail_model.specs.Lines.{raw_lines, lines_from, content, content_back, without_cr}
-use Rattle.mail_model.specs.Lines.{range}
+use Rattle.model_mime.specs.Lines.{raw_lines, lines_from, content, content_back, without_cr, range, IsLineAt}
 use Rattle.memchr.specs.Find.{IsFirstByte, is_byte}
-use Rattle.mail_model.specs.Lines.{IsLineAt}
 
 -- no octet of a text is LF
 abbrev pub NoBreak : List ℕ → Type 0

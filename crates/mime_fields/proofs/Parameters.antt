@@ -1,9 +1,9 @@
 -- Parameters and the kind, against the definitions.
 use Rattle.std.proofs.Common.{refl, ◌≡◌, ◌<◌, ◌≤◌, ◌-◌, ℕ, suc, Bool, true, false, cond, List, [], ◌∷◌, length, sym, ◌∙◌, ap, arith, Option, Some, None, ◌⊎◌, inl, inr}
 use Rattle.std.specs.Prelude.{◌==◌, codes}
-use Rattle.mdbox_base.specs.declared.mime.Kind.{Kind}
-use Rattle.mdbox_base.specs.declared.mime.Kind.TheVariants as kinds
-use Rattle.mail_model.specs.Fields.{token, behind_blanks, behind, parameter_value, ends_parameter, parameter, is_word, boundary_or, boundary_among, boundary_behind, multipart, kind_by, typed, ◌>>=◌}
+use Rattle.model_mime.specs.declared.mime.Kind.{Kind}
+use Rattle.model_mime.specs.declared.mime.Kind.TheVariants as kinds
+use Rattle.model_mime.specs.Fields.{token, behind_blanks, behind, parameter_value, ends_parameter, parameter, is_word, boundary_or, boundary_among, boundary_behind, multipart, kind_by, typed, ◌>>=◌}
 use Rattle.mime_fields.specs.declared.held.Held.{Held}
 use Rattle.mime_fields.specs.Holding.{held}
 use Rattle.mime_fields.specs.Reading.{IsHeld, IsParameter, IsSearching}

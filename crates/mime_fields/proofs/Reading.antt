@@ -6,9 +6,9 @@ use Rattle.std.proofs.lemmas.Bool.Decides.{nat_tests}
 use Rattle.std.proofs.lemmas.List.Folds.{prefix_len-append, length-prefix_len}
 use Rattle.std.proofs.lemmas.List.Sums.{prefix_len-le-length}
 use Rattle.std.proofs.lemmas.List.{take-append-le, drop-append-le}
-use Rattle.mdbox_base.specs.declared.mime.Kind.TheVariants as kinds
-use Rattle.mail_model.specs.Lines.{is_blank}
-use Rattle.mail_model.specs.Fields.{continuation, is_token, token, quoted, with_octet, is_boundary, multipart, parameter_value, behind, is_printing}
+use Rattle.model_mime.specs.declared.mime.Kind.TheVariants as kinds
+use Rattle.model_mime.specs.Lines.{is_blank}
+use Rattle.model_mime.specs.Fields.{continuation, is_token, token, quoted, with_octet, is_boundary, multipart, parameter_value, behind, is_printing}
 use Rattle.mime_fields.specs.declared.held.Held.{Held}
 use Rattle.mime_fields.specs.declared.held.Held.TheVariants as helds
 use Rattle.mime_fields.specs.Holding.{held}

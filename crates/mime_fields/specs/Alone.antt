@@ -1,7 +1,7 @@
 -- A value that is a word alone.
 use Rattle.std.specs.Prelude.{ℕ, Bool, false, ◌&&◌, ◌==◌, List, [], ◌∷◌, length}
 use Rattle.std.specs.Char.{eq_ignore_ascii_case}
-use Rattle.mail_model.specs.Fields.{behind_blanks}
+use Rattle.model_mime.specs.Fields.{behind_blanks}
 
 -- a value begins with a word, in any case, and has blanks alone behind it
 abbrev pub is_alone : List ℕ → List ℕ → Bool

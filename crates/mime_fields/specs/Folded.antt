@@ -1,7 +1,7 @@
 -- A value that goes on in the lines below it.
 use Rattle.std.specs.Prelude.{ℕ, List, ◌++◌}
-use Rattle.mail_model.specs.Lines.{texts}
-use Rattle.mail_model.specs.Fields.{continuation}
+use Rattle.model_mime.specs.Lines.{texts}
+use Rattle.model_mime.specs.Fields.{continuation}
 
 -- the rest of a line, and the lines below that continue it
 abbrev pub folded : List ℕ → List ℕ → List ℕ

@@ -1,6 +1,6 @@
 -- What the readers of a value give.
 use Rattle.std.specs.Prelude.{ℕ, suc, length, ◌≤◌, List, ◌≡◌, ◌++◌, Option, Some, None}
-use Rattle.mail_model.specs.Fields.{quoted, parameter, boundary_among}
+use Rattle.model_mime.specs.Fields.{quoted, parameter, boundary_among}
 use Rattle.mime_fields.specs.declared.held.Held.{Held}
 use Rattle.mime_fields.specs.Holding.{held}
 

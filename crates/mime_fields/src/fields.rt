@@ -1,14 +1,14 @@
 // What the header fields of an entity say.
 ghost use Rattle.std.specs.Prelude.{◌≡◌, ◌≤◌, ◌<◌, ◌∷◌, ◌++◌, [], ℕ, List, length, take, drop, IfSome, IfNone, Some, None, true, false, codes};
-ghost use Rattle.mail_model.specs.Lines.{texts};
-ghost use Rattle.mail_model.specs.Fields.{value_of, is_named, fields_of, kind_of, coding_of};
+ghost use Rattle.model_mime.specs.Lines.{texts};
+ghost use Rattle.model_mime.specs.Fields.{value_of, is_named, fields_of, kind_of, coding_of};
 
 use crate::lines::next_line;
 use crate::value::Value;
-use mdbox_base::{Coding, Fields, Kind};
+use model_mime::{Coding, Fields, Kind};
 
 /// What a header block says: the kind by the first Content-Type, the coding by the first Content-Transfer-Encoding.
-#[tactic(auto, unfolding(mail_model::specs::Fields::fields_of))]
+#[tactic(auto, unfolding(model_mime::specs::Fields::fields_of))]
 pub fn read_fields(block: &[u8]) -> Fields
     ensures { result ≡ fields_of block.now }
 {
@@ -30,7 +30,7 @@ fn kind_in(block: &[u8]) -> Kind
     }
 }
 
-#[tactic(auto, unfolding(mail_model::specs::Fields::coding_of))]
+#[tactic(auto, unfolding(model_mime::specs::Fields::coding_of))]
 fn coding_in(block: &[u8]) -> Coding
     ensures { result ≡ coding_of (value_of (codes "content-transfer-encoding:") (texts block.now)) }
 {

@@ -1,10 +1,10 @@
 // A parameter's value as far as a boundary can hold it.
 ghost use Rattle.std.specs.Prelude.{◌≡◌, ◌++◌, ◌∷◌, [], ℕ, List, length, Some};
 ghost use Rattle.mime_fields.specs.Holding.{held};
-ghost use Rattle.mail_model.specs.Fields.{multipart, is_boundary, is_printing};
+ghost use Rattle.model_mime.specs.Fields.{multipart, is_boundary, is_printing};
 ghost use Rattle.std.specs.List.{list_all};
 
-use mdbox_base::{Boundary, Kind};
+use model_mime::{Boundary, Kind};
 
 /// The value of a parameter. One of more than 70 octets is no boundary, so these aren't kept.
 #[derive(Drop)]
@@ -58,7 +58,7 @@ impl Held {
 }
 
 /// Whether a text is a boundary: 1 to 70 printing octets, of which the last is no space.
-#[tactic(auto, unfolding(mail_model::specs::Fields::is_boundary))]
+#[tactic(auto, unfolding(model_mime::specs::Fields::is_boundary))]
 fn is_boundary(text: &[u8]) -> bool
     ensures { result ≡ is_boundary text.now }
 {

@@ -1,8 +1,8 @@
 // Lines of a text.
 ghost use Rattle.std.specs.Prelude.{◌≡◌, ◌≤◌, ◌<◌, ◌↔◌, ℕ, length, take, slice_index, ◌+◌, IsNone, IfSome};
-ghost use Rattle.mail_model.specs.Lines.{content, IsLineAt};
+ghost use Rattle.model_mime.specs.Lines.{content, IsLineAt};
 
-use mdbox_base::Line;
+use model_mime::Line;
 use memchr::memchr;
 
 /// The line that starts at a place, where the text goes on there.

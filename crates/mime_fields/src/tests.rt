@@ -1,6 +1,6 @@
 // Tests of lines and header fields.
 use crate::{next_line, read_fields};
-use mdbox_base::{Coding, Kind, Line};
+use model_mime::{Coding, Kind, Line};
 use std::test::Fail;
 
 /// A kind's name.

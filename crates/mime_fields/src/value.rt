@@ -1,14 +1,14 @@
 // The value of a header field, read octet by octet.
 ghost use Rattle.std.specs.Prelude.{◌≡◌, ◌≤◌, ◌<◌, ◌∷◌, ◌++◌, [], ℕ, List, length, take, drop, IfSome, IfNone, MatchBool, Some, None, IsTrue, ◌≢◌, take_while, suc};
-ghost use Rattle.mail_model.specs.Lines.{texts, is_blank};
-ghost use Rattle.mail_model.specs.Fields.{continuation, behind_blanks, behind, ends_parameter, token, is_token, quoted, with_octet, parameter_value, parameter, boundary_among, multipart, kind_by, typed, boundary_behind, coding_of, is_word};
+ghost use Rattle.model_mime.specs.Lines.{texts, is_blank};
+ghost use Rattle.model_mime.specs.Fields.{continuation, behind_blanks, behind, ends_parameter, token, is_token, quoted, with_octet, parameter_value, parameter, boundary_among, multipart, kind_by, typed, boundary_behind, coding_of, is_word};
 ghost use Rattle.mime_fields.specs.Alone.{is_alone};
 ghost use Rattle.mime_fields.specs.Reading.{IsHeld, IsParameter};
 ghost use Rattle.mime_fields.specs.Holding.{held};
 
 use crate::held::{Held, hold};
 use crate::lines::next_line;
-use mdbox_base::{Coding, Kind};
+use model_mime::{Coding, Kind};
 use std::marker::Model;
 
 /// What is left of a field's value: of the line that it stands in, and the lines behind.
@@ -230,7 +230,7 @@ impl<'a> Value<'a> {
     }
 
     /// The kind by the type, where its parameters are left.
-    #[tactic(auto, unfolding(mail_model::specs::Fields::kind_by))]
+    #[tactic(auto, unfolding(model_mime::specs::Fields::kind_by))]
     fn kind_by(&mut self, main: &[u8]) -> Kind
         ensures { result ≡ kind_by main.now self.old }
     {
@@ -261,7 +261,7 @@ impl<'a> Value<'a> {
     }
 
     /// What a Content-Transfer-Encoding says.
-    #[tactic(auto, unfolding(mail_model::specs::Fields::coding_of))]
+    #[tactic(auto, unfolding(model_mime::specs::Fields::coding_of))]
     pub fn coding(&mut self) -> Coding
         ensures { result ≡ coding_of (Some self.old) }
     {
@@ -274,7 +274,7 @@ impl<'a> Value<'a> {
     }
 
     /// What a Content-Type says. None where it isn't a type, a slash, a subtype, and the end or a semicolon.
-    #[tactic(auto, unfolding(mail_model::specs::Fields::typed))]
+    #[tactic(auto, unfolding(model_mime::specs::Fields::typed))]
     pub fn kind(&mut self) -> Option<Kind>
         ensures { result ≡ typed self.old }
     {

@@ -6,8 +6,8 @@ use Rattle.std.specs.Str.{bytes_eq}
 use Rattle.std.proofs.lemmas.Bool.Decides.{nat_tests}
 use Rattle.std.proofs.lemmas.List.{take-append-drop, length-drop}
 use Rattle.std.proofs.Math.Seq.{take-length}
-use Rattle.mail_model.specs.Lines.{is_blank}
-use Rattle.mail_model.specs.Parts.{has_mark, is_delimiter, is_closing, ends_part}
+use Rattle.model_mime.specs.Lines.{is_blank}
+use Rattle.model_mime.specs.Parts.{has_mark, is_delimiter, is_closing, ends_part}
 
 and_true : (x y : Bool) → (x && y) ≡ true → (x ≡ true) × (y ≡ true)
 and_true true y e = (refl, e)

@@ -6,16 +6,16 @@ use Rattle.std.proofs.lemmas.Bool.Decides.{nat_tests, leb_tells}
 use Rattle.std.proofs.lemmas.List.{length-map, length-take-le, length-drop, nil_from_length, take-append-drop, map-append}
 use Rattle.std.proofs.Math.Seq.{drop-cons}
 use Rattle.std.proofs.lemmas.List.Folds.{list_any-append}
-use Rattle.mdbox_base.specs.declared.mime.Coding.{Coding}
-use Rattle.mdbox_base.specs.declared.mime.Kind.{Kind}
-use Rattle.mdbox_base.specs.declared.mime.Kind.TheVariants as kinds
-use Rattle.mdbox_base.specs.declared.mime.Fields.{Fields}
-use Rattle.mdbox_base.specs.declared.mime.Part.{Part}
-use Rattle.mdbox_base.specs.declared.mime.Line.{Line}
-use Rattle.mail_model.specs.Lines.{TextLine, lines_from, range, IsLineAt, line_in}
-use Rattle.mail_model.specs.Fields.{fields_of}
-use Rattle.mail_model.specs.Parts.{part_found, Found, found_in, whole_entity, is_too_deep, within_limits, parts_in, part_of, trimmed_size, is_other, ends_part, part_lines, part_end, parts_of}
-use Rattle.mail_model.specs.Parts.Found.{APart}
+use Rattle.model_mime.specs.declared.mime.Coding.{Coding}
+use Rattle.model_mime.specs.declared.mime.Kind.{Kind}
+use Rattle.model_mime.specs.declared.mime.Kind.TheVariants as kinds
+use Rattle.model_mime.specs.declared.mime.Fields.{Fields}
+use Rattle.model_mime.specs.declared.mime.Part.{Part}
+use Rattle.model_mime.specs.declared.mime.Line.{Line}
+use Rattle.model_mime.specs.Lines.{TextLine, lines_from, range, IsLineAt, line_in}
+use Rattle.model_mime.specs.Fields.{fields_of}
+use Rattle.model_mime.specs.Parts.{part_found, Found, found_in, whole_entity, is_too_deep, within_limits, parts_in, part_of, trimmed_size, is_other, ends_part, part_lines, part_end, parts_of}
+use Rattle.model_mime.specs.Parts.Found.{APart}
 use Rattle.mime_parts.specs.ToCome.{open_found, own_end, end_here, to_come}
 use Rattle.mime_parts.specs.Marks.{Says, EndsAt}
 use Rattle.mime_parts.specs.Reading.{found_parts, IsOpen, HasLevel, IsRead, IsSettled, EndsAs, Ended}

@@ -4,14 +4,14 @@ use Rattle.std.specs.Prelude.{flat_map, ◌||◌, ◌==◌}
 use Rattle.std.proofs.Math.Nat.{max-eq_left}
 use Rattle.std.proofs.lemmas.Bool.Decides.{nat_tests}
 use Rattle.std.specs.List.{list_any}
-use Rattle.mdbox_base.specs.declared.mime.Coding.{Coding}
-use Rattle.mdbox_base.specs.declared.mime.Kind.{Kind}
-use Rattle.mdbox_base.specs.declared.mime.Kind.TheVariants as kinds
-use Rattle.mdbox_base.specs.declared.mime.Fields.{Fields}
-use Rattle.mail_model.specs.Lines.{TextLine, range}
-use Rattle.mail_model.specs.Fields.{fields_of}
-use Rattle.mail_model.specs.Parts.{Entity, Found, part_of, is_other, body_lines, head_end, body_start, is_delimiter, is_closing, ends_part, part_lines, part_end, parts_of, found_in, leaf_or_parts, fields_in}
-use Rattle.mail_model.specs.Parts.Found.{APart}
+use Rattle.model_mime.specs.declared.mime.Coding.{Coding}
+use Rattle.model_mime.specs.declared.mime.Kind.{Kind}
+use Rattle.model_mime.specs.declared.mime.Kind.TheVariants as kinds
+use Rattle.model_mime.specs.declared.mime.Fields.{Fields}
+use Rattle.model_mime.specs.Lines.{TextLine, range}
+use Rattle.model_mime.specs.Fields.{fields_of}
+use Rattle.model_mime.specs.Parts.{Entity, Found, part_of, is_other, body_lines, head_end, body_start, is_delimiter, is_closing, ends_part, part_lines, part_end, parts_of, found_in, leaf_or_parts, fields_in}
+use Rattle.model_mime.specs.Parts.Found.{APart}
 use Rattle.mime_parts.specs.ToCome.{open_found, own_end, end_here, to_come}
 use Rattle.mime_parts.specs.declared.reader.Place.{Place}
 use Rattle.mime_parts.specs.declared.reader.Place.TheVariants as places

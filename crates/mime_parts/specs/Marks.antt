@@ -1,7 +1,7 @@
 -- What a line is to the boundaries that are open.
 use Rattle.std.specs.Prelude.{◌≡◌, ℕ, List, ◌∷◌, ◌++◌, length, true, false}
 use Rattle.std.specs.List.{list_any}
-use Rattle.mail_model.specs.Parts.{ends_part, is_closing, is_delimiter}
+use Rattle.model_mime.specs.Parts.{ends_part, is_closing, is_delimiter}
 use Rattle.mime_parts.specs.declared.mark.Mark.{Mark}
 use Rattle.mime_parts.specs.declared.mark.Mark.TheVariants as marks
 use Rattle.mime_parts.specs.declared.mark.Ending.{Ending}

@@ -1,9 +1,9 @@
 -- The state of the reader, against what is found in the message.
 use Rattle.std.specs.Prelude.{◌≡◌, ◌≢◌, ◌<◌, ◌≤◌, ◌+◌, ℕ, List, [], ◌∷◌, ◌++◌, length, map, drop, Bool, true, false, Option, Some, None}
-use Rattle.mdbox_base.specs.declared.mime.Part.{Part}
-use Rattle.mail_model.specs.Lines.{lines_from}
-use Rattle.mail_model.specs.Parts.{Found, found_in, whole_entity}
-use Rattle.mail_model.specs.Parts.Found.{APart}
+use Rattle.model_mime.specs.declared.mime.Part.{Part}
+use Rattle.model_mime.specs.Lines.{lines_from}
+use Rattle.model_mime.specs.Parts.{Found, found_in, whole_entity}
+use Rattle.model_mime.specs.Parts.Found.{APart}
 use Rattle.mime_parts.specs.ToCome.{to_come, open_found}
 use Rattle.mime_parts.specs.declared.reader.Place.{Place}
 use Rattle.mime_parts.specs.declared.reader.Place.TheVariants as places

@@ -1,8 +1,8 @@
 -- Reading a message line by line: what is still to be found.
 use Rattle.std.specs.Prelude.{ℕ, zero, suc, min, max, List, [], ◌∷◌, ◌++◌, flat_map}
-use Rattle.mail_model.specs.Lines.{TextLine}
-use Rattle.mail_model.specs.Parts.{Found, part_of, part_lines, part_end, parts_of, found_in}
-use Rattle.mail_model.specs.Parts.Found.{APart}
+use Rattle.model_mime.specs.Lines.{TextLine}
+use Rattle.model_mime.specs.Parts.{Found, part_of, part_lines, part_end, parts_of, found_in}
+use Rattle.model_mime.specs.Parts.Found.{APart}
 use Rattle.mime_parts.specs.declared.reader.Place.{Place}
 use Rattle.mime_parts.specs.declared.reader.Place.TheVariants as places
 

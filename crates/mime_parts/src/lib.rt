@@ -7,9 +7,10 @@ mod reader;
 mod tests;
 
 ghost use Rattle.std.specs.Prelude.{◌≡◌, ◌≤◌, length, IfOk};
-ghost use Rattle.mail_model.specs.Parts.{parts_in};
+ghost use Rattle.model_mime.specs.Parts.{parts_in};
 
-use mdbox_base::{NoMemory, Part, Seq};
+use mdbox_base::{NoMemory, Seq};
+use model_mime::Part;
 use reader::Reader;
 use std::alloc::Global;
 

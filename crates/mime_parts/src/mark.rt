@@ -1,10 +1,10 @@
 // Delimiter lines and closing lines.
 ghost use Rattle.std.specs.Prelude.{◌≡◌, ◌++◌, ◌<◌, List, ℕ, length, true, false, IfSome, IfNone};
 ghost use Rattle.std.specs.List.{list_all};
-ghost use Rattle.mail_model.specs.Lines.{is_blank};
+ghost use Rattle.model_mime.specs.Lines.{is_blank};
 ghost use Rattle.mime_parts.specs.Marks.{Says, Ends};
 
-use mdbox_base::Boundary;
+use model_mime::Boundary;
 
 /// What a line is to a boundary.
 #[derive(Clone, Copy, Debug, PartialEq, Eq)]

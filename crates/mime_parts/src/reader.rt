@@ -1,15 +1,16 @@
 // The reader of a message, line by line, with a stack of boundaries.
 ghost use Rattle.std.specs.Prelude.{◌≡◌, ◌≤◌, ◌<◌, ◌+◌, ◌-◌, ◌==◌, if◌then◌else◌, ℕ, List, [], length, take, Some, None, IfOk, IfSome, IfNone, MatchBool, true, false};
 ghost use Rattle.std.specs.List.{list_any};
-ghost use Rattle.mail_model.specs.Lines.{range, IsLineAt};
-ghost use Rattle.mail_model.specs.Parts.{ends_part, part_of, trimmed_size, parts_in};
+ghost use Rattle.model_mime.specs.Lines.{range, IsLineAt};
+ghost use Rattle.model_mime.specs.Parts.{ends_part, part_of, trimmed_size, parts_in};
 ghost use Rattle.mime_parts.specs.Marks.{Says, EndsAt};
 ghost use Rattle.mime_parts.specs.ToCome.{own_end};
 ghost use Rattle.mime_parts.specs.declared.mark.Mark.{Mark};
 ghost use Rattle.mime_parts.specs.Reading.{IsRead, IsSettled, EndsAs, Flushes, Ended};
 
 use crate::mark::{Ending, ending_of};
-use mdbox_base::{Boundary, Coding, Kind, Line, NoMemory, Part, Seq};
+use mdbox_base::{NoMemory, Seq};
+use model_mime::{Boundary, Coding, Kind, Line, Part};
 use mime_fields::{next_line, read_fields};
 use std::alloc::Global;
 

@@ -1,6 +1,6 @@
 // Tests of the parts of a message.
 use crate::leaf_parts;
-use mdbox_base::{Coding, Part};
+use model_mime::{Coding, Part};
 use std::test::Fail;
 
 /// Structures of mail, with the ranges of their leaves.

@@ -3,9 +3,9 @@ use Rattle.std.proofs.Common.{◌≡◌, ◌<◌, ◌≤◌, ℕ, zero, suc, max
 use Rattle.std.specs.Prelude.{nat_le, is_some, is_none, All, fold}
 use Rattle.std.proofs.lemmas.Grind.{common_steps}
 use Rattle.mdbox_base.specs.declared.replies.Refusal.TheVariants.{NoMailbox, Exists, NoMessage, TooManyCopies, MailboxFull, TooManyMailboxes, StoreFull}
-use Rattle.mail_model.specs.Lists.{ListedMessage, Mailbox, Lists, refs_of}
-use Rattle.mail_model.specs.MapMeaning.{count_of, greatest}
-use Rattle.mail_model.specs.Machine.{Run, First, Last, first_refusal, make_checks, copy_checks, mailbox_named, message_at}
+use Rattle.model_lists.specs.Lists.{ListedMessage, Mailbox, Lists, refs_of}
+use Rattle.model_meaning.specs.MapMeaning.{count_of, greatest}
+use Rattle.list_machine.specs.Machine.{Run, First, Last, first_refusal, make_checks, copy_checks, mailbox_named, message_at}
 use Rattle.plain_lists.specs.AtOnce.{IsAlone}
 
 le_true : (m n : ℕ) → m ≤ n → nat_le m n ≡ true

@@ -4,9 +4,9 @@ use Rattle.mdbox_base.specs.declared.requests.Request.{Request}
 use Rattle.mdbox_base.specs.declared.requests.Request.TheVariants as request
 use Rattle.mdbox_base.specs.declared.replies.Reply.{Reply}
 use Rattle.mdbox_base.specs.declared.replies.Reply.TheVariants as reply
-use Rattle.mail_model.specs.Lists.{Lists, refs_of}
-use Rattle.mail_model.specs.MapMeaning.{count_of, greatest}
-use Rattle.mail_model.specs.Machine.{Run, First, Last, Answers, first_refusal, checks_of}
+use Rattle.model_lists.specs.Lists.{Lists, refs_of}
+use Rattle.model_meaning.specs.MapMeaning.{count_of, greatest}
+use Rattle.list_machine.specs.Machine.{Run, First, Last, Answers, first_refusal, checks_of}
 
 -- The run has nothing but these lists: the count that is kept of each GUID is its references, and the highest mailbox
 -- number, of the map and of those drawn, is the greatest in use.

@@ -1,6 +1,6 @@
 -- The lists that vectors stand for.
 use Rattle.std.specs.Prelude.{map}
-use Rattle.mail_model.specs.Lists.{ListedMessage, Mailbox}
+use Rattle.model_lists.specs.Lists.{ListedMessage, Mailbox}
 use Rattle.plain_lists.specs.declared.lists.PlainMessage.{PlainMessage}
 use Rattle.plain_lists.specs.declared.lists.PlainMailbox.{PlainMailbox}
 

@@ -33,7 +33,7 @@ pub struct PlainLists {
 
 impl Model for PlainLists {
     ghost use Rattle.std.specs.Prelude.{map};
-    ghost use Rattle.mail_model.specs.Lists.{Mailbox, Lists};
+    ghost use Rattle.model_lists.specs.Lists.{Mailbox, Lists};
     ghost use Rattle.plain_lists.specs.View.{mailbox_of};
 
     ghost Value = { Lists };

@@ -1,6 +1,6 @@
 // A message more in a mailbox.
 ghost use Rattle.std.specs.Prelude.{◌≡◌, ◌≤◌, IfOk, OnOk, OnErr};
-ghost use Rattle.mail_model.specs.Machine.{add_last};
+ghost use Rattle.list_machine.specs.Machine.{add_last};
 ghost use Rattle.plain_lists.specs.View.{message_of, mailbox_of};
 
 use crate::lists::{PlainMailbox, PlainMessage};

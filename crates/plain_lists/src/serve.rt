@@ -1,7 +1,7 @@
 // The steps of the list machine.
 ghost use Rattle.std.specs.Prelude.{◌≡◌, ℕ, IfOk, OnErr};
 ghost use Rattle.mdbox_base.specs.declared.requests.Request.TheVariants as request;
-ghost use Rattle.mail_model.specs.Machine.{Run, Answers, First, Last, SecondHalf};
+ghost use Rattle.list_machine.specs.Machine.{Run, Answers, First, Last, SecondHalf};
 ghost use Rattle.plain_lists.specs.AtOnce.{IsAlone, AnswersAtOnce};
 
 use crate::lists::{PlainLists, PlainMailbox};

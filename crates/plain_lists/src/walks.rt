@@ -1,9 +1,9 @@
 // Walks over vectors.
 ghost use Rattle.std.specs.Prelude.{◌≡◌, ◌≤◌, ◌==◌, ◌^◌, ◌-◌, ℕ, min, List, length, map, position, count_by, IfOk};
 ghost use Rattle.std.specs.Str.{bytes_eq};
-ghost use Rattle.mail_model.specs.Lists.{refs_of};
-ghost use Rattle.mail_model.specs.Machine.{row_of, has_name, has_uid};
-ghost use Rattle.mail_model.specs.MapMeaning.{greatest};
+ghost use Rattle.model_lists.specs.Lists.{refs_of, row_of};
+ghost use Rattle.list_machine.specs.Machine.{has_name, has_uid};
+ghost use Rattle.model_meaning.specs.MapMeaning.{greatest};
 ghost use Rattle.plain_lists.specs.View.{message_of, mailbox_of};
 
 use crate::lists::{PlainMailbox, PlainMessage};

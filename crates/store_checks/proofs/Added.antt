@@ -7,9 +7,9 @@ use Rattle.mdbox_base.specs.declared.ids.MapUid.{MapUid}
 use Rattle.mdbox_base.specs.declared.ids.Guid.{Guid}
 use Rattle.mdbox_base.specs.declared.entries.BoxEntry.{BoxEntry}
 use Rattle.mdbox_base.specs.declared.entries.BoxEntry.TheVariants as box
-use Rattle.mail_model.specs.Rows.{row_behind, rows_of}
-use Rattle.mail_model.specs.BoxMeaning.{LogRow, row_rules, row_made, row_removed, row_changed, rows_after}
-use Rattle.mail_model.specs.BoxSoundLaws.{changed_uid}
+use Rattle.model_meaning.specs.Rows.{row_behind, rows_of}
+use Rattle.model_meaning.specs.BoxMeaning.{LogRow, row_rules, row_made, row_removed, row_changed, rows_after}
+use Rattle.model_meaning.proofs.BoxSoundLemmas.{changed_uid}
 use Rattle.store_checks.specs.Bare.{added_uid}
 
 -- the fields of an entry that adds the message with this UID

@@ -10,13 +10,13 @@ use Rattle.disk_model.specs.declared.name.FileName.TheVariants as file
 use Rattle.disk_model.proofs.Moments.{if_told-map, if_told-both}
 use Rattle.mdbox_base.specs.declared.entries.BoxEntry.{BoxEntry}
 use Rattle.mdbox_base.specs.declared.entries.MapEntry.{MapEntry}
-use Rattle.mail_model.specs.BoxMeaning.{box_meaning, rows_after}
-use Rattle.mail_model.specs.MapMeaning.{MapMeaning, map_meaning, named}
-use Rattle.mail_model.specs.GoodLogs.{AreGoodLogs}
-use Rattle.mail_model.specs.Settled.{files_of}
-use Rattle.mail_model.specs.Stands.{HasRoot, HasMap}
-use Rattle.mail_model.specs.Safe.{LiesInFile, IsThereWhole}
-use Rattle.mail_model.specs.Opening.{AreMapEntries, HasItsRecord, PassLogs, PassBoxes, listed_of, IsCounted, IsMiscounted, IsFirstCutOff, IsFirstMissing, Opens, IsBadMapLog, IsBadBox, IsDamaged}
+use Rattle.model_meaning.specs.BoxMeaning.{box_meaning, rows_after}
+use Rattle.model_meaning.specs.MapMeaning.{MapMeaning, map_meaning, named}
+use Rattle.model_store.specs.GoodLogs.{AreGoodLogs}
+use Rattle.model_store.specs.Settled.{files_of}
+use Rattle.model_store.specs.Stands.{HasRoot, HasMap}
+use Rattle.model_store.specs.Safe.{LiesInFile, IsThereWhole}
+use Rattle.model_store.specs.Opening.{AreMapEntries, HasItsRecord, PassLogs, PassBoxes, listed_of, IsCounted, IsMiscounted, IsFirstCutOff, IsFirstMissing, Opens, IsBadMapLog, IsBadBox, IsDamaged}
 use Rattle.gate_log.specs.Log.{Idle}
 use Rattle.gate_log.specs.State.{Found}
 use Rattle.gate_log.proofs.Idling.{idle-back}

@@ -4,7 +4,7 @@ use Rattle.std.specs.Prelude.{count_by, cond}
 use Rattle.std.proofs.lemmas.Option.{slice_get_within, get_or_from_slice_get}
 use Rattle.std.proofs.lemmas.List.Sums.{count_by_more_yes, count_by_more_no, sum_by-take-le}
 use Rattle.std.specs.Option.{option_map}
-use Rattle.mail_model.specs.MapMeaning.{MapRecord, MapMeaning}
+use Rattle.model_meaning.specs.MapMeaning.{MapRecord, MapMeaning}
 use Rattle.map_index.specs.Shown.{shown}
 use Rattle.map_index.specs.declared.rows.MapRow.{MapRow}
 use Rattle.store_checks.specs.declared.mailbox.CheckedBox.{CheckedBox}

@@ -8,14 +8,14 @@ use Rattle.std.proofs.lemmas.Option.{slice_get-map, slice_get_within, slice_get_
 use Rattle.std.proofs.lemmas.List.Elements.{All-from_recursion, All-contains_itself}
 use Rattle.mdbox_base.specs.declared.entries.BoxEntry.{BoxEntry}
 use Rattle.mdbox_base.specs.declared.entries.BoxEntry.TheVariants as box
-use Rattle.mail_model.specs.LogFile.{end_from, log_end, record_places}
-use Rattle.mail_model.specs.BoxMeaning.{LogRow, BoxMeaning, box_meaning, row_at, rows_after}
-use Rattle.mail_model.specs.BoxSoundLaws.{box_sound}
-use Rattle.mail_model.specs.MapMeaning.{MapMeaning}
-use Rattle.mail_model.specs.Entries.{box_text, BoxInRange}
-use Rattle.mail_model.specs.EntryLaws.{box_one}
-use Rattle.mail_model.specs.PairLaws.{found_holds}
-use Rattle.mail_model.specs.Opening.{AreBoxEntries, HasItsRecord, IsBare}
+use Rattle.model_logs.specs.LogFile.{end_from, log_end, record_places}
+use Rattle.model_meaning.specs.BoxMeaning.{LogRow, BoxMeaning, box_meaning, row_at, rows_after}
+use Rattle.model_meaning.proofs.BoxSoundLemmas.{box_sound}
+use Rattle.model_meaning.specs.MapMeaning.{MapMeaning}
+use Rattle.model_logs.specs.Entries.{box_text, BoxInRange}
+use Rattle.model_logs.proofs.EntryLemmas.{box_one}
+use Rattle.model_octets.proofs.PairLemmas.{found_holds}
+use Rattle.model_store.specs.Opening.{AreBoxEntries, HasItsRecord, IsBare}
 use Rattle.store_checks.specs.Folds.{IsBoxFold}
 use Rattle.store_checks.specs.Bare.{added_uid, AddsBare, AddsNoBare, IsFirstBare}
 use Rattle.store_checks.proofs.Added.{Added, added, HasAdded, rows_added}

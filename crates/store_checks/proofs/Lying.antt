@@ -11,10 +11,10 @@ use Rattle.disk_model.specs.declared.name.FileName.{FileName}
 use Rattle.disk_model.specs.declared.name.FileName.TheVariants as file
 use Rattle.disk_model.proofs.Moments.{if_told-all, if_told-map, if_told-both}
 use Rattle.mdbox_base.specs.declared.entries.InstRow.{InstRow}
-use Rattle.mail_model.specs.Settled.{files_of}
-use Rattle.mail_model.specs.Safe.{LiesInFile, IsThereWhole}
-use Rattle.mail_model.specs.MapMeaning.{MapRecord, MapMeaning, named}
-use Rattle.mail_model.specs.Opening.{IsFirstCutOff, IsFirstMissing}
+use Rattle.model_store.specs.Settled.{files_of}
+use Rattle.model_store.specs.Safe.{LiesInFile, IsThereWhole}
+use Rattle.model_meaning.specs.MapMeaning.{MapRecord, MapMeaning, named}
+use Rattle.model_store.specs.Opening.{IsFirstCutOff, IsFirstMissing}
 use Rattle.gate_log.specs.Log.{Idle}
 use Rattle.gate_log.proofs.Idling.{idle-back}
 use Rattle.store_checks.specs.declared.regions.Region.{Region}

@@ -7,15 +7,15 @@ use Rattle.disk_model.specs.Disk.{Files, DiskState, History, IfTold}
 use Rattle.disk_model.specs.declared.name.FileName.{FileName}
 use Rattle.disk_model.specs.declared.name.FileName.TheVariants as file
 use Rattle.disk_model.proofs.Moments.{if_told-all, if_told-both}
-use Rattle.mdbox_base.specs.declared.log_head.LogHead.{LogHead}
-use Rattle.mdbox_base.specs.declared.log_head.LogKind.TheVariants as kind
+use Rattle.model_logs.specs.declared.log_head.LogHead.{LogHead}
+use Rattle.model_logs.specs.declared.log_head.LogKind.TheVariants as kind
 use Rattle.mdbox_base.specs.declared.entries.BoxEntry.{BoxEntry}
-use Rattle.mail_model.specs.BoxMeaning.{BoxMeaning, box_meaning, rows_after}
-use Rattle.mail_model.specs.MapMeaning.{MapBox, MapMeaning}
-use Rattle.mail_model.specs.Entries.{box_text}
-use Rattle.mail_model.specs.Settled.{files_of}
-use Rattle.mail_model.specs.Stands.{head_of, HasLog}
-use Rattle.mail_model.specs.Opening.{HasItsRecord, PassesBox, PassBoxes, IsBadLog, LacksRecord, AreBoxEntries}
+use Rattle.model_meaning.specs.BoxMeaning.{BoxMeaning, box_meaning, rows_after}
+use Rattle.model_meaning.specs.MapMeaning.{MapBox, MapMeaning}
+use Rattle.model_logs.specs.Entries.{box_text}
+use Rattle.model_store.specs.Settled.{files_of}
+use Rattle.model_store.specs.Stands.{head_of, HasLog}
+use Rattle.model_store.specs.Opening.{HasItsRecord, PassesBox, PassBoxes, IsBadLog, LacksRecord, AreBoxEntries}
 use Rattle.gate_log.specs.State.{Found}
 use Rattle.gate_log.specs.Log.{Idle, IsFound}
 use Rattle.gate_log.proofs.Idling.{idle-told, idle-back}

@@ -3,10 +3,10 @@ use Rattle.std.proofs.Common.{◌≡◌, inl, inr, ℕ, ◌+◌, ◌≤◌, List
 use Rattle.std.proofs.lemmas.List.{take-append-drop, length-take-le}
 use Rattle.std.proofs.Math.Seq.{take-append-add}
 use Rattle.std.proofs.lemmas.List.Elements.{All-nil, All-head}
-use Rattle.mdbox_base.specs.declared.log_head.LogHead.{LogHead}
-use Rattle.mail_model.specs.LogFile.{HeadFits, head_octets, record_octets, EntryFits, opened, log_front, IsLog, IsDamagedAt}
-use Rattle.mail_model.specs.LogFileLaws.{head_length, not_both}
-use Rattle.mail_model.specs.Opening.{HasClosedHead, HasNoEntry}
+use Rattle.model_logs.specs.declared.log_head.LogHead.{LogHead}
+use Rattle.model_logs.specs.LogFile.{HeadFits, head_octets, record_octets, EntryFits, opened, log_front, IsLog, IsDamagedAt}
+use Rattle.model_logs.proofs.LogFileLemmas.{head_length, not_both}
+use Rattle.model_store.specs.Opening.{HasClosedHead, HasNoEntry}
 
 no_more : (head : LogHead) (entry : List ℕ) (entries : List (List ℕ)) (gate : ℕ) (behind octets : List ℕ) → HeadFits head → length octets ≡ 27
     → octets ≡ log_front head (entry ∷ entries) ++ gate ∷ behind → EntryFits entry → ⊥

@@ -4,8 +4,8 @@ use Rattle.std.proofs.lemmas.Option.{slice_get_within}
 use Rattle.disk_model.specs.Disk.{History, IfTold, reading}
 use Rattle.disk_model.proofs.Moments.{if_told-map}
 use Rattle.disk_model.specs.declared.name.FileName.{FileName}
-use Rattle.mdbox_base.specs.declared.log_head.LogHead.{LogHead}
-use Rattle.mail_model.specs.LogFile.{IsLog, end_from, log_end, places_from, record_places}
+use Rattle.model_logs.specs.declared.log_head.LogHead.{LogHead}
+use Rattle.model_logs.specs.LogFile.{IsLog, end_from, log_end, places_from, record_places}
 use Rattle.gate_log.specs.Reading.{IsReading}
 use Rattle.gate_log.specs.declared.read.LogRead.{LogRead}
 use Rattle.store_checks.specs.Logs.{IsRefusedAt, IsBadFold}

@@ -3,14 +3,14 @@ use Rattle.std.proofs.Common.{◌≡◌, ◌+◌, ℕ, List, [], ◌∷◌, ◌+
 use Rattle.disk_model.specs.Disk.{DiskState, History, IfTold, reading}
 use Rattle.disk_model.specs.declared.name.FileName.{FileName}
 use Rattle.disk_model.proofs.Moments.{if_told-map}
-use Rattle.mdbox_base.specs.declared.log_head.LogHead.{LogHead}
-use Rattle.mail_model.specs.LogFile.{log_end, IsLog}
-use Rattle.mail_model.specs.BoxMeaning.{BoxMeaning}
-use Rattle.mail_model.specs.MapMeaning.{MapBox, MapMeaning}
-use Rattle.mail_model.specs.Entries.{box_text}
-use Rattle.mail_model.specs.Settled.{files_of}
-use Rattle.mail_model.specs.Stands.{HasLog}
-use Rattle.mail_model.specs.Opening.{AreBoxEntries, IsBadLog}
+use Rattle.model_logs.specs.declared.log_head.LogHead.{LogHead}
+use Rattle.model_logs.specs.LogFile.{log_end, IsLog}
+use Rattle.model_meaning.specs.BoxMeaning.{BoxMeaning}
+use Rattle.model_meaning.specs.MapMeaning.{MapBox, MapMeaning}
+use Rattle.model_logs.specs.Entries.{box_text}
+use Rattle.model_store.specs.Settled.{files_of}
+use Rattle.model_store.specs.Stands.{HasLog}
+use Rattle.model_store.specs.Opening.{AreBoxEntries, IsBadLog}
 use Rattle.gate_log.specs.Reading.{IsReading}
 use Rattle.gate_log.specs.State.{Found}
 use Rattle.gate_log.specs.Log.{IsFound}

@@ -6,10 +6,10 @@ use Rattle.std.proofs.Math.Seq.{take-append-add}
 use Rattle.disk_model.specs.Disk.{DiskState, History, IfTold, reading}
 use Rattle.disk_model.specs.declared.name.FileName.TheVariants as file
 use Rattle.disk_model.proofs.Moments.{if_told-map}
-use Rattle.mail_model.specs.LogFile.{head_octets}
-use Rattle.mail_model.specs.LogFileLaws.{head_length}
-use Rattle.mail_model.specs.Settled.{files_of}
-use Rattle.mail_model.specs.Opening.{HasClosedHead, HasNoEntry}
+use Rattle.model_logs.specs.LogFile.{head_octets}
+use Rattle.model_logs.proofs.LogFileLemmas.{head_length}
+use Rattle.model_store.specs.Settled.{files_of}
+use Rattle.model_store.specs.Opening.{HasClosedHead, HasNoEntry}
 use Rattle.store_checks.specs.Roots.{HasId}
 
 -- 27 octets tell whether there is an entry

@@ -3,17 +3,17 @@ use Rattle.std.proofs.Common.{◌≡◌, ◌+◌, ℕ, List, [], ◌∷◌, ◌+
 use Rattle.disk_model.specs.Disk.{DiskState, History, IfTold, reading}
 use Rattle.disk_model.specs.declared.name.FileName.TheVariants as file
 use Rattle.disk_model.proofs.Moments.{if_told-all, if_told-map, if_told-both}
-use Rattle.mdbox_base.specs.declared.log_head.LogHead.{LogHead}
+use Rattle.model_logs.specs.declared.log_head.LogHead.{LogHead}
 use Rattle.mdbox_base.specs.declared.entries.RootEntry.{RootEntry}
 use Rattle.mdbox_base.specs.declared.entries.MapEntry.{MapEntry}
-use Rattle.mail_model.specs.MapMeaning.{MapMeaning, map_meaning}
-use Rattle.mail_model.specs.MapFits.{IsNumber}
-use Rattle.mail_model.specs.LogFile.{head_octets, IsLog}
-use Rattle.mail_model.specs.LogFileLaws.{head_length}
-use Rattle.mail_model.specs.Entries.{root_text, map_text}
-use Rattle.mail_model.specs.Settled.{files_of}
-use Rattle.mail_model.specs.Stands.{HasLog}
-use Rattle.mail_model.specs.Opening.{HasNoEntry, root_head, IsBadLog, AreRootEntries, IsBadMapLog, AreMapEntries}
+use Rattle.model_meaning.specs.MapMeaning.{MapMeaning, map_meaning}
+use Rattle.mdbox_base.specs.Words.{IsNumber}
+use Rattle.model_logs.specs.LogFile.{head_octets, IsLog}
+use Rattle.model_logs.proofs.LogFileLemmas.{head_length}
+use Rattle.model_logs.specs.Entries.{root_text, map_text}
+use Rattle.model_store.specs.Settled.{files_of}
+use Rattle.model_store.specs.Stands.{HasLog}
+use Rattle.model_store.specs.Opening.{HasNoEntry, root_head, IsBadLog, AreRootEntries, IsBadMapLog, AreMapEntries}
 use Rattle.gate_log.specs.Reading.{IsReading}
 use Rattle.gate_log.specs.State.{Found}
 use Rattle.gate_log.specs.Log.{Idle, IsFound}

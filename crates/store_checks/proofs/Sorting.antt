@@ -11,7 +11,7 @@ use Rattle.std.specs.List.{flat_map}
 use Rattle.std.specs.Prelude.{IsSome}
 use Rattle.std.proofs.lemmas.List.{map-append}
 use Rattle.mdbox_base.specs.declared.entries.InstRow.{InstRow}
-use Rattle.mail_model.specs.MapMeaning.{MapRecord, MapMeaning, record_at}
+use Rattle.model_meaning.specs.MapMeaning.{MapRecord, MapMeaning, record_at}
 use Rattle.map_index.specs.Shown.{shown}
 use Rattle.map_index.specs.declared.rows.MapRow.{MapRow}
 use Rattle.store_checks.specs.declared.regions.Region.{Region}

@@ -5,17 +5,17 @@ use Rattle.std.proofs.lemmas.Option.{MatchOption-at_some, MatchOption-at_none}
 use Rattle.mdbox_base.specs.declared.entries.BoxEntry.{BoxEntry}
 use Rattle.mdbox_base.specs.declared.entries.RootEntry.{RootEntry}
 use Rattle.mdbox_base.specs.declared.entries.RootEntry.TheVariants as root
-use Rattle.mail_model.specs.BoxMeaning.{BoxMeaning, box_meaning, box_applied, BoxFits}
-use Rattle.mail_model.specs.BoxLaws.{box_more}
-use Rattle.mail_model.specs.MapMeaning.{MapMeaning, map_meaning, map_applied}
-use Rattle.mail_model.specs.MapFits.{MapFits}
-use Rattle.mail_model.specs.MapLaws.{map_more}
-use Rattle.mail_model.specs.MapEntryLaws.{map_one}
-use Rattle.mail_model.specs.Opening.{AreMapEntries}
+use Rattle.model_meaning.specs.BoxMeaning.{BoxMeaning, box_meaning, box_applied, BoxFits}
+use Rattle.model_meaning.proofs.BoxLemmas.{box_more}
+use Rattle.model_meaning.specs.MapMeaning.{MapMeaning, map_meaning, map_applied}
+use Rattle.model_meaning.specs.MapFits.{MapFits}
+use Rattle.model_meaning.proofs.MapLemmas.{map_more}
+use Rattle.model_logs.proofs.MapEntryLemmas.{map_one}
+use Rattle.model_store.specs.Opening.{AreMapEntries}
 use Rattle.mdbox_base.specs.declared.entries.MapEntry.{MapEntry}
-use Rattle.mail_model.specs.Entries.{root_text, box_text, map_text, RootInRange, BoxInRange, MapInRange, IsRootText, IsBoxText, IsMapText}
-use Rattle.mail_model.specs.EntryLaws.{box_one}
-use Rattle.mail_model.specs.FitLaws.{each_more, each_of, box_fit_more, box_fit_of, map_fit_more, map_fit_of}
+use Rattle.model_logs.specs.Entries.{root_text, box_text, map_text, RootInRange, BoxInRange, MapInRange, IsRootText, IsBoxText, IsMapText}
+use Rattle.model_logs.proofs.EntryLemmas.{box_one}
+use Rattle.model_meaning.proofs.FitLemmas.{each_more, each_of, box_fit_more, box_fit_of, map_fit_more, map_fit_of}
 use Rattle.store_checks.specs.Folds.{IsRootFold, IsBoxFold, IsMapFold, RefusesRoot, RefusesBox, RefusesMap, generation_of}
 
 more_texts : {E : Type 0} → (text : E → List ℕ) (texts : List (List ℕ)) (entries : List E) (one : List ℕ) (entry : E) → texts ≡ map text entries → one ≡ text entry → texts ++ one ∷ [] ≡ map text (entries ++ entry ∷ [])

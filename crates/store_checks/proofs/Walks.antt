@@ -1,7 +1,7 @@
 -- Walks along a list, by places.
 use Rattle.std.proofs.Common.{◌≡◌, ◌<◌, ◌≤◌, ◌+◌, ◌==◌, ℕ, suc, zero, Bool, cond, List, [], ◌∷◌, ◌++◌, length, map, take, get_or, slice_get, Option, Some, None, All, AllPairs, find, refl, sym, ◌∙◌, ap, subst, arith, take_all, eq-eqb, ne_eqb, append_assoc}
 use Rattle.std.proofs.lemmas.List.{take_more, map-append}
-use Rattle.mail_model.specs.PairLaws.{pairs_head, pairs_tail}
+use Rattle.model_octets.proofs.PairLemmas.{pairs_head, pairs_tail}
 use Rattle.std.proofs.lemmas.Option.{slice_get_within, get_or_from_slice_get, slice_get-get_or}
 use Rattle.std.proofs.lemmas.List.Elements.{All-nil, All-cons, All-more}
 use Rattle.std.specs.Prelude.{IsSome, Contains}

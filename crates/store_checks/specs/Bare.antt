@@ -2,10 +2,10 @@
 use Rattle.std.specs.Prelude.{◌≡◌, ◌≤◌, ℕ, List, map, Option, Some, None}
 use Rattle.mdbox_base.specs.declared.entries.BoxEntry.{BoxEntry}
 use Rattle.mdbox_base.specs.declared.entries.BoxEntry.TheVariants as box
-use Rattle.mail_model.specs.BoxMeaning.{LogRow, BoxMeaning, box_meaning, row_at}
-use Rattle.mail_model.specs.MapMeaning.{MapMeaning}
-use Rattle.mail_model.specs.Entries.{box_text, IsBoxText}
-use Rattle.mail_model.specs.Opening.{AreBoxEntries, HasItsRecord, IsBare}
+use Rattle.model_meaning.specs.BoxMeaning.{LogRow, BoxMeaning, box_meaning, row_at}
+use Rattle.model_meaning.specs.MapMeaning.{MapMeaning}
+use Rattle.model_logs.specs.Entries.{box_text, IsBoxText}
+use Rattle.model_store.specs.Opening.{AreBoxEntries, HasItsRecord, IsBare}
 
 -- the UID of the message that an entry adds
 abbrev pub added_uid : BoxEntry → Option ℕ

@@ -1,7 +1,7 @@
 -- Mailboxes that were read, and what they list.
 use Rattle.std.specs.Prelude.{◌<◌, ◌≤◌, ◌==◌, ℕ, List, Contains, sum_by, count_by}
-use Rattle.mail_model.specs.BoxMeaning.{BoxMeaning}
-use Rattle.mail_model.specs.MapMeaning.{MapRecord, MapMeaning}
+use Rattle.model_meaning.specs.BoxMeaning.{BoxMeaning}
+use Rattle.model_meaning.specs.MapMeaning.{MapRecord, MapMeaning}
 use Rattle.store_checks.specs.declared.mailbox.CheckedBox.{CheckedBox}
 
 -- how many listed messages of a mailbox, and of mailboxes, have this map uid

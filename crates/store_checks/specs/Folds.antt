@@ -4,10 +4,10 @@ use Rattle.mdbox_base.specs.declared.entries.BoxEntry.{BoxEntry}
 use Rattle.mdbox_base.specs.declared.entries.MapEntry.{MapEntry}
 use Rattle.mdbox_base.specs.declared.entries.RootEntry.{RootEntry}
 use Rattle.mdbox_base.specs.declared.entries.RootEntry.TheVariants as root
-use Rattle.mail_model.specs.BoxMeaning.{BoxMeaning, box_meaning}
-use Rattle.mail_model.specs.MapMeaning.{MapMeaning, map_meaning}
-use Rattle.mail_model.specs.Entries.{root_text, box_text, map_text}
-use Rattle.mail_model.specs.Opening.{AreRootEntries, AreBoxEntries, AreMapEntries}
+use Rattle.model_meaning.specs.BoxMeaning.{BoxMeaning, box_meaning}
+use Rattle.model_meaning.specs.MapMeaning.{MapMeaning, map_meaning}
+use Rattle.model_logs.specs.Entries.{root_text, box_text, map_text}
+use Rattle.model_store.specs.Opening.{AreRootEntries, AreBoxEntries, AreMapEntries}
 
 -- the generation that a root entry names
 abbrev pub generation_of : RootEntry → ℕ

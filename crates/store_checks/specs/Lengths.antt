@@ -5,11 +5,11 @@ use Rattle.std.specs.Ordering.{nat_cmp, is_gt}
 use Rattle.std.specs.Cmp.Lexicographic.{slice_cmp}
 use Rattle.disk_model.specs.Disk.{Files, History, IfTold}
 use Rattle.disk_model.specs.declared.name.FileName.TheVariants as file
-use Rattle.mail_model.specs.Settled.{files_of}
-use Rattle.mail_model.specs.Opening.{IsFirstCutOff, IsFirstMissing}
+use Rattle.model_store.specs.Settled.{files_of}
+use Rattle.model_store.specs.Opening.{IsFirstCutOff, IsFirstMissing}
 use Rattle.store_checks.specs.declared.error.CheckError.{CheckError}
 use Rattle.store_checks.specs.declared.error.CheckError.TheVariants as check
-use Rattle.mail_model.specs.MapMeaning.{MapRecord, MapMeaning, named}
+use Rattle.model_meaning.specs.MapMeaning.{MapRecord, MapMeaning, named}
 use Rattle.mdbox_base.specs.declared.entries.InstRow.{InstRow}
 use Rattle.store_checks.specs.declared.lengths.Asked.{Asked}
 use Rattle.store_checks.specs.declared.regions.Region.{Region}

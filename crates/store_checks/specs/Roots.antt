@@ -2,17 +2,17 @@
 use Rattle.std.specs.Prelude.{◌≡◌, ℕ, List, [], ◌∷◌, ◌++◌, map, take, drop, Option, Some, ⊤}
 use Rattle.disk_model.specs.Disk.{Files, History, IfTold, reading}
 use Rattle.disk_model.specs.declared.name.FileName.TheVariants as file
-use Rattle.mdbox_base.specs.declared.log_head.LogHead.{LogHead}
-use Rattle.mdbox_base.specs.declared.log_head.LogKind.TheVariants as kind
+use Rattle.model_logs.specs.declared.log_head.LogHead.{LogHead}
+use Rattle.model_logs.specs.declared.log_head.LogKind.TheVariants as kind
 use Rattle.mdbox_base.specs.declared.entries.MapEntry.{MapEntry}
 use Rattle.mdbox_base.specs.declared.entries.RootEntry.{RootEntry}
 use Rattle.mdbox_base.specs.declared.entries.RootEntry.TheVariants as root
-use Rattle.mail_model.specs.MapMeaning.{MapMeaning, map_meaning}
-use Rattle.mail_model.specs.MapFits.{IsNumber}
-use Rattle.mail_model.specs.Entries.{root_text, map_text}
-use Rattle.mail_model.specs.Settled.{files_of}
-use Rattle.mail_model.specs.Stands.{head_of, HasLog, HasRoot}
-use Rattle.mail_model.specs.Opening.{HasNoEntry, AreMapEntries, IsBadRoot, IsBadMapLog}
+use Rattle.model_meaning.specs.MapMeaning.{MapMeaning, map_meaning}
+use Rattle.mdbox_base.specs.Words.{IsNumber}
+use Rattle.model_logs.specs.Entries.{root_text, map_text}
+use Rattle.model_store.specs.Settled.{files_of}
+use Rattle.model_store.specs.Stands.{head_of, HasLog, HasRoot}
+use Rattle.model_store.specs.Opening.{HasNoEntry, AreMapEntries, IsBadRoot, IsBadMapLog}
 use Rattle.gate_log.specs.State.{Found}
 use Rattle.store_checks.specs.Boxes.{IsFoundAs}
 use Rattle.store_checks.specs.declared.error.CheckError.{CheckError}

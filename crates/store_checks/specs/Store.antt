@@ -5,12 +5,12 @@ use Rattle.disk_model.specs.declared.name.FileName.TheVariants as file
 use Rattle.mdbox_base.specs.declared.entries.BoxEntry.{BoxEntry}
 use Rattle.mdbox_base.specs.declared.entries.MapEntry.{MapEntry}
 use Rattle.mdbox_base.specs.declared.entries.RootEntry.{RootEntry}
-use Rattle.mail_model.specs.BoxMeaning.{box_meaning}
-use Rattle.mail_model.specs.MapMeaning.{map_meaning}
-use Rattle.mail_model.specs.Entries.{map_text}
-use Rattle.mail_model.specs.GoodLogs.{AreGoodLogs}
-use Rattle.mail_model.specs.Settled.{files_of}
-use Rattle.mail_model.specs.Opening.{HasNoEntry, Opens, IsDamaged}
+use Rattle.model_meaning.specs.BoxMeaning.{box_meaning}
+use Rattle.model_meaning.specs.MapMeaning.{map_meaning}
+use Rattle.model_logs.specs.Entries.{map_text}
+use Rattle.model_store.specs.GoodLogs.{AreGoodLogs}
+use Rattle.model_store.specs.Settled.{files_of}
+use Rattle.model_store.specs.Opening.{HasNoEntry, Opens, IsDamaged}
 use Rattle.store_checks.specs.Boxes.{IsFoundAs, AreFound}
 use Rattle.store_checks.specs.Roots.{root_log_head, root_texts, map_log_head}
 use Rattle.store_checks.specs.declared.check.Checked.{Checked}

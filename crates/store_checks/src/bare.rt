@@ -1,8 +1,8 @@
 // Listed messages without a record of their GUID.
 ghost use Rattle.std.specs.Prelude.{◌≡◌, ◌↔◌, All, IsTrue, IfOk, MatchOption, MatchBool};
 ghost use Rattle.std.specs.Option.{option_map};
-ghost use Rattle.mail_model.specs.LogFile.{record_places};
-ghost use Rattle.mail_model.specs.Opening.{HasItsRecord};
+ghost use Rattle.model_logs.specs.LogFile.{record_places};
+ghost use Rattle.model_store.specs.Opening.{HasItsRecord};
 ghost use Rattle.box_index.specs.Row.{row_of};
 ghost use Rattle.store_checks.specs.Folds.{IsBoxFold};
 ghost use Rattle.store_checks.specs.Bare.{added_uid, LacksAt, HasAt, AddsBare, AddsNoBare, IsFirstBare};

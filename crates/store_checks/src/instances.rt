@@ -1,9 +1,9 @@
 // Instances that records name.
 ghost use Rattle.std.specs.Prelude.{◌≡◌, ◌↔◌, IsTrue, Some, length, All, AllPairs, IsPermutation, IfOk, IfErr, OnOk, IsErrOf};
 ghost use Rattle.disk_model.specs.Disk.{IfTold};
-ghost use Rattle.mail_model.specs.Settled.{files_of};
-ghost use Rattle.mail_model.specs.Safe.{IsThereWhole};
-ghost use Rattle.mail_model.specs.MapMeaning.{named};
+ghost use Rattle.model_store.specs.Settled.{files_of};
+ghost use Rattle.model_store.specs.Safe.{IsThereWhole};
+ghost use Rattle.model_meaning.specs.MapMeaning.{named};
 ghost use Rattle.gate_log.specs.Log.{Idle, ReadsRoseIf};
 ghost use Rattle.store_checks.specs.Lengths.{instance_of, instances_in, IsNamedNoLater, IsInstanceCause};
 

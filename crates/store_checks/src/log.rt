@@ -9,7 +9,7 @@ use crate::error::CheckError;
 use crate::fold::{Fold, fold_entries};
 use disk_model::{Disk, FileName};
 use gate_log::{FoundLog, LogError, LogRead, inspect_log};
-use mdbox_base::LogHead;
+use model_logs::LogHead;
 use std::alloc::Global;
 
 /// Reads the log that has this head, and takes in its entries.

@@ -11,7 +11,8 @@ use box_index::BoxIndex;
 use disk_model::{Disk, FileName};
 use gate_log::FoundLog;
 use map_index::{BoxAt, MapIndex};
-use mdbox_base::{LogHead, LogKind, Seq, StoreId};
+use mdbox_base::{Seq, StoreId};
+use model_logs::{LogHead, LogKind};
 use std::alloc::Global;
 
 /// A mailbox that was read: its log as it was found, and what that means.

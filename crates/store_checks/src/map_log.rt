@@ -1,7 +1,7 @@
 // The map log.
 ghost use Rattle.std.specs.Prelude.{◌↔◌, List, IsTrue, IfOk, IfErr, IsErrOf};
 ghost use Rattle.mdbox_base.specs.declared.entries.MapEntry.{MapEntry};
-ghost use Rattle.mail_model.specs.MapFits.{IsNumber};
+ghost use Rattle.mdbox_base.specs.Words.{IsNumber};
 ghost use Rattle.gate_log.specs.Log.{Idle, ReadsRoseIf};
 ghost use Rattle.store_checks.specs.Roots.{IsMapRead, IsMapCause};
 
@@ -10,7 +10,8 @@ use crate::log::read_log;
 use disk_model::{Disk, FileName};
 use gate_log::FoundLog;
 use map_index::MapIndex;
-use mdbox_base::{LogHead, LogKind, StoreId};
+use mdbox_base::StoreId;
+use model_logs::{LogHead, LogKind};
 use std::alloc::Global;
 
 /// Reads the map log of this generation.

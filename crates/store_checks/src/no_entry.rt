@@ -1,6 +1,6 @@
 // A root log without an entry.
 ghost use Rattle.std.specs.Prelude.{◌↔◌, Some, IsTrue, IfOk};
-ghost use Rattle.mail_model.specs.Opening.{HasNoEntry};
+ghost use Rattle.model_store.specs.Opening.{HasNoEntry};
 
 use gate_log::{LogError, read_log};
 use mdbox_base::NoMemory;

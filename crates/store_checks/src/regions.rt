@@ -1,8 +1,8 @@
 // Regions of records in their storage files.
 ghost use Rattle.std.specs.Prelude.{◌≡◌, ◌↔◌, All, AllPairs, IsPermutation, IsTrue, IfOk, IfErr, OnOk, IsErrOf};
 ghost use Rattle.disk_model.specs.Disk.{IfTold};
-ghost use Rattle.mail_model.specs.Settled.{files_of};
-ghost use Rattle.mail_model.specs.Safe.{LiesInFile};
+ghost use Rattle.model_store.specs.Settled.{files_of};
+ghost use Rattle.model_store.specs.Safe.{LiesInFile};
 ghost use Rattle.gate_log.specs.Log.{Idle, ReadsRoseIf};
 ghost use Rattle.store_checks.specs.Lengths.{regions_in, EndsWithin, IsNoLater, IsRegionCause};
 

@@ -2,7 +2,7 @@
 ghost use Rattle.std.specs.Prelude.{◌≡◌, List, IfOk, IfErr, IsErrOf};
 ghost use Rattle.disk_model.specs.Disk.{IfTold};
 ghost use Rattle.mdbox_base.specs.declared.entries.RootEntry.{RootEntry};
-ghost use Rattle.mail_model.specs.Settled.{files_of};
+ghost use Rattle.model_store.specs.Settled.{files_of};
 ghost use Rattle.gate_log.specs.Log.{Idle, ReadsRoseIf};
 ghost use Rattle.store_checks.specs.Roots.{HasId, IsRootRead, IsRootCause};
 ghost use Rattle.store_checks.specs.RootId.{IsIdCause};
@@ -13,7 +13,8 @@ use crate::log::read_log;
 use crate::no_entry::{ROOT_FRONT, has_no_entry};
 use disk_model::{Disk, DiskError, FileName};
 use gate_log::FoundLog;
-use mdbox_base::{LogHead, LogKind, StoreId};
+use mdbox_base::StoreId;
+use model_logs::{LogHead, LogKind};
 use std::alloc::Global;
 
 /// What a root log says: the store's id, and the generation of the map log in force.

@@ -6,10 +6,10 @@ use Rattle.std.specs.Str.{bytes_eq}
 use Rattle.std.proofs.lemmas.List.Sums.{count_by_more_no, count_by_more_yes, sum_by-cons}
 use Rattle.std.proofs.lemmas.Option.{slice_get-get_or, get_or_from_slice_get}
 use Rattle.std.proofs.Math.Seq.{take-length}
-use Rattle.mail_model.specs.BoxMeaning.{LogRow, BoxMeaning}
-use Rattle.mail_model.specs.Listing.{refs_in}
+use Rattle.model_meaning.specs.BoxMeaning.{LogRow, BoxMeaning}
+use Rattle.model_store.specs.Listing.{refs_in}
 use Rattle.store_core.specs.Value.{indexes_of}
-use Rattle.mail_model.specs.MapMeaning.{MapBox}
+use Rattle.model_meaning.specs.MapMeaning.{MapBox}
 use Rattle.box_index.specs.Row.{row_of}
 use Rattle.box_index.specs.declared.index.BoxRow.{BoxRow}
 use Rattle.store_core.specs.Running.{AreBoxLogs}

@@ -6,10 +6,10 @@ use Rattle.std.specs.Option.{option_map}
 use Rattle.std.proofs.lemmas.Bool.{cond-true, cond-false, ne_eqb, eq-eqb}
 use Rattle.std.proofs.lemmas.List.Elements.{All-head, All-tail}
 use Rattle.mdbox_base.specs.declared.ids.BoxNo.{BoxNo}
-use Rattle.mail_model.specs.PairLaws.{pairs_head, pairs_tail}
-use Rattle.mail_model.specs.BoxMeaning.{BoxMeaning}
-use Rattle.mail_model.specs.MapMeaning.{MapBox, MapMeaning}
-use Rattle.mail_model.specs.Listing.{meaning_named, meaning_numbered}
+use Rattle.model_octets.proofs.PairLemmas.{pairs_head, pairs_tail}
+use Rattle.model_meaning.specs.BoxMeaning.{BoxMeaning}
+use Rattle.model_meaning.specs.MapMeaning.{MapBox, MapMeaning}
+use Rattle.model_store.specs.Listing.{meaning_named, meaning_numbered}
 use Rattle.store_core.specs.Value.{indexes_of}
 use Rattle.store_core.specs.Running.{AreBoxLogs}
 use Rattle.store_core.specs.declared.store.OpenBox.{OpenBox}

@@ -7,11 +7,11 @@ use Rattle.std.proofs.lemmas.Bool.{cond-true, cond-false}
 use Rattle.mdbox_base.specs.declared.entries.BoxEntry.{BoxEntry}
 use Rattle.mdbox_base.specs.declared.replies.ListRow.{ListRow}
 use Rattle.mdbox_base.specs.declared.requests.Request.TheVariants.{List as ListBox}
-use Rattle.mail_model.specs.Lists.{ListedMessage, Mailbox, Lists, refs_of}
-use Rattle.mail_model.specs.Machine.{Run, First, Answers, row_of, mailbox_named}
-use Rattle.mail_model.specs.BoxMeaning.{LogRow, BoxMeaning, box_meaning}
-use Rattle.mail_model.specs.MapMeaning.{MapBox}
-use Rattle.mail_model.specs.Listing.{listed_row, HaveListings, ShowLists, meaning_named, refs_in, listing_of}
+use Rattle.model_lists.specs.Lists.{ListedMessage, Mailbox, Lists, refs_of, row_of}
+use Rattle.list_machine.specs.Machine.{Run, First, Answers, mailbox_named}
+use Rattle.model_meaning.specs.BoxMeaning.{LogRow, BoxMeaning, box_meaning}
+use Rattle.model_meaning.specs.MapMeaning.{MapBox}
+use Rattle.model_store.specs.Listing.{listed_row, HaveListings, ShowLists, meaning_named, refs_in, listing_of}
 
 pub logs_show : (boxes : List MapBox) (logs : List (List BoxEntry)) (lists : Lists) → HaveListings boxes logs lists → ShowLists boxes (map box_meaning logs) lists
 logs_show [] [] [] h = tt

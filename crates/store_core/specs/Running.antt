@@ -2,17 +2,17 @@
 use Rattle.std.specs.Prelude.{◌≡◌, ◌≤◌, ◌+◌, ℕ, Bool, false, List, [], ◌∷◌, map, All, Option, Some, None}
 use Rattle.disk_model.specs.Disk.{History, IfTold}
 use Rattle.disk_model.specs.declared.name.FileName.TheVariants as file
-use Rattle.mdbox_base.specs.declared.log_head.LogKind.TheVariants as kind
+use Rattle.model_logs.specs.declared.log_head.LogKind.TheVariants as kind
 use Rattle.mdbox_base.specs.declared.entries.MapEntry.{MapEntry}
 use Rattle.mdbox_base.specs.declared.entries.BoxEntry.{BoxEntry}
-use Rattle.mail_model.specs.Lists.{Lists}
-use Rattle.mail_model.specs.BoxMeaning.{box_meaning}
-use Rattle.mail_model.specs.MapMeaning.{MapRecord, MapBox, MapMeaning, map_meaning}
-use Rattle.mail_model.specs.Entries.{map_text, box_text}
-use Rattle.mail_model.specs.Stands.{head_of, HasRoot}
-use Rattle.mail_model.specs.Settled.{files_of, IsSettled}
-use Rattle.mail_model.specs.Opening.{Opens, listed_of}
-use Rattle.mail_model.specs.GoodLogs.{AreGoodLogs}
+use Rattle.model_lists.specs.Lists.{Lists}
+use Rattle.model_meaning.specs.BoxMeaning.{box_meaning}
+use Rattle.model_meaning.specs.MapMeaning.{MapRecord, MapBox, MapMeaning, map_meaning}
+use Rattle.model_logs.specs.Entries.{map_text, box_text}
+use Rattle.model_store.specs.Stands.{head_of, HasRoot}
+use Rattle.model_store.specs.Settled.{files_of, IsSettled}
+use Rattle.model_store.specs.Opening.{Opens, listed_of}
+use Rattle.model_store.specs.GoodLogs.{AreGoodLogs}
 use Rattle.gate_log.specs.State.{LogState}
 use Rattle.gate_log.specs.Log.{Reads}
 use Rattle.store_core.specs.Value.{indexes_of}

@@ -2,8 +2,8 @@
 use Rattle.std.specs.Prelude.{ℕ, Bool, List, map}
 use Rattle.std.specs.declared.alloc.Global.{Global}
 use Rattle.gate_log.specs.State.{LogState}
-use Rattle.mail_model.specs.BoxMeaning.{BoxMeaning}
-use Rattle.mail_model.specs.MapMeaning.{MapMeaning}
+use Rattle.model_meaning.specs.BoxMeaning.{BoxMeaning}
+use Rattle.model_meaning.specs.MapMeaning.{MapMeaning}
 use Rattle.store_core.specs.declared.store.OpenBox.{OpenBox}
 
 -- The allocator that it keeps, its disk, what its map means, the map's log, its mailboxes in order of number, for how many

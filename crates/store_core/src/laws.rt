@@ -3,11 +3,11 @@ ghost use Rattle.std.specs.Prelude.{◌≡◌, ℕ, List, map, None, Some};
 ghost use Rattle.mdbox_base.specs.declared.entries.BoxEntry.{BoxEntry};
 ghost use Rattle.mdbox_base.specs.declared.replies.Reply.{Reply};
 ghost use Rattle.mdbox_base.specs.declared.requests.Request.TheVariants.{List as ListBox};
-ghost use Rattle.mail_model.specs.Lists.{Lists, refs_of};
-ghost use Rattle.mail_model.specs.Machine.{Run, First, Answers};
-ghost use Rattle.mail_model.specs.BoxMeaning.{BoxMeaning, box_meaning};
-ghost use Rattle.mail_model.specs.MapMeaning.{MapBox};
-ghost use Rattle.mail_model.specs.Listing.{HaveListings, ShowLists, meaning_named, refs_in, listing_of};
+ghost use Rattle.model_lists.specs.Lists.{Lists, refs_of};
+ghost use Rattle.list_machine.specs.Machine.{Run, First, Answers};
+ghost use Rattle.model_meaning.specs.BoxMeaning.{BoxMeaning, box_meaning};
+ghost use Rattle.model_meaning.specs.MapMeaning.{MapBox};
+ghost use Rattle.model_store.specs.Listing.{HaveListings, ShowLists, meaning_named, refs_in, listing_of};
 
 /// What the logs of mailboxes show is what they mean. Where lists are shown, a listing is answered as the list machine
 /// does, and as many listed messages have a GUID as the indexes say.

@@ -2,8 +2,8 @@
 ghost use Rattle.std.specs.Prelude.{◌≡◌, ◌<◌, ◌≤◌, ◌^◌, ◌==◌, false, length, find, count_by, sum_by, if◌then◌else◌};
 ghost use Rattle.std.specs.Option.{option_copied, option_map, option_map_or};
 ghost use Rattle.std.specs.Str.{bytes_eq};
-ghost use Rattle.mail_model.specs.MapMeaning.{count_of};
-ghost use Rattle.mail_model.specs.Listing.{meaning_named, meaning_numbered, refs_in};
+ghost use Rattle.model_meaning.specs.MapMeaning.{count_of};
+ghost use Rattle.model_store.specs.Listing.{meaning_named, meaning_numbered, refs_in};
 ghost use Rattle.store_core.specs.Value.{indexes_of};
 ghost use Rattle.store_core.specs.Running.{IsStore};
 

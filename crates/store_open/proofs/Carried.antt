@@ -4,17 +4,17 @@ use Rattle.std.proofs.lemmas.List.Elements.{All-head, All-tail}
 use Rattle.disk_model.specs.Disk.{Files, DiskState, History, IfTold}
 use Rattle.disk_model.specs.declared.name.FileName.{FileName}
 use Rattle.disk_model.specs.declared.name.FileName.TheVariants as file
-use Rattle.mdbox_base.specs.declared.log_head.LogHead.{LogHead}
+use Rattle.model_logs.specs.declared.log_head.LogHead.{LogHead}
 use Rattle.mdbox_base.specs.declared.entries.BoxEntry.{BoxEntry}
 use Rattle.mdbox_base.specs.declared.entries.MapEntry.{MapEntry}
-use Rattle.mail_model.specs.MapMeaning.{MapBox, MapMeaning, map_meaning}
-use Rattle.mail_model.specs.LogFile.{IsLog, IsLogFile}
-use Rattle.mail_model.specs.Settled.{files_of}
-use Rattle.mail_model.specs.SettledLaws.{has_all_carried}
-use Rattle.mail_model.specs.Stands.{HasLog, HasRoot, HasMap}
-use Rattle.mail_model.specs.Safe.{HasAll}
-use Rattle.mail_model.specs.Carrying.{HasSameEntries, CarryOver}
-use Rattle.mail_model.specs.Opening.{PassBoxes, Opens}
+use Rattle.model_meaning.specs.MapMeaning.{MapBox, MapMeaning, map_meaning}
+use Rattle.model_logs.specs.LogFile.{IsLog, IsLogFile}
+use Rattle.model_store.specs.Settled.{files_of}
+use Rattle.model_store.proofs.SettledLemmas.{has_all_carried}
+use Rattle.model_store.specs.Stands.{HasLog, HasRoot, HasMap}
+use Rattle.model_store.specs.Safe.{HasAll}
+use Rattle.model_store.specs.Carrying.{HasSameEntries, CarryOver}
+use Rattle.model_store.specs.Opening.{PassBoxes, Opens}
 use Rattle.store_sweep.specs.Swept.{FilesCarry}
 use Rattle.store_open.proofs.Checked.{OpensAt}
 

@@ -6,19 +6,19 @@ use Rattle.disk_model.specs.Disk.{DiskState, History, IfTold, reading}
 use Rattle.disk_model.specs.declared.name.FileName.{FileName}
 use Rattle.disk_model.specs.declared.name.FileName.TheVariants as file
 use Rattle.disk_model.proofs.Moments.{if_told-all, if_told-map, if_told-both}
-use Rattle.mdbox_base.specs.declared.log_head.LogHead.{LogHead}
+use Rattle.model_logs.specs.declared.log_head.LogHead.{LogHead}
 use Rattle.mdbox_base.specs.declared.entries.BoxEntry.{BoxEntry}
 use Rattle.mdbox_base.specs.declared.entries.MapEntry.{MapEntry}
 use Rattle.mdbox_base.specs.declared.entries.RootEntry.{RootEntry}
 use Rattle.mdbox_base.specs.declared.entries.RootEntry.TheVariants as root
-use Rattle.mail_model.specs.Entries.{root_text, map_text}
-use Rattle.mail_model.specs.EntryLaws.{root_one}
-use Rattle.mail_model.specs.LogFile.{HeadFits, log_front, IsLog}
-use Rattle.mail_model.specs.LogFileLaws.{one_log}
-use Rattle.mail_model.specs.MapMeaning.{MapBox, MapMeaning, map_meaning}
-use Rattle.mail_model.specs.Settled.{files_of}
-use Rattle.mail_model.specs.Stands.{HasMap}
-use Rattle.mail_model.specs.Opening.{Opens}
+use Rattle.model_logs.specs.Entries.{root_text, map_text}
+use Rattle.model_logs.proofs.EntryLemmas.{root_one}
+use Rattle.model_logs.specs.LogFile.{HeadFits, log_front, IsLog}
+use Rattle.model_logs.proofs.LogFileLemmas.{one_log}
+use Rattle.model_meaning.specs.MapMeaning.{MapBox, MapMeaning, map_meaning}
+use Rattle.model_store.specs.Settled.{files_of}
+use Rattle.model_store.specs.Stands.{HasMap}
+use Rattle.model_store.specs.Opening.{Opens}
 use Rattle.gate_log.specs.State.{Found}
 use Rattle.gate_log.specs.Log.{Idle, IsFound}
 use Rattle.gate_log.proofs.Idling.{idle-told}

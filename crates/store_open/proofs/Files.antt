@@ -5,7 +5,7 @@ use Rattle.disk_model.specs.Disk.{FileState, DiskState, History, IsThere, IfTold
 use Rattle.disk_model.specs.declared.name.FileName.{FileName}
 use Rattle.disk_model.specs.declared.name.FileName.TheVariants as file
 use Rattle.disk_model.proofs.Moments.{if_told-map, each_image-map, each_image-then}
-use Rattle.mail_model.specs.Opening.{HasNoEntry}
+use Rattle.model_store.specs.Opening.{HasNoEntry}
 use Rattle.gate_log.specs.Log.{Idle}
 use Rattle.gate_log.proofs.Idling.{idle-told}
 use Rattle.store_open.specs.Making.{BothTold, IsLogName, IsFree, IsBare, NeverHasEntry, AreCleared, HasNothingOrInbox}

@@ -5,8 +5,8 @@ use Rattle.disk_model.proofs.Moments.{each_image-map, each_image-then}
 use Rattle.gate_log.specs.Log.{SameState, Idle}
 use Rattle.mdbox_base.specs.declared.entries.BoxEntry.{BoxEntry}
 use Rattle.mdbox_base.specs.declared.entries.MapEntry.{MapEntry}
-use Rattle.mail_model.specs.Settled.{files_of}
-use Rattle.mail_model.specs.Opening.{Opens}
+use Rattle.model_store.specs.Settled.{files_of}
+use Rattle.model_store.specs.Opening.{Opens}
 use Rattle.store_open.specs.Making.{IdleUnless}
 use Rattle.store_open.specs.Opened.{Opening}
 

@@ -4,7 +4,7 @@ use Rattle.disk_model.specs.Disk.{Files, FileState, History, MayLeave, IfTold, E
 use Rattle.disk_model.specs.declared.name.FileName.{FileName}
 use Rattle.disk_model.proofs.Moments.{if_told-all, if_told-map, each_image-map, each_image-then}
 use Rattle.disk_model.proofs.OneFile.{named-narrows}
-use Rattle.mdbox_base.specs.declared.log_head.LogHead.{LogHead}
+use Rattle.model_logs.specs.declared.log_head.LogHead.{LogHead}
 use Rattle.gate_log.specs.State.{LogState}
 use Rattle.gate_log.specs.Log.{Holds, IsNoLonger, IsLogWithOrWithout, NamedButFor}
 use Rattle.store_open.specs.Making.{IsBeingMade}

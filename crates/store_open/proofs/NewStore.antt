@@ -8,17 +8,17 @@ use Rattle.disk_model.specs.declared.name.FileName.TheVariants as file
 use Rattle.disk_model.proofs.Moments.{if_told-all, if_told-map, if_told-both, each_image-map}
 use Rattle.disk_model.proofs.OneFile.{named-narrows}
 use Rattle.disk_model.proofs.Firm.{IsFirm, firm_from_keeps, keeps_from_firm}
-use Rattle.mdbox_base.specs.declared.log_head.LogHead.{LogHead}
-use Rattle.mail_model.specs.LogFile.{HeadFits, EntryFits, head_octets, IsLog, IsLogFile}
-use Rattle.mail_model.specs.LogFileLaws.{head_length}
-use Rattle.mail_model.specs.Entries.{root_text, map_text}
-use Rattle.mail_model.specs.MapMeaning.{MapRecord, MapBox, map_meaning}
-use Rattle.mail_model.specs.Stands.{HasLog, HasRoot}
-use Rattle.mail_model.specs.StandsLaws.{root_same}
-use Rattle.mail_model.specs.Safe.{SafeBy}
-use Rattle.mail_model.specs.Settled.{files_of, HasSameRegion, HasSameInstance, AreAlike, IsSettled}
-use Rattle.mail_model.specs.Opening.{HasNoEntry, IsNewStore, first_root, first_box, empty_inbox}
-use Rattle.mail_model.specs.NewStoreLaws.{new_safe, new_safe_by}
+use Rattle.model_logs.specs.declared.log_head.LogHead.{LogHead}
+use Rattle.model_logs.specs.LogFile.{HeadFits, EntryFits, head_octets, IsLog, IsLogFile}
+use Rattle.model_logs.proofs.LogFileLemmas.{head_length}
+use Rattle.model_logs.specs.Entries.{root_text, map_text}
+use Rattle.model_meaning.specs.MapMeaning.{MapRecord, MapBox, map_meaning}
+use Rattle.model_store.specs.Stands.{HasLog, HasRoot}
+use Rattle.model_store.proofs.StandsLemmas.{root_same}
+use Rattle.model_store.specs.Safe.{SafeBy}
+use Rattle.model_store.specs.Settled.{files_of, HasSameRegion, HasSameInstance, AreAlike, IsSettled}
+use Rattle.model_store.specs.Opening.{HasNoEntry, IsNewStore, first_root, first_box, empty_inbox}
+use Rattle.model_store.proofs.NewStoreLemmas.{new_safe, new_safe_by}
 use Rattle.gate_log.specs.State.{LogState}
 use Rattle.gate_log.specs.Log.{IsHeld, Holds, IsNoLonger, NamedButFor, log_text}
 use Rattle.store_open.specs.Making.{IsBeingMade, NeverHasEntry, IsBare, IsMade, HasNothingOrInbox, root_head, map_head, inbox_head}

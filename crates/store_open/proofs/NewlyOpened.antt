@@ -5,16 +5,16 @@ use Rattle.disk_model.specs.Disk.{DiskState, History, IfTold}
 use Rattle.disk_model.specs.declared.name.FileName.TheVariants as file
 use Rattle.disk_model.proofs.Moments.{if_told-map, if_told-both}
 use Rattle.mdbox_base.specs.declared.entries.MapEntry.{MapEntry}
-use Rattle.mail_model.specs.BoxMeaning.{box_meaning}
-use Rattle.mail_model.specs.Entries.{map_text}
-use Rattle.mail_model.specs.GoodLogs.{AreGoodLogs}
-use Rattle.mail_model.specs.LogFile.{HeadFits}
-use Rattle.mail_model.specs.MapFits.{MapFits}
-use Rattle.mail_model.specs.MapMeaning.{MapMeaning, map_meaning}
-use Rattle.mail_model.specs.NewStoreLaws.{new_safe_by}
-use Rattle.mail_model.specs.Opening.{Opens, IsNewStore, first_box}
-use Rattle.mail_model.specs.Settled.{files_of}
-use Rattle.mail_model.specs.StoreExampleLaws.{inbox_is_name}
+use Rattle.model_meaning.specs.BoxMeaning.{box_meaning}
+use Rattle.model_logs.specs.Entries.{map_text}
+use Rattle.model_store.specs.GoodLogs.{AreGoodLogs}
+use Rattle.model_logs.specs.LogFile.{HeadFits}
+use Rattle.model_meaning.specs.MapFits.{MapFits}
+use Rattle.model_meaning.specs.MapMeaning.{MapMeaning, map_meaning}
+use Rattle.model_store.proofs.NewStoreLemmas.{new_safe_by}
+use Rattle.model_store.specs.Opening.{Opens, IsNewStore, first_box}
+use Rattle.model_store.specs.Settled.{files_of}
+use Rattle.model_store.proofs.StoreExampleLemmas.{inbox_is_name}
 use Rattle.gate_log.specs.State.{LogState}
 use Rattle.gate_log.specs.Log.{Holds}
 use Rattle.store_core.specs.Running.{IsStore}

@@ -3,7 +3,7 @@ use Rattle.std.proofs.Common.{◌≡◌, ◌↔◌, Bool, IsTrue, ℕ, List, tak
 use Rattle.disk_model.specs.Disk.{History, IfTold, reading}
 use Rattle.disk_model.specs.declared.name.FileName.TheVariants as file
 use Rattle.disk_model.proofs.Moments.{if_told-map}
-use Rattle.mail_model.specs.Opening.{HasNoEntry}
+use Rattle.model_store.specs.Opening.{HasNoEntry}
 use Rattle.store_checks.proofs.RootHead.{none_in_front, none_in_all}
 
 -- what was read of a root log's front tells whether it has an entry

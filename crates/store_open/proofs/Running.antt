@@ -9,11 +9,11 @@ use Rattle.disk_model.proofs.Moments.{if_told-map}
 use Rattle.mdbox_base.specs.declared.entries.BoxEntry.{BoxEntry}
 use Rattle.mdbox_base.specs.declared.entries.MapEntry.{MapEntry}
 use Rattle.mdbox_base.specs.declared.entries.RootEntry.{RootEntry}
-use Rattle.mail_model.specs.BoxMeaning.{box_meaning}
-use Rattle.mail_model.specs.Entries.{map_text}
-use Rattle.mail_model.specs.GoodLogs.{AreGoodLogs}
-use Rattle.mail_model.specs.MapMeaning.{MapRecord, MapBox, MapMeaning, map_meaning}
-use Rattle.mail_model.specs.Opening.{listed_of, IsCounted}
+use Rattle.model_meaning.specs.BoxMeaning.{box_meaning}
+use Rattle.model_logs.specs.Entries.{map_text}
+use Rattle.model_store.specs.GoodLogs.{AreGoodLogs}
+use Rattle.model_meaning.specs.MapMeaning.{MapRecord, MapBox, MapMeaning, map_meaning}
+use Rattle.model_store.specs.Opening.{listed_of, IsCounted}
 use Rattle.gate_log.specs.State.{LogState, Found}
 use Rattle.gate_log.specs.Log.{Idle}
 use Rattle.store_checks.specs.Boxes.{IsFoundAs, AreFound}

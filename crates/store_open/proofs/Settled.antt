@@ -4,16 +4,16 @@ use Rattle.disk_model.specs.Disk.{DiskState, History, IfTold, IsTold, EachImage}
 use Rattle.disk_model.proofs.Moments.{each_image-then}
 use Rattle.mdbox_base.specs.declared.entries.BoxEntry.{BoxEntry}
 use Rattle.mdbox_base.specs.declared.entries.MapEntry.{MapEntry}
-use Rattle.mail_model.specs.BoxMeaning.{BoxMeaning, box_meaning}
-use Rattle.mail_model.specs.Lists.{Lists}
-use Rattle.mail_model.specs.Listing.{HaveListings, ShowLists}
-use Rattle.mail_model.specs.MapMeaning.{MapBox, MapMeaning, map_meaning}
-use Rattle.mail_model.specs.Opening.{Opens}
-use Rattle.mail_model.specs.OpeningLaws.{one_store}
-use Rattle.mail_model.specs.OpeningSafeLaws.{safe_opens}
-use Rattle.mail_model.specs.Safe.{Safe}
-use Rattle.mail_model.specs.Settled.{files_of, IsSettled}
-use Rattle.mail_model.specs.SettledLaws.{settled_safe}
+use Rattle.model_meaning.specs.BoxMeaning.{BoxMeaning, box_meaning}
+use Rattle.model_lists.specs.Lists.{Lists}
+use Rattle.model_store.specs.Listing.{HaveListings, ShowLists}
+use Rattle.model_meaning.specs.MapMeaning.{MapBox, MapMeaning, map_meaning}
+use Rattle.model_store.specs.Opening.{Opens}
+use Rattle.model_store.proofs.OpeningLemmas.{one_store}
+use Rattle.model_store.proofs.OpeningSafeLemmas.{safe_opens}
+use Rattle.model_store.specs.Safe.{Safe}
+use Rattle.model_store.specs.Settled.{files_of, IsSettled}
+use Rattle.model_store.proofs.SettledLemmas.{settled_safe}
 use Rattle.gate_log.specs.Log.{SameState, Idle}
 use Rattle.gate_log.proofs.Idling.{idle-told}
 use Rattle.store_core.specs.Running.{IsSettledFor}

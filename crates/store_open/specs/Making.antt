@@ -5,13 +5,13 @@ use Rattle.std.specs.declared.cmp.Ordering.TheVariants.{Less}
 use Rattle.disk_model.specs.Disk.{Files, FileState, DiskState, History, IsThere, IfTold, IsPast, Keeps, MayLeave, no_file, named, removed, reading}
 use Rattle.disk_model.specs.declared.name.FileName.{FileName}
 use Rattle.disk_model.specs.declared.name.FileName.TheVariants as file
-use Rattle.mdbox_base.specs.declared.log_head.LogHead.{LogHead}
-use Rattle.mdbox_base.specs.declared.log_head.LogKind.TheVariants as kind
-use Rattle.mail_model.specs.LogFile.{IsLogFile}
-use Rattle.mail_model.specs.Entries.{root_text, map_text}
-use Rattle.mail_model.specs.Stands.{head_of}
-use Rattle.mail_model.specs.Safe.{Safe}
-use Rattle.mail_model.specs.Opening.{HasNoEntry, first_root, first_box, empty_inbox}
+use Rattle.model_logs.specs.declared.log_head.LogHead.{LogHead}
+use Rattle.model_logs.specs.declared.log_head.LogKind.TheVariants as kind
+use Rattle.model_logs.specs.LogFile.{IsLogFile}
+use Rattle.model_logs.specs.Entries.{root_text, map_text}
+use Rattle.model_store.specs.Stands.{head_of}
+use Rattle.model_store.specs.Safe.{Safe}
+use Rattle.model_store.specs.Opening.{HasNoEntry, first_root, first_box, empty_inbox}
 use Rattle.gate_log.specs.Log.{Idle, IsNoLonger, log_text}
 
 -- a relation of the present states, where the disk tells them

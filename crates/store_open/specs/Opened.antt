@@ -5,11 +5,11 @@ use Rattle.disk_model.specs.declared.name.FileName.{FileName}
 use Rattle.disk_model.specs.declared.name.FileName.TheVariants as file
 use Rattle.mdbox_base.specs.declared.entries.BoxEntry.{BoxEntry}
 use Rattle.mdbox_base.specs.declared.entries.MapEntry.{MapEntry}
-use Rattle.mail_model.specs.BoxMeaning.{BoxMeaning, box_meaning}
-use Rattle.mail_model.specs.MapMeaning.{MapMeaning, map_meaning}
-use Rattle.mail_model.specs.Settled.{files_of}
-use Rattle.mail_model.specs.GoodLogs.{AreGoodLogs}
-use Rattle.mail_model.specs.Opening.{HasNoEntry, Opens, IsDamaged}
+use Rattle.model_meaning.specs.BoxMeaning.{BoxMeaning, box_meaning}
+use Rattle.model_meaning.specs.MapMeaning.{MapMeaning, map_meaning}
+use Rattle.model_store.specs.Settled.{files_of}
+use Rattle.model_store.specs.GoodLogs.{AreGoodLogs}
+use Rattle.model_store.specs.Opening.{HasNoEntry, Opens, IsDamaged}
 use Rattle.store_core.specs.Value.{StoreValue}
 use Rattle.store_sweep.specs.Moments.{SyncedWhereCut, NamesSynced}
 use Rattle.store_sweep.specs.Swept.{FilesCarry, EndWithRegions}

@@ -1,6 +1,6 @@
 -- Mailboxes that were checked, in parts.
 use Rattle.std.specs.Prelude.{◌≡◌, List, map}
-use Rattle.mail_model.specs.MapMeaning.{MapBox}
+use Rattle.model_meaning.specs.MapMeaning.{MapBox}
 use Rattle.store_checks.specs.declared.mailbox.CheckedBox.{CheckedBox}
 use Rattle.store_open.specs.declared.parts.Parts.{Parts}
 

@@ -2,7 +2,7 @@
 ghost use Rattle.std.specs.Prelude.{◌≡◌, ◌↔◌, IsTrue, IfOk, IfErr, IsErr, IsErrOf, OnOk};
 ghost use Rattle.disk_model.specs.Disk.{IfTold, reading};
 ghost use Rattle.disk_model.specs.declared.name.FileName.TheVariants as file;
-ghost use Rattle.mail_model.specs.Opening.{HasNoEntry};
+ghost use Rattle.model_store.specs.Opening.{HasNoEntry};
 ghost use Rattle.gate_log.specs.Log.{Idle, OneRoseIf};
 ghost use Rattle.store_open.specs.Making.{HasMailFile, IsFree};
 ghost use Rattle.store_open.specs.Refused.{IsMakingError, IsFaultOrMemory};

@@ -3,7 +3,7 @@ ghost use Rattle.std.specs.Prelude.{◌≡◌, ◌↔◌, Some, true, false, IsT
 ghost use Rattle.disk_model.specs.Disk.{IfTold, IsThere, IsPast, EachImage};
 ghost use Rattle.disk_model.specs.declared.name.FileName.{FileName};
 ghost use Rattle.disk_model.specs.declared.name.FileName.TheVariants as file;
-ghost use Rattle.mail_model.specs.Opening.{HasNoEntry};
+ghost use Rattle.model_store.specs.Opening.{HasNoEntry};
 ghost use Rattle.gate_log.specs.Log.{Idle, OneRoseIf};
 ghost use Rattle.store_open.specs.Making.{BothTold, IsLogName, IsLogInRange, IsFirstLog, NeverHasEntry, AreRemoved, AreCleared, HasAnyLog};
 

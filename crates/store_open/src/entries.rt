@@ -1,7 +1,7 @@
 // The first entries of a new store's logs.
 ghost use Rattle.std.specs.Prelude.{◌≡◌, IfOk};
-ghost use Rattle.mail_model.specs.Entries.{map_text, root_text};
-ghost use Rattle.mail_model.specs.Opening.{first_root, first_box};
+ghost use Rattle.model_logs.specs.Entries.{map_text, root_text};
+ghost use Rattle.model_store.specs.Opening.{first_root, first_box};
 
 use log_records::{push_map_entry, push_root_entry};
 use mdbox_base::{BoxNo, MapEntry, NoMemory, Octets, RootEntry, name_of};

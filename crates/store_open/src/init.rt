@@ -2,9 +2,9 @@
 ghost use Rattle.std.specs.Prelude.{◌≡◌, ◌∷◌, [], IfOk, IfErr, IsErrOf, OnOk};
 ghost use Rattle.disk_model.specs.Disk.{IfTold, EachImage};
 ghost use Rattle.disk_model.specs.declared.name.FileName.TheVariants as file;
-ghost use Rattle.mail_model.specs.Entries.{map_text};
-ghost use Rattle.mail_model.specs.Settled.{IsSettled};
-ghost use Rattle.mail_model.specs.Opening.{first_box, empty_inbox};
+ghost use Rattle.model_logs.specs.Entries.{map_text};
+ghost use Rattle.model_store.specs.Settled.{IsSettled};
+ghost use Rattle.model_store.specs.Opening.{first_box, empty_inbox};
 ghost use Rattle.gate_log.specs.Log.{Holds, Idle, OneRoseIf};
 ghost use Rattle.store_open.specs.Making.{IdleUnless, IsFree, IsMade, NeverHasEntry, HasNothingOrInbox, map_head, inbox_head};
 ghost use Rattle.store_open.specs.Refused.{IsMakingError, IsOfFiles};

@@ -2,11 +2,11 @@
 ghost use Rattle.std.specs.Prelude.{◌≡◌, ◌≤◌, ◌+◌, ◌∷◌, [], length, IfOk, IfErr, IsErr, IsErrOf, OnOk};
 ghost use Rattle.disk_model.specs.Disk.{IfTold, EachImage, OthersStay, FaultsRoseIf};
 ghost use Rattle.disk_model.specs.declared.name.FileName.TheVariants as file;
-ghost use Rattle.mail_model.specs.LogFile.{EntryFits};
-ghost use Rattle.mail_model.specs.Entries.{map_text, root_text};
-ghost use Rattle.mail_model.specs.Stands.{head_of};
-ghost use Rattle.mail_model.specs.Opening.{first_root, first_box, empty_inbox};
-ghost use Rattle.mail_model.specs.Settled.{IsSettled};
+ghost use Rattle.model_logs.specs.LogFile.{EntryFits};
+ghost use Rattle.model_logs.specs.Entries.{map_text, root_text};
+ghost use Rattle.model_store.specs.Stands.{head_of};
+ghost use Rattle.model_store.specs.Opening.{first_root, first_box, empty_inbox};
+ghost use Rattle.model_store.specs.Settled.{IsSettled};
 ghost use Rattle.gate_log.specs.Log.{Holds, IsNoLonger, NamedButFor};
 ghost use Rattle.store_open.specs.Making.{IsBeingMade, NeverHasEntry, IsBare, IsMade, HasNothingOrInbox, map_head, inbox_head};
 ghost use Rattle.store_open.specs.Refused.{IsFaultOrMemory};
@@ -14,7 +14,8 @@ ghost use Rattle.store_open.specs.Refused.{IsFaultOrMemory};
 use crate::error::OpenError;
 use disk_model::{Disk, FileName};
 use gate_log::{DiskFault, GateLog, create_log};
-use mdbox_base::{LogHead, LogKind, StoreId};
+use mdbox_base::StoreId;
+use model_logs::{LogHead, LogKind};
 use std::alloc::Global;
 
 /// The logs of a store that was just made, with an empty INBOX.

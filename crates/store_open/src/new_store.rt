@@ -3,10 +3,10 @@ ghost use Rattle.std.specs.Prelude.{◌≡◌, ◌∷◌, [], false, MatchResult
 ghost use Rattle.disk_model.specs.Disk.{IfTold, EachImage};
 ghost use Rattle.disk_model.specs.declared.name.FileName.TheVariants as file;
 ghost use Rattle.gate_log.specs.Log.{Idle, OneRoseIf};
-ghost use Rattle.mail_model.specs.BoxMeaning.{box_meaning};
-ghost use Rattle.mail_model.specs.MapMeaning.{map_meaning};
-ghost use Rattle.mail_model.specs.Opening.{first_box, empty_inbox};
-ghost use Rattle.mail_model.specs.Settled.{IsSettled};
+ghost use Rattle.model_meaning.specs.BoxMeaning.{box_meaning};
+ghost use Rattle.model_meaning.specs.MapMeaning.{map_meaning};
+ghost use Rattle.model_store.specs.Opening.{first_box, empty_inbox};
+ghost use Rattle.model_store.specs.Settled.{IsSettled};
 ghost use Rattle.store_core.specs.Value.{indexes_of};
 ghost use Rattle.store_core.specs.Running.{IsStore};
 ghost use Rattle.store_open.specs.Making.{IdleUnless, IsFree, IsMade, NeverHasEntry, HasNothingOrInbox};

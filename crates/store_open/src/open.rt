@@ -3,9 +3,9 @@ ghost use Rattle.std.specs.Prelude.{◌≡◌, ◌≤◌, false, ℕ, ⊤, Match
 ghost use Rattle.disk_model.specs.Disk.{EachImage};
 ghost use Rattle.disk_model.specs.declared.name.FileName.TheVariants as file;
 ghost use Rattle.gate_log.specs.Log.{Idle, OneRoseIf};
-ghost use Rattle.mail_model.specs.Lists.{Lists};
-ghost use Rattle.mail_model.specs.Listing.{ShowLists};
-ghost use Rattle.mail_model.specs.Safe.{Safe};
+ghost use Rattle.model_lists.specs.Lists.{Lists};
+ghost use Rattle.model_store.specs.Listing.{ShowLists};
+ghost use Rattle.model_store.specs.Safe.{Safe};
 ghost use Rattle.store_core.specs.Value.{indexes_of};
 ghost use Rattle.store_core.specs.Running.{IsStore, IsSettledFor};
 ghost use Rattle.store_open.specs.Making.{IdleUnless};

@@ -9,9 +9,9 @@ use Rattle.disk_model.specs.Disk.{FileState, DiskState, History, IfTold, EachIma
 use Rattle.disk_model.specs.Name.{same_name}
 use Rattle.disk_model.specs.declared.name.FileName.{FileName}
 use Rattle.disk_model.proofs.Names.{same_name-eq, same_name-false}
-use Rattle.mail_model.specs.LogFile.{IsLogFile, log_front}
-use Rattle.mail_model.specs.MapMeaning.{MapBox, MapMeaning}
-use Rattle.mail_model.specs.PairLaws.{pairs_head, pairs_tail}
+use Rattle.model_logs.specs.LogFile.{IsLogFile, log_front}
+use Rattle.model_meaning.specs.MapMeaning.{MapBox, MapMeaning}
+use Rattle.model_octets.proofs.PairLemmas.{pairs_head, pairs_tail}
 use Rattle.gate_log.specs.State.{LogState, Found}
 use Rattle.gate_log.specs.Log.{IsFound, IsFoundKept, Reads, Holds}
 use Rattle.store_sweep.specs.Moments.{ImagesCarry, KeepsStore, SameWhere}

@@ -4,8 +4,8 @@ use Rattle.std.proofs.lemmas.Bool.{cases_Bool, false≢true, cond-true, cond-fal
 use Rattle.disk_model.specs.Disk.{FileState, History, IfTold, IsTold, IsThere, after, change_all, named, no_file}
 use Rattle.disk_model.specs.declared.name.FileName.{FileName}
 use Rattle.disk_model.specs.declared.name.FileName.TheVariants as file
-use Rattle.mail_model.specs.MapMeaning.{MapMeaning}
-use Rattle.mail_model.specs.Carrying.{CarriesOver}
+use Rattle.model_meaning.specs.MapMeaning.{MapMeaning}
+use Rattle.model_store.specs.Carrying.{CarriesOver}
 use Rattle.store_sweep.specs.Held.{IsHeldStore, IsReadStore}
 use Rattle.store_sweep.specs.Wanted.{is_wanted, is_log, IsNoLonger, end_of}
 use Rattle.store_sweep.specs.Moments.{ImagesCarry, KeepsStore, SameWhere, NoneMade, LogStays}

@@ -12,7 +12,7 @@ use Rattle.disk_model.specs.declared.name.FileName.TheVariants as file
 use Rattle.disk_model.proofs.Moments.{if_told-all, if_told-map, if_told-unchanged, told-after}
 use Rattle.disk_model.proofs.OneFile.{same-begins, same-goes_on}
 use Rattle.disk_model.proofs.ChangeAndSync.{changed_state, state}
-use Rattle.mail_model.specs.MapMeaning.{MapRecord, MapMeaning}
+use Rattle.model_meaning.specs.MapMeaning.{MapRecord, MapMeaning}
 use Rattle.store_sweep.specs.Wanted.{EndBy, IsNoLonger, end_of, ends_at}
 use Rattle.store_sweep.specs.Moments.{ImagesCarry, KeepsStore, NoneMade}
 use Rattle.store_sweep.proofs.Holding.{half_cut_holds, cut_holds, synced_holds, cut_carries, reads_there}

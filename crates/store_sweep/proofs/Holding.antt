@@ -11,10 +11,10 @@ use Rattle.disk_model.specs.declared.name.FileName.TheVariants as file
 use Rattle.disk_model.proofs.Names.{same_name-true, same_name-eq}
 use Rattle.disk_model.proofs.OneFile.{change-here, change-other, named-narrows}
 use Rattle.mdbox_base.specs.declared.entries.InstRow.{InstRow}
-use Rattle.mail_model.specs.MapMeaning.{MapRecord, MapBox, MapMeaning, is_sealed}
-use Rattle.mail_model.specs.Settled.{IsSameRegion}
-use Rattle.mail_model.specs.Carrying.{HasSameEntries, CarryOver, CarriesOver}
-use Rattle.mail_model.specs.CarryingLaws.{each_name}
+use Rattle.model_meaning.specs.MapMeaning.{MapRecord, MapBox, MapMeaning, is_sealed}
+use Rattle.model_store.specs.Settled.{IsSameRegion}
+use Rattle.model_store.specs.Carrying.{HasSameEntries, CarryOver, CarriesOver}
+use Rattle.model_store.proofs.CarryingLemmas.{each_name}
 use Rattle.store_sweep.specs.Held.{IsHeldLog, IsFirmRegion, IsHeldInstance, IsHeldAt, IsHeldStore}
 use Rattle.store_sweep.specs.Wanted.{has_region, row_names, is_wanted, EndBy}
 use Rattle.store_sweep.proofs.Scans.{none_pass}

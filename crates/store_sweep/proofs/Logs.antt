@@ -10,8 +10,8 @@ use Rattle.disk_model.specs.Name.{same_name}
 use Rattle.disk_model.specs.declared.name.FileName.{FileName}
 use Rattle.disk_model.specs.declared.name.FileName.TheVariants as file
 use Rattle.disk_model.proofs.Names.{same_name-eq, same_name-false}
-use Rattle.mail_model.specs.LogFile.{IsLogFile}
-use Rattle.mail_model.specs.MapMeaning.{MapBox, MapMeaning}
+use Rattle.model_logs.specs.LogFile.{IsLogFile}
+use Rattle.model_meaning.specs.MapMeaning.{MapBox, MapMeaning}
 use Rattle.gate_log.specs.State.{LogState, Found}
 use Rattle.gate_log.specs.Log.{IsFound, IsFoundKept}
 use Rattle.store_sweep.specs.Wanted.{is_wanted, is_log}

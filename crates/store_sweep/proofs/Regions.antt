@@ -4,8 +4,8 @@ use Rattle.std.proofs.lemmas.List.{length-take-le}
 use Rattle.std.proofs.lemmas.Bool.{true≢false, false≢true}
 use Rattle.disk_model.specs.Disk.{FileState, MayLeave, cut_to, half_cut, synced}
 use Rattle.disk_model.proofs.Leaving.{same_front}
-use Rattle.mail_model.specs.MapMeaning.{MapRecord}
-use Rattle.mail_model.specs.Settled.{IsSameRegion}
+use Rattle.model_meaning.specs.MapMeaning.{MapRecord}
+use Rattle.model_store.specs.Settled.{IsSameRegion}
 use Rattle.store_sweep.specs.Held.{IsFirmRegion}
 
 -- lists that agree at each place of a range

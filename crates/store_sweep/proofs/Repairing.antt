@@ -10,12 +10,12 @@ use Rattle.disk_model.specs.declared.name.FileName.{FileName}
 use Rattle.disk_model.specs.declared.name.FileName.TheVariants as file
 use Rattle.disk_model.proofs.Names.{same_name-true, same_name-eq}
 use Rattle.disk_model.proofs.Moments.{each_image-map}
-use Rattle.mdbox_base.specs.declared.log_head.LogHead.{LogHead}
-use Rattle.mail_model.specs.LogFile.{IsLog, IsLogFile, log_front, HeadFits, EntryFits, Ends}
-use Rattle.mail_model.specs.LogFileLaws.{one_log}
-use Rattle.mail_model.specs.MapMeaning.{MapBox, MapMeaning}
-use Rattle.mail_model.specs.Carrying.{HasSameEntries, CarryOver, CarriesOver}
-use Rattle.mail_model.specs.CarryingLaws.{each_name}
+use Rattle.model_logs.specs.declared.log_head.LogHead.{LogHead}
+use Rattle.model_logs.specs.LogFile.{IsLog, IsLogFile, log_front, HeadFits, EntryFits, Ends}
+use Rattle.model_logs.proofs.LogFileLemmas.{one_log}
+use Rattle.model_meaning.specs.MapMeaning.{MapBox, MapMeaning}
+use Rattle.model_store.specs.Carrying.{HasSameEntries, CarryOver, CarriesOver}
+use Rattle.model_store.proofs.CarryingLemmas.{each_name}
 use Rattle.gate_log.specs.State.{LogState, Found}
 use Rattle.gate_log.specs.Log.{IsFound, IsFoundKept, IsRead, IsHeld, Reads, Holds, log_text}
 use Rattle.store_sweep.specs.Held.{IsHeldLog, IsHeldAt, IsHeldStore, IsReadStore}

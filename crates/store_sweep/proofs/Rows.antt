@@ -1,7 +1,7 @@
 -- What look-ups of the map show of a row at a place.
 use Rattle.std.proofs.Common.{◌≡◌, ℕ, ◌+◌, ◌<◌, ◌==◌, max, if◌then◌else◌, List, length, take, slice_get, Option, Some, None, sym, ◌∙◌, ap}
 use Rattle.std.specs.Option.{option_map, option_map_or}
-use Rattle.mail_model.specs.MapMeaning.{MapRecord, greatest}
+use Rattle.model_meaning.specs.MapMeaning.{MapRecord, greatest}
 use Rattle.map_index.specs.Shown.{shown}
 use Rattle.map_index.specs.declared.rows.MapRow.{MapRow}
 use Rattle.store_sweep.specs.Wanted.{ends_at}

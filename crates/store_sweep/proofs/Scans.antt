@@ -5,7 +5,7 @@ use Rattle.std.specs.List.{list_any}
 use Rattle.std.specs.Option.{option_map, option_map_or}
 use Rattle.std.proofs.lemmas.List.Elements.{All-nil, All-cons}
 use Rattle.std.proofs.lemmas.Bool.{or_parts, or_left, or_right, or_from, false≢true}
-use Rattle.mail_model.specs.MapMeaning.{greatest}
+use Rattle.model_meaning.specs.MapMeaning.{greatest}
 
 -- what a look-up by place shows, and what it shows it of
 pub record At {X Y : Type 0} (show : X → Y) (xs : List X) (i : ℕ) (y : Y) : Type 0 where

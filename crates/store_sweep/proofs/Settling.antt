@@ -1,8 +1,7 @@
 -- A settled disk holds its store, and a disk that holds and reads a store is settled.
-use Rattle.std.proofs.Common.{inl, inr, ◌≡◌, ◌≢◌, ℕ, ◌+◌, ◌-◌, ◌<◌, ◌≤◌, ◌++◌, ◌∷◌, [], true, List, map, length, take, drop, get_or, slice_index_or, if◌then◌else◌, Option, Some, None, All, refl, sym, ◌∙◌, ap, subst, arith}
+use Rattle.std.proofs.Common.{inl, inr, ◌≡◌, ◌≢◌, ℕ, ◌+◌, ◌-◌, ◌<◌, ◌≤◌, ◌++◌, ◌∷◌, [], true, List, map, length, take, drop, get_or, slice_index_or, if◌then◌else◌, Option, Some, None, All, refl, sym, ◌∙◌, ap, subst, arith, length-set, get_or-set_same, get_or-set_other}
 use Rattle.std.specs.Prelude.{flat_map}
 use Rattle.std.proofs.Math.ListN.{set}
-use Rattle.std.proofs.Common.{length-set, get_or-set_same, get_or-set_other}
 use Rattle.std.proofs.lemmas.List.{length-take-le, get_or-take, get_or-drop}
 use Rattle.std.proofs.lemmas.List.Elements.{All-nil, All-cons, All-head, All-tail, All-take, All-set}
 use Rattle.std.proofs.lemmas.Bool.{cases_Bool, cases_lt, false≢true, cond-true, cond-false}
@@ -13,22 +12,22 @@ use Rattle.disk_model.specs.declared.name.FileName.{FileName}
 use Rattle.disk_model.specs.declared.name.FileName.TheVariants as file
 use Rattle.disk_model.proofs.Names.{same_name-true, same_name-refl}
 use Rattle.disk_model.proofs.Firm.{at_place}
-use Rattle.mdbox_base.specs.declared.log_head.LogHead.{LogHead}
-use Rattle.mdbox_base.specs.declared.log_head.LogKind.TheVariants as kind
+use Rattle.model_logs.specs.declared.log_head.LogHead.{LogHead}
+use Rattle.model_logs.specs.declared.log_head.LogKind.TheVariants as kind
 use Rattle.mdbox_base.specs.declared.entries.RootEntry.TheVariants as root
 use Rattle.mdbox_base.specs.declared.entries.InstRow.{InstRow}
 use Rattle.mdbox_base.specs.declared.entries.MapEntry.{MapEntry}
-use Rattle.mail_model.specs.LogFile.{IsLogFile}
-use Rattle.mail_model.specs.Lists.{Lists}
-use Rattle.mail_model.specs.MapMeaning.{MapRecord, MapBox, MapMeaning, map_meaning}
-use Rattle.mail_model.specs.Entries.{root_text}
-use Rattle.mail_model.specs.Stands.{head_of, HasLog, HasRoot, AreMailboxes}
-use Rattle.mail_model.specs.StandsLaws.{root_same, map_same}
-use Rattle.mail_model.specs.Safe.{LiesInFile, IsThereWhole, SafeBy, Safe}
-use Rattle.mail_model.specs.Settled.{files_of, IsSameRegion, AreAlike, IsSettled}
-use Rattle.mail_model.specs.SettledLaws.{safe_carried}
-use Rattle.mail_model.specs.Carrying.{HasSameEntries, CarryOver, CarriesOver}
-use Rattle.mail_model.specs.CarryingLaws.{each_name}
+use Rattle.model_logs.specs.LogFile.{IsLogFile}
+use Rattle.model_lists.specs.Lists.{Lists}
+use Rattle.model_meaning.specs.MapMeaning.{MapRecord, MapBox, MapMeaning, map_meaning}
+use Rattle.model_logs.specs.Entries.{root_text}
+use Rattle.model_store.specs.Stands.{head_of, HasLog, HasRoot, AreMailboxes}
+use Rattle.model_store.proofs.StandsLemmas.{root_same, map_same}
+use Rattle.model_store.specs.Safe.{LiesInFile, IsThereWhole, SafeBy, Safe}
+use Rattle.model_store.specs.Settled.{files_of, IsSameRegion, AreAlike, IsSettled}
+use Rattle.model_store.proofs.SettledLemmas.{safe_carried}
+use Rattle.model_store.specs.Carrying.{HasSameEntries, CarryOver, CarriesOver}
+use Rattle.model_store.proofs.CarryingLemmas.{each_name}
 use Rattle.store_sweep.specs.Held.{IsHeldLog, IsFirmRegion, IsHeldInstance, IsHeldAt, IsHeldStore, IsReadStore}
 use Rattle.store_sweep.specs.Swept.{OpensWith}
 use Rattle.store_sweep.proofs.Holding.{reads_there}

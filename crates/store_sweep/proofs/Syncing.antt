@@ -5,7 +5,7 @@ use Rattle.disk_model.specs.Disk.{FileState, DiskState, History, IfTold, IsThere
 use Rattle.disk_model.specs.declared.name.FileName.{FileName}
 use Rattle.disk_model.specs.declared.name.FileName.TheVariants as file
 use Rattle.disk_model.proofs.OneFile.{change-here, change-other}
-use Rattle.mail_model.specs.MapMeaning.{MapMeaning}
+use Rattle.model_meaning.specs.MapMeaning.{MapMeaning}
 use Rattle.gate_log.specs.Log.{SameState}
 use Rattle.store_sweep.specs.Wanted.{is_wanted}
 use Rattle.store_sweep.specs.Moments.{SameWhere, SameContent, IsSynced, SyncedWhereCut, NamesSynced}

@@ -9,12 +9,12 @@ use Rattle.disk_model.specs.Disk.{Files, FileState, DiskState, History, IfTold, 
 use Rattle.disk_model.specs.declared.name.FileName.{FileName}
 use Rattle.disk_model.specs.declared.name.FileName.TheVariants as file
 use Rattle.disk_model.proofs.Moments.{each_image-map}
-use Rattle.mail_model.specs.Lists.{Lists}
-use Rattle.mail_model.specs.Safe.{Safe}
-use Rattle.mail_model.specs.MapMeaning.{MapRecord, MapMeaning}
-use Rattle.mail_model.specs.Settled.{files_of, IsSameRegion, IsSettled}
-use Rattle.mail_model.specs.Carrying.{CarryOver}
-use Rattle.mail_model.specs.CarryingLaws.{each_name}
+use Rattle.model_lists.specs.Lists.{Lists}
+use Rattle.model_store.specs.Safe.{Safe}
+use Rattle.model_meaning.specs.MapMeaning.{MapRecord, MapMeaning}
+use Rattle.model_store.specs.Settled.{files_of, IsSameRegion, IsSettled}
+use Rattle.model_store.specs.Carrying.{CarryOver}
+use Rattle.model_store.proofs.CarryingLemmas.{each_name}
 use Rattle.gate_log.specs.State.{LogState, Found}
 use Rattle.gate_log.specs.Log.{IsFound, IsFoundKept}
 use Rattle.store_sweep.specs.Held.{IsReadStore}

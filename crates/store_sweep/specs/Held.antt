@@ -3,9 +3,9 @@ use Rattle.std.specs.Prelude.{◌≡◌, ◌≤◌, ◌<◌, ◌+◌, ℕ, false
 use Rattle.disk_model.specs.Disk.{Files, FileState, DiskState, IsThere, Keeps, reading}
 use Rattle.disk_model.specs.declared.name.FileName.{FileName}
 use Rattle.disk_model.specs.declared.name.FileName.TheVariants as file
-use Rattle.mail_model.specs.MapMeaning.{MapRecord, MapMeaning}
-use Rattle.mail_model.specs.Settled.{IsSameRegion}
-use Rattle.mail_model.specs.Carrying.{HasSameEntries, CarriesOver}
+use Rattle.model_meaning.specs.MapMeaning.{MapRecord, MapMeaning}
+use Rattle.model_store.specs.Settled.{IsSameRegion}
+use Rattle.model_store.specs.Carrying.{HasSameEntries, CarriesOver}
 
 -- a log of the entries that were found, which a stop leaves as it reads
 pub record IsHeldLog (found : Option (List ℕ)) (f : FileState) : Type 0 where

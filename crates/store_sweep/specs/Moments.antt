@@ -3,8 +3,8 @@ use Rattle.std.specs.Prelude.{◌≡◌, ◌⊎◌, ℕ, Bool, true, false, List
 use Rattle.disk_model.specs.Disk.{Files, FileState, History, IfTold, IsTold, IsThere, EachImage, Keeps, reading}
 use Rattle.disk_model.specs.declared.name.FileName.{FileName}
 use Rattle.disk_model.specs.declared.name.FileName.TheVariants as file
-use Rattle.mail_model.specs.MapMeaning.{MapMeaning}
-use Rattle.mail_model.specs.Carrying.{CarryOver}
+use Rattle.model_meaning.specs.MapMeaning.{MapMeaning}
+use Rattle.model_store.specs.Carrying.{CarryOver}
 use Rattle.store_sweep.specs.Held.{IsHeldStore, IsReadStore}
 use Rattle.store_sweep.specs.Wanted.{is_wanted}
 

@@ -5,7 +5,7 @@ use Rattle.disk_model.specs.Disk.{DiskState, History, IfTold}
 use Rattle.disk_model.specs.Name.{same_name}
 use Rattle.disk_model.specs.declared.name.FileName.{FileName}
 use Rattle.disk_model.specs.declared.name.FileName.TheVariants as file
-use Rattle.mail_model.specs.MapMeaning.{MapBox, MapMeaning}
+use Rattle.model_meaning.specs.MapMeaning.{MapBox, MapMeaning}
 use Rattle.gate_log.specs.State.{LogState, Found}
 use Rattle.gate_log.specs.Log.{IsFound, IsFoundKept, Reads, Holds}
 

@@ -4,11 +4,11 @@ use Rattle.disk_model.specs.Disk.{DiskState, History, IfTold, IsThere}
 use Rattle.disk_model.specs.declared.name.FileName.TheVariants as file
 use Rattle.mdbox_base.specs.declared.entries.MapEntry.{MapEntry}
 use Rattle.mdbox_base.specs.declared.entries.BoxEntry.{BoxEntry}
-use Rattle.mail_model.specs.Lists.{Lists}
-use Rattle.mail_model.specs.MapMeaning.{MapMeaning, map_meaning, is_sealed}
-use Rattle.mail_model.specs.Settled.{files_of, IsSettled}
-use Rattle.mail_model.specs.Carrying.{CarryOver}
-use Rattle.mail_model.specs.Opening.{Opens}
+use Rattle.model_lists.specs.Lists.{Lists}
+use Rattle.model_meaning.specs.MapMeaning.{MapMeaning, map_meaning, is_sealed}
+use Rattle.model_store.specs.Settled.{files_of, IsSettled}
+use Rattle.model_store.specs.Carrying.{CarryOver}
+use Rattle.model_store.specs.Opening.{Opens}
 use Rattle.gate_log.specs.State.{LogState, Found}
 use Rattle.gate_log.specs.Log.{IsFound, Reads, Holds}
 use Rattle.store_sweep.specs.Repaired.{at_rest}

@@ -5,7 +5,7 @@ use Rattle.std.specs.Str.{bytes_eq}
 use Rattle.disk_model.specs.Disk.{FileState}
 use Rattle.disk_model.specs.declared.name.FileName.{FileName}
 use Rattle.disk_model.specs.declared.name.FileName.TheVariants as file
-use Rattle.mail_model.specs.MapMeaning.{MapRecord, MapMeaning, greatest, is_sealed}
+use Rattle.model_meaning.specs.MapMeaning.{MapRecord, MapMeaning, greatest, is_sealed}
 
 -- a mailbox of the map has this log
 abbrev pub has_box : MapMeaning → ℕ → ℕ → Bool

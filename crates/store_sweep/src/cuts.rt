@@ -4,7 +4,7 @@ ghost use Rattle.disk_model.specs.Disk.{IfTold, IsThere, Reaches, SameButFor, Fa
 ghost use Rattle.disk_model.specs.declared.name.FileName.{FileName};
 ghost use Rattle.disk_model.specs.declared.name.FileName.TheVariants as file;
 ghost use Rattle.gate_log.specs.Log.{OneRoseIf};
-ghost use Rattle.mail_model.specs.MapMeaning.{MapMeaning};
+ghost use Rattle.model_meaning.specs.MapMeaning.{MapMeaning};
 ghost use Rattle.store_sweep.specs.Wanted.{is_log, EndBy, IsNoLonger};
 ghost use Rattle.store_sweep.specs.Moments.{ImagesCarry, KeepsStore, SameWhere, SyncedWhereCut, NoneMade};
 

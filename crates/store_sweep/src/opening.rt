@@ -5,9 +5,9 @@ ghost use Rattle.disk_model.specs.Disk.{EachImage, IfTold, IsThere, FaultsRoseIf
 ghost use Rattle.disk_model.specs.declared.name.FileName.{FileName};
 ghost use Rattle.disk_model.specs.declared.name.FileName.TheVariants as file;
 ghost use Rattle.gate_log.specs.Log.{OneRoseIf};
-ghost use Rattle.mail_model.specs.Lists.{Lists};
-ghost use Rattle.mail_model.specs.Safe.{Safe};
-ghost use Rattle.mail_model.specs.Settled.{IsSettled};
+ghost use Rattle.model_lists.specs.Lists.{Lists};
+ghost use Rattle.model_store.specs.Safe.{Safe};
+ghost use Rattle.model_store.specs.Settled.{IsSettled};
 ghost use Rattle.store_sweep.specs.Moments.{ImagesCarry, KeepsStore, SameWhere, LogStays, SyncedWhereCut, NamesSynced};
 ghost use Rattle.store_sweep.specs.Repaired.{StandsFound, at_rest, IsRepaired, AreBoxLogs, is_outside};
 ghost use Rattle.store_sweep.specs.Swept.{OpensWith, FilesCarry, IsOpened, EndWithRegions};

@@ -1,9 +1,10 @@
 // Which entry fits behind those so far.
 ghost use Rattle.std.specs.Prelude.{◌≡◌, ◌≢◌, ◌<◌, ◌≤◌, ◌↔◌, map, IsTrue, Some, All, AllPairs};
 ghost use Rattle.std.specs.List.Sorted.{IsStrictlyIncreasing};
-ghost use Rattle.mail_model.specs.MapMeaning.{MapBox, box_at};
+ghost use Rattle.model_meaning.specs.MapMeaning.{MapBox, box_at};
 ghost use Rattle.map_index.specs.Has.{HasRow, IsCounted};
-ghost use Rattle.mail_model.specs.MapFits.{MapFits, IsRaised, IsNumber, IsKnown, HasRecord, FitsMade, FitsRegion, IsFree, AgreesOn};
+ghost use Rattle.model_meaning.specs.MapFits.{MapFits, IsRaised, IsKnown, HasRecord, FitsMade, FitsRegion, IsFree, AgreesOn};
+ghost use Rattle.mdbox_base.specs.Words.{IsNumber};
 
 use super::MapIndex;
 use crate::fitting::{

@@ -2,7 +2,8 @@
 ghost use Rattle.std.specs.Prelude.{◌≡◌, ◌≢◌, ◌↔◌, map, IsTrue, All, AllPairs};
 ghost use Rattle.std.specs.List.Sorted.{IsStrictlyIncreasing};
 ghost use Rattle.map_index.specs.Has.{HasRoom, IsIn, IsUnused};
-ghost use Rattle.mail_model.specs.MapFits.{IsNumber, FitsPurged, FitsTarget, FitsPlace, ArePlacedApart, IsMovedOrDropped, size_at};
+ghost use Rattle.model_meaning.specs.MapFits.{FitsPurged, FitsTarget, FitsPlace, ArePlacedApart, IsMovedOrDropped, size_at};
+ghost use Rattle.mdbox_base.specs.Words.{IsNumber};
 
 use super::MapIndex;
 use crate::fitting::{ends, is_number};

@@ -1,5 +1,5 @@
 use Rattle.std.proofs.Common.{◌∙◌, map}
-use Rattle.mail_model.specs.Detached.{AreDetached}
+use Rattle.model_attach.specs.Detached.{AreDetached}
 use Rattle.parts_bench.proofs.is_same_again.Goals as goal
 
 pub rejoin_detached-requires : goal.rejoin_detached-requires

@@ -1,4 +1,4 @@
-use Rattle.mail_model.specs.PartsLaws.{detachable_in_order}
+use Rattle.model_mime.proofs.PartsLemmas.{detachable_in_order}
 use Rattle.attach_detach.proofs.message.prepare.Goals as goal
 
 pub cut-requires : goal.cut-requires

@@ -1,5 +1,5 @@
 use Rattle.std.proofs.Common.{◌∙◌, [], ap, sym, arith, append-nil}
-use Rattle.mail_model.specs.VirtualSize.{bare_breaks}
+use Rattle.model_attach.specs.VirtualSize.{bare_breaks}
 use Rattle.attach_detach.proofs.size.bare_breaks.Goals as goal
 
 pub returns-clause-count : goal.returns-clause-count

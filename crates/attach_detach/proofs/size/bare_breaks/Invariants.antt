@@ -1,5 +1,5 @@
 use Rattle.std.proofs.Common.{◌≡◌, ◌+◌, ◌≤◌, length}
-use Rattle.mail_model.specs.VirtualSize.{bare_breaks}
+use Rattle.model_attach.specs.VirtualSize.{bare_breaks}
 use Rattle.attach_detach.proofs.size.bare_breaks.Given as goal
 
 abbrev pub invariant-loop-rest : goal.invariant-loop-rest

@@ -1,5 +1,5 @@
 use Rattle.std.proofs.Common.{◌≡◌, ◌+◌, ◌≤◌, ◌++◌, ℕ, List, drop}
-use Rattle.mail_model.specs.VirtualSize.{bare_breaks}
+use Rattle.model_attach.specs.VirtualSize.{bare_breaks}
 use Rattle.attach_detach.proofs.size.bare_in.Given as goal
 
 abbrev pub invariant-loop-octet : goal.invariant-loop-octet

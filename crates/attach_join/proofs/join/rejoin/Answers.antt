@@ -1,5 +1,5 @@
 use Rattle.std.proofs.Common.{refl}
-use Rattle.mail_model.specs.Rejoined.{IsWhole}
+use Rattle.model_attach.specs.Rejoined.{IsWhole}
 use Rattle.attach_join.proofs.Joins.{size_is}
 use Rattle.attach_join.proofs.join.rejoin.Goals as goal
 

@@ -1,9 +1,9 @@
 use Rattle.std.proofs.Common.{◌≡◌, ℕ, List, [], refl, arith, sym}
 use Rattle.mdbox_base.specs.declared.metadata.ExtRef.{ExtRef}
-use Rattle.mail_model.specs.Parts.{parts_in, found_in, part_of}
-use Rattle.mail_model.specs.Fields.{fields_of}
-use Rattle.mail_model.specs.Lines.{content}
-use Rattle.mail_model.specs.Detached.{AreDetached}
+use Rattle.model_mime.specs.Parts.{parts_in, found_in, part_of}
+use Rattle.model_mime.specs.Fields.{fields_of}
+use Rattle.model_mime.specs.Lines.{content}
+use Rattle.model_attach.specs.Detached.{AreDetached}
 use Rattle.attach_join.proofs.tests.an_empty_message_is_its_detached_form.Goals as goal
 
 nothing_detached : AreDetached [] [] [] []

@@ -1,5 +1,5 @@
 use Rattle.std.proofs.Common.{length}
-use Rattle.mail_model.specs.Base64Text.{line_break}
+use Rattle.model_base64.specs.Base64Text.{line_break}
 use Rattle.b64_lines.proofs.Cut.{IsCut}
 use Rattle.b64_lines.proofs.read.characters.Given as goal
 

@@ -1,5 +1,5 @@
 use Rattle.std.proofs.Common.{◌≡◌, ◌++◌, ◌+◌, ◌-◌, length, arith, sym, ap, ◌∙◌}
-use Rattle.mail_model.specs.StorageFile.{line_text}
+use Rattle.model_storage.specs.StorageFile.{line_text}
 use Rattle.dbox_file.proofs.RowLaws.{found_more, flawed_more}
 use Rattle.dbox_file.proofs.lines.behind_lines.Goals as goal
 

@@ -1,5 +1,5 @@
 use Rattle.std.proofs.Common.{All}
-use Rattle.mail_model.specs.Paths.{IsStoreFile}
+use Rattle.file_paths.specs.Paths.{IsStoreFile}
 use Rattle.disk_real.proofs.folders.sorted_names.Given as goal
 
 abbrev pub invariant-loop-folder : goal.invariant-loop-folder

@@ -1,7 +1,7 @@
 use Rattle.std.proofs.Common.{◌≡◌, Ok, sym, ◌∙◌, ap}
 use Rattle.hex.specs.Hex.{decode_sized}
 use Rattle.hex.proofs.HexLemmas.{decode_sized-encode_lower}
-use Rattle.mail_model.specs.ReferenceLaws.{octets_are_bytes}
+use Rattle.model_storage.proofs.ReferenceLemmas.{octets_are_bytes}
 use Rattle.file_paths.proofs.HexLaws.{no_capitals, digits_back, ok_from_some}
 use Rattle.file_paths.proofs.read.octets_of.Goals as goal
 

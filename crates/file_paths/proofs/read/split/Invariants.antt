@@ -1,6 +1,6 @@
 use Rattle.std.proofs.Common.{take, IsTrue}
 use Rattle.std.specs.List.{list_all}
-use Rattle.mail_model.specs.ReferenceLaws.{is_other_than}
+use Rattle.mdbox_base.specs.Words.{is_other_than}
 use Rattle.file_paths.proofs.read.split.Given as goal
 
 -- the mark is none of the octets so far

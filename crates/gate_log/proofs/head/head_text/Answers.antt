@@ -1,6 +1,6 @@
 use Rattle.std.proofs.Common.{◌≡◌, ◌++◌, ◌∷◌, ℕ, List, length, [], slice_set, refl, arith}
 use borrow.Rule.Slice.PartMut.{put_mid}
-use Rattle.mail_model.specs.LogFile.{head_octets}
+use Rattle.model_logs.specs.LogFile.{head_octets}
 use Rattle.gate_log.proofs.head.head_text.Goals as goal
 
 laid : (store : List ℕ) (kind n0 n1 n2 n3 g0 g1 g2 g3 : ℕ) → length store ≡ 8

@@ -1,5 +1,5 @@
 use Rattle.std.proofs.Common.{refl}
-use Rattle.mail_model.specs.LogFile.{IsLog}
+use Rattle.model_logs.specs.LogFile.{IsLog}
 use Rattle.gate_log.proofs.Opening.{read-log, idle-images, idle-others_stay, opened-images, opened-others_stay}
 use Rattle.gate_log.proofs.log.open_log.Given.{Over}
 use Rattle.gate_log.proofs.log.open_log.Goals.{In_ok-found}

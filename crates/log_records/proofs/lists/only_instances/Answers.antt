@@ -1,5 +1,5 @@
 use Rattle.std.proofs.Common.{◌<◌, ◌≤◌, ◌^◌, length, rules}
-use Rattle.mail_model.specs.Entries.{row_text, RowInRange}
+use Rattle.model_logs.specs.Entries.{row_text, RowInRange}
 use Rattle.log_records.proofs.ListItems.{none_of, some_of, items_short, items_over, row_sized}
 use Rattle.log_records.proofs.lists.only_instances.Goals as goal
 

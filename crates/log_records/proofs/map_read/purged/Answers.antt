@@ -1,7 +1,7 @@
 use Rattle.std.proofs.Common.{◌<◌, ◌^◌, ◌++◌, sym, ◌∙◌, refl, rules}
 use Rattle.mdbox_base.specs.declared.entries.MapPlace.{MapPlace}
-use Rattle.mail_model.specs.Entries.{four}
-use Rattle.mail_model.specs.NumberLaws.{next_four}
+use Rattle.model_logs.specs.Entries.{four}
+use Rattle.model_octets.proofs.NumberLemmas.{next_four}
 use Rattle.log_records.proofs.ListItems.{none_of, some_of, list_rest}
 use Rattle.log_records.proofs.map_read.purged.Goals as goal
 

@@ -1,7 +1,7 @@
 use Rattle.std.proofs.Common.{◌≡◌, List, ℕ, ◌∷◌, ◌++◌, length, ap, sym, ◌∙◌, arith}
 use Rattle.std.specs.Int.{w16, to_be_bytes}
-use Rattle.mail_model.specs.Entries.{four}
-use Rattle.mail_model.specs.Pieces.{split_same}
+use Rattle.model_logs.specs.Entries.{four}
+use Rattle.model_octets.proofs.PiecesLemmas.{split_same}
 use Rattle.log_records.specs.Stored.{stored_text}
 use Rattle.log_records.proofs.ListItems.{none_of, some_of}
 use Rattle.log_records.proofs.map_read.stored.Goals as goal

@@ -1,5 +1,5 @@
 use Rattle.std.proofs.Common.{◌∙◌, ◌≤◌, length, ap, sym, arith}
-use Rattle.mail_model.specs.Entries.{map_text}
+use Rattle.model_logs.specs.Entries.{map_text}
 use Rattle.log_records.proofs.EntrySizes.{stored_size, stored_filled}
 use Rattle.log_records.proofs.map_write.put_message.Goals as goal
 

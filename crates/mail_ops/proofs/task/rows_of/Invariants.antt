@@ -1,5 +1,5 @@
 use Rattle.std.proofs.Common.{◌≡◌, map, take}
-use Rattle.mail_model.specs.Listing.{listed_row}
+use Rattle.model_store.specs.Listing.{listed_row}
 use Rattle.mail_ops.proofs.task.rows_of.Given as goal
 
 abbrev pub invariant-loop-place : goal.invariant-loop-place

@@ -1,6 +1,6 @@
 use Rattle.std.proofs.Common.{◌≡◌, ◌∙◌, sym, ap, map, ◌++◌, ◌∷◌, [], List, ℕ, true, false}
 use Rattle.std.proofs.lemmas.List.{map_push}
-use Rattle.mail_model.specs.AppliedLaws.{boxes_by_mailbox, boxes_by_generation}
+use Rattle.model_meaning.proofs.AppliedLemmas.{boxes_by_mailbox, boxes_by_generation}
 use Rattle.map_index.specs.Shown.{box_of}
 use Rattle.map_index.proofs.Applied.{boxes_stay}
 use Rattle.map_index.proofs.changes.change_boxes.Goals as goal

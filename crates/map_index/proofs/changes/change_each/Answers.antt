@@ -1,6 +1,6 @@
 use Rattle.std.proofs.Common.{◌≡◌, ◌<◌, ◌∙◌, ap, sym, arith, add-one, length, map}
 use Rattle.std.proofs.lemmas.List.{get_or_default}
-use Rattle.mail_model.specs.MapMeaning.{MapRecord, record_changed}
+use Rattle.model_meaning.specs.MapMeaning.{MapRecord, record_changed}
 use Rattle.map_index.specs.declared.rows.Record.{Record}
 use Rattle.map_index.specs.Shown.{record_of, IsRisen}
 use Rattle.map_index.proofs.InPlace.{changed_to-none, changed_more, changed_all, holds_next, seen_size}

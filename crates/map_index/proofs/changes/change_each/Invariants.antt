@@ -1,5 +1,5 @@
 use Rattle.std.proofs.Common.{◌≡◌, map}
-use Rattle.mail_model.specs.MapMeaning.{record_changed}
+use Rattle.model_meaning.specs.MapMeaning.{record_changed}
 use Rattle.map_index.specs.Shown.{record_of}
 use Rattle.map_index.proofs.InPlace.{changed_to}
 use Rattle.map_index.proofs.changes.change_each.Given as goal

@@ -2,8 +2,8 @@ use Rattle.std.proofs.Common.{◌≡◌, ◌∙◌, sym, ap, map, filter, not, �
 use Rattle.std.proofs.lemmas.List.{map_push}
 use Rattle.mdbox_base.specs.declared.entries.InstRow.{InstRow}
 use Rattle.mdbox_base.specs.declared.entries.MapEntry.TheVariants as entry
-use Rattle.mail_model.specs.MapMeaning.{MapRecord, record_changed, has_uid}
-use Rattle.mail_model.specs.AppliedLaws.{records_by_stored, records_by_purged}
+use Rattle.model_meaning.specs.MapMeaning.{MapRecord, record_changed, has_uid}
+use Rattle.model_meaning.proofs.AppliedLemmas.{records_by_stored, records_by_purged}
 use Rattle.map_index.specs.Shown.{record_of}
 use Rattle.map_index.proofs.Applied.{filter-map, records_change}
 use Rattle.map_index.proofs.changes.change_records.Goals as goal

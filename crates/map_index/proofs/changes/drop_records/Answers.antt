@@ -1,5 +1,5 @@
 use Rattle.std.proofs.Common.{◌≡◌, ◌∙◌, ap, sym, arith, add-one, not, true, false}
-use Rattle.mail_model.specs.MapMeaning.{has_uid}
+use Rattle.model_meaning.specs.MapMeaning.{has_uid}
 use Rattle.map_index.specs.declared.rows.Record.{Record}
 use Rattle.map_index.proofs.InPlace.{kept_by-none, kept_by-all, kept_by-remove, kept_by-keep}
 use Rattle.map_index.proofs.changes.drop_records.Goals as goal

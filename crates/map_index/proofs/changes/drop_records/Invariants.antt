@@ -1,5 +1,5 @@
 use Rattle.std.proofs.Common.{◌≡◌, ◌-◌, not, filter, vec_len}
-use Rattle.mail_model.specs.MapMeaning.{has_uid}
+use Rattle.model_meaning.specs.MapMeaning.{has_uid}
 use Rattle.map_index.specs.declared.rows.Record.{Record}
 use Rattle.map_index.proofs.InPlace.{kept_by}
 use Rattle.map_index.proofs.changes.drop_records.Given as goal

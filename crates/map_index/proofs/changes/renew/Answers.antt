@@ -1,7 +1,7 @@
 use Rattle.std.proofs.Common.{◌≡◌, ◌<◌, ◌∙◌, ap, sym, arith, add-one, length, map}
 use Rattle.std.proofs.lemmas.List.{get_or_default}
 use Rattle.mdbox_base.specs.declared.entries.MapEntry.TheVariants as entry
-use Rattle.mail_model.specs.MapMeaning.{box_changed}
+use Rattle.model_meaning.specs.MapMeaning.{box_changed}
 use Rattle.map_index.specs.declared.rows.Mailbox.{Mailbox}
 use Rattle.map_index.specs.Shown.{box_of}
 use Rattle.map_index.proofs.InPlace.{changed_to-none, changed_more, changed_all, seen_size}

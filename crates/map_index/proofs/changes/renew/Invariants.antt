@@ -1,6 +1,6 @@
 use Rattle.std.proofs.Common.{◌≡◌, map}
 use Rattle.mdbox_base.specs.declared.entries.MapEntry.TheVariants as entry
-use Rattle.mail_model.specs.MapMeaning.{box_changed}
+use Rattle.model_meaning.specs.MapMeaning.{box_changed}
 use Rattle.map_index.specs.Shown.{box_of}
 use Rattle.map_index.proofs.InPlace.{changed_to}
 use Rattle.map_index.proofs.changes.renew.Given as goal

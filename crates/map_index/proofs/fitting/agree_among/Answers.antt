@@ -1,5 +1,5 @@
 use Rattle.std.proofs.Common.{◌≡◌, ◌∙◌, sym, true, false}
-use Rattle.mail_model.specs.MapFits.{AgreesOn}
+use Rattle.model_meaning.specs.MapFits.{AgreesOn}
 use Rattle.map_index.proofs.Pairs.{pairs_split, pairs_joined}
 use Rattle.map_index.proofs.fitting.agree_among.Goals as goal
 

@@ -1,6 +1,6 @@
 use Rattle.std.proofs.Common.{length}
 use Rattle.std.specs.Prelude.{AllPairs, ◌↔◌}
-use Rattle.mail_model.specs.MapFits.{AgreesOn}
+use Rattle.model_meaning.specs.MapFits.{AgreesOn}
 use Rattle.map_index.proofs.fitting.agree_among.Given as goal
 
 -- the instances agree exactly where the rest does

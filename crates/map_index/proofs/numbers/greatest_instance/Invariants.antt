@@ -1,5 +1,5 @@
 use Rattle.std.proofs.Common.{◌≡◌, max, fold, drop}
-use Rattle.mail_model.specs.MapMeaning.{greatest, instance_number}
+use Rattle.model_meaning.specs.MapMeaning.{greatest, instance_number}
 use Rattle.map_index.proofs.numbers.greatest_instance.Given as goal
 
 -- the greatest so far, and the rest

@@ -1,5 +1,5 @@
 use Rattle.std.proofs.Common.{◌≡◌, max, fold, drop}
-use Rattle.mail_model.specs.MapMeaning.{greatest}
+use Rattle.model_meaning.specs.MapMeaning.{greatest}
 use Rattle.map_index.proofs.numbers.greatest_uid.Given as goal
 
 -- the greatest so far, and the rest

@@ -1,7 +1,7 @@
 use Rattle.std.proofs.Common.{refl, sym, subst}
 use Rattle.disk_model.specs.Disk.{IfTold}
-use Rattle.mail_model.specs.Settled.{IsSettled}
-use Rattle.mail_model.specs.Opening.{empty_inbox}
+use Rattle.model_store.specs.Settled.{IsSettled}
+use Rattle.model_store.specs.Opening.{empty_inbox}
 use Rattle.store_open.specs.Making.{IsMade}
 use Rattle.mdbox_top.specs.declared.store_outcome.StoreOutcome.TheVariants as outcome
 use Rattle.mdbox_top.proofs.StoreLaws.{inits_last, made_ends}

@@ -1,6 +1,6 @@
 use Rattle.std.proofs.Common.{◌≡◌, ◌<◌, ◌≤◌, ℕ, List, length, get_or, ◌∙◌, ap, arith}
 use Rattle.std.proofs.lemmas.Result.{err_from_is_err_and}
-use Rattle.mail_model.specs.LogFile.{record_places}
+use Rattle.model_logs.specs.LogFile.{record_places}
 use Rattle.mdbox_top.proofs.PrintLaws.{cut_end, passed_end}
 use Rattle.mdbox_top.proofs.LogPrintLaws.{places_length, goes_on, entry_cut, stops, end_cut, all_passed}
 use Rattle.mdbox_top.proofs.log_print.print_log.Goals as goal

@@ -1,5 +1,5 @@
 use Rattle.std.proofs.Common.{List, ◌≤◌, length}
-use Rattle.mail_model.specs.StorageFile.{Line, AreLines}
+use Rattle.model_storage.specs.StorageFile.{Line, AreLines}
 use Rattle.mdbox_top.proofs.PrintLaws.{IsLeft}
 use Rattle.mdbox_top.proofs.print.print_lines.Given as goal
 

@@ -1,7 +1,7 @@
 use Rattle.std.proofs.Common.{◌<◌, length, get_or, arith, []}
 use Rattle.std.proofs.lemmas.List.{get_or_default}
 use Rattle.std.proofs.lemmas.Result.{err_from_is_err_and}
-use Rattle.mdbox_base.specs.declared.storage_file.MessageAt.{MessageAt}
+use Rattle.model_storage.specs.declared.places.MessageAt.{MessageAt}
 use Rattle.mdbox_top.proofs.PrintLaws.{shows_first, rest_next, rest_cut, rest_end, passed_end, cut_end}
 use Rattle.mdbox_top.proofs.print.print_messages.Goals as goal
 

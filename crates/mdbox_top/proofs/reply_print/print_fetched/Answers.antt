@@ -1,6 +1,6 @@
 use Rattle.std.proofs.Common.{ℕ, List, [], ◌∷◌, ◌++◌, length}
 use Rattle.std.proofs.lemmas.Result.{err_from_is_err_and}
-use Rattle.mail_model.specs.ReplyText.{numbers_text, ok_line}
+use Rattle.mdbox_top.specs.ReplyText.{numbers_text, ok_line}
 use Rattle.mdbox_top.proofs.PrintLaws.{cut_end, passed_end}
 use Rattle.mdbox_top.proofs.ReplyPrintLaws.{text_cut, last_cut, last_passed}
 use Rattle.mdbox_top.proofs.reply_print.print_fetched.Goals as goal

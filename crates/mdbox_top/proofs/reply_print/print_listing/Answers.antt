@@ -1,6 +1,6 @@
 use Rattle.std.proofs.Common.{◌<◌, length, arith}
 use Rattle.std.proofs.lemmas.Result.{err_from_is_err_and}
-use Rattle.mail_model.specs.ReplyText.{listing_text}
+use Rattle.mdbox_top.specs.ReplyText.{listing_text}
 use Rattle.mdbox_top.proofs.PrintLaws.{cut_end, passed_end}
 use Rattle.mdbox_top.proofs.ReplyPrintLaws.{listing_begins, listing_goes_on, listing_cut, listing_passed}
 use Rattle.mdbox_top.proofs.reply_print.print_listing.Goals as goal

@@ -1,6 +1,6 @@
 use Rattle.std.proofs.Common.{ℕ, ◌<◌, ◌++◌, List, length, get_or, sym, ◌∙◌, ap, append-nil, arith}
 use Rattle.std.proofs.lemmas.List.{get_or_default, take_all}
-use Rattle.mail_model.specs.ReplyText.{numbers_text}
+use Rattle.mdbox_top.specs.ReplyText.{numbers_text}
 use Rattle.mdbox_top.proofs.ReplyPrintLaws.{number_added}
 use Rattle.mdbox_top.proofs.reply_print.push_numbers.Goals as goal
 

@@ -1,5 +1,5 @@
 use Rattle.std.proofs.Common.{◌≡◌, ◌++◌, take}
-use Rattle.mail_model.specs.ReplyText.{numbers_text}
+use Rattle.mdbox_top.specs.ReplyText.{numbers_text}
 use Rattle.mdbox_top.proofs.reply_print.push_numbers.Given as goal
 
 -- the numbers so far are added

@@ -1,5 +1,5 @@
 use Rattle.std.proofs.lemmas.Result.{on_ok_weaker, on_err_weaker}
-use Rattle.mail_model.specs.ReplyText.{row_text}
+use Rattle.mdbox_top.specs.ReplyText.{row_text}
 use Rattle.mdbox_top.proofs.ReplyPrintLaws.{pushed_passed, pushed_cut}
 use Rattle.mdbox_top.proofs.reply_print.put_row.Goals as goal
 

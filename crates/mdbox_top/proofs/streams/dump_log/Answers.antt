@@ -1,5 +1,5 @@
 use Rattle.std.proofs.Common.{refl, inr}
-use Rattle.mail_model.specs.LogDumpText.{log_dump_text}
+use Rattle.mdbox_top.specs.LogDumpText.{log_dump_text}
 use Rattle.mdbox_top.specs.declared.command.Command.TheVariants as command
 use Rattle.mdbox_top.proofs.streams.dump_log.Goals as goal
 

@@ -1,6 +1,6 @@
 use Rattle.std.proofs.Common.{◌≡◌, ◌-◌, length, drop}
-use Rattle.mail_model.specs.Lines.{texts}
-use Rattle.mail_model.specs.Fields.{value_of}
+use Rattle.model_mime.specs.Lines.{texts}
+use Rattle.model_mime.specs.Fields.{value_of}
 use Rattle.mime_fields.proofs.fields.field.Given as goal
 
 abbrev pub invariant-loop-line : goal.invariant-loop-line

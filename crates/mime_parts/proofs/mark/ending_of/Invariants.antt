@@ -1,6 +1,6 @@
 use Rattle.std.proofs.Common.{◌≡◌, ◌≤◌, ◌-◌, length, take, false}
 use Rattle.std.specs.List.{list_any}
-use Rattle.mail_model.specs.Parts.{ends_part}
+use Rattle.model_mime.specs.Parts.{ends_part}
 use Rattle.mime_parts.proofs.mark.ending_of.Given as goal
 
 abbrev pub invariant-loop-i : goal.invariant-loop-i

@@ -1,7 +1,7 @@
 use Rattle.std.proofs.Common.{◌≡◌, ◌<◌, ◌≤◌, ◌⊎◌, inl, inr, ap}
-use Rattle.mail_model.specs.Parts.{is_other}
+use Rattle.model_mime.specs.Parts.{is_other}
 use Rattle.mime_parts.proofs.Steps.{is_leaf}
-use Rattle.mdbox_base.specs.declared.mime.Kind.{Kind}
+use Rattle.model_mime.specs.declared.mime.Kind.{Kind}
 use Rattle.mime_parts.proofs.ReaderLemmas.{head_multipart, head_leaf, other_kind}
 use Rattle.mime_parts.proofs.reader.flush.Goals as goal
 use Rattle.mime_parts.proofs.reader.flush.Goals.{then-start-end, else-start-end}

@@ -1,5 +1,5 @@
 use Rattle.std.proofs.Common.{◌≡◌, ◌≤◌, length, take}
-use Rattle.mail_model.specs.Parts.{trimmed_size}
+use Rattle.model_mime.specs.Parts.{trimmed_size}
 use Rattle.mime_parts.proofs.reader.trimmed.Given as goal
 
 abbrev pub invariant-loop-end : goal.invariant-loop-end

@@ -1,5 +1,5 @@
 use Rattle.std.proofs.Common.{◌≡◌, map, take}
-use Rattle.mail_model.specs.MapMeaning.{greatest}
+use Rattle.model_meaning.specs.MapMeaning.{greatest}
 use Rattle.plain_lists.specs.View.{mailbox_of}
 use Rattle.plain_lists.proofs.walks.highest_number.Given as goal
 

@@ -1,5 +1,5 @@
 use Rattle.std.proofs.Common.{◌≡◌, ◌^◌, ◌-◌, min, map, take}
-use Rattle.mail_model.specs.Lists.{refs_of}
+use Rattle.model_lists.specs.Lists.{refs_of}
 use Rattle.plain_lists.specs.View.{mailbox_of}
 use Rattle.plain_lists.proofs.walks.references.Given as goal
 

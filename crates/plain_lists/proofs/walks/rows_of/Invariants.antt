@@ -1,5 +1,5 @@
 use Rattle.std.proofs.Common.{◌≡◌, map, take}
-use Rattle.mail_model.specs.Machine.{row_of}
+use Rattle.model_lists.specs.Lists.{row_of}
 use Rattle.plain_lists.specs.View.{message_of}
 use Rattle.plain_lists.proofs.walks.rows_of.Given as goal
 

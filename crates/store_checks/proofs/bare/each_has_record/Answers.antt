@@ -1,5 +1,5 @@
 use Rattle.std.proofs.Common.{◌≡◌, slice_get, Some, true, false, refl, arith}
-use Rattle.mail_model.specs.Opening.{HasItsRecord}
+use Rattle.model_store.specs.Opening.{HasItsRecord}
 use Rattle.box_index.specs.Row.{row_of}
 use Rattle.store_checks.proofs.Walks.{seen, all_next, all_places, at_place}
 use Rattle.store_checks.proofs.bare.each_has_record.Goals as goal

@@ -1,5 +1,5 @@
 use Rattle.std.proofs.Common.{All, take}
-use Rattle.mail_model.specs.Opening.{HasItsRecord}
+use Rattle.model_store.specs.Opening.{HasItsRecord}
 use Rattle.store_checks.proofs.bare.each_has_record.Given as goal
 
 abbrev pub invariant-loop-place : goal.invariant-loop-place

@@ -1,6 +1,6 @@
 use Rattle.std.proofs.Common.{◌≡◌, ◌==◌, slice_get, Some, eq-eqb, arith}
 use Rattle.std.proofs.lemmas.Bool.{ne_eqb}
-use Rattle.mail_model.specs.BoxMeaning.{LogRow}
+use Rattle.model_meaning.specs.BoxMeaning.{LogRow}
 use Rattle.box_index.specs.Row.{row_of}
 use Rattle.store_checks.proofs.Walks.{seen}
 use Rattle.store_checks.proofs.Counting.{counts_one, counts_none, one_too_many}

@@ -4,7 +4,7 @@ use Rattle.std.proofs.lemmas.List.Sorted.{All-permutation}
 use Rattle.store_checks.specs.declared.instances.Instance.{Instance}
 use Rattle.store_checks.specs.Lengths.{instance_of, IsNamedNoLater}
 use Rattle.std.specs.List.{flat_map}
-use Rattle.mail_model.specs.MapMeaning.{MapRecord}
+use Rattle.model_meaning.specs.MapMeaning.{MapRecord}
 use Rattle.mdbox_base.specs.declared.entries.InstRow.{InstRow}
 use Rattle.store_checks.proofs.Walks.{grown}
 use Rattle.store_checks.proofs.Sorting.{names_next, named_next, copied_some, chained, named_no_later, named_trans}

@@ -1,7 +1,7 @@
 use Rattle.std.proofs.Common.{All, refl, subst}
 use Rattle.std.proofs.lemmas.Result.{err_from_is_err_and}
-use Rattle.mail_model.specs.BoxMeaning.{BoxMeaning}
-use Rattle.mail_model.specs.Opening.{HasItsRecord}
+use Rattle.model_meaning.specs.BoxMeaning.{BoxMeaning}
+use Rattle.model_store.specs.Opening.{HasItsRecord}
 use Rattle.gate_log.proofs.Idling.{idle-begins}
 use Rattle.store_checks.specs.Boxes.{box_file, box_head}
 use Rattle.store_checks.proofs.Taking.{some_text, none_text}

@@ -1,7 +1,7 @@
 use Rattle.std.proofs.Common.{◌++◌, ◌∷◌, [], List, subst, take_all, arith}
 use Rattle.std.proofs.lemmas.Result.{err_from_is_err_and}
 use Rattle.gate_log.proofs.Idling.{idle-begins}
-use Rattle.mail_model.specs.MapMeaning.{MapBox}
+use Rattle.model_meaning.specs.MapMeaning.{MapBox}
 use Rattle.store_checks.specs.Boxes.{AreRead}
 use Rattle.store_checks.proofs.Calls.{idle-then, reads-then, reads-other, reads-begin}
 use Rattle.store_checks.proofs.Mailboxes.{none_read, one_read, boxes_cause}

@@ -1,6 +1,6 @@
 use Rattle.std.proofs.Common.{All, take}
 use Rattle.disk_model.specs.Disk.{IfTold}
-use Rattle.mail_model.specs.Settled.{files_of}
+use Rattle.model_store.specs.Settled.{files_of}
 use Rattle.gate_log.specs.Log.{Idle, ReadsRoseIf}
 use Rattle.store_checks.specs.Lengths.{IsAsked, LiesIn}
 use Rattle.store_checks.proofs.regions.check_regions.Given as goal

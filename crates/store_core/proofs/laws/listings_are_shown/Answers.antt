@@ -1,5 +1,5 @@
 use Rattle.store_core.proofs.Shown.{logs_show, refs_shown, found_by_name, answered}
-use Rattle.mail_model.specs.Listing.{meaning_named}
+use Rattle.model_store.specs.Listing.{meaning_named}
 use Rattle.store_core.proofs.laws.listings_are_shown.Goals as goal
 
 pub returns-clause-logs : goal.returns-clause-logs

@@ -1,4 +1,4 @@
-use Rattle.mail_model.specs.StoreExampleLaws.{inbox_is_name}
+use Rattle.model_store.proofs.StoreExampleLemmas.{inbox_is_name}
 use Rattle.store_open.proofs.entries.inbox.Goals as goal
 
 pub unreachable-requires : goal.unreachable-requires

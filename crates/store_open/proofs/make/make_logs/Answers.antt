@@ -2,8 +2,8 @@ use Rattle.std.proofs.Common.{◌∷◌, [], ap, ◌∙◌}
 use Rattle.disk_model.specs.Disk.{IfTold, EachImage}
 use Rattle.disk_model.specs.declared.name.FileName.TheVariants as file
 use Rattle.disk_model.proofs.Moments.{each_image-then}
-use Rattle.mail_model.specs.Entries.{map_text}
-use Rattle.mail_model.specs.Opening.{first_box}
+use Rattle.model_logs.specs.Entries.{map_text}
+use Rattle.model_store.specs.Opening.{first_box}
 use Rattle.gate_log.specs.State.{LogState}
 use Rattle.store_open.specs.Making.{NeverHasEntry, HasNothingOrInbox}
 use Rattle.store_open.proofs.NewStore.{HasInbox, HasMapLog, has-inbox, has-map, is-made, is-settled, holds-named, without-root, with-root, inbox-nevers, box-is-no-map, box-is-no-root, map-is-no-root}

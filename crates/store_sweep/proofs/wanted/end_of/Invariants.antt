@@ -1,5 +1,5 @@
 use Rattle.std.proofs.Common.{◌≡◌, take}
-use Rattle.mail_model.specs.MapMeaning.{greatest}
+use Rattle.model_meaning.specs.MapMeaning.{greatest}
 use Rattle.store_sweep.specs.Wanted.{ends_at}
 use Rattle.store_sweep.proofs.wanted.end_of.Given as goal
 

@@ -1,5 +1,5 @@
 use Rattle.std.proofs.Common.{◌==◌, ◌&&◌, refl, sym, arith}
-use Rattle.mail_model.specs.MapMeaning.{MapBox}
+use Rattle.model_meaning.specs.MapMeaning.{MapBox}
 use Rattle.map_index.specs.Shown.{shown_box}
 use Rattle.map_index.specs.declared.rows.BoxAt.{BoxAt}
 use Rattle.store_sweep.proofs.Scans.{tested, any_seen, any_unseen, any_none, any_over}

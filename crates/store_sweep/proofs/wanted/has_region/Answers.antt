@@ -1,5 +1,5 @@
 use Rattle.std.proofs.Common.{◌==◌, refl, sym, arith}
-use Rattle.mail_model.specs.MapMeaning.{MapRecord}
+use Rattle.model_meaning.specs.MapMeaning.{MapRecord}
 use Rattle.map_index.specs.Shown.{shown}
 use Rattle.map_index.specs.declared.rows.MapRow.{MapRow}
 use Rattle.store_sweep.proofs.Scans.{tested, any_seen, any_unseen, any_over}

@@ -1,5 +1,5 @@
 use Rattle.std.proofs.Common.{◌≡◌, sym, ◌∙◌, ap, refl, map}
-use Rattle.mail_model.specs.BoxMeaning.{BoxFits}
+use Rattle.model_meaning.specs.BoxMeaning.{BoxFits}
 use Rattle.mdbox_base.specs.declared.entries.BoxEntry.TheVariants as entry
 use Rattle.box_index.specs.Row.{row_of}
 use Rattle.box_index.proofs.RowLemmas.{map-append}

@@ -1,7 +1,7 @@
 use Rattle.std.proofs.Common.{ap}
 use Rattle.std.specs.Prelude.{All}
-use Rattle.mail_model.specs.MapMeaning.{MapRecord, MapMeaning}
-use Rattle.mail_model.specs.MapFits.{AgreesOn}
+use Rattle.model_meaning.specs.MapMeaning.{MapRecord, MapMeaning}
+use Rattle.model_meaning.specs.MapFits.{AgreesOn}
 use Rattle.map_index.specs.Shown.{record_of}
 use Rattle.map_index.proofs.Lists.{all_in}
 use Rattle.map_index.proofs.index.MapIndex.agrees.Goals as goal

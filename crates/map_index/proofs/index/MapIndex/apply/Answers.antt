@@ -1,7 +1,7 @@
 use Rattle.std.proofs.Common.{◌<◌, ◌^◌, ◌∙◌, sym, ap, subst, refl, map, [], arith}
 use Rattle.mdbox_base.specs.declared.entries.Highest.{Highest}
 use Rattle.mdbox_base.specs.declared.ids.FileNo.{FileNo}
-use Rattle.mail_model.specs.MapMeaning.{higher}
+use Rattle.model_meaning.specs.MapMeaning.{higher}
 use Rattle.map_index.specs.Kept.{IsKept}
 use Rattle.map_index.specs.Shown.{box_of}
 use Rattle.map_index.proofs.Kept.{kept_more, can_rise}

@@ -1,5 +1,5 @@
 use Rattle.std.proofs.Common.{◌≡◌, ◌∙◌, sym, true, false, refl, arith}
-use Rattle.mail_model.specs.MapFits.{ArePlacedApart}
+use Rattle.model_meaning.specs.MapFits.{ArePlacedApart}
 use Rattle.map_index.proofs.Pairs.{pairs_split, pairs_joined}
 use Rattle.map_index.proofs.index.MapIndex.are_apart.Goals as goal
 

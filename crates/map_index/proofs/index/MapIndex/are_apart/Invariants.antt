@@ -1,6 +1,6 @@
 use Rattle.std.proofs.Common.{length}
 use Rattle.std.specs.Prelude.{AllPairs, ◌↔◌}
-use Rattle.mail_model.specs.MapFits.{ArePlacedApart}
+use Rattle.model_meaning.specs.MapFits.{ArePlacedApart}
 use Rattle.map_index.proofs.index.MapIndex.are_apart.Given as goal
 
 -- the places are apart exactly where the rest is

@@ -1,6 +1,6 @@
 use Rattle.std.proofs.Common.{◌≡◌, ap}
-use Rattle.mail_model.specs.MapMeaning.{MapRecord, MapMeaning}
-use Rattle.mail_model.specs.MapFits.{IsMovedOrDropped}
+use Rattle.model_meaning.specs.MapMeaning.{MapRecord, MapMeaning}
+use Rattle.model_meaning.specs.MapFits.{IsMovedOrDropped}
 use Rattle.map_index.specs.Shown.{record_of}
 use Rattle.map_index.proofs.Lists.{all_in}
 use Rattle.map_index.proofs.index.MapIndex.each_is_named.Goals as goal

@@ -1,6 +1,6 @@
 use Rattle.std.proofs.Common.{◌∙◌, ap, List, map, filter, None}
 use Rattle.std.specs.Option.{option_map}
-use Rattle.mail_model.specs.MapMeaning.{MapMeaning}
+use Rattle.model_meaning.specs.MapMeaning.{MapMeaning}
 use Rattle.map_index.specs.declared.rows.Record.{Record}
 use Rattle.map_index.specs.Shown.{shown, record_of, least, is_from, record_from}
 use Rattle.map_index.proofs.Nearest.{nearest_shown}

@@ -2,7 +2,7 @@ use Rattle.std.proofs.Common.{◌∙◌, ap, sym}
 use Rattle.std.specs.Str.{bytes_eq}
 use Rattle.std.specs.List.{list_any}
 use Rattle.mdbox_base.specs.declared.entries.InstRow.{InstRow}
-use Rattle.mail_model.specs.MapMeaning.{MapRecord, MapMeaning}
+use Rattle.model_meaning.specs.MapMeaning.{MapRecord, MapMeaning}
 use Rattle.map_index.specs.Shown.{record_of}
 use Rattle.map_index.proofs.Lists.{any_in, list_any-flat_map}
 use Rattle.map_index.proofs.index.MapIndex.is_named.Goals as goal

@@ -1,5 +1,5 @@
 use Rattle.std.proofs.Common.{◌≢◌, ap}
-use Rattle.mail_model.specs.MapMeaning.{MapBox, MapMeaning}
+use Rattle.model_meaning.specs.MapMeaning.{MapBox, MapMeaning}
 use Rattle.map_index.specs.Shown.{box_of}
 use Rattle.map_index.proofs.Lists.{all_in}
 use Rattle.map_index.proofs.index.MapIndex.is_new_name.Goals as goal

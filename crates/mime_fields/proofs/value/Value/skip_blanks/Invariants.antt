@@ -1,5 +1,5 @@
 use Rattle.std.proofs.Common.{◌≡◌, ◌≤◌, length}
-use Rattle.mail_model.specs.Fields.{behind_blanks}
+use Rattle.model_mime.specs.Fields.{behind_blanks}
 use Rattle.mime_fields.proofs.value.Value.skip_blanks.Given as goal
 
 abbrev pub invariant-loop-octet : goal.invariant-loop-octet

@@ -1,4 +1,4 @@
-use Rattle.mail_model.specs.Lines.{texts}
+use Rattle.model_mime.specs.Lines.{texts}
 use Rattle.mime_fields.proofs.Reading.{no_token, token_taken}
 use Rattle.mime_fields.proofs.value.Value.token.Goals as goal
 

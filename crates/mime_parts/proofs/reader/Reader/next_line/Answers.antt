@@ -1,6 +1,6 @@
 use Rattle.std.specs.Prelude.{Option, Some, None, IsNone, IfNone}
 use Rattle.std.proofs.Common.{refl}
-use Rattle.mdbox_base.specs.declared.mime.Line.{Line}
+use Rattle.model_mime.specs.declared.mime.Line.{Line}
 use Rattle.mime_parts.proofs.ReaderLemmas.{end_all}
 use Rattle.mime_parts.proofs.reader.Reader.next_line.Goals as goal
 

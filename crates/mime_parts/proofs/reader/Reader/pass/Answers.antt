@@ -2,9 +2,9 @@ use Rattle.std.proofs.Common.{ℕ, refl, ap, sym, ◌∙◌, List, ◌++◌, ◌
 use Rattle.mime_parts.specs.declared.reader.Reader.{Reader}
 use Rattle.mime_parts.proofs.ReaderLemmas.{keeps_open, leaf_next, multipart_next, same_next, keeps_closed, full_line, other_kind, body_as}
 use Rattle.mime_parts.proofs.Steps.{is_leaf}
-use Rattle.mail_model.specs.Parts.{is_other}
-use Rattle.mail_model.specs.Lines.{line_in}
-use Rattle.mdbox_base.specs.declared.mime.Kind.{Kind}
+use Rattle.model_mime.specs.Parts.{is_other}
+use Rattle.model_mime.specs.Lines.{line_in}
+use Rattle.model_mime.specs.declared.mime.Kind.{Kind}
 use Rattle.mime_parts.proofs.reader.Reader.pass.Goals as goal
 use Rattle.mime_parts.proofs.reader.Reader.pass.Goals.{in-Head+then-line+in-Multipart+in_ok-push-in-Multipart, in-Head+then-line+in-Other, in-Head+then-line+in_default-kind, in-Head+else-line, in_default}
 

@@ -1,8 +1,8 @@
 use Rattle.std.proofs.Common.{◌≡◌, ◌≤◌, ◌<◌, ◌^◌, ◌-◌, min, length, map, Result, Ok, Err, refl, sym, ap, ◌∙◌, arith}
 use Rattle.std.specs.Prelude.{OnErr}
 use Rattle.std.proofs.lemmas.List.{length-map}
-use Rattle.mail_model.specs.Lists.{ListedMessage, Lists, refs_of}
-use Rattle.mail_model.specs.Machine.{add_last, add_message}
+use Rattle.model_lists.specs.Lists.{ListedMessage, Lists, refs_of}
+use Rattle.list_machine.specs.Machine.{add_last, add_message}
 use Rattle.plain_lists.specs.declared.lists.PlainMailbox.{PlainMailbox}
 use Rattle.plain_lists.specs.View.{mailbox_of, message_of}
 use Rattle.plain_lists.proofs.Checks.{copy_no_source, copy_no_target, copy_no_message, copy_full, copy_used_up, copy_shared, copy_passes}

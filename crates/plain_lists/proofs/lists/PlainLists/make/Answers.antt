@@ -1,6 +1,6 @@
 use Rattle.std.proofs.Common.{◌≡◌, ◌≤◌, ◌<◌, ◌+◌, length, map, refl, sym, ap, ◌∙◌, arith}
 use Rattle.std.proofs.lemmas.List.{length-map}
-use Rattle.mail_model.specs.MapMeaning.{greatest}
+use Rattle.model_meaning.specs.MapMeaning.{greatest}
 use Rattle.plain_lists.specs.View.{mailbox_of}
 use Rattle.plain_lists.proofs.Checks.{make_exists, make_full, make_used_up, make_passes, all_below}
 use Rattle.plain_lists.proofs.Steps.{named_as_placed, pushed_empty}

@@ -1,5 +1,0 @@
-use Rattle.mail_model.specs.Base64Laws.{canonical_once}
-use Rattle.mail_model.proofs.base64_text.canonical_text_is_of_one_form.Goals as goal
-
-pub returns : goal.returns
-returns c text f g a b h k = canonical_once text f g a b h k

@@ -1,5 +1,0 @@
-use Rattle.mail_model.specs.MetadataLaws.{first_bad_same, no_bad_line}
-use Rattle.mail_model.proofs.metadata.first_bad_line_is_one.Goals as goal
-
-pub returns : goal.returns
-returns c = record { one = first_bad_same; none = no_bad_line }

@@ -1,5 +1,0 @@
-use Rattle.mail_model.specs.MetadataLaws.{metadata_same, metadata_text_same}
-use Rattle.mail_model.proofs.metadata.metadata_is_one.Goals as goal
-
-pub returns : goal.returns
-returns c = record { lines = metadata_same; text = metadata_text_same }

@@ -1,5 +1,0 @@
-use Rattle.mail_model.specs.RejoinedLaws.{whole_accepted}
-use Rattle.mail_model.proofs.rejoined.whole_has_no_error.Goals as goal
-
-pub returns : goal.returns
-returns c whole body refs instances h fits = whole_accepted whole body refs instances h fits

@@ -1,0 +1,2 @@
+pub mod DetachedLemmas
+pub mod RejoinedLemmas

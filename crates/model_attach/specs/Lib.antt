@@ -1,0 +1,3 @@
+pub mod Detached
+pub mod Rejoined
+pub mod VirtualSize

@@ -1,0 +1,2 @@
+//! Mailbox lists: what a user sees of a store.
+#![tactic(auto)]

@@ -1,0 +1,99 @@
+-- The octets of entries of logs. Numbers are big-endian.
+use Rattle.std.specs.Prelude.{◌≡◌, ◌<◌, ◌^◌, ℕ, List, [], ◌∷◌, ◌++◌, length, flat_map}
+use Rattle.std.specs.List.{AllByRecursion}
+use Rattle.std.specs.Int.{w16, w32, w64, to_be_bytes}
+use Rattle.mdbox_base.specs.Words.{IsName}
+use Rattle.mdbox_base.specs.declared.entries.InstRow.{InstRow}
+use Rattle.mdbox_base.specs.declared.entries.MapEntry.{MapEntry}
+use Rattle.mdbox_base.specs.declared.entries.MapEntry.TheVariants as map
+use Rattle.mdbox_base.specs.declared.entries.BoxEntry.{BoxEntry}
+use Rattle.mdbox_base.specs.declared.entries.BoxEntry.TheVariants as box
+use Rattle.mdbox_base.specs.declared.entries.RootEntry.{RootEntry}
+use Rattle.mdbox_base.specs.declared.entries.RootEntry.TheVariants as root
+
+-- a number in four octets
+abbrev pub four : ℕ → List ℕ
+four n = to_be_bytes w32 n
+
+-- a list: the number of items in four octets, and the items
+abbrev pub list_text : {X : Type 0} → (X → List ℕ) → List X → List ℕ
+list_text item items = four (length items) ++ flat_map item items
+
+-- a name: its length in one octet, and its octets
+abbrev pub name_text : List ℕ → List ℕ
+name_text name = length name ∷ name
+
+-- The text of a root entry: a letter, and the fields.
+abbrev pub root_text : RootEntry → List ℕ
+root_text (root.M generation) = 77 ∷ four generation
+
+-- The text of an entry of a mailbox log.
+abbrev pub box_text : BoxEntry → List ℕ
+box_text (box.N next) = 78 ∷ four next
+box_text (box.A uid flags time size map_uid guid) =
+    65 ∷ (four uid.0 ++ (flags ∷ (to_be_bytes w64 time ++ (four size ++ (four map_uid.0 ++ guid.0)))))
+box_text (box.F uid flags) = 70 ∷ (four uid.0 ++ flags ∷ [])
+box_text (box.R uid) = 82 ∷ four uid.0
+
+-- an instance in a map entry: hash, id and size
+abbrev pub row_text : InstRow → List ℕ
+row_text row = row.hash.0 ++ (row.id.0 ++ four row.size)
+
+-- The text of an entry of the map log.
+abbrev pub map_text : MapEntry → List ℕ
+map_text (map.H h) = 72 ∷ (four h.file ++ (four h.map ++ (four h.instance ++ four h.mailbox)))
+map_text (map.B mailbox generation name) = 66 ∷ (four mailbox.0 ++ (four generation ++ name_text name))
+map_text (map.G mailbox generation) = 71 ∷ (four mailbox.0 ++ four generation)
+map_text (map.S origin count uid file offset size guid instances) =
+    83 ∷ origin ∷ (to_be_bytes w16 count ++ (four uid.0 ++ (four file.0 ++ (four offset ++ (four size ++ (guid.0
+    ++ (to_be_bytes w16 (length instances) ++ flat_map row_text instances)))))))
+map_text (map.U uid) = 85 ∷ four uid.0
+map_text (map.D uids) = 68 ∷ list_text (λ u. four u.0) uids
+map_text (map.T counts) = 84 ∷ list_text (λ c. four c.uid.0 ++ to_be_bytes w16 c.count) counts
+map_text (map.P file target moved dropped) =
+    80 ∷ (four file.0 ++ (four target ++ (list_text (λ p. four p.uid.0 ++ four p.offset) moved ++ list_text (λ u. four u.0) dropped)))
+map_text (map.E file) = 69 ∷ four file.0
+
+-- The numbers of an entry fit their widths, its lists and ids have the lengths that their widths allow, its name is one.
+abbrev pub RootInRange : RootEntry → Type 0
+RootInRange (root.M generation) = generation < 2 ^ 32
+
+abbrev pub BoxInRange : BoxEntry → Type 0
+BoxInRange (box.N next) = next < 2 ^ 32
+BoxInRange (box.A uid flags time size map_uid guid) = (uid.0 < 2 ^ 32) × (flags < 256) × (time < 2 ^ 64) × (size < 2 ^ 32) × (map_uid.0 < 2 ^ 32) × (length guid.0 ≡ 16)
+BoxInRange (box.F uid flags) = (uid.0 < 2 ^ 32) × (flags < 256)
+BoxInRange (box.R uid) = uid.0 < 2 ^ 32
+
+abbrev pub RowInRange : InstRow → Type 0
+RowInRange row = (length row.hash.0 ≡ 20) × (length row.id.0 ≡ 16) × (row.size < 2 ^ 32)
+
+abbrev pub MapInRange : MapEntry → Type 0
+MapInRange (map.H h) = (h.file < 2 ^ 32) × (h.map < 2 ^ 32) × (h.instance < 2 ^ 32) × (h.mailbox < 2 ^ 32)
+MapInRange (map.B mailbox generation name) = (mailbox.0 < 2 ^ 32) × (generation < 2 ^ 32) × IsName name
+MapInRange (map.G mailbox generation) = (mailbox.0 < 2 ^ 32) × (generation < 2 ^ 32)
+MapInRange (map.S origin count uid file offset size guid instances) =
+    (origin < 256) × (count < 2 ^ 16) × (uid.0 < 2 ^ 32) × (file.0 < 2 ^ 32) × (offset < 2 ^ 32) × (size < 2 ^ 32) × (length guid.0 ≡ 16)
+    × (length instances < 2 ^ 16) × AllByRecursion RowInRange instances
+MapInRange (map.U uid) = uid.0 < 2 ^ 32
+MapInRange (map.D uids) = (length uids < 2 ^ 32) × AllByRecursion (λ u. u.0 < 2 ^ 32) uids
+MapInRange (map.T counts) = (length counts < 2 ^ 32) × AllByRecursion (λ c. (c.uid.0 < 2 ^ 32) × (c.count < 2 ^ 16)) counts
+MapInRange (map.P file target moved dropped) = (file.0 < 2 ^ 32) × (target < 2 ^ 32) × (length moved < 2 ^ 32) × (length dropped < 2 ^ 32)
+    × AllByRecursion (λ p. (p.uid.0 < 2 ^ 32) × (p.offset < 2 ^ 32)) moved × AllByRecursion (λ u. u.0 < 2 ^ 32) dropped
+MapInRange (map.E file) = file.0 < 2 ^ 32
+
+-- The octets are one entry.
+pub record IsRootText (octets : List ℕ) (entry : RootEntry) : Type 0 where
+  pub text : octets ≡ root_text entry
+  pub in_range : RootInRange entry
+
+pub record IsBoxText (octets : List ℕ) (entry : BoxEntry) : Type 0 where
+  pub text : octets ≡ box_text entry
+  pub in_range : BoxInRange entry
+
+pub record IsMapText (octets : List ℕ) (entry : MapEntry) : Type 0 where
+  pub text : octets ≡ map_text entry
+  pub in_range : MapInRange entry
+
+-- no two in range have one text
+abbrev pub HasOneText : {X : Type 0} → (X → List ℕ) → (X → Type 0) → Type 0
+HasOneText text InRange = (a b : _) → InRange a → InRange b → text a ≡ text b → a ≡ b

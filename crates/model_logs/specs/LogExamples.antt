@@ -1,0 +1,82 @@
+-- Logs, octet for octet.
+use Rattle.std.specs.Prelude.{◌<◌, ℕ, List, [], ◌∷◌, ◌++◌, refl, codes}
+use Rattle.std.proofs.Common.{inr, lit≤, lit<}
+use Rattle.std.proofs.lemmas.List.Elements.{All-nil, All-cons, All-from_recursion}
+use Rattle.mdbox_base.specs.Words.{IsOctets}
+use Rattle.model_logs.specs.declared.log_head.LogHead.{LogHead}
+use Rattle.model_logs.specs.declared.log_head.LogKind.TheVariants.{Root, Map, Box}
+use Rattle.model_logs.specs.LogFile.{EntryFits, head_octets, IsLog}
+
+abbrev pub example_store : List ℕ
+example_store = 0x00 ∷ 0x11 ∷ 0x22 ∷ 0x33 ∷ 0x44 ∷ 0x55 ∷ 0x66 ∷ 0x77 ∷ []
+
+are_octets : IsOctets example_store
+are_octets = All-from_recursion (λ o. o < 256) example_store (lit< tt, (lit< tt, (lit< tt, (lit< tt, (lit< tt, (lit< tt, (lit< tt, (lit< tt, tt))))))))
+
+-- The log of a store's root with one entry, which names map log 1: 36 octets, the record at 26, the last gate at 35.
+abbrev pub root_head : LogHead
+root_head = record { store = record { 0 = example_store }; kind = Root; number = 0; generation = 0 }
+
+abbrev pub root_entry : List ℕ
+root_entry = 0x4d ∷ 0 ∷ 0 ∷ 0 ∷ 1 ∷ []
+
+abbrev pub root_log : List ℕ
+root_log = codes "MDBXLOG1" ++ example_store ++ (0x52 ∷ 0 ∷ 0 ∷ 0 ∷ 0 ∷ 0 ∷ 0 ∷ 0 ∷ 0 ∷ 1 ∷ 0 ∷ 0 ∷ 0 ∷ 5 ∷ []) ++ root_entry ++ 0 ∷ []
+
+pub root_is_log : IsLog root_log root_head (root_entry ∷ [])
+unfolding head_octets
+root_is_log = record {
+  head_fits = record { store = refl; octets = are_octets; number = lit< tt; generation = lit< tt };
+  entries_fit = All-cons EntryFits root_entry [] (record { some = lit≤ tt; short = lit< tt }) (All-nil EntryFits);
+  gate = 0;
+  behind = [];
+  spelled = refl;
+  ends = inr refl;
+}
+
+-- The log of a mailbox with one entry of 38 octets: the record at 26, the last gate at 68.
+abbrev pub box_head : LogHead
+box_head = record { store = record { 0 = example_store }; kind = Box; number = 1; generation = 1 }
+
+abbrev pub box_entry : List ℕ
+box_entry = 0x41 ∷ 0 ∷ 0 ∷ 0 ∷ 1 ∷ 0 ∷ 0 ∷ 0 ∷ 0 ∷ 0 ∷ 0x65 ∷ 0 ∷ 0 ∷ 0 ∷ 0 ∷ 0 ∷ 0 ∷ 0 ∷ 0 ∷ 0 ∷ 0 ∷ 1
+    ∷ 0x00 ∷ 0x11 ∷ 0x22 ∷ 0x33 ∷ 0x44 ∷ 0x55 ∷ 0x66 ∷ 0x77 ∷ 0 ∷ 0 ∷ 0 ∷ 1 ∷ 0 ∷ 0 ∷ 0 ∷ 0x10 ∷ []
+
+abbrev pub box_log : List ℕ
+box_log = codes "MDBXLOG1" ++ example_store ++ (0x42 ∷ 0 ∷ 0 ∷ 0 ∷ 1 ∷ 0 ∷ 0 ∷ 0 ∷ 1 ∷ 1 ∷ 0 ∷ 0 ∷ 0 ∷ 38 ∷ []) ++ box_entry ++ 0 ∷ []
+
+pub box_is_log : IsLog box_log box_head (box_entry ∷ [])
+unfolding head_octets
+box_is_log = record {
+  head_fits = record { store = refl; octets = are_octets; number = lit< tt; generation = lit< tt };
+  entries_fit = All-cons EntryFits box_entry [] (record { some = lit≤ tt; short = lit< tt }) (All-nil EntryFits);
+  gate = 0;
+  behind = [];
+  spelled = refl;
+  ends = inr refl;
+}
+
+-- The log of a map with two entries, of 15 and of 38 octets: records at 26 and 46, the last gate at 88.
+abbrev pub map_head : LogHead
+map_head = record { store = record { 0 = example_store }; kind = Map; number = 0; generation = 1 }
+
+abbrev pub map_made : List ℕ
+map_made = 0x42 ∷ 0 ∷ 0 ∷ 0 ∷ 1 ∷ 0 ∷ 0 ∷ 0 ∷ 1 ∷ 5 ∷ codes "INBOX"
+
+abbrev pub map_stored : List ℕ
+map_stored = 0x53 ∷ 0 ∷ 0 ∷ 1 ∷ 0 ∷ 0 ∷ 0 ∷ 1 ∷ 0 ∷ 0 ∷ 0 ∷ 1 ∷ 0 ∷ 0 ∷ 0 ∷ 0x10 ∷ 0 ∷ 0 ∷ 0 ∷ 0x59
+    ∷ 0x00 ∷ 0x11 ∷ 0x22 ∷ 0x33 ∷ 0x44 ∷ 0x55 ∷ 0x66 ∷ 0x77 ∷ 0 ∷ 0 ∷ 0 ∷ 1 ∷ 0 ∷ 0 ∷ 0 ∷ 0x10 ∷ 0 ∷ 0 ∷ []
+
+abbrev pub map_log : List ℕ
+map_log = codes "MDBXLOG1" ++ example_store ++ (0x4d ∷ 0 ∷ 0 ∷ 0 ∷ 0 ∷ 0 ∷ 0 ∷ 0 ∷ 1 ∷ 1 ∷ 0 ∷ 0 ∷ 0 ∷ 15 ∷ []) ++ map_made ++ (1 ∷ 0 ∷ 0 ∷ 0 ∷ 38 ∷ []) ++ map_stored ++ 0 ∷ []
+
+pub map_is_log : IsLog map_log map_head (map_made ∷ map_stored ∷ [])
+unfolding head_octets
+map_is_log = record {
+  head_fits = record { store = refl; octets = are_octets; number = lit< tt; generation = lit< tt };
+  entries_fit = All-cons EntryFits map_made (map_stored ∷ []) (record { some = lit≤ tt; short = lit< tt }) (All-cons EntryFits map_stored [] (record { some = lit≤ tt; short = lit< tt }) (All-nil EntryFits));
+  gate = 0;
+  behind = [];
+  spelled = refl;
+  ends = inr refl;
+}

@@ -1,0 +1,11 @@
+pub mod AppliedLemmas
+pub mod BoxLemmas
+pub mod BoxSoundLemmas
+pub mod FitLemmas
+pub mod HighestLemmas
+pub mod KeptRowLemmas
+pub mod MapLemmas
+pub mod MapPlaceLemmas
+pub mod MapSoundLemmas
+pub mod RowLemmas
+pub mod SealedLemmas

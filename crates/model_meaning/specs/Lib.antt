@@ -1,0 +1,7 @@
+pub mod BoxMeaning
+pub mod FitExamples
+pub mod MapFits
+pub mod MapMeaning
+pub mod MeaningExamples
+pub mod Rows
+pub mod Sound

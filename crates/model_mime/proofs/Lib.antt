@@ -1,0 +1,2 @@
+pub mod PartsExampleLemmas
+pub mod PartsLemmas

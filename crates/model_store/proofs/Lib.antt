@@ -1,0 +1,13 @@
+pub mod AnswerLemmas
+pub mod BadBoxLemmas
+pub mod BadLogLemmas
+pub mod CarryingLemmas
+pub mod NewStoreLemmas
+pub mod OpeningLemmas
+pub mod OpeningSafeLemmas
+pub mod ReadLogLemmas
+pub mod SafeLemmas
+pub mod SettledLemmas
+pub mod StandsLemmas
+pub mod StoreExampleLemmas
+pub mod WellFormedLemmas
