@@ -1,7 +1,7 @@
 //! The storage file of mdbox (`m.N`): its header line, and where its messages stand.
 #![tactic(auto)]
 
-pub use mdbox_base::{MessageAt, PlaceError, ScanError};
+pub use model_storage::{MessageAt, PlaceError, ScanError};
 pub use message::message_at;
 pub use messages::scan;
 
