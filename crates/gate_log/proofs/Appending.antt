@@ -17,7 +17,7 @@ use Rattle.model_logs.specs.declared.log_head.LogHead.{LogHead}
 use Rattle.model_logs.specs.LogFile.{HeadFits, record_octets, EntryFits, log_front, IsLog}
 use Rattle.model_logs.proofs.LogFileLemmas.{front_more}
 use Rattle.gate_log.specs.State.{LogState}
-use Rattle.gate_log.specs.Log.{log_text, IsRead, Reads, Holds, IsLogWithOrWithout}
+use Rattle.gate_log.specs.Log.{log_text, IsLogRead, Reads, Holds, IsLogWithOrWithout}
 
 abbrev AreOctets : List ℕ → Type 0
 AreOctets text = All (λ octet. octet < 256) text
@@ -217,7 +217,7 @@ grown_end log entries entry e =
     omega (arith, l, e)
 
 grown_read : (log : LogState) (entries : List (List ℕ)) (entry block : List ℕ) → IsLaidOut entry block → (disk : DiskState) → log.end ≡ length (log_front log.head entries) → HeadFits log.head → All EntryFits entries
-    → reading (disk log.name) ≡ Some (log_text log.head (entries ++ entry ∷ [])) → IsRead (grown log (length entry + 5)) (entries ++ entry ∷ []) disk
+    → reading (disk log.name) ≡ Some (log_text log.head (entries ++ entry ∷ [])) → IsLogRead (grown log (length entry + 5)) (entries ++ entry ∷ []) disk
 grown_read log entries entry block b disk e hf ef r = record { file = r; end = grown_end log entries entry e; head_fits = hf; entries_fit = All-push EntryFits entries entry ef b.fits }
 
 pub record Held (log : LogState) (entries : List (List ℕ)) (entry : List ℕ) (f : FileState) : Type 0 where

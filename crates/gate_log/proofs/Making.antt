@@ -10,7 +10,7 @@ use Rattle.disk_model.proofs.Firm.{keeps_from_firm, end_octets}
 use Rattle.model_logs.specs.declared.log_head.LogHead.{LogHead}
 use Rattle.model_logs.specs.LogFile.{HeadFits, log_front}
 use Rattle.model_logs.proofs.LogFileLemmas.{front_length}
-use Rattle.gate_log.specs.Log.{IsNoLonger, NamedButFor, log_text}
+use Rattle.gate_log.specs.Log.{IsAtMostAsLong, NamedButFor, log_text}
 
 -- the file could be so long before, or is no longer than the text
 abbrev pub IsWide : FileName → ℕ → Option History → FileState → Type 0
@@ -18,7 +18,7 @@ IsWide name n old f = IfTold old (λ before. f.greatest ≤ max (before name).gr
 
 -- what each image has of the file
 abbrev pub P : FileName → ℕ → Option History → Option (List ℕ) → Type 0
-P name n old octets = IfTold old (λ before. IsNoLonger n (before name) octets)
+P name n old octets = IfTold old (λ before. IsAtMostAsLong n (before name) octets)
 
 wide-begins : (name : FileName) (n : ℕ) (old : Option History) → IfTold old (λ disk. IsWide name n old (disk name))
 wide-begins name n None = tt

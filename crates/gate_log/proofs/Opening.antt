@@ -8,12 +8,12 @@ use Rattle.disk_model.proofs.Moments.{if_told-all, if_told-map, if_told-both}
 use Rattle.disk_model.proofs.OneFile.{IsAlong, Along, one_file-then}
 use Rattle.disk_model.proofs.Others.{apart_images}
 use Rattle.model_logs.specs.declared.log_head.LogHead.{LogHead}
-use Rattle.model_logs.specs.LogFile.{log_front, log_end, Ends, IsLog, IsLogFile}
+use Rattle.model_logs.specs.LogFile.{log_front, log_end, EndsLog, IsLog, IsLogFile}
 use Rattle.model_logs.proofs.LogFileLemmas.{front_length, one_log}
 use Rattle.gate_log.specs.Reading.{IsReading}
 use Rattle.gate_log.specs.declared.read.LogRead.{LogRead}
-use Rattle.gate_log.specs.State.{Found}
-use Rattle.gate_log.specs.Log.{Idle, IsStanding, IsKept, IsFound, IsFoundKept}
+use Rattle.gate_log.specs.State.{InspectedLog}
+use Rattle.gate_log.specs.Log.{Idle, IsStanding, IsDurable, IsFound, IsFoundKept}
 use Rattle.gate_log.proofs.Idling.{idle-told, idle-along}
 use Rattle.gate_log.proofs.Ending.{each_image-if, then-others}
 
@@ -42,7 +42,7 @@ standing name head entries octets end gate disk l e g r = record {
   end_is = end-is octets head entries end l e;
   head_fits = l.head_fits;
   entries_fit = l.entries_fit;
-  ends = subst (λ (x : ℕ). Ends x l.behind) (sym g) l.ends;
+  ends = subst (λ (x : ℕ). EndsLog x l.behind) (sym g) l.ends;
 }
 
 stands-mid : (name : FileName) (head : LogHead) (entries : List (List ℕ)) (octets : List ℕ) (end gate : ℕ) (old mid : Option History) (l : IsLog octets head entries) → end ≡ log_end entries → gate ≡ l.gate → Idle old mid
@@ -53,7 +53,7 @@ same_octets : (f : FileState) (a b : List ℕ) → Keeps f a → reading f ≡ S
 same_octets f a b k r = same_Some _ _ (sym k.reads ∙ r)
 
 kept-mid : (name : FileName) (head : LogHead) (entries : List (List ℕ)) (octets kept : List ℕ) (end gate : ℕ) (old mid : Option History) (l : IsLog octets head entries) → end ≡ log_end entries → gate ≡ l.gate → Idle old mid
-    → IfTold old (λ now. reading (now name) ≡ Some octets) → IfTold old (λ now. Keeps (now name) kept) → IfTold mid (IsKept name head entries end gate l.behind)
+    → IfTold old (λ now. reading (now name) ≡ Some octets) → IfTold old (λ now. Keeps (now name) kept) → IfTold mid (IsDurable name head entries end gate l.behind)
 kept-mid name head entries octets kept end gate old mid l e g idle r k =
     if_told-both _ _ _ mid
     (λ disk s h. record {
@@ -64,13 +64,13 @@ kept-mid name head entries octets kept end gate old mid l e g idle r k =
 
 -- what is found of it
 
-pub found-mid : (found : Found) (entries : List (List ℕ)) (octets : List ℕ) (old mid : Option History) (l : IsLog octets found.head entries) → found.end ≡ log_end entries → found.gate ≡ l.gate → found.behind ≡ length l.behind → Idle old mid
+pub found-mid : (found : InspectedLog) (entries : List (List ℕ)) (octets : List ℕ) (old mid : Option History) (l : IsLog octets found.head entries) → found.end ≡ log_end entries → found.gate ≡ l.gate → found.behind ≡ length l.behind → Idle old mid
     → IfTold old (λ now. reading (now found.name) ≡ Some octets) → IfTold mid (IsFound found entries)
 found-mid found entries octets old mid l e g b idle r =
     if_told-map _ _ mid (λ disk s. record { rest = l.behind; behind = b; stands = s })
     (stands-mid found.name found.head entries octets found.end found.gate old mid l e g idle r)
 
-pub found_kept-mid : (found : Found) (entries : List (List ℕ)) (octets kept : List ℕ) (old mid : Option History) (l : IsLog octets found.head entries) → found.end ≡ log_end entries → found.gate ≡ l.gate → found.behind ≡ length l.behind → Idle old mid
+pub found_kept-mid : (found : InspectedLog) (entries : List (List ℕ)) (octets kept : List ℕ) (old mid : Option History) (l : IsLog octets found.head entries) → found.end ≡ log_end entries → found.gate ≡ l.gate → found.behind ≡ length l.behind → Idle old mid
     → IfTold old (λ now. reading (now found.name) ≡ Some octets) → IfTold old (λ now. Keeps (now found.name) kept) → IfTold mid (IsFoundKept found entries)
 found_kept-mid found entries octets kept old mid l e g b idle r k =
     if_told-map _ _ mid (λ disk s. record { rest = l.behind; behind = b; kept = s })
@@ -108,7 +108,7 @@ repair-others_stay name old mid new idle each = then-others name old mid new (id
 
 -- the same where what was found names the file and its head
 
-pub opened-images : (found : Found) (name : FileName) (head : LogHead) (entries asked : List (List ℕ)) (octets kept : List ℕ) (old mid new : Option History) → found.name ≡ name → found.head ≡ head → Idle old mid
+pub opened-images : (found : InspectedLog) (name : FileName) (head : LogHead) (entries asked : List (List ℕ)) (octets kept : List ℕ) (old mid new : Option History) → found.name ≡ name → found.head ≡ head → Idle old mid
     → IfTold old (λ now. reading (now name) ≡ Some octets) → IsLog octets head entries → IfTold old (λ now. Keeps (now name) kept) → IsLog kept head asked
     → EachImage (λ _ image. IsLogFile (image found.name) found.head entries × OthersStay found.name mid image) mid new → EachImage (IsAlong name (λ octets. IsLogFile octets head asked) old) old new
 opened-images found name head entries asked octets kept old mid new n h idle r l k a each =
@@ -116,5 +116,5 @@ opened-images found name head entries asked octets kept old mid new n h idle r l
     (subst (λ (f : FileName). EachImage (λ _ image. IsLogFile (image f) head entries × OthersStay f mid image) mid new) n
     (subst (λ (t : LogHead). EachImage (λ _ image. IsLogFile (image found.name) t entries × OthersStay found.name mid image) mid new) h each))
 
-pub opened-others_stay : (found : Found) (name : FileName) (old mid new : Option History) → found.name ≡ name → Idle old mid → EachImage (λ _ image. OthersStay found.name mid image) mid new → EachImage (λ _ image. OthersStay name old image) old new
+pub opened-others_stay : (found : InspectedLog) (name : FileName) (old mid new : Option History) → found.name ≡ name → Idle old mid → EachImage (λ _ image. OthersStay found.name mid image) mid new → EachImage (λ _ image. OthersStay name old image) old new
 opened-others_stay found name old mid new n idle each = repair-others_stay name old mid new idle (subst (λ (f : FileName). EachImage (λ _ image. OthersStay f mid image) mid new) n each)

@@ -2,7 +2,7 @@
 ghost use Rattle.std.specs.Prelude.{◌≡◌, ◌↔◌, ℕ, List, Some, IsTrue, IfOk, IfErr, OnOk, IsErr, IsErrOf, IsOk};
 ghost use Rattle.disk_model.specs.Disk.{EachImage, OthersStay, SameButFor, FaultsRoseIf, IfTold, Keeps, reading};
 ghost use Rattle.model_logs.specs.LogFile.{IsLogFile};
-ghost use Rattle.gate_log.specs.State.{IsWhole};
+ghost use Rattle.gate_log.specs.State.{IsWholeLog};
 ghost use Rattle.gate_log.specs.Log.{Reads, Holds, Idle, ReadsRoseIf, IsFound, IsFoundKept};
 ghost use Rattle.gate_log.specs.Reading.{IsReading, IsOpenError};
 
@@ -32,9 +32,9 @@ pub struct FoundLog {
 
 impl Model for FoundLog {
     ghost use Rattle.std.specs.Prelude.{◌<◌, ◌^◌, ◌-◌};
-    ghost use Rattle.gate_log.specs.State.{Found};
+    ghost use Rattle.gate_log.specs.State.{InspectedLog};
 
-    ghost Value = { Found };
+    ghost Value = { InspectedLog };
 
     ghost view = { λ log. record { name = log.name; head = log.head; end = log.end; gate = log.gate; behind = log.behind } };
 
@@ -77,7 +77,7 @@ pub fn inspect_log<D: Disk>(
 impl FoundLog {
     /// Whether the last gate is closed and nothing stands behind it, so that repairing changes nothing.
     pub fn is_whole(&self) -> bool
-        ensures { IsTrue result ↔ IsWhole self.now }
+        ensures { IsTrue result ↔ IsWholeLog self.now }
     {
         self.gate == CLOSED && self.behind == 0
     }
@@ -100,7 +100,7 @@ impl FoundLog {
         ensures others { OnOk result (SameButFor self.name (D.history disk.old) (D.history disk.new)) }
 
         // A whole log is left alone.
-        ensures untouched { IsWhole self → IsOk result × (disk.new ≡ disk.old) }
+        ensures untouched { IsWholeLog self → IsOk result × (disk.new ≡ disk.old) }
         ensures fault { FaultsRoseIf (IsErr result) (D.faults disk.old) (D.faults disk.new) }
     {
         repair(disk, self.name, self.end, self.gate, self.behind)?;

@@ -3,7 +3,7 @@ ghost use Rattle.std.specs.Prelude.{◌≡◌, ◌≢◌, Some, IsErrOf, ◌+◌
 ghost use Rattle.disk_model.specs.Disk.{EachImage, OthersStay, SameButFor, FaultsRoseIf, IfTold, Keeps, reading};
 ghost use Rattle.model_logs.specs.LogFile.{record_octets, IsLog, IsLogFile};
 ghost use Rattle.gate_log.specs.State.{LogState, IsSameLog};
-ghost use Rattle.gate_log.specs.Log.{Reads, Holds, IsLogWithOrWithout, IsNoLonger, NamedButFor, Idle, OneRoseIf};
+ghost use Rattle.gate_log.specs.Log.{Reads, Holds, IsLogWithOrWithout, IsAtMostAsLong, NamedButFor, Idle, OneRoseIf};
 ghost use Rattle.gate_log.specs.Reading.{IsReading, IsOpenError};
 
 use crate::error::{DiskFault, LogError};
@@ -119,7 +119,7 @@ pub fn create_log<D: Disk>(
     head: LogHead,
 ) -> Result<GateLog, LogError>
     // At every moment of the call each image has in this file no more octets than it could have before, or than 26.
-    ensures any_moment { EachImage (λ _ image. IfTold (D.history disk.old) (λ before. IsNoLonger 26 (before name) (image name)) × OthersStay name (D.history disk.old) image) (D.history disk.old) (D.history disk.new) }
+    ensures any_moment { EachImage (λ _ image. IfTold (D.history disk.old) (λ before. IsAtMostAsLong 26 (before name) (image name)) × OthersStay name (D.history disk.old) image) (D.history disk.old) (D.history disk.new) }
     ensures made { IfOk result (λ log. Holds log [] (D.history disk.new)) }
     ensures log { IfOk result (λ log. log ≡ record { name = name; head = head; end = 25; room = 0 }) }
     ensures others { OnOk result (NamedButFor name (D.history disk.old) (D.history disk.new)) }

@@ -13,8 +13,8 @@ use Rattle.mdbox_base.specs.declared.replies.Refusal.{Refusal}
 use Rattle.mdbox_base.specs.declared.replies.Refusal.TheVariants.{Exists, StoreFull}
 use Rattle.mdbox_base.specs.declared.replies.Reply.{Reply}
 use Rattle.mdbox_base.specs.declared.replies.Reply.TheVariants as reply
-use Rattle.model_lists.specs.Lists.{ListedMessage, Mailbox, Lists, IsMessageInRange, IsMailboxInOrder, AreWellFormed, empty_mailbox}
-use Rattle.list_machine.specs.Machine.{Run, HasMailbox, IsNewName, HasMessage, RoomForMailbox, RoomForMessage, NextUid, refused_where, refusal_at, first_refusal, checks_of, Event, First, Last, SecondHalf, Answers, Does, RequestInRange, IsCopied, IsDelivered, IsMade, IsSecondHalf, change_first, without_first, has_name, has_uid, mailbox_named, message_in, message_at, set_flags, expunge, add_last, add_message}
+use Rattle.model_lists.specs.Lists.{ListedMessage, Mailbox, Lists, IsMessageInRange, IsMailboxInOrder, AreWellFormed, empty_mailbox, change_first}
+use Rattle.list_machine.specs.Machine.{Run, HasMailbox, IsNewName, HasMessage, RoomForMailbox, RoomForMessage, NextUid, refused_where, refusal_at, first_refusal, checks_of, Event, First, Last, SecondHalf, Answers, Does, RequestInRange, IsCopied, IsDelivered, IsMade, IsSecondHalf, without_first, has_name, has_uid, mailbox_named, message_in, message_at, set_flags, expunge, add_last, add_message}
 use Rattle.list_machine.proofs.MachineLemmas.{some_one}
 use Rattle.model_octets.proofs.PairLemmas.{found_among, pairs_nil, pairs_head, pairs_tail, pairs_push}
 

@@ -13,8 +13,8 @@ use Rattle.mdbox_base.specs.declared.replies.Refusal.{Refusal}
 use Rattle.mdbox_base.specs.declared.replies.Refusal.TheVariants as refusal
 use Rattle.mdbox_base.specs.declared.replies.Reply.{Reply}
 use Rattle.mdbox_base.specs.declared.replies.Reply.TheVariants as reply
-use Rattle.model_lists.specs.Lists.{ListedMessage, Mailbox, Lists, refs_of, empty_mailbox, row_of}
-use Rattle.model_meaning.specs.MapMeaning.{MapMeaning, count_of, named}
+use Rattle.model_lists.specs.Lists.{ListedMessage, Mailbox, Lists, refs_of, empty_mailbox, listing_row, change_first}
+use Rattle.model_meaning.specs.MapMeaning.{MapMeaning, count_of, named_instances}
 
 -- What the conditions read of a run, as an event begins: what the map's entries mean, the numbers drawn so far (the
 -- highest at opening, and the draws of this run), and the GUIDs that other saves of this run gave.
@@ -51,11 +51,6 @@ message_in uid mailbox = find (has_uid uid) mailbox.messages
 
 abbrev pub message_at : List ℕ → ℕ → Lists → Option ListedMessage
 message_at name uid lists = option_and_then (message_in uid) (mailbox_named name lists)
-
--- the first that passes is changed, or leaves
-abbrev pub change_first : {X : Type 0} → (X → Bool) → (X → X) → List X → List X
-change_first test change [] = []
-change_first test change (x ∷ xs) = if test x then change x ∷ xs else x ∷ change_first test change xs
 
 abbrev pub without_first : {X : Type 0} → (X → Bool) → List X → List X
 without_first test [] = []
@@ -202,7 +197,7 @@ pub record AreCounts (run : Run) (lists : Lists) (records references counts inst
   pub records_are : records ≡ length run.map.records
   pub references_are : references ≡ sum_by (λ mailbox. length mailbox.messages) lists
   pub counts_are : counts ≡ sum_by (λ row. row.count) run.map.records
-  pub instances_are : instances ≡ count_different (map (λ instance. instance.id.0) (named run.map))
+  pub instances_are : instances ≡ count_different (map (λ instance. instance.id.0) (named_instances run.map))
 
 -- The second half of a move: where the message is listed it leaves, else nothing changes.
 abbrev pub IsSecondHalf : Lists → List ℕ → ℕ → Bool → Lists → Type 0
@@ -212,7 +207,7 @@ IsSecondHalf old name uid gone new =
 -- From the old lists an event that isn't refused may give this reply and lead to the new lists.
 abbrev pub Does : Run → Lists → Request → Event → Reply → Lists → Type 0
 Does run old (request.List name) First (reply.Listed rows) new =
-    (mailbox : Mailbox) × (mailbox_named name old ≡ Some mailbox) × (rows ≡ map row_of mailbox.messages) × (new ≡ old)
+    (mailbox : Mailbox) × (mailbox_named name old ≡ Some mailbox) × (rows ≡ map listing_row mailbox.messages) × (new ≡ old)
 Does run old (request.Fetch name uid) First (reply.Fetched octets) new =
     (message : ListedMessage) × (message_at name uid.0 old ≡ Some message) × (octets ≡ message.octets) × (new ≡ old)
 Does run old (request.Flag name uid flags) First reply.Done new = new ≡ set_flags name uid.0 flags old

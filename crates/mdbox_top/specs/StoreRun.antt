@@ -8,7 +8,7 @@ use Rattle.file_paths.specs.Paths.{path_text}
 use Rattle.model_store.specs.Opening.{empty_inbox}
 use Rattle.model_store.specs.Settled.{IsSettled}
 use Rattle.gate_log.specs.Log.{Idle}
-use Rattle.store_open.specs.Making.{IdleUnless, IsFree, IsMade, NeverHasEntry, HasNothingOrInbox}
+use Rattle.store_open.specs.Making.{IdleUnless, IsFreeForStore, IsMadeStore, NeverHasEntry, HasNothingOrInbox}
 use Rattle.store_open.specs.Refused.{IsMakingError, IsOfFiles}
 use Rattle.store_open.specs.declared.error.OpenError.{OpenError}
 use Rattle.store_open.specs.declared.error.OpenError.TheVariants as error
@@ -58,9 +58,9 @@ StoreYields outcome.WriteFault last = last ≡ outcome.WriteFault
 
 -- A store was made: there was none, and no mail files; now the disk is settled for an empty INBOX, in logs of this id.
 pub record IsNew (id : List ℕ) (old new : Option History) : Type 0 where
-  pub free : IfTold old IsFree
+  pub free : IfTold old IsFreeForStore
   pub settled : IfTold new (λ disk. IsSettled disk empty_inbox)
-  pub made : IfTold new (IsMade id)
+  pub made : IfTold new (IsMadeStore id)
 
 -- `OK` was printed, or a front of it
 abbrev pub ShowsOk : Option (List ℕ) → Option (List ℕ) → StoreOutcome → Type 0
@@ -81,4 +81,4 @@ Inits id held later old new (outcome.Refused why) = (later ≡ held) × IsMaking
 -- INBOX. Where a store may not be made nothing changes, whatever is answered.
 pub record InitMoments (old new : Option History) : Type 0 where
   pub each : IfTold old (λ disk. NeverHasEntry (disk file.Root)) → EachImage (λ _ image. HasNothingOrInbox image) old new
-  pub untouched : IdleUnless IsFree old new
+  pub untouched : IdleUnless IsFreeForStore old new

@@ -3,8 +3,8 @@ use Rattle.std.proofs.Common.{◌≡◌, ◌<◌, ℕ, zero, suc, arith, List, [
 use Rattle.std.specs.Prelude.{is_some, is_none, Bool, true, false, if◌then◌else◌}
 use Rattle.std.proofs.lemmas.List.{map-append}
 use Rattle.std.specs.List.{position, remove}
-use Rattle.model_lists.specs.Lists.{ListedMessage, Mailbox, Lists, empty_mailbox}
-use Rattle.list_machine.specs.Machine.{has_name, has_uid, mailbox_named, message_at, message_in, change_first, without_first, set_flags, expunge}
+use Rattle.model_lists.specs.Lists.{ListedMessage, Mailbox, Lists, empty_mailbox, change_first}
+use Rattle.list_machine.specs.Machine.{has_name, has_uid, mailbox_named, message_at, message_in, without_first, set_flags, expunge}
 use Rattle.plain_lists.specs.declared.lists.PlainMessage.{PlainMessage}
 use Rattle.plain_lists.specs.declared.lists.PlainMailbox.{PlainMailbox}
 use Rattle.plain_lists.specs.View.{mailbox_of, message_of}

@@ -1,7 +1,7 @@
 // Walks over vectors.
 ghost use Rattle.std.specs.Prelude.{◌≡◌, ◌≤◌, ◌==◌, ◌^◌, ◌-◌, ℕ, min, List, length, map, position, count_by, IfOk};
 ghost use Rattle.std.specs.Str.{bytes_eq};
-ghost use Rattle.model_lists.specs.Lists.{refs_of, row_of};
+ghost use Rattle.model_lists.specs.Lists.{refs_of, listing_row};
 ghost use Rattle.list_machine.specs.Machine.{has_name, has_uid};
 ghost use Rattle.model_meaning.specs.MapMeaning.{greatest};
 ghost use Rattle.plain_lists.specs.View.{message_of, mailbox_of};
@@ -27,7 +27,7 @@ pub fn place_of_message(messages: &[PlainMessage], uid: Uid) -> Option<usize>
 
 /// The rows of a listing.
 pub fn rows_of(alloc: Global, messages: &[PlainMessage]) -> Result<Seq<ListRow>, NoMemory>
-    ensures { IfOk result (λ rows. rows ≡ map row_of (map message_of messages.now)) }
+    ensures { IfOk result (λ rows. rows ≡ map listing_row (map message_of messages.now)) }
 {
     let mut rows = Seq::empty(alloc);
     for message in messages {

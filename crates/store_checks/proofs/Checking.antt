@@ -11,14 +11,14 @@ use Rattle.disk_model.proofs.Moments.{if_told-map, if_told-both}
 use Rattle.mdbox_base.specs.declared.entries.BoxEntry.{BoxEntry}
 use Rattle.mdbox_base.specs.declared.entries.MapEntry.{MapEntry}
 use Rattle.model_meaning.specs.BoxMeaning.{box_meaning, rows_after}
-use Rattle.model_meaning.specs.MapMeaning.{MapMeaning, map_meaning, named}
+use Rattle.model_meaning.specs.MapMeaning.{MapMeaning, map_meaning, named_instances}
 use Rattle.model_store.specs.GoodLogs.{AreGoodLogs}
 use Rattle.model_store.specs.Settled.{files_of}
 use Rattle.model_store.specs.Stands.{HasRoot, HasMap}
 use Rattle.model_store.specs.Safe.{LiesInFile, IsThereWhole}
 use Rattle.model_store.specs.Opening.{AreMapEntries, HasItsRecord, PassLogs, PassBoxes, listed_of, IsCounted, IsMiscounted, IsFirstCutOff, IsFirstMissing, Opens, IsBadMapLog, IsBadBox, IsDamaged}
 use Rattle.gate_log.specs.Log.{Idle}
-use Rattle.gate_log.specs.State.{Found}
+use Rattle.gate_log.specs.State.{InspectedLog}
 use Rattle.gate_log.proofs.Idling.{idle-back}
 use Rattle.store_checks.specs.Boxes.{AreRead, IsBoxesCause}
 use Rattle.store_checks.specs.Checked.{listed_by, listed_in, IsCountedIn, IsMiscountedIn}
@@ -45,7 +45,7 @@ map_fails store generation old now check.DiskFault idle root c = c
 map_fails store generation old now check.NoMemory idle root c = c
 
 -- the root log and the map log pass
-pub has_map : (store : List ℕ) (generation : ℕ) (found : Found) (m : MapMeaning) (entries : List MapEntry) (old now new : Option History) → Idle old now → IfTold old (λ disk. HasRoot (files_of disk) store generation)
+pub has_map : (store : List ℕ) (generation : ℕ) (found : InspectedLog) (m : MapMeaning) (entries : List MapEntry) (old now new : Option History) → Idle old now → IfTold old (λ disk. HasRoot (files_of disk) store generation)
     → IsMapRead store generation found m entries now new → IfTold old (λ disk. (h : HasMap (files_of disk) store entries) × (h.generation ≡ generation))
 has_map store generation found m entries old now new idle root r =
     if_told-both _ _ _ old (λ disk a b. (record { generation = generation; root = a; generation_number = r.number; log = b; in_range = r.good.0; fit = r.good.1 }, refl)) root (idle-back _ old now idle r.log)
@@ -141,20 +141,20 @@ instances_fail store generation entries m logs old mid now check.NoMemory before
 
 -- all checks pass
 pub opens : (store : List ℕ) (generation : ℕ) (entries : List MapEntry) (m : MapMeaning) (logs : List (List BoxEntry)) (old mid now : Option History) → Idle old mid → Idle old now → m ≡ map_meaning store entries
-    → IfTold old (LogsPass store generation entries logs) → All (IsCounted logs) m.records → IfTold mid (λ disk. All (LiesInFile (files_of disk)) m.records) → IfTold now (λ disk. All (IsThereWhole (files_of disk)) (named m))
+    → IfTold old (LogsPass store generation entries logs) → All (IsCounted logs) m.records → IfTold mid (λ disk. All (LiesInFile (files_of disk)) m.records) → IfTold now (λ disk. All (IsThereWhole (files_of disk)) (named_instances m))
     → IfTold old (λ disk. Opens (files_of disk) store entries logs)
 opens store generation entries m logs old mid now before idle means passed counts regions instances =
     if_told-both _ _ _ old
     (λ disk p b. b p)
     passed
-    (if_told-both (λ (disk : DiskState). All (LiesInFile (files_of disk)) m.records) (λ (disk : DiskState). All (IsThereWhole (files_of disk)) (named m)) (λ (disk : DiskState). LogsPass store generation entries logs disk → Opens (files_of disk) store entries logs) old
+    (if_told-both (λ (disk : DiskState). All (LiesInFile (files_of disk)) m.records) (λ (disk : DiskState). All (IsThereWhole (files_of disk)) (named_instances m)) (λ (disk : DiskState). LogsPass store generation entries logs disk → Opens (files_of disk) store entries logs) old
     (λ disk r i p. record {
       passed = p.0;
       counts = subst (λ (k : MapMeaning). All (IsCounted logs) k.records) means counts;
       regions = subst (λ (k : MapMeaning). All (LiesInFile (files_of disk)) k.records) means r;
-      instances = subst (λ (k : MapMeaning). All (IsThereWhole (files_of disk)) (named k)) means i;
+      instances = subst (λ (k : MapMeaning). All (IsThereWhole (files_of disk)) (named_instances k)) means i;
     })
-    (idle-back (λ (disk : DiskState). All (LiesInFile (files_of disk)) m.records) old mid before regions) (idle-back (λ (disk : DiskState). All (IsThereWhole (files_of disk)) (named m)) old now idle instances))
+    (idle-back (λ (disk : DiskState). All (LiesInFile (files_of disk)) m.records) old mid before regions) (idle-back (λ (disk : DiskState). All (IsThereWhole (files_of disk)) (named_instances m)) old now idle instances))
 
 -- the logs are good, whatever is told of the disk
 pub good_logs : (store : List ℕ) (entries : List MapEntry) (m : MapMeaning) (boxes : List CheckedBox) (logs : List (List BoxEntry)) (old new : Option History) → m ≡ map_meaning store entries → AreMapEntries store entries

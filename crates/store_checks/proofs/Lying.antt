@@ -13,7 +13,7 @@ use Rattle.disk_model.proofs.Moments.{if_told-all, if_told-map, if_told-both}
 use Rattle.mdbox_base.specs.declared.entries.InstRow.{InstRow}
 use Rattle.model_store.specs.Settled.{files_of}
 use Rattle.model_store.specs.Safe.{LiesInFile, IsThereWhole}
-use Rattle.model_meaning.specs.MapMeaning.{MapRecord, MapMeaning, named}
+use Rattle.model_meaning.specs.MapMeaning.{MapRecord, MapMeaning, named_instances}
 use Rattle.model_store.specs.Opening.{IsFirstCutOff, IsFirstMissing}
 use Rattle.gate_log.specs.Log.{Idle}
 use Rattle.gate_log.proofs.Idling.{idle-back}
@@ -67,13 +67,13 @@ whole_back files inst h = ap (option_map length) h.there ∙ ap Some h.size
 named_itself : (inst : Instance) → IsNamedNoLater inst inst
 named_itself inst = ap is_gt (tied_itself nat_list_cmp_total (inst.hash.0 ++ inst.id.0))
 
-pub instances_pass : (m : MapMeaning) (instances : List Instance) (files : Files) → IsPermutation (instances_in m) instances → All (IsWholeIn files) instances → All (IsThereWhole files) (named m)
-instances_pass m instances files same all = All-weaker (λ (inst : InstRow). IsWholeIn files (instance_of inst)) (IsThereWhole files) (whole files) (named m) (all_pass instance_of (IsWholeIn files) (named m) instances same all)
+pub instances_pass : (m : MapMeaning) (instances : List Instance) (files : Files) → IsPermutation (instances_in m) instances → All (IsWholeIn files) instances → All (IsThereWhole files) (named_instances m)
+instances_pass m instances files same all = All-weaker (λ (inst : InstRow). IsWholeIn files (instance_of inst)) (IsThereWhole files) (whole files) (named_instances m) (all_pass instance_of (IsWholeIn files) (named_instances m) instances same all)
 
 pub first_missing : (m : MapMeaning) (instances : List Instance) (files : Files) (k : ℕ) (inst : Instance) → IsPermutation (instances_in m) instances → AllPairs IsNamedNoLater instances → slice_get instances k ≡ Some inst
     → All (IsWholeIn files) (take k instances) → (IsWholeIn files inst → ⊥) → IsFirstMissing files m (file.Inst inst.hash.0 inst.id.0)
 first_missing m instances files k inst same order at passed fails =
-    let f = first_fail instance_of (IsWholeIn files) IsNamedNoLater (named m) instances k inst named_itself same order at passed fails in
+    let f = first_fail instance_of (IsWholeIn files) IsNamedNoLater (named_instances m) instances k inst named_itself same order at passed fails in
     record {
       inst = f.x;
       missing = record { is_named = f.held; not_there = λ h. f.fails (whole_back files f.x h) };
@@ -131,7 +131,7 @@ instance_fails m items instances k d old now long value lt idle asked fails same
     all (idle-back (HasAsked (file.Inst (get_or instances k d).hash.0 (get_or instances k d).id.0) long) old now idle asked)
 
 pub instances_done : (m : MapMeaning) (items instances : List Instance) (k : ℕ) (old : Option History) → instances ≡ items → length instances ≤ k → IsPermutation (instances_in m) items
-    → IfTold old (λ disk. All (IsWholeIn (files_of disk)) (take k instances)) → IfTold old (λ disk. All (IsThereWhole (files_of disk)) (named m))
+    → IfTold old (λ disk. All (IsWholeIn (files_of disk)) (take k instances)) → IfTold old (λ disk. All (IsThereWhole (files_of disk)) (named_instances m))
 instances_done m items instances k old value le same all =
     if_told-map _ _ old (λ disk a. instances_pass m instances (files_of disk) (subst (IsPermutation (instances_in m)) (sym value) same) (subst (All (IsWholeIn (files_of disk))) (take_all k instances le) a)) all
 

@@ -16,7 +16,7 @@ use Rattle.model_logs.specs.Entries.{box_text}
 use Rattle.model_store.specs.Settled.{files_of}
 use Rattle.model_store.specs.Stands.{head_of, HasLog}
 use Rattle.model_store.specs.Opening.{HasItsRecord, PassesBox, PassBoxes, IsBadLog, LacksRecord, AreBoxEntries}
-use Rattle.gate_log.specs.State.{Found}
+use Rattle.gate_log.specs.State.{InspectedLog}
 use Rattle.gate_log.specs.Log.{Idle, IsFound}
 use Rattle.gate_log.proofs.Idling.{idle-told, idle-back}
 use Rattle.map_index.specs.Shown.{shown_box}
@@ -29,7 +29,7 @@ use Rattle.store_checks.proofs.Places.{split_at}
 use Rattle.store_checks.proofs.Walks.{behind, take_next}
 
 -- a log that was found stands so after calls that change nothing
-pub found-then : (found : Found) (name : FileName) (head : LogHead) (entries : List (List ℕ)) (now new : Option History) → Idle now new → IsFoundAs found name head entries now → IsFoundAs found name head entries new
+pub found-then : (found : InspectedLog) (name : FileName) (head : LogHead) (entries : List (List ℕ)) (now new : Option History) → Idle now new → IsFoundAs found name head entries now → IsFoundAs found name head entries new
 found-then found name head entries now new idle f = record { name_is = f.name_is; head_is = f.head_is; stands = idle-told (IsFound found entries) now new idle f.stands }
 
 pub are_found-then : (store : List ℕ) (mailboxes : List MapBox) (boxes : List CheckedBox) (logs : List (List BoxEntry)) (now new : Option History) → Idle now new → AreFound store mailboxes boxes logs now → AreFound store mailboxes boxes logs new

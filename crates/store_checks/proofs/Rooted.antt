@@ -15,7 +15,7 @@ use Rattle.model_store.specs.Settled.{files_of}
 use Rattle.model_store.specs.Stands.{HasLog}
 use Rattle.model_store.specs.Opening.{HasNoEntry, root_head, IsBadLog, AreRootEntries, IsBadMapLog, AreMapEntries}
 use Rattle.gate_log.specs.Reading.{IsReading}
-use Rattle.gate_log.specs.State.{Found}
+use Rattle.gate_log.specs.State.{InspectedLog}
 use Rattle.gate_log.specs.Log.{Idle, IsFound}
 use Rattle.gate_log.specs.declared.read.LogRead.{LogRead}
 use Rattle.gate_log.proofs.Idling.{idle-back}
@@ -79,7 +79,7 @@ none_last store last octets read old now idle r h f e told =
     let none : HasNoEntry (Some octets) = empty_log octets read.head (subst (λ (ts : List (List ℕ)). IsLog octets read.head ts) texts r.log) in
     if_told-map _ _ old (λ disk there. subst HasNoEntry (sym there) none) (idle-back (λ (disk : DiskState). reading (disk file.Root) ≡ Some octets) old now idle told)
 
-pub root_read : (store : List ℕ) (last : Option ℕ) (generation : ℕ) (found : Found) (octets : List ℕ) (read : LogRead) (old now new : Option History) → Idle old now → IsReading octets read → read.head ≡ root_log_head store
+pub root_read : (store : List ℕ) (last : Option ℕ) (generation : ℕ) (found : InspectedLog) (octets : List ℕ) (read : LogRead) (old now new : Option History) → Idle old now → IsReading octets read → read.head ≡ root_log_head store
     → IsRootFold last read.entries → last ≡ Some generation → IfTold now (λ disk. reading (disk file.Root) ≡ Some octets) → (found.name ≡ file.Root) × (found.head ≡ root_log_head store) → IfTold new (IsFound found read.entries)
     → (before : List RootEntry) × IsRootRead store generation found before old new
 root_read store last generation found octets read old now new idle r h f e told log stands =
@@ -119,7 +119,7 @@ map_cause store generation value old check.NoMemory number same c = c
 pub no_number : (store : List ℕ) (generation : ℕ) (old : Option History) → (IsNumber generation → ⊥) → IfTold old (λ disk. IsBadMapLog store generation (reading (disk (file.Map generation))) 0)
 no_number store generation old none = if_told-all _ old (λ disk. inl (none, refl))
 
-pub map_read : (store : List ℕ) (generation : ℕ) (m : MapMeaning) (found : Found) (octets : List ℕ) (read : LogRead) (old new : Option History) → IsNumber generation → m.store ≡ store → IsReading octets read → read.head ≡ map_log_head store generation
+pub map_read : (store : List ℕ) (generation : ℕ) (m : MapMeaning) (found : InspectedLog) (octets : List ℕ) (read : LogRead) (old new : Option History) → IsNumber generation → m.store ≡ store → IsReading octets read → read.head ≡ map_log_head store generation
     → IsMapFold m read.entries → IfTold old (λ disk. reading (disk (file.Map generation)) ≡ Some octets) → (found.name ≡ file.Map generation) × (found.head ≡ map_log_head store generation) → IfTold new (IsFound found read.entries)
     → (entries : List MapEntry) × IsMapRead store generation found m entries old new
 map_read store generation m found octets read old new number same r h f told log stands = (

@@ -19,7 +19,7 @@ use Rattle.model_meaning.specs.MapMeaning.{MapBox, MapMeaning, map_meaning}
 use Rattle.model_store.specs.Settled.{files_of}
 use Rattle.model_store.specs.Stands.{HasMap}
 use Rattle.model_store.specs.Opening.{Opens}
-use Rattle.gate_log.specs.State.{Found}
+use Rattle.gate_log.specs.State.{InspectedLog}
 use Rattle.gate_log.specs.Log.{Idle, IsFound}
 use Rattle.gate_log.proofs.Idling.{idle-told}
 use Rattle.store_checks.specs.Boxes.{IsFoundAs, AreFound}
@@ -32,7 +32,7 @@ use Rattle.store_sweep.specs.Swept.{OpensWith}
 
 -- ---- the logs
 
-pub stands_found : (found : Found) (name : FileName) (head : LogHead) (entries : List (List ℕ)) (now : Option History) → IsFoundAs found name head entries now → IfTold now (λ disk. StandsFound disk found)
+pub stands_found : (found : InspectedLog) (name : FileName) (head : LogHead) (entries : List (List ℕ)) (now : Option History) → IsFoundAs found name head entries now → IfTold now (λ disk. StandsFound disk found)
 stands_found found name head entries now f = if_told-map _ _ now (λ disk h. record { entries = entries; is = h }) f.stands
 
 -- one for each mailbox
@@ -74,7 +74,7 @@ same_file : (x y : List ℕ) → Some x ≡ Some y → x ≡ y
 same_file x y e = cc
 
 -- the last entry of a root log that was found is that by which the files open
-last_is : (store : List ℕ) (entries : List MapEntry) (generation : ℕ) (found : Found) (before : List RootEntry) (disk : DiskState) → generation < 2 ^ 32 → found.name ≡ file.Root → (h : HasMap (files_of disk) store entries) → IsFound found (root_texts before generation) disk
+last_is : (store : List ℕ) (entries : List MapEntry) (generation : ℕ) (found : InspectedLog) (before : List RootEntry) (disk : DiskState) → generation < 2 ^ 32 → found.name ≡ file.Root → (h : HasMap (files_of disk) store entries) → IsFound found (root_texts before generation) disk
     → h.generation ≡ generation
 last_is store entries generation found before disk short name h f =
     let log = h.root.log in
@@ -93,7 +93,7 @@ abbrev pub OpensAt : List ℕ → ℕ → List MapEntry → List (List BoxEntry)
 OpensAt store generation entries logs disk = (o : Opens (files_of disk) store entries logs) × (o.passed.map_log.generation ≡ generation)
 
 -- a log that was found has its head's generation in range
-short : (found : Found) (store : List ℕ) (generation : ℕ) (entries : List (List ℕ)) (disk : DiskState) → found.head ≡ map_log_head store generation → IsFound found entries disk → generation < 2 ^ 32
+short : (found : InspectedLog) (store : List ℕ) (generation : ℕ) (entries : List (List ℕ)) (disk : DiskState) → found.head ≡ map_log_head store generation → IsFound found entries disk → generation < 2 ^ 32
 short found store generation entries disk e f = let h : HeadFits (map_log_head store generation) = subst HeadFits e f.stands.head_fits in h.generation
 
 pub opens_at : (c : Checked) (before : List RootEntry) (entries : List MapEntry) (logs : List (List BoxEntry)) (old now : Option History) → Idle old now → IsChecked c before entries logs old now → IfTold now (OpensAt c.id.0 c.generation entries logs)

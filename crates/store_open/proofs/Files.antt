@@ -8,7 +8,7 @@ use Rattle.disk_model.proofs.Moments.{if_told-map, each_image-map, each_image-th
 use Rattle.model_store.specs.Opening.{HasNoEntry}
 use Rattle.gate_log.specs.Log.{Idle}
 use Rattle.gate_log.proofs.Idling.{idle-told}
-use Rattle.store_open.specs.Making.{BothTold, IsLogName, IsFree, IsBare, NeverHasEntry, AreCleared, HasNothingOrInbox}
+use Rattle.store_open.specs.Making.{BothTold, IsLogName, IsFreeForStore, IsEmptyDisk, NeverHasEntry, AreCleared, HasNothingOrInbox}
 use Rattle.store_open.proofs.Idle.{idle-images}
 use Rattle.store_open.proofs.Clearing.{both_told-on, never-cleared}
 
@@ -29,7 +29,7 @@ still-gone : (f g : FileState) → (g ≡ f) ⊎ (g ≡ named f) → IsThere g �
 still-gone f g (inl same) there = subst IsThere same there
 still-gone f g (inr is) there = named-there f (subst IsThere is there)
 
-bare : (old new : DiskState) → AreCleared old new → IsFree old → IsBare new
+bare : (old new : DiskState) → AreCleared old new → IsFreeForStore old → IsEmptyDisk new
 bare old new c free = λ name there. elim (log_or_not name) [
   | inl log ↦ elim (cases_Bool (old name).is_there) [
     | inl was ↦ false≢true (subst IsThere ((c name).gone log was) there)
@@ -39,8 +39,8 @@ bare old new c free = λ name there. elim (log_or_not name) [
 ]
 
 -- no file is left, once the logs are cleared
-pub all-bare : (old now new : Option History) → IfTold old IsFree → Idle old now → BothTold AreCleared now new → IfTold new IsBare
-all-bare old now new free idle cleared = both_told-on AreCleared IsFree IsBare now new bare cleared (idle-told IsFree old now idle free)
+pub all-bare : (old now new : Option History) → IfTold old IsFreeForStore → Idle old now → BothTold AreCleared now new → IfTold new IsEmptyDisk
+all-bare old now new free idle cleared = both_told-on AreCleared IsFreeForStore IsEmptyDisk now new bare cleared (idle-told IsFreeForStore old now idle free)
 
 -- what images have while the disk is checked
 pub checked-images : (old new : Option History) → Idle old new → IfTold old (λ disk. NeverHasEntry (disk file.Root)) → EachImage (λ _ image. HasNothingOrInbox image) old new

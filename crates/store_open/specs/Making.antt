@@ -12,7 +12,7 @@ use Rattle.model_logs.specs.Entries.{root_text, map_text}
 use Rattle.model_store.specs.Stands.{head_of}
 use Rattle.model_store.specs.Safe.{Safe}
 use Rattle.model_store.specs.Opening.{HasNoEntry, first_root, first_box, empty_inbox}
-use Rattle.gate_log.specs.Log.{Idle, IsNoLonger, log_text}
+use Rattle.gate_log.specs.Log.{Idle, IsAtMostAsLong, log_text}
 
 -- a relation of the present states, where the disk tells them
 abbrev pub BothTold : (DiskState → DiskState → Type 0) → Option History → Option History → Type 0
@@ -55,7 +55,7 @@ IsFirstLog cmp after (Some next) disk = IsLogName next × IsThere (disk next)
     × ((name : FileName) → IsThere (disk name) → IsPast cmp after name → cmp name next ≢ Less)
 
 -- A store may be made here: the root log has no entry, and no storage file and no instance is there.
-pub record IsFree (disk : DiskState) : Type 0 where
+pub record IsFreeForStore (disk : DiskState) : Type 0 where
   pub no_entry : HasNoEntry (reading (disk file.Root))
   pub no_mail : HasMailFile disk → ⊥
 
@@ -80,28 +80,28 @@ abbrev pub AreRemoved : DiskState → DiskState → Type 0
 AreRemoved old new = (name : FileName) → IsRemoved name (old name) (new name)
 
 -- no file is there
-abbrev pub IsBare : DiskState → Type 0
-IsBare disk = (name : FileName) → IsThere (disk name) → ⊥
+abbrev pub IsEmptyDisk : DiskState → Type 0
+IsEmptyDisk disk = (name : FileName) → IsThere (disk name) → ⊥
 
 -- A file that is made as a log with one entry: it is no longer than it could be before, or than a log without entries, or
 -- it is the log without the entry, or with it.
 abbrev pub IsBeingMade : LogHead → List ℕ → FileState → Option (List ℕ) → Type 0
-IsBeingMade head entry f left = IsNoLonger 26 f left ⊎ (IsLogFile left head [] ⊎ IsLogFile left head (entry ∷ []))
+IsBeingMade head entry f left = IsAtMostAsLong 26 f left ⊎ (IsLogFile left head [] ⊎ IsLogFile left head (entry ∷ []))
 
 -- the heads of a new store's logs
-abbrev pub root_head : List ℕ → LogHead
-root_head store = head_of store kind.Root 0 0
+abbrev pub new_root_head : List ℕ → LogHead
+new_root_head store = head_of store kind.Root 0 0
 
-abbrev pub map_head : List ℕ → LogHead
-map_head store = head_of store kind.Map 0 1
+abbrev pub new_map_head : List ℕ → LogHead
+new_map_head store = head_of store kind.Map 0 1
 
 abbrev pub inbox_head : List ℕ → LogHead
 inbox_head store = head_of store kind.Box 1 1
 
 -- A new store with this id is on the disk: a stop leaves just its three logs, each as it reads.
-pub record IsMade (store : List ℕ) (disk : DiskState) : Type 0 where
-  pub root_log : Keeps (disk file.Root) (log_text (root_head store) (root_text first_root ∷ []))
-  pub map_log : Keeps (disk (file.Map 1)) (log_text (map_head store) (map_text first_box ∷ []))
+pub record IsMadeStore (store : List ℕ) (disk : DiskState) : Type 0 where
+  pub root_log : Keeps (disk file.Root) (log_text (new_root_head store) (root_text first_root ∷ []))
+  pub map_log : Keeps (disk (file.Map 1)) (log_text (new_map_head store) (map_text first_box ∷ []))
   pub inbox : Keeps (disk (file.Box 1 1)) (log_text (inbox_head store) [])
   pub nothing_else : (name : FileName) → name ≢ file.Root → name ≢ file.Map 1 → name ≢ file.Box 1 1 → disk name ≡ no_file
 

@@ -4,7 +4,7 @@ ghost use Rattle.disk_model.specs.Disk.{IfTold, reading};
 ghost use Rattle.disk_model.specs.declared.name.FileName.TheVariants as file;
 ghost use Rattle.model_store.specs.Opening.{HasNoEntry};
 ghost use Rattle.gate_log.specs.Log.{Idle, OneRoseIf};
-ghost use Rattle.store_open.specs.Making.{HasMailFile, IsFree};
+ghost use Rattle.store_open.specs.Making.{HasMailFile, IsFreeForStore};
 ghost use Rattle.store_open.specs.Refused.{IsMakingError, IsFaultOrMemory};
 
 use crate::error::OpenError;
@@ -18,7 +18,7 @@ const LAST_LOG: FileName = FileName::Box(u32::MAX, u32::MAX);
 
 /// Refuses a disk with a store, and one with storage files or instances.
 pub fn check_free<D: Disk>(alloc: Global, disk: &mut D) -> Result<(), OpenError>
-    ensures free { OnOk result (IfTold (D.history disk.old) IsFree) }
+    ensures free { OnOk result (IfTold (D.history disk.old) IsFreeForStore) }
     ensures refused { IfErr result (IsMakingError (D.history disk.old)) }
     ensures idle { Idle (D.history disk.old) (D.history disk.new) }
     ensures fault { OneRoseIf (IsErrOf result OpenError.DiskFault) (D.faults disk.old) (D.faults disk.new) }

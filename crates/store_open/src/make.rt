@@ -7,8 +7,8 @@ ghost use Rattle.model_logs.specs.Entries.{map_text, root_text};
 ghost use Rattle.model_store.specs.Stands.{head_of};
 ghost use Rattle.model_store.specs.Opening.{first_root, first_box, empty_inbox};
 ghost use Rattle.model_store.specs.Settled.{IsSettled};
-ghost use Rattle.gate_log.specs.Log.{Holds, IsNoLonger, NamedButFor};
-ghost use Rattle.store_open.specs.Making.{IsBeingMade, NeverHasEntry, IsBare, IsMade, HasNothingOrInbox, map_head, inbox_head};
+ghost use Rattle.gate_log.specs.Log.{Holds, IsAtMostAsLong, NamedButFor};
+ghost use Rattle.store_open.specs.Making.{IsBeingMade, NeverHasEntry, IsEmptyDisk, IsMadeStore, HasNothingOrInbox, new_map_head, inbox_head};
 ghost use Rattle.store_open.specs.Refused.{IsFaultOrMemory};
 
 use crate::error::OpenError;
@@ -35,13 +35,13 @@ pub fn make_logs<D: Disk>(
     inbox: &[u8],
     first: &[u8],
 ) -> Result<MadeLogs, OpenError>
-    requires bare { IfTold (D.history disk.old) IsBare }
+    requires bare { IfTold (D.history disk.old) IsEmptyDisk }
     requires inbox { inbox.now ≡ map_text first_box }
     requires first { first.now ≡ root_text first_root }
     ensures any_moment { IfTold (D.history disk.old) (λ now. NeverHasEntry (now file.Root)) → EachImage (λ _ image. HasNothingOrInbox image) (D.history disk.old) (D.history disk.new) }
-    ensures store { OnOk result (IfTold (D.history disk.new) (IsMade id.0)) }
+    ensures store { OnOk result (IfTold (D.history disk.new) (IsMadeStore id.0)) }
     ensures settled { OnOk result (IfTold (D.history disk.new) (λ now. IsSettled now empty_inbox)) }
-    ensures map_log { IfOk result (λ made. Holds made.map_log (map_text first_box ∷ []) (D.history disk.new) × (made.map_log.name ≡ file.Map 1) × (made.map_log.head ≡ map_head id.0)) }
+    ensures map_log { IfOk result (λ made. Holds made.map_log (map_text first_box ∷ []) (D.history disk.new) × (made.map_log.name ≡ file.Map 1) × (made.map_log.head ≡ new_map_head id.0)) }
     ensures box_log { IfOk result (λ made. Holds made.box_log [] (D.history disk.new) × (made.box_log ≡ record { name = file.Box 1 1; head = inbox_head id.0; end = 25; room = 0 })) }
     ensures refused { IfErr result IsFaultOrMemory }
     ensures fault { FaultsRoseIf (IsErrOf result OpenError.DiskFault) (D.faults disk.old) (D.faults disk.new) }
@@ -73,7 +73,7 @@ fn make_empty_log<D: Disk>(
     name: FileName,
     head: LogHead,
 ) -> Result<GateLog, DiskFault>
-    ensures any_moment { EachImage (λ _ image. IfTold (D.history disk.old) (λ before. IsNoLonger 26 (before name) (image name)) × OthersStay name (D.history disk.old) image) (D.history disk.old) (D.history disk.new) }
+    ensures any_moment { EachImage (λ _ image. IfTold (D.history disk.old) (λ before. IsAtMostAsLong 26 (before name) (image name)) × OthersStay name (D.history disk.old) image) (D.history disk.old) (D.history disk.new) }
     ensures made { IfOk result (λ log. Holds log [] (D.history disk.new)) }
     ensures log { IfOk result (λ log. log ≡ record { name = name; head = head; end = 25; room = 0 }) }
     ensures others { OnOk result (NamedButFor name (D.history disk.old) (D.history disk.new)) }

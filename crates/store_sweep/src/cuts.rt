@@ -5,7 +5,7 @@ ghost use Rattle.disk_model.specs.declared.name.FileName.{FileName};
 ghost use Rattle.disk_model.specs.declared.name.FileName.TheVariants as file;
 ghost use Rattle.gate_log.specs.Log.{OneRoseIf};
 ghost use Rattle.model_meaning.specs.MapMeaning.{MapMeaning};
-ghost use Rattle.store_sweep.specs.Wanted.{is_log, EndBy, IsNoLonger};
+ghost use Rattle.store_sweep.specs.Wanted.{is_log, EndBy, EndsByLastRegion};
 ghost use Rattle.store_sweep.specs.Moments.{ImagesCarry, KeepsStore, SameWhere, SyncedWhereCut, NoneMade};
 
 use crate::names::is_name_in_range;
@@ -23,7 +23,7 @@ pub fn cut_files<D: Disk>(disk: &mut D, map: &MapIndex) -> Result<(), DiskFault>
     ensures logs { OnOk result (SameWhere is_log (D.history disk.old) (D.history disk.new)) }
     ensures synced { OnOk result (SyncedWhereCut (D.history disk.old) (D.history disk.new)) }
     ensures none_made { OnOk result (NoneMade (D.history disk.old) (D.history disk.new)) }
-    ensures cut { OnOk result (IfTold (D.history disk.new) (λ now. (name : FileName) → IsThere (now name) → IsNoLonger map.now name (now name))) }
+    ensures cut { OnOk result (IfTold (D.history disk.new) (λ now. (name : FileName) → IsThere (now name) → EndsByLastRegion map.now name (now name))) }
     ensures fault { OneRoseIf (IsErr result) (D.faults disk.old) (D.faults disk.new) }
 {
     let mut last = None;
@@ -43,7 +43,7 @@ fn fit_file<D: Disk>(disk: &mut D, name: FileName, map: &MapIndex) -> Result<(),
     ensures synced { OnOk result (SyncedWhereCut (D.history disk.old) (D.history disk.new)) }
     ensures none_made { OnOk result (NoneMade (D.history disk.old) (D.history disk.new)) }
     ensures others { OnOk result (SameButFor name (D.history disk.old) (D.history disk.new)) }
-    ensures cut { OnOk result (IfTold (D.history disk.new) (λ now. IsThere (now name) → IsNoLonger map.now name (now name))) }
+    ensures cut { OnOk result (IfTold (D.history disk.new) (λ now. IsThere (now name) → EndsByLastRegion map.now name (now name))) }
     ensures fault { OneRoseIf (IsErr result) (D.faults disk.old) (D.faults disk.new) }
 {
     let FileName::Mail(number) = name else {

@@ -3,7 +3,7 @@ ghost use Rattle.std.specs.Prelude.{◌≡◌, ◌<◌, ◌≤◌, ◌+◌, ◌+
 ghost use Rattle.std.specs.List.{All, AllZip};
 ghost use Rattle.disk_model.specs.Disk.{IfTold, FaultsRoseIf};
 ghost use Rattle.store_sweep.specs.Moments.{ImagesCarry, KeepsStore, SameWhere};
-ghost use Rattle.store_sweep.specs.Repaired.{StandsFound, IsRepaired, AreBoxLogs, is_outside};
+ghost use Rattle.store_sweep.specs.Repaired.{StandsFound, IsRepaired, AreLogsOfBoxes, is_outside};
 
 use disk_model::Disk;
 use gate_log::{DiskFault, FoundLog, GateLog};
@@ -18,7 +18,7 @@ pub fn repair_boxes<D: Disk>(
     map: &MapIndex,
     opened: &mut Vec<GateLog>,
 ) -> Result<(), DiskFault>
-    requires logs { AreBoxLogs map.now found.items }
+    requires logs { AreLogsOfBoxes map.now found.items }
     requires stand { IfTold (D.history disk.old) (λ now. All (StandsFound now) found.items) }
     requires empty { (opened.old.items ≡ []) × (vec_len opened.old ≡ 0) }
     requires room { (vec_len found ≡ length found.items) × (vec_len found ≤ vec_capacity opened.old) }
