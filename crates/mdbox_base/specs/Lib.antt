@@ -1,3 +1,4 @@
+pub mod Clocks
 pub mod Numbers
 pub mod Places
 pub mod Streams
