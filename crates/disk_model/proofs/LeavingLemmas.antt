@@ -1,4 +1,4 @@
--- What a stop may leave of a file, by what was done to it.
+-- What a crash may leave of a file, by what was done to it.
 use Rattle.std.proofs.Common.{◌≡◌, ℕ, ◌+◌, ◌<◌, ◌≤◌, zero, suc, false, nat_le, nat_lt, List, [], ◌∷◌, ◌++◌, length, take, drop, slice_get, Some, refl, sym, ◌∙◌, subst, arith}
 use Rattle.std.proofs.Common.{max, length-append, length-drop}
 use Rattle.std.proofs.Math.Seq.{take-length, take-append_seam}
