@@ -1,6 +1,6 @@
 -- Files at rest, and what a crash leaves of them.
 use Rattle.std.proofs.Common.{◌≡◌, ◌↔◌, inl, inr, ℕ, ◌<◌, List, Option, Some, None, All, refl, sym, ◌∙◌, ap, subst, arith}
-use Rattle.std.proofs.lemmas.Bool.{false≢true, true≢false}
+use Rattle.std.proofs.lemmas.Bool.{false≢true}
 use Rattle.disk_model.specs.Disk.{Files, FileState, DiskState, MayLeave, IsImage, IsAtRest, Keeps, IsThere, no_file, still, reading}
 use Rattle.disk_model.specs.declared.name.FileName.{FileName}
 use Rattle.disk_model.proofs.OneFileLemmas.{still_leaves}

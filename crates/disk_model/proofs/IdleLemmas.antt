@@ -1,8 +1,8 @@
 -- Calls that change nothing, one after another.
-use Rattle.std.proofs.Common.{◌≡◌, ℕ, List, Option, Some, None, refl, sym, ◌∙◌, ap, subst}
+use Rattle.std.proofs.Common.{ℕ, List, Option, Some, None, refl, sym, ◌∙◌, ap, subst}
 use Rattle.disk_model.specs.Disk.{Files, DiskState, History, MayLeave, IsImage, IfTold, IsTold, Unchanged, EachImage, Between, SameState, IsIdle, SameButFor}
 use Rattle.disk_model.specs.declared.name.FileName.{FileName}
-use Rattle.disk_model.proofs.MomentLemmas.{if_told-all, each_image-begins, each_image-map, each_image-then, each_image-unchanged}
+use Rattle.disk_model.proofs.MomentLemmas.{each_image-begins, each_image-map, each_image-then, each_image-unchanged}
 use Rattle.disk_model.proofs.BetweenLemmas.{between-begins, between-then, between-map, between-on, between-back, between-told, between-goes_on}
 use Rattle.disk_model.proofs.OneFileLemmas.{IsAlong, Along}
 
