@@ -5,8 +5,8 @@ use Rattle.std.proofs.lemmas.List.{take_all}
 use Rattle.std.proofs.lemmas.Option.{same_Some}
 use Rattle.disk_model.specs.Disk.{Files, DiskState, History, MayLeave, IsImage, IfTold, Unchanged, EachImage, SameButFor, reading}
 use Rattle.disk_model.specs.declared.name.FileName.{FileName}
-use Rattle.disk_model.proofs.Moments.{if_told-both, each_image-begins, each_image-unchanged, each_image-map}
-use Rattle.disk_model.proofs.OneFile.{IsAlong, Along}
+use Rattle.disk_model.proofs.MomentLemmas.{if_told-both, each_image-begins, each_image-unchanged, each_image-map}
+use Rattle.disk_model.proofs.OneFileLemmas.{IsAlong, Along}
 use Rattle.gate_log.specs.Log.{SameState, Idle}
 
 same-begins : (old : Option History) → SameState old old

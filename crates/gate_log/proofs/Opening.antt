@@ -4,9 +4,9 @@ use Rattle.std.proofs.Math.Seq.{get_or-append_seam}
 use Rattle.std.proofs.lemmas.Option.{same_Some}
 use Rattle.disk_model.specs.Disk.{FileState, DiskState, History, MayLeave, IfTold, EachImage, OthersStay, Keeps, reading}
 use Rattle.disk_model.specs.declared.name.FileName.{FileName}
-use Rattle.disk_model.proofs.Moments.{if_told-all, if_told-map, if_told-both}
-use Rattle.disk_model.proofs.OneFile.{IsAlong, Along, one_file-then}
-use Rattle.disk_model.proofs.Others.{apart_images}
+use Rattle.disk_model.proofs.MomentLemmas.{if_told-all, if_told-map, if_told-both}
+use Rattle.disk_model.proofs.OneFileLemmas.{IsAlong, Along, one_file-then}
+use Rattle.disk_model.proofs.OtherFileLemmas.{apart_images}
 use Rattle.model_logs.specs.declared.log_head.LogHead.{LogHead}
 use Rattle.model_logs.specs.LogFile.{log_front, log_end, EndsLog, IsLog, IsLogFile}
 use Rattle.model_logs.proofs.LogFileLemmas.{front_length, one_log}

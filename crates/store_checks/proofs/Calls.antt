@@ -1,7 +1,7 @@
 -- Calls that change nothing, one after another.
 use Rattle.std.proofs.Common.{◌≡◌, ◌∙◌, refl, Option, Some, None, arith}
 use Rattle.disk_model.specs.Disk.{DiskState, History, IsImage, Faults}
-use Rattle.disk_model.proofs.Moments.{each_image-map, each_image-then}
+use Rattle.disk_model.proofs.MomentLemmas.{each_image-map, each_image-then}
 use Rattle.gate_log.specs.Log.{SameState, Idle, ReadsRoseIf}
 use Rattle.gate_log.proofs.Idling.{idle-back}
 

@@ -9,7 +9,7 @@ use Rattle.std.proofs.lemmas.Option.{slice_get-get_or}
 use Rattle.disk_model.specs.Disk.{Files, DiskState, History, IfTold, reading}
 use Rattle.disk_model.specs.declared.name.FileName.{FileName}
 use Rattle.disk_model.specs.declared.name.FileName.TheVariants as file
-use Rattle.disk_model.proofs.Moments.{if_told-all, if_told-map, if_told-both}
+use Rattle.disk_model.proofs.MomentLemmas.{if_told-all, if_told-map, if_told-both}
 use Rattle.mdbox_base.specs.declared.entries.InstRow.{InstRow}
 use Rattle.model_store.specs.Settled.{files_of}
 use Rattle.model_store.specs.Safe.{LiesInFile, IsThereWhole}

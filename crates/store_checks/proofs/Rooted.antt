@@ -2,7 +2,7 @@
 use Rattle.std.proofs.Common.{◌≡◌, ◌+◌, ℕ, List, [], ◌∷◌, ◌++◌, length, map, Option, Some, None, inl, inr, refl, sym, ◌∙◌, ap, subst, arith, append-nil, length-append}
 use Rattle.disk_model.specs.Disk.{DiskState, History, IfTold, reading}
 use Rattle.disk_model.specs.declared.name.FileName.TheVariants as file
-use Rattle.disk_model.proofs.Moments.{if_told-all, if_told-map, if_told-both}
+use Rattle.disk_model.proofs.MomentLemmas.{if_told-all, if_told-map, if_told-both}
 use Rattle.model_logs.specs.declared.log_head.LogHead.{LogHead}
 use Rattle.mdbox_base.specs.declared.entries.RootEntry.{RootEntry}
 use Rattle.mdbox_base.specs.declared.entries.MapEntry.{MapEntry}

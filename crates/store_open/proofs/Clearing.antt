@@ -8,9 +8,9 @@ use Rattle.disk_model.specs.Name.{same_name}
 use Rattle.disk_model.specs.declared.name.FileName.{FileName}
 use Rattle.disk_model.specs.declared.name.FileName.TheVariants as file
 use Rattle.disk_model.specs.contracts.name.FileNameOrd.TheImpl.{ghosts}
-use Rattle.disk_model.proofs.Moments.{if_told-all, if_told-map, if_told-both, each_image-begins, each_image-then, each_image-goes_on, each_image-fails, each_image-fails_still}
-use Rattle.disk_model.proofs.Names.{same_name-true, same_name-refl}
-use Rattle.disk_model.proofs.OneFile.{named-narrows}
+use Rattle.disk_model.proofs.MomentLemmas.{if_told-all, if_told-map, if_told-both, each_image-begins, each_image-then, each_image-goes_on, each_image-fails, each_image-fails_still}
+use Rattle.disk_model.proofs.NameLemmas.{same_name-true, same_name-refl}
+use Rattle.disk_model.proofs.OneFileLemmas.{named-narrows}
 use Rattle.model_store.specs.Opening.{HasNoEntry}
 use Rattle.gate_log.specs.Log.{SameState, Idle}
 use Rattle.store_open.specs.Making.{BothTold, HasAnyLog, IsLogName, IsLogInRange, IsFirstLog, NeverHasEntry, AreRemoved, AreCleared}

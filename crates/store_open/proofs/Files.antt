@@ -4,7 +4,7 @@ use Rattle.std.proofs.lemmas.Bool.{cases_Bool, cond-false, false≢true, true≢
 use Rattle.disk_model.specs.Disk.{FileState, DiskState, History, IsThere, IfTold, EachImage, named, no_file}
 use Rattle.disk_model.specs.declared.name.FileName.{FileName}
 use Rattle.disk_model.specs.declared.name.FileName.TheVariants as file
-use Rattle.disk_model.proofs.Moments.{if_told-map, each_image-map, each_image-then}
+use Rattle.disk_model.proofs.MomentLemmas.{if_told-map, each_image-map, each_image-then}
 use Rattle.model_store.specs.Opening.{HasNoEntry}
 use Rattle.gate_log.specs.Log.{Idle}
 use Rattle.gate_log.proofs.Idling.{idle-told}

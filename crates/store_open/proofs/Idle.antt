@@ -1,7 +1,7 @@
 -- Calls that change nothing, one after another.
 use Rattle.std.proofs.Common.{◌≡◌, ℕ, List, Option, Some, None, ◌∙◌, subst}
 use Rattle.disk_model.specs.Disk.{Files, DiskState, History, IsImage, IfTold, EachImage}
-use Rattle.disk_model.proofs.Moments.{each_image-map, each_image-then}
+use Rattle.disk_model.proofs.MomentLemmas.{each_image-map, each_image-then}
 use Rattle.gate_log.specs.Log.{SameState, Idle}
 use Rattle.mdbox_base.specs.declared.entries.BoxEntry.{BoxEntry}
 use Rattle.mdbox_base.specs.declared.entries.MapEntry.{MapEntry}

@@ -1,7 +1,7 @@
 -- What an opening leaves of a disk, and what it shows.
 use Rattle.std.proofs.Common.{◌≡◌, ℕ, List, [], map, Option, Some, None, sym, subst}
 use Rattle.disk_model.specs.Disk.{DiskState, History, IfTold, IsTold, EachImage}
-use Rattle.disk_model.proofs.Moments.{each_image-then}
+use Rattle.disk_model.proofs.MomentLemmas.{each_image-then}
 use Rattle.mdbox_base.specs.declared.entries.BoxEntry.{BoxEntry}
 use Rattle.mdbox_base.specs.declared.entries.MapEntry.{MapEntry}
 use Rattle.model_meaning.specs.BoxMeaning.{BoxMeaning, box_meaning}

@@ -9,7 +9,7 @@ use Rattle.disk_model.specs.Disk.{DiskState, History, IfTold, EachImage, OthersS
 use Rattle.disk_model.specs.Name.{same_name}
 use Rattle.disk_model.specs.declared.name.FileName.{FileName}
 use Rattle.disk_model.specs.declared.name.FileName.TheVariants as file
-use Rattle.disk_model.proofs.Names.{same_name-eq, same_name-false}
+use Rattle.disk_model.proofs.NameLemmas.{same_name-eq, same_name-false}
 use Rattle.model_logs.specs.LogFile.{IsLogFile}
 use Rattle.model_meaning.specs.MapMeaning.{MapBox, MapMeaning}
 use Rattle.gate_log.specs.State.{LogState, InspectedLog}

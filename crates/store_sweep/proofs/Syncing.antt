@@ -4,7 +4,7 @@ use Rattle.std.proofs.lemmas.Bool.{cases_Bool, cases_eq, true≢false, false≢t
 use Rattle.disk_model.specs.Disk.{FileState, DiskState, History, IfTold, IsThere, Unchanged, after, change, change_all, named, no_file, cut_to, synced}
 use Rattle.disk_model.specs.declared.name.FileName.{FileName}
 use Rattle.disk_model.specs.declared.name.FileName.TheVariants as file
-use Rattle.disk_model.proofs.OneFile.{change-here, change-other}
+use Rattle.disk_model.proofs.OneFileLemmas.{change-here, change-other}
 use Rattle.model_meaning.specs.MapMeaning.{MapMeaning}
 use Rattle.gate_log.specs.Log.{SameState}
 use Rattle.store_sweep.specs.Wanted.{is_wanted}

@@ -8,7 +8,7 @@ use Rattle.std.proofs.lemmas.Option.{same_Some}
 use Rattle.disk_model.specs.Disk.{Files, FileState, DiskState, History, IfTold, IsThere, IsImage, EachImage, reading}
 use Rattle.disk_model.specs.declared.name.FileName.{FileName}
 use Rattle.disk_model.specs.declared.name.FileName.TheVariants as file
-use Rattle.disk_model.proofs.Moments.{each_image-map}
+use Rattle.disk_model.proofs.MomentLemmas.{each_image-map}
 use Rattle.model_lists.specs.Lists.{Lists}
 use Rattle.model_store.specs.Safe.{Safe}
 use Rattle.model_meaning.specs.MapMeaning.{MapRecord, MapMeaning}

@@ -3,7 +3,7 @@ use Rattle.std.specs.Prelude.{IfSome}
 use Rattle.disk_model.specs.Disk.{FileState, IfTold, IsPast, IsNext}
 use Rattle.disk_model.specs.contracts.name.FileNameOrd.TheImpl.{ghosts}
 use Rattle.disk_model.specs.declared.name.FileName.{FileName}
-use Rattle.disk_model.proofs.Moments.{if_told-all}
+use Rattle.disk_model.proofs.MomentLemmas.{if_told-all}
 use Rattle.store_sweep.specs.Wanted.{is_wanted}
 use Rattle.store_sweep.proofs.Order.{walk_shrinks}
 use Rattle.store_sweep.proofs.Walking.{passed_none, walk_more, walk_ends}
