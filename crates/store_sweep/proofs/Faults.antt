@@ -1,7 +1,8 @@
 -- Counts of faults.
 use Rattle.std.proofs.Common.{inl, ◌≤◌, Err, refl, arith}
 use Rattle.std.specs.Prelude.{IsErrOf}
-use Rattle.disk_model.specs.Disk.{Faults, Rose, ReadCause}
+use Rattle.mdbox_base.specs.Streams.{Rose}
+use Rattle.disk_model.specs.Disk.{Faults, ReadCause}
 use Rattle.disk_model.specs.declared.error.DiskError.{DiskError}
 use Rattle.disk_model.specs.declared.error.DiskError.TheVariants.{Failed, Absent}
 use Rattle.disk_model.specs.FaultCounts.{AnyFaultCounted}
