@@ -1,4 +1,4 @@
--- What a stop leaves of a file, by the notes of the calls before it.
+-- What a crash leaves of a file, by the notes of the calls before it.
 use Rattle.std.specs.Prelude.{◌≡◌, ◌≢◌, ℕ, ◌+◌, ◌-◌, ◌<◌, nat_lt, Bool, true, false, not, ◌&&◌, ◌||◌, if◌then◌else◌, List, [], ◌∷◌, length, slice_index, Option, Some, None}
 use Rattle.disk_model.specs.Disk.{FileState, reading, covers}
 use Rattle.disk_model.specs.Name.{same_name}

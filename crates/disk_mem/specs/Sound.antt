@@ -98,7 +98,7 @@ pub told_sound : (base : List File) (notes : List Note) (idle : ℕ) (name : Fil
 unfolding told_of
 told_sound base notes idle = waited_sound idle (played notes (begun base)) (played_sound notes (begun base) (λ name. rest_sound (found base name)))
 
--- a file as it reads is what a stop may leave
+-- a file as it reads is what a crash may leave
 pub reading_left : (f : FileState) → IsSound f → MayLeave f (reading f)
 reading_left f s = elim (cases_Bool f.is_there) [
   | inl there ↦

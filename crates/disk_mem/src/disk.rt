@@ -11,7 +11,7 @@ use disk_model::{DiskError, FileName};
 use mdbox_base::{NoMemory, Seq};
 use std::alloc::Global;
 
-/// A disk in memory. It tells its content, keeps a record of its calls, and makes the disks that a stop would leave.
+/// A disk in memory. It tells its content, keeps a record of its calls, and makes the disks that a crash would leave.
 ///
 /// Its calls fail where they were listed to fail, and a change also where there is no memory for it.
 #[derive(Drop)]

@@ -1,4 +1,4 @@
-// The disks that a stop would leave.
+// The disks that a crash would leave.
 ghost use Rattle.std.specs.Prelude.{◌≡◌, ◌+◌, ◌-◌, ◌^◌, min, sum_by, ◌<◌, ◌≤◌, ℕ, if◌then◌else◌, length, slice_get, slice_index, ◌≢◌, Some, None, IfOk, OnOk};
 ghost use Rattle.disk_model.specs.Disk.{covers};
 ghost use Rattle.disk_mem.specs.Record.{Shows, found, at_rest, file_after};
@@ -94,7 +94,7 @@ fn tear_range(text: &mut Text, at: u64, count: u64, octet: u8)
     text.fill(at.min(end) as usize, end as usize, octet);
 }
 
-/// What a stop leaves of a file by a choice, after these notes.
+/// What a crash leaves of a file by a choice, after these notes.
 fn left_of(
     alloc: Global,
     base: &[File],
@@ -204,7 +204,7 @@ impl MemDisk {
         run_by(&self.notes, self.idle)
     }
 
-    /// The disk after a stop when so many calls had run, which are at most those that did. It is at rest, no call of it is
+    /// The disk after a crash when so many calls had run, which are at most those that did. It is at rest, no call of it is
     /// listed to fail, and its counts are 0.
     pub fn image(&self, alloc: Global, calls: u64, choice: Choice) -> Result<MemDisk, NoMemory>
         requires { calls ≤ calls_of self.now }

@@ -2,7 +2,7 @@ use Rattle.std.proofs.Common.{◌≡◌, Some, slice_get, List, sym, ◌∙◌, 
 use Rattle.std.proofs.lemmas.Option.{slice_get_read}
 use Rattle.disk_mem.specs.declared.file.File.{File}
 use Rattle.disk_mem.specs.Record.{Reads, IsPlaceOf}
-use Rattle.disk_mem.proofs.Steps.{not_for_all, slice_get-lt, on_ok, on_err, reads-stepped, reads-same}
+use Rattle.disk_mem.proofs.StepLemmas.{not_for_all, slice_get-lt, on_ok, on_err, reads-stepped, reads-same}
 use Rattle.disk_mem.proofs.file.apply_to.Goals as goal
 
 pub returns-in-Some : goal.returns-in-Some

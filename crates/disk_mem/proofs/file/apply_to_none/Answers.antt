@@ -1,10 +1,10 @@
 use Rattle.std.proofs.Common.{◌≡◌, true, List, refl, sym, subst}
 use Rattle.disk_model.specs.Disk.{FileState}
-use Rattle.disk_model.proofs.Names.{same_name-refl}
+use Rattle.disk_model.proofs.NameLemmas.{same_name-refl}
 use Rattle.disk_mem.specs.declared.file.File.{File}
 use Rattle.disk_mem.specs.declared.note.Change.{Change}
 use Rattle.disk_mem.specs.Record.{Reads, ReadsAll, changed, at_file, stepped}
-use Rattle.disk_mem.proofs.Steps.{reads-push, reads-none, at_file-own, at_file-other}
+use Rattle.disk_mem.proofs.StepLemmas.{reads-push, reads-none, at_file-own, at_file-other}
 use Rattle.disk_mem.proofs.file.apply_to_none.Goals as goal
 
 pub returns-in_ok-push-clause-ok : goal.returns-in_ok-push-clause-ok

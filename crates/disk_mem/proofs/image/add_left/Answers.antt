@@ -2,7 +2,7 @@ use Rattle.std.proofs.Common.{◌≡◌, List, None, refl, sym, ap, ◌∙◌, s
 use Rattle.disk_mem.specs.declared.file.File.{File}
 use Rattle.disk_mem.specs.Record.{found}
 use Rattle.disk_mem.specs.Left.{AreLeft, IsAdded}
-use Rattle.disk_mem.proofs.Copies.{left_push, added_push, added_there}
+use Rattle.disk_mem.proofs.CopyLemmas.{left_push, added_push, added_there}
 use Rattle.disk_mem.proofs.image.add_left.Goals as goal
 
 pub returns-in-Some-clause-added : goal.returns-in-Some-clause-added

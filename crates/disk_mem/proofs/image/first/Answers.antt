@@ -2,9 +2,9 @@ use Rattle.std.proofs.Common.{◌≡◌, Some, Option, slice_get, refl, sym, ◌
 use Rattle.std.proofs.lemmas.Option.{slice_get_read}
 use Rattle.disk_mem.specs.declared.file.File.{File}
 use Rattle.disk_mem.specs.Record.{Shows, found, at_rest}
-use Rattle.disk_mem.proofs.Files.{found-here}
-use Rattle.disk_mem.proofs.Steps.{slice_get-lt}
-use Rattle.disk_mem.proofs.Following.{if_ok}
+use Rattle.disk_mem.proofs.FileLemmas.{found-here}
+use Rattle.disk_mem.proofs.StepLemmas.{slice_get-lt}
+use Rattle.disk_mem.proofs.FollowingLemmas.{if_ok}
 use Rattle.disk_mem.proofs.image.first.Goals as goal
 
 pub returns-in-Some-clause-shows : goal.returns-in-Some-clause-shows

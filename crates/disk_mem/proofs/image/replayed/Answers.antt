@@ -2,7 +2,7 @@ use Rattle.std.proofs.Common.{sym, ◌∙◌, subst, take}
 use Rattle.disk_model.specs.Disk.{FileState}
 use Rattle.disk_model.specs.declared.name.FileName.{FileName}
 use Rattle.disk_mem.specs.Record.{Shows, found, at_rest, at_file, file_after}
-use Rattle.disk_mem.proofs.Following.{file_after-next}
+use Rattle.disk_mem.proofs.FollowingLemmas.{file_after-next}
 use Rattle.disk_mem.proofs.image.replayed.Goals as goal
 
 pub loop-note-preserved : goal.loop-note-preserved

@@ -2,10 +2,10 @@
 use Rattle.std.proofs.Common.{◌≡◌, ℕ, List, Option, sym, subst}
 use Rattle.disk_model.specs.Disk.{FileState, History, MayLeave, IsThere, IfTold, AfterFailed, EachImage, SameButFor, after, change, synced}
 use Rattle.disk_model.specs.declared.name.FileName.{FileName}
-use Rattle.disk_model.proofs.Moments.{if_told-after, if_told-map}
-use Rattle.disk_model.proofs.OneFile.{IsAlong, Along, change-here, along-begins, along-goes_on, along-fails, along-fails_still}
+use Rattle.disk_model.proofs.MomentLemmas.{if_told-after, if_told-map}
+use Rattle.disk_model.proofs.OneFileLemmas.{IsAlong, Along, change-here, along-begins, along-goes_on, along-fails, along-fails_still}
 
--- What is to be known before: P holds of all that a stop may leave of the file, now, after the change, after a change
+-- What is to be known before: P holds of all that a crash may leave of the file, now, after the change, after a change
 -- that failed, and after the sync; and the change leaves the file there.
 pub record Can (name : FileName) (step half : FileState → FileState) (P : Option (List ℕ) → Type 0) (f : FileState) : Type 0 where
   pub before : (octets : Option (List ℕ)) → MayLeave f octets → P octets

@@ -3,12 +3,12 @@ use Rattle.std.proofs.Common.{◌≡◌, inl, inr, ℕ, zero, suc, ◌+◌, ◌-
 use Rattle.std.proofs.lemmas.Bool.{cases_lt, cond-true, cond-false, lt-ltb, le-ltb}
 use Rattle.disk_model.specs.Disk.{DiskState, History, calls, joined_by, state_at}
 use Rattle.disk_model.specs.declared.name.FileName.{FileName}
-use Rattle.disk_model.proofs.Moments.{state_at-now, state_at-joined}
+use Rattle.disk_model.proofs.MomentLemmas.{state_at-now, state_at-joined}
 use Rattle.disk_mem.specs.declared.file.File.{File}
 use Rattle.disk_mem.specs.declared.note.Note.{Note}
 use Rattle.disk_mem.specs.Left.{noted}
 use Rattle.disk_mem.specs.Record.{stepped, at_file, file_after, waited, played, begun, told_of}
-use Rattle.disk_mem.proofs.Histories.{waited-now, waited-calls}
+use Rattle.disk_mem.proofs.HistoryLemmas.{waited-now, waited-calls}
 
 waited_keeps : (k : ℕ) (h : History) (m : ℕ) → m ≤ calls h → state_at (waited k h) m ≡ state_at h m
 waited_keeps zero h m below = refl

@@ -1,20 +1,20 @@
 -- Lists of files, one more at a time.
 use Rattle.std.proofs.Common.{◌≡◌, ◌≢◌, inl, inr, ℕ, ◌≤◌, false, List, [], ◌∷◌, ◌++◌, take, slice_get, Option, Some, None, refl, sym, ◌∙◌, ap, subst}
 use Rattle.std.proofs.lemmas.Bool.{cases_Bool, cond-true, cond-false, cond_both, false_from_ne_true, false≢true}
-use Rattle.disk_model.specs.Disk.{FileState, DiskState, History, calls, MayLeave, reading, no_file, still}
+use Rattle.disk_model.specs.Disk.{IsAtRest, FileState, DiskState, History, calls, MayLeave, reading, no_file, still}
 use Rattle.disk_model.specs.Name.{same_name}
 use Rattle.disk_model.specs.declared.name.FileName.{FileName}
-use Rattle.disk_model.proofs.Names.{same_name-true}
+use Rattle.disk_model.proofs.NameLemmas.{same_name-true}
 use Rattle.disk_mem.specs.declared.file.File.{File}
 use Rattle.disk_mem.specs.declared.note.Note.{Note}
 use Rattle.disk_mem.specs.declared.choice.Choice.{Choice}
 use Rattle.disk_mem.specs.Record.{found, at_rest, begun, IsRead, ReadsAll, SameFile, told_of, IsPlaceOf, file_after, played}
 use Rattle.disk_mem.specs.Left.{IsCopy, IsLeft, AreLeft, IsAdded, shown, shown_of, IsChosen, left_by_syncs, noted}
-use Rattle.disk_mem.proofs.Files.{found-here, found-push-here}
-use Rattle.disk_mem.proofs.Reading.{place_of_found}
-use Rattle.disk_mem.proofs.Leaves.{none_chosen, chosen_left, AreFit}
-use Rattle.disk_mem.proofs.Moment.{told_at, played-file}
-use Rattle.disk_mem.specs.Images.{IsImageOf, IsAtRest, left_at}
+use Rattle.disk_mem.proofs.FileLemmas.{found-here, found-push-here}
+use Rattle.disk_mem.proofs.ReadingLemmas.{place_of_found}
+use Rattle.disk_mem.proofs.LeavingLemmas.{none_chosen, chosen_left, AreFit}
+use Rattle.disk_mem.proofs.MomentLemmas.{told_at, played-file}
+use Rattle.disk_mem.specs.Images.{IsImageOf, left_at}
 use Rattle.disk_mem.specs.Mem.{told}
 use Rattle.disk_mem.specs.Sound.{rest_sound}
 use Rattle.disk_mem.specs.declared.disk.MemDisk.{MemDisk}
@@ -180,7 +180,7 @@ shown_fits (Some file) = cond_both file.is_there (Some file.text.octets.items) N
 
 rest_is : (file : Option File) → IsAtRest (at_rest file)
 rest_is None = inl refl
-rest_is (Some file) = cond_both file.is_there (still file.text.octets.items) no_file IsAtRest (λ e. inr (file.text.octets.items, refl)) (λ e. inl refl)
+rest_is (Some file) = cond_both file.is_there (still file.text.octets.items) no_file IsAtRest (λ e. inr (file.text.octets.items, file.text.fit, refl)) (λ e. inl refl)
 
 -- the disk of what a choice left
 pub image_is : (old new : MemDisk) (m : ℕ) (choice : Choice) (made : List File) → m ≤ calls (told old)

@@ -8,11 +8,11 @@ use Rattle.std.specs.Cmp.{IsTotalOrder}
 use Rattle.disk_model.specs.Disk.{FileState, DiskState, reading, IsThere, IsPast, IsNext}
 use Rattle.disk_model.specs.Name.{same_name}
 use Rattle.disk_model.specs.declared.name.FileName.{FileName}
-use Rattle.disk_model.proofs.Names.{same_name-true}
+use Rattle.disk_model.proofs.NameLemmas.{same_name-true}
 use Rattle.disk_mem.specs.declared.file.File.{File}
 use Rattle.disk_mem.specs.Record.{found, Reads, IsRead, ReadsAll, IsPlaceOf, IsLessThan, IsNearer}
-use Rattle.disk_mem.proofs.Files.{found-here}
-use Rattle.disk_mem.proofs.Steps.{slice_get-lt}
+use Rattle.disk_mem.proofs.FileLemmas.{found-here}
+use Rattle.disk_mem.proofs.StepLemmas.{slice_get-lt}
 
 -- what a file holds is what it reads
 pub reading_octets : (f : FileState) (octets : List ℕ) → reading f ≡ Some octets → f.octets ≡ octets

@@ -14,7 +14,7 @@ use Rattle.disk_mem.specs.declared.note.Change.TheVariants.{Written, HalfWritten
 use Rattle.disk_mem.specs.Record.{at_file, at_rest, changed, file_after, is_for_all, Shows}
 use Rattle.disk_mem.specs.Left.{left_octets, left_there, settled_by, settles, shown, touched, touched_by, IsTorn}
 use Rattle.disk_mem.specs.Marking.{AreMarks}
-use Rattle.disk_mem.proofs.Steps.{at_file-all}
+use Rattle.disk_mem.proofs.StepLemmas.{at_file-all}
 
 pub if_ok : {T E : Type 0} (r : Result T E) (P Q : T → Type 0) → ((x : T) → P x → Q x) → IfOk r P → IfOk r Q
 if_ok (Ok x) P Q f p = f x p

@@ -14,9 +14,9 @@ use Rattle.disk_mem.specs.declared.note.Change.TheVariants.{Written, HalfWritten
 use Rattle.disk_mem.specs.Left.{left_octets, left_there, left_by_syncs, settled_by, settles, IsTorn, IsChosen}
 use Rattle.disk_mem.specs.Record.{changed, is_for_all, at_file, file_after}
 use Rattle.disk_mem.specs.Sound.{IsSound, at_name_sound, length-overlaid, reading_left}
-use Rattle.disk_mem.proofs.Following.{moved}
+use Rattle.disk_mem.proofs.FollowingLemmas.{moved}
 
--- a stop may leave these octets, as far as they go
+-- a crash may leave these octets, as far as they go
 pub record Covers (f : FileState) (octets : List ℕ) : Type 0 where
   pub least : f.least ≤ length octets
   pub greatest : length octets ≤ f.greatest
@@ -192,7 +192,7 @@ torn_left octet f (Some text) fits s torn =
       are_octets = fits;
     }
 
--- what a choice leaves is what a stop may leave
+-- what a choice leaves is what a crash may leave
 pub chosen_left : (choice : Choice) (name : FileName) (notes : List Note) (f : FileState) (left : Option (List ℕ)) → AreFit left → IsSound f
     → IsChosen choice (file_after name notes f) (left_by_syncs name notes f) left → MayLeave (file_after name notes f) left
 chosen_left Old name notes f left fits s is =

@@ -1,13 +1,15 @@
--- A file whose octets a stop leaves as they read, and what a stop may leave of it after one call.
-use Rattle.std.proofs.Common.{◌≡◌, ◌≢◌, inl, inr, ℕ, ◌+◌, ◌<◌, ◌≤◌, ◌==◌, suc, true, false, ◌||◌, if◌then◌else◌, List, [], ◌∷◌, ◌++◌, length, take, drop, slice_get, get_or, Option, Some, None, All, refl, sym, ◌∙◌, subst, ap, arith, max, min, append_assoc, length-append, lit<, length-set, get_or-set_same, get_or-set_other}
+-- A file whose octets a crash leaves as they read, and what a crash may leave of it after one call.
+use Rattle.std.proofs.Common.{◌≡◌, ◌≢◌, inl, inr, ℕ, ◌+◌, ◌<◌, ◌≤◌, ◌==◌, suc, true, false, ◌||◌, if◌then◌else◌, List, [], ◌∷◌, ◌++◌, length, take, drop, slice_get, get_or, Option, Some, None, All, refl, sym, ◌∙◌, subst, ap, arith}
+use Rattle.std.proofs.Common.{max, min, append_assoc, length-append, lit<}
 use Rattle.std.proofs.Math.ListN.{set, get_or-append}
 use Rattle.std.proofs.Math.Seq.{take-length, take-append_seam, drop-append-add}
+use Rattle.std.proofs.Common.{length-set, get_or-set_same, get_or-set_other}
 use Rattle.std.proofs.lemmas.List.{take-append-drop, length-take-le, get_or-take}
 use Rattle.std.proofs.lemmas.List.Elements.{All-take, All-append, All-cons, All-nil, All-set}
 use Rattle.std.proofs.lemmas.Bool.{cases_Bool, cases_lt, cases_eq, true≢false, false≢true, or_from, eq-eqb, ne_eqb, cond-true, cond-false}
 use Rattle.std.proofs.lemmas.Option.{slice_get-get_or, same_Some}
 use Rattle.disk_model.specs.Disk.{FileState, MayHold, MayLeave, Keeps, reading, covers, overlaid, written, half_written, cut_to, half_cut, synced}
-use Rattle.disk_model.proofs.Leaving.{covers-before, covers-behind, front_stays, overlaid-end}
+use Rattle.disk_model.proofs.LeavingLemmas.{covers-before, covers-behind, front_stays, overlaid-end}
 
 abbrev AreOctets : List ℕ → Type 0
 AreOctets text = All (λ octet. octet < 256) text
@@ -48,7 +50,7 @@ one_apart (p ∷ ps) b (q ∷ o) x l same =
     let r : (z : ℕ) × (o ≡ ps ++ z ∷ b) = one_apart ps b o x (omega (arith, l)) (λ i below apart. same (suc i) (omega arith) (λ e. apart (omega (arith, e)))) in
     (r.0, let e : o ≡ ps ++ r.0 ∷ b = r.1 in cc)
 
--- from what a stop leaves to the fields
+-- from what a crash leaves to the fields
 
 there_from_reading : (f : FileState) (text : List ℕ) → reading f ≡ Some text → (f.is_there ≡ true) × (f.octets ≡ text)
 there_from_reading f text e = elim (cases_Bool f.is_there) [
@@ -182,7 +184,7 @@ synced_firm f text there name octets are = record {
   are_octets = are;
 }
 
--- What a stop may leave after a write at the end: the octets that stood, and others behind them.
+-- What a crash may leave after a write at the end: the octets that stood, and others behind them.
 
 end_left : (f : FileState) (text from : List ℕ) (g : FileState) → IsFirm f text → g.is_there ≡ f.is_there → g.is_name_loose ≡ f.is_name_loose → g.least ≡ f.least
     → length text ≤ length g.octets → take (length text) g.octets ≡ text → ((i : ℕ) → g.is_loose i ≡ (f.is_loose i || covers (length text) (length from) i))
@@ -208,7 +210,7 @@ end_half_left f text from k left h =
     (let l : length f.octets ≡ length text = ap length k.octets in omega (arith, l))
     (ap (take (length text)) k.octets ∙ take-length text) (λ i. refl) left h
 
--- What a stop may leave after a write over one octet: any octet there.
+-- What a crash may leave after a write over one octet: any octet there.
 
 one_left : (f : FileState) (a b : List ℕ) (x y : ℕ) (g : FileState) → IsFirm f (a ++ x ∷ b) → g.is_there ≡ f.is_there → g.is_name_loose ≡ f.is_name_loose → g.least ≡ f.least
     → g.greatest ≡ length (a ++ x ∷ b) → g.octets ≡ a ++ y ∷ b → ((i : ℕ) → g.is_loose i ≡ (f.is_loose i || covers (length a) 1 i))
@@ -251,7 +253,7 @@ pub one_half_left : (f : FileState) (a b : List ℕ) (x : ℕ) → IsFirm f (a +
 one_half_left f a b x k left h =
     one_left f a b x x (half_written (length a) 1 f) k refl refl refl (one_greatest f a b x k) k.octets (λ i. refl) left h
 
--- What a stop may leave after a cut: the octets that stood before it, and perhaps others behind them.
+-- What a crash may leave after a cut: the octets that stood before it, and perhaps others behind them.
 
 cut_left : (f : FileState) (a b : List ℕ) (g : FileState) → IsFirm f (a ++ b) → g.is_there ≡ f.is_there → g.is_name_loose ≡ f.is_name_loose → g.least ≡ min f.least (length a)
     → length a ≤ length g.octets → take (length a) g.octets ≡ a → ((i : ℕ) → g.is_loose i ≡ f.is_loose i)

@@ -6,7 +6,7 @@ use Rattle.disk_mem.specs.declared.file.File.{File}
 use Rattle.disk_mem.specs.declared.note.Note.{Note}
 use Rattle.disk_mem.specs.Left.{calls_by}
 use Rattle.disk_mem.specs.Record.{stepped, waited, played, begun, told_of}
-use Rattle.disk_mem.proofs.Histories.{waited-calls}
+use Rattle.disk_mem.proofs.HistoryLemmas.{waited-calls}
 
 played-calls : (notes : List Note) (h : History) → calls (played notes h) ≡ calls h + sum_by calls_by notes
 played-calls [] h = omega arith

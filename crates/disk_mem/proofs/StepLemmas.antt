@@ -4,13 +4,13 @@ use Rattle.std.proofs.lemmas.Bool.{cond-true, cond-false, cases_Bool, or_left, o
 use Rattle.disk_model.specs.Disk.{FileState, DiskState, no_file}
 use Rattle.disk_model.specs.Name.{same_name}
 use Rattle.disk_model.specs.declared.name.FileName.{FileName}
-use Rattle.disk_model.proofs.Names.{same_name-refl, same_name-true}
+use Rattle.disk_model.proofs.NameLemmas.{same_name-refl, same_name-true}
 use Rattle.disk_mem.specs.declared.file.File.{File}
 use Rattle.disk_mem.specs.declared.note.Note.{Note}
 use Rattle.disk_mem.specs.declared.note.Change.{Change}
 use Rattle.disk_mem.specs.declared.note.Change.TheVariants.{Made, Removed, NamesSynced}
 use Rattle.disk_mem.specs.Record.{found, changed, is_for_all, at_file, stepped, Reads, IsRead, ReadsAll, IsPlaceOf, SameFile}
-use Rattle.disk_mem.proofs.Files.{found-here, found-set-here, found-set-other, found-push-here, found-push-other}
+use Rattle.disk_mem.proofs.FileLemmas.{found-here, found-set-here, found-set-other, found-push-here, found-push-other}
 
 pub not_for_all : (change : Change) → (change ≡ NamesSynced → ⊥) → is_for_all change ≡ false
 not_for_all NamesSynced no_sync = absurd (no_sync refl)

@@ -2,8 +2,8 @@
 use Rattle.std.proofs.Common.{◌≡◌, ℕ, List, Option}
 use Rattle.disk_model.specs.Disk.{FileState, History, Unchanged, AfterFailed, EachImage, OthersStay, after, change, change_all, named}
 use Rattle.disk_model.specs.declared.name.FileName.{FileName}
-use Rattle.disk_model.proofs.Moments.{if_told-all, each_image-map}
-use Rattle.disk_model.proofs.OneFile.{IsAlong, Along, along-begins, along-goes_on, along-fails, along-fails_still, along-unchanged, along-named}
+use Rattle.disk_model.proofs.MomentLemmas.{if_told-all, each_image-map}
+use Rattle.disk_model.proofs.OneFileLemmas.{IsAlong, Along, along-begins, along-goes_on, along-fails, along-fails_still, along-unchanged, along-named}
 
 abbrev Any : Option (List ℕ) → Type 0
 Any octets = Unit {0}

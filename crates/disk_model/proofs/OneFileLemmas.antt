@@ -4,8 +4,8 @@ use Rattle.std.proofs.lemmas.Bool.{cond-true, cond-false, cases_Bool, true≢fal
 use Rattle.disk_model.specs.Disk.{Files, FileState, DiskState, History, MayLeave, IsImage, IfTold, Unchanged, AfterFailed, EachImage, OthersStay, SameButFor, after, change, change_all, still, named, no_file}
 use Rattle.disk_model.specs.Name.{same_name}
 use Rattle.disk_model.specs.declared.name.FileName.{FileName}
-use Rattle.disk_model.proofs.Names.{same_name-refl, same_name-false}
-use Rattle.disk_model.proofs.Moments.{each_image-begins, each_image-map, each_image-then, each_image-goes_on, each_image-fails, each_image-fails_still, each_image-unchanged, if_told-both}
+use Rattle.disk_model.proofs.NameLemmas.{same_name-refl, same_name-false}
+use Rattle.disk_model.proofs.MomentLemmas.{each_image-begins, each_image-map, each_image-then, each_image-goes_on, each_image-fails, each_image-fails_still, each_image-unchanged, if_told-both}
 
 pub change-here : (name : FileName) (step : FileState → FileState) (disk : DiskState) → change name step disk name ≡ step (disk name)
 unfolding change

@@ -1,5 +1,6 @@
--- What a stop may leave of a file, by what was done to it.
-use Rattle.std.proofs.Common.{◌≡◌, ℕ, ◌+◌, ◌<◌, ◌≤◌, zero, suc, false, nat_le, nat_lt, List, [], ◌∷◌, ◌++◌, length, take, drop, slice_get, Some, refl, sym, ◌∙◌, subst, arith, max, length-append, length-drop}
+-- What a crash may leave of a file, by what was done to it.
+use Rattle.std.proofs.Common.{◌≡◌, ℕ, ◌+◌, ◌<◌, ◌≤◌, zero, suc, false, nat_le, nat_lt, List, [], ◌∷◌, ◌++◌, length, take, drop, slice_get, Some, refl, sym, ◌∙◌, subst, arith}
+use Rattle.std.proofs.Common.{max, length-append, length-drop}
 use Rattle.std.proofs.Math.Seq.{take-length, take-append_seam}
 use Rattle.std.proofs.lemmas.List.{take-append-drop, drop_all, append-nil}
 use Rattle.std.proofs.lemmas.Bool.{or_from, le-ltb, lt-leb, and_left, and_right}
