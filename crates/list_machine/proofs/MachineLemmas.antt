@@ -4,7 +4,7 @@ use Rattle.std.specs.Option.{option_or}
 use Rattle.std.specs.Str.{bytes_eq}
 use Rattle.std.proofs.Common.{sym, ◌∙◌, ap, arith}
 use Rattle.std.proofs.lemmas.List.Sums.{sum_by-cons, sum_by-append}
-use Rattle.model_lists.specs.Lists.{ListedMessage, Mailbox, Lists, refs_of, empty_mailbox}
+use Rattle.model_lists.specs.Lists.{change_first, ListedMessage, Mailbox, Lists, refs_of, empty_mailbox}
 use Rattle.mdbox_base.specs.declared.requests.Request.{Request}
 use Rattle.mdbox_base.specs.declared.requests.Request.TheVariants as request
 use Rattle.mdbox_base.specs.declared.replies.Refusal.{Refusal}
@@ -12,7 +12,7 @@ use Rattle.mdbox_base.specs.declared.replies.Refusal.TheVariants.{NoMailbox, Exi
 use Rattle.mdbox_base.specs.declared.replies.Reply.{Reply}
 use Rattle.mdbox_base.specs.declared.replies.Reply.TheVariants as reply
 use Rattle.list_machine.specs.Run.{Part, First, Last, SecondHalf, RunEvent, Run}
-use Rattle.list_machine.specs.Machine.{Check, HasMailbox, IsNewName, HasMessage, RoomForMailbox, RoomForMessage, NextUid, NextMapUid, NextFiles, TargetFits, NextInstance, NextMailbox, MayBeCopied, refused_where, refusal_at, is_step, Answers, Does, IsCopied, IsDelivered, IsMade, IsSecondHalf, checks_of, first_refusal, refs_added, refs_taken, change_first, without_first, has_name, is_message_of_uid, mailbox_named, message_at, set_flags, expunge, add_last, add_message, one_of_guid}
+use Rattle.list_machine.specs.Machine.{Check, HasMailbox, IsNewName, HasMessage, RoomForMailbox, RoomForMessage, NextUid, NextMapUid, NextFiles, TargetFits, NextInstance, NextMailbox, MayBeCopied, refused_where, refusal_at, is_step, Answers, Does, IsCopied, IsDelivered, IsMade, IsSecondHalf, checks_of, first_refusal, refs_added, refs_taken, without_first, has_name, is_message_of_uid, mailbox_named, message_at, set_flags, expunge, add_last, add_message, one_of_guid}
 
 -- what a change of the first that passes does to a sum
 sum_change : {X : Type 0} → (f : X → ℕ) (test : X → Bool) (change : X → X) (more less : ℕ) (xs : List X) → ((x : X) → find test xs ≡ Some x → f (change x) + less ≡ f x + more) →

@@ -13,9 +13,9 @@ use Rattle.mdbox_base.specs.declared.replies.Refusal.{Refusal}
 use Rattle.mdbox_base.specs.declared.replies.Refusal.TheVariants.{Exists, StoreFull}
 use Rattle.mdbox_base.specs.declared.replies.Reply.{Reply}
 use Rattle.mdbox_base.specs.declared.replies.Reply.TheVariants as reply
-use Rattle.model_lists.specs.Lists.{ListedMessage, Mailbox, Lists, IsMessageInRange, IsMailboxInOrder, AreWellFormed, empty_mailbox}
+use Rattle.model_lists.specs.Lists.{change_first, ListedMessage, Mailbox, Lists, IsMessageInRange, IsMailboxInOrder, AreWellFormed, empty_mailbox}
 use Rattle.list_machine.specs.Run.{Part, First, Last, SecondHalf, RunEvent, Run}
-use Rattle.list_machine.specs.Machine.{HasMailbox, IsNewName, HasMessage, RoomForMailbox, RoomForMessage, NextUid, refused_where, refusal_at, first_refusal, part_checks, Answers, Does, RequestInRange, IsCopied, IsDelivered, IsMade, IsSecondHalf, change_first, without_first, has_name, is_message_of_uid, mailbox_named, message_in, message_at, set_flags, expunge, add_last, add_message}
+use Rattle.list_machine.specs.Machine.{HasMailbox, IsNewName, HasMessage, RoomForMailbox, RoomForMessage, NextUid, refused_where, refusal_at, first_refusal, part_checks, Answers, Does, RequestInRange, IsCopied, IsDelivered, IsMade, IsSecondHalf, without_first, has_name, is_message_of_uid, mailbox_named, message_in, message_at, set_flags, expunge, add_last, add_message}
 use Rattle.list_machine.proofs.MachineLemmas.{some_one}
 use Rattle.model_octets.proofs.PairLemmas.{found_among, pairs_nil, pairs_head, pairs_tail, pairs_push}
 

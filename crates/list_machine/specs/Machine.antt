@@ -11,7 +11,7 @@ use Rattle.mdbox_base.specs.declared.replies.Refusal.{Refusal}
 use Rattle.mdbox_base.specs.declared.replies.Refusal.TheVariants as refusal
 use Rattle.mdbox_base.specs.declared.replies.Reply.{Reply}
 use Rattle.mdbox_base.specs.declared.replies.Reply.TheVariants as reply
-use Rattle.model_lists.specs.Lists.{ListedMessage, Mailbox, Lists, refs_of, empty_mailbox, row_of}
+use Rattle.model_lists.specs.Lists.{ListedMessage, Mailbox, Lists, change_first, refs_of, empty_mailbox, row_of}
 use Rattle.model_meaning.specs.MapMeaning.{MapMeaning, count_of, named}
 use Rattle.list_machine.specs.Run.{Part, First, PlacesInstance, TakesFile, StoresRecord, Last, SecondHalf, StartsOver, Taken, RunEvent, Run, map_of, drawn_of, given_by_others, guid_added, number_made, uid_copied, corrected_in, dropped_by, files_gone_by, instances_gone_by, damaged_by, with_targets, target_length}
 
@@ -33,11 +33,7 @@ message_in uid mailbox = find (is_message_of_uid uid) mailbox.messages
 abbrev pub message_at : List ℕ → ℕ → Lists → Option ListedMessage
 message_at name uid lists = option_and_then (message_in uid) (mailbox_named name lists)
 
--- the first that passes is changed, or leaves
-abbrev pub change_first : {X : Type 0} → (X → Bool) → (X → X) → List X → List X
-change_first test change [] = []
-change_first test change (x ∷ xs) = if test x then change x ∷ xs else x ∷ change_first test change xs
-
+-- the first that passes leaves
 abbrev pub without_first : {X : Type 0} → (X → Bool) → List X → List X
 without_first test [] = []
 without_first test (x ∷ xs) = if test x then xs else x ∷ without_first test xs
