@@ -13,7 +13,7 @@ use Rattle.mdbox_base.specs.declared.replies.Reply.{Reply}
 use Rattle.mdbox_base.specs.declared.replies.Reply.TheVariants as reply
 use Rattle.model_lists.specs.Lists.{ListedMessage, Mailbox, Lists, change_first, refs_of, empty_mailbox, row_of}
 use Rattle.model_meaning.specs.MapMeaning.{MapMeaning, count_of, named}
-use Rattle.list_machine.specs.Run.{Part, First, PlacesInstance, TakesFile, StoresRecord, Last, SecondHalf, StartsOver, Taken, RunEvent, Run, map_of, drawn_of, given_by_others, guid_added, number_made, uid_copied, corrected_in, dropped_by, files_gone_by, instances_gone_by, damaged_by, with_targets, target_length}
+use Rattle.list_machine.specs.Run.{EventPart, First, PlacesInstance, TakesFile, StoresRecord, Last, SecondHalf, StartsOver, Taken, RunEvent, Run, map_of, drawn_of, given_by_others, guid_added, number_made, uid_copied, corrected_in, dropped_by, files_gone_by, instances_gone_by, damaged_by, with_targets, target_length}
 
 -- ---- lists
 
@@ -115,13 +115,13 @@ first_refusal run lists (check ∷ checks) = option_or (refusal_at run lists che
 
 -- The checks of an event, in their order: mailbox (of a copy the source, then the target), name, message, mailboxes, room,
 -- numbers, copies.
-abbrev pub copy_checks : List ℕ → ℕ → List ℕ → Part → List Check
+abbrev pub copy_checks : List ℕ → ℕ → List ℕ → EventPart → List Check
 copy_checks name uid target First =
     HasMailbox name ∷ HasMailbox target ∷ HasMessage name uid ∷ RoomForMessage target ∷ NextUid target ∷ MayBeCopied name uid ∷ []
 copy_checks name uid target Last = HasMailbox name ∷ HasMailbox target ∷ HasMessage name uid ∷ RoomForMessage target ∷ NextUid target ∷ []
 copy_checks name uid target part = []
 
-abbrev pub deliver_checks : List ℕ → Part → List Check
+abbrev pub deliver_checks : List ℕ → EventPart → List Check
 deliver_checks name First = HasMailbox name ∷ RoomForMessage name ∷ NextUid name ∷ NextMapUid ∷ []
 deliver_checks name PlacesInstance = NextInstance ∷ []
 deliver_checks name (TakesFile true) = NextFiles 1 ∷ []
@@ -129,7 +129,7 @@ deliver_checks name StoresRecord = NextMapUid ∷ []
 deliver_checks name Last = HasMailbox name ∷ RoomForMessage name ∷ NextUid name ∷ []
 deliver_checks name part = []
 
-abbrev pub make_checks : List ℕ → Part → List Check
+abbrev pub make_checks : List ℕ → EventPart → List Check
 make_checks name First = IsNewName name ∷ RoomForMailbox ∷ NextMailbox ∷ []
 make_checks name Last = IsNewName name ∷ RoomForMailbox ∷ []
 make_checks name StartsOver = IsNewName name ∷ RoomForMailbox ∷ []
@@ -139,7 +139,7 @@ make_checks name part = []
 abbrev pub purge_checks : MapMeaning → List Taken → List Check
 purge_checks m files = NextFiles (length (with_targets m files)) ∷ map (λ t. TargetFits (target_length m t.file)) (with_targets m files)
 
-abbrev pub part_checks : Run → RunEvent → Request → Part → List Check
+abbrev pub part_checks : Run → RunEvent → Request → EventPart → List Check
 part_checks run event (request.Deliver name time octets) part = deliver_checks name part
 part_checks run event (request.List name) First = HasMailbox name ∷ []
 part_checks run event (request.Fetch name uid) First = HasMailbox name ∷ HasMessage name uid.0 ∷ []
@@ -212,7 +212,7 @@ IsSecondHalf old name uid gone new =
     (gone ≡ is_none (message_at name uid old)) × (new ≡ (if gone then old else expunge name uid old))
 
 -- From the old lists a part of a request that isn't refused may give this reply and lead to the new lists.
-abbrev pub Does : Run → RunEvent → Lists → Request → Part → Reply → Lists → Type 0
+abbrev pub Does : Run → RunEvent → Lists → Request → EventPart → Reply → Lists → Type 0
 Does run event old (request.List name) First (reply.Listed rows) new =
     (mailbox : Mailbox) × (mailbox_named name old ≡ Some mailbox) × (rows ≡ map row_of mailbox.messages) × (new ≡ old)
 Does run event old (request.Fetch name uid) First (reply.Fetched octets) new =
@@ -233,7 +233,7 @@ Does run event old request part reply new = ⊥
 
 -- What a part of a request answers: a refusal, which is the first of its checks and changes nothing, or, where none of them
 -- refuses, what it does.
-abbrev pub PartAnswers : Run → RunEvent → Lists → Request → Part → Reply → Lists → Type 0
+abbrev pub PartAnswers : Run → RunEvent → Lists → Request → EventPart → Reply → Lists → Type 0
 PartAnswers run event old request part (reply.Refused refusal) new = (first_refusal run old (part_checks run event request part) ≡ Some refusal) × (new ≡ old)
 PartAnswers run event old request part reply new = (first_refusal run old (part_checks run event request part) ≡ None) × Does run event old request part reply new
 
@@ -267,14 +267,14 @@ one_of_guid guid None = 0
 one_of_guid guid (Some message) = if bytes_eq message.guid guid then 1 else 0
 
 -- How many references to a GUID a step adds: a delivery one to its own, a copy one to that of its source.
-abbrev pub refs_added : Lists → Request → Part → Reply → List ℕ → ℕ
+abbrev pub refs_added : Lists → Request → EventPart → Reply → List ℕ → ℕ
 refs_added old (request.Deliver name time octets) Last (reply.Saved uid given) guid = if bytes_eq given.0 guid then 1 else 0
 refs_added old (request.Copy name uid target) Last (reply.Copied given) guid = one_of_guid guid (message_at name uid.0 old)
 refs_added old (request.Move name uid target) Last (reply.Copied given) guid = one_of_guid guid (message_at name uid.0 old)
 refs_added old request part reply guid = 0
 
 -- How many it takes: an expunge, and the second half of a move, one from that of the message, where it is listed.
-abbrev pub refs_taken : Lists → Request → Part → Reply → List ℕ → ℕ
+abbrev pub refs_taken : Lists → Request → EventPart → Reply → List ℕ → ℕ
 refs_taken old (request.Expunge name uid) First reply.Done guid = one_of_guid guid (message_at name uid.0 old)
 refs_taken old (request.Move name uid target) SecondHalf (reply.Moved given gone) guid = one_of_guid guid (message_at name uid.0 old)
 refs_taken old request part reply guid = 0

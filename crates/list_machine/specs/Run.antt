@@ -16,25 +16,25 @@ use Rattle.model_meaning.specs.MapMeaning.{MapRecord, MapMeaning, map_meaning, n
 -- is the event at which a delivery, a copy or the first half of a move adds its message, a make its mailbox, and the one
 -- at which a purge or a resync is answered. `GivesBack` lowers counts, behind a refused `Last` or behind a message that
 -- left. `StartsOver` removes the log of a make whose number was overtaken.
-pub data Part : Type 0 where
-  First : Part
-  Compares : Part
-  PlacesInstance : Part
-  TakesFile : (new : Bool) → Part
-  PlacesMessage : Part
-  StoresRecord : Part
-  Last : Part
-  SecondHalf : Part
-  GivesBack : Part
-  StartsOver : Part
-  ReadsPiece : Part
-  Unpins : Part
-  RemovesFile : Part
-  MakesTarget : Part
-  CopiesMessage : Part
-  Switches : Part
-  RemovesInstance : Part
-  ReadsFile : Part
+pub data EventPart : Type 0 where
+  First : EventPart
+  Compares : EventPart
+  PlacesInstance : EventPart
+  TakesFile : (new : Bool) → EventPart
+  PlacesMessage : EventPart
+  StoresRecord : EventPart
+  Last : EventPart
+  SecondHalf : EventPart
+  GivesBack : EventPart
+  StartsOver : EventPart
+  ReadsPiece : EventPart
+  Unpins : EventPart
+  RemovesFile : EventPart
+  MakesTarget : EventPart
+  CopiesMessage : EventPart
+  Switches : EventPart
+  RemovesInstance : EventPart
+  ReadsFile : EventPart
 
 -- an entry that was appended to the log of a mailbox
 pub record BoxAppend : Type 0 where
@@ -60,7 +60,7 @@ pub record Pin : Type 0 where
 pub record RunEvent : Type 0 where
   pub lane : ℕ
   pub request : ℕ
-  pub part : Part
+  pub part : EventPart
   pub refused : Option Refusal
   pub reply : Option Reply
   pub map_entries : List MapEntry
@@ -81,7 +81,7 @@ pub record RunEvent : Type 0 where
   pub moment : ℕ
 
 -- an event that did nothing that is told
-abbrev pub event_of : ℕ → ℕ → Part → ℕ → RunEvent
+abbrev pub event_of : ℕ → ℕ → EventPart → ℕ → RunEvent
 event_of lane request part moment = record {
   lane = lane;
   request = request;
