@@ -1,29 +1,16 @@
 -- What a legal journal may go on by, and what is read of one.
-use Rattle.std.specs.Prelude.{◌≡◌, ◌≤◌, ◌<◌, ℕ, List, [], ◌∷◌, ◌++◌, length, map, slice_get, Some, All}
+use Rattle.std.specs.Prelude.{◌≡◌, ◌≤◌, ◌<◌, ℕ, List, [], ◌∷◌, ◌++◌, length, map, slice_get, Some, All, ◌+◌, ◌==◌, true, false, count_by, Option, None, ◌⊎◌}
 use Rattle.mdbox_base.specs.declared.requests.Request.{Request}
 use Rattle.mdbox_base.specs.declared.replies.Reply.{Reply}
 use Rattle.model_lists.specs.Lists.{Lists}
 use Rattle.list_machine.specs.Run.{RunEvent, Run, before}
-use Rattle.list_machine.specs.Machine.{Answers}
-use Rattle.journal.specs.Journal.{Requests, JournalStep, AreSteps}
-use Rattle.std.specs.Prelude.{◌≡◌, ◌≤◌, ◌<◌, ◌+◌, ◌==◌, ℕ, true, false, List, [], ◌∷◌, ◌++◌, length, map, count_by, slice_get, Option, Some, None, All, ◌⊎◌}
-use Rattle.disk_model.specs.Disk.{Faults, Rose}
+use Rattle.list_machine.specs.Machine.{Answers, refs_added, refs_taken, is_step}
+use Rattle.journal.specs.Journal.{Requests, JournalStep, AreSteps, halves_of, steps_of, Begins, HasReply, IsReplyOf, is_read_fault, RoseBy, LacksOrGoesOn, IsCutOff, Broken}
+use Rattle.mdbox_base.specs.Streams.{Rose}
+use Rattle.disk_model.specs.Disk.{Faults}
 use Rattle.mdbox_base.specs.declared.replies.Refusal.TheVariants as refusal
 use Rattle.mdbox_base.specs.declared.replies.Reply.TheVariants as reply
-use Rattle.list_machine.specs.Run.{RunEvent, Run}
-use Rattle.journal.specs.Journal.{Requests, halves_of, JournalStep, steps_of, Begins, HasReply, IsReplyOf, is_read_fault, RoseBy, LacksOrGoesOn, IsCutOff}
-use Rattle.std.specs.Prelude.{◌≡◌, ◌≤◌, ◌<◌, ◌++◌, ◌∷◌, ℕ, true, false, List, [], length, Option, Some, None, All, ◌⊎◌, slice_get}
-use Rattle.disk_model.specs.Disk.{Faults}
-use Rattle.journal.specs.Journal.{Requests, JournalStep, AreSteps}
-use Rattle.std.specs.Prelude.{◌≡◌, ◌≤◌, ◌+◌, ℕ, List, [], ◌∷◌, ◌++◌, length}
-use Rattle.model_lists.specs.Lists.{Lists}
-use Rattle.list_machine.specs.Machine.{refs_added, refs_taken}
-use Rattle.journal.specs.Journal.{Requests, JournalStep, AreSteps, Broken}
-use Rattle.std.specs.Prelude.{◌≡◌, ◌==◌, ℕ, true, false, List, [], ◌∷◌, map, Some, slice_get}
 use Rattle.mdbox_base.specs.declared.requests.Request.TheVariants as request
-use Rattle.list_machine.specs.Run.{RunEvent, Run, before}
-use Rattle.list_machine.specs.Machine.{Answers, is_step}
-use Rattle.journal.specs.Journal.{Requests, halves_of, JournalStep, AreSteps, steps_of, Begins, IsReplyOf}
 
 abbrev pub event_at : JournalStep → ℕ
 event_at step = step.event

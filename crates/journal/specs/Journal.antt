@@ -1,7 +1,8 @@
 -- The journal of a run: which steps were made, in their order, and when it is legal.
 use Rattle.std.specs.Prelude.{◌≡◌, ◌≤◌, ◌<◌, ◌+◌, ◌-◌, ◌^◌, ◌==◌, nat_le, min, ℕ, Bool, true, false, List, [], ◌∷◌, ◌++◌, length, map, filter, take, count_by, slice_get, if◌then◌else◌, Option, Some, None, AllPairs, ◌⊎◌}
 use Rattle.std.specs.Option.{option_map_or}
-use Rattle.disk_model.specs.Disk.{Faults, Rose}
+use Rattle.mdbox_base.specs.Streams.{Rose}
+use Rattle.disk_model.specs.Disk.{Faults}
 use Rattle.mdbox_base.specs.declared.requests.Request.{Request}
 use Rattle.mdbox_base.specs.declared.requests.Request.TheVariants as request
 use Rattle.mdbox_base.specs.declared.replies.Refusal.{Refusal}

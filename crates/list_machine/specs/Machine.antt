@@ -11,8 +11,8 @@ use Rattle.mdbox_base.specs.declared.replies.Refusal.{Refusal}
 use Rattle.mdbox_base.specs.declared.replies.Refusal.TheVariants as refusal
 use Rattle.mdbox_base.specs.declared.replies.Reply.{Reply}
 use Rattle.mdbox_base.specs.declared.replies.Reply.TheVariants as reply
-use Rattle.model_lists.specs.Lists.{ListedMessage, Mailbox, Lists, change_first, refs_of, empty_mailbox, row_of}
-use Rattle.model_meaning.specs.MapMeaning.{MapMeaning, count_of, named}
+use Rattle.model_lists.specs.Lists.{ListedMessage, Mailbox, Lists, change_first, refs_of, empty_mailbox, listing_row}
+use Rattle.model_meaning.specs.MapMeaning.{MapMeaning, count_of, named_instances}
 use Rattle.list_machine.specs.Run.{EventPart, First, PlacesInstance, TakesFile, StoresRecord, Last, SecondHalf, StartsOver, Taken, RunEvent, Run, map_of, drawn_of, given_by_others, guid_added, number_made, uid_copied, corrected_in, dropped_by, files_gone_by, instances_gone_by, damaged_by, with_targets, target_length}
 
 -- ---- lists
@@ -193,7 +193,7 @@ pub record AreCounts (run : Run) (lists : Lists) (records references counts inst
   pub records_are : records ≡ length (map_of run).records
   pub references_are : references ≡ sum_by (λ mailbox. length mailbox.messages) lists
   pub counts_are : counts ≡ sum_by (λ row. row.count) (map_of run).records
-  pub instances_are : instances ≡ count_different (map (λ instance. instance.id.0) (named (map_of run)))
+  pub instances_are : instances ≡ count_different (map (λ instance. instance.id.0) (named_instances (map_of run)))
 
 -- The numbers of a purge: what its own events dropped, doomed or removed.
 pub record ArePurged (run : Run) (event : RunEvent) (dropped files instances : ℕ) : Type 0 where
@@ -214,7 +214,7 @@ IsSecondHalf old name uid gone new =
 -- From the old lists a part of a request that isn't refused may give this reply and lead to the new lists.
 abbrev pub Does : Run → RunEvent → Lists → Request → EventPart → Reply → Lists → Type 0
 Does run event old (request.List name) First (reply.Listed rows) new =
-    (mailbox : Mailbox) × (mailbox_named name old ≡ Some mailbox) × (rows ≡ map row_of mailbox.messages) × (new ≡ old)
+    (mailbox : Mailbox) × (mailbox_named name old ≡ Some mailbox) × (rows ≡ map listing_row mailbox.messages) × (new ≡ old)
 Does run event old (request.Fetch name uid) First (reply.Fetched octets) new =
     (message : ListedMessage) × (message_at name uid.0 old ≡ Some message) × (octets ≡ message.octets) × (new ≡ old)
 Does run event old (request.Flag name uid flags) First reply.Done new = new ≡ set_flags name uid.0 flags old
