@@ -5,7 +5,7 @@ use Rattle.mdbox_base.specs.declared.replies.Reply.{Reply}
 use Rattle.model_lists.specs.Lists.{Lists}
 use Rattle.list_machine.specs.Run.{RunEvent, Run, before}
 use Rattle.list_machine.specs.Machine.{Answers, refs_added, refs_taken, is_step}
-use Rattle.journal.specs.Journal.{Requests, JournalStep, AreSteps, halves_of, steps_of, Begins, HasReply, IsReplyOf, is_read_fault, RoseBy, LacksOrGoesOn, IsCutOff, Broken}
+use Rattle.journal.specs.Journal.{Requests, JournalStep, AreSteps, halves_of, steps_of, IsFirstPart, HasReply, IsReplyOf, is_read_fault, RoseBy, LacksOrGoesOn, IsHalted, Broken}
 use Rattle.mdbox_base.specs.Streams.{Rose}
 use Rattle.disk_model.specs.Disk.{Faults}
 use Rattle.mdbox_base.specs.declared.replies.Refusal.TheVariants as refusal
@@ -19,7 +19,7 @@ event_at step = step.event
 -- request, and no earlier request of its lane was cut off.
 pub record MayCome (script : Requests) (journal : List JournalStep) (replies : List (Option Reply)) (step : JournalStep) : Type 0 where
   pub not_replied : slice_get replies step.request ≡ Some None
-  pub next_half : (asked : ℕ × Request) → slice_get script step.request ≡ Some asked → Begins (map (λ s. s.half) (steps_of step.request (journal ++ step ∷ []))) (halves_of asked.1)
+  pub next_half : (asked : ℕ × Request) → slice_get script step.request ≡ Some asked → IsFirstPart (map (λ s. s.half) (steps_of step.request (journal ++ step ∷ []))) (halves_of asked.1)
   pub next_request : All (λ s. s.lane ≡ step.lane → s.request ≤ step.request) journal
   pub goes_on : (i : ℕ) (first second : ℕ × Request) → HasReply replies i (reply.Refused refusal.Stopped) → i < step.request → slice_get script i ≡ Some first → slice_get script step.request ≡ Some second → first.0 ≡ second.0 → ⊥
 
@@ -38,7 +38,7 @@ pub record MayReply (script : Requests) (run : Run) (journal : List JournalStep)
   pub reads : RoseBy (count_by is_read_fault after) old.reads new.reads
   pub changes : given ≡ reply.Refused refusal.Stopped → Rose old.changes new.changes
   pub unfinished : given ≡ reply.Refused refusal.Stopped → LacksOrGoesOn run script journal i
-  pub later : given ≡ reply.Refused refusal.Stopped → (j : ℕ) (second : ℕ × Request) → i < j → slice_get script j ≡ Some second → asked.0 ≡ second.0 → IsCutOff journal before j
+  pub later : given ≡ reply.Refused refusal.Stopped → (j : ℕ) (second : ℕ × Request) → i < j → slice_get script j ≡ Some second → asked.0 ≡ second.0 → IsHalted journal before j
   pub behind : (k : ℕ) (first : ℕ × Request) → HasReply before k (reply.Refused refusal.Stopped) → k < i → slice_get script k ≡ Some first → first.0 ≡ asked.0
       → (given ≡ reply.Refused refusal.NoMemory) ⊎ (given ≡ reply.Refused refusal.Stopped)
 

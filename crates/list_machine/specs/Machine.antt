@@ -13,7 +13,7 @@ use Rattle.mdbox_base.specs.declared.replies.Reply.{Reply}
 use Rattle.mdbox_base.specs.declared.replies.Reply.TheVariants as reply
 use Rattle.model_lists.specs.Lists.{ListedMessage, Mailbox, Lists, change_first, refs_of, empty_mailbox, listing_row}
 use Rattle.model_meaning.specs.MapMeaning.{MapMeaning, count_of, named_instances}
-use Rattle.list_machine.specs.Run.{EventPart, First, PlacesInstance, TakesFile, StoresRecord, Last, SecondHalf, StartsOver, Taken, RunEvent, Run, map_of, drawn_of, given_by_others, guid_added, number_made, uid_copied, corrected_in, dropped_by, files_gone_by, instances_gone_by, damaged_by, with_targets, target_length}
+use Rattle.list_machine.specs.Run.{EventPart, First, PlacesInstance, TakesFile, StoresRecord, Last, SecondHalf, StartsOver, TakenFile, RunEvent, Run, map_of, drawn_of, given_by_others, guid_added, number_made, uid_copied, corrected_in, dropped_by, files_gone_by, instances_gone_by, damaged_by, with_targets, target_length}
 
 -- ---- lists
 
@@ -136,7 +136,7 @@ make_checks name StartsOver = IsNewName name ∷ RoomForMailbox ∷ []
 make_checks name part = []
 
 -- A purge looks at the numbers of all its targets, and at the length of each.
-abbrev pub purge_checks : MapMeaning → List Taken → List Check
+abbrev pub purge_checks : MapMeaning → List TakenFile → List Check
 purge_checks m files = NextFiles (length (with_targets m files)) ∷ map (λ t. TargetFits (target_length m t.file)) (with_targets m files)
 
 abbrev pub part_checks : Run → RunEvent → Request → EventPart → List Check

@@ -11,12 +11,12 @@ use Rattle.model_meaning.specs.BoxMeaning.{BoxMeaning}
 use Rattle.model_meaning.specs.MapMeaning.{MapBox, MapMeaning}
 use Rattle.model_store.specs.Listing.{ShowLists, meaning_named, listing_of}
 use Rattle.model_store.specs.Safe.{Safe}
-use Rattle.model_store.specs.Settled.{files_of}
+use Rattle.model_store.specs.Settled.{files_of, IsSettledFor}
 use Rattle.model_store.proofs.SettledLemmas.{settled_safe}
 use Rattle.model_store.proofs.OpeningLemmas.{no_store_or_opens, opens_or_damaged}
 use Rattle.model_store.proofs.OpeningSafeLemmas.{safe_opens}
 use Rattle.disk_model.proofs.IdleLemmas.{idle-begins}
-use Rattle.store_core.specs.Running.{IsSettledFor, IsStore}
+use Rattle.store_core.specs.Running.{IsStore}
 use Rattle.store_open.specs.Making.{IdleUnless}
 use Rattle.store_open.specs.Opened.{Opening, IsOpenedAs, IsOpeningError}
 use Rattle.store_core.specs.Value.{indexes_of}

@@ -11,7 +11,7 @@ use Rattle.model_meaning.specs.BoxMeaning.{BoxMeaning}
 use Rattle.model_meaning.specs.MapMeaning.{MapMeaning}
 use Rattle.model_store.specs.Listing.{meaning_named, listing_of}
 use Rattle.mdbox_top.specs.ReplyText.{reply_text}
-use Rattle.store_core.specs.Running.{IsSettledFor}
+use Rattle.model_store.specs.Settled.{IsSettledFor}
 use Rattle.store_open.specs.Making.{IdleUnless}
 use Rattle.store_open.specs.Opened.{Opening, IsOpenedAs, IsOpeningError}
 use Rattle.store_open.specs.declared.error.OpenError.{OpenError}

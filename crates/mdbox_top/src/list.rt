@@ -8,7 +8,7 @@ ghost use Rattle.mdbox_base.specs.declared.replies.Reply.TheVariants as reply;
 ghost use Rattle.model_lists.specs.Lists.{Lists};
 ghost use Rattle.model_store.specs.Listing.{meaning_named, listing_of};
 ghost use Rattle.model_store.specs.Safe.{Safe};
-ghost use Rattle.store_core.specs.Running.{IsSettledFor};
+ghost use Rattle.model_store.specs.Settled.{IsSettledFor};
 ghost use Rattle.store_core.specs.Value.{indexes_of};
 ghost use Rattle.mdbox_top.specs.ListRun.{ListEnds, ShowsReply, ShowsNothing, is_refusal};
 ghost use Rattle.mdbox_top.specs.StoreRun.{store_status, store_error_text};

@@ -9,7 +9,7 @@ ghost use Rattle.mdbox_top.specs.Run.{Prints, Refuses, Ends, status_of, error_te
 ghost use Rattle.disk_model.specs.Disk.{EachImage};
 ghost use Rattle.model_lists.specs.Lists.{Lists};
 ghost use Rattle.model_store.specs.Safe.{Safe};
-ghost use Rattle.store_core.specs.Running.{IsSettledFor};
+ghost use Rattle.model_store.specs.Settled.{IsSettledFor};
 ghost use Rattle.mdbox_top.specs.ListRun.{ListEnds};
 ghost use Rattle.mdbox_top.specs.StoreRun.{Inits, InitMoments, store_status, store_error_text};
 ghost use Rattle.mdbox_top.specs.declared.command.Command.{Command};

@@ -12,10 +12,9 @@ use Rattle.model_store.specs.Opening.{Opens}
 use Rattle.model_store.proofs.OpeningLemmas.{one_store}
 use Rattle.model_store.proofs.OpeningSafeLemmas.{safe_opens}
 use Rattle.model_store.specs.Safe.{Safe}
-use Rattle.model_store.specs.Settled.{files_of, IsSettled}
+use Rattle.model_store.specs.Settled.{files_of, IsSettled, IsSettledFor}
 use Rattle.model_store.proofs.SettledLemmas.{settled_safe}
 use Rattle.disk_model.proofs.IdleLemmas.{idle-on, idle-images}
-use Rattle.store_core.specs.Running.{IsSettledFor}
 use Rattle.store_sweep.specs.Moments.{SyncedWhereCut, NamesSynced}
 use Rattle.store_sweep.specs.Swept.{FilesCarry}
 

@@ -7,7 +7,8 @@ ghost use Rattle.model_lists.specs.Lists.{Lists};
 ghost use Rattle.model_store.specs.Listing.{ShowLists};
 ghost use Rattle.model_store.specs.Safe.{Safe};
 ghost use Rattle.store_core.specs.Value.{indexes_of};
-ghost use Rattle.store_core.specs.Running.{IsStore, IsSettledFor};
+ghost use Rattle.model_store.specs.Settled.{IsSettledFor};
+ghost use Rattle.store_core.specs.Running.{IsStore};
 ghost use Rattle.store_open.specs.Making.{IdleUnless};
 ghost use Rattle.store_open.specs.Opened.{Opening, IsOpenedAs, IsSwept, IsOpeningError, disk_of};
 
