@@ -16,7 +16,7 @@ use Rattle.mdbox_base.specs.declared.replies.Refusal.TheVariants as refusal
 use Rattle.model_lists.specs.Lists.{ListedMessage, Mailbox, Lists, refs_of}
 use Rattle.model_meaning.specs.MapMeaning.{MapMeaning, MapRecord, record_of, no_numbers, guid_file, instance_number, number_at}
 use Rattle.model_meaning.specs.MapFits.{MapFits}
-use Rattle.list_machine.specs.Run.{EventPart, First, Compares, PlacesInstance, TakesFile, PlacesMessage, StoresRecord, Last, SecondHalf, GivesBack, StartsOver, ReadsPiece, Unpins, RemovesFile, MakesTarget, CopiesMessage, Switches, RemovesInstance, ReadsFile, BoxAppend, Taken, RunEvent, event_of, Run, and_then, map_of, drawn_of, own_events, reply_of, with_targets, is_copied_from, first_in, map_uid_in, is_one_of, is_pinned, is_doomed}
+use Rattle.list_machine.specs.Run.{EventPart, First, Compares, PlacesInstance, TakesFile, PlacesMessage, StoresRecord, Last, SecondHalf, GivesBack, StartsOver, ReadsPiece, Unpins, RemovesFile, MakesTarget, CopiesMessage, Switches, RemovesInstance, ReadsFile, BoxAppend, TakenFile, RunEvent, event_of, Run, and_then, map_of, drawn_of, own_events, reply_of, with_targets, is_copied_from, first_in, map_uid_in, is_one_of, is_pinned, is_doomed}
 use Rattle.model_mime.specs.Parts.{parts_in}
 use Rattle.list_machine.specs.Machine.{mailbox_named, message_at, is_step, first_refusal, checks_of}
 use Rattle.journal.specs.Journal.{Requests}
@@ -90,18 +90,18 @@ behind_fetch run event part = if piece_left event.request run then Some ReadsPie
 -- A purge goes from file to file, in the order in which it took them, and then from instance to instance. It makes the
 -- target of a file that has one, copies its messages, switches it, and removes it where it isn't pinned; a file whose
 -- records all have count 0 is switched at once, and one without records removed.
-abbrev pub is_done : List RunEvent → Taken → Bool
+abbrev pub is_done : List RunEvent → TakenFile → Bool
 is_done own taken = list_any (λ e. is_one_of e.doomed taken.file || is_one_of e.removed taken.file) own
 
-abbrev pub next_taken : List RunEvent → Option Taken
+abbrev pub next_taken : List RunEvent → Option TakenFile
 next_taken own = find (λ t. not (is_done own t)) (flat_map (λ e. e.files) own)
 
-abbrev pub purge_goes_on : Around → Run → Option Taken → Option EventPart
+abbrev pub purge_goes_on : Around → Run → Option TakenFile → Option EventPart
 purge_goes_on around run None = if around.instance_left then Some RemovesInstance else Some Last
 purge_goes_on around run (Some taken) =
     if nat_lt 0 taken.target then Some MakesTarget else (if list_any (λ row. row.file == taken.file) (map_of run).records then Some Switches else Some RemovesFile)
 
-abbrev pub message_left : List RunEvent → Run → Option Taken → Bool
+abbrev pub message_left : List RunEvent → Run → Option TakenFile → Bool
 message_left own run None = false
 message_left own run (Some taken) = list_any (λ row. is_copied_from taken.file row && not (list_any (λ e. is_one_of e.copied row.uid) own)) (map_of run).records
 
@@ -142,16 +142,16 @@ abbrev pub is_overtaken : Run → ℕ → Bool
 is_overtaken run request = nat_le (number_of run request) (map_of run).highest.mailbox
 
 -- The part behind an event that did its own: none where the request is answered.
-abbrev pub behind : Around → Run → Request → RunEvent → Option EventPart
-behind around run (request.Deliver name time octets) event = behind_delivery around run event event.part
-behind around run (request.Make name) event = behind_make (is_overtaken run event.request) event.part
-behind around run (request.Copy name uid target) event = behind_copy event.part
-behind around run (request.Move name uid target) event = behind_move event event.part
-behind around run (request.Expunge name uid) event = behind_expunge event.part
-behind around run (request.Fetch name uid) event = behind_fetch run event event.part
-behind around run request.Purge event = behind_purge around run event event.part
-behind around run request.Resync event = behind_resync run event event.part
-behind around run request event = None
+abbrev pub part_behind : Around → Run → Request → RunEvent → Option EventPart
+part_behind around run (request.Deliver name time octets) event = behind_delivery around run event event.part
+part_behind around run (request.Make name) event = behind_make (is_overtaken run event.request) event.part
+part_behind around run (request.Copy name uid target) event = behind_copy event.part
+part_behind around run (request.Move name uid target) event = behind_move event event.part
+part_behind around run (request.Expunge name uid) event = behind_expunge event.part
+part_behind around run (request.Fetch name uid) event = behind_fetch run event event.part
+part_behind around run request.Purge event = behind_purge around run event event.part
+part_behind around run request.Resync event = behind_resync run event event.part
+part_behind around run request event = None
 
 -- The part behind an event that was refused: counts are given back where an addition was refused, unless the store is
 -- stopped, and a fetch unpins also where it met a read fault or damage.
@@ -173,7 +173,7 @@ behind_refused (request.Fetch name uid) part refused = behind_piece part refused
 behind_refused request part refused = None
 
 abbrev pub behind_event : Around → Run → Request → RunEvent → Option Refusal → Option EventPart
-behind_event around run request event None = behind around run request event
+behind_event around run request event None = part_behind around run request event
 behind_event around run request event (Some refused) = behind_refused request event.part refused
 
 -- The next part of a request behind these events of it: the first, or the one behind the last of them.
@@ -284,19 +284,19 @@ DidMake run name event part = event ≡ plain event
 
 -- What the events of a purge do: it takes files and draws a number for each target, one after another; it copies a record
 -- that has a count; a file is switched, by the counts at that event, and doomed; files and instances are removed.
-abbrev pub targets_of : MapMeaning → ℕ → List Taken → List ℕ
+abbrev pub targets_of : MapMeaning → ℕ → List TakenFile → List ℕ
 targets_of m drawn [] = []
 targets_of m drawn (taken ∷ rest) =
     if list_any (is_copied_from taken.file) m.records then (drawn + 1) ∷ targets_of m (drawn + 1) rest else 0 ∷ targets_of m drawn rest
 
 abbrev pub DidPurge : Run → RunEvent → EventPart → Type 0
 DidPurge run event First =
-    (files : List Taken) × (map (λ t. t.target) files ≡ targets_of (map_of run) (drawn_of run).file files)
+    (files : List TakenFile) × (map (λ t. t.target) files ≡ targets_of (map_of run) (drawn_of run).file files)
     × (event ≡ record (plain event) { files = files; drew = record no_numbers { file = length (with_targets (map_of run) files) } })
 DidPurge run event CopiesMessage =
     (row : MapRecord) × Contains (map_of run).records row × (1 ≤ row.count) × (option_map_or (λ t. t.file) (next_taken (own_events event.request run)) 0 ≡ row.file) × (event ≡ record (plain event) { copied = row.uid ∷ [] })
 DidPurge run event Switches =
-    (taken : Taken) × (target : ℕ) × (moved : List MapPlace) × (dropped : List MapUid) × (next_taken (own_events event.request run) ≡ Some taken) × MapFits (map_of run) (entry.P (record { 0 = taken.file }) target moved dropped)
+    (taken : TakenFile) × (target : ℕ) × (moved : List MapPlace) × (dropped : List MapUid) × (next_taken (own_events event.request run) ≡ Some taken) × MapFits (map_of run) (entry.P (record { 0 = taken.file }) target moved dropped)
     × (target ≢ 0 → target ≡ taken.target)
     × (event ≡ record (plain event) { map_entries = entry.P (record { 0 = taken.file }) target moved dropped ∷ []; doomed = taken.file ∷ [] })
 DidPurge run event RemovesFile = (file : ℕ) × (event ≡ record (plain event) { removed = file ∷ [] })
@@ -332,7 +332,7 @@ is_correction other = false
 -- What the events of a resync do: files are listed and read; then every count that is wrong is put right by one entry, or none is
 -- wrong and nothing is appended.
 abbrev pub DidResync : Run → Lists → RunEvent → EventPart → Type 0
-DidResync run lists event First = (files : List Taken) × (event ≡ record (plain event) { files = files })
+DidResync run lists event First = (files : List TakenFile) × (event ≡ record (plain event) { files = files })
 DidResync run lists event ReadsFile = (damaged : List ℕ) × (event ≡ record (plain event) { damaged = damaged })
 DidResync run lists event Last =
     (added : List MapEntry) × (event ≡ record (plain event) { map_entries = added }) × IsTrue (list_all is_correction added) × (length added ≤ 1) × AreRight (and_then run event) lists
@@ -340,31 +340,31 @@ DidResync run lists event part = event ≡ plain event
 
 -- What the events of a fetch do: it pins the file of the listed message, and has as many pieces to read as its region and
 -- its instances have, of 65,536 octets each.
-abbrev pub pieces_of : MapRecord → ℕ
-pieces_of row = (row.size + 65535) / 65536 + sum_by (λ i. (i.size + 65535) / 65536) row.instances
+abbrev pub pieces_to_read : MapRecord → ℕ
+pieces_to_read row = (row.size + 65535) / 65536 + sum_by (λ i. (i.size + 65535) / 65536) row.instances
 
 abbrev pub DidFetch : Run → Lists → List ℕ → ℕ → RunEvent → EventPart → Type 0
 DidFetch run lists name uid event First =
-    (row : MapRecord) × IsRecord run lists name uid row × (event ≡ record (plain event) { pins = record { file = row.file; pieces = pieces_of row } ∷ [] })
+    (row : MapRecord) × IsRecord run lists name uid row × (event ≡ record (plain event) { pins = record { file = row.file; pieces = pieces_to_read row } ∷ [] })
 DidFetch run lists name uid event RemovesFile = (file : ℕ) × (is_doomed run file ≡ true) × (is_pinned run file ≡ false) × (event ≡ record (plain event) { removed = file ∷ [] })
 DidFetch run lists name uid event part = event ≡ plain event
 
 -- What an event did that wasn't refused, and that it did nothing else that is told.
-abbrev pub Did : Run → Lists → Request → RunEvent → EventPart → Type 0
-Did run lists (request.Deliver name time octets) event part = DidDeliver run lists name time octets event part
-Did run lists (request.Flag name uid flags) event First =
+abbrev pub DidPart : Run → Lists → Request → RunEvent → EventPart → Type 0
+DidPart run lists (request.Deliver name time octets) event part = DidDeliver run lists name time octets event part
+DidPart run lists (request.Flag name uid flags) event First =
     (mailbox : Mailbox) × (mailbox_named name lists ≡ Some mailbox) × (event ≡ record (plain event) { box_entries = adds_to mailbox (box.F uid flags) })
-Did run lists (request.Expunge name uid) event First = Removes run lists name uid.0 event
-Did run lists (request.Expunge name uid) event GivesBack = Lowers (owed_by event.request run) event
-Did run lists (request.Move name uid target) event SecondHalf =
+DidPart run lists (request.Expunge name uid) event First = Removes run lists name uid.0 event
+DidPart run lists (request.Expunge name uid) event GivesBack = Lowers (owed_by event.request run) event
+DidPart run lists (request.Move name uid target) event SecondHalf =
     RemovesIfThere run lists name uid.0 event (message_at name uid.0 lists)
-Did run lists (request.Move name uid target) event part = DidCopy run lists name uid.0 target event part
-Did run lists (request.Copy name uid target) event part = DidCopy run lists name uid.0 target event part
-Did run lists (request.Make name) event part = DidMake run name event part
-Did run lists (request.Fetch name uid) event part = DidFetch run lists name uid.0 event part
-Did run lists request.Purge event part = DidPurge run event part
-Did run lists request.Resync event part = DidResync run lists event part
-Did run lists request event part = event ≡ plain event
+DidPart run lists (request.Move name uid target) event part = DidCopy run lists name uid.0 target event part
+DidPart run lists (request.Copy name uid target) event part = DidCopy run lists name uid.0 target event part
+DidPart run lists (request.Make name) event part = DidMake run name event part
+DidPart run lists (request.Fetch name uid) event part = DidFetch run lists name uid.0 event part
+DidPart run lists request.Purge event part = DidPurge run event part
+DidPart run lists request.Resync event part = DidResync run lists event part
+DidPart run lists request event part = event ≡ plain event
 
 -- ---- an event
 
@@ -402,7 +402,7 @@ pub record IsEvent (around after : Around) (run : Run) (lists : Lists) (request 
   pub refused : (refusal : Refusal) → event.refused ≡ Some refusal → is_step refusal ≡ true → first_refusal run lists (checks_of run request event) ≡ Some refusal
   pub undone : (refusal : Refusal) → event.refused ≡ Some refusal → DidNothing event × (is_step refusal ≡ true → event.drew ≡ no_numbers)
   pub allowed : event.refused ≡ None → first_refusal run lists (checks_of run request event) ≡ None
-  pub did : event.refused ≡ None → Did run lists request event event.part
+  pub did : event.refused ≡ None → DidPart run lists request event event.part
   pub ends : (event.reply ≢ None) ↔ (behind_event after (and_then run event) request event event.refused ≡ None)
 
 -- An event is the next one of its lane: it is one of the first request of the lane that isn't answered.

@@ -13,7 +13,7 @@ use Rattle.mdbox_base.specs.declared.replies.Reply.{Reply}
 use Rattle.mdbox_base.specs.declared.replies.Reply.TheVariants as reply
 use Rattle.model_lists.specs.Lists.{ListedMessage, Mailbox, Lists, refs_of, empty_mailbox, row_of}
 use Rattle.model_meaning.specs.MapMeaning.{MapMeaning, count_of, named}
-use Rattle.list_machine.specs.Run.{EventPart, First, PlacesInstance, TakesFile, StoresRecord, Last, SecondHalf, StartsOver, Taken, RunEvent, Run, map_of, drawn_of, given_by_others, guid_added, number_made, uid_copied, corrected_in, dropped_by, files_gone_by, instances_gone_by, damaged_by, with_targets, target_length}
+use Rattle.list_machine.specs.Run.{EventPart, First, PlacesInstance, TakesFile, StoresRecord, Last, SecondHalf, StartsOver, TakenFile, RunEvent, Run, map_of, drawn_of, given_by_others, guid_added, number_made, uid_copied, corrected_in, dropped_by, files_gone_by, instances_gone_by, damaged_by, with_targets, target_length}
 
 -- ---- lists
 
@@ -74,7 +74,7 @@ count_different (text ∷ texts) = if list_any (bytes_eq text) texts then count_
 pub data Check : Type 0 where
   HasMailbox : (name : List ℕ) → Check
   IsNewName : (name : List ℕ) → Check
-  HasMessage : (name : List ℕ) → (uid : ℕ) → Check
+  HasUid : (name : List ℕ) → (uid : ℕ) → Check
   RoomForMailbox : Check
   RoomForMessage : (name : List ℕ) → Check
   NextUid : (name : List ℕ) → Check
@@ -98,7 +98,7 @@ is_used_up drawn = nat_le 4294967294 drawn
 abbrev pub refusal_at : Run → Lists → Check → Option Refusal
 refusal_at run lists (HasMailbox name) = refused_where (is_none (mailbox_named name lists)) refusal.NoMailbox
 refusal_at run lists (IsNewName name) = refused_where (is_some (mailbox_named name lists)) refusal.Exists
-refusal_at run lists (HasMessage name uid) = refused_where (is_none (message_at name uid lists)) refusal.NoMessage
+refusal_at run lists (HasUid name uid) = refused_where (is_none (message_at name uid lists)) refusal.NoMessage
 refusal_at run lists RoomForMailbox = refused_where (nat_le 1024 (length lists)) (refusal.TooManyMailboxes 1024)
 refusal_at run lists (RoomForMessage name) =
     refused_where (option_map_or (λ m. nat_le 1000000 (length m.messages)) (mailbox_named name lists) false) (refusal.MailboxFull 1000000)
@@ -121,8 +121,8 @@ first_refusal run lists (check ∷ checks) = option_or (refusal_at run lists che
 -- numbers, copies.
 abbrev pub copy_checks : List ℕ → ℕ → List ℕ → EventPart → List Check
 copy_checks name uid target First =
-    HasMailbox name ∷ HasMailbox target ∷ HasMessage name uid ∷ RoomForMessage target ∷ NextUid target ∷ MayBeCopied name uid ∷ []
-copy_checks name uid target Last = HasMailbox name ∷ HasMailbox target ∷ HasMessage name uid ∷ RoomForMessage target ∷ NextUid target ∷ []
+    HasMailbox name ∷ HasMailbox target ∷ HasUid name uid ∷ RoomForMessage target ∷ NextUid target ∷ MayBeCopied name uid ∷ []
+copy_checks name uid target Last = HasMailbox name ∷ HasMailbox target ∷ HasUid name uid ∷ RoomForMessage target ∷ NextUid target ∷ []
 copy_checks name uid target part = []
 
 abbrev pub deliver_checks : List ℕ → EventPart → List Check
@@ -140,17 +140,17 @@ make_checks name StartsOver = IsNewName name ∷ RoomForMailbox ∷ []
 make_checks name part = []
 
 -- A purge looks at the numbers of all its targets, and at the length of each.
-abbrev pub purge_checks : MapMeaning → List Taken → List Check
+abbrev pub purge_checks : MapMeaning → List TakenFile → List Check
 purge_checks m files = NextFiles (length (with_targets m files)) ∷ map (λ t. TargetFits (target_length m t.file)) (with_targets m files)
 
 abbrev pub part_checks : Run → RunEvent → Request → EventPart → List Check
 part_checks run event (request.Deliver name time octets) part = deliver_checks name part
 part_checks run event (request.List name) First = HasMailbox name ∷ []
-part_checks run event (request.Fetch name uid) First = HasMailbox name ∷ HasMessage name uid.0 ∷ []
-part_checks run event (request.Flag name uid flags) First = HasMailbox name ∷ HasMessage name uid.0 ∷ []
+part_checks run event (request.Fetch name uid) First = HasMailbox name ∷ HasUid name uid.0 ∷ []
+part_checks run event (request.Flag name uid flags) First = HasMailbox name ∷ HasUid name uid.0 ∷ []
 part_checks run event (request.Copy name uid target) part = copy_checks name uid.0 target part
 part_checks run event (request.Move name uid target) part = copy_checks name uid.0 target part
-part_checks run event (request.Expunge name uid) First = HasMailbox name ∷ HasMessage name uid.0 ∷ []
+part_checks run event (request.Expunge name uid) First = HasMailbox name ∷ HasUid name uid.0 ∷ []
 part_checks run event (request.Make name) part = make_checks name part
 part_checks run event request.Purge First = purge_checks (map_of run) event.files
 part_checks run event request part = []

@@ -43,7 +43,7 @@ pub record BoxAppend : Type 0 where
 
 -- A storage file that an event took, with the number drawn for its target, or 0; and a file that a fetch pinned, with the
 -- number of pieces that it has to read.
-pub record Taken : Type 0 where
+pub record TakenFile : Type 0 where
   pub file : ℕ
   pub target : ℕ
 
@@ -68,7 +68,7 @@ pub record RunEvent : Type 0 where
   pub owes : List ℕ
   pub drew : Highest
   pub given : List (List ℕ)
-  pub files : List Taken
+  pub files : List TakenFile
   pub pins : List Pin
   pub copied : List ℕ
   pub doomed : List ℕ
@@ -222,7 +222,7 @@ abbrev pub is_copied_from : ℕ → MapRecord → Bool
 is_copied_from file row = (row.file == file) && nat_lt 0 row.count
 
 -- the files of which something is copied, each of which gets a target
-abbrev pub with_targets : MapMeaning → List Taken → List Taken
+abbrev pub with_targets : MapMeaning → List TakenFile → List TakenFile
 with_targets m files = filter (λ t. list_any (is_copied_from t.file) m.records) files
 
 -- the length of a target: its header line, and the regions that are copied
