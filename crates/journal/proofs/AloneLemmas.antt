@@ -14,7 +14,7 @@ use Rattle.model_lists.specs.Lists.{Lists}
 use Rattle.list_machine.specs.Run.{RunEvent, Run, before}
 use Rattle.list_machine.specs.Machine.{Answers}
 use Rattle.list_machine.proofs.OneStepLemmas.{answers_one}
-use Rattle.journal.specs.Journal.{Requests, CopyHalf, ExpungeHalf, halves_of, JournalStep, IsStep, AreSteps, steps_of, IsPrefixOf, IsReplyOf, IsLegal}
+use Rattle.journal.specs.Journal.{Requests, CopyHalf, ExpungeHalf, halves_of, JournalStep, IsStep, AreSteps, steps_of, IsFirstPart, IsReplyOf, IsLegal}
 use Rattle.journal.specs.GoesOn.{AnswersAlone, IsOneStep}
 
 -- ---- one request
@@ -73,7 +73,7 @@ reply_alone start asked run journal given old new l one =
 -- ---- what is not legal
 
 -- A move's expunge before its copy.
-pub no_expunge_first : (name target : List ℕ) (uid : Uid) → IsPrefixOf (ExpungeHalf ∷ CopyHalf ∷ []) (halves_of (request.Move name uid target)) → ⊥
+pub no_expunge_first : (name target : List ℕ) (uid : Uid) → IsFirstPart (ExpungeHalf ∷ CopyHalf ∷ []) (halves_of (request.Move name uid target)) → ⊥
 no_expunge_first name target uid b = let h : ExpungeHalf ∷ CopyHalf ∷ b.0 ≡ CopyHalf ∷ ExpungeHalf ∷ [] = b.1 in cc h
 
 -- An answer to a request whose step was dropped.

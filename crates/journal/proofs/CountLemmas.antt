@@ -11,7 +11,7 @@ use Rattle.model_lists.specs.Lists.{Lists, refs_of}
 use Rattle.model_meaning.specs.MapMeaning.{MapRecord, record_changed}
 use Rattle.list_machine.specs.Run.{BoxAppend, RunEvent, Run, and_then}
 use Rattle.journal.specs.Events.{uid_raised, begun_in, added_in, lowered_in, ended_in}
-use Rattle.journal.specs.ExactCounts.{IsBalanced, begun_of, ended_of, CountAddsUp}
+use Rattle.journal.specs.ExactCounts.{IsBalanced, begun_so_far, ended, CountsAddUp}
 
 -- the same of an event by what it appended and owes
 abbrev raised_in : ℕ → MapEntry → Bool
@@ -86,13 +86,13 @@ removal_balances row event x owed taken e f g none same =
 -- ---- over a run
 
 -- Where an event balances, and the references change by what it takes and adds, a record still adds up, with the same leak.
-pub adds_up_still : (run : Run) (event : RunEvent) (old new : Lists) (before after : MapRecord) (taken added leak : ℕ) → CountAddsUp run old before leak → IsBalanced before after event taken added → after.uid ≡ before.uid → after.guid ≡ before.guid
-    → refs_of new before.guid + taken ≡ refs_of old before.guid + added → CountAddsUp (and_then run event) new after leak
+pub adds_up_still : (run : Run) (event : RunEvent) (old new : Lists) (before after : MapRecord) (taken added leak : ℕ) → CountsAddUp run old before leak → IsBalanced before after event taken added → after.uid ≡ before.uid → after.guid ≡ before.guid
+    → refs_of new before.guid + taken ≡ refs_of old before.guid + added → CountsAddUp (and_then run event) new after leak
 adds_up_still run event old new before after taken added leak up balanced uid guid refs =
     let b = sum_by-append (begun_in before.uid) run.events (event ∷ []) in
     let d = sum_by-append (ended_in before.uid) run.events (event ∷ []) in
     let c = sum_by-cons (begun_in before.uid) event [] in
     let k = sum_by-cons (ended_in before.uid) event [] in
-    let h : after.count + ended_of (and_then run event) before.uid ≡ (refs_of new before.guid + begun_of (and_then run event) before.uid) + leak = omega (arith, up, balanced, refs, b, d, c, k) in
-    (ap (λ (n : ℕ). after.count + ended_of (and_then run event) n) uid ∙ h)
-    ∙ (ap (λ (g : List ℕ). (refs_of new g + begun_of (and_then run event) before.uid) + leak) (sym guid) ∙ ap (λ (n : ℕ). (refs_of new after.guid + begun_of (and_then run event) n) + leak) (sym uid))
+    let h : after.count + ended (and_then run event) before.uid ≡ (refs_of new before.guid + begun_so_far (and_then run event) before.uid) + leak = omega (arith, up, balanced, refs, b, d, c, k) in
+    (ap (λ (n : ℕ). after.count + ended (and_then run event) n) uid ∙ h)
+    ∙ (ap (λ (g : List ℕ). (refs_of new g + begun_so_far (and_then run event) before.uid) + leak) (sym guid) ∙ ap (λ (n : ℕ). (refs_of new after.guid + begun_so_far (and_then run event) n) + leak) (sym uid))

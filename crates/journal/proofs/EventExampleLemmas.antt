@@ -11,12 +11,12 @@ use Rattle.model_meaning.specs.MapMeaning.{no_numbers}
 use Rattle.model_meaning.specs.MeaningExamples.{example_guid}
 use Rattle.list_machine.specs.Run.{EventPart, TakesFile, PlacesMessage, StoresRecord, Last, GivesBack, RunEvent, Run, before, and_then, own_events}
 use Rattle.list_machine.specs.Machine.{first_refusal, checks_of}
-use Rattle.journal.specs.Events.{Around, next_part, behind_event, DidPart, DidNothing, HasParts, IsEvent}
+use Rattle.journal.specs.Events.{Around, next_part, behind_event, Did, DidNothing, HasParts, IsEvent}
 use Rattle.journal.specs.JournalExamples.{inbox, hello, nothing_around, first_event, takes_event, places_event, stores_event, adds_event, raise_event, remove_event, lower_event, refused_event, back_event, first_run, first_lists, lists_saved, second_run, lists_left}
 
 -- an event that isn't refused, and after which the request goes on or is answered
 went_on : (around after : Around) (run : Run) (lists : Lists) (q : Request) (event : RunEvent) (part : EventPart) → HasParts q around.parts → event.refused ≡ None → event.reply ≡ None → next_part around run q (own_events event.request run) ≡ Some event.part
-    → first_refusal run lists (checks_of run q event) ≡ None → DidPart run lists q event event.part → behind_event after (and_then run event) q event event.refused ≡ Some part → IsEvent around after run lists q event
+    → first_refusal run lists (checks_of run q event) ≡ None → Did run lists q event event.part → behind_event after (and_then run event) q event event.refused ≡ Some part → IsEvent around after run lists q event
 went_on around after run lists q event part parts free unanswered next allowed did behind = record {
   parts = parts;
   part_is = next;
@@ -34,7 +34,7 @@ went_on around after run lists q event part parts free unanswered next allowed d
     some p a b = let z : Some p ≡ None = a ∙ b in cc z
 
 answered : (around after : Around) (run : Run) (lists : Lists) (q : Request) (event : RunEvent) (given : Reply) → HasParts q around.parts → event.refused ≡ None → event.reply ≡ Some given → next_part around run q (own_events event.request run) ≡ Some event.part
-    → first_refusal run lists (checks_of run q event) ≡ None → DidPart run lists q event event.part → behind_event after (and_then run event) q event event.refused ≡ None → IsEvent around after run lists q event
+    → first_refusal run lists (checks_of run q event) ≡ None → Did run lists q event event.part → behind_event after (and_then run event) q event event.refused ≡ None → IsEvent around after run lists q event
 answered around after run lists q event given parts free reply_is next allowed did behind = record {
   parts = parts;
   part_is = next;

@@ -4,7 +4,8 @@ use Rattle.std.proofs.Common.{sym, ◌∙◌, ap, arith, subst, inl, inr}
 use Rattle.std.proofs.lemmas.Grind.{common_steps}
 use Rattle.std.proofs.lemmas.List.{append-nil}
 use Rattle.std.proofs.lemmas.List.Elements.{All-weaker, filter-append}
-use Rattle.disk_model.specs.Disk.{Faults, Rose}
+use Rattle.mdbox_base.specs.Streams.{Rose}
+use Rattle.disk_model.specs.Disk.{Faults}
 use Rattle.mdbox_base.specs.declared.requests.Request.{Request}
 use Rattle.mdbox_base.specs.declared.replies.Refusal.TheVariants as refusal
 use Rattle.mdbox_base.specs.declared.replies.Reply.{Reply}
@@ -12,7 +13,7 @@ use Rattle.mdbox_base.specs.declared.replies.Reply.TheVariants as reply
 use Rattle.model_lists.specs.Lists.{Lists}
 use Rattle.model_octets.proofs.PairLemmas.{pairs_push}
 use Rattle.list_machine.specs.Run.{RunEvent, Run, and_then}
-use Rattle.journal.specs.Journal.{Requests, halves_of, JournalStep, IsStep, left_by, steps_of, IsPrefixOf, StandInOrder, HasReply, IsReplyOf, AreReplied, is_read_fault, AreBefore, LacksOrGoesOn, CannotGoOn, HaveCauses, IsLegal}
+use Rattle.journal.specs.Journal.{Requests, halves_of, JournalStep, IsStep, left_by, steps_of, IsFirstPart, StandInOrder, HasReply, IsReplyOf, AreReplied, is_read_fault, AreBefore, LacksOrGoesOn, IsHalted, HaveCauses, IsLegal}
 use Rattle.journal.proofs.JournalLemmas.{get_more, steps_more, steps_push, steps_within}
 use Rattle.journal.specs.GoesOn.{MayCome, RepliesAlso, MayReply}
 
@@ -40,7 +41,7 @@ unfinished_along : (run : Run) (script : Requests) (a b : List JournalStep) (i :
 unfinished_along run script a b i e (inl x) = inl (x.0, x.1, subst (λ (s : List JournalStep). length s < length (halves_of x.0.1)) e x.2)
 unfinished_along run script a b i e (inr x) = inr (x.0, x.1, x.2, x.3, subst (λ (s : List JournalStep). AreBefore s x.0) e x.4)
 
-cut_off_along : (a b : List JournalStep) (replies : List (Option Reply)) (i : ℕ) → steps_of i a ≡ steps_of i b → CannotGoOn a replies i → CannotGoOn b replies i
+cut_off_along : (a b : List JournalStep) (replies : List (Option Reply)) (i : ℕ) → steps_of i a ≡ steps_of i b → IsHalted a replies i → IsHalted b replies i
 cut_off_along a b replies i e c = (sym e ∙ c.0, c.1)
 
 -- ---- an event that makes no step
@@ -70,14 +71,14 @@ no_reply replies i j given e n h = let k : Some None ≡ Some (Some given) = (sy
     differ k = let z : None ≡ Some given = cc k in cc z
 
 step_halves : (script : Requests) (journal : List JournalStep) (replies : List (Option Reply)) (step : JournalStep) → MayCome script journal replies step → StandInOrder script journal → (i : ℕ) (asked : ℕ × Request) → slice_get script i ≡ Some asked
-    → IsPrefixOf (map (λ s. s.half) (steps_of i (journal ++ step ∷ []))) (halves_of asked.1)
+    → IsFirstPart (map (λ s. s.half) (steps_of i (journal ++ step ∷ []))) (halves_of asked.1)
 step_halves script journal replies step m o i asked e = by_test (step.request == i) refl
   where
-    by_test : (b : Bool) → (step.request == i) ≡ b → IsPrefixOf (map (λ s. s.half) (steps_of i (journal ++ step ∷ []))) (halves_of asked.1)
+    by_test : (b : Bool) → (step.request == i) ≡ b → IsFirstPart (map (λ s. s.half) (steps_of i (journal ++ step ∷ []))) (halves_of asked.1)
     by_test true h =
         let same = numbers_same step.request i h in
-        subst (λ (k : ℕ). IsPrefixOf (map (λ s. s.half) (steps_of k (journal ++ step ∷ []))) (halves_of asked.1)) same (m.next_half asked (ap (λ (k : ℕ). slice_get script k) same ∙ e))
-    by_test false h = subst (λ (s : List JournalStep). IsPrefixOf (map (λ x. x.half) s) (halves_of asked.1)) (sym (steps_of_other i journal step h)) (o.halves i asked e)
+        subst (λ (k : ℕ). IsFirstPart (map (λ s. s.half) (steps_of k (journal ++ step ∷ []))) (halves_of asked.1)) same (m.next_half asked (ap (λ (k : ℕ). slice_get script k) same ∙ e))
+    by_test false h = subst (λ (s : List JournalStep). IsFirstPart (map (λ x. x.half) s) (halves_of asked.1)) (sym (steps_of_other i journal step h)) (o.halves i asked e)
 
 step_replied : (script : Requests) (journal : List JournalStep) (replies : List (Option Reply)) (step : JournalStep) → MayCome script journal replies step → AreReplied script journal replies → AreReplied script (journal ++ step ∷ []) replies
 step_replied script journal replies step m r i asked given e h = by_test (step.request == i) refl
@@ -95,10 +96,10 @@ step_unfinished run event script journal replies step old new m c i h = by_test 
     by_test false t = unfinished_along (and_then run event) script journal (journal ++ step ∷ []) i (sym (steps_of_other i journal step t)) (unfinished_more run event script journal i (c.unfinished i h))
 
 step_later : (run : Run) (script : Requests) (journal : List JournalStep) (replies : List (Option Reply)) (step : JournalStep) (old new : Faults) → MayCome script journal replies step → HaveCauses run script journal replies old new
-    → (i j : ℕ) (first second : ℕ × Request) → HasReply replies i (reply.Refused refusal.Stopped) → i < j → slice_get script i ≡ Some first → slice_get script j ≡ Some second → first.0 ≡ second.0 → CannotGoOn (journal ++ step ∷ []) replies j
+    → (i j : ℕ) (first second : ℕ × Request) → HasReply replies i (reply.Refused refusal.Stopped) → i < j → slice_get script i ≡ Some first → slice_get script j ≡ Some second → first.0 ≡ second.0 → IsHalted (journal ++ step ∷ []) replies j
 step_later run script journal replies step old new m c i j first second h lt e f same = by_test (step.request == j) refl
   where
-    by_test : (b : Bool) → (step.request == j) ≡ b → CannotGoOn (journal ++ step ∷ []) replies j
+    by_test : (b : Bool) → (step.request == j) ≡ b → IsHalted (journal ++ step ∷ []) replies j
     by_test true t =
         let k = numbers_same step.request j t in
         absurd (m.goes_on i first second h (subst (λ (n : ℕ). i < n) (sym k) lt) e (ap (λ (n : ℕ). slice_get script n) k ∙ f) same)
@@ -143,7 +144,7 @@ some_ask : (script : Requests) (i j : ℕ) (a b : ℕ × Request) → i ≡ j �
 some_ask script i j a b k e f = let z : Some a ≡ Some b = (sym e ∙ ap (λ (n : ℕ). slice_get script n) k) ∙ f in cc z
 
 cut_off_now : (script : Requests) (run : Run) (journal : List JournalStep) (before after : List (Option Reply)) (old new : Faults) (i : ℕ) (given : Reply) → RepliesAlso before after i given → MayReply script run journal before after old new i given
-    → (k j : ℕ) (first second : ℕ × Request) → HasReply before k (reply.Refused refusal.Stopped) → k < j → slice_get script k ≡ Some first → slice_get script j ≡ Some second → first.0 ≡ second.0 → CannotGoOn journal before j → CannotGoOn journal after j
+    → (k j : ℕ) (first second : ℕ × Request) → HasReply before k (reply.Refused refusal.Stopped) → k < j → slice_get script k ≡ Some first → slice_get script j ≡ Some second → first.0 ≡ second.0 → IsHalted journal before j → IsHalted journal after j
 cut_off_now script run journal before after old new i given m r k j first second h lt e f lanes c = (c.0, λ x y. by_now x (reply_now before after i given m j x y))
   where
     by_now : (x : Reply) → ((i ≡ j) × (x ≡ given)) ⊎ HasReply before j x → (x ≡ reply.Refused refusal.NoMemory) ⊎ (x ≡ reply.Refused refusal.Stopped)
@@ -154,7 +155,7 @@ cut_off_now script run journal before after old new i given m r k j first second
         subst (λ (z : Reply). (z ≡ reply.Refused refusal.NoMemory) ⊎ (z ≡ reply.Refused refusal.Stopped)) (sym y.1) (r.behind k first h (subst (λ (n : ℕ). k < n) (sym y.0) lt) e lanes_too)
 
 -- behind the request that is cut off now
-cut_off_first : (script : Requests) (run : Run) (journal : List JournalStep) (before after : List (Option Reply)) (old new : Faults) (i : ℕ) (given : Reply) → RepliesAlso before after i given → (j : ℕ) → i < j → CannotGoOn journal before j → CannotGoOn journal after j
+cut_off_first : (script : Requests) (run : Run) (journal : List JournalStep) (before after : List (Option Reply)) (old new : Faults) (i : ℕ) (given : Reply) → RepliesAlso before after i given → (j : ℕ) → i < j → IsHalted journal before j → IsHalted journal after j
 cut_off_first script run journal before after old new i given m j lt c = (c.0, λ x y. by_now x (reply_now before after i given m j x y))
   where
     by_now : (x : Reply) → ((i ≡ j) × (x ≡ given)) ⊎ HasReply before j x → (x ≡ reply.Refused refusal.NoMemory) ⊎ (x ≡ reply.Refused refusal.Stopped)
@@ -194,7 +195,7 @@ legal_reply start script run journal before after old new i given l m r = record
     unfinished j (inr y) = l.causes.unfinished j y
 
     later : (k j : ℕ) (first second : ℕ × Request) → k < j → slice_get script k ≡ Some first → slice_get script j ≡ Some second → first.0 ≡ second.0
-        → ((i ≡ k) × (reply.Refused refusal.Stopped ≡ given)) ⊎ HasReply before k (reply.Refused refusal.Stopped) → CannotGoOn journal after j
+        → ((i ≡ k) × (reply.Refused refusal.Stopped ≡ given)) ⊎ HasReply before k (reply.Refused refusal.Stopped) → IsHalted journal after j
     later k j first second lt e f lanes (inl y) =
         let ask : r.asked ≡ first = some_ask script i k r.asked first y.0 r.request_is e in
         let less : i < j = subst (λ (n : ℕ). n < j) (sym y.0) lt in

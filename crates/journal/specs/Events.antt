@@ -1,4 +1,4 @@
--- The events of each request: what stands behind what, and what each one does.
+-- The events of each request: what stands part_behind what, and what each one does.
 use Rattle.std.specs.Prelude.{◌≡◌, ◌≢◌, ◌≤◌, ◌<◌, ◌↔◌, ◌+◌, ◌-◌, ◌/◌, ◌==◌, ◌&&◌, ◌||◌, nat_lt, nat_le, ℕ, Bool, true, false, not, List, [], ◌∷◌, ◌++◌, length, map, filter, find, flat_map, sum_by, count_by, slice_get, if◌then◌else◌, Option, Some, None, IsTrue, Contains}
 use Rattle.std.specs.List.{list_all, list_any}
 use Rattle.std.specs.Option.{option_map_or}
@@ -141,7 +141,7 @@ number_of run request = number_drawn request 0 run.opened.mailbox run.events
 abbrev pub is_overtaken : Run → ℕ → Bool
 is_overtaken run request = nat_le (number_of run request) (map_of run).highest.mailbox
 
--- The part behind an event that did its own: none where the request is answered.
+-- The part part_behind an event that did its own: none where the request is answered.
 abbrev pub part_behind : Around → Run → Request → RunEvent → Option EventPart
 part_behind around run (request.Deliver name time octets) event = behind_delivery around run event event.part
 part_behind around run (request.Make name) event = behind_make (is_overtaken run event.request) event.part
@@ -153,7 +153,7 @@ part_behind around run request.Purge event = behind_purge around run event event
 part_behind around run request.Resync event = behind_resync run event event.part
 part_behind around run request event = None
 
--- The part behind an event that was refused: counts are given back where an addition was refused, unless the store is
+-- The part part_behind an event that was refused: counts are given back where an addition was refused, unless the store is
 -- stopped, and a fetch unpins also where it met a read fault or damage.
 abbrev pub behind_addition : EventPart → Refusal → Option EventPart
 behind_addition Last refusal.Stopped = None
@@ -176,7 +176,7 @@ abbrev pub behind_event : Around → Run → Request → RunEvent → Option Ref
 behind_event around run request event None = part_behind around run request event
 behind_event around run request event (Some refused) = behind_refused request event.part refused
 
--- The next part of a request behind these events of it: the first, or the one behind the last of them.
+-- The next part of a request part_behind these events of it: the first, or the one part_behind the last of them.
 abbrev pub next_part : Around → Run → Request → List RunEvent → Option EventPart
 next_part around run request [] = Some First
 next_part around run request (event ∷ []) = behind_event around run request event event.refused
@@ -350,21 +350,21 @@ DidFetch run lists name uid event RemovesFile = (file : ℕ) × (is_doomed run f
 DidFetch run lists name uid event part = event ≡ plain event
 
 -- What an event did that wasn't refused, and that it did nothing else that is told.
-abbrev pub DidPart : Run → Lists → Request → RunEvent → EventPart → Type 0
-DidPart run lists (request.Deliver name time octets) event part = DidDeliver run lists name time octets event part
-DidPart run lists (request.Flag name uid flags) event First =
+abbrev pub Did : Run → Lists → Request → RunEvent → EventPart → Type 0
+Did run lists (request.Deliver name time octets) event part = DidDeliver run lists name time octets event part
+Did run lists (request.Flag name uid flags) event First =
     (mailbox : Mailbox) × (mailbox_named name lists ≡ Some mailbox) × (event ≡ record (plain event) { box_entries = adds_to mailbox (box.F uid flags) })
-DidPart run lists (request.Expunge name uid) event First = Removes run lists name uid.0 event
-DidPart run lists (request.Expunge name uid) event GivesBack = Lowers (owed_by event.request run) event
-DidPart run lists (request.Move name uid target) event SecondHalf =
+Did run lists (request.Expunge name uid) event First = Removes run lists name uid.0 event
+Did run lists (request.Expunge name uid) event GivesBack = Lowers (owed_by event.request run) event
+Did run lists (request.Move name uid target) event SecondHalf =
     RemovesIfThere run lists name uid.0 event (message_at name uid.0 lists)
-DidPart run lists (request.Move name uid target) event part = DidCopy run lists name uid.0 target event part
-DidPart run lists (request.Copy name uid target) event part = DidCopy run lists name uid.0 target event part
-DidPart run lists (request.Make name) event part = DidMake run name event part
-DidPart run lists (request.Fetch name uid) event part = DidFetch run lists name uid.0 event part
-DidPart run lists request.Purge event part = DidPurge run event part
-DidPart run lists request.Resync event part = DidResync run lists event part
-DidPart run lists request event part = event ≡ plain event
+Did run lists (request.Move name uid target) event part = DidCopy run lists name uid.0 target event part
+Did run lists (request.Copy name uid target) event part = DidCopy run lists name uid.0 target event part
+Did run lists (request.Make name) event part = DidMake run name event part
+Did run lists (request.Fetch name uid) event part = DidFetch run lists name uid.0 event part
+Did run lists request.Purge event part = DidPurge run event part
+Did run lists request.Resync event part = DidResync run lists event part
+Did run lists request event part = event ≡ plain event
 
 -- ---- an event
 
@@ -395,14 +395,14 @@ HasParts (request.Deliver name time octets) parts = parts ≡ length (filter (λ
 HasParts request parts = Unit {0}
 
 -- An event of a request: it does the next part. It is refused where one of its checks is, and then does nothing; a part
--- that isn't refused does its own and nothing else. The request is answered with it exactly where no part stands behind it.
+-- that isn't refused does its own and nothing else. The request is answered with it exactly where no part stands part_behind it.
 pub record IsEvent (around after : Around) (run : Run) (lists : Lists) (request : Request) (event : RunEvent) : Type 0 where
   pub parts : HasParts request around.parts
   pub part_is : next_part around run request (own_events event.request run) ≡ Some event.part
   pub refused : (refusal : Refusal) → event.refused ≡ Some refusal → is_step refusal ≡ true → first_refusal run lists (checks_of run request event) ≡ Some refusal
   pub undone : (refusal : Refusal) → event.refused ≡ Some refusal → DidNothing event × (is_step refusal ≡ true → event.drew ≡ no_numbers)
   pub allowed : event.refused ≡ None → first_refusal run lists (checks_of run request event) ≡ None
-  pub did : event.refused ≡ None → DidPart run lists request event event.part
+  pub did : event.refused ≡ None → Did run lists request event event.part
   pub ends : (event.reply ≢ None) ↔ (behind_event after (and_then run event) request event event.refused ≡ None)
 
 -- An event is the next one of its lane: it is one of the first request of the lane that isn't answered.

@@ -10,12 +10,12 @@ use Rattle.journal.specs.Events.{begun_in, ended_in}
 abbrev pub IsBalanced : MapRecord → MapRecord → RunEvent → ℕ → ℕ → Type 0
 IsBalanced before after event taken added = (after.count + ended_in before.uid event) + taken ≡ (before.count + begun_in before.uid event) + added
 
-abbrev pub begun_of : Run → ℕ → ℕ
-begun_of run uid = sum_by (begun_in uid) run.events
+abbrev pub begun_so_far : Run → ℕ → ℕ
+begun_so_far run uid = sum_by (begun_in uid) run.events
 
-abbrev pub ended_of : Run → ℕ → ℕ
-ended_of run uid = sum_by (ended_in uid) run.events
+abbrev pub ended : Run → ℕ → ℕ
+ended run uid = sum_by (ended_in uid) run.events
 
 -- A record adds up: its count is its references, what is held and owed, and a leak.
-abbrev pub CountAddsUp : Run → Lists → MapRecord → ℕ → Type 0
-CountAddsUp run lists row leak = row.count + ended_of run row.uid ≡ (refs_of lists row.guid + begun_of run row.uid) + leak
+abbrev pub CountsAddUp : Run → Lists → MapRecord → ℕ → Type 0
+CountsAddUp run lists row leak = row.count + ended run row.uid ≡ (refs_of lists row.guid + begun_so_far run row.uid) + leak

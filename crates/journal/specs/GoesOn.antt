@@ -1,29 +1,16 @@
 -- What a legal journal may go on by, and what is read of one.
-use Rattle.std.specs.Prelude.{◌≡◌, ◌≤◌, ◌<◌, ℕ, List, [], ◌∷◌, ◌++◌, length, map, slice_get, Some, All}
+use Rattle.std.specs.Prelude.{◌≡◌, ◌≤◌, ◌<◌, ℕ, List, [], ◌∷◌, ◌++◌, length, map, slice_get, Some, All, ◌+◌, ◌==◌, true, false, count_by, Option, None, ◌⊎◌}
 use Rattle.mdbox_base.specs.declared.requests.Request.{Request}
 use Rattle.mdbox_base.specs.declared.replies.Reply.{Reply}
 use Rattle.model_lists.specs.Lists.{Lists}
 use Rattle.list_machine.specs.Run.{RunEvent, Run, before}
-use Rattle.list_machine.specs.Machine.{Answers}
-use Rattle.journal.specs.Journal.{Requests, JournalStep, AreSteps}
-use Rattle.std.specs.Prelude.{◌≡◌, ◌≤◌, ◌<◌, ◌+◌, ◌==◌, ℕ, true, false, List, [], ◌∷◌, ◌++◌, length, map, count_by, slice_get, Option, Some, None, All, ◌⊎◌}
-use Rattle.disk_model.specs.Disk.{Faults, Rose}
+use Rattle.list_machine.specs.Machine.{Answers, refs_added, refs_taken, is_step}
+use Rattle.journal.specs.Journal.{Requests, JournalStep, AreSteps, halves_of, steps_of, IsFirstPart, HasReply, IsReplyOf, is_read_fault, RoseBy, LacksOrGoesOn, IsHalted, Broken}
+use Rattle.mdbox_base.specs.Streams.{Rose}
+use Rattle.disk_model.specs.Disk.{Faults}
 use Rattle.mdbox_base.specs.declared.replies.Refusal.TheVariants as refusal
 use Rattle.mdbox_base.specs.declared.replies.Reply.TheVariants as reply
-use Rattle.list_machine.specs.Run.{RunEvent, Run}
-use Rattle.journal.specs.Journal.{Requests, halves_of, JournalStep, steps_of, IsPrefixOf, HasReply, IsReplyOf, is_read_fault, RoseBy, LacksOrGoesOn, CannotGoOn}
-use Rattle.std.specs.Prelude.{◌≡◌, ◌≤◌, ◌<◌, ◌++◌, ◌∷◌, ℕ, true, false, List, [], length, Option, Some, None, All, ◌⊎◌, slice_get}
-use Rattle.disk_model.specs.Disk.{Faults}
-use Rattle.journal.specs.Journal.{Requests, JournalStep, AreSteps}
-use Rattle.std.specs.Prelude.{◌≡◌, ◌≤◌, ◌+◌, ℕ, List, [], ◌∷◌, ◌++◌, length}
-use Rattle.model_lists.specs.Lists.{Lists}
-use Rattle.list_machine.specs.Machine.{refs_added, refs_taken}
-use Rattle.journal.specs.Journal.{Requests, JournalStep, AreSteps, Broken}
-use Rattle.std.specs.Prelude.{◌≡◌, ◌==◌, ℕ, true, false, List, [], ◌∷◌, map, Some, slice_get}
 use Rattle.mdbox_base.specs.declared.requests.Request.TheVariants as request
-use Rattle.list_machine.specs.Run.{RunEvent, Run, before}
-use Rattle.list_machine.specs.Machine.{Answers, is_step}
-use Rattle.journal.specs.Journal.{Requests, halves_of, JournalStep, AreSteps, steps_of, IsPrefixOf, IsReplyOf}
 
 abbrev pub event_at : JournalStep → ℕ
 event_at step = step.event
@@ -32,7 +19,7 @@ event_at step = step.event
 -- request, and no earlier request of its lane was cut off.
 pub record MayCome (script : Requests) (journal : List JournalStep) (replies : List (Option Reply)) (step : JournalStep) : Type 0 where
   pub not_replied : slice_get replies step.request ≡ Some None
-  pub next_half : (asked : ℕ × Request) → slice_get script step.request ≡ Some asked → IsPrefixOf (map (λ s. s.half) (steps_of step.request (journal ++ step ∷ []))) (halves_of asked.1)
+  pub next_half : (asked : ℕ × Request) → slice_get script step.request ≡ Some asked → IsFirstPart (map (λ s. s.half) (steps_of step.request (journal ++ step ∷ []))) (halves_of asked.1)
   pub next_request : All (λ s. s.lane ≡ step.lane → s.request ≤ step.request) journal
   pub goes_on : (i : ℕ) (first second : ℕ × Request) → HasReply replies i (reply.Refused refusal.Stopped) → i < step.request → slice_get script i ≡ Some first → slice_get script step.request ≡ Some second → first.0 ≡ second.0 → ⊥
 
@@ -51,7 +38,7 @@ pub record MayReply (script : Requests) (run : Run) (journal : List JournalStep)
   pub reads : RoseBy (count_by is_read_fault after) old.reads new.reads
   pub changes : given ≡ reply.Refused refusal.Stopped → Rose old.changes new.changes
   pub unfinished : given ≡ reply.Refused refusal.Stopped → LacksOrGoesOn run script journal i
-  pub later : given ≡ reply.Refused refusal.Stopped → (j : ℕ) (second : ℕ × Request) → i < j → slice_get script j ≡ Some second → asked.0 ≡ second.0 → CannotGoOn journal before j
+  pub later : given ≡ reply.Refused refusal.Stopped → (j : ℕ) (second : ℕ × Request) → i < j → slice_get script j ≡ Some second → asked.0 ≡ second.0 → IsHalted journal before j
   pub behind : (k : ℕ) (first : ℕ × Request) → HasReply before k (reply.Refused refusal.Stopped) → k < i → slice_get script k ≡ Some first → first.0 ≡ asked.0
       → (given ≡ reply.Refused refusal.NoMemory) ⊎ (given ≡ reply.Refused refusal.Stopped)
 

@@ -1,7 +1,8 @@
 -- The journal of a run: which steps were made, in their order, and when it is legal.
 use Rattle.std.specs.Prelude.{◌≡◌, ◌≤◌, ◌<◌, ◌+◌, ◌-◌, ◌^◌, ◌==◌, nat_le, min, ℕ, Bool, true, false, List, [], ◌∷◌, ◌++◌, length, map, filter, take, count_by, slice_get, if◌then◌else◌, Option, Some, None, AllPairs, ◌⊎◌}
 use Rattle.std.specs.Option.{option_map_or}
-use Rattle.disk_model.specs.Disk.{Faults, Rose}
+use Rattle.mdbox_base.specs.Streams.{Rose}
+use Rattle.disk_model.specs.Disk.{Faults}
 use Rattle.mdbox_base.specs.declared.requests.Request.{Request}
 use Rattle.mdbox_base.specs.declared.requests.Request.TheVariants as request
 use Rattle.mdbox_base.specs.declared.replies.Refusal.{Refusal}
@@ -46,9 +47,9 @@ abbrev pub moment_of : Run → JournalStep → ℕ
 moment_of run step = option_map_or (λ e. e.moment) (slice_get run.events step.event) 0
 
 -- the refusal that an answer is
-abbrev pub refusal_answered : Reply → Option Refusal
-refusal_answered (reply.Refused refusal) = Some refusal
-refusal_answered reply = None
+abbrev pub refusal_in : Reply → Option Refusal
+refusal_in (reply.Refused refusal) = Some refusal
+refusal_in reply = None
 
 -- An entry is a step on these lists: its request is that of its lane in the script, its event is one of the run and did
 -- a part of that request, and what the machine answers at that event is what the entry says.
@@ -61,7 +62,7 @@ pub record IsStep (run : Run) (script : Requests) (old : Lists) (step : JournalS
   pub own_request : event.request ≡ step.request
   pub own_lane : event.lane ≡ step.lane
   pub half_is : step.half ≡ half_of asked.1 event.part
-  pub says : event.refused ≡ refusal_answered step.answer
+  pub says : event.refused ≡ refusal_in step.answer
   pub answers : Answers (before step.event run) old asked.1 event step.answer step.left
 
 -- Each entry is a step on the lists that the entries before it left.
@@ -87,14 +88,14 @@ places_of request n [] = []
 places_of request n (step ∷ steps) = if step.request == request then n ∷ places_of request (n + 1) steps else places_of request (n + 1) steps
 
 -- the list begins the other
-abbrev pub IsPrefixOf : {X : Type 0} → List X → List X → Type 0
-IsPrefixOf xs ys = (rest : _) × (xs ++ rest ≡ ys)
+abbrev pub IsFirstPart : {X : Type 0} → List X → List X → Type 0
+IsFirstPart xs ys = (rest : _) × (xs ++ rest ≡ ys)
 
 -- Entries stand in the order of their events, each of which makes one at most. A request's entries are its steps, each at
 -- most once, a move's copy before its expunge. Entries of one lane stand in script order.
 pub record StandInOrder (script : Requests) (journal : List JournalStep) : Type 0 where
   pub events : AllPairs (λ a b. a.event < b.event) journal
-  pub halves : (i : ℕ) (asked : ℕ × Request) → slice_get script i ≡ Some asked → IsPrefixOf (map (λ step. step.half) (steps_of i journal)) (halves_of asked.1)
+  pub halves : (i : ℕ) (asked : ℕ × Request) → slice_get script i ≡ Some asked → IsFirstPart (map (λ step. step.half) (steps_of i journal)) (halves_of asked.1)
   pub lanes : AllPairs (λ a b. a.lane ≡ b.lane → a.request ≤ b.request) journal
 
 -- ---- replies
@@ -147,8 +148,8 @@ LacksOrGoesOn run script journal i =
     ⊎ ((n : ℕ) × (event : RunEvent) × (slice_get run.events n ≡ Some event) × (event.request ≡ i) × AreBefore (steps_of i journal) n)
 
 -- a later request of the lane that can't go on: it has no step, and no reply but for want of memory or the fault
-abbrev pub CannotGoOn : List JournalStep → List (Option Reply) → ℕ → Type 0
-CannotGoOn journal replies i = (steps_of i journal ≡ []) × ((given : Reply) → HasReply replies i given → (given ≡ reply.Refused refusal.NoMemory) ⊎ (given ≡ reply.Refused refusal.Stopped))
+abbrev pub IsHalted : List JournalStep → List (Option Reply) → ℕ → Type 0
+IsHalted journal replies i = (steps_of i journal ≡ []) × ((given : Reply) → HasReply replies i given → (given ≡ reply.Refused refusal.NoMemory) ⊎ (given ≡ reply.Refused refusal.Stopped))
 
 -- The replies of read faults are at most as many as reads failed. One of a stopped store comes only where a change failed,
 -- to a request that lacks a step or has events behind its last one, and then no later request of its lane has a step.
@@ -157,7 +158,7 @@ pub record HaveCauses (run : Run) (script : Requests) (journal : List JournalSte
   pub changes : (i : ℕ) → HasReply replies i (reply.Refused refusal.Stopped) → Rose old.changes new.changes
   pub unfinished : (i : ℕ) → HasReply replies i (reply.Refused refusal.Stopped) → LacksOrGoesOn run script journal i
   pub later : (i j : ℕ) (first second : ℕ × Request) → HasReply replies i (reply.Refused refusal.Stopped) → i < j → slice_get script i ≡ Some first → slice_get script j ≡ Some second → first.0 ≡ second.0
-      → CannotGoOn journal replies j
+      → IsHalted journal replies j
 
 -- ---- legal
 

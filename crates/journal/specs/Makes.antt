@@ -9,7 +9,7 @@ use Rattle.model_lists.specs.Lists.{Lists}
 use Rattle.model_meaning.specs.MapMeaning.{MapMeaning, map_meaning}
 use Rattle.list_machine.specs.Run.{RunEvent, Run, before, and_then, map_of, drawn_of, reply_of}
 use Rattle.list_machine.specs.Machine.{Answers}
-use Rattle.journal.specs.Journal.{Requests, half_of, JournalStep, left_by, refusal_answered, IsLegal, Broken, AreBroken}
+use Rattle.journal.specs.Journal.{Requests, half_of, JournalStep, left_by, refusal_in, IsLegal, Broken, AreBroken}
 use Rattle.journal.specs.Events.{Around, IsEvent, IsNextEvent, makes_step}
 
 -- A run has come to where a store stands: its entries mean the store's map, its numbers are those that the store has drawn,
@@ -22,7 +22,7 @@ pub record HasCome (run : Run) (m : MapMeaning) (drawn : Highest) (calls : ℕ) 
 -- What an event did to the lists: a step answers as the machine does, and every other event changes none.
 abbrev pub StepOf : Run → Request → Lists → RunEvent → Option Reply → Lists → Type 0
 StepOf run request old event None new = new ≡ old
-StepOf run request old event (Some answer) new = Answers run old request event answer new × (event.refused ≡ refusal_answered answer)
+StepOf run request old event (Some answer) new = Answers run old request event answer new × (event.refused ≡ refusal_in answer)
 
 -- What an event would have made whose append failed: the same part, with the entry, and the step that it would have been.
 pub record WouldMake (run : Run) (request : Request) (old : Lists) (event : RunEvent) : Type 0 where

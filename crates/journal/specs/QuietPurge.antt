@@ -4,7 +4,7 @@ use Rattle.std.specs.List.Sorted.{IsStrictlyIncreasing}
 use Rattle.disk_model.specs.Disk.{Files}
 use Rattle.disk_model.specs.declared.name.FileName.TheVariants as file
 use Rattle.mdbox_base.specs.declared.entries.InstRow.{InstRow}
-use Rattle.model_meaning.specs.MapMeaning.{MapRecord, MapMeaning, named, is_sealed}
+use Rattle.model_meaning.specs.MapMeaning.{MapRecord, MapMeaning, named_instances, is_sealed}
 use Rattle.model_storage.specs.StorageFile.{IsHeaderLine}
 use Rattle.list_machine.specs.Run.{RunEvent, Run}
 
@@ -54,12 +54,12 @@ pub record AreAllOf (Holds : ℕ → Type 0) (numbers : List ℕ) : Type 0 where
   pub exactly : (n : ℕ) → Contains numbers n ↔ Holds n
 
 -- A quiet purge, from these files and this map's meaning to those: each file that isn't sealed is clean, each instance
--- that is there is named, the records that went are those of unsealed files with count 0, and each that stays keeps all but
+-- that is there is named_instances, the records that went are those of unsealed files with count 0, and each that stays keeps all but
 -- its place, and its region's octets. The numbers are those of the records that went, of the files that were neither
 -- sealed nor clean, and of the instances that went.
 pub record PurgesQuietly (old new : Files) (before after : MapMeaning) (dropped files instances : ℕ) : Type 0 where
   pub clean : (n : ℕ) (octets : List ℕ) → new (file.Mail n) ≡ Some octets → is_sealed after n ≡ false → IsClean after n octets
-  pub only_named : (hash id octets : List ℕ) → new (file.Inst hash id) ≡ Some octets → (inst : InstRow) × Contains (named after) inst × (inst.hash.0 ≡ hash) × (inst.id.0 ≡ id)
+  pub only_named : (hash id octets : List ℕ) → new (file.Inst hash id) ≡ Some octets → (inst : InstRow) × Contains (named_instances after) inst × (inst.hash.0 ≡ hash) × (inst.id.0 ≡ id)
   pub stay : map apart_from_place after.records ≡ map apart_from_place (filter (λ row. not (goes before row)) before.records)
   pub regions : AllHaveSameOctets old new (filter (λ row. not (goes before row)) before.records) after.records
   pub dropped_are : dropped ≡ length (filter (goes before) before.records)

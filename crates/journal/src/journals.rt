@@ -8,7 +8,7 @@ ghost use Rattle.mdbox_base.specs.declared.replies.Reply.{Reply};
 ghost use Rattle.mdbox_base.specs.declared.replies.Reply.TheVariants as reply;
 ghost use Rattle.model_lists.specs.Lists.{Lists, refs_of};
 ghost use Rattle.list_machine.specs.Run.{Run, RunEvent, and_then};
-ghost use Rattle.journal.specs.Journal.{Requests, CopyHalf, ExpungeHalf, halves_of, JournalStep, IsStep, AreSteps, left_by, IsPrefixOf, HasReply, IsReplyOf, IsLegal, is_read_fault};
+ghost use Rattle.journal.specs.Journal.{Requests, CopyHalf, ExpungeHalf, halves_of, JournalStep, IsStep, AreSteps, left_by, IsFirstPart, HasReply, IsReplyOf, IsLegal, is_read_fault};
 ghost use Rattle.journal.specs.GoesOn.{event_at, IsOneStep, AnswersAlone, all_added, all_taken, MayCome, RepliesAlso, MayReply};
 ghost use Rattle.list_machine.specs.Machine.{expunge};
 
@@ -41,7 +41,7 @@ pub fn a_request_alone()
 /// No legal journal has a move's expunge before its copy, a reply without its step, another UID than the copy's, or a second
 /// answer at one event.
 pub fn wrong_journals()
-    ensures early { (name target : List ℕ) (uid : Uid) → IsPrefixOf (ExpungeHalf ∷ CopyHalf ∷ []) (halves_of (request.Move name uid target)) → ⊥ }
+    ensures early { (name target : List ℕ) (uid : Uid) → IsFirstPart (ExpungeHalf ∷ CopyHalf ∷ []) (halves_of (request.Move name uid target)) → ⊥ }
     ensures dropped { (name : List ℕ) (uid : Uid) → IsReplyOf (request.Expunge name uid) [] reply.Done → ⊥ }
     ensures other { (name target : List ℕ) (uid copied other : Uid) (gone : Bool) → IsReplyOf (request.Move name uid target) (reply.Copied copied ∷ reply.Moved copied gone ∷ []) (reply.Moved other gone) → copied ≡ other }
     ensures second { (run : Run) (script : Requests) (old : Lists) (step : JournalStep) (second : Reply) → IsStep run script old step → second ≢ step.answer → IsStep run script old (record step { answer = second }) → ⊥ }

@@ -11,8 +11,8 @@ use Rattle.mdbox_base.specs.declared.replies.Refusal.{Refusal}
 use Rattle.mdbox_base.specs.declared.replies.Refusal.TheVariants as refusal
 use Rattle.mdbox_base.specs.declared.replies.Reply.{Reply}
 use Rattle.mdbox_base.specs.declared.replies.Reply.TheVariants as reply
-use Rattle.model_lists.specs.Lists.{ListedMessage, Mailbox, Lists, refs_of, empty_mailbox, row_of}
-use Rattle.model_meaning.specs.MapMeaning.{MapMeaning, count_of, named}
+use Rattle.model_lists.specs.Lists.{ListedMessage, Mailbox, Lists, change_first, refs_of, empty_mailbox, listing_row}
+use Rattle.model_meaning.specs.MapMeaning.{MapMeaning, count_of, named_instances}
 use Rattle.list_machine.specs.Run.{EventPart, First, PlacesInstance, TakesFile, StoresRecord, Last, SecondHalf, StartsOver, TakenFile, RunEvent, Run, map_of, drawn_of, given_by_others, guid_added, number_made, uid_copied, corrected_in, dropped_by, files_gone_by, instances_gone_by, damaged_by, with_targets, target_length}
 
 -- ---- lists
@@ -33,11 +33,7 @@ message_in uid mailbox = find (is_message_of_uid uid) mailbox.messages
 abbrev pub message_at : List ℕ → ℕ → Lists → Option ListedMessage
 message_at name uid lists = option_and_then (message_in uid) (mailbox_named name lists)
 
--- the first that passes is changed, or leaves
-abbrev pub change_first : {X : Type 0} → (X → Bool) → (X → X) → List X → List X
-change_first test change [] = []
-change_first test change (x ∷ xs) = if test x then change x ∷ xs else x ∷ change_first test change xs
-
+-- the first that passes leaves
 abbrev pub without_first : {X : Type 0} → (X → Bool) → List X → List X
 without_first test [] = []
 without_first test (x ∷ xs) = if test x then xs else x ∷ without_first test xs
@@ -74,7 +70,7 @@ count_different (text ∷ texts) = if list_any (bytes_eq text) texts then count_
 pub data Check : Type 0 where
   HasMailbox : (name : List ℕ) → Check
   IsNewName : (name : List ℕ) → Check
-  HasUid : (name : List ℕ) → (uid : ℕ) → Check
+  HasMessage : (name : List ℕ) → (uid : ℕ) → Check
   RoomForMailbox : Check
   RoomForMessage : (name : List ℕ) → Check
   NextUid : (name : List ℕ) → Check
@@ -98,7 +94,7 @@ is_used_up drawn = nat_le 4294967294 drawn
 abbrev pub refusal_at : Run → Lists → Check → Option Refusal
 refusal_at run lists (HasMailbox name) = refused_where (is_none (mailbox_named name lists)) refusal.NoMailbox
 refusal_at run lists (IsNewName name) = refused_where (is_some (mailbox_named name lists)) refusal.Exists
-refusal_at run lists (HasUid name uid) = refused_where (is_none (message_at name uid lists)) refusal.NoMessage
+refusal_at run lists (HasMessage name uid) = refused_where (is_none (message_at name uid lists)) refusal.NoMessage
 refusal_at run lists RoomForMailbox = refused_where (nat_le 1024 (length lists)) (refusal.TooManyMailboxes 1024)
 refusal_at run lists (RoomForMessage name) =
     refused_where (option_map_or (λ m. nat_le 1000000 (length m.messages)) (mailbox_named name lists) false) (refusal.MailboxFull 1000000)
@@ -121,8 +117,8 @@ first_refusal run lists (check ∷ checks) = option_or (refusal_at run lists che
 -- numbers, copies.
 abbrev pub copy_checks : List ℕ → ℕ → List ℕ → EventPart → List Check
 copy_checks name uid target First =
-    HasMailbox name ∷ HasMailbox target ∷ HasUid name uid ∷ RoomForMessage target ∷ NextUid target ∷ MayBeCopied name uid ∷ []
-copy_checks name uid target Last = HasMailbox name ∷ HasMailbox target ∷ HasUid name uid ∷ RoomForMessage target ∷ NextUid target ∷ []
+    HasMailbox name ∷ HasMailbox target ∷ HasMessage name uid ∷ RoomForMessage target ∷ NextUid target ∷ MayBeCopied name uid ∷ []
+copy_checks name uid target Last = HasMailbox name ∷ HasMailbox target ∷ HasMessage name uid ∷ RoomForMessage target ∷ NextUid target ∷ []
 copy_checks name uid target part = []
 
 abbrev pub deliver_checks : List ℕ → EventPart → List Check
@@ -146,11 +142,11 @@ purge_checks m files = NextFiles (length (with_targets m files)) ∷ map (λ t. 
 abbrev pub part_checks : Run → RunEvent → Request → EventPart → List Check
 part_checks run event (request.Deliver name time octets) part = deliver_checks name part
 part_checks run event (request.List name) First = HasMailbox name ∷ []
-part_checks run event (request.Fetch name uid) First = HasMailbox name ∷ HasUid name uid.0 ∷ []
-part_checks run event (request.Flag name uid flags) First = HasMailbox name ∷ HasUid name uid.0 ∷ []
+part_checks run event (request.Fetch name uid) First = HasMailbox name ∷ HasMessage name uid.0 ∷ []
+part_checks run event (request.Flag name uid flags) First = HasMailbox name ∷ HasMessage name uid.0 ∷ []
 part_checks run event (request.Copy name uid target) part = copy_checks name uid.0 target part
 part_checks run event (request.Move name uid target) part = copy_checks name uid.0 target part
-part_checks run event (request.Expunge name uid) First = HasMailbox name ∷ HasUid name uid.0 ∷ []
+part_checks run event (request.Expunge name uid) First = HasMailbox name ∷ HasMessage name uid.0 ∷ []
 part_checks run event (request.Make name) part = make_checks name part
 part_checks run event request.Purge First = purge_checks (map_of run) event.files
 part_checks run event request part = []
@@ -197,7 +193,7 @@ pub record AreCounts (run : Run) (lists : Lists) (records references counts inst
   pub records_are : records ≡ length (map_of run).records
   pub references_are : references ≡ sum_by (λ mailbox. length mailbox.messages) lists
   pub counts_are : counts ≡ sum_by (λ row. row.count) (map_of run).records
-  pub instances_are : instances ≡ count_different (map (λ instance. instance.id.0) (named (map_of run)))
+  pub instances_are : instances ≡ count_different (map (λ instance. instance.id.0) (named_instances (map_of run)))
 
 -- The numbers of a purge: what its own events dropped, doomed or removed.
 pub record ArePurged (run : Run) (event : RunEvent) (dropped files instances : ℕ) : Type 0 where
@@ -218,7 +214,7 @@ IsSecondHalf old name uid gone new =
 -- From the old lists a part of a request that isn't refused may give this reply and lead to the new lists.
 abbrev pub Does : Run → RunEvent → Lists → Request → EventPart → Reply → Lists → Type 0
 Does run event old (request.List name) First (reply.Listed rows) new =
-    (mailbox : Mailbox) × (mailbox_named name old ≡ Some mailbox) × (rows ≡ map row_of mailbox.messages) × (new ≡ old)
+    (mailbox : Mailbox) × (mailbox_named name old ≡ Some mailbox) × (rows ≡ map listing_row mailbox.messages) × (new ≡ old)
 Does run event old (request.Fetch name uid) First (reply.Fetched octets) new =
     (message : ListedMessage) × (message_at name uid.0 old ≡ Some message) × (octets ≡ message.octets) × (new ≡ old)
 Does run event old (request.Flag name uid flags) First reply.Done new = new ≡ set_flags name uid.0 flags old

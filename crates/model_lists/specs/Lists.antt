@@ -1,6 +1,6 @@
 -- Mailbox lists: what a user sees of a store.
 use Rattle.mdbox_base.specs.declared.replies.ListRow.{ListRow}
-use Rattle.std.specs.Prelude.{◌≡◌, ◌≢◌, ◌<◌, ◌≤◌, ◌^◌, ℕ, List, length, All, AllPairs, sum_by, count_by, ◌∷◌, []}
+use Rattle.std.specs.Prelude.{◌≡◌, ◌≢◌, ◌<◌, ◌≤◌, ◌^◌, ℕ, Bool, List, length, All, AllPairs, sum_by, count_by, ◌∷◌, [], if◌then◌else◌}
 use Rattle.std.specs.Str.{bytes_eq}
 use Rattle.mdbox_base.specs.Words.{IsName}
 
@@ -59,9 +59,14 @@ refs_of lists guid = sum_by (λ mailbox. count_by (λ m. bytes_eq m.guid guid) m
 abbrev pub empty_mailbox : ℕ → List ℕ → Mailbox
 empty_mailbox number name = record { number = number; name = name; next_uid = 1; messages = [] }
 
+-- the first that passes is changed
+abbrev pub change_first : {X : Type 0} → (X → Bool) → (X → X) → List X → List X
+change_first test change [] = []
+change_first test change (x ∷ xs) = if test x then change x ∷ xs else x ∷ change_first test change xs
+
 -- a row of a listing
-abbrev pub row_of : ListedMessage → ListRow
-row_of message = record {
+abbrev pub listing_row : ListedMessage → ListRow
+listing_row message = record {
   uid = record { 0 = message.uid };
   flags = message.flags;
   size = length message.octets;
