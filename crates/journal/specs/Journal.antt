@@ -3,6 +3,8 @@ use Rattle.std.specs.Prelude.{◌≡◌, ◌≤◌, ◌<◌, ◌+◌, ◌-◌, �
 use Rattle.std.specs.Option.{option_map_or}
 use Rattle.mdbox_base.specs.Streams.{Rose}
 use Rattle.disk_model.specs.Disk.{Faults}
+use Rattle.mdbox_base.specs.declared.script.Half.{Half}
+use Rattle.mdbox_base.specs.declared.script.Half.TheVariants.{Whole, CopyHalf, ExpungeHalf}
 use Rattle.mdbox_base.specs.declared.requests.Request.{Request}
 use Rattle.mdbox_base.specs.declared.requests.Request.TheVariants as request
 use Rattle.mdbox_base.specs.declared.replies.Refusal.{Refusal}
@@ -18,11 +20,6 @@ abbrev pub Requests : Type 0
 Requests = List (ℕ × Request)
 
 -- A move makes two steps, first its copy and then its expunge; every other request makes one.
-pub data Half : Type 0 where
-  Whole : Half
-  CopyHalf : Half
-  ExpungeHalf : Half
-
 abbrev pub half_of : Request → EventPart → Half
 half_of (request.Move name uid target) SecondHalf = ExpungeHalf
 half_of (request.Move name uid target) part = CopyHalf
@@ -108,7 +105,7 @@ HasAllSteps (request.Move name uid target) steps (reply.Moved copied gone) = ste
 HasAllSteps (request.Move name uid target) steps last = ⊥
 HasAllSteps request steps last = steps ≡ last ∷ []
 
--- What a request replies, whose steps answered this: want of memory has no step, damage has that of the fetch, after a
+-- What a request replies, whose steps answered this: lack of memory has no step, damage has that of the fetch, after a
 -- fault there are the first steps, none or some; every other reply is that of the last step, and none is missing.
 abbrev pub IsReplyOf : Request → List Reply → Reply → Type 0
 IsReplyOf request steps (reply.Refused refusal.NoMemory) = steps ≡ []
@@ -147,7 +144,7 @@ LacksOrGoesOn run script journal i =
     ((asked : ℕ × Request) × (slice_get script i ≡ Some asked) × (length (steps_of i journal) < length (halves_of asked.1)))
     ⊎ ((n : ℕ) × (event : RunEvent) × (slice_get run.events n ≡ Some event) × (event.request ≡ i) × AreBefore (steps_of i journal) n)
 
--- a later request of the lane that can't go on: it has no step, and no reply but for want of memory or the fault
+-- a later request of the lane that can't go on: it has no step, and no reply but for lack of memory or the fault
 abbrev pub IsHalted : List JournalStep → List (Option Reply) → ℕ → Type 0
 IsHalted journal replies i = (steps_of i journal ≡ []) × ((given : Reply) → HasReply replies i given → (given ≡ reply.Refused refusal.NoMemory) ⊎ (given ≡ reply.Refused refusal.Stopped))
 
@@ -171,7 +168,7 @@ pub record IsLegal (start : Lists) (script : Requests) (run : Run) (journal : Li
   pub replied : AreReplied script journal replies
   pub causes : HaveCauses run script journal replies old new
 
--- ---- a stop
+-- ---- a crash
 
 -- What a failed append would have done: its events as they would have been, from this place of the run on, the number of
 -- device calls at which it began, and the steps that they would have made. Where no append failed, there are none.
@@ -196,7 +193,7 @@ AreBroken run script start journal broken = AreSteps (as_if run broken) script (
 abbrev pub acked : Run → List JournalStep → ℕ → ℕ
 acked run journal m = count_by (λ step. nat_le (moment_of run step) m) journal
 
--- A stop at this moment may leave these lists: those after the first entries, every acknowledged one among them, or those
+-- A crash at this moment may leave these lists: those after the first entries, every acknowledged one among them, or those
 -- after all entries and the broken steps, where the failed append had begun.
 abbrev pub Reached : Lists → Run → List JournalStep → Broken → ℕ → Lists → Type 0
 Reached start run journal broken m lists =
