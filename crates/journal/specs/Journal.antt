@@ -1,9 +1,10 @@
 -- The journal of a run: which steps were made, in their order, and when it is legal.
-use Rattle.std.specs.Prelude.{◌≡◌, ◌≤◌, ◌<◌, ◌+◌, ◌-◌, ◌^◌, ◌==◌, nat_le, min, ℕ, Bool, true, false, List, [], ◌∷◌, ◌++◌, length, map, filter, take, count_by, slice_get, if◌then◌else◌, Option, Some, None, AllPairs, ◌⊎◌}
+use Rattle.std.specs.Prelude.{◌≡◌, ◌≤◌, ◌<◌, ◌+◌, ◌-◌, ◌^◌, ◌==◌, nat_le, min, ℕ, Bool, true, false, List, [], ◌∷◌, ◌++◌, length, map, filter, take, count_by, slice_get, if◌then◌else◌, Option, Some, None, AllPairs, ◌⊎◌, All, drop}
 use Rattle.std.specs.Option.{option_map_or}
 use Rattle.mdbox_base.specs.Streams.{Rose}
 use Rattle.disk_model.specs.Disk.{Faults}
 use Rattle.mdbox_base.specs.declared.script.Half.{Half}
+use Rattle.mdbox_base.specs.declared.script.JournalEntry.{JournalEntry}
 use Rattle.mdbox_base.specs.declared.script.Half.TheVariants.{Whole, CopyHalf, ExpungeHalf}
 use Rattle.mdbox_base.specs.declared.requests.Request.{Request}
 use Rattle.mdbox_base.specs.declared.requests.Request.TheVariants as request
@@ -42,6 +43,20 @@ pub record JournalStep : Type 0 where
 -- the moment of a step: the number of device calls as its event ended
 abbrev pub moment_of : Run → JournalStep → ℕ
 moment_of run step = option_map_or (λ e. e.moment) (slice_get run.events step.event) 0
+
+-- What a store keeps of a step: its moment is the number of device calls as the run began, and the calls of the entry,
+-- which stand still at the top of a u64.
+pub record IsEntryOf (run : Run) (began : ℕ) (step : JournalStep) (entry : JournalEntry) : Type 0 where
+  pub lane_is : entry.lane ≡ step.lane
+  pub request_is : entry.request ≡ step.request
+  pub half_is : entry.half ≡ step.half
+  pub calls_are : entry.calls ≡ min (moment_of run step - began) (2 ^ 64 - 1)
+
+-- each entry is that of its step
+abbrev pub AreEntriesOf : Run → ℕ → List JournalStep → List JournalEntry → Type 0
+AreEntriesOf run began [] [] = Unit {0}
+AreEntriesOf run began (step ∷ steps) (entry ∷ entries) = IsEntryOf run began step entry × AreEntriesOf run began steps entries
+AreEntriesOf run began steps entries = ⊥
 
 -- the refusal that an answer is
 abbrev pub refusal_in : Reply → Option Refusal
@@ -188,6 +203,19 @@ as_if run broken = record run { events = take broken.place run.events ++ broken.
 -- The broken steps are steps on what the journal left, of the run as it would have been.
 abbrev pub AreBroken : Run → Requests → Lists → List JournalStep → Broken → Type 0
 AreBroken run script start journal broken = AreSteps (as_if run broken) script (left_by start journal) broken.steps
+
+-- These events would have been those that a stopped store refused: each of the same request and part.
+abbrev pub WouldHaveBeen : List RunEvent → List RunEvent → Type 0
+WouldHaveBeen failed [] = Unit {0}
+WouldHaveBeen [] (would ∷ rest) = ⊥
+WouldHaveBeen (event ∷ failed) (would ∷ rest) =
+    (event.refused ≡ Some refusal.Stopped) × (would.lane ≡ event.lane) × (would.request ≡ event.request) × (would.part ≡ event.part) × WouldHaveBeen failed rest
+
+-- The broken steps are those of the append that failed: behind the events before it, and begun no earlier than they ended.
+pub record IsOfFailure (run : Run) (broken : Broken) : Type 0 where
+  pub events : WouldHaveBeen (drop broken.place run.events) broken.events
+  pub steps : All (λ step. broken.place ≤ step.event) broken.steps
+  pub began : All (λ event. event.moment ≤ broken.began) (take broken.place run.events)
 
 -- how many entries are acknowledged at this moment
 abbrev pub acked : Run → List JournalStep → ℕ → ℕ

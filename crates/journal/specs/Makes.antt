@@ -9,7 +9,7 @@ use Rattle.model_lists.specs.Lists.{Lists}
 use Rattle.model_meaning.specs.MapMeaning.{MapMeaning, map_meaning}
 use Rattle.list_machine.specs.Run.{RunEvent, Run, before, and_then, map_of, drawn_of, reply_of}
 use Rattle.list_machine.specs.Machine.{Answers}
-use Rattle.journal.specs.Journal.{Requests, half_of, JournalStep, left_by, refusal_in, IsLegal, Broken, AreBroken}
+use Rattle.journal.specs.Journal.{Requests, half_of, JournalStep, left_by, refusal_in, IsLegal, Broken, AreBroken, IsOfFailure}
 use Rattle.journal.specs.Events.{Around, IsEvent, IsNextEvent, makes_step}
 
 -- A run has come to where a store stands: its entries mean the store's map, its numbers are those that the store has drawn,
@@ -93,4 +93,5 @@ pub record IsServed (start : Lists) (script : Requests) (run : Run) (journal : L
   pub given : AreReplies script run replies
   pub legal : IsLegal start script run journal replies old new
   pub broken_is : AreBroken run script start journal broken
+  pub of_failure : IsOfFailure run broken
   pub come : map_of run ≡ m
