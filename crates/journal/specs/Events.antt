@@ -452,6 +452,14 @@ has_memory RemovesInstance request = true
 has_memory Last request.Purge = true
 has_memory part request = false
 
+-- an event that was refused by a read fault
+abbrev pub is_fault : Option Refusal → Bool
+is_fault (Some refusal.ReadFault) = true
+is_fault refused = false
+
+abbrev pub is_faulted : RunEvent → Bool
+is_faulted event = is_fault event.refused
+
 -- A reply is a refusal if and only if an event of the request was refused, and then it is the last such refusal.
 abbrev pub last_refusal : List RunEvent → Option Refusal
 last_refusal [] = None

@@ -1,5 +1,5 @@
 // Laws of the events of a run.
-ghost use Rattle.std.specs.Prelude.{◌≡◌, ◌≤◌, ◌+◌, ◌++◌, ◌∷◌, ℕ, List, [], Option, Some, None, map, length, slice_get};
+ghost use Rattle.std.specs.Prelude.{◌≡◌, ◌≤◌, ◌+◌, ◌++◌, ◌∷◌, ℕ, List, [], Option, Some, None, map, length, slice_get, count_by};
 ghost use Rattle.disk_model.specs.Disk.{Faults};
 ghost use Rattle.mdbox_base.specs.declared.ids.Uid.{Uid};
 ghost use Rattle.mdbox_base.specs.declared.entries.Highest.{Highest};
@@ -12,10 +12,10 @@ ghost use Rattle.mdbox_base.specs.declared.replies.Reply.TheVariants as reply;
 ghost use Rattle.model_lists.specs.Lists.{Mailbox, Lists};
 ghost use Rattle.model_meaning.specs.MapMeaning.{MapRecord, MapMeaning, map_meaning, map_applied, no_numbers};
 ghost use Rattle.list_machine.specs.Run.{First, Run, RunEvent, and_then, drawn_also, own_events};
-ghost use Rattle.journal.specs.Journal.{Requests, JournalStep, AreSteps, left_by, IsLegal};
+ghost use Rattle.journal.specs.Journal.{is_read_fault, Requests, JournalStep, AreSteps, left_by, IsLegal};
 ghost use Rattle.journal.specs.GoesOn.{AllMayCome};
-ghost use Rattle.journal.specs.Events.{Around, IsRecord, IsNextEvent};
-ghost use Rattle.journal.specs.Makes.{HasCome, Makes, steps_made, AreNextEvents};
+ghost use Rattle.journal.specs.Events.{is_faulted, Around, IsRecord, IsNextEvent};
+ghost use Rattle.journal.specs.Makes.{HasCome, Makes, steps_made, AreNextEvents, AreReplies};
 ghost use Rattle.list_machine.specs.Machine.{mailbox_named, expunge, first_refusal, part_checks};
 ghost use Rattle.journal.specs.Stages.{ToRemove, ToLower, IsAtStage, removal};
 
@@ -30,6 +30,11 @@ pub fn runs_come_on()
 /// A run in which each event was the next of its lane goes on with one that is, and the step that it made.
 pub fn runs_go_on()
     ensures { (around after : ℕ → Around) (script : Requests) (start : Lists) (run : Run) (journal : List JournalStep) (request : Request) (event : RunEvent) (answer : Option Reply) (left : Lists) → AreSteps run script start journal → AreNextEvents around after script start run journal → IsNextEvent (around (length run.events)) (after (length run.events)) script run (left_by start journal) event → AreNextEvents around after script start (and_then run event) (journal ++ steps_made run request event answer left) }
+{}
+
+/// Replies of read faults are at most as many as the events that a read fault refused.
+pub fn read_faults_have_events()
+    ensures { (around after : ℕ → Around) (script : Requests) (start : Lists) (run : Run) (journal : List JournalStep) (replies : List (Option Reply)) → AreNextEvents around after script start run journal → AreReplies script run replies → count_by is_read_fault replies ≤ count_by is_faulted run.events }
 {}
 
 /// Where a task tells what its step made, the journal goes on by it.
