@@ -1,0 +1,6 @@
+pub mod AppendBoxLemmas
+pub mod AppendFileLemmas
+pub mod AppendMapLemmas
+pub mod AppendOpenLemmas
+pub mod AppendSafeLemmas
+pub mod AppendSafeMapLemmas
