@@ -19,7 +19,8 @@ use Rattle.model_meaning.proofs.MapSoundLemmas.{map_sound}
 use Rattle.model_octets.proofs.PairLemmas.{all_map}
 use Rattle.model_store.specs.Stands.{head_of, HasLog, HasBox, HasMap, StoresMessage, IsListed, AreListed, IsMailbox, AreMailboxes, NamesOwn, NamesAny, StoredOnce, KeepsDetached, StandsBy}
 use Rattle.model_store.proofs.SettledLemmas.{stands_carried}
-use Rattle.model_appends.specs.Appending.{SameBut, HasOneMore, CarryMore, IsMapStep}
+use Rattle.model_appends.specs.Appending.{SameBut, HasOneMore, CarryMore}
+use Rattle.model_appends.specs.MapAppending.{IsMapStep}
 use Rattle.model_appends.proofs.AppendFileLemmas.{message_as, SameButCount, count_back, carry_back, log_more, log_as, mixed, mixed-here, mixed-other, SameStored, map_stored, count_itself, kept_as}
 use Rattle.model_appends.proofs.AppendBoxLemmas.{once_as, detached_as}
 

@@ -1,7 +1,7 @@
 -- What an append to a log leaves of a settled disk.
 use Rattle.std.specs.Prelude.{◌≡◌, ◌≢◌, ◌≤◌, ℕ, true, false, Bool, List, [], ◌∷◌, ◌++◌, Option, Some, None, All, Contains, refl}
 use Rattle.std.proofs.Common.{sym, ◌∙◌, subst, ap}
-use Rattle.std.proofs.lemmas.List.Elements.{All-weaker}
+use Rattle.std.proofs.lemmas.List.Elements.{All-weaker, All-nil, All-cons}
 use Rattle.disk_model.specs.Disk.{Files, FileState, DiskState, IsImage, MayLeave, reading}
 use Rattle.disk_model.specs.Name.{same_name}
 use Rattle.disk_model.proofs.NameLemmas.{same_name-true, same_name-apart}
@@ -24,7 +24,7 @@ use Rattle.model_store.specs.Settled.{files_of, IsSameRegion, HasSameRegion, Has
 use Rattle.model_store.proofs.SettledLemmas.{safe_carried, has_all_carried}
 use Rattle.model_store.specs.Carrying.{HasSameEntries, CarryOver, CarriesOver}
 use Rattle.model_store.proofs.CarryingLemmas.{each_name}
-use Rattle.model_appends.specs.Appending.{StatesBut, SameBut, HasOneMore, CarryMore, message_made, lists_by}
+use Rattle.model_appends.specs.Appending.{LeftBut, IsLogName, LeavesAsRead, IsBoxAppend, StatesBut, SameBut, HasOneMore, CarryMore, message_made, lists_by}
 use Rattle.model_appends.proofs.AppendFileLemmas.{log_as, mixed, mixed-here, mixed-other, same_but_mixed, carry_mixed, box_itself, SameStored, box_stored}
 use Rattle.model_appends.proofs.AppendBoxLemmas.{stands_by_box_entry}
 
@@ -48,10 +48,6 @@ carries_alike g m a b e (file.Inst hash id) =
     (λ inst t p q. let is : file.Inst inst.hash.0 inst.id.0 ≡ file.Inst hash id = cc (p, q) in subst (λ (n : FileName). b n ≡ a n) is t) row.instances s) m.records e.instances
 
 -- ---- images of a settled disk but for one log
-
--- of each other file the image has what a stop may leave
-abbrev pub LeftBut : FileName → DiskState → Files → Type 0
-LeftBut log disk image = (other : FileName) → other ≢ log → MayLeave (disk other) (image other)
 
 pub mixed_image : (log : FileName) (disk : DiskState) (image : Files) → IsImage disk (files_of disk) → LeftBut log disk image → IsImage disk (mixed log (files_of disk) image)
 mixed_image log disk image own left = λ name. by_test (same_name name log) name refl
@@ -121,10 +117,21 @@ more_log (Some x) b head entries entry h k = λ other others l.
 
 -- ---- the two kinds of images at every moment of an append
 
--- without the entry
-pub safe_without : (disk : DiskState) (lists : Lists) (log : FileName) (image : Files) → IsSettled disk lists → IsImage disk (files_of disk) → LeftBut log disk image → HasSameEntries (reading (disk log)) (image log)
-    → ((g : ℕ) (m : MapMeaning) → CarriesOver g m (files_of disk) log (image log)) → Safe image lists
-safe_without disk lists log image s own left same here =
+all_of : {X : Type 0} → (P : X → Type 0) → ((x : X) → P x) → (xs : List X) → All P xs
+all_of P f [] = All-nil P
+all_of P f (x ∷ xs) = All-cons P x xs (f x) (all_of P f xs)
+
+-- the same entries carry over, of a log
+log_carries : (log : FileName) (g : ℕ) (m : MapMeaning) (a : Files) (left : Option (List ℕ)) → IsLogName log → HasSameEntries (a log) left → CarriesOver g m a log left
+log_carries file.Root g m a left is same = same
+log_carries (file.Map k) g m a left is same = λ e. same
+log_carries (file.Box k l) g m a left is same = all_of (λ (box : MapBox). box.number ≡ k → box.generation ≡ l → HasSameEntries (a (file.Box k l)) left) (λ box p q. same) m.boxes
+log_carries (file.Mail n) g m a left is same = absurd (is.mails n refl)
+log_carries (file.Inst hash id) g m a left is same = absurd (is.instances hash id refl)
+
+-- An image with the log's entries and no more, which has of each other file what a crash may leave, is safe for the old lists.
+pub safe_without : (disk : DiskState) (lists : Lists) (log : FileName) (image : Files) → IsSettled disk lists → IsImage disk (files_of disk) → IsLogName log → LeftBut log disk image → HasSameEntries (reading (disk log)) (image log) → Safe image lists
+safe_without disk lists log image s own is left same =
     let g : ℕ = s.safe.stands.map_log.generation in
     let m : MapMeaning = map_meaning s.store s.entries in
     record {
@@ -135,15 +142,21 @@ safe_without disk lists log image s own left same here =
   where
     by_test : (t : Bool) (name : FileName) → same_name name log ≡ t → CarriesOver s.safe.stands.map_log.generation (map_meaning s.store s.entries) (files_of disk) name (image name)
     by_test true name e =
-        subst (λ (n : FileName). CarriesOver s.safe.stands.map_log.generation (map_meaning s.store s.entries) (files_of disk) n (image n)) (sym (same_name-true name log e)) (here s.safe.stands.map_log.generation (map_meaning s.store s.entries))
+        subst (λ (n : FileName). CarriesOver s.safe.stands.map_log.generation (map_meaning s.store s.entries) (files_of disk) n (image n)) (sym (same_name-true name log e))
+        (log_carries log s.safe.stands.map_log.generation (map_meaning s.store s.entries) (files_of disk) (image log) is same)
     by_test false name e = others_carry disk lists s log image own left name (same_name-apart name log e)
 
--- ---- afterwards
+-- With the entry of a mailbox log it is safe for the lists that this gives.
+pub safe_with_box_entry : (disk : DiskState) (lists : Lists) (box : MapBox) (octets : List ℕ) (e : BoxEntry) (image : Files) → (s : IsSettled disk lists) → IsImage disk (files_of disk) → IsBoxAppend (files_of disk) s.store s.entries lists box octets e
+    → LeftBut (file.Box box.number box.generation) disk image → HasOneMore (box_text e) (reading (disk (file.Box box.number box.generation))) (image (file.Box box.number box.generation)) → Safe image (lists_by box.number octets e lists)
+safe_with_box_entry disk lists box octets e image s own h left more = record {
+  store = s.store;
+  entries = s.entries;
+  by = safe_by_box_entry (files_of disk) image s.store s.entries lists box h.log octets e s.safe h.is_mailbox h.has h.in_range h.fits h.added h.counts
+      (record { more = more; others = others_carry disk lists s (file.Box box.number box.generation) image own left });
+}
 
--- a file that is neither a storage file nor an instance
-pub record IsLogName (log : FileName) : Type 0 where
-  pub mails : (n : ℕ) → file.Mail n ≢ log
-  pub instances : (hash id : List ℕ) → file.Inst hash id ≢ log
+-- ---- afterwards
 
 pub box_is_log : (k h : ℕ) → IsLogName (file.Box k h)
 box_is_log k h = record { mails = λ n e. absurd (cc e); instances = λ hash id e. absurd (cc e) }
@@ -185,7 +198,7 @@ left_before log old new image s is = λ other apart. subst (λ (f : FileState). 
 
 -- a disk that reads safe files is settled, where all but one log are as they were left, and the log is left as it reads
 pub settled_but : (old new : DiskState) (lists later : Lists) (log : FileName) (store : List ℕ) (entries : List MapEntry) → (s : IsSettled old lists) → IsImage old (files_of old) → IsLogName log → StatesBut log old new
-    → ((left : Option (List ℕ)) → MayLeave (new log) left → left ≡ reading (new log)) → (safe : SafeBy (files_of new) store entries later)
+    → LeavesAsRead log new → (safe : SafeBy (files_of new) store entries later)
     → ((image : Files) → IsImage new image → AreAlike safe.stands.map_log.generation (map_meaning store entries) (files_of old) (mixed log (files_of old) image)) → IsSettled new later
 settled_but old new lists later log store entries s own is states leaves safe alike = record {
   store = store;
@@ -199,7 +212,7 @@ pub settled_by_box_entry : (old new : DiskState) (lists : Lists) (box : MapBox) 
     → Contains (map_meaning s.store s.entries).boxes box → HasBox (files_of old) s.store box log → BoxInRange e → BoxFits (box_meaning log) e → AreListed (files_of old) (map_meaning s.store s.entries) (row_made e) (message_made octets e)
     → ((guid : List ℕ) → refs_of (lists_by box.number octets e lists) guid ≤ count_of (map_meaning s.store s.entries) guid)
     → StatesBut (file.Box box.number box.generation) old new → HasOneMore (box_text e) (reading (old (file.Box box.number box.generation))) (reading (new (file.Box box.number box.generation)))
-    → ((left : Option (List ℕ)) → MayLeave (new (file.Box box.number box.generation)) left → left ≡ reading (new (file.Box box.number box.generation))) → IsSettled new (lists_by box.number octets e lists)
+    → LeavesAsRead (file.Box box.number box.generation) new → IsSettled new (lists_by box.number octets e lists)
 settled_by_box_entry old new lists box log octets e s own there has in_range fits made counts states more leaves =
     let name : FileName = file.Box box.number box.generation in
     let m : MapMeaning = map_meaning s.store s.entries in
@@ -217,3 +230,13 @@ settled_by_box_entry old new lists box log octets e s own there has in_range fit
     let one : g ≡ safe.stands.map_log.generation = (root_same (files_of new) s.store s.store g safe.stands.map_log.generation root safe.stands.map_log.root).1 in
     settled_but old new lists (lists_by box.number octets e lists) name s.store s.entries s own (box_is_log box.number box.generation) states leaves safe
     (λ image i. subst (λ (k : ℕ). AreAlike k m (files_of old) (mixed name (files_of old) image)) one (others_alike old lists s name image own (left_before name old new image states i)))
+
+-- the same of an entry that can be appended
+pub safe_by_box_append : (a b : Files) (store : List ℕ) (entries : List MapEntry) (lists : Lists) (box : MapBox) (octets : List ℕ) (e : BoxEntry) → (s : SafeBy a store entries lists) → IsBoxAppend a store entries lists box octets e
+    → CarryMore (file.Box box.number box.generation) (box_text e) s.stands.map_log.generation (map_meaning store entries) a b → SafeBy b store entries (lists_by box.number octets e lists)
+safe_by_box_append a b store entries lists box octets e s h carry = safe_by_box_entry a b store entries lists box h.log octets e s h.is_mailbox h.has h.in_range h.fits h.added h.counts carry
+
+pub settled_by_box_append : (old new : DiskState) (lists : Lists) (box : MapBox) (octets : List ℕ) (e : BoxEntry) → (s : IsSettled old lists) → IsImage old (files_of old) → IsBoxAppend (files_of old) s.store s.entries lists box octets e
+    → StatesBut (file.Box box.number box.generation) old new → HasOneMore (box_text e) (reading (old (file.Box box.number box.generation))) (reading (new (file.Box box.number box.generation)))
+    → LeavesAsRead (file.Box box.number box.generation) new → IsSettled new (lists_by box.number octets e lists)
+settled_by_box_append old new lists box octets e s own h states more leaves = settled_by_box_entry old new lists box h.log octets e s own h.is_mailbox h.has h.in_range h.fits h.added h.counts states more leaves

@@ -1,25 +1,21 @@
 -- Files in which one log has an entry more, and the lists that the entry gives.
-use Rattle.std.specs.Prelude.{◌≡◌, ◌≢◌, ◌==◌, ℕ, max, Bool, false, List, [], ◌∷◌, ◌++◌, map, Option, Some, if◌then◌else◌}
-use Rattle.disk_model.specs.Disk.{Files, DiskState}
+use Rattle.std.specs.Prelude.{◌≡◌, ◌≢◌, ◌≤◌, ◌==◌, ℕ, max, Bool, false, List, [], ◌∷◌, ◌++◌, map, Option, Some, if◌then◌else◌, Contains}
+use Rattle.disk_model.specs.Disk.{Files, DiskState, MayLeave, reading}
 use Rattle.disk_model.specs.declared.name.FileName.{FileName}
+use Rattle.disk_model.specs.declared.name.FileName.TheVariants as file
 use Rattle.model_logs.specs.declared.log_head.LogHead.{LogHead}
 use Rattle.mdbox_base.specs.declared.entries.BoxEntry.{BoxEntry}
 use Rattle.mdbox_base.specs.declared.entries.BoxEntry.TheVariants as box
-use Rattle.model_lists.specs.Lists.{ListedMessage, Mailbox, Lists, change_first}
+use Rattle.model_lists.specs.Lists.{ListedMessage, Mailbox, Lists, change_first, refs_of}
 use Rattle.model_logs.specs.LogFile.{IsLogFile}
-use Rattle.model_meaning.specs.MapMeaning.{MapRecord, MapBox, MapMeaning, record_at}
-use Rattle.model_meaning.specs.MapFits.{HasRecord}
-use Rattle.model_store.specs.Stands.{StoresMessage, AreMailboxes, StoredOnce, KeepsDetached}
+use Rattle.model_meaning.specs.MapMeaning.{MapBox, map_meaning, count_of, MapMeaning}
+use Rattle.model_store.specs.Stands.{HasBox, AreListed}
 use Rattle.model_meaning.specs.Rows.{Rules, rows_by}
-use Rattle.model_meaning.specs.BoxMeaning.{BoxMeaning, next_named, box_meaning, box_applied, BoxFits}
+use Rattle.model_meaning.specs.BoxMeaning.{BoxMeaning, row_made, next_named, box_meaning, box_applied, BoxFits}
 use Rattle.model_store.specs.Carrying.{CarriesOver}
 use Rattle.model_store.specs.Listing.{meaning_numbered}
-use Rattle.mdbox_base.specs.declared.ids.FileNo.{FileNo}
-use Rattle.mdbox_base.specs.declared.ids.Guid.{Guid}
-use Rattle.mdbox_base.specs.declared.ids.MapUid.{MapUid}
-use Rattle.mdbox_base.specs.declared.entries.InstRow.{InstRow}
 use Rattle.mdbox_base.specs.declared.entries.MapEntry.{MapEntry}
-use Rattle.mdbox_base.specs.declared.entries.MapEntry.TheVariants as map_entry
+use Rattle.model_logs.specs.Entries.{BoxInRange}
 
 -- ---- files
 
@@ -39,6 +35,19 @@ SameBut log a b = (name : FileName) → name ≢ log → b name ≡ a name
 -- a disk on which no other file has changed
 abbrev pub StatesBut : FileName → DiskState → DiskState → Type 0
 StatesBut log old new = (other : FileName) → other ≢ log → new other ≡ old other
+
+-- a file that is neither a storage file nor an instance
+pub record IsLogName (log : FileName) : Type 0 where
+  pub mails : (n : ℕ) → file.Mail n ≢ log
+  pub instances : (hash id : List ℕ) → file.Inst hash id ≢ log
+
+-- of each other file the image has what a crash may leave
+abbrev pub LeftBut : FileName → DiskState → Files → Type 0
+LeftBut log disk image = (other : FileName) → other ≢ log → MayLeave (disk other) (image other)
+
+-- a crash leaves this file just as the disk reads it
+abbrev pub LeavesAsRead : FileName → DiskState → Type 0
+LeavesAsRead name disk = (left : Option (List ℕ)) → MayLeave (disk name) left → left ≡ reading (disk name)
 
 -- ---- lists
 
@@ -70,38 +79,6 @@ mailbox_by octets entry mailbox = record mailbox {
 abbrev pub lists_by : ℕ → List ℕ → BoxEntry → Lists → Lists
 lists_by number octets entry lists = change_first (λ mailbox. mailbox.number == number) (mailbox_by octets entry) lists
 
--- ---- entries of the map log
-
--- An entry of the map log changes its meaning from m to n in these files: no mailbox goes, those that it makes are there and
--- stand for these lists; each record that was found is still there, with its GUID, and stores what it stored; each attachment is
--- stored once, and own saves keep detached forms.
-pub record IsMapStep (files : Files) (m n : MapMeaning) (made : List MapBox) (added : Lists) : Type 0 where
-  pub boxes : n.boxes ≡ m.boxes ++ made
-  pub made_there : AreMailboxes files n made added
-  pub found : (uid : ℕ) (row : MapRecord) → record_at m uid ≡ Some row → HasRecord n uid (λ other. (other.guid ≡ row.guid) × ((octets : List ℕ) → StoresMessage files row octets → StoresMessage files other octets))
-  pub once : StoredOnce files n
-  pub detached : KeepsDetached files n
-
--- entries that change counts of records and nothing else
-abbrev pub ChangesCounts : MapEntry → Type 0
-ChangesCounts (map_entry.U uid) = Unit {0}
-ChangesCounts (map_entry.D uids) = Unit {0}
-ChangesCounts (map_entry.T counts) = Unit {0}
-ChangesCounts other = ⊥
-
--- the record that an `S` makes
-abbrev pub stored_row : ℕ → ℕ → MapUid → FileNo → ℕ → ℕ → Guid → List InstRow → MapRecord
-stored_row origin count uid file_no offset size guid instances = record {
-  uid = uid.0;
-  origin = origin;
-  count = count;
-  file = file_no.0;
-  offset = offset;
-  size = size;
-  guid = guid.0;
-  instances = instances;
-}
-
 -- ---- the logs, and what they mean
 
 -- the log of the mailbox with this number has the entry more
@@ -117,3 +94,17 @@ meanings_by number entry boxes meanings = meanings
 -- the entry fits behind the log of the mailbox with this number
 abbrev pub FitsIn : ℕ → BoxEntry → List MapBox → List (List BoxEntry) → Type 0
 FitsIn number e boxes logs = (m : BoxMeaning) × (meaning_numbered number boxes (map box_meaning logs) ≡ Some m) × BoxFits m e
+
+-- ---- an entry for the log of a mailbox
+
+-- An entry can be appended to the log of this mailbox of safe files: it is in range and fits behind the log's entries, a
+-- message that it adds is listed (its record is there and stores these octets), and the counts are enough for the lists
+-- that it gives.
+pub record IsBoxAppend (files : Files) (store : List ℕ) (entries : List MapEntry) (lists : Lists) (mailbox : MapBox) (octets : List ℕ) (e : BoxEntry) : Type 0 where
+  pub log : List BoxEntry
+  pub is_mailbox : Contains (map_meaning store entries).boxes mailbox
+  pub has : HasBox files store mailbox log
+  pub in_range : BoxInRange e
+  pub fits : BoxFits (box_meaning log) e
+  pub added : AreListed files (map_meaning store entries) (row_made e) (message_made octets e)
+  pub counts : (guid : List ℕ) → refs_of (lists_by mailbox.number octets e lists) guid ≤ count_of (map_meaning store entries) guid
