@@ -82,7 +82,7 @@ found_itself a n uid row h = (row, h, (refl, λ octets k. k))
 
 -- ---- the map log
 
-map_log_more : (a b : Files) (store : List ℕ) (entries : List MapEntry) (e : MapEntry) → (h : HasMap a store entries) → MapInRange e → MapFits (map_meaning store entries) e → SameBut (file.Map h.generation) a b
+pub map_log_more : (a b : Files) (store : List ℕ) (entries : List MapEntry) (e : MapEntry) → (h : HasMap a store entries) → MapInRange e → MapFits (map_meaning store entries) e → SameBut (file.Map h.generation) a b
     → HasOneMore (map_text e) (a (file.Map h.generation)) (b (file.Map h.generation)) → HasMap b store (entries ++ e ∷ [])
 map_log_more a b store entries e h in_range fits s more = record {
   generation = h.generation;
@@ -130,7 +130,7 @@ stands_by_map_entry a b store entries lists added made e s in_range fits step ca
 
 -- ---- entries that change counts alone
 
-find_changed : (f : MapRecord → MapRecord) → ((row : MapRecord) → SameButCount row (f row)) → (uid : ℕ) (rows : List MapRecord) (row : MapRecord) → find (λ r. r.uid == uid) rows ≡ Some row → find (λ r. r.uid == uid) (map f rows) ≡ Some (f row)
+pub find_changed : (f : MapRecord → MapRecord) → ((row : MapRecord) → SameButCount row (f row)) → (uid : ℕ) (rows : List MapRecord) (row : MapRecord) → find (λ r. r.uid == uid) rows ≡ Some row → find (λ r. r.uid == uid) (map f rows) ≡ Some (f row)
 find_changed f same uid [] row h = absurd (cc (let k : None ≡ Some row = h in k))
 find_changed f same uid (x ∷ xs) row h =
     ap (λ (n : ℕ). cond (n == uid) (Some (f x)) (find (λ (r : MapRecord). r.uid == uid) (map f xs))) (same x).uid ∙ by_test (x.uid == uid) (find (λ (r : MapRecord). r.uid == uid) xs) h (find_changed f same uid xs row)
@@ -186,7 +186,7 @@ counts_step files m n f same records boxes once detached =
 
 -- ---- an entry that stores a message, and one that makes a mailbox
 
-find_first : (p : MapRecord → Bool) (rows more : List MapRecord) (row : MapRecord) → find p rows ≡ Some row → find p (rows ++ more) ≡ Some row
+pub find_first : (p : MapRecord → Bool) (rows more : List MapRecord) (row : MapRecord) → find p rows ≡ Some row → find p (rows ++ more) ≡ Some row
 find_first p [] more row h = absurd (cc (let k : None ≡ Some row = h in k))
 find_first p (x ∷ xs) more row h = by_test (p x) (find p xs) (find p (xs ++ more)) h (find_first p xs more row)
   where

@@ -96,12 +96,12 @@ boxes_stay (entry.S o c u f a z g is) d m = absurd d
 boxes_stay (entry.P f t ms us) c m = absurd c
 boxes_stay (entry.E f) c m = boxes_by_sealed f m.boxes
 
-named_same : (f : MapRecord → MapRecord) → ((row : MapRecord) → SameButCount row (f row)) → (rows : List MapRecord) → flat_map (λ (r : MapRecord). r.instances) (map f rows) ≡ flat_map (λ (r : MapRecord). r.instances) rows
+pub named_same : (f : MapRecord → MapRecord) → ((row : MapRecord) → SameButCount row (f row)) → (rows : List MapRecord) → flat_map (λ (r : MapRecord). r.instances) (map f rows) ≡ flat_map (λ (r : MapRecord). r.instances) rows
 named_same f same [] = refl
 named_same f same (row ∷ rows) =
     ap (λ (is : List InstRow). is ++ flat_map (λ (r : MapRecord). r.instances) (map f rows)) (same row).instances ∙ ap (λ (is : List InstRow). row.instances ++ is) (named_same f same rows)
 
-lies_same : (a : Files) (row other : MapRecord) → SameButCount row other → LiesInFile a row → LiesInFile a other
+pub lies_same : (a : Files) (row other : MapRecord) → SameButCount row other → LiesInFile a row → LiesInFile a other
 lies_same a row other s h = record { octets = h.octets; there = ap (λ (n : ℕ). a (file.Mail n)) s.file ∙ h.there; inside = let e = s.offset in let f = s.size in let i = h.inside in omega (arith, e, f, i) }
 
 -- An entry that changes counts at most can be appended, where each count is still at least its references.
@@ -130,7 +130,7 @@ counts_append a store entries lists e s kind in_range fits counts =
 
 -- ---- a message that is stored
 
-all_more : {X : Type 0} → (P : X → Type 0) (xs : List X) (x : X) → All P xs → P x → All P (xs ++ x ∷ [])
+pub all_more : {X : Type 0} → (P : X → Type 0) (xs : List X) (x : X) → All P xs → P x → All P (xs ++ x ∷ [])
 all_more P xs x h p = All-append P xs (x ∷ []) h (All-cons P x [] p (All-nil P))
 
 -- An `S` can be appended, where its region and its instances are there, and what own saves ask holds with the new record too.
