@@ -1,3 +1,4 @@
+pub mod AmountLemmas
 pub mod AppendBoxLemmas
 pub mod AppendFileLemmas
 pub mod AppendMapLemmas
