@@ -328,7 +328,7 @@ accounted_each m (map_entry.G k g) logs due leak s have only fits may all = absu
 accounted_each m (map_entry.P f t ms us) logs due leak s have only fits may all = absurd only
 
 -- the logs with those that the entry makes
-listed_made : (e : MapEntry) (logs : List (List BoxEntry)) (uid : ℕ) → OnlyAdds e → listed_of (logs_made e logs) uid ≡ listed_of logs uid
+pub listed_made : (e : MapEntry) (logs : List (List BoxEntry)) (uid : ℕ) → OnlyAdds e → listed_of (logs_made e logs) uid ≡ listed_of logs uid
 listed_made (map_entry.U k) logs uid only = ap (λ (ls : List (List BoxEntry)). listed_of ls uid) (no_logs logs)
 listed_made (map_entry.D ks) logs uid only = ap (λ (ls : List (List BoxEntry)). listed_of ls uid) (no_logs logs)
 listed_made (map_entry.T cs) logs uid only = ap (λ (ls : List (List BoxEntry)). listed_of ls uid) (no_logs logs)

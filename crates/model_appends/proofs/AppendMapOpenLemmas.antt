@@ -37,7 +37,7 @@ kept_whole : {R : Type 0} → (rows : List R) → filter (λ row. not false) row
 kept_whole [] = refl
 kept_whole (row ∷ rows) = ap (λ (rs : _). row ∷ rs) (kept_whole rows)
 
-same_record : (e : MapEntry) → OnlyAdds e → (row : MapRecord) → SameButCount row (record_changed e row)
+pub same_record : (e : MapEntry) → OnlyAdds e → (row : MapRecord) → SameButCount row (record_changed e row)
 same_record (entry.U u) o row = same_but_count (entry.U u) tt row
 same_record (entry.D us) o row = same_but_count (entry.D us) tt row
 same_record (entry.T cs) o row = same_but_count (entry.T cs) tt row

@@ -1,5 +1,6 @@
 pub mod AmountLemmas
 pub mod AppendBoxLemmas
+pub mod AppendCountLemmas
 pub mod AppendFileLemmas
 pub mod AppendMapLemmas
 pub mod AppendMapOpenLemmas
