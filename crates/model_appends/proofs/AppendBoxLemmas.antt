@@ -133,8 +133,8 @@ mailbox_more a b m box log octets e x s has in_range fits made more h =
       name = h.name;
       next = ap (λ (n : ℕ). max n (next_named e)) (h.next ∙ ap next_after same) ∙ sym (next_more log e);
       messages =
-        subst (λ (rows : List LogRow). AreListed b m rows (rows_by (message_rules octets) e x.messages)) (sym (one_more row_rules log e))
-        (all_listed_as a b m _ _ s (listed_by a m octets e (rows_after log) x.messages (subst (λ (l : List BoxEntry). AreListed a m (rows_after l) x.messages) same h.messages) made));
+          subst (λ (rows : List LogRow). AreListed b m rows (rows_by (message_rules octets) e x.messages)) (sym (one_more row_rules log e))
+          (all_listed_as a b m _ _ s (listed_by a m octets e (rows_after log) x.messages (subst (λ (l : List BoxEntry). AreListed a m (rows_after l) x.messages) same h.messages) made));
     }
 
 mailbox_as : (a b : Files) (m : MapMeaning) (box : MapBox) (x : Mailbox) → SameStored a b → b (file.Box box.number box.generation) ≡ a (file.Box box.number box.generation) → IsMailbox a m box x → IsMailbox b m box x
@@ -154,9 +154,10 @@ mailboxes_as : (a b : Files) (m : MapMeaning) (k g : ℕ) (boxes : List MapBox) 
 mailboxes_as a b m k g [] [] s apart h = tt
 mailboxes_as a b m k g [] (x ∷ xs) s apart h = absurd h
 mailboxes_as a b m k g (box ∷ boxes) [] s apart h = absurd h
-mailboxes_as a b m k g (box ∷ boxes) (x ∷ xs) s apart h =
-    (mailbox_as a b m box x (box_stored k g a b s) (s (file.Box box.number box.generation) (other_box k g box.number box.generation (All-head (λ (o : MapBox). o.number ≢ k) box boxes apart))) h.0,
-    mailboxes_as a b m k g boxes xs s (All-tail (λ (o : MapBox). o.number ≢ k) box boxes apart) h.1)
+mailboxes_as a b m k g (box ∷ boxes) (x ∷ xs) s apart h = (
+  mailbox_as a b m box x (box_stored k g a b s) (s (file.Box box.number box.generation) (other_box k g box.number box.generation (All-head (λ (o : MapBox). o.number ≢ k) box boxes apart))) h.0,
+  mailboxes_as a b m k g boxes xs s (All-tail (λ (o : MapBox). o.number ≢ k) box boxes apart) h.1,
+)
 
 abbrev Rising : MapBox → MapBox → Type 0
 Rising x y = x.number < y.number
@@ -176,10 +177,11 @@ mailboxes_more a b m box log octets e (y ∷ boxes) (x ∷ xs) s has in_range fi
     by_test : (t : Bool) → (x.number == box.number) ≡ t → (Contains boxes box → AreMailboxes b m boxes (lists_by box.number octets e xs)) → AreMailboxes b m (y ∷ boxes) (if t then mailbox_by octets e x ∷ xs else x ∷ lists_by box.number octets e xs)
     by_test true is rest =
         let number : y.number ≡ box.number = sym h.0.number ∙ equal_is x.number box.number is in
-        let same : y ≡ box = elim (among y boxes box there) [ inl p ↦ p | inr c ↦ let less : y.number < box.number = All-contains (Rising y) boxes box above c in absurd (omega (arith, less, number)) ] in
-        (subst (λ (o : MapBox). IsMailbox b m o (mailbox_by octets e x)) (sym same)
-        (mailbox_more a b m box log octets e x (box_stored box.number box.generation a b s) has in_range fits made more (subst (λ (o : MapBox). IsMailbox a m o x) same h.0)),
-        mailboxes_as a b m box.number box.generation boxes xs s (All-weaker (Rising y) (λ (o : MapBox). o.number ≢ box.number) (λ o less p. absurd (omega (arith, less, number, p))) boxes above) h.1)
+        let same : y ≡ box = elim (among y boxes box there) [ inl p ↦ p | inr c ↦ let less : y.number < box.number = All-contains (Rising y) boxes box above c in absurd (omega (arith, less, number)) ] in (
+          subst (λ (o : MapBox). IsMailbox b m o (mailbox_by octets e x)) (sym same)
+              (mailbox_more a b m box log octets e x (box_stored box.number box.generation a b s) has in_range fits made more (subst (λ (o : MapBox). IsMailbox a m o x) same h.0)),
+          mailboxes_as a b m box.number box.generation boxes xs s (All-weaker (Rising y) (λ (o : MapBox). o.number ≢ box.number) (λ o less p. absurd (omega (arith, less, number, p))) boxes above) h.1,
+        )
     by_test false is rest =
         let apart : y.number ≢ box.number = λ p. false≢true (sym is ∙ equal_yes x.number box.number (h.0.number ∙ p)) in
         let later : Contains boxes box = elim (among y boxes box there) [ inl p ↦ absurd (apart (ap (λ (o : MapBox). o.number) p)) | inr c ↦ c ] in

@@ -1,7 +1,7 @@
 -- References and counts, with an entry more: how many listed messages have a GUID, and that counts stay at least these.
 use Rattle.std.specs.Prelude.{◌≡◌, ◌≤◌, ◌+◌, ◌==◌, ℕ, Bool, true, false, not, cond, if◌then◌else◌, List, [], ◌∷◌, ◌++◌, map, filter, count_by, sum_by, Option, Some, None, All, Contains, refl}
 use Rattle.std.specs.Str.{bytes_eq}
-use Rattle.std.proofs.Common.{sym, ◌∙◌, subst, ap, arith, append-nil}
+use Rattle.std.proofs.Common.{sym, ◌∙◌, ap, arith, append-nil}
 use Rattle.std.proofs.lemmas.List.Elements.{All-contains, All-head}
 use Rattle.std.proofs.lemmas.List.Sums.{sum_by-cons, sum_by-append}
 use Rattle.disk_model.specs.Disk.{Files}
@@ -12,24 +12,24 @@ use Rattle.mdbox_base.specs.declared.entries.BoxEntry.{BoxEntry}
 use Rattle.mdbox_base.specs.declared.entries.BoxEntry.TheVariants as entry
 use Rattle.mdbox_base.specs.declared.entries.MapEntry.{MapEntry}
 use Rattle.model_lists.specs.Lists.{ListedMessage, Mailbox, Lists, refs_of, empty_mailbox}
+use Rattle.model_logs.specs.Entries.{BoxInRange}
 use Rattle.model_meaning.proofs.AppliedLemmas.{only_changes, only_adds, leaves}
 use Rattle.model_meaning.proofs.MapPlaceLemmas.{equal_is, equal_yes}
 use Rattle.model_meaning.proofs.MapSoundLemmas.{map_sound}
 use Rattle.model_meaning.specs.BoxMeaning.{LogRow, row_made}
-use Rattle.model_meaning.specs.MapFits.{MapFits}
-use Rattle.model_meaning.specs.MapMeaning.{MapRecord, MapBox, MapMeaning, map_meaning, record_changed, record_at, record_of, count_of, box_made}
+use Rattle.model_meaning.specs.MapMeaning.{MapRecord, MapBox, MapMeaning, map_meaning, record_changed, record_of, count_of, box_made}
 use Rattle.model_meaning.specs.Sound.{IsSoundMap}
 use Rattle.model_octets.proofs.SearchLemmas.{found_one, text_is}
-use Rattle.model_store.proofs.OpeningSafeLemmas.{at_uid, count_is, unlisted, opens_safe, listed_are_refs}
+use Rattle.model_store.proofs.OpeningSafeLemmas.{have_records, at_uid, count_is, unlisted, opens_safe, listed_are_refs}
 use Rattle.model_store.specs.GoodLogs.{AreGoodLogs}
 use Rattle.model_store.specs.Opening.{HasItsRecord, IsCounted, Opens, listed_of}
-use Rattle.model_store.specs.Safe.{SafeBy}
-use Rattle.model_store.specs.Stands.{StandsBy}
+use Rattle.model_store.specs.Stands.{AreListed, StandsBy}
 use Rattle.model_appends.specs.Amounts.{bit}
-use Rattle.model_appends.specs.Appending.{message_made, message_changed, mailbox_by, lists_by, logs_by, FitsIn}
+use Rattle.model_appends.specs.Appending.{IsBoxAppend, message_made, message_changed, mailbox_by, lists_by, logs_by, FitsIn}
 use Rattle.model_appends.specs.MapAppending.{OnlyAdds, lists_made, logs_made}
 use Rattle.model_appends.proofs.AmountLemmas.{listed_added, listed_made}
 use Rattle.model_appends.proofs.AppendFileLemmas.{SameButCount}
+use Rattle.model_appends.proofs.AppendOpenLemmas.{log_there}
 use Rattle.model_appends.proofs.AppendMapOpenLemmas.{found_added, same_record}
 
 -- ---- references by the entries of a mailbox log
@@ -168,6 +168,24 @@ counts_by_box_entry files store entries logs lists number octets (entry.A u f t 
         let a = refs_added number octets u f t z k g lists guid in
         let c : bit (bytes_eq g.0 guid) ≡ 1 = ap bit is in
         omega (arith, a, c, listed, count, more, b, enough)
+
+-- An entry that fits behind the log of a mailbox of files that open and stand for lists can be appended, where a message that
+-- it adds is listed, and each count is at least what the logs list with the entry.
+pub box_append : (files : Files) (store : List ℕ) (entries : List MapEntry) (logs : List (List BoxEntry)) (lists : Lists) (box : MapBox) (octets : List ℕ) (e : BoxEntry) → Opens files store entries logs → StandsBy files store entries lists
+    → Contains (map_meaning store entries).boxes box → BoxInRange e → FitsIn box.number e (map_meaning store entries).boxes logs → AreListed files (map_meaning store entries) (row_made e) (message_made octets e)
+    → All (IsCounted (logs_by box.number e (map_meaning store entries).boxes logs)) (map_meaning store entries).records → IsBoxAppend files store entries lists box octets e
+box_append files store entries logs lists box octets e o s there in_range fits added counts =
+    let m : MapMeaning = map_meaning store entries in
+    let log = log_there files store entries logs box e o there fits in
+    record {
+      log = log.0;
+      is_mailbox = there;
+      has = log.1;
+      in_range = in_range;
+      fits = log.2;
+      added = added;
+      counts = counts_by_box_entry files store entries logs lists box.number octets e o s fits (have_records files m (row_made e) (message_made octets e) added) counts;
+    }
 
 -- no message is listed in a mailbox that is made
 refs_empty : (boxes : List MapBox) (guid : List ℕ) → refs_of (map (λ box. empty_mailbox box.number box.name) boxes) guid ≡ 0

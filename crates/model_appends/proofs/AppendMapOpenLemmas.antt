@@ -1,11 +1,10 @@
 -- Files open with one entry more in the map log, and good logs are good with it.
-use Rattle.std.specs.Prelude.{◌≡◌, ◌==◌, ◌+◌, ℕ, false, not, List, [], ◌∷◌, ◌++◌, length, map, filter, find, flat_map, Option, Some, All, refl}
+use Rattle.std.specs.Prelude.{◌≡◌, ◌==◌, ◌+◌, ℕ, false, not, List, [], ◌∷◌, ◌++◌, length, map, filter, find, flat_map, Some, All, refl}
 use Rattle.std.specs.List.{AllByRecursion}
 use Rattle.std.proofs.Common.{sym, ◌∙◌, subst, ap, suc, length-append}
 use Rattle.std.proofs.lemmas.List.Concat.{flat_map-append}
 use Rattle.std.proofs.lemmas.List.Elements.{All-nil, All-append, All-weaker, All-head, All-tail}
 use Rattle.disk_model.specs.Disk.{Files}
-use Rattle.disk_model.specs.declared.name.FileName.{FileName}
 use Rattle.disk_model.specs.declared.name.FileName.TheVariants as file
 use Rattle.mdbox_base.specs.declared.entries.InstRow.{InstRow}
 use Rattle.mdbox_base.specs.declared.entries.BoxEntry.{BoxEntry}
@@ -16,11 +15,11 @@ use Rattle.model_meaning.proofs.FitLemmas.{each_more, map_fit_more}
 use Rattle.model_meaning.proofs.MapLemmas.{map_more}
 use Rattle.model_meaning.specs.BoxMeaning.{LogRow, rows_after}
 use Rattle.model_meaning.specs.MapFits.{MapFits}
-use Rattle.model_meaning.specs.MapMeaning.{MapRecord, MapBox, MapMeaning, map_meaning, map_applied, record_rules, record_changed, record_made, box_rules, box_made, record_at, named}
+use Rattle.model_meaning.specs.MapMeaning.{MapRecord, MapBox, MapMeaning, map_meaning, record_rules, record_changed, record_made, box_rules, box_made, record_at, named}
 use Rattle.model_meaning.specs.Rows.{rows_by}
 use Rattle.model_octets.proofs.PairLemmas.{all_map}
 use Rattle.model_store.specs.GoodLogs.{AreGoodLogs}
-use Rattle.model_store.specs.Opening.{AreBoxEntries, HasItsRecord, PassesBox, PassBoxes, IsCounted, Opens}
+use Rattle.model_store.specs.Opening.{AreBoxEntries, HasItsRecord, PassBoxes, IsCounted, Opens}
 use Rattle.model_store.specs.Safe.{LiesInFile, IsThereWhole}
 use Rattle.model_store.specs.Stands.{HasBox}
 use Rattle.model_appends.specs.Appending.{HasOneMore, SameBut}
@@ -122,7 +121,7 @@ good_by_map_entry store entries logs e h only in_range fits counts =
       map_entries = (each_more MapInRange entries e h.map_entries.0 in_range, map_fit_more store [] entries e h.map_entries.1 fits);
       box_entries = by_append AreBoxEntries logs (map (λ box. []) (box_made e)) h.box_entries (of_made AreBoxEntries (tt, tt) (box_made e));
       one_each =
-        length-append logs (map (λ box. []) (box_made e)) ∙ added _ _ _ _ h.one_each (length_made (box_made e)) ∙ sym (length-append m.boxes (box_made e)) ∙ ap length (sym (boxes_added store entries e only));
+          length-append logs (map (λ box. []) (box_made e)) ∙ added _ _ _ _ h.one_each (length_made (box_made e)) ∙ sym (length-append m.boxes (box_made e)) ∙ ap length (sym (boxes_added store entries e only));
       records = by_append (λ log. All (HasItsRecord n) (rows_after log)) logs (map (λ box. []) (box_made e))
           (by_weaker (λ log. All (HasItsRecord m) (rows_after log)) (λ log. All (HasItsRecord n) (rows_after log))
           (λ log k. All-weaker (HasItsRecord m) (HasItsRecord n) (has_still store entries e only) (rows_after log) k) logs h.records)
@@ -140,21 +139,23 @@ passes_still : (a b : Files) (store : List ℕ) (entries : List MapEntry) (e : M
 passes_still a b store entries e g [] [] only s h = tt
 passes_still a b store entries e g [] (log ∷ logs) only s h = absurd h
 passes_still a b store entries e g (box ∷ boxes) [] only s h = absurd h
-passes_still a b store entries e g (box ∷ boxes) (log ∷ logs) only s h =
-    (record {
-      log = box_log_as a b store box log (s (file.Box box.number box.generation) (λ p. absurd (cc p))) h.0.log;
-      records = All-weaker (HasItsRecord (map_meaning store entries)) (HasItsRecord (map_meaning store (entries ++ e ∷ []))) (has_still store entries e only) (rows_after log) h.0.records;
-    },
-    passes_still a b store entries e g boxes logs only s h.1)
+passes_still a b store entries e g (box ∷ boxes) (log ∷ logs) only s h = (
+  record {
+    log = box_log_as a b store box log (s (file.Box box.number box.generation) (λ p. absurd (cc p))) h.0.log;
+    records = All-weaker (HasItsRecord (map_meaning store entries)) (HasItsRecord (map_meaning store (entries ++ e ∷ []))) (has_still store entries e only) (rows_after log) h.0.records;
+  },
+  passes_still a b store entries e g boxes logs only s h.1,
+)
 
 passes_made : (a b : Files) (n : MapMeaning) (g : ℕ) (boxes : List MapBox) → SameBut (file.Map g) a b → All (λ box. HasBox a n.store box []) boxes → PassBoxes b n boxes (map (λ box. []) boxes)
 passes_made a b n g [] s h = tt
-passes_made a b n g (box ∷ boxes) s h =
-    (record {
-      log = box_log_as a b n.store box [] (s (file.Box box.number box.generation) (λ p. absurd (cc p))) (All-head (λ (o : MapBox). HasBox a n.store o []) box boxes h);
-      records = All-nil (HasItsRecord n);
-    },
-    passes_made a b n g boxes s (All-tail (λ (o : MapBox). HasBox a n.store o []) box boxes h))
+passes_made a b n g (box ∷ boxes) s h = (
+  record {
+    log = box_log_as a b n.store box [] (s (file.Box box.number box.generation) (λ p. absurd (cc p))) (All-head (λ (o : MapBox). HasBox a n.store o []) box boxes h);
+    records = All-nil (HasItsRecord n);
+  },
+  passes_made a b n g boxes s (All-tail (λ (o : MapBox). HasBox a n.store o []) box boxes h),
+)
 
 passes_append : (b : Files) (n : MapMeaning) (boxes more : List MapBox) (logs later : List (List BoxEntry)) → PassBoxes b n boxes logs → PassBoxes b n more later → PassBoxes b n (boxes ++ more) (logs ++ later)
 passes_append b n [] more [] later h k = k

@@ -1,23 +1,21 @@
 -- Files open with one entry more in the log of a mailbox.
-use Rattle.std.specs.Prelude.{◌≡◌, ◌≢◌, ◌≤◌, ◌+◌, ◌==◌, ℕ, true, false, not, cond, Bool, if◌then◌else◌, List, [], ◌∷◌, ◌++◌, length, map, filter, Option, Some, None, All, count_by, sum_by, AllPairs, Contains, ◌<◌, refl}
+use Rattle.std.specs.Prelude.{◌≡◌, ◌≢◌, ◌+◌, ◌==◌, ℕ, true, false, cond, Bool, if◌then◌else◌, List, [], ◌∷◌, ◌++◌, length, map, Some, All, count_by, sum_by, AllPairs, Contains, ◌<◌, refl}
 use Rattle.std.specs.List.{AllByRecursion}
 use Rattle.std.proofs.Common.{sym, ◌∙◌, subst, ap, arith, suc, inl, inr}
 use Rattle.std.proofs.lemmas.Bool.{false≢true}
 use Rattle.std.proofs.lemmas.List.Elements.{All-append, All-weaker, All-head, All-tail, All-contains}
 use Rattle.std.proofs.lemmas.List.Sums.{sum_by-cons}
 use Rattle.disk_model.specs.Disk.{Files}
-use Rattle.disk_model.specs.declared.name.FileName.{FileName}
 use Rattle.disk_model.specs.declared.name.FileName.TheVariants as file
 use Rattle.mdbox_base.specs.declared.ids.Uid.{Uid}
 use Rattle.mdbox_base.specs.declared.entries.MapEntry.{MapEntry}
 use Rattle.mdbox_base.specs.declared.entries.BoxEntry.{BoxEntry}
 use Rattle.mdbox_base.specs.declared.entries.BoxEntry.TheVariants as entry
-use Rattle.model_meaning.specs.Rows.{rows_by}
 use Rattle.model_meaning.proofs.RowLemmas.{one_more}
 use Rattle.model_meaning.proofs.AppliedLemmas.{rows_by_flagged}
 use Rattle.model_meaning.specs.BoxMeaning.{LogRow, BoxMeaning, row_made, row_changed, row_rules, rows_after, box_meaning, box_applied, BoxFits}
 use Rattle.model_meaning.proofs.BoxLemmas.{box_more}
-use Rattle.model_meaning.specs.MapMeaning.{MapRecord, MapBox, MapMeaning, map_meaning}
+use Rattle.model_meaning.specs.MapMeaning.{MapBox, MapMeaning, map_meaning}
 use Rattle.model_logs.specs.Entries.{box_text, BoxInRange}
 use Rattle.model_meaning.proofs.FitLemmas.{each_more, box_fit_more}
 use Rattle.model_meaning.proofs.MapPlaceLemmas.{equal_is, equal_yes}
@@ -27,7 +25,7 @@ use Rattle.model_meaning.proofs.MapSoundLemmas.{map_sound}
 use Rattle.model_store.specs.Stands.{HasBox}
 use Rattle.model_store.specs.Safe.{LiesInFile, IsThereWhole}
 use Rattle.model_store.specs.Listing.{meaning_numbered}
-use Rattle.model_store.specs.Opening.{AreBoxEntries, HasItsRecord, PassesBox, PassBoxes, PassLogs, listed_of, IsCounted, Opens}
+use Rattle.model_store.specs.Opening.{AreBoxEntries, HasItsRecord, PassBoxes, listed_of, IsCounted, Opens}
 use Rattle.model_store.specs.GoodLogs.{AreGoodLogs}
 use Rattle.model_octets.proofs.PairLemmas.{pairs_head, pairs_tail}
 use Rattle.model_meaning.proofs.KeptRowLemmas.{kept_all}
@@ -112,9 +110,10 @@ passes_as : (a b : Files) (m : MapMeaning) (k g : ℕ) (boxes : List MapBox) (lo
 passes_as a b m k g [] [] s apart h = tt
 passes_as a b m k g [] (log ∷ logs) s apart h = absurd h
 passes_as a b m k g (box ∷ boxes) [] s apart h = absurd h
-passes_as a b m k g (box ∷ boxes) (log ∷ logs) s apart h =
-    (record { log = box_log_as a b m.store box log (s (file.Box box.number box.generation) (other_box k g box.number box.generation (All-head (λ (o : MapBox). o.number ≢ k) box boxes apart))) h.0.log; records = h.0.records },
-    passes_as a b m k g boxes logs s (All-tail (λ (o : MapBox). o.number ≢ k) box boxes apart) h.1)
+passes_as a b m k g (box ∷ boxes) (log ∷ logs) s apart h = (
+  record { log = box_log_as a b m.store box log (s (file.Box box.number box.generation) (other_box k g box.number box.generation (All-head (λ (o : MapBox). o.number ≢ k) box boxes apart))) h.0.log; records = h.0.records },
+  passes_as a b m k g boxes logs s (All-tail (λ (o : MapBox). o.number ≢ k) box boxes apart) h.1,
+)
 
 passes_more : (a b : Files) (m : MapMeaning) (box : MapBox) (e : BoxEntry) (boxes : List MapBox) (logs : List (List BoxEntry)) → SameBut (file.Box box.number box.generation) a b → BoxInRange e → All (HasItsRecord m) (row_made e)
     → HasOneMore (box_text e) (a (file.Box box.number box.generation)) (b (file.Box box.number box.generation)) → AllPairs Rising boxes → Contains boxes box → FitsIn box.number e boxes logs → PassBoxes a m boxes logs
@@ -134,16 +133,44 @@ passes_more a b m box e (y ∷ boxes) (log ∷ logs) s in_range made more rising
         let number : y.number ≡ box.number = equal_is y.number box.number is in
         let same : y ≡ box = elim (among y boxes box there) [ inl p ↦ p | inr c ↦ let less : y.number < box.number = All-contains (Rising y) boxes box above c in absurd (omega (arith, less, number)) ] in
         let found : Some (box_meaning log) ≡ Some k.0 = k.1 in
-        let fits : BoxFits (box_meaning log) e = subst (λ (n : BoxMeaning). BoxFits n e) (cc found) k.2 in
-        (record {
-          log = subst (λ (o : MapBox). HasBox b m.store o (log ++ e ∷ [])) (sym same) (box_log_more a b m.store box log e (subst (λ (o : MapBox). HasBox a m.store o log) same h.0.log) in_range fits more);
-          records = rows_have m e made log fits h.0.records;
-        },
-        passes_as a b m box.number box.generation boxes logs s (All-weaker (Rising y) (λ (o : MapBox). o.number ≢ box.number) (λ o less p. absurd (omega (arith, less, number, p))) boxes above) h.1)
+        let fits : BoxFits (box_meaning log) e = subst (λ (n : BoxMeaning). BoxFits n e) (cc found) k.2 in (
+          record {
+            log = subst (λ (o : MapBox). HasBox b m.store o (log ++ e ∷ [])) (sym same) (box_log_more a b m.store box log e (subst (λ (o : MapBox). HasBox a m.store o log) same h.0.log) in_range fits more);
+            records = rows_have m e made log fits h.0.records;
+          },
+          passes_as a b m box.number box.generation boxes logs s (All-weaker (Rising y) (λ (o : MapBox). o.number ≢ box.number) (λ o less p. absurd (omega (arith, less, number, p))) boxes above) h.1,
+        )
     by_test false is k rest =
         let apart : y.number ≢ box.number = λ p. false≢true (sym is ∙ equal_yes y.number box.number p) in
         let later : Contains boxes box = elim (among y boxes box there) [ inl p ↦ absurd (apart (ap (λ (o : MapBox). o.number) p)) | inr c ↦ c ] in
         (record { log = box_log_as a b m.store y log (s (file.Box y.number y.generation) (other_box box.number box.generation y.number y.generation apart)) h.0.log; records = h.0.records }, rest later (k.0, k.1, k.2))
+
+-- the log of a mailbox for which the entry is
+log_found : (a : Files) (m : MapMeaning) (box : MapBox) (e : BoxEntry) (boxes : List MapBox) (logs : List (List BoxEntry)) → AllPairs Rising boxes → Contains boxes box → FitsIn box.number e boxes logs → PassBoxes a m boxes logs
+    → (log : List BoxEntry) × HasBox a m.store box log × BoxFits (box_meaning log) e
+log_found a m box e [] [] rising there fits h = absurd (omega (arith, there.1))
+log_found a m box e [] (log ∷ logs) rising there fits h = absurd h
+log_found a m box e (y ∷ boxes) [] rising there fits h = absurd h
+log_found a m box e (y ∷ boxes) (log ∷ logs) rising there fits h = by_test (y.number == box.number) refl fits (λ c k. log_found a m box e boxes logs (pairs_tail Rising y boxes rising) c k h.1)
+  where
+    by_test : (t : Bool) → (y.number == box.number) ≡ t → ((n : BoxMeaning) × (cond t (Some (box_meaning log)) (meaning_numbered box.number boxes (map box_meaning logs)) ≡ Some n) × BoxFits n e)
+        → (Contains boxes box → FitsIn box.number e boxes logs → (log : List BoxEntry) × HasBox a m.store box log × BoxFits (box_meaning log) e) → (log : List BoxEntry) × HasBox a m.store box log × BoxFits (box_meaning log) e
+    by_test true is k rest =
+        let number : y.number ≡ box.number = equal_is y.number box.number is in
+        let same : y ≡ box = elim (among y boxes box there) [ inl p ↦ p | inr c ↦ let less : y.number < box.number = All-contains (Rising y) boxes box (pairs_head Rising y boxes rising) c in absurd (omega (arith, less, number)) ] in
+        let found : Some (box_meaning log) ≡ Some k.0 = k.1 in
+        (log, subst (λ (o : MapBox). HasBox a m.store o log) same h.0.log, subst (λ (n : BoxMeaning). BoxFits n e) (cc found) k.2)
+    by_test false is k rest =
+        let apart : y.number ≢ box.number = λ p. false≢true (sym is ∙ equal_yes y.number box.number p) in
+        let later : Contains boxes box = elim (among y boxes box there) [ inl p ↦ absurd (apart (ap (λ (o : MapBox). o.number) p)) | inr c ↦ c ] in
+        rest later (k.0, k.1, k.2)
+
+pub log_there : (files : Files) (store : List ℕ) (entries : List MapEntry) (logs : List (List BoxEntry)) (box : MapBox) (e : BoxEntry) → Opens files store entries logs → Contains (map_meaning store entries).boxes box
+    → FitsIn box.number e (map_meaning store entries).boxes logs → (log : List BoxEntry) × HasBox files store box log × BoxFits (box_meaning log) e
+log_there files store entries logs box e o there fits =
+    let m : MapMeaning = map_meaning store entries in
+    let sound : IsSoundMap m = map_sound store entries o.passed.map_log.fit o.passed.map_log.in_range in
+    log_found files m box e m.boxes logs sound.boxes_rising there fits o.passed.boxes
 
 -- Files that open, with the entry in the log of a mailbox and all else the same, open.
 pub opens_by_box_entry : (a b : Files) (store : List ℕ) (entries : List MapEntry) (logs : List (List BoxEntry)) (box : MapBox) (e : BoxEntry) → Opens a store entries logs → Contains (map_meaning store entries).boxes box → BoxInRange e

@@ -1,16 +1,16 @@
 -- Safe, with one entry more in the map log.
-use Rattle.std.specs.Prelude.{◌≡◌, ◌≢◌, ◌≤◌, ◌+◌, ◌-◌, ◌==◌, ℕ, Bool, true, false, if◌then◌else◌, List, [], ◌∷◌, ◌++◌, length, take, drop, map, flat_map, Option, Some, All, refl, find, count_by}
+use Rattle.std.specs.Prelude.{◌≡◌, ◌≤◌, ◌+◌, ◌-◌, ◌==◌, ℕ, Bool, true, false, if◌then◌else◌, List, [], ◌∷◌, ◌++◌, length, take, drop, map, flat_map, Option, All, refl, find, count_by}
 use Rattle.std.proofs.Common.{sym, ◌∙◌, subst, ap, arith, append-nil}
 use Rattle.std.specs.Option.{option_map_or}
 use Rattle.std.specs.Str.{bytes_eq}
 use Rattle.std.proofs.lemmas.List.Concat.{flat_map-append}
 use Rattle.std.proofs.lemmas.List.Sums.{sum_by-append}
-use Rattle.std.proofs.lemmas.List.Elements.{All-weaker, All-nil, All-cons, All-append, All-head}
+use Rattle.std.proofs.lemmas.List.Elements.{All-nil, All-cons, All-append, All-head}
 use Rattle.mdbox_base.specs.declared.ids.FileNo.{FileNo}
 use Rattle.mdbox_base.specs.declared.ids.BoxNo.{BoxNo}
 use Rattle.mdbox_base.specs.declared.ids.Guid.{Guid}
 use Rattle.model_lists.specs.Lists.{empty_mailbox, ListedMessage, Mailbox, Lists, refs_of}
-use Rattle.disk_model.specs.Disk.{Files, DiskState, IsImage, MayLeave, reading}
+use Rattle.disk_model.specs.Disk.{Files, DiskState, IsImage, reading}
 use Rattle.disk_model.specs.declared.name.FileName.{FileName}
 use Rattle.disk_model.specs.declared.name.FileName.TheVariants as file
 use Rattle.mdbox_base.specs.declared.entries.InstRow.{InstRow}
@@ -18,16 +18,16 @@ use Rattle.mdbox_base.specs.declared.entries.MapEntry.{MapEntry}
 use Rattle.mdbox_base.specs.declared.entries.MapEntry.TheVariants as entry
 use Rattle.mdbox_base.specs.declared.ids.MapUid.{MapUid}
 use Rattle.model_meaning.proofs.AppliedLemmas.{records_by_stored, boxes_by_stored, records_by_mailbox, boxes_by_mailbox, records_by_raised, records_by_lowered, records_by_counted, boxes_by_raised, boxes_by_lowered, boxes_by_counted, boxes_by_highest, boxes_by_sealed, only_changes}
-use Rattle.model_meaning.specs.MapMeaning.{MapRecord, MapBox, MapMeaning, map_meaning, map_applied, record_changed, has_uid, count_given, count_of, named}
+use Rattle.model_meaning.specs.MapMeaning.{MapRecord, MapBox, MapMeaning, map_meaning, map_applied, record_changed, record_made, box_made, has_uid, count_of, named}
 use Rattle.model_meaning.proofs.MapLemmas.{map_more}
 use Rattle.model_meaning.specs.MapFits.{MapFits}
 use Rattle.model_logs.specs.Entries.{map_text, MapInRange}
 use Rattle.model_octets.proofs.PairLemmas.{all_map}
 use Rattle.model_store.specs.Safe.{LiesInFile, IsThereWhole, HasAll, SafeBy, Safe}
 use Rattle.model_store.proofs.SettledLemmas.{has_all_carried}
-use Rattle.model_store.specs.Stands.{HasRoot, HasBox, StoredOnce, KeepsDetached, StandsBy}
+use Rattle.model_store.specs.Stands.{HasRoot, HasBox, StoredOnce, KeepsDetached}
 use Rattle.model_appends.specs.Appending.{LeftBut, LeavesAsRead, StatesBut, SameBut, HasOneMore, CarryMore}
-use Rattle.model_appends.specs.MapAppending.{IsMapAppend, IsSynced, OnlyAdds, ChangesCounts, stored_row, IsMapStep}
+use Rattle.model_appends.specs.MapAppending.{LeavesAlike, IsMapAppend, IsSynced, OnlyAdds, ChangesCounts, stored_row, IsMapStep}
 use Rattle.model_appends.proofs.AppendFileLemmas.{log_as, SameButCount, count_itself, mixed, mixed-other, map_stored, carry_back}
 use Rattle.model_store.specs.Settled.{files_of, HasSameRegion, HasSameInstance, AreAlike, IsSettled}
 use Rattle.model_store.specs.Carrying.{CarriesOver}
@@ -287,9 +287,33 @@ alike_added g store entries e disk image only synced held alike = subst (λ (n :
     by_kind (entry.G k h) o y = absurd o
     by_kind (entry.P f t ms us) o y = absurd o
 
+-- of a settled disk
+pub leaves_added : (disk : DiskState) (lists : Lists) (e : MapEntry) → (s : IsSettled disk lists) → OnlyAdds e → IsSynced disk e → LeavesAlike s.safe.stands.map_log.generation (map_meaning s.store (s.entries ++ e ∷ [])) disk
+leaves_added disk lists e s only synced = λ image held. alike_added s.safe.stands.map_log.generation s.store s.entries e disk image only synced held (s.alike image held)
+
+-- an entry that changes counts at most adds nothing that has to be synced
+nothing_synced : (disk : DiskState) (e : MapEntry) → record_made e ≡ [] → box_made e ≡ [] → IsSynced disk e
+nothing_synced disk e records boxes = record {
+  regions = λ image held. subst (λ (rows : List MapRecord). All (HasSameRegion (files_of disk) image) rows) (sym records) (All-nil (HasSameRegion (files_of disk) image));
+  instances = λ image held. subst (λ (rows : List MapRecord). All (λ (row : MapRecord). All (HasSameInstance (files_of disk) image) row.instances) rows) (sym records) (All-nil (λ (row : MapRecord). All (HasSameInstance (files_of disk) image) row.instances));
+  boxes = λ image held. subst (λ (bs : List MapBox). All (λ (box : MapBox). image (file.Box box.number box.generation) ≡ files_of disk (file.Box box.number box.generation)) bs) (sym boxes)
+      (All-nil (λ (box : MapBox). image (file.Box box.number box.generation) ≡ files_of disk (file.Box box.number box.generation)));
+}
+
+pub counts_synced : (disk : DiskState) (e : MapEntry) → ChangesCounts e → IsSynced disk e
+counts_synced disk (entry.U u) c = nothing_synced disk (entry.U u) refl refl
+counts_synced disk (entry.D us) c = nothing_synced disk (entry.D us) refl refl
+counts_synced disk (entry.T cs) c = nothing_synced disk (entry.T cs) refl refl
+counts_synced disk (entry.H h) c = nothing_synced disk (entry.H h) refl refl
+counts_synced disk (entry.E f) c = nothing_synced disk (entry.E f) refl refl
+counts_synced disk (entry.B k g n) c = absurd c
+counts_synced disk (entry.G k g) c = absurd c
+counts_synced disk (entry.S o c u f a z g is) d = absurd d
+counts_synced disk (entry.P f t ms us) c = absurd c
+
 -- An image with the entry, which has of each other file what a crash may leave, is safe for the lists that it gives.
 pub safe_with_map_entry : (disk : DiskState) (lists later : Lists) (e : MapEntry) (image : Files) → (s : IsSettled disk lists) → IsImage disk (files_of disk) → IsMapAppend (files_of disk) s.store s.entries lists later e
-    → ((left : Files) → IsImage disk left → AreAlike s.safe.stands.map_log.generation (map_meaning s.store (s.entries ++ e ∷ [])) (files_of disk) left) → LeftBut (file.Map s.safe.stands.map_log.generation) disk image
+    → LeavesAlike s.safe.stands.map_log.generation (map_meaning s.store (s.entries ++ e ∷ [])) disk → LeftBut (file.Map s.safe.stands.map_log.generation) disk image
     → HasOneMore (map_text e) (reading (disk (file.Map s.safe.stands.map_log.generation))) (image (file.Map s.safe.stands.map_log.generation)) → Safe image later
 safe_with_map_entry disk lists later e image s own h alike left more =
     let g : ℕ = s.safe.stands.map_log.generation in
@@ -307,7 +331,7 @@ safe_with_map_entry disk lists later e image s own h alike left more =
     }
 
 pub settled_by_map_append : (old new : DiskState) (lists later : Lists) (e : MapEntry) → (s : IsSettled old lists) → IsImage old (files_of old) → IsMapAppend (files_of old) s.store s.entries lists later e
-    → ((left : Files) → IsImage old left → AreAlike s.safe.stands.map_log.generation (map_meaning s.store (s.entries ++ e ∷ [])) (files_of old) left) → StatesBut (file.Map s.safe.stands.map_log.generation) old new
+    → LeavesAlike s.safe.stands.map_log.generation (map_meaning s.store (s.entries ++ e ∷ [])) old → StatesBut (file.Map s.safe.stands.map_log.generation) old new
     → HasOneMore (map_text e) (reading (old (file.Map s.safe.stands.map_log.generation))) (reading (new (file.Map s.safe.stands.map_log.generation))) → LeavesAsRead (file.Map s.safe.stands.map_log.generation) new → IsSettled new later
 settled_by_map_append old new lists later e s own h alike states more leaves =
     subst (λ (ls : Lists). IsSettled new ls) (sym h.is)

@@ -7,3 +7,4 @@ pub mod AppendMapOpenLemmas
 pub mod AppendOpenLemmas
 pub mod AppendSafeLemmas
 pub mod AppendSafeMapLemmas
+pub mod HeldLogLemmas

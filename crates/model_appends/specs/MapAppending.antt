@@ -14,7 +14,7 @@ use Rattle.model_logs.specs.Entries.{MapInRange}
 use Rattle.model_meaning.specs.MapFits.{MapFits, HasRecord}
 use Rattle.model_meaning.specs.MapMeaning.{MapRecord, MapBox, MapMeaning, map_meaning, record_at, record_made, box_made}
 use Rattle.model_store.specs.Safe.{HasAll}
-use Rattle.model_store.specs.Settled.{files_of, HasSameRegion, HasSameInstance}
+use Rattle.model_store.specs.Settled.{files_of, HasSameRegion, HasSameInstance, AreAlike}
 use Rattle.model_store.specs.Stands.{StoresMessage, AreMailboxes, StoredOnce, KeepsDetached}
 
 -- ---- kinds of entries
@@ -84,3 +84,7 @@ pub record IsSynced (disk : DiskState) (e : MapEntry) : Type 0 where
   pub regions : (image : Files) → IsImage disk image → All (HasSameRegion (files_of disk) image) (record_made e)
   pub instances : (image : Files) → IsImage disk image → All (λ row. All (HasSameInstance (files_of disk) image) row.instances) (record_made e)
   pub boxes : (image : Files) → IsImage disk image → All (λ box. image (file.Box box.number box.generation) ≡ files_of disk (file.Box box.number box.generation)) (box_made e)
+
+-- Whatever a crash leaves agrees with what the disk reads on all that a store reads by this meaning.
+abbrev pub LeavesAlike : ℕ → MapMeaning → DiskState → Type 0
+LeavesAlike generation m disk = (image : Files) → IsImage disk image → AreAlike generation m (files_of disk) image

@@ -73,7 +73,7 @@ passed_by image m (box ∷ boxes) (es ∷ logs) (x ∷ xs) p h = (by_log image m
 
 -- ---- they pass, and show the lists
 
-have_records : (image : Files) (m : MapMeaning) (rows : List LogRow) (xs : List ListedMessage) → AreListed image m rows xs → All (HasItsRecord m) rows
+pub have_records : (image : Files) (m : MapMeaning) (rows : List LogRow) (xs : List ListedMessage) → AreListed image m rows xs → All (HasItsRecord m) rows
 have_records image m [] [] l = All-nil (HasItsRecord m)
 have_records image m [] (x ∷ xs) l = absurd l
 have_records image m (row ∷ rows) [] l = absurd l
