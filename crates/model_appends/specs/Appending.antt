@@ -37,7 +37,7 @@ abbrev pub StatesBut : FileName → DiskState → DiskState → Type 0
 StatesBut log old new = (other : FileName) → other ≢ log → new other ≡ old other
 
 -- a file that is neither a storage file nor an instance
-pub record IsLogName (log : FileName) : Type 0 where
+pub record NamesLog (log : FileName) : Type 0 where
   pub mails : (n : ℕ) → file.Mail n ≢ log
   pub instances : (hash id : List ℕ) → file.Inst hash id ≢ log
 

@@ -21,7 +21,7 @@ use Rattle.disk_model.specs.Disk.{told_calls, Grows}
 use Rattle.mdbox_base.specs.declared.script.Half.TheVariants as half
 use Rattle.mdbox_base.specs.declared.progress.Did.TheVariants as did
 use Rattle.task_steps.specs.Step.{Seen, ShowsSeen, HasComeTo, Leads, and_told, DidEvent}
-use Rattle.task_steps.specs.ExpungeStages.{StandsAt, behind_box, behind_lowering}
+use Rattle.task_steps.specs.ExpungeStages.{StandsAtStage, behind_box, behind_lowering}
 
 fall : (b : Bool) → b ≡ true → b ≡ false → ⊥
 fall b t f = let k : true ≡ false = sym t ∙ f in cc k
@@ -40,9 +40,9 @@ done_as r e = cc e
 
 -- The message is removed: a step, and the task goes on.
 pub removing : (around after : Around) (run : Run) (lane place : ℕ) (said : List Reply) (name : List ℕ) (uid : Uid) (lists : Lists) (old : Seen) (meanings : List BoxMeaning) (history : Option History) (faults : Faults) (mailbox : Mailbox) (row : MapRecord)
-    → HasComeTo run old → StandsAt ToRemove (own_events place run) said → old.stopped ≡ false → first_refusal run lists (part_checks run (removal lane place mailbox uid row.uid (told_calls history)) (request.Expunge name uid) First) ≡ None
+    → HasComeTo run old → StandsAtStage ToRemove (own_events place run) said → old.stopped ≡ false → first_refusal run lists (part_checks run (removal lane place mailbox uid row.uid (told_calls history)) (request.Expunge name uid) First) ≡ None
     → mailbox_named name lists ≡ Some mailbox → IsRecord run lists name uid.0 row → ShowsSeen (behind_box old meanings history faults) (expunge name uid.0 lists) → Leads lists (expunge name uid.0 lists) old (behind_box old meanings history faults) → Grows old.history history → old.faults.reads ≤ faults.reads → old.faults.changes ≤ faults.changes
-    → (d : DidEvent around after run lane place said (request.Expunge name uid) lists old (behind_box old meanings history faults) (did.Step half.Whole) None) × StandsAt (ToLower row.uid) (own_events place run ++ d.makes.event ∷ []) (and_told said d.makes.answer)
+    → (d : DidEvent around after run lane place said (request.Expunge name uid) lists old (behind_box old meanings history faults) (did.Step half.Whole) None) × StandsAtStage (ToLower row.uid) (own_events place run ++ d.makes.event ∷ []) (and_told said d.makes.answer)
 unfolding removal_makes
 removing around after run lane place said name uid lists old meanings history faults mailbox row come stage runs allowed there is_record shows leads grows reads changes =
     let k = removal_makes around after run lane place name uid lists old.map old.drawn (told_calls old.history) (told_calls history) mailbox row come grows stage.0 allowed there is_record in (
@@ -66,7 +66,7 @@ removing around after run lane place said name uid lists old meanings history fa
 
 -- The count is lowered: no step, and the request ends with what its step said.
 pub lowering_ends : (around after : Around) (run : Run) (lane place : ℕ) (said : List Reply) (name : List ℕ) (uid : Uid) (lists : Lists) (old : Seen) (owed : ℕ) (history : Option History) (faults : Faults)
-    → HasComeTo run old → StandsAt (ToLower owed) (own_events place run) said → old.stopped ≡ false → ShowsSeen (behind_lowering old owed history faults) lists → Leads lists lists old (behind_lowering old owed history faults) → Grows old.history history → old.faults.reads ≤ faults.reads → old.faults.changes ≤ faults.changes
+    → HasComeTo run old → StandsAtStage (ToLower owed) (own_events place run) said → old.stopped ≡ false → ShowsSeen (behind_lowering old owed history faults) lists → Leads lists lists old (behind_lowering old owed history faults) → Grows old.history history → old.faults.reads ≤ faults.reads → old.faults.changes ≤ faults.changes
     → DidEvent around after run lane place said (request.Expunge name uid) lists old (behind_lowering old owed history faults) did.Quiet (Some reply.Done)
 unfolding lowering_makes
 lowering_ends around after run lane place said name uid lists old owed history faults come stage runs shows leads grows reads changes = record {

@@ -4,7 +4,7 @@ use Rattle.std.specs.Prelude.{◌≢◌, min, is_some, length, filter, count_by,
 use Rattle.std.proofs.lemmas.Grind.{common_steps}
 use Rattle.std.proofs.lemmas.List.{append-nil, map-append}
 use Rattle.std.proofs.lemmas.List.Elements.{All-head, All-tail, All-weaker, All-push, filter-append}
-use Rattle.disk_model.specs.Disk.{History, EachImage}
+use Rattle.disk_model.specs.Disk.{History, EachImage, told_calls}
 use Rattle.mdbox_base.specs.Streams.{Rose}
 use Rattle.disk_model.proofs.MomentLemmas.{each_image-begins}
 use Rattle.model_store.proofs.SettledLemmas.{settled_safe}
@@ -23,13 +23,12 @@ use Rattle.journal.specs.GoesOn.{RepliesAlso, MayReply}
 use Rattle.journal.proofs.LegalLemmas.{legal_reply}
 use Rattle.journal.proofs.ReachedLemmas.{get_last, legal_start, reached_last}
 use Rattle.journal.proofs.OwnEventLemmas.{own_more, own_other}
-use Rattle.journal.specs.Events.{Around}
+use Rattle.journal.specs.Events.{Around, is_faulted}
 use Rattle.journal.specs.Makes.{steps_made}
-use Rattle.disk_model.specs.Disk.{told_calls}
 use Rattle.mdbox_base.specs.declared.progress.Did.{Did}
 use Rattle.mdbox_base.specs.declared.progress.Did.TheVariants as did
 use Rattle.task_steps.specs.Step.{Seen, ShowsSeen, HasComeTo, Went, and_told, DidEvent}
-use Rattle.task_steps.specs.Serves.{IsReached, is_faulted, Serves, IsTurn}
+use Rattle.task_steps.specs.Serves.{IsReached, Serves, IsTurn}
 use Rattle.task_steps.proofs.GoingLemmas.{journal_by, serves_on}
 
 one_test : {X : Type 0} → (p : X → Bool) (x : X) (b : Bool) → p x ≡ b → filter p (x ∷ []) ≡ cond b (x ∷ []) []

@@ -11,9 +11,9 @@ use Rattle.journal.specs.Stages.{Stage, ToRemove, ToLower, IsAtStage}
 use Rattle.task_steps.specs.Step.{Seen}
 
 -- where an expunge stands: it has removed nothing, or it owes a record and its step said that it is done
-abbrev pub StandsAt : Stage → List RunEvent → List Reply → Type 0
-StandsAt ToRemove own said = IsAtStage ToRemove own × (said ≡ [])
-StandsAt (ToLower uid) own said = IsAtStage (ToLower uid) own × (said ≡ reply.Done ∷ [])
+abbrev pub StandsAtStage : Stage → List RunEvent → List Reply → Type 0
+StandsAtStage ToRemove own said = IsAtStage ToRemove own × (said ≡ [])
+StandsAtStage (ToLower uid) own said = IsAtStage (ToLower uid) own × (said ≡ reply.Done ∷ [])
 
 -- the store behind an append to a mailbox's log, and behind one that lowers a count
 abbrev pub behind_box : Seen → List BoxMeaning → Option History → Faults → Seen

@@ -1,4 +1,5 @@
 -- What the events since the beginning have made of a store.
+use Rattle.journal.specs.Events.{is_faulted, Around}
 use Rattle.std.specs.Prelude.{◌≡◌, ◌≤◌, ◌<◌, ℕ, Bool, count_by, true, false, List, [], All, Option, Some, None, length, slice_get}
 use Rattle.disk_model.specs.Disk.{Files, EachImage}
 use Rattle.mdbox_base.specs.Streams.{Rose}
@@ -10,26 +11,14 @@ use Rattle.mdbox_base.specs.declared.replies.Reply.TheVariants as reply
 use Rattle.model_lists.specs.Lists.{Lists}
 use Rattle.list_machine.specs.Run.{RunEvent, Run}
 use Rattle.journal.specs.Journal.{Requests, JournalStep, left_by, IsLegal, Broken, no_broken, AreBroken, Reached, HasReply, RoseBy, steps_of}
-use Rattle.journal.specs.Events.{Around}
 use Rattle.journal.specs.Makes.{AreNextEvents}
 use Rattle.model_store.specs.Safe.{Safe}
 use Rattle.model_store.specs.Settled.{IsSettledFor}
 use Rattle.task_steps.specs.Step.{Seen, ShowsSeen, HasComeTo}
 
-abbrev pub is_fault : Refusal → Bool
-is_fault refusal.ReadFault = true
-is_fault other = false
-
 -- At this moment the image is safe for lists that a stop may leave.
 abbrev pub IsReached : Lists → Run → List JournalStep → Broken → ℕ → Files → Type 0
 IsReached start run journal broken m image = (lists : Lists) × Reached start run journal broken m lists × Safe image lists
-
--- an event that was refused by a read fault
-abbrev pub is_faulted : RunEvent → Bool
-is_faulted event = elim event.refused [
-  | None ↦ false
-  | Some why ↦ is_fault why
-]
 
 -- A run of events, from these lists and from a store as it was seen then: the journal and the replies are legal, the run has
 -- come to the store, which shows what the journal left; a store that is stopped replied so, and no other. Of a disk that was

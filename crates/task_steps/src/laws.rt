@@ -5,10 +5,10 @@ ghost use Rattle.mdbox_base.specs.declared.replies.Reply.{Reply};
 ghost use Rattle.model_lists.specs.Lists.{Mailbox, Lists};
 ghost use Rattle.list_machine.specs.Run.{First, RunEvent, Run, and_then, own_events, reply_of};
 ghost use Rattle.journal.specs.Journal.{Requests, JournalStep, left_by, Broken, no_broken, HasReply, is_read_fault, steps_of};
-ghost use Rattle.journal.specs.Events.{Around, IsRecord, makes_step};
+ghost use Rattle.journal.specs.Events.{Around, IsRecord, makes_step, is_faulted};
 ghost use Rattle.journal.specs.Makes.{steps_made, AreReplies, AreTold};
 ghost use Rattle.journal.specs.GoesOn.{RepliesAlso};
-ghost use Rattle.disk_model.specs.Disk.{History, Faults};
+ghost use Rattle.disk_model.specs.Disk.{History, Faults, told_calls, Grows};
 ghost use Rattle.mdbox_base.specs.declared.ids.Uid.{Uid};
 ghost use Rattle.mdbox_base.specs.declared.replies.Reply.TheVariants as reply;
 ghost use Rattle.mdbox_base.specs.declared.requests.Request.TheVariants as request;
@@ -16,12 +16,11 @@ ghost use Rattle.model_meaning.specs.BoxMeaning.{BoxMeaning};
 ghost use Rattle.model_meaning.specs.MapMeaning.{MapRecord};
 ghost use Rattle.list_machine.specs.Machine.{mailbox_named, expunge, first_refusal, part_checks};
 ghost use Rattle.journal.specs.Stages.{ToRemove, ToLower, removal};
-ghost use Rattle.disk_model.specs.Disk.{told_calls, Grows};
-ghost use Rattle.task_steps.specs.ExpungeStages.{StandsAt, behind_box, behind_lowering};
+ghost use Rattle.task_steps.specs.ExpungeStages.{StandsAtStage, behind_box, behind_lowering};
 ghost use Rattle.mdbox_base.specs.declared.progress.Did.TheVariants as did;
 ghost use Rattle.mdbox_base.specs.declared.script.Half.TheVariants as half;
 ghost use Rattle.task_steps.specs.Step.{Seen, ShowsSeen, HasComeTo, Leads, and_told, DidEvent};
-ghost use Rattle.task_steps.specs.Serves.{is_faulted, Serves, IsTurn, Follows};
+ghost use Rattle.task_steps.specs.Serves.{Serves, IsTurn, Follows};
 ghost use Rattle.mdbox_base.specs.declared.progress.Did.{Did};
 
 /// A run of events goes on with one more, whatever task it is of.
@@ -71,10 +70,10 @@ pub fn replies_go_on()
 /// Both events of an expunge do as the clause of a step says, each from its stage, and the first leads to the second.
 pub fn expunges_step_twice()
     ensures removing { (around after : Around) (run : Run) (lane place : ℕ) (said : List Reply) (name : List ℕ) (uid : Uid) (lists : Lists) (old : Seen) (meanings : List BoxMeaning) (history : Option History) (faults : Faults) (mailbox : Mailbox) (row : MapRecord)
-        → HasComeTo run old → StandsAt ToRemove (own_events place run) said → old.stopped ≡ false → first_refusal run lists (part_checks run (removal lane place mailbox uid row.uid (told_calls history)) (request.Expunge name uid) First) ≡ None
+        → HasComeTo run old → StandsAtStage ToRemove (own_events place run) said → old.stopped ≡ false → first_refusal run lists (part_checks run (removal lane place mailbox uid row.uid (told_calls history)) (request.Expunge name uid) First) ≡ None
         → mailbox_named name lists ≡ Some mailbox → IsRecord run lists name uid.0 row → ShowsSeen (behind_box old meanings history faults) (expunge name uid.0 lists) → Leads lists (expunge name uid.0 lists) old (behind_box old meanings history faults) → Grows old.history history → old.faults.reads ≤ faults.reads → old.faults.changes ≤ faults.changes
-        → (d : DidEvent around after run lane place said (request.Expunge name uid) lists old (behind_box old meanings history faults) (did.Step half.Whole) None) × StandsAt (ToLower row.uid) (own_events place run ++ d.makes.event ∷ []) (and_told said d.makes.answer) }
+        → (d : DidEvent around after run lane place said (request.Expunge name uid) lists old (behind_box old meanings history faults) (did.Step half.Whole) None) × StandsAtStage (ToLower row.uid) (own_events place run ++ d.makes.event ∷ []) (and_told said d.makes.answer) }
     ensures lowering { (around after : Around) (run : Run) (lane place : ℕ) (said : List Reply) (name : List ℕ) (uid : Uid) (lists : Lists) (old : Seen) (owed : ℕ) (history : Option History) (faults : Faults)
-        → HasComeTo run old → StandsAt (ToLower owed) (own_events place run) said → old.stopped ≡ false → ShowsSeen (behind_lowering old owed history faults) lists → Leads lists lists old (behind_lowering old owed history faults) → Grows old.history history → old.faults.reads ≤ faults.reads → old.faults.changes ≤ faults.changes
+        → HasComeTo run old → StandsAtStage (ToLower owed) (own_events place run) said → old.stopped ≡ false → ShowsSeen (behind_lowering old owed history faults) lists → Leads lists lists old (behind_lowering old owed history faults) → Grows old.history history → old.faults.reads ≤ faults.reads → old.faults.changes ≤ faults.changes
         → DidEvent around after run lane place said (request.Expunge name uid) lists old (behind_lowering old owed history faults) did.Quiet (Some reply.Done) }
 {}
