@@ -1,6 +1,6 @@
 -- Relations of the states at two times, over calls.
-use Rattle.std.proofs.Common.{◌≡◌, ◌≢◌, inl, inr, Option, Some, None, refl, sym, ◌∙◌, subst}
-use Rattle.disk_model.specs.Disk.{FileState, DiskState, History, IfTold, IsTold, Between, SameState, Unchanged, AfterFailed, after, change, joined_by, reading}
+use Rattle.std.proofs.Common.{◌≡◌, ◌≢◌, inl, inr, Option, Some, None, refl, sym, subst}
+use Rattle.disk_model.specs.Disk.{FileState, DiskState, History, IfTold, IsTold, Between, SameState, Unchanged, AfterFailed, after, change, reading}
 use Rattle.disk_model.specs.declared.name.FileName.{FileName}
 use Rattle.disk_model.proofs.OneFileLemmas.{change-other}
 

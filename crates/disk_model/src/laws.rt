@@ -19,11 +19,9 @@ pub fn names_are_ordered()
     ensures boxes { (k l g h : ℕ) → (k < l) ⊎ ((k ≡ l) × (g < h)) → ⟦<FileName as Ord>⟧.cmp (file.Box k g) (file.Box l h) ≡ Less }
     ensures mails { (n m : ℕ) → n < m → ⟦<FileName as Ord>⟧.cmp (file.Mail n) (file.Mail m) ≡ Less }
     ensures insts { (a b i j : List ℕ) → (slice_cmp nat_cmp a b ≡ Less) ⊎ ((a ≡ b) × (slice_cmp nat_cmp i j ≡ Less)) → ⟦<FileName as Ord>⟧.cmp (file.Inst a i) (file.Inst b j) ≡ Less }
-{
-}
+{}
 
 /// A crash leaves of files at rest just what they read.
 pub fn images_of_disk_at_rest()
     ensures { (disk : DiskState) → ((name : FileName) → IsAtRest (disk name)) → (image : Files) → IsImage disk image ↔ ((name : FileName) → image name ≡ reading (disk name)) }
-{
-}
+{}
