@@ -5,7 +5,7 @@ use Rattle.model_storage.specs.Grammars.{Grammar, Begins, IsFrontOf, IsPrefixFre
 use Rattle.model_octets.proofs.PiecesLemmas.{split_same}
 use Rattle.dbox_file.specs.declared.reading.Flaw.{Flaw}
 use Rattle.dbox_file.specs.declared.reading.Flaw.TheVariants.{Short, Bad}
-use Rattle.dbox_file.specs.Reading.{Found, Flawed}
+use Rattle.dbox_file.specs.Reading.{StandsFirst, Flawed}
 
 -- of two fronts of one text, one is the front of the other
 pub two_fronts : (a b x y : List ℕ) → a ++ x ≡ b ++ y → ((c : List ℕ) × (a ≡ b ++ c)) ⊎ ((c : List ℕ) × (b ≡ a ++ c))
@@ -53,17 +53,17 @@ same_behind G K free s a r b x m n y gs ga e k =
     let h = free s a r (b ++ x) m n gs ga e in
     ((split_same s a r (b ++ x) (ap length h.0) e).1, subst (λ (v : _). K v b y) (sym h.1) k)
 
-behind_begins : {X Y : Type 0} → (G : Grammar X) (K : X → Grammar Y) → IsPrefixFree G → (t r : List ℕ) (x : X) → Found G t x r → Begins (Then G K) t → Begins (K x) r
+behind_begins : {X Y : Type 0} → (G : Grammar X) (K : X → Grammar Y) → IsPrefixFree G → (t r : List ℕ) (x : X) → StandsFirst G t x r → Begins (Then G K) t → Begins (K x) r
 behind_begins G K free t r x f q =
     let p = q.4 in
     let e : f.0 ++ r ≡ p.0 ++ (p.1 ++ q.1) = sym f.1 ∙ q.3 ∙ ap (λ (s : List ℕ). s ++ q.1) p.3 ∙ append_assoc p.0 p.1 q.1 in
     let k = same_behind G K free f.0 p.0 r p.1 q.1 x p.2 q.2 f.2 p.4 e p.5 in
     (p.1, q.1, q.2, k.0, k.1)
 
-behind_front : {X Y : Type 0} → (G : Grammar X) (K : X → Grammar Y) (t r : List ℕ) (x : X) → Found G t x r → IsFrontOf (K x) r → IsFrontOf (Then G K) t
+behind_front : {X Y : Type 0} → (G : Grammar X) (K : X → Grammar Y) (t r : List ℕ) (x : X) → StandsFirst G t x r → IsFrontOf (K x) r → IsFrontOf (Then G K) t
 behind_front G K t r x f q = (q.0, q.1, (f.0, r ++ q.0, x, ap (λ (s : List ℕ). s ++ q.0) f.1 ∙ append_assoc f.0 r q.0, f.2, q.2))
 
-behind_front_back : {X Y : Type 0} → (G : Grammar X) (K : X → Grammar Y) → IsPrefixFree G → (t r : List ℕ) (x : X) → Found G t x r → IsFrontOf (Then G K) t → IsFrontOf (K x) r
+behind_front_back : {X Y : Type 0} → (G : Grammar X) (K : X → Grammar Y) → IsPrefixFree G → (t r : List ℕ) (x : X) → StandsFirst G t x r → IsFrontOf (Then G K) t → IsFrontOf (K x) r
 behind_front_back G K free t r x f q =
     let p = q.2 in
     let e : f.0 ++ (r ++ q.0) ≡ p.0 ++ (p.1 ++ []) = sym (append_assoc f.0 r q.0) ∙ ap (λ (s : List ℕ). s ++ q.0) (sym f.1) ∙ p.3 ∙ ap (λ (s : List ℕ). p.0 ++ s) (sym (append-nil p.1)) in
@@ -71,12 +71,12 @@ behind_front_back G K free t r x f q =
     (q.0, q.1, subst (λ (o : List ℕ). K x o q.1) (sym (k.0 ∙ append-nil p.1)) k.1)
 
 -- behind the first a flaw of the second is one of both
-pub flawed_behind : {X Y : Type 0} → (G : Grammar X) (K : X → Grammar Y) → IsPrefixFree G → (t r : List ℕ) (x : X) (e : Flaw) → Found G t x r → Flawed (K x) r e → Flawed (Then G K) t e
+pub flawed_behind : {X Y : Type 0} → (G : Grammar X) (K : X → Grammar Y) → IsPrefixFree G → (t r : List ℕ) (x : X) (e : Flaw) → StandsFirst G t x r → Flawed (K x) r e → Flawed (Then G K) t e
 flawed_behind G K free t r x Short f g = (λ q. g.0 (behind_begins G K free t r x f q), behind_front G K t r x f g.1)
 flawed_behind G K free t r x Bad f g = (λ q. g.0 (behind_begins G K free t r x f q), λ q. g.1 (behind_front_back G K free t r x f q))
 
 -- what is found of the second behind the first is found of both
-pub found_behind : {X Y : Type 0} → (G : Grammar X) (K : X → Grammar Y) (t r s : List ℕ) (x : X) (y : Y) → Found G t x r → Found (K x) r y s → Found (Then G K) t y s
+pub found_behind : {X Y : Type 0} → (G : Grammar X) (K : X → Grammar Y) (t r s : List ℕ) (x : X) (y : Y) → StandsFirst G t x r → StandsFirst (K x) r y s → StandsFirst (Then G K) t y s
 found_behind G K t r s x y f g = (f.0 ++ g.0, f.1 ∙ ap (λ (o : List ℕ). f.0 ++ o) g.1 ∙ sym (append_assoc f.0 g.0 s), (f.0, g.0, x, refl, f.2, g.2))
 
 -- two grammars with the same spellings have the same flaws

@@ -9,7 +9,7 @@ use Rattle.std.proofs.lemmas.Grind.{common_steps}
 use Rattle.std.proofs.lemmas.List.{take-append-drop}
 use Rattle.mdbox_base.specs.Numbers.{IsHex}
 use Rattle.model_storage.proofs.FileLemmas.{run_same, line_of, first, second}
-use Rattle.model_storage.specs.Grammars.{Ends}
+use Rattle.model_storage.specs.Grammars.{RunEnds}
 use Rattle.model_storage.specs.StorageFile.{Line, IsField, field_text, values_of, is_letter, is_letter_or_digit, is_no_end, IsHeaderLine}
 use Rattle.dbox_file.specs.HeaderFields.{TimeFits, CanEnd, Completes, IsNextField, HasHeaderLine}
 use Rattle.dbox_file.proofs.RowLaws.{longer_value, none_before}
@@ -18,7 +18,7 @@ use Rattle.dbox_file.proofs.RunLaws.{all_joined}
 field_joined : (f : Line) (x : List ℕ) → field_text f ++ x ≡ 32 ∷ f.key ∷ (f.value ++ x)
 field_joined f x = refl
 
-fields_ends : (fs : List Line) → Ends is_letter_or_digit (flat_map field_text fs)
+fields_ends : (fs : List Line) → RunEnds is_letter_or_digit (flat_map field_text fs)
 fields_ends [] = tt
 fields_ends (f ∷ fs) = refl
 

@@ -10,7 +10,7 @@ use Rattle.model_storage.proofs.FileLemmas.{message_header_same}
 use Rattle.dbox_file.specs.declared.reading.Flaw.{Flaw}
 use Rattle.dbox_file.specs.declared.reading.Flaw.TheVariants.{Short}
 use Rattle.dbox_file.specs.MessageFound.{HasMessage}
-use Rattle.dbox_file.specs.Reading.{Found, FoundSome, Flawed, IsText, IsRun}
+use Rattle.dbox_file.specs.Reading.{StandsFirst, FoundSome, Flawed, IsText, IsRun}
 use Rattle.dbox_file.specs.Rows.{IsRows}
 use Rattle.dbox_file.specs.Sizes.{IsSize}
 use Rattle.dbox_file.proofs.Fronts.{Then, CanFollow, flawed_first, flawed_behind, found_behind, flawed_along}
@@ -102,15 +102,15 @@ header_flaw_size t r s e a b f =
     header_along t e (flawed_behind (IsText mark) (λ _. IsBehindMark) (text_free mark) t r a.0 e a.1
     (flawed_behind printing (λ _. IsBehindFiller) (run_free 10 (is_between 32 126)) r s b.0 e b.1 (flawed_first IsSize IsEndOf s e size_can f)))
 
-pub header_flaw_end : (t r s u : List ℕ) (n : ℕ) (e : Flaw) → FoundSome (IsText mark) t r → FoundSome (IsRun 10 (is_between 32 126)) r s → Found IsSize s n u → Flawed (IsText (10 ∷ [])) u e → Flawed IsMessageHeader t e
+pub header_flaw_end : (t r s u : List ℕ) (n : ℕ) (e : Flaw) → FoundSome (IsText mark) t r → FoundSome (IsRun 10 (is_between 32 126)) r s → StandsFirst IsSize s n u → Flawed (IsText (10 ∷ [])) u e → Flawed IsMessageHeader t e
 header_flaw_end t r s u n e a b d f =
     header_along t e (flawed_behind (IsText mark) (λ _. IsBehindMark) (text_free mark) t r a.0 e a.1
     (flawed_behind printing (λ _. IsBehindFiller) (run_free 10 (is_between 32 126)) r s b.0 e b.1
     (flawed_behind IsSize IsEndOf size_free s u n e d (flawed_along (IsText (10 ∷ [])) (IsEndOf n) (λ o x p. (n, (p, refl))) (λ o x p. (tt, p.0)) u e f))))
 
-pub header_found : (t r s u v : List ℕ) (n : ℕ) → FoundSome (IsText mark) t r → FoundSome (IsRun 10 (is_between 32 126)) r s → Found IsSize s n u → FoundSome (IsText (10 ∷ [])) u v → Found IsMessageHeader t n v
+pub header_found : (t r s u v : List ℕ) (n : ℕ) → FoundSome (IsText mark) t r → FoundSome (IsRun 10 (is_between 32 126)) r s → StandsFirst IsSize s n u → FoundSome (IsText (10 ∷ [])) u v → StandsFirst IsMessageHeader t n v
 header_found t r s u v n a b d f =
-    let all : Found IsHeaderInParts t n v = found_behind (IsText mark) (λ _. IsBehindMark) t r v a.0 n a.1
+    let all : StandsFirst IsHeaderInParts t n v = found_behind (IsText mark) (λ _. IsBehindMark) t r v a.0 n a.1
     (found_behind printing (λ _. IsBehindFiller) r s v b.0 n b.1
     (found_behind IsSize IsEndOf s u v n n d (f.1.0, f.1.1, (f.1.2, refl)))) in
     (all.0, all.1, header_of_parts all.0 n all.2)
@@ -160,7 +160,7 @@ block_flaw_lines t r e a f = flawed_along IsBlockInParts IsBlock block_of_parts 
 
 pub block_found : (t r s : List ℕ) → FoundSome (IsText trailer) t r → FoundSome (IsRows 1048572) r s → FoundSome IsBlock t s
 block_found t r s a f =
-    let all : Found IsBlockInParts t f.0 s = found_behind (IsText trailer) (λ _. IsRows 1048572) t r s a.0 f.0 a.1 f.1 in
+    let all : StandsFirst IsBlockInParts t f.0 s = found_behind (IsText trailer) (λ _. IsRows 1048572) t r s a.0 f.0 a.1 f.1 in
     let b = block_of_parts all.0 f.0 all.2 in
     (b.0, (all.0, all.1, b.1))
 
@@ -224,24 +224,24 @@ few_octets t size h = (
   (replicate (size - length t) 0, t ++ replicate (size - length t) 0, (omega (arith, h, length-append t (replicate (size - length t) 0), length-replicate {A = ℕ} (size - length t) 0), refl)),
 )
 
-pub message_flaw_body : (t r : List ℕ) (size : ℕ) → Found IsMessageHeader t size r → length r < size → Flawed IsMessage t Short
+pub message_flaw_body : (t r : List ℕ) (size : ℕ) → StandsFirst IsMessageHeader t size r → length r < size → Flawed IsMessage t Short
 message_flaw_body t r size a h =
     message_along t Short (flawed_behind IsMessageHeader IsBehindHeader message_header_same t r size Short a (flawed_first (IsBody size) IsBlockOf r Short (body_can size) (few_octets r size h)))
 
-body_found : (r : List ℕ) (size : ℕ) → size ≤ length r → Found (IsBody size) r (take size r) (drop size r)
+body_found : (r : List ℕ) (size : ℕ) → size ≤ length r → StandsFirst (IsBody size) r (take size r) (drop size r)
 body_found r size h = (take size r, sym (take-append-drop size r), (length-take-le size r h, refl))
 
 block_across : (body t : List ℕ) (e : Flaw) → Flawed IsBlock t e → Flawed (IsBlockOf body) t e
 block_across body t e f = flawed_along IsBlock (IsBlockOf body) (λ o ls p. (record { body = body; lines = ls }, (refl, p))) (λ o m p. (m.lines, p.1)) t e f
 
-pub message_flaw_block : (t r s : List ℕ) (size : ℕ) (e : Flaw) → Found IsMessageHeader t size r → size ≤ length r → s ≡ drop size r → Flawed IsBlock s e → Flawed IsMessage t e
+pub message_flaw_block : (t r s : List ℕ) (size : ℕ) (e : Flaw) → StandsFirst IsMessageHeader t size r → size ≤ length r → s ≡ drop size r → Flawed IsBlock s e → Flawed IsMessage t e
 message_flaw_block t r s size e a h es f =
     message_along t e (flawed_behind IsMessageHeader IsBehindHeader message_header_same t r size e a
     (flawed_behind (IsBody size) IsBlockOf (body_free size) r (drop size r) (take size r) e (body_found r size h) (block_across (take size r) (drop size r) e (subst (λ (o : List ℕ). Flawed IsBlock o e) es f))))
 
-pub message_found : (t r s u : List ℕ) (size : ℕ) → Found IsMessageHeader t size r → size ≤ length r → s ≡ drop size r → FoundSome IsBlock s u → HasMessage t size u
+pub message_found : (t r s u : List ℕ) (size : ℕ) → StandsFirst IsMessageHeader t size r → size ≤ length r → s ≡ drop size r → FoundSome IsBlock s u → HasMessage t size u
 message_found t r s u size a h es f =
     let m : Message = record { body = take size r; lines = f.0 } in
-    let behind : Found (IsBlockOf (take size r)) (drop size r) m u = (f.1.0, sym es ∙ f.1.1, (refl, f.1.2)) in
-    let all : Found IsMessageInParts t m u = found_behind IsMessageHeader IsBehindHeader t r u size m a (found_behind (IsBody size) IsBlockOf r (drop size r) u (take size r) m (body_found r size h) behind) in
+    let behind : StandsFirst (IsBlockOf (take size r)) (drop size r) m u = (f.1.0, sym es ∙ f.1.1, (refl, f.1.2)) in
+    let all : StandsFirst IsMessageInParts t m u = found_behind IsMessageHeader IsBehindHeader t r u size m a (found_behind (IsBody size) IsBlockOf r (drop size r) u (take size r) m (body_found r size h) behind) in
     (m, length-take-le size r h, (all.0, all.1, message_of_parts all.0 m all.2))

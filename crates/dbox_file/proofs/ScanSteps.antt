@@ -8,7 +8,7 @@ use Rattle.model_storage.specs.declared.places.PlaceError.{PlaceError}
 use Rattle.model_storage.specs.declared.places.PlaceError.TheVariants as at
 use Rattle.model_storage.specs.Grammars.{Begins}
 use Rattle.model_storage.proofs.ScanLemmas.{message_length}
-use Rattle.model_storage.specs.StorageFile.{Message, IsMessage, AreMessages, IsHeaderLine, place_at, places_from, StandsAt, PlaceGives, HasPlaces, StopsAt, IsRefused}
+use Rattle.model_storage.specs.StorageFile.{Message, IsMessage, AreMessages, IsHeaderLine, place_at, message_places_from, StandsAt, PlaceGives, HasPlaces, StopsAt, IsRefused}
 use Rattle.dbox_file.specs.HeaderFields.{HasHeaderLine}
 
 messages_more : (front first : List ℕ) (ms : List Message) (m : Message) → AreMessages front ms → IsMessage first m → AreMessages (front ++ first) (ms ++ m ∷ [])
@@ -16,11 +16,11 @@ messages_more front first [] m a p = (first, [], ap (λ (o : List ℕ). o ++ fir
 messages_more front first (n ∷ ms) m a p =
     (a.0, a.1 ++ first, ap (λ (o : List ℕ). o ++ first) a.2 ∙ append_assoc a.0 a.1 first, a.3, messages_more a.1 first ms m a.4 p)
 
-places_more : (front : List ℕ) (ms : List Message) (m : Message) (offset : ℕ) → AreMessages front ms → places_from offset (ms ++ m ∷ []) ≡ places_from offset ms ++ place_at (offset + length front) m ∷ []
+places_more : (front : List ℕ) (ms : List Message) (m : Message) (offset : ℕ) → AreMessages front ms → message_places_from offset (ms ++ m ∷ []) ≡ message_places_from offset ms ++ place_at (offset + length front) m ∷ []
 places_more front [] m offset a = ap (λ (n : ℕ). place_at n m ∷ []) (let n : offset ≡ offset + length front = omega (arith, ap length a) in n)
 places_more front (n ∷ ms) m offset a =
     let next : (place_at offset n).end + length a.1 ≡ offset + length front = omega (arith, message_length a.0 n offset a.3, ap length a.2, length-append a.0 a.1) in
-    ap (λ (ps : List MessageAt). place_at offset n ∷ ps) (places_more a.1 ms m (place_at offset n).end a.4 ∙ ap (λ (k : ℕ). places_from (place_at offset n).end ms ++ place_at k m ∷ []) next)
+    ap (λ (ps : List MessageAt). place_at offset n ∷ ps) (places_more a.1 ms m (place_at offset n).end a.4 ∙ ap (λ (k : ℕ). message_places_from (place_at offset n).end ms ++ place_at k m ∷ []) next)
 
 -- Up to this offset the file is a good header line and whole messages, which stand at these places.
 pub record IsScanned (file : List ℕ) (offset : ℕ) (places : List MessageAt) : Type 0 where
@@ -31,7 +31,7 @@ pub record IsScanned (file : List ℕ) (offset : ℕ) (places : List MessageAt) 
   pub begins : IsHeaderLine header 30
   pub whole : AreMessages front messages
   pub offset_is : offset ≡ length header + length front
-  pub places_are : places ≡ places_from (length header) messages
+  pub places_are : places ≡ message_places_from (length header) messages
 
 pub scanned_header : (file : List ℕ) (size : ℕ) (places : List MessageAt) → places ≡ [] → HasHeaderLine file size 30 → IsScanned file size places
 scanned_header file size places e h = record {
@@ -65,7 +65,7 @@ scanned_message file offset place old new s p e =
       offset_is = omega (arith, end, s.offset_is, length-append s.front p.0);
       places_are =
           e ∙ ap (λ (ps : List MessageAt). ps ++ place ∷ []) s.places_are
-          ∙ ap (λ (a : MessageAt). places_from (length s.header) s.messages ++ a ∷ []) (p.5 ∙ ap (λ (k : ℕ). place_at k m) s.offset_is)
+          ∙ ap (λ (a : MessageAt). message_places_from (length s.header) s.messages ++ a ∷ []) (p.5 ∙ ap (λ (k : ℕ). place_at k m) s.offset_is)
           ∙ sym (places_more s.front s.messages m (length s.header) s.whole);
     }
 

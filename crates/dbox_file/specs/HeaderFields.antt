@@ -2,7 +2,7 @@
 use Rattle.std.specs.Prelude.{◌≡◌, ◌≤◌, ℕ, Bool, true, false, Option, Some, None, List, [], ◌∷◌, ◌++◌, length, take, drop, flat_map, IsTrue, ◌⊎◌}
 use Rattle.std.specs.List.{AllByRecursion, list_all}
 use Rattle.mdbox_base.specs.Numbers.{IsHex}
-use Rattle.model_storage.specs.Grammars.{Ends}
+use Rattle.model_storage.specs.Grammars.{RunEnds}
 use Rattle.model_storage.specs.StorageFile.{Line, IsField, field_text, values_of, is_letter_or_digit, IsHeaderLine}
 
 -- a header line of this length, with this size of message headers, stands at the front
@@ -36,10 +36,10 @@ Completes size time text n = (fields : List Line) × (text ≡ flat_map field_te
 pub record IsNextField (text : List ℕ) (field : Line) (behind : List ℕ) : Type 0 where
   pub fits : IsField field
   pub spelled : text ≡ field_text field ++ behind
-  pub ends : Ends is_letter_or_digit behind
+  pub ends : RunEnds is_letter_or_digit behind
 
 -- so many letters and digits stand at the front, and no more
 pub record IsRunLength (text : List ℕ) (n : ℕ) : Type 0 where
   pub within : n ≤ length text
   pub each : IsTrue (list_all is_letter_or_digit (take n text))
-  pub ends : Ends is_letter_or_digit (drop n text)
+  pub ends : RunEnds is_letter_or_digit (drop n text)

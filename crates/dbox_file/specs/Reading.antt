@@ -6,12 +6,12 @@ use Rattle.dbox_file.specs.declared.reading.Flaw.{Flaw}
 use Rattle.dbox_file.specs.declared.reading.Flaw.TheVariants.{Short, Bad}
 
 -- a spelling of this value stands at the front, and this rest follows it
-abbrev pub Found : {X : Type 0} → Grammar X → List ℕ → X → List ℕ → Type 0
-Found G text value rest = (spelling : List ℕ) × (text ≡ spelling ++ rest) × G spelling value
+abbrev pub StandsFirst : {X : Type 0} → Grammar X → List ℕ → X → List ℕ → Type 0
+StandsFirst G text value rest = (spelling : List ℕ) × (text ≡ spelling ++ rest) × G spelling value
 
 -- a spelling stands at the front, and this rest follows it
 abbrev pub FoundSome : {X : Type 0} → Grammar X → List ℕ → List ℕ → Type 0
-FoundSome {X = X} G text rest = (value : X) × Found G text value rest
+FoundSome {X = X} G text rest = (value : X) × StandsFirst G text value rest
 
 -- no spelling stands at the front: the text is short where it is the front of one, else it is bad
 abbrev pub Flawed : {X : Type 0} → Grammar X → List ℕ → Flaw → Type 0

@@ -3,7 +3,7 @@ ghost use Rattle.std.specs.Prelude.{◌≡◌, ◌≤◌, ◌<◌, ◌+◌, ◌�
 ghost use Rattle.std.specs.Char.{is_ascii_hexdigit};
 ghost use Rattle.std.specs.List.{list_all};
 ghost use Rattle.model_storage.specs.StorageFile.{IsMessageHeader, IsBlock, IsMessage, PlaceGives};
-ghost use Rattle.dbox_file.specs.Reading.{Found, FoundSome, Flawed};
+ghost use Rattle.dbox_file.specs.Reading.{StandsFirst, FoundSome, Flawed};
 ghost use Rattle.dbox_file.specs.Sizes.{IsSize, is_zero_digit};
 ghost use Rattle.dbox_file.specs.MessageFound.{HasMessage};
 
@@ -67,7 +67,7 @@ fn message(text: &[u8]) -> Result<(u64, &[u8]), Flaw>
 
 /// The size of the body that the message header at the front tells, and what follows the header.
 fn message_header(text: &[u8]) -> Result<(u64, &[u8]), Flaw>
-    ensures found { IfOk result (λ x. Found IsMessageHeader text.now x.0 x.1.now) }
+    ensures found { IfOk result (λ x. StandsFirst IsMessageHeader text.now x.0 x.1.now) }
     ensures flaw { IfErr result (Flawed IsMessageHeader text.now) }
 {
     let rest = behind(text, MARK)?;
@@ -88,7 +88,7 @@ fn behind_block(text: &[u8]) -> Result<&[u8], Flaw>
 
 /// The size of a body in sixteen hexadecimal digits, and what follows them.
 fn body_size(text: &[u8]) -> Result<(u64, &[u8]), Flaw>
-    ensures found { IfOk result (λ x. Found IsSize text.now x.0 x.1.now) }
+    ensures found { IfOk result (λ x. StandsFirst IsSize text.now x.0 x.1.now) }
     ensures flaw { IfErr result (Flawed IsSize text.now) }
 {
     if text.len() < SIZE_DIGITS {

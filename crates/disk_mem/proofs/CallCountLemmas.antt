@@ -5,7 +5,7 @@ use Rattle.disk_model.specs.Disk.{History, calls, joined_by}
 use Rattle.disk_mem.specs.declared.file.File.{File}
 use Rattle.disk_mem.specs.declared.note.Note.{Note}
 use Rattle.disk_mem.specs.Left.{calls_by}
-use Rattle.disk_mem.specs.Record.{stepped, waited, played, begun, told_of}
+use Rattle.disk_mem.specs.Record.{stepped, waited, played, from_rest, told_of}
 use Rattle.disk_mem.proofs.HistoryLemmas.{waited-calls}
 
 played-calls : (notes : List Note) (h : History) → calls (played notes h) ≡ calls h + sum_by calls_by notes
@@ -22,6 +22,6 @@ played-calls (note ∷ notes) h =
 pub told-calls : (base : List File) (notes : List Note) (idle : ℕ) → calls (told_of base notes idle) ≡ idle + sum_by calls_by notes
 unfolding told_of
 told-calls base notes idle =
-    let long = waited-calls idle (played notes (begun base)) in
-    let all = played-calls notes (begun base) in
+    let long = waited-calls idle (played notes (from_rest base)) in
+    let all = played-calls notes (from_rest base) in
     omega (arith, long, all)

@@ -8,8 +8,8 @@ use Rattle.disk_model.proofs.NameLemmas.{same_name-true}
 use Rattle.disk_mem.specs.declared.file.File.{File}
 use Rattle.disk_mem.specs.declared.note.Note.{Note}
 use Rattle.disk_mem.specs.declared.choice.Choice.{Choice}
-use Rattle.disk_mem.specs.Record.{found, at_rest, begun, IsRead, ReadsAll, SameFile, told_of, IsPlaceOf, file_after, played}
-use Rattle.disk_mem.specs.Left.{IsCopy, IsLeft, AreLeft, IsAdded, shown, shown_of, IsChosen, left_by_syncs, noted}
+use Rattle.disk_mem.specs.Record.{found, at_rest, from_rest, IsReadAt, ReadsAll, SameFile, told_of, IsPlaceOf, file_after, played}
+use Rattle.disk_mem.specs.Left.{IsCopy, IsLeft, AreLeft, IsOneMore, shown, shown_of, IsChosen, left_by_syncs, noted}
 use Rattle.disk_mem.proofs.FileLemmas.{found-here, found-push-here}
 use Rattle.disk_mem.proofs.ReadingLemmas.{place_of_found}
 use Rattle.disk_mem.proofs.LeavingLemmas.{none_chosen, chosen_left, AreFit}
@@ -78,7 +78,7 @@ copy_is (Some a) None copies = elim copies [ ]
 copy_is (Some a) (Some b) copies = record { there = copies.is_there; octets = copies.octets }
 
 -- a copy of files at rest reads as they do
-rest_read : (file : Option File) → IsRead file (at_rest file)
+rest_read : (file : Option File) → IsReadAt file (at_rest file)
 rest_read None = (refl, λ there. refl)
 rest_read (Some file) = elim (cases_Bool file.is_there) [
   | inl there ↦
@@ -134,13 +134,13 @@ left_push choice base notes files name file are e is = λ other own at.
     or_left_file choice base notes other own (found files other) (found (file ∷ []) other)
     (λ g here. are other g here) (one_left choice base notes name other file own e is) (sym (found-append files (file ∷ []) other) ∙ at)
 
-pub added_push : (files : List File) (name : FileName) (file : File) → found files name ≡ None → file.name ≡ name → IsAdded name files (files ++ file ∷ [])
+pub added_push : (files : List File) (name : FileName) (file : File) → found files name ≡ None → file.name ≡ name → IsOneMore name files (files ++ file ∷ [])
 added_push files name file none e = record {
   own = λ missing. absurd (let h : Some file ≡ None = sym (found-push-here files file name none e) ∙ missing in cc);
   others = λ other there missing. there (or_none (found files other) (found (file ∷ []) other) (sym (found-append files (file ∷ []) other) ∙ missing));
 }
 
-pub added_there : (files : List File) (name : FileName) (i : ℕ) → IsPlaceOf files name i → IsAdded name files files
+pub added_there : (files : List File) (name : FileName) (i : ℕ) → IsPlaceOf files name i → IsOneMore name files files
 added_there files name i place = record {
   own = λ missing. absurd (let h : Some place.file ≡ None = sym (found-here files name i place.file place.at place.named place.first) ∙ missing in cc);
   others = λ other there. there;
@@ -185,12 +185,12 @@ rest_is (Some file) = cond_both file.is_there (still file.text.octets.items) no_
 -- the disk of what a choice left
 pub image_is : (old new : MemDisk) (m : ℕ) (choice : Choice) (made : List File) → m ≤ calls (told old)
     → ((name : FileName) → IsLeft choice old.base.items (take (noted m old.notes.items) old.notes.items) name (shown_of (found made name)))
-    → told new ≡ begun made → IsImageOf old m choice new
+    → told new ≡ from_rest made → IsImageOf old m choice new
 image_is old new m choice made below left is =
     let notes = take (noted m old.notes.items) old.notes.items in
     let base = old.base.items in
-    let state : DiskState = (played notes (begun base)).now in
-    let own : (name : FileName) → state name ≡ file_after name notes (at_rest (found base name)) = λ name. played-file notes (begun base) name in
+    let state : DiskState = (played notes (from_rest base)).now in
+    let own : (name : FileName) → state name ≡ file_after name notes (at_rest (found base name)) = λ name. played-file notes (from_rest base) name in
     let now : (name : FileName) → reading ((told new).now name) ≡ shown_of (found made name) = λ name.
     ap (λ (h : History). reading (h.now name)) is ∙ shown-rest (found made name) in
     record {

@@ -11,7 +11,7 @@ use Rattle.disk_mem.specs.declared.marks.Marks.{Marks}
 use Rattle.disk_mem.specs.declared.note.Note.{Note}
 use Rattle.disk_mem.specs.declared.note.Change.{Change}
 use Rattle.disk_mem.specs.declared.note.Change.TheVariants.{Written, HalfWritten, Synced, NamesSynced}
-use Rattle.disk_mem.specs.Record.{at_file, at_rest, changed, file_after, is_for_all, Shows}
+use Rattle.disk_mem.specs.Record.{at_file, at_rest, changed, file_after, is_for_all, HoldsAs}
 use Rattle.disk_mem.specs.Left.{left_octets, left_there, settled_by, settles, shown, touched, touched_by, IsTorn}
 use Rattle.disk_mem.specs.Marking.{AreMarks}
 use Rattle.disk_mem.proofs.StepLemmas.{at_file-all}
@@ -176,7 +176,7 @@ rest_firm (Some file) i = elim (cases_Bool file.is_there) [
 ]
 
 -- a file that shows a state holds what it reads
-pub shown-reads : (file : File) (f : FileState) → Shows file f → shown file ≡ reading f
+pub shown-reads : (file : File) (f : FileState) → HoldsAs file f → shown file ≡ reading f
 shown-reads file f shows = ap (λ there. cond there (Some file.text.octets.items) None) (sym shows.0) ∙ ap (λ octets. cond f.is_there (Some octets) None) (sym shows.1)
 
 -- a file's text that a choice of `Torn` leaves

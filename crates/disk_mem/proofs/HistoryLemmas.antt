@@ -4,7 +4,7 @@ use Rattle.std.proofs.lemmas.Bool.{cases_lt}
 use Rattle.disk_model.specs.Disk.{History, calls, joined_by, Unchanged}
 use Rattle.disk_mem.specs.declared.file.File.{File}
 use Rattle.disk_mem.specs.declared.note.Note.{Note}
-use Rattle.disk_mem.specs.Record.{stepped, waited, played, begun, told_of}
+use Rattle.disk_mem.specs.Record.{stepped, waited, played, from_rest, told_of}
 use Rattle.disk_mem.specs.Numbers.{next}
 
 pub waited-now : (k : ℕ) (h : History) → (waited k h).now ≡ h.now
@@ -23,27 +23,27 @@ pub played-push : (notes : List Note) (note : Note) (h : History)
 played-push [] note h = refl
 played-push (first ∷ notes) note h = played-push notes note (joined_by (stepped first (waited first.idle h).now) (waited first.idle h))
 
-pub told-begun : (base : List File) → told_of base [] 0 ≡ begun base
+pub told-begun : (base : List File) → told_of base [] 0 ≡ from_rest base
 unfolding told_of
 told-begun base = refl
 
 pub told-noted : (base : List File) (notes : List Note) (note : Note)
     → told_of base (notes ++ note ∷ []) 0 ≡ joined_by (stepped note (told_of base notes note.idle).now) (told_of base notes note.idle)
 unfolding told_of
-told-noted base notes note = played-push notes note (begun base)
+told-noted base notes note = played-push notes note (from_rest base)
 
 pub told-waits : (base : List File) (notes : List Note) (idle : ℕ)
     → told_of base notes (idle + 1) ≡ joined_by (told_of base notes idle).now (told_of base notes idle)
 unfolding told_of
-told-waits base notes idle = waited-more idle (played notes (begun base))
+told-waits base notes idle = waited-more idle (played notes (from_rest base))
 
 pub told-now : (base : List File) (notes : List Note) (idle other : ℕ) → (told_of base notes idle).now ≡ (told_of base notes other).now
 unfolding told_of
-told-now base notes idle other = waited-now idle (played notes (begun base)) ∙ sym (waited-now other (played notes (begun base)))
+told-now base notes idle other = waited-now idle (played notes (from_rest base)) ∙ sym (waited-now other (played notes (from_rest base)))
 
 pub told-full : (base : List File) (notes : List Note) (idle : ℕ) → 2 ^ 64 - 1 ≤ idle → 2 ^ 64 ≤ calls (told_of base notes idle) + 1
 unfolding told_of
-told-full base notes idle full = omega (arith, waited-calls idle (played notes (begun base)))
+told-full base notes idle full = omega (arith, waited-calls idle (played notes (from_rest base)))
 
 -- a call that changes nothing
 pub unchanged-waits : (base : List File) (notes : List Note) (idle : ℕ) → idle < 2 ^ 64

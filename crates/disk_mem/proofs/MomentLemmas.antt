@@ -7,7 +7,7 @@ use Rattle.disk_model.proofs.MomentLemmas.{state_at-now, state_at-joined}
 use Rattle.disk_mem.specs.declared.file.File.{File}
 use Rattle.disk_mem.specs.declared.note.Note.{Note}
 use Rattle.disk_mem.specs.Left.{noted}
-use Rattle.disk_mem.specs.Record.{stepped, at_file, file_after, waited, played, begun, told_of}
+use Rattle.disk_mem.specs.Record.{stepped, at_file, file_after, waited, played, from_rest, told_of}
 use Rattle.disk_mem.proofs.HistoryLemmas.{waited-now, waited-calls}
 
 waited_keeps : (k : ℕ) (h : History) (m : ℕ) → m ≤ calls h → state_at (waited k h) m ≡ state_at h m
@@ -77,12 +77,12 @@ moment_at (note ∷ notes) h idle m below =
     ]
 
 pub told_at : (base : List File) (notes : List Note) (idle m : ℕ) → m ≤ calls (told_of base notes idle)
-    → state_at (told_of base notes idle) m ≡ Some (played (take (noted m notes) notes) (begun base)).now
+    → state_at (told_of base notes idle) m ≡ Some (played (take (noted m notes) notes) (from_rest base)).now
 unfolding told_of
 told_at base notes idle m below =
-    let none : calls (begun base) ≡ 0 = refl in
-    let e : calls (begun base) + m ≡ m = omega (arith, none) in
-    ap (state_at (waited idle (played notes (begun base)))) (sym e) ∙ moment_at notes (begun base) idle m (omega (arith, e, below))
+    let none : calls (from_rest base) ≡ 0 = refl in
+    let e : calls (from_rest base) + m ≡ m = omega (arith, none) in
+    ap (state_at (waited idle (played notes (from_rest base)))) (sym e) ∙ moment_at notes (from_rest base) idle m (omega (arith, e, below))
 
 pub played-file : (notes : List Note) (h : History) (name : FileName) → (played notes h).now name ≡ file_after name notes (h.now name)
 played-file [] h name = refl

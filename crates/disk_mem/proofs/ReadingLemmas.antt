@@ -10,7 +10,7 @@ use Rattle.disk_model.specs.Name.{same_name}
 use Rattle.disk_model.specs.declared.name.FileName.{FileName}
 use Rattle.disk_model.proofs.NameLemmas.{same_name-true}
 use Rattle.disk_mem.specs.declared.file.File.{File}
-use Rattle.disk_mem.specs.Record.{found, Reads, IsRead, ReadsAll, IsPlaceOf, IsLessThan, IsNearer}
+use Rattle.disk_mem.specs.Record.{found, ReadsAs, IsReadAt, ReadsAll, IsPlaceOf, IsLessThan, IsNearer}
 use Rattle.disk_mem.proofs.FileLemmas.{found-here}
 use Rattle.disk_mem.proofs.StepLemmas.{slice_get-lt}
 
@@ -39,11 +39,11 @@ if_some (Some x) P Q f p = f x p
 
 -- the file at the place of a name
 pub read_at_place : (files : List File) (name : FileName) (i : ℕ) (file : File) → IsPlaceOf files name i → slice_get files i ≡ Some file
-    → (disk : DiskState) → ReadsAll files disk → Reads file (disk name)
+    → (disk : DiskState) → ReadsAll files disk → ReadsAs file (disk name)
 read_at_place files name i file place at disk reads =
     let found_at : found files name ≡ Some place.file = found-here files name i place.file place.at place.named place.first in
     let same : Some place.file ≡ Some file = sym place.at ∙ at in
-    let F : Option File → Type 0 = λ o. IsRead o (disk name) in
+    let F : Option File → Type 0 = λ o. IsReadAt o (disk name) in
     subst F (found_at ∙ same) (reads name)
 
 -- a file that is there stands somewhere
@@ -60,7 +60,7 @@ place_of_found (first ∷ files) name file is = elim (cases_Bool (same_name name
       (suc place.0, place.1, place.2)
 ]
 
-there_found : (file : Option File) (f : FileState) → IsRead file f → f.is_there ≡ true → (own : File) × (file ≡ Some own)
+there_found : (file : Option File) (f : FileState) → IsReadAt file f → f.is_there ≡ true → (own : File) × (file ≡ Some own)
 there_found None f reads there = absurd (false≢true (sym reads.0 ∙ there))
 there_found (Some own) f reads there = (own, refl)
 

@@ -9,7 +9,7 @@ use Rattle.disk_mem.specs.declared.file.File.{File}
 use Rattle.disk_mem.specs.declared.note.Note.{Note}
 use Rattle.disk_mem.specs.declared.note.Change.{Change}
 use Rattle.disk_mem.specs.declared.note.Change.TheVariants.{Made, Removed, NamesSynced}
-use Rattle.disk_mem.specs.Record.{found, changed, is_for_all, at_file, stepped, Reads, IsRead, ReadsAll, IsPlaceOf, SameFile}
+use Rattle.disk_mem.specs.Record.{found, changed, is_for_all, at_file, stepped, ReadsAs, IsReadAt, ReadsAll, IsPlaceOf, SameFile}
 use Rattle.disk_mem.proofs.FileLemmas.{found-here, found-set-here, found-set-other, found-push-here, found-push-other}
 
 pub not_for_all : (change : Change) → (change ≡ NamesSynced → ⊥) → is_for_all change ≡ false
@@ -38,36 +38,36 @@ slice_get-lt (y ∷ ys) (suc i) x at = let below : i < length ys = slice_get-lt 
 
 -- a file of this name takes its place
 pub reads-set : (files : List File) (name : FileName) (i : ℕ) (file : File) (disk next : DiskState) → IsPlaceOf files name i → file.name ≡ name
-    → Reads file (next name) → ((other : FileName) → same_name other name ≡ false → next other ≡ disk other) → ReadsAll files disk → ReadsAll (set files i file) next
+    → ReadsAs file (next name) → ((other : FileName) → same_name other name ≡ false → next other ≡ disk other) → ReadsAll files disk → ReadsAll (set files i file) next
 reads-set files name i file disk next place e here others reads = λ other. elim (cases_Bool (same_name other name)) [
   | inl same ↦
       let is : other ≡ name = same_name-true other name same in
       let at : found (set files i file) name ≡ Some file = found-set-here files name i file (slice_get-lt files i place.file place.at) e place.first in
-      let F : Option File → Type 0 = λ o. IsRead o (next name) in
-      let G : FileName → Type 0 = λ n. IsRead (found (set files i file) n) (next n) in
+      let F : Option File → Type 0 = λ o. IsReadAt o (next name) in
+      let G : FileName → Type 0 = λ n. IsReadAt (found (set files i file) n) (next n) in
       subst G (sym is) (subst F (sym at) here)
   | inr apart ↦
       let at : found (set files i file) other ≡ found files other =
       found-set-other files other i place.file file place.at (ap (same_name other) place.named ∙ apart) (ap (same_name other) e ∙ apart) in
-      let F : Option File → Type 0 = λ o. IsRead o (next other) in
-      let G : FileState → Type 0 = λ f. IsRead (found files other) f in
+      let F : Option File → Type 0 = λ o. IsReadAt o (next other) in
+      let G : FileState → Type 0 = λ f. IsReadAt (found files other) f in
       subst F (sym at) (subst G (sym (others other apart)) (reads other))
 ]
 
 -- a file of a name that wasn't there
 pub reads-push : (files : List File) (name : FileName) (file : File) (disk next : DiskState) → found files name ≡ None → file.name ≡ name
-    → Reads file (next name) → ((other : FileName) → same_name other name ≡ false → next other ≡ disk other) → ReadsAll files disk → ReadsAll (files ++ file ∷ []) next
+    → ReadsAs file (next name) → ((other : FileName) → same_name other name ≡ false → next other ≡ disk other) → ReadsAll files disk → ReadsAll (files ++ file ∷ []) next
 reads-push files name file disk next none e here others reads = λ other. elim (cases_Bool (same_name other name)) [
   | inl same ↦
       let is : other ≡ name = same_name-true other name same in
       let at : found (files ++ file ∷ []) name ≡ Some file = found-push-here files file name none e in
-      let F : Option File → Type 0 = λ o. IsRead o (next name) in
-      let G : FileName → Type 0 = λ n. IsRead (found (files ++ file ∷ []) n) (next n) in
+      let F : Option File → Type 0 = λ o. IsReadAt o (next name) in
+      let G : FileName → Type 0 = λ n. IsReadAt (found (files ++ file ∷ []) n) (next n) in
       subst G (sym is) (subst F (sym at) here)
   | inr apart ↦
       let at : found (files ++ file ∷ []) other ≡ found files other = found-push-other files file other (ap (same_name other) e ∙ apart) in
-      let F : Option File → Type 0 = λ o. IsRead o (next other) in
-      let G : FileState → Type 0 = λ f. IsRead (found files other) f in
+      let F : Option File → Type 0 = λ o. IsReadAt o (next other) in
+      let G : FileState → Type 0 = λ f. IsReadAt (found files other) f in
       subst F (sym at) (subst G (sym (others other apart)) (reads other))
 ]
 
@@ -85,13 +85,13 @@ reads-none files note disk none one not_made reads = λ other. elim (cases_Bool 
   | inl same ↦
       let is : other ≡ note.name = same_name-true other note.name same in
       let at : found files other ≡ None = ap (found files) is ∙ none in
-      let was : (disk other).is_there ≡ false = let F : Option File → Type 0 = λ o. IsRead o (disk other) in (subst F at (reads other)).0 in
+      let was : (disk other).is_there ≡ false = let F : Option File → Type 0 = λ o. IsReadAt o (disk other) in (subst F at (reads other)).0 in
       let gone : (at_file other note (disk other)).is_there ≡ false =
       ap (λ (g : FileState). g.is_there) (at_file-own other note (disk other) same) ∙ changed-gone note.change (disk other) not_made was in
-      let F : Option File → Type 0 = λ o. IsRead o (stepped note disk other) in
+      let F : Option File → Type 0 = λ o. IsReadAt o (stepped note disk other) in
       subst F (sym at) (gone, λ there. absurd (false≢true (sym gone ∙ there)))
   | inr apart ↦
-      let G : FileState → Type 0 = λ f. IsRead (found files other) f in
+      let G : FileState → Type 0 = λ f. IsReadAt (found files other) f in
       subst G (sym (at_file-other other note (disk other) one apart)) (reads other)
 ]
 
@@ -105,14 +105,14 @@ on_err (Err x) f p = f p
 
 -- the change of a note, made to the file of its name
 pub reads-stepped : (files : List File) (note : Note) (i : ℕ) (file : File) → is_for_all note.change ≡ false → IsPlaceOf files note.name i → file.name ≡ note.name
-    → ((f : FileState) → (was : File) → slice_get files i ≡ Some was → Reads was f → Reads file (changed note.change f))
+    → ((f : FileState) → (was : File) → slice_get files i ≡ Some was → ReadsAs was f → ReadsAs file (changed note.change f))
     → (disk : DiskState) → ReadsAll files disk → ReadsAll (set files i file) (stepped note disk)
 reads-stepped files note i file one place e step disk reads =
     let at : found files note.name ≡ Some place.file = found-here files note.name i place.file place.at place.named place.first in
-    let was : Reads place.file (disk note.name) = let F : Option File → Type 0 = λ o. IsRead o (disk note.name) in subst F at (reads note.name) in
+    let was : ReadsAs place.file (disk note.name) = let F : Option File → Type 0 = λ o. IsReadAt o (disk note.name) in subst F at (reads note.name) in
     let own : at_file note.name note (disk note.name) ≡ changed note.change (disk note.name) = at_file-own note.name note (disk note.name) (same_name-refl note.name) in
-    let here : Reads file (stepped note disk note.name) =
-    let F : FileState → Type 0 = Reads file in
+    let here : ReadsAs file (stepped note disk note.name) =
+    let F : FileState → Type 0 = ReadsAs file in
     subst F (sym own) (step (disk note.name) place.file place.at was) in
     reads-set files note.name i file disk (stepped note disk) place e here (λ other apart. at_file-other other note (disk other) one apart) reads
 
@@ -123,7 +123,7 @@ reads-same files name i was file at place same disk reads =
     let is : place.file ≡ was = let h : Some place.file ≡ Some was = sym place.at ∙ at in cc in
     let e : file.name ≡ name = same.name ∙ ap (λ (g : File). g.name) (sym is) ∙ place.named in
     let found_at : found files name ≡ Some place.file = found-here files name i place.file place.at place.named place.first in
-    let before : Reads place.file (disk name) = let F : Option File → Type 0 = λ o. IsRead o (disk name) in subst F found_at (reads name) in
-    let before_was : Reads was (disk name) = let F : File → Type 0 = λ g. Reads g (disk name) in subst F is before in
-    let here : Reads file (disk name) = (before_was.0 ∙ sym same.is_there, λ there. before_was.1 there ∙ sym same.octets) in
+    let before : ReadsAs place.file (disk name) = let F : Option File → Type 0 = λ o. IsReadAt o (disk name) in subst F found_at (reads name) in
+    let before_was : ReadsAs was (disk name) = let F : File → Type 0 = λ g. ReadsAs g (disk name) in subst F is before in
+    let here : ReadsAs file (disk name) = (before_was.0 ∙ sym same.is_there, λ there. before_was.1 there ∙ sym same.octets) in
     reads-set files name i file disk disk place e here (λ other apart. refl) reads

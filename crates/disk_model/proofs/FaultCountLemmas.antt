@@ -2,7 +2,8 @@
 use Rattle.std.proofs.Common.{◌≡◌, inl, inr, ◌≤◌, ℕ, Result, Ok, Err, refl, ◌∙◌, ap, arith}
 use Rattle.std.proofs.lemmas.Bool.{false≢true}
 use Rattle.std.specs.Prelude.{IsOk, IsErr, IsErrOf}
-use Rattle.disk_model.specs.Disk.{Faults, Rose, ReadCause, ChangeCause}
+use Rattle.mdbox_base.specs.Streams.{Rose}
+use Rattle.disk_model.specs.Disk.{Faults, ReadCause, ChangeCause}
 use Rattle.disk_model.specs.FaultCounts.{NoFault, ReadFaultCounted, ChangeFaultCounted, AnyFaultCounted}
 use Rattle.disk_model.specs.declared.error.DiskError.{DiskError}
 use Rattle.disk_model.specs.declared.error.DiskError.TheVariants.{Failed, Absent}

@@ -1,4 +1,5 @@
 -- What a disk is: its files, what each call does to them, and what a crash may leave.
+use Rattle.mdbox_base.specs.Streams.{Rose}
 use Rattle.std.specs.Prelude.{◌≡◌, ◌≢◌, ◌↔◌, ◌==◌, ◌⊎◌, ℕ, ◌+◌, ◌-◌, ◌^◌, ◌<◌, ◌≤◌, min, max, nat_le, nat_lt, Bool, true, false, not, ◌&&◌, ◌||◌, if◌then◌else◌, List, [], ◌∷◌, ◌++◌, length, take, drop, slice_get, Option, Some, None, MatchOption, Result, IsOk, IsErr, IsErrOf, ⊤, All}
 use Rattle.std.specs.declared.cmp.Ordering.{Ordering}
 use Rattle.std.specs.declared.cmp.Ordering.TheVariants.{Less}
@@ -203,10 +204,6 @@ AfterFailed step (Some h) (Some g) = IsWithin (step h.now) h g ⊎ ((g ≡ h) ×
 pub record Faults : Type 0 where
   pub reads : ℕ
   pub changes : ℕ
-
--- a count rose, or stands at the top of a u64
-abbrev pub Rose : ℕ → ℕ → Type 0
-Rose old new = min (old + 1) (2 ^ 64 - 1) ≤ new
 
 -- `Failed` comes only where the count of failed reads rose, and any other answer only where it stayed
 pub record ReadCause {T : Type 0} (result : Result T DiskError) (old new : Faults) : Type 0 where

@@ -1,6 +1,7 @@
 -- Counts of faults over a run of calls.
 use Rattle.std.specs.Prelude.{◌≡◌, ◌⊎◌, ◌≤◌}
-use Rattle.disk_model.specs.Disk.{Faults, Rose}
+use Rattle.mdbox_base.specs.Streams.{Rose}
+use Rattle.disk_model.specs.Disk.{Faults}
 
 -- no call failed
 abbrev pub NoFault : Faults → Faults → Type 0

@@ -1,8 +1,9 @@
 // A disk over the files of the current folder.
 ghost use Rattle.std.specs.Prelude.{None, ◌≡◌, ◌≤◌, OnOk, IsOk, find};
-ghost use Rattle.disk_model.specs.Disk.{Rose, ReadCause, ChangeCause};
+ghost use Rattle.mdbox_base.specs.Streams.{Rose};
+ghost use Rattle.disk_model.specs.Disk.{ReadCause, ChangeCause};
 ghost use Rattle.disk_model.specs.declared.error.DiskError.TheVariants.{Failed};
-ghost use Rattle.disk_real.specs.Counts.{faults_of};
+ghost use Rattle.disk_real.specs.Counts.{real_faults_of};
 ghost use Rattle.disk_real.specs.Past.{is_past};
 
 use crate::files::{
@@ -48,7 +49,7 @@ impl RealDisk {
 
     /// The runtime, once this process has the store. The first call locks it.
     fn locked(&mut self) -> io::Result<HostRuntime>
-        ensures { faults_of self.new ≡ faults_of self.old }
+        ensures { real_faults_of self.new ≡ real_faults_of self.old }
     {
         if self.lock.is_none() {
             self.lock = Some(lock_store(&self.rt).map_err(|_| ErrorKind::WouldBlock)?);
@@ -59,7 +60,7 @@ impl RealDisk {
     /// Counts a read that failed.
     fn fail_read(&mut self) -> DiskError
         ensures failed { result ≡ Failed }
-        ensures faults { (faults_of self.new).changes ≡ self.old.failed_changes }
+        ensures faults { (real_faults_of self.new).changes ≡ self.old.failed_changes }
         ensures rose { Rose self.old.failed_reads self.new.failed_reads × (self.old.failed_reads ≤ self.new.failed_reads) }
     {
         self.failed_reads = self.failed_reads.saturating_add(1);
@@ -68,8 +69,8 @@ impl RealDisk {
 
     /// What an answer of the system to a read means. Other errors than a missing file are counted.
     fn read<T: Drop>(&mut self, answer: io::Result<T>) -> Result<T, DiskError>
-        ensures cause { ReadCause result (faults_of self.old) (faults_of self.new) }
-        ensures ok { OnOk result (faults_of self.new ≡ faults_of self.old) }
+        ensures cause { ReadCause result (real_faults_of self.old) (real_faults_of self.new) }
+        ensures ok { OnOk result (real_faults_of self.new ≡ real_faults_of self.old) }
     {
         let _count = self.failed_reads;
         match answer {
@@ -81,7 +82,7 @@ impl RealDisk {
 
     /// What an answer of the system to a change means. Errors are counted.
     fn change(&mut self, answer: io::Result<()>) -> Result<(), DiskError>
-        ensures cause { ChangeCause result (faults_of self.old) (faults_of self.new) }
+        ensures cause { ChangeCause result (real_faults_of self.old) (real_faults_of self.new) }
         ensures ok { OnOk result (IsOk answer) }
     {
         let _count = self.failed_changes;
@@ -96,7 +97,7 @@ impl RealDisk {
 impl Disk for RealDisk {
     ghost history = { λ _. None };
 
-    ghost faults = { faults_of };
+    ghost faults = { real_faults_of };
 
     fn length(&mut self, name: FileName) -> Result<u64, DiskError> {
         let answer = self.locked().and_then(|rt| length_of(&rt, name));

@@ -3,14 +3,14 @@ use Rattle.std.proofs.Common.{◌≡◌, ℕ, ◌+◌, ◌<◌, ◌≤◌, List,
 use Rattle.std.proofs.lemmas.Bool.{cond-true}
 use Rattle.disk_model.specs.Disk.{FileState, History, MayLeave, IsThere, Reaches, Keeps, IfTold, AfterFailed, EachImage, SameButFor, after, change, change_all, made, half_made, written, half_written, synced, named, no_file}
 use Rattle.disk_model.specs.declared.name.FileName.{FileName}
-use Rattle.disk_model.proofs.Moments.{if_told-all, if_told-map, if_told-after}
-use Rattle.disk_model.proofs.OneFile.{IsAlong, Along, along-begins, along-goes_on, along-fails, along-fails_still, along-named, named-narrows}
-use Rattle.disk_model.proofs.ChangeAndSync.{changed_state}
-use Rattle.disk_model.proofs.Firm.{keeps_from_firm, end_octets}
+use Rattle.disk_model.proofs.MomentLemmas.{if_told-all, if_told-map, if_told-after}
+use Rattle.disk_model.proofs.OneFileLemmas.{IsAlong, Along, along-begins, along-goes_on, along-fails, along-fails_still, along-named, named-narrows}
+use Rattle.disk_model.proofs.ChangeAndSyncLemmas.{changed_state}
+use Rattle.disk_model.proofs.FirmLemmas.{keeps_from_firm, end_octets}
 use Rattle.model_logs.specs.declared.log_head.LogHead.{LogHead}
 use Rattle.model_logs.specs.LogFile.{HeadFits, log_front}
 use Rattle.model_logs.proofs.LogFileLemmas.{front_length}
-use Rattle.gate_log.specs.Log.{IsNoLonger, NamedButFor, log_text}
+use Rattle.gate_log.specs.Log.{IsAtMostAsLong, NamedButFor, log_text}
 
 -- the file could be so long before, or is no longer than the text
 abbrev pub IsWide : FileName → ℕ → Option History → FileState → Type 0
@@ -18,7 +18,7 @@ IsWide name n old f = IfTold old (λ before. f.greatest ≤ max (before name).gr
 
 -- what each image has of the file
 abbrev pub P : FileName → ℕ → Option History → Option (List ℕ) → Type 0
-P name n old octets = IfTold old (λ before. IsNoLonger n (before name) octets)
+P name n old octets = IfTold old (λ before. IsAtMostAsLong n (before name) octets)
 
 wide-begins : (name : FileName) (n : ℕ) (old : Option History) → IfTold old (λ disk. IsWide name n old (disk name))
 wide-begins name n None = tt

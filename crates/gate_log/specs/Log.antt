@@ -1,17 +1,18 @@
 -- Logs on a disk.
 use Rattle.std.specs.Prelude.{◌≡◌, ◌≢◌, ◌⊎◌, ◌≤◌, ℕ, List, [], ◌∷◌, ◌++◌, length, max, All, Option, Some, None, IfSome}
-use Rattle.disk_model.specs.Disk.{FileState, DiskState, History, IfTold, IsImage, EachImage, Keeps, named, reading, Faults, Rose}
+use Rattle.mdbox_base.specs.Streams.{Rose}
+use Rattle.disk_model.specs.Disk.{FileState, DiskState, History, IfTold, IsImage, EachImage, Keeps, named, reading, Faults}
 use Rattle.disk_model.specs.declared.name.FileName.{FileName}
 use Rattle.model_logs.specs.declared.log_head.LogHead.{LogHead}
-use Rattle.model_logs.specs.LogFile.{HeadFits, EntryFits, log_front, Ends, IsLogFile}
-use Rattle.gate_log.specs.State.{LogState, Found}
+use Rattle.model_logs.specs.LogFile.{HeadFits, EntryFits, log_front, EndsLog, IsLogFile}
+use Rattle.gate_log.specs.State.{LogState, InspectedLog}
 
 -- the octets of a log at rest: its head, its entries, and a closed gate
 abbrev pub log_text : LogHead → List (List ℕ) → List ℕ
 log_text head entries = log_front head entries ++ 0 ∷ []
 
 -- the log's file reads these entries and a closed gate, where the log has it
-pub record IsRead (log : LogState) (entries : List (List ℕ)) (disk : DiskState) : Type 0 where
+pub record IsLogRead (log : LogState) (entries : List (List ℕ)) (disk : DiskState) : Type 0 where
   pub file : reading (disk log.name) ≡ Some (log_text log.head entries)
   pub end : log.end ≡ length (log_front log.head entries)
   pub head_fits : HeadFits log.head
@@ -19,53 +20,30 @@ pub record IsRead (log : LogState) (entries : List (List ℕ)) (disk : DiskState
 
 -- the disk reads this log, with these entries
 abbrev pub Reads : LogState → List (List ℕ) → Option History → Type 0
-Reads log entries history = IfTold history (IsRead log entries)
+Reads log entries history = IfTold history (IsLogRead log entries)
 
 -- the same, and a stop leaves the file so
-pub record IsHeld (log : LogState) (entries : List (List ℕ)) (disk : DiskState) : Type 0 where
-  pub reads : IsRead log entries disk
+pub record IsLogHeld (log : LogState) (entries : List (List ℕ)) (disk : DiskState) : Type 0 where
+  pub reads : IsLogRead log entries disk
   pub keeps : Keeps (disk log.name) (log_text log.head entries)
 
 -- the disk holds this log, with these entries
 abbrev pub Holds : LogState → List (List ℕ) → Option History → Type 0
-Holds log entries history = IfTold history (IsHeld log entries)
+Holds log entries history = IfTold history (IsLogHeld log entries)
 
 -- the file is a log with these entries, or with one more
 abbrev pub IsLogWithOrWithout : LogHead → List (List ℕ) → List ℕ → Option (List ℕ) → Type 0
 IsLogWithOrWithout head entries entry octets = IsLogFile octets head entries ⊎ IsLogFile octets head (entries ++ entry ∷ [])
 
 -- Octets of a file that is made anew: no more than it could have before, or than are written.
-abbrev pub IsNoLonger : ℕ → FileState → Option (List ℕ) → Type 0
-IsNoLonger written f octets = IfSome octets (λ o. length o ≤ max f.greatest written)
+abbrev pub IsAtMostAsLong : ℕ → FileState → Option (List ℕ) → Type 0
+IsAtMostAsLong written f octets = IfSome octets (λ o. length o ≤ max f.greatest written)
 
 -- both told, and each other file as it was, with its name synced
 abbrev pub NamedButFor : FileName → Option History → Option History → Type 0
 NamedButFor name None new = new ≡ None
 NamedButFor name (Some old) None = ⊥
 NamedButFor name (Some old) (Some new) = (other : FileName) → other ≢ name → new.now other ≡ named (old.now other)
-
--- both told, and the state the same
-abbrev pub SameState : Option History → Option History → Type 0
-SameState None new = new ≡ None
-SameState (Some old) None = ⊥
-SameState (Some old) (Some new) = new.now ≡ old.now
-
--- nothing has changed: the state is the same, and was so at each moment between
-pub record Idle (old new : Option History) : Type 0 where
-  pub same : SameState old new
-  pub each : EachImage (λ _ image. IfTold old (λ disk. IsImage disk image)) old new
-
--- The counts never fall, and one of them rose where this holds.
-pub record OneRoseIf (failed : Type 0) (old new : Faults) : Type 0 where
-  pub reads : old.reads ≤ new.reads
-  pub changes : old.changes ≤ new.changes
-  pub rose : failed → Rose old.reads new.reads ⊎ Rose old.changes new.changes
-
--- No failed change was counted. The count of failed reads never falls, and it rose where this holds.
-pub record ReadsRoseIf (failed : Type 0) (old new : Faults) : Type 0 where
-  pub reads : old.reads ≤ new.reads
-  pub changes : new.changes ≡ old.changes
-  pub rose : failed → Rose old.reads new.reads
 
 -- the file reads these octets in two parts, the first of this length
 pub record ReadsParts (size : ℕ) (front rest : List ℕ) (f : FileState) : Type 0 where
@@ -91,21 +69,21 @@ pub record IsStanding (name : FileName) (head : LogHead) (entries : List (List �
   pub end_is : end ≡ length (log_front head entries)
   pub head_fits : HeadFits head
   pub entries_fit : All EntryFits entries
-  pub ends : Ends gate behind
+  pub ends : EndsLog gate behind
 
 -- and a stop leaves it so
-pub record IsKept (name : FileName) (head : LogHead) (entries : List (List ℕ)) (end gate : ℕ) (behind : List ℕ) (disk : DiskState) : Type 0 where
+pub record IsDurable (name : FileName) (head : LogHead) (entries : List (List ℕ)) (end gate : ℕ) (behind : List ℕ) (disk : DiskState) : Type 0 where
   pub stands : IsStanding name head entries end gate behind disk
   pub keeps : Keeps (disk name) (log_front head entries ++ gate ∷ behind)
 
 -- the file stands as it was found, with these entries
-pub record IsFound (found : Found) (entries : List (List ℕ)) (disk : DiskState) : Type 0 where
+pub record IsFound (found : InspectedLog) (entries : List (List ℕ)) (disk : DiskState) : Type 0 where
   pub rest : List ℕ
   pub behind : found.behind ≡ length rest
   pub stands : IsStanding found.name found.head entries found.end found.gate rest disk
 
 -- and a stop leaves it so
-pub record IsFoundKept (found : Found) (entries : List (List ℕ)) (disk : DiskState) : Type 0 where
+pub record IsFoundKept (found : InspectedLog) (entries : List (List ℕ)) (disk : DiskState) : Type 0 where
   pub rest : List ℕ
   pub behind : found.behind ≡ length rest
-  pub kept : IsKept found.name found.head entries found.end found.gate rest disk
+  pub kept : IsDurable found.name found.head entries found.end found.gate rest disk

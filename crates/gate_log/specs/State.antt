@@ -12,7 +12,7 @@ pub record LogState : Type 0 where
 
 -- What a caller sees of a log that was looked at: its file's name, its head, where its last gate stands, that gate's
 -- value, and how many octets stand behind it.
-pub record Found : Type 0 where
+pub record InspectedLog : Type 0 where
   pub name : FileName
   pub head : LogHead
   pub end : ℕ
@@ -20,8 +20,8 @@ pub record Found : Type 0 where
   pub behind : ℕ
 
 -- the last gate is closed, and nothing stands behind it
-abbrev pub IsWhole : Found → Type 0
-IsWhole found = (found.gate ≡ 0) × (found.behind ≡ 0)
+abbrev pub IsWholeLog : InspectedLog → Type 0
+IsWholeLog found = (found.gate ≡ 0) × (found.behind ≡ 0)
 
 -- the same log, with as much room
 pub record IsSameLog (old new : LogState) : Type 0 where

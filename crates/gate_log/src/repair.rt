@@ -1,9 +1,10 @@
 // The end of a log that was found.
 ghost use Rattle.std.specs.Prelude.{◌≡◌, ◌-◌, ◌<◌, ◌^◌, ℕ, List, [], length, Some, OnOk, IsOk, IsErr};
-ghost use Rattle.disk_model.specs.Disk.{EachImage, OthersStay, SameButFor, FaultsRoseIf, IfTold, Keeps, reading};
+ghost use Rattle.disk_model.specs.FaultCounts.{ChangeFaultCounted};
+ghost use Rattle.disk_model.specs.Disk.{EachImage, OthersStay, SameButFor, IfTold, Keeps, reading};
 ghost use Rattle.model_logs.specs.declared.log_head.LogHead.{LogHead};
 ghost use Rattle.model_logs.specs.LogFile.{IsLogFile};
-ghost use Rattle.gate_log.specs.Log.{IsStanding, IsKept, log_text, ReadsParts, KeepsParts, BeginsWith};
+ghost use Rattle.gate_log.specs.Log.{IsStanding, IsDurable, log_text, ReadsParts, KeepsParts, BeginsWith};
 
 use crate::device::put_octet;
 use crate::error::DiskFault;
@@ -23,16 +24,16 @@ pub fn repair<D: Disk>(
     requires room { end < 2 ^ 64 - 1 }
 
     // At every moment each image has the same entries.
-    ensures any_moment { (head : LogHead) (entries : List (List ℕ)) (rest : List ℕ) → behind ≡ length rest → IfTold (D.history disk.old) (IsKept name head entries end gate rest)
+    ensures any_moment { (head : LogHead) (entries : List (List ℕ)) (rest : List ℕ) → behind ≡ length rest → IfTold (D.history disk.old) (IsDurable name head entries end gate rest)
         → EachImage (λ _ image. IsLogFile (image name) head entries × OthersStay name (D.history disk.old) image) (D.history disk.old) (D.history disk.new) }
     ensures others_stay { EachImage (λ _ image. OthersStay name (D.history disk.old) image) (D.history disk.old) (D.history disk.new) }
     ensures reads { OnOk result ((head : LogHead) (entries : List (List ℕ)) (rest : List ℕ) → behind ≡ length rest → IfTold (D.history disk.old) (IsStanding name head entries end gate rest)
         → IfTold (D.history disk.new) (λ now. reading (now name) ≡ Some (log_text head entries))) }
-    ensures keeps { OnOk result ((head : LogHead) (entries : List (List ℕ)) (rest : List ℕ) → behind ≡ length rest → IfTold (D.history disk.old) (IsKept name head entries end gate rest)
+    ensures keeps { OnOk result ((head : LogHead) (entries : List (List ℕ)) (rest : List ℕ) → behind ≡ length rest → IfTold (D.history disk.old) (IsDurable name head entries end gate rest)
         → IfTold (D.history disk.new) (λ now. Keeps (now name) (log_text head entries))) }
     ensures others { OnOk result (SameButFor name (D.history disk.old) (D.history disk.new)) }
     ensures untouched { gate ≡ 0 → behind ≡ 0 → IsOk result × (disk.new ≡ disk.old) }
-    ensures fault { FaultsRoseIf (IsErr result) (D.faults disk.old) (D.faults disk.new) }
+    ensures fault { ChangeFaultCounted (IsErr result) (D.faults disk.old) (D.faults disk.new) }
 {
     if behind == 0 {
         return close_gate(disk, name, end, gate);
@@ -44,16 +45,16 @@ pub fn repair<D: Disk>(
 /// Closes the last gate of a log behind which nothing stands.
 fn close_gate<D: Disk>(disk: &mut D, name: FileName, end: u64, gate: u8) -> Result<(), DiskFault>
     requires stands { (head : LogHead) × (entries : List (List ℕ)) × IfTold (D.history disk.old) (IsStanding name head entries end gate []) }
-    ensures any_moment { (head : LogHead) (entries : List (List ℕ)) → IfTold (D.history disk.old) (IsKept name head entries end gate [])
+    ensures any_moment { (head : LogHead) (entries : List (List ℕ)) → IfTold (D.history disk.old) (IsDurable name head entries end gate [])
         → EachImage (λ _ image. IsLogFile (image name) head entries × OthersStay name (D.history disk.old) image) (D.history disk.old) (D.history disk.new) }
     ensures others_stay { EachImage (λ _ image. OthersStay name (D.history disk.old) image) (D.history disk.old) (D.history disk.new) }
     ensures reads { OnOk result ((head : LogHead) (entries : List (List ℕ)) → IfTold (D.history disk.old) (IsStanding name head entries end gate [])
         → IfTold (D.history disk.new) (λ now. reading (now name) ≡ Some (log_text head entries))) }
-    ensures keeps { OnOk result ((head : LogHead) (entries : List (List ℕ)) → IfTold (D.history disk.old) (IsKept name head entries end gate [])
+    ensures keeps { OnOk result ((head : LogHead) (entries : List (List ℕ)) → IfTold (D.history disk.old) (IsDurable name head entries end gate [])
         → IfTold (D.history disk.new) (λ now. Keeps (now name) (log_text head entries))) }
     ensures others { OnOk result (SameButFor name (D.history disk.old) (D.history disk.new)) }
     ensures untouched { gate ≡ 0 → IsOk result × (disk.new ≡ disk.old) }
-    ensures fault { FaultsRoseIf (IsErr result) (D.faults disk.old) (D.faults disk.new) }
+    ensures fault { ChangeFaultCounted (IsErr result) (D.faults disk.old) (D.faults disk.new) }
 {
     if gate == CLOSED {
         return Ok(());
@@ -69,7 +70,7 @@ fn cut_file<D: Disk>(disk: &mut D, name: FileName, size: u64) -> Result<(), Disk
     ensures reads { OnOk result ((front rest : List ℕ) → IfTold (D.history disk.old) (λ now. ReadsParts size front rest (now name)) → IfTold (D.history disk.new) (λ now. reading (now name) ≡ Some front)) }
     ensures keeps { OnOk result ((front rest : List ℕ) → IfTold (D.history disk.old) (λ now. KeepsParts size front rest (now name)) → IfTold (D.history disk.new) (λ now. Keeps (now name) front)) }
     ensures others { OnOk result (SameButFor name (D.history disk.old) (D.history disk.new)) }
-    ensures fault { FaultsRoseIf (IsErr result) (D.faults disk.old) (D.faults disk.new) }
+    ensures fault { ChangeFaultCounted (IsErr result) (D.faults disk.old) (D.faults disk.new) }
 {
     disk.cut(name, size)?;
     disk.sync(name)?;

@@ -4,15 +4,15 @@ use Rattle.std.specs.Option.{option_or}
 use Rattle.std.specs.Str.{bytes_eq}
 use Rattle.std.proofs.Common.{sym, ◌∙◌, ap, arith}
 use Rattle.std.proofs.lemmas.List.Sums.{sum_by-cons, sum_by-append}
-use Rattle.model_lists.specs.Lists.{change_first, ListedMessage, Mailbox, Lists, refs_of, empty_mailbox}
+use Rattle.model_lists.specs.Lists.{ListedMessage, Mailbox, Lists, refs_of, empty_mailbox, change_first}
 use Rattle.mdbox_base.specs.declared.requests.Request.{Request}
 use Rattle.mdbox_base.specs.declared.requests.Request.TheVariants as request
 use Rattle.mdbox_base.specs.declared.replies.Refusal.{Refusal}
 use Rattle.mdbox_base.specs.declared.replies.Refusal.TheVariants.{NoMailbox, Exists, NoMessage, TooManyCopies, MailboxFull, TooManyMailboxes, StoreFull}
 use Rattle.mdbox_base.specs.declared.replies.Reply.{Reply}
 use Rattle.mdbox_base.specs.declared.replies.Reply.TheVariants as reply
-use Rattle.list_machine.specs.Run.{Part, First, Last, SecondHalf, RunEvent, Run}
-use Rattle.list_machine.specs.Machine.{Check, HasMailbox, IsNewName, HasMessage, RoomForMailbox, RoomForMessage, NextUid, NextMapUid, NextFiles, TargetFits, NextInstance, NextMailbox, MayBeCopied, refused_where, refusal_at, is_step, Answers, Does, IsCopied, IsDelivered, IsMade, IsSecondHalf, checks_of, first_refusal, refs_added, refs_taken, without_first, has_name, is_message_of_uid, mailbox_named, message_at, set_flags, expunge, add_last, add_message, one_of_guid}
+use Rattle.list_machine.specs.Run.{EventPart, First, Last, SecondHalf, RunEvent, Run}
+use Rattle.list_machine.specs.Machine.{Check, HasMailbox, IsNewName, HasUid, RoomForMailbox, RoomForMessage, NextUid, NextMapUid, NextFiles, TargetFits, NextInstance, NextMailbox, MayBeCopied, refused_where, refusal_at, is_step, Answers, Does, IsCopied, IsDelivered, IsMade, IsSecondHalf, checks_of, first_refusal, refs_added, refs_taken, without_first, has_name, is_message_of_uid, mailbox_named, message_at, set_flags, expunge, add_last, add_message, one_of_guid}
 
 -- what a change of the first that passes does to a sum
 sum_change : {X : Type 0} → (f : X → ℕ) (test : X → Bool) (change : X → X) (more less : ℕ) (xs : List X) → ((x : X) → find test xs ≡ Some x → f (change x) + less ≡ f x + more) →
@@ -118,7 +118,7 @@ half_refs old new name uid false guid h =
     omega (arith, k, n)
 
 -- What a step does to the references of each GUID, where it isn't refused.
-does_refs : (run : Run) (event : RunEvent) (old : Lists) (q : Request) (part : Part) (r : Reply) (new : Lists) (guid : List ℕ) → Does run event old q part r new →
+does_refs : (run : Run) (event : RunEvent) (old : Lists) (q : Request) (part : EventPart) (r : Reply) (new : Lists) (guid : List ℕ) → Does run event old q part r new →
     refs_of new guid + refs_taken old q part r guid ≡ refs_of old guid + refs_added old q part r guid
 does_refs run event old (request.List name) First (reply.Listed rows) new guid d = same_lists old new guid d.3
 does_refs run event old (request.Fetch name uid) First (reply.Fetched octets) new guid d = same_lists old new guid d.3
@@ -136,12 +136,12 @@ does_refs run event old (request.Purge) Last (reply.Purged dropped files instanc
 does_refs run event old (request.Resync) Last (reply.Resynced corrected damaged) new guid d = same_lists old new guid d.1
 does_refs run event old q part r new guid d = absurd d
 
-refused_taken : (old : Lists) (q : Request) (part : Part) (refusal : Refusal) (guid : List ℕ) → refs_taken old q part (reply.Refused refusal) guid ≡ 0
+refused_taken : (old : Lists) (q : Request) (part : EventPart) (refusal : Refusal) (guid : List ℕ) → refs_taken old q part (reply.Refused refusal) guid ≡ 0
 refused_taken old (request.Expunge name uid) First refusal guid = refl
 refused_taken old (request.Move name uid target) SecondHalf refusal guid = refl
 refused_taken old q part refusal guid = refl
 
-refused_added : (old : Lists) (q : Request) (part : Part) (refusal : Refusal) (guid : List ℕ) → refs_added old q part (reply.Refused refusal) guid ≡ 0
+refused_added : (old : Lists) (q : Request) (part : EventPart) (refusal : Refusal) (guid : List ℕ) → refs_added old q part (reply.Refused refusal) guid ≡ 0
 refused_added old (request.Deliver name time octets) Last refusal guid = refl
 refused_added old (request.Copy name uid target) Last refusal guid = refl
 refused_added old (request.Move name uid target) Last refusal guid = refl
@@ -167,7 +167,7 @@ refused_so false x r h e = absurd (let z : None ≡ Some r = e in cc z)
 check_refusal : (run : Run) (old : Lists) (check : Check) (refusal : Refusal) → refusal_at run old check ≡ Some refusal → is_step refusal ≡ true
 check_refusal run old (HasMailbox name) r e = refused_so _ NoMailbox r refl e
 check_refusal run old (IsNewName name) r e = refused_so _ Exists r refl e
-check_refusal run old (HasMessage name uid) r e = refused_so _ NoMessage r refl e
+check_refusal run old (HasUid name uid) r e = refused_so _ NoMessage r refl e
 check_refusal run old RoomForMailbox r e = refused_so _ (TooManyMailboxes 1024) r refl e
 check_refusal run old (RoomForMessage name) r e = refused_so _ (MailboxFull 1000000) r refl e
 check_refusal run old (NextUid name) r e = refused_so _ (StoreFull 4294967294) r refl e

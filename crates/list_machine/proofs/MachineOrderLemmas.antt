@@ -13,9 +13,9 @@ use Rattle.mdbox_base.specs.declared.replies.Refusal.{Refusal}
 use Rattle.mdbox_base.specs.declared.replies.Refusal.TheVariants.{Exists, StoreFull}
 use Rattle.mdbox_base.specs.declared.replies.Reply.{Reply}
 use Rattle.mdbox_base.specs.declared.replies.Reply.TheVariants as reply
-use Rattle.model_lists.specs.Lists.{change_first, ListedMessage, Mailbox, Lists, IsMessageInRange, IsMailboxInOrder, AreWellFormed, empty_mailbox}
-use Rattle.list_machine.specs.Run.{Part, First, Last, SecondHalf, RunEvent, Run}
-use Rattle.list_machine.specs.Machine.{HasMailbox, IsNewName, HasMessage, RoomForMailbox, RoomForMessage, NextUid, refused_where, refusal_at, first_refusal, part_checks, Answers, Does, RequestInRange, IsCopied, IsDelivered, IsMade, IsSecondHalf, without_first, has_name, is_message_of_uid, mailbox_named, message_in, message_at, set_flags, expunge, add_last, add_message}
+use Rattle.model_lists.specs.Lists.{ListedMessage, Mailbox, Lists, IsMessageInRange, IsMailboxInOrder, AreWellFormed, empty_mailbox, change_first}
+use Rattle.list_machine.specs.Run.{EventPart, First, Last, SecondHalf, RunEvent, Run}
+use Rattle.list_machine.specs.Machine.{HasMailbox, IsNewName, HasUid, RoomForMailbox, RoomForMessage, NextUid, refused_where, refusal_at, first_refusal, part_checks, Answers, Does, RequestInRange, IsCopied, IsDelivered, IsMade, IsSecondHalf, without_first, has_name, is_message_of_uid, mailbox_named, message_in, message_at, set_flags, expunge, add_last, add_message}
 use Rattle.list_machine.proofs.MachineLemmas.{some_one}
 use Rattle.model_octets.proofs.PairLemmas.{found_among, pairs_nil, pairs_head, pairs_tail, pairs_push}
 
@@ -215,12 +215,12 @@ listed_fits old name uid message w e = by_mailbox (mailbox_named name old) refl 
 content_of : (message : ListedMessage) → IsMessageInRange message → IsContentInRange message
 content_of message f = record { flags = f.flags; time = f.time; guid = f.guid; size = f.size }
 
-copied_well : (run : Run) (old new : Lists) (name : List ℕ) (uid : ℕ) (target : List ℕ) (given : ℕ) → AreWellFormed old → first_refusal run old (HasMailbox name ∷ HasMailbox target ∷ HasMessage name uid ∷ RoomForMessage target ∷ NextUid target ∷ []) ≡ None
+copied_well : (run : Run) (old new : Lists) (name : List ℕ) (uid : ℕ) (target : List ℕ) (given : ℕ) → AreWellFormed old → first_refusal run old (HasMailbox name ∷ HasMailbox target ∷ HasUid name uid ∷ RoomForMessage target ∷ NextUid target ∷ []) ≡ None
     → IsCopied old name uid target given new → AreWellFormed new
 copied_well run old new name uid target given w e c =
     let e1 = (or_none (refusal_at run old (HasMailbox name)) _ e).1 in
     let e2 = (or_none (refusal_at run old (HasMailbox target)) _ e1).1 in
-    let e3 = (or_none (refusal_at run old (HasMessage name uid)) _ e2).1 in
+    let e3 = (or_none (refusal_at run old (HasUid name uid)) _ e2).1 in
     let e4 = (or_none (refusal_at run old (RoomForMessage target)) _ e3).1 in
     let room = (or_none (refusal_at run old (NextUid target)) None e4).0 in
     subst AreWellFormed (sym c.new_is)
@@ -253,7 +253,7 @@ half_well old new name uid true w h = subst AreWellFormed (sym h.1) w
 half_well old new name uid false w h = subst AreWellFormed (sym h.1) (expunged_well old name uid w)
 
 -- Where none of its checks refuses, what a request does keeps well formed lists so.
-does_well : (run : Run) (event : RunEvent) (old : Lists) (q : Request) (part : Part) (r : Reply) (new : Lists) → AreWellFormed old → RequestInRange q → first_refusal run old (part_checks run event q part) ≡ None → Does run event old q part r new → AreWellFormed new
+does_well : (run : Run) (event : RunEvent) (old : Lists) (q : Request) (part : EventPart) (r : Reply) (new : Lists) → AreWellFormed old → RequestInRange q → first_refusal run old (part_checks run event q part) ≡ None → Does run event old q part r new → AreWellFormed new
 does_well run event old (request.List name) First (reply.Listed rows) new w f e d = subst AreWellFormed (sym d.3) w
 does_well run event old (request.Fetch name uid) First (reply.Fetched octets) new w f e d = subst AreWellFormed (sym d.3) w
 does_well run event old (request.Flag name uid flags) First reply.Done new w f e d = subst AreWellFormed (sym d) (flagged_well old name uid.0 flags f w)

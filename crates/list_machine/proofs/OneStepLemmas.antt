@@ -8,8 +8,8 @@ use Rattle.mdbox_base.specs.declared.requests.Request.TheVariants as request
 use Rattle.mdbox_base.specs.declared.replies.ListRow.{ListRow}
 use Rattle.mdbox_base.specs.declared.replies.Reply.{Reply}
 use Rattle.mdbox_base.specs.declared.replies.Reply.TheVariants as reply
-use Rattle.model_lists.specs.Lists.{ListedMessage, Mailbox, Lists, row_of, empty_mailbox}
-use Rattle.list_machine.specs.Run.{Part, First, Last, SecondHalf, RunEvent, Run}
+use Rattle.model_lists.specs.Lists.{ListedMessage, Mailbox, Lists, listing_row, empty_mailbox}
+use Rattle.list_machine.specs.Run.{EventPart, First, Last, SecondHalf, RunEvent, Run}
 use Rattle.list_machine.specs.Machine.{Answers, Does, IsCopied, IsDelivered, IsMade, AreCounts, ArePurged, AreResynced, IsSecondHalf, expunge, add_message}
 use Rattle.list_machine.proofs.MachineLemmas.{some_one, refused_alone}
 
@@ -79,11 +79,11 @@ of_old : (old new other : Lists) → new ≡ old → other ≡ old → new ≡ o
 of_old old new other p q = p ∙ sym q
 
 -- Where none of its checks refuses, a part of a request does one thing.
-does_one : (run : Run) (event : RunEvent) (old : Lists) (q : Request) (part : Part) (r s : Reply) (new other : Lists) →
+does_one : (run : Run) (event : RunEvent) (old : Lists) (q : Request) (part : EventPart) (r s : Reply) (new other : Lists) →
     Does run event old q part r new → Does run event old q part s other → IsOne r s new other
 does_one run event old (request.List name) First (reply.Listed rows) (reply.Listed more) new other d e =
     let same : d.0 ≡ e.0 = some_one _ d.0 e.0 d.1 e.1 in
-    (ap (λ (x : List ListRow). reply.Listed x) ((d.2 ∙ ap (λ (m : Mailbox). map row_of m.messages) same) ∙ sym e.2), of_old old new other d.3 e.3)
+    (ap (λ (x : List ListRow). reply.Listed x) ((d.2 ∙ ap (λ (m : Mailbox). map listing_row m.messages) same) ∙ sym e.2), of_old old new other d.3 e.3)
 does_one run event old (request.List name) First (reply.Listed rows) s new other d e = absurd e
 does_one run event old (request.Fetch name uid) First (reply.Fetched octets) (reply.Fetched more) new other d e =
     let same : d.0 ≡ e.0 = some_one _ d.0 e.0 d.1 e.1 in

@@ -11,9 +11,9 @@ use Rattle.mdbox_base.specs.declared.replies.Refusal.{Refusal}
 use Rattle.mdbox_base.specs.declared.replies.Refusal.TheVariants as refusal
 use Rattle.mdbox_base.specs.declared.replies.Reply.{Reply}
 use Rattle.mdbox_base.specs.declared.replies.Reply.TheVariants as reply
-use Rattle.model_lists.specs.Lists.{ListedMessage, Mailbox, Lists, change_first, refs_of, empty_mailbox, row_of}
-use Rattle.model_meaning.specs.MapMeaning.{MapMeaning, count_of, named}
-use Rattle.list_machine.specs.Run.{Part, First, PlacesInstance, TakesFile, StoresRecord, Last, SecondHalf, StartsOver, Taken, RunEvent, Run, map_of, drawn_of, given_by_others, guid_added, number_made, uid_copied, corrected_in, dropped_by, files_gone_by, instances_gone_by, damaged_by, with_targets, target_length}
+use Rattle.model_lists.specs.Lists.{ListedMessage, Mailbox, Lists, change_first, refs_of, empty_mailbox, listing_row}
+use Rattle.model_meaning.specs.MapMeaning.{MapMeaning, count_of, named_instances}
+use Rattle.list_machine.specs.Run.{EventPart, First, PlacesInstance, TakesFile, StoresRecord, Last, SecondHalf, StartsOver, TakenFile, RunEvent, Run, map_of, drawn_of, given_by_others, guid_added, number_made, uid_copied, corrected_in, dropped_by, files_gone_by, instances_gone_by, damaged_by, with_targets, target_length}
 
 -- ---- lists
 
@@ -70,7 +70,7 @@ count_different (text ∷ texts) = if list_any (bytes_eq text) texts then count_
 pub data Check : Type 0 where
   HasMailbox : (name : List ℕ) → Check
   IsNewName : (name : List ℕ) → Check
-  HasMessage : (name : List ℕ) → (uid : ℕ) → Check
+  HasUid : (name : List ℕ) → (uid : ℕ) → Check
   RoomForMailbox : Check
   RoomForMessage : (name : List ℕ) → Check
   NextUid : (name : List ℕ) → Check
@@ -94,7 +94,7 @@ is_used_up drawn = nat_le 4294967294 drawn
 abbrev pub refusal_at : Run → Lists → Check → Option Refusal
 refusal_at run lists (HasMailbox name) = refused_where (is_none (mailbox_named name lists)) refusal.NoMailbox
 refusal_at run lists (IsNewName name) = refused_where (is_some (mailbox_named name lists)) refusal.Exists
-refusal_at run lists (HasMessage name uid) = refused_where (is_none (message_at name uid lists)) refusal.NoMessage
+refusal_at run lists (HasUid name uid) = refused_where (is_none (message_at name uid lists)) refusal.NoMessage
 refusal_at run lists RoomForMailbox = refused_where (nat_le 1024 (length lists)) (refusal.TooManyMailboxes 1024)
 refusal_at run lists (RoomForMessage name) =
     refused_where (option_map_or (λ m. nat_le 1000000 (length m.messages)) (mailbox_named name lists) false) (refusal.MailboxFull 1000000)
@@ -115,13 +115,13 @@ first_refusal run lists (check ∷ checks) = option_or (refusal_at run lists che
 
 -- The checks of an event, in their order: mailbox (of a copy the source, then the target), name, message, mailboxes, room,
 -- numbers, copies.
-abbrev pub copy_checks : List ℕ → ℕ → List ℕ → Part → List Check
+abbrev pub copy_checks : List ℕ → ℕ → List ℕ → EventPart → List Check
 copy_checks name uid target First =
-    HasMailbox name ∷ HasMailbox target ∷ HasMessage name uid ∷ RoomForMessage target ∷ NextUid target ∷ MayBeCopied name uid ∷ []
-copy_checks name uid target Last = HasMailbox name ∷ HasMailbox target ∷ HasMessage name uid ∷ RoomForMessage target ∷ NextUid target ∷ []
+    HasMailbox name ∷ HasMailbox target ∷ HasUid name uid ∷ RoomForMessage target ∷ NextUid target ∷ MayBeCopied name uid ∷ []
+copy_checks name uid target Last = HasMailbox name ∷ HasMailbox target ∷ HasUid name uid ∷ RoomForMessage target ∷ NextUid target ∷ []
 copy_checks name uid target part = []
 
-abbrev pub deliver_checks : List ℕ → Part → List Check
+abbrev pub deliver_checks : List ℕ → EventPart → List Check
 deliver_checks name First = HasMailbox name ∷ RoomForMessage name ∷ NextUid name ∷ NextMapUid ∷ []
 deliver_checks name PlacesInstance = NextInstance ∷ []
 deliver_checks name (TakesFile true) = NextFiles 1 ∷ []
@@ -129,24 +129,24 @@ deliver_checks name StoresRecord = NextMapUid ∷ []
 deliver_checks name Last = HasMailbox name ∷ RoomForMessage name ∷ NextUid name ∷ []
 deliver_checks name part = []
 
-abbrev pub make_checks : List ℕ → Part → List Check
+abbrev pub make_checks : List ℕ → EventPart → List Check
 make_checks name First = IsNewName name ∷ RoomForMailbox ∷ NextMailbox ∷ []
 make_checks name Last = IsNewName name ∷ RoomForMailbox ∷ []
 make_checks name StartsOver = IsNewName name ∷ RoomForMailbox ∷ []
 make_checks name part = []
 
 -- A purge looks at the numbers of all its targets, and at the length of each.
-abbrev pub purge_checks : MapMeaning → List Taken → List Check
+abbrev pub purge_checks : MapMeaning → List TakenFile → List Check
 purge_checks m files = NextFiles (length (with_targets m files)) ∷ map (λ t. TargetFits (target_length m t.file)) (with_targets m files)
 
-abbrev pub part_checks : Run → RunEvent → Request → Part → List Check
+abbrev pub part_checks : Run → RunEvent → Request → EventPart → List Check
 part_checks run event (request.Deliver name time octets) part = deliver_checks name part
 part_checks run event (request.List name) First = HasMailbox name ∷ []
-part_checks run event (request.Fetch name uid) First = HasMailbox name ∷ HasMessage name uid.0 ∷ []
-part_checks run event (request.Flag name uid flags) First = HasMailbox name ∷ HasMessage name uid.0 ∷ []
+part_checks run event (request.Fetch name uid) First = HasMailbox name ∷ HasUid name uid.0 ∷ []
+part_checks run event (request.Flag name uid flags) First = HasMailbox name ∷ HasUid name uid.0 ∷ []
 part_checks run event (request.Copy name uid target) part = copy_checks name uid.0 target part
 part_checks run event (request.Move name uid target) part = copy_checks name uid.0 target part
-part_checks run event (request.Expunge name uid) First = HasMailbox name ∷ HasMessage name uid.0 ∷ []
+part_checks run event (request.Expunge name uid) First = HasMailbox name ∷ HasUid name uid.0 ∷ []
 part_checks run event (request.Make name) part = make_checks name part
 part_checks run event request.Purge First = purge_checks (map_of run) event.files
 part_checks run event request part = []
@@ -193,7 +193,7 @@ pub record AreCounts (run : Run) (lists : Lists) (records references counts inst
   pub records_are : records ≡ length (map_of run).records
   pub references_are : references ≡ sum_by (λ mailbox. length mailbox.messages) lists
   pub counts_are : counts ≡ sum_by (λ row. row.count) (map_of run).records
-  pub instances_are : instances ≡ count_different (map (λ instance. instance.id.0) (named (map_of run)))
+  pub instances_are : instances ≡ count_different (map (λ instance. instance.id.0) (named_instances (map_of run)))
 
 -- The numbers of a purge: what its own events dropped, doomed or removed.
 pub record ArePurged (run : Run) (event : RunEvent) (dropped files instances : ℕ) : Type 0 where
@@ -212,9 +212,9 @@ IsSecondHalf old name uid gone new =
     (gone ≡ is_none (message_at name uid old)) × (new ≡ (if gone then old else expunge name uid old))
 
 -- From the old lists a part of a request that isn't refused may give this reply and lead to the new lists.
-abbrev pub Does : Run → RunEvent → Lists → Request → Part → Reply → Lists → Type 0
+abbrev pub Does : Run → RunEvent → Lists → Request → EventPart → Reply → Lists → Type 0
 Does run event old (request.List name) First (reply.Listed rows) new =
-    (mailbox : Mailbox) × (mailbox_named name old ≡ Some mailbox) × (rows ≡ map row_of mailbox.messages) × (new ≡ old)
+    (mailbox : Mailbox) × (mailbox_named name old ≡ Some mailbox) × (rows ≡ map listing_row mailbox.messages) × (new ≡ old)
 Does run event old (request.Fetch name uid) First (reply.Fetched octets) new =
     (message : ListedMessage) × (message_at name uid.0 old ≡ Some message) × (octets ≡ message.octets) × (new ≡ old)
 Does run event old (request.Flag name uid flags) First reply.Done new = new ≡ set_flags name uid.0 flags old
@@ -233,7 +233,7 @@ Does run event old request part reply new = ⊥
 
 -- What a part of a request answers: a refusal, which is the first of its checks and changes nothing, or, where none of them
 -- refuses, what it does.
-abbrev pub PartAnswers : Run → RunEvent → Lists → Request → Part → Reply → Lists → Type 0
+abbrev pub PartAnswers : Run → RunEvent → Lists → Request → EventPart → Reply → Lists → Type 0
 PartAnswers run event old request part (reply.Refused refusal) new = (first_refusal run old (part_checks run event request part) ≡ Some refusal) × (new ≡ old)
 PartAnswers run event old request part reply new = (first_refusal run old (part_checks run event request part) ≡ None) × Does run event old request part reply new
 
@@ -241,7 +241,7 @@ PartAnswers run event old request part reply new = (first_refusal run old (part_
 abbrev pub Answers : Run → Lists → Request → RunEvent → Reply → Lists → Type 0
 Answers run old request event reply new = PartAnswers run event old request event.part reply new
 
--- the refusals that are steps; the others, want of memory, faults and damage, are none
+-- the refusals that are steps; the others, lack of memory, faults and damage, are none
 abbrev pub is_step : Refusal → Bool
 is_step refusal.NoMemory = false
 is_step refusal.ReadFault = false
@@ -267,14 +267,14 @@ one_of_guid guid None = 0
 one_of_guid guid (Some message) = if bytes_eq message.guid guid then 1 else 0
 
 -- How many references to a GUID a step adds: a delivery one to its own, a copy one to that of its source.
-abbrev pub refs_added : Lists → Request → Part → Reply → List ℕ → ℕ
+abbrev pub refs_added : Lists → Request → EventPart → Reply → List ℕ → ℕ
 refs_added old (request.Deliver name time octets) Last (reply.Saved uid given) guid = if bytes_eq given.0 guid then 1 else 0
 refs_added old (request.Copy name uid target) Last (reply.Copied given) guid = one_of_guid guid (message_at name uid.0 old)
 refs_added old (request.Move name uid target) Last (reply.Copied given) guid = one_of_guid guid (message_at name uid.0 old)
 refs_added old request part reply guid = 0
 
 -- How many it takes: an expunge, and the second half of a move, one from that of the message, where it is listed.
-abbrev pub refs_taken : Lists → Request → Part → Reply → List ℕ → ℕ
+abbrev pub refs_taken : Lists → Request → EventPart → Reply → List ℕ → ℕ
 refs_taken old (request.Expunge name uid) First reply.Done guid = one_of_guid guid (message_at name uid.0 old)
 refs_taken old (request.Move name uid target) SecondHalf (reply.Moved given gone) guid = one_of_guid guid (message_at name uid.0 old)
 refs_taken old request part reply guid = 0

@@ -16,25 +16,25 @@ use Rattle.model_meaning.specs.MapMeaning.{MapRecord, MapMeaning, map_meaning, n
 -- is the event at which a delivery, a copy or the first half of a move adds its message, a make its mailbox, and the one
 -- at which a purge or a resync is answered. `GivesBack` lowers counts, behind a refused `Last` or behind a message that
 -- left. `StartsOver` removes the log of a make whose number was overtaken.
-pub data Part : Type 0 where
-  First : Part
-  Compares : Part
-  PlacesInstance : Part
-  TakesFile : (new : Bool) → Part
-  PlacesMessage : Part
-  StoresRecord : Part
-  Last : Part
-  SecondHalf : Part
-  GivesBack : Part
-  StartsOver : Part
-  ReadsPiece : Part
-  Unpins : Part
-  RemovesFile : Part
-  MakesTarget : Part
-  CopiesMessage : Part
-  Switches : Part
-  RemovesInstance : Part
-  ReadsFile : Part
+pub data EventPart : Type 0 where
+  First : EventPart
+  Compares : EventPart
+  PlacesInstance : EventPart
+  TakesFile : (new : Bool) → EventPart
+  PlacesMessage : EventPart
+  StoresRecord : EventPart
+  Last : EventPart
+  SecondHalf : EventPart
+  GivesBack : EventPart
+  StartsOver : EventPart
+  ReadsPiece : EventPart
+  Unpins : EventPart
+  RemovesFile : EventPart
+  MakesTarget : EventPart
+  CopiesMessage : EventPart
+  Switches : EventPart
+  RemovesInstance : EventPart
+  ReadsFile : EventPart
 
 -- an entry that was appended to the log of a mailbox
 pub record BoxAppend : Type 0 where
@@ -43,7 +43,7 @@ pub record BoxAppend : Type 0 where
 
 -- A storage file that an event took, with the number drawn for its target, or 0; and a file that a fetch pinned, with the
 -- number of pieces that it has to read.
-pub record Taken : Type 0 where
+pub record TakenFile : Type 0 where
   pub file : ℕ
   pub target : ℕ
 
@@ -60,7 +60,7 @@ pub record Pin : Type 0 where
 pub record RunEvent : Type 0 where
   pub lane : ℕ
   pub request : ℕ
-  pub part : Part
+  pub part : EventPart
   pub refused : Option Refusal
   pub reply : Option Reply
   pub map_entries : List MapEntry
@@ -68,7 +68,7 @@ pub record RunEvent : Type 0 where
   pub owes : List ℕ
   pub drew : Highest
   pub given : List (List ℕ)
-  pub files : List Taken
+  pub files : List TakenFile
   pub pins : List Pin
   pub copied : List ℕ
   pub doomed : List ℕ
@@ -80,8 +80,8 @@ pub record RunEvent : Type 0 where
   pub damaged : List ℕ
   pub moment : ℕ
 
--- an event that did nothing that is told
-abbrev pub event_of : ℕ → ℕ → Part → ℕ → RunEvent
+-- an event that did nothing
+abbrev pub event_of : ℕ → ℕ → EventPart → ℕ → RunEvent
 event_of lane request part moment = record {
   lane = lane;
   request = request;
@@ -222,7 +222,7 @@ abbrev pub is_copied_from : ℕ → MapRecord → Bool
 is_copied_from file row = (row.file == file) && nat_lt 0 row.count
 
 -- the files of which something is copied, each of which gets a target
-abbrev pub with_targets : MapMeaning → List Taken → List Taken
+abbrev pub with_targets : MapMeaning → List TakenFile → List TakenFile
 with_targets m files = filter (λ t. list_any (is_copied_from t.file) m.records) files
 
 -- the length of a target: its header line, and the regions that are copied

@@ -11,7 +11,7 @@ use Rattle.mdbox_base.specs.declared.entries.MapCount.{MapCount}
 use Rattle.mdbox_base.specs.declared.entries.MapPlace.{MapPlace}
 use Rattle.mdbox_base.specs.declared.entries.MapEntry.{MapEntry}
 use Rattle.mdbox_base.specs.declared.entries.MapEntry.TheVariants as map
-use Rattle.model_logs.specs.Entries.{four, list_text, row_text, map_text, MapInRange, RowInRange}
+use Rattle.model_logs.specs.Entries.{four, list_text, instance_row_text, map_text, MapInRange, RowInRange}
 use Rattle.log_records.specs.declared.stored.Stored.{Stored}
 use Rattle.log_records.specs.Stored.{stored_text}
 use Rattle.log_records.proofs.ListItems.{Sized, flat_size, row_sized}
@@ -48,15 +48,15 @@ purged_size entry file target ps us e range =
 pub stored_size : (entry : MapEntry) (o c : ℕ) (u : MapUid) (f : FileNo) (a z : ℕ) (g : Guid) (is : List InstRow) → entry ≡ map.S o c u f a z g is → MapInRange entry → length (map_text entry) ≡ 38 + 40 * length is
 stored_size entry o c u f a z g is e range =
     let r : MapInRange (map.S o c u f a z g is) = subst MapInRange e range in
-    let behind : length (g.0 ++ (to_be_bytes w16 (length is) ++ flat_map row_text is)) ≡ length g.0 + length (to_be_bytes w16 (length is) ++ flat_map row_text is) = length-append g.0 (to_be_bytes w16 (length is) ++ flat_map row_text is) in
-    ap (λ (m : MapEntry). length (map_text m)) e ∙ omega (arith, behind, r.6, flat_size row_text RowInRange 40 row_sized is r.8)
+    let behind : length (g.0 ++ (to_be_bytes w16 (length is) ++ flat_map instance_row_text is)) ≡ length g.0 + length (to_be_bytes w16 (length is) ++ flat_map instance_row_text is) = length-append g.0 (to_be_bytes w16 (length is) ++ flat_map instance_row_text is) in
+    ap (λ (m : MapEntry). length (map_text m)) e ∙ omega (arith, behind, r.6, flat_size instance_row_text RowInRange 40 row_sized is r.8)
 
 filled : (n : ℕ) (into text : List ℕ) → take n into ≡ text → length into ≤ n → into ≡ text
 filled n into text e l = sym (take_all n into l) ∙ e
 
 pub stored_filled : (s : Stored) (slice is : List InstRow) (i1 i2 i3 : List ℕ) (r1 r2 r3 : ℕ) → slice ≡ is → take r1 i1 ≡ 83 ∷ [] → take r2 i2 ≡ take r1 i1 ++ stored_text s
-    → take r3 i3 ≡ take r2 i2 ++ (to_be_bytes w16 (length slice) ++ flat_map row_text slice) → length i3 ≤ r3 → i3 ≡ 83 ∷ (stored_text s ++ (to_be_bytes w16 (length is) ++ flat_map row_text is))
+    → take r3 i3 ≡ take r2 i2 ++ (to_be_bytes w16 (length slice) ++ flat_map instance_row_text slice) → length i3 ≤ r3 → i3 ≡ 83 ∷ (stored_text s ++ (to_be_bytes w16 (length is) ++ flat_map instance_row_text is))
 stored_filled s slice is i1 i2 i3 r1 r2 r3 same e1 e2 e3 l =
     let front : take r2 i2 ≡ 83 ∷ stored_text s = e2 ∙ ap (λ (t : List ℕ). t ++ stored_text s) e1 in
-    filled r3 i3 _ (e3 ∙ ap (λ (t : List ℕ). t ++ (to_be_bytes w16 (length slice) ++ flat_map row_text slice)) front) l
-    ∙ ap (λ (xs : List InstRow). 83 ∷ (stored_text s ++ (to_be_bytes w16 (length xs) ++ flat_map row_text xs))) same
+    filled r3 i3 _ (e3 ∙ ap (λ (t : List ℕ). t ++ (to_be_bytes w16 (length slice) ++ flat_map instance_row_text slice)) front) l
+    ∙ ap (λ (xs : List InstRow). 83 ∷ (stored_text s ++ (to_be_bytes w16 (length xs) ++ flat_map instance_row_text xs))) same

@@ -5,7 +5,7 @@ use Rattle.std.specs.Prelude.{MatchOption, Option, Some, None}
 use Rattle.std.specs.Int.{w16, to_be_bytes}
 use Rattle.std.proofs.Math.Nat.{mul-suc, mul-le-mul_left}
 use Rattle.std.proofs.lemmas.List.Concat.{flat_map-append}
-use Rattle.model_logs.specs.Entries.{four, list_text, row_text, RowInRange}
+use Rattle.model_logs.specs.Entries.{four, list_text, instance_row_text, RowInRange}
 use Rattle.model_octets.proofs.PiecesLemmas.{split_same}
 use Rattle.model_octets.proofs.NumberLemmas.{next_four, next_two}
 
@@ -113,7 +113,7 @@ pub ends : (octets front rest : List ℕ) → octets ≡ front ++ rest → lengt
 ends octets front [] e h = e ∙ append-nil front
 ends octets front (x ∷ rest) e h = absurd (omega (arith, h))
 
-pub row_sized : Sized row_text RowInRange 40
+pub row_sized : Sized instance_row_text RowInRange 40
 row_sized row range = omega (arith, range.0, range.1, length-append row.hash.0 (row.id.0 ++ four row.size), length-append row.id.0 (four row.size))
 
 -- what follows a list is one

@@ -9,14 +9,14 @@ use Rattle.mdbox_base.specs.declared.ids.MapUid.{MapUid}
 use Rattle.mdbox_base.specs.declared.entries.InstRow.{InstRow}
 use Rattle.mdbox_base.specs.declared.entries.MapCount.{MapCount}
 use Rattle.mdbox_base.specs.declared.entries.MapPlace.{MapPlace}
-use Rattle.model_logs.specs.Entries.{four, list_text, name_text, row_text, RowInRange}
+use Rattle.model_logs.specs.Entries.{four, list_text, name_text, instance_row_text, RowInRange}
 
 abbrev pub IsNotMade : List ℕ → Type 0
 IsNotMade fields = (mailbox generation : ℕ) (name : List ℕ) → mailbox < 2 ^ 32 → generation < 2 ^ 32 → IsName name → fields ≡ four mailbox ++ (four generation ++ name_text name) → ⊥
 
 abbrev pub IsNotStored : List ℕ → Type 0
 IsNotStored fields = (origin count : ℕ) (uid : MapUid) (file : FileNo) (offset size : ℕ) (guid : Guid) (instances : List InstRow) → length guid.0 ≡ 16 → length instances < 2 ^ 16 → AllByRecursion RowInRange instances
-    → fields ≡ origin ∷ (to_be_bytes w16 count ++ (four uid.0 ++ (four file.0 ++ (four offset ++ (four size ++ (guid.0 ++ (to_be_bytes w16 (length instances) ++ flat_map row_text instances))))))) → ⊥
+    → fields ≡ origin ∷ (to_be_bytes w16 count ++ (four uid.0 ++ (four file.0 ++ (four offset ++ (four size ++ (guid.0 ++ (to_be_bytes w16 (length instances) ++ flat_map instance_row_text instances))))))) → ⊥
 
 abbrev pub IsNotLowered : List ℕ → Type 0
 IsNotLowered fields = (uids : List MapUid) → length uids < 2 ^ 32 → AllByRecursion (λ u. u.0 < 2 ^ 32) uids → fields ≡ list_text (λ u. four u.0) uids → ⊥

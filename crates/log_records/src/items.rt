@@ -1,7 +1,7 @@
 // The items of the lists that entries have.
 ghost use Rattle.std.specs.Prelude.{◌≡◌, ◌+◌, ◌<◌, ◌≤◌, ◌^◌, ◌++◌, ℕ, List, length, take, MatchOption};
 ghost use Rattle.std.specs.Int.{w16, to_be_bytes};
-ghost use Rattle.model_logs.specs.Entries.{four, row_text, RowInRange};
+ghost use Rattle.model_logs.specs.Entries.{four, instance_row_text, RowInRange};
 
 use crate::fields::{array_at, number_at, put, short_at};
 use mdbox_base::{Hash, InstId, InstRow, MapCount, MapPlace, MapUid};
@@ -124,7 +124,7 @@ impl Item for MapPlace {
 impl Item for InstRow {
     ghost use Rattle.std.proofs.Common.{arith, length-append};
 
-    ghost item_text = { row_text };
+    ghost item_text = { instance_row_text };
 
     ghost in_range = { RowInRange };
 

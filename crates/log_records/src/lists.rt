@@ -2,7 +2,7 @@
 ghost use Rattle.std.specs.Prelude.{◌≡◌, ◌+◌, ◌*◌, ◌<◌, ◌≤◌, ◌^◌, ◌++◌, ℕ, List, length, take, flat_map, IfOk, MatchOption};
 ghost use Rattle.std.specs.List.{AllByRecursion};
 ghost use Rattle.std.specs.Int.{w16, to_be_bytes};
-ghost use Rattle.model_logs.specs.Entries.{list_text, row_text, RowInRange};
+ghost use Rattle.model_logs.specs.Entries.{list_text, instance_row_text, RowInRange};
 ghost use Rattle.mdbox_base.specs.declared.entries.InstRow.{InstRow};
 
 use crate::fields::{number_at, put, short_at};
@@ -60,8 +60,8 @@ pub fn only_list<T: Item>(alloc: Global, text: &[u8]) -> Result<Option<Seq<T>>, 
 /// The instances that are the whole text, with their number in two octets.
 pub fn only_instances(alloc: Global, text: &[u8]) -> Result<Option<Seq<InstRow>>, NoMemory>
     ensures { IfOk result (λ found. MatchOption found
-        ((xs : List InstRow) → length xs < 2 ^ 16 → AllByRecursion RowInRange xs → text.now ≡ to_be_bytes w16 (length xs) ++ flat_map row_text xs → ⊥)
-        (λ xs. (text.now ≡ to_be_bytes w16 (length xs) ++ flat_map row_text xs) × (length xs < 2 ^ 16) × AllByRecursion RowInRange xs)) }
+        ((xs : List InstRow) → length xs < 2 ^ 16 → AllByRecursion RowInRange xs → text.now ≡ to_be_bytes w16 (length xs) ++ flat_map instance_row_text xs → ⊥)
+        (λ xs. (text.now ≡ to_be_bytes w16 (length xs) ++ flat_map instance_row_text xs) × (length xs < 2 ^ 16) × AllByRecursion RowInRange xs)) }
 {
     let Some((count, rest)) = short_at(text) else {
         return Ok(None);
@@ -106,7 +106,7 @@ pub fn put_instances(into: &mut [u8], place: usize, items: &[InstRow]) -> usize
     requires count { length items.now < 2 ^ 16 }
     requires room { place + 2 + 40 * length items.now ≤ length into.old }
     ensures behind { result ≡ place + 2 + 40 * length items.now }
-    ensures front { take result into.new ≡ take place into.old ++ (to_be_bytes w16 (length items.now) ++ flat_map row_text items.now) }
+    ensures front { take result into.new ≡ take place into.old ++ (to_be_bytes w16 (length items.now) ++ flat_map instance_row_text items.now) }
     ensures length { length into.new ≡ length into.old }
 {
     let place = put(into, place, &(items.len() as u16).to_be_bytes());

@@ -13,7 +13,7 @@ use Rattle.mdbox_base.specs.declared.entries.MapEntry.TheVariants as entry
 use Rattle.model_meaning.specs.Rows.{rows_by}
 use Rattle.model_meaning.specs.MapMeaning.{MapRecord, MapBox, MapMeaning, record_rules, record_changed, box_rules}
 use Rattle.model_meaning.proofs.AppliedLemmas.{records_by_mailbox, records_by_sealed, boxes_by_highest, boxes_by_stored, boxes_by_raised, boxes_by_lowered, boxes_by_counted, boxes_by_purged, boxes_by_sealed, only_changes}
-use Rattle.map_index.specs.Shown.{IsMade, IsSealing}
+use Rattle.map_index.specs.Shown.{IsMaking, IsSealing}
 
 -- what is said of an error holds of any result
 pub on_err : {T E : Type 0} → (r : Result T E) (P : Type 0) → P → OnErr r P
@@ -30,7 +30,7 @@ filter-map f p [] = refl
 filter-map f p (x ∷ xs) = filter_step f (p (f x)) x _ _ (filter-map f p xs)
 
 -- a mailbox that is made leaves records and files
-pub made_leaves : (e : MapEntry) (rows : List MapRecord) → IsMade e → rows_by record_rules e rows ≡ rows
+pub made_leaves : (e : MapEntry) (rows : List MapRecord) → IsMaking e → rows_by record_rules e rows ≡ rows
 made_leaves (entry.B b g n) rows h = records_by_mailbox b g n rows
 made_leaves (entry.H x) rows h = absurd h
 made_leaves (entry.G b g) rows h = absurd h

@@ -13,7 +13,7 @@ use Rattle.model_meaning.proofs.MapPlaceLemmas.{changed_same, equal_is, equal_ye
 use Rattle.model_meaning.proofs.SealedLemmas.{all_with}
 use Rattle.model_octets.proofs.PairLemmas.{found_only, pairs_nil, pairs_push, pairs_head, pairs_tail}
 use Rattle.model_meaning.proofs.KeptRowLemmas.{kept_all, kept_length, kept_pairs, kept_rows}
-use Rattle.map_index.specs.Kept.{AreKeptRecords, AreKeptBoxes, AreKeptFiles, IsKept}
+use Rattle.map_index.specs.Kept.{AreKeptRecords, AreKeptBoxes, AreKeptFiles, IsMapInOrder}
 use Rattle.map_index.specs.Shown.{CanRise}
 use Rattle.map_index.proofs.Pairs.{few_rising}
 
@@ -148,11 +148,11 @@ files_more m (map.E file) k f = files_with file.0 m.sealed f k
 
 -- ---- the whole
 
-pub kept_more : (m : MapMeaning) (entry : MapEntry) → IsKept m → MapFits m entry → (map_applied entry m).highest.map < 2 ^ 32 → IsKept (map_applied entry m)
+pub kept_more : (m : MapMeaning) (entry : MapEntry) → IsMapInOrder m → MapFits m entry → (map_applied entry m).highest.map < 2 ^ 32 → IsMapInOrder (map_applied entry m)
 kept_more m entry k f fits = record { records = rows_more m entry k.records f; boxes = boxes_more m entry k.boxes f; files = files_more m entry k.files f; fits = fits }
 
 -- an entry that fits raises no count out of its range
-pub can_rise : (m : MapMeaning) (entry : MapEntry) → IsKept m → MapFits m entry → CanRise entry m.records
+pub can_rise : (m : MapMeaning) (entry : MapEntry) → IsMapInOrder m → MapFits m entry → CanRise entry m.records
 can_rise m (map.H h) k f = λ i d lt. tt
 can_rise m (map.B b g n) k f = λ i d lt. tt
 can_rise m (map.G b g) k f = λ i d lt. tt

@@ -7,8 +7,8 @@ use Rattle.model_meaning.specs.MapFits.{FitsPlace, HasRecord, IsKnown}
 unfoldable pub HasRow : MapMeaning → ℕ → Type 0
 HasRow m uid = IsKnown m uid
 
-unfoldable pub IsCounted : MapMeaning → ℕ → Type 0
-IsCounted m uid = HasRecord m uid (λ row. 1 ≤ row.count)
+unfoldable pub HasCount : MapMeaning → ℕ → Type 0
+HasCount m uid = HasRecord m uid (λ row. 1 ≤ row.count)
 
 unfoldable pub IsIn : MapMeaning → ℕ → ℕ → Type 0
 IsIn m file uid = HasRecord m uid (λ row. row.file ≡ file)

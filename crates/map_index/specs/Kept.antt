@@ -23,7 +23,7 @@ pub record AreKeptFiles (files : List ℕ) : Type 0 where
   pub numbers : All IsNumber files
   pub few : length files ≤ 4294967294
 
-pub record IsKept (m : MapMeaning) : Type 0 where
+pub record IsMapInOrder (m : MapMeaning) : Type 0 where
   pub records : AreKeptRecords m.highest.map m.records
   pub boxes : AreKeptBoxes m.highest.mailbox m.boxes
   pub files : AreKeptFiles m.sealed

@@ -7,7 +7,7 @@ use Rattle.mdbox_base.specs.declared.entries.MapEntry.{MapEntry}
 use Rattle.mdbox_base.specs.declared.entries.MapEntry.TheVariants as entry
 use Rattle.mdbox_base.specs.declared.ids.FileNo.{FileNo}
 use Rattle.mdbox_base.specs.declared.ids.StoreId.{StoreId}
-use Rattle.model_meaning.specs.MapMeaning.{MapRecord, MapBox, MapMeaning, named}
+use Rattle.model_meaning.specs.MapMeaning.{MapRecord, MapBox, MapMeaning, named_instances}
 use Rattle.map_index.specs.declared.rows.MapRow.{MapRow}
 use Rattle.map_index.specs.declared.rows.BoxAt.{BoxAt}
 use Rattle.map_index.specs.declared.rows.Record.{Record}
@@ -15,8 +15,8 @@ use Rattle.map_index.specs.declared.rows.Mailbox.{Mailbox}
 
 -- ---- what the meaning has, as look-ups answer it
 
-abbrev pub shown : MapRecord → MapRow
-shown r = record { uid = record { 0 = r.uid }; origin = r.origin; count = r.count; file = record { 0 = r.file }; offset = r.offset; size = r.size; guid = record { 0 = r.guid } }
+abbrev pub shown_record : MapRecord → MapRow
+shown_record r = record { uid = record { 0 = r.uid }; origin = r.origin; count = r.count; file = record { 0 = r.file }; offset = r.offset; size = r.size; guid = record { 0 = r.guid } }
 
 abbrev pub shown_box : MapBox → BoxAt
 shown_box b = record { number = record { 0 = b.number }; generation = b.generation }
@@ -26,8 +26,8 @@ shown_file n = record { 0 = n }
 
 -- ---- what the code has, as the meaning has it
 
-abbrev pub record_of : Record → MapRecord
-record_of r = record {
+abbrev pub meant_record : Record → MapRecord
+meant_record r = record {
   uid = r.row.uid.0;
   origin = r.row.origin;
   count = r.row.count;
@@ -44,7 +44,7 @@ box_of b = record { number = b.at.number.0; generation = b.at.generation; name =
 abbrev pub meaning_of : StoreId → List Record → List Mailbox → List FileNo → Highest → MapMeaning
 meaning_of store records boxes files most = record {
   store = store.0;
-  records = map record_of records;
+  records = map meant_record records;
   boxes = map box_of boxes;
   sealed = map (λ f. f.0) files;
   highest = most;
@@ -74,8 +74,8 @@ abbrev pub box_of_name : MapMeaning → List ℕ → Option MapBox
 box_of_name m name = find (λ box. bytes_eq box.name name) m.boxes
 
 -- a record names the instance
-abbrev pub is_named : MapMeaning → List ℕ → Bool
-is_named m id = list_any (λ i. bytes_eq i.id.0 id) (named m)
+abbrev pub is_instance_named : MapMeaning → List ℕ → Bool
+is_instance_named m id = list_any (λ i. bytes_eq i.id.0 id) (named_instances m)
 
 -- a record names the instance of this hash and id
 abbrev pub names_file : MapMeaning → List ℕ → List ℕ → Bool
@@ -93,19 +93,19 @@ nearer_row (Some first) row = if nat_le first.offset row.offset then Some first 
 
 -- an entry that raises the count of a record leaves it in its range
 abbrev pub IsRisen : MapEntry → ℕ → ℕ → Type 0
-IsRisen (entry.U named) uid count = named.0 ≡ uid → count ≤ 65534
+IsRisen (entry.U named_instances) uid count = named_instances.0 ≡ uid → count ≤ 65534
 IsRisen other uid count = Unit {0}
 
 abbrev pub CanRise : MapEntry → List MapRecord → Type 0
 CanRise entry rows = All (λ row. IsRisen entry row.uid row.count) rows
 
-abbrev pub IsStored : MapEntry → Type 0
-IsStored (entry.S origin count uid file offset size guid instances) = Unit {0}
-IsStored other = ⊥
+abbrev pub IsStoring : MapEntry → Type 0
+IsStoring (entry.S origin count uid file offset size guid instances) = Unit {0}
+IsStoring other = ⊥
 
-abbrev pub IsMade : MapEntry → Type 0
-IsMade (entry.B mailbox generation name) = Unit {0}
-IsMade other = ⊥
+abbrev pub IsMaking : MapEntry → Type 0
+IsMaking (entry.B mailbox generation name) = Unit {0}
+IsMaking other = ⊥
 
 abbrev pub IsSealing : MapEntry → Type 0
 IsSealing (entry.E file) = Unit {0}

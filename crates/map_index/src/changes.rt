@@ -2,12 +2,12 @@
 ghost use Rattle.std.specs.Prelude.{◌≡◌, ◌==◌, ℕ, List, map, filter, not, false, slice_get, IsErr, IfOk, OnOk, OnErr};
 ghost use Rattle.std.specs.Option.{option_map_or};
 ghost use Rattle.model_meaning.specs.Rows.{rows_by};
-ghost use Rattle.model_meaning.specs.MapMeaning.{record_rules, record_changed, box_changed, box_rules, sealed_by, with_number, has_uid, placed};
+ghost use Rattle.model_meaning.specs.MapMeaning.{record_rules, record_changed, box_changed, box_rules, sealed_by, with_number, has_map_uid, moved_record};
 ghost use Rattle.mdbox_base.specs.declared.entries.InstRow.{InstRow};
 ghost use Rattle.mdbox_base.specs.declared.entries.MapEntry.TheVariants as entry;
-ghost use Rattle.map_index.specs.Shown.{record_of, box_of, CanRise, IsRisen, IsStored, IsMade, IsSealing};
+ghost use Rattle.map_index.specs.Shown.{meant_record, box_of, CanRise, IsRisen, IsStoring, IsMaking, IsSealing};
 
-use crate::named::{count_given, has_uid, place_given};
+use crate::named::{count_given, has_map_uid, place_given};
 use crate::rows::{BoxAt, Mailbox, MapRow, Record, place_of};
 use mdbox_base::{
     BoxNo, FileNo, InstRow, MapEntry, MapPlace, MapUid, Name, NoMemory, Seq, name_of,
@@ -20,10 +20,10 @@ pub fn change_records(
     records: &mut Vec<Record>,
     entry: &MapEntry,
 ) -> Result<(), NoMemory>
-    requires { CanRise entry.now (map record_of records.old.items) }
-    ensures ok { OnOk result (map record_of records.new.items ≡ rows_by record_rules entry.now (map record_of records.old.items)) }
+    requires { CanRise entry.now (map meant_record records.old.items) }
+    ensures ok { OnOk result (map meant_record records.new.items ≡ rows_by record_rules entry.now (map meant_record records.old.items)) }
     ensures err { OnErr result (records.new.items ≡ records.old.items) }
-    ensures stored_only { IsErr result → IsStored entry.now }
+    ensures stored_only { IsErr result → IsStoring entry.now }
 {
     match entry {
         MapEntry::S {
@@ -66,8 +66,8 @@ fn copied_instances(alloc: Global, instances: &Seq<InstRow>) -> Result<Seq<InstR
 
 /// Changes each record as the entry says.
 fn change_each(records: &mut Vec<Record>, entry: &MapEntry)
-    requires { CanRise entry.now (map record_of records.old.items) }
-    ensures { map record_of records.new.items ≡ map (record_changed entry.now) (map record_of records.old.items) }
+    requires { CanRise entry.now (map meant_record records.old.items) }
+    ensures { map meant_record records.new.items ≡ map (record_changed entry.now) (map meant_record records.old.items) }
 {
     for place in 0..records.len() {
         let row = changed(entry, records[place].row);
@@ -78,14 +78,14 @@ fn change_each(records: &mut Vec<Record>, entry: &MapEntry)
 /// The record as the entry changes it.
 fn changed(entry: &MapEntry, row: MapRow) -> MapRow
     requires { IsRisen entry.now row.uid.0 row.count }
-    ensures { (instances : List InstRow) → record_of (record { row = result; instances = instances }) ≡ record_changed entry.now (record_of (record { row = row; instances = instances })) }
+    ensures { (instances : List InstRow) → meant_record (record { row = result; instances = instances }) ≡ record_changed entry.now (meant_record (record { row = row; instances = instances })) }
 {
     match entry {
         MapEntry::U { uid } if uid.0 == row.uid.0 => MapRow {
             count: row.count.saturating_add(1),
             ..row
         },
-        MapEntry::D { uids } if has_uid(uids.as_slice(), row.uid) => MapRow {
+        MapEntry::D { uids } if has_map_uid(uids.as_slice(), row.uid) => MapRow {
             count: row.count.saturating_sub(1),
             ..row
         },
@@ -94,15 +94,15 @@ fn changed(entry: &MapEntry, row: MapRow) -> MapRow
             ..row
         },
         MapEntry::P { target, moved, .. } => {
-            placed(row, *target, place_given(moved.as_slice(), row.uid))
+            moved_record(row, *target, place_given(moved.as_slice(), row.uid))
         }
         _ => row,
     }
 }
 
 /// The record at another place, if it is given one.
-fn placed(row: MapRow, target: u32, place: Option<MapPlace>) -> MapRow
-    ensures { (instances : List InstRow) → record_of (record { row = result; instances = instances }) ≡ placed (record_of (record { row = row; instances = instances })) target place }
+fn moved_record(row: MapRow, target: u32, place: Option<MapPlace>) -> MapRow
+    ensures { (instances : List InstRow) → meant_record (record { row = result; instances = instances }) ≡ moved_record (meant_record (record { row = row; instances = instances })) target place }
 {
     match place {
         Some(place) => MapRow {
@@ -116,11 +116,11 @@ fn placed(row: MapRow, target: u32, place: Option<MapPlace>) -> MapRow
 
 /// Removes each record whose map uid is in the list.
 fn drop_records(records: &mut Vec<Record>, dropped: &[MapUid])
-    ensures { records.new.items ≡ filter (λ r. not (has_uid r.row.uid.0 dropped.now)) records.old.items }
+    ensures { records.new.items ≡ filter (λ r. not (has_map_uid r.row.uid.0 dropped.now)) records.old.items }
 {
     let mut place = 0;
     while place < records.len() {
-        if has_uid(dropped, records[place].row.uid) {
+        if has_map_uid(dropped, records[place].row.uid) {
             records.remove(place);
         } else {
             place += 1;
@@ -136,7 +136,7 @@ pub fn change_boxes(
 ) -> Result<(), NoMemory>
     ensures ok { OnOk result (map box_of boxes.new.items ≡ rows_by box_rules entry.now (map box_of boxes.old.items)) }
     ensures err { OnErr result (boxes.new.items ≡ boxes.old.items) }
-    ensures made_only { IsErr result → IsMade entry.now }
+    ensures made_only { IsErr result → IsMaking entry.now }
 {
     match entry {
         MapEntry::B {

@@ -2,7 +2,7 @@
 ghost use Rattle.std.specs.Prelude.{◌≡◌, ◌≢◌, ◌+◌, ◌≤◌, ◌↔◌, ◌⊎◌, IsTrue, All, AllPairs};
 ghost use Rattle.model_meaning.specs.MapFits.{IsRaised, IsApart, AgreesOn};
 ghost use Rattle.mdbox_base.specs.Words.{IsNumber};
-ghost use Rattle.map_index.specs.Shown.{record_of};
+ghost use Rattle.map_index.specs.Shown.{meant_record};
 
 use crate::rows::{Mailbox, MapRow, Record};
 use mdbox_base::{Guid, InstRow};
@@ -36,7 +36,7 @@ pub fn ends(offset: u32, size: u32) -> bool
 
 /// Whether no region of this file overlaps these octets.
 pub fn is_free(records: &[Record], file: u32, offset: u32, size: u32) -> bool
-    ensures { IsTrue result ↔ All (λ r. r.row.file.0 ≡ file → IsApart offset size (record_of r)) records.now }
+    ensures { IsTrue result ↔ All (λ r. r.row.file.0 ≡ file → IsApart offset size (meant_record r)) records.now }
 {
     records
         .iter()

@@ -3,7 +3,7 @@ ghost use Rattle.std.specs.Prelude.{◌≡◌, [], length, slice_get, IsErr, IfO
 ghost use Rattle.std.specs.Option.{option_map, option_copied};
 ghost use Rattle.model_meaning.specs.MapMeaning.{MapMeaning, map_meaning, map_applied, record_at, record_of, count_of, box_at, is_sealed};
 ghost use Rattle.model_meaning.specs.MapFits.{MapFits};
-ghost use Rattle.map_index.specs.Shown.{record_of as record_held, box_of, shown, shown_box, shown_file, record_from, box_of_name, is_named, names_file, TakesMemory};
+ghost use Rattle.map_index.specs.Shown.{meant_record as record_held, box_of, shown_record, shown_box, shown_file, record_from, box_of_name, is_instance_named, names_file, TakesMemory};
 
 use crate::changes::{change_boxes, change_files, change_records};
 use crate::numbers::{higher, numbers_of};
@@ -38,15 +38,15 @@ impl Model for MapIndex {
     ghost Value = { MapMeaning };
 
     ghost use Rattle.map_index.specs.Shown.{meaning_of};
-    ghost use Rattle.map_index.specs.Kept.{IsKept};
+    ghost use Rattle.map_index.specs.Kept.{IsMapInOrder};
 
     ghost view = { λ index. meaning_of index.store index.records.items index.boxes.items index.files.items index.most };
 
-    ghost invariant = { λ index. IsKept (meaning_of index.store index.records.items index.boxes.items index.files.items index.most) };
+    ghost invariant = { λ index. IsMapInOrder (meaning_of index.store index.records.items index.boxes.items index.files.items index.most) };
 }
 
 impl MapIndex {
-    ghost use Rattle.map_index.specs.Kept.{IsKept};
+    ghost use Rattle.map_index.specs.Kept.{IsMapInOrder};
 
     /// The index of a log without entries, in the store with this id.
     pub fn empty(alloc: Global, id: StoreId) -> Result<MapIndex, NoMemory>
@@ -70,7 +70,7 @@ impl MapIndex {
     /// Records stand in order of map uid up to the highest, mailboxes in order of number up to the highest, sealed files
     /// in order of number. GUIDs of records and names of mailboxes differ, and there are at most 1,024 mailboxes.
     pub fn is_kept(&self)
-        ensures { IsKept self.now }
+        ensures { IsMapInOrder self.now }
     {
         let _ = &self.records;
     }
@@ -112,14 +112,14 @@ impl MapIndex {
 
     /// The record of a map uid. None exactly where there is none.
     pub fn row(&self, uid: MapUid) -> Option<MapRow>
-        ensures { result ≡ option_map shown (record_at self.now uid.0) }
+        ensures { result ≡ option_map shown_record (record_at self.now uid.0) }
     {
         self.find(uid).map(|record| record.row)
     }
 
     /// The record of a GUID. None exactly where there is none.
     pub fn row_of(&self, guid: Guid) -> Option<MapRow>
-        ensures { result ≡ option_map shown (record_of self.now guid.0) }
+        ensures { result ≡ option_map shown_record (record_of self.now guid.0) }
     {
         self.find_guid(guid).map(|record| record.row)
     }
@@ -154,14 +154,14 @@ impl MapIndex {
 
     /// The records in order of map uid, by places from 0. None exactly past the end.
     pub fn row_at(&self, place: u32) -> Option<MapRow>
-        ensures { result ≡ option_map shown (slice_get self.now.records place) }
+        ensures { result ≡ option_map shown_record (slice_get self.now.records place) }
     {
         self.records.get(place as usize).map(|record| record.row)
     }
 
     /// The record of this file with the least offset that is at least `from`. None exactly where there is none.
     pub fn in_file(&self, file: FileNo, from: u32) -> Option<MapRow>
-        ensures { result ≡ option_map shown (record_from self.now file.0 from) }
+        ensures { result ≡ option_map shown_record (record_from self.now file.0 from) }
     {
         first_in_file(&self.records, file, from)
     }
@@ -209,8 +209,8 @@ impl MapIndex {
     }
 
     /// Whether a record names this instance.
-    pub fn is_named(&self, id: InstId) -> bool
-        ensures { result ≡ is_named self.now id.0 }
+    pub fn is_instance_named(&self, id: InstId) -> bool
+        ensures { result ≡ is_instance_named self.now id.0 }
     {
         names_instance(&self.records, id)
     }

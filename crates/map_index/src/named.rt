@@ -3,17 +3,17 @@ ghost use Rattle.std.specs.Prelude.{◌≡◌, ◌==◌, map, find, not, All, Is
 ghost use Rattle.std.specs.List.{list_any};
 ghost use Rattle.std.specs.Option.{option_copied};
 ghost use Rattle.std.specs.List.Sorted.{IsStrictlyIncreasing};
-ghost use Rattle.model_meaning.specs.MapMeaning.{has_uid, count_given, place_given};
+ghost use Rattle.model_meaning.specs.MapMeaning.{has_map_uid, count_given, place_given};
 ghost use Rattle.model_meaning.specs.MapFits.{IsMovedOrDropped};
-ghost use Rattle.map_index.specs.Shown.{record_of};
+ghost use Rattle.map_index.specs.Shown.{meant_record};
 
 use crate::numbers::NamesRecord;
 use crate::rows::Record;
 use mdbox_base::{FileNo, MapCount, MapPlace, MapUid};
 
 /// Whether the list has this map uid.
-pub fn has_uid(uids: &[MapUid], uid: MapUid) -> bool
-    ensures { result ≡ has_uid uid.0 uids.now }
+pub fn has_map_uid(uids: &[MapUid], uid: MapUid) -> bool
+    ensures { result ≡ has_map_uid uid.0 uids.now }
 {
     uids.iter().any(|other| other.0 == uid.0)
 }
@@ -72,7 +72,7 @@ pub fn each_is_named(
     moved: &[MapPlace],
     dropped: &[MapUid],
 ) -> bool
-    ensures { IsTrue result ↔ All (λ r. r.row.file.0 ≡ file.0 → IsMovedOrDropped moved.now dropped.now (record_of r)) records.now }
+    ensures { IsTrue result ↔ All (λ r. r.row.file.0 ≡ file.0 → IsMovedOrDropped moved.now dropped.now (meant_record r)) records.now }
 {
     records.iter().all(|record| record.row.file.0 != file.0
         || is_named(record.row.uid, moved, dropped))
@@ -80,7 +80,7 @@ pub fn each_is_named(
 
 /// Whether a map uid is in one of the lists, and not in both.
 fn is_named(uid: MapUid, moved: &[MapPlace], dropped: &[MapUid]) -> bool
-    ensures { IsTrue result ↔ (list_any (λ p. p.uid.0 == uid.0) moved.now ≡ not (has_uid uid.0 dropped.now)) }
+    ensures { IsTrue result ↔ (list_any (λ p. p.uid.0 == uid.0) moved.now ≡ not (has_map_uid uid.0 dropped.now)) }
 {
-    has_place(moved, uid) != has_uid(dropped, uid)
+    has_place(moved, uid) != has_map_uid(dropped, uid)
 }

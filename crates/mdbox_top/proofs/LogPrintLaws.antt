@@ -3,7 +3,7 @@ use Rattle.std.specs.Prelude.{◌≡◌, ◌≤◌, ◌<◌, ◌+◌, ℕ, List,
 use Rattle.std.proofs.Common.{zero, suc, sym, ◌∙◌, ap, subst, append_assoc, append-nil, arith}
 use Rattle.std.proofs.lemmas.List.{take-append-drop, take_all, take_more}
 use Rattle.model_logs.specs.declared.log_head.LogHead.{LogHead}
-use Rattle.model_logs.specs.LogFile.{end_from, log_end, places_from, record_places}
+use Rattle.model_logs.specs.LogFile.{end_from, log_end, record_places_from, record_places}
 use Rattle.mdbox_top.specs.LogDumpText.{head_line, entry_line, entry_lines, end_line, log_dump_text}
 use Rattle.mdbox_top.specs.Printing.{Passed, Cut}
 use Rattle.mdbox_top.proofs.PrintLaws.{cut_before, cut_more, passed_more, passed_kept}
@@ -12,11 +12,11 @@ lines_split : (g : ℕ) (xs ys : List (List ℕ)) → entry_lines g (xs ++ ys) �
 lines_split g [] ys = refl
 lines_split g (x ∷ xs) ys = ap (λ (t : List ℕ). entry_line (g + 1) x ++ t) (lines_split (g + 5 + length x) xs ys) ∙ sym (append_assoc (entry_line (g + 1) x) (entry_lines (g + 5 + length x) xs) (entry_lines (end_from (g + 5 + length x) xs) ys))
 
-pub places_length : (g : ℕ) (es : List (List ℕ)) → length (places_from g es) ≡ length es
+pub places_length : (g : ℕ) (es : List (List ℕ)) → length (record_places_from g es) ≡ length es
 places_length g [] = refl
-places_length g (e ∷ es) = let l : length (places_from (g + 5 + length e) es) ≡ length es = places_length (g + 5 + length e) es in omega (arith, l)
+places_length g (e ∷ es) = let l : length (record_places_from (g + 5 + length e) es) ≡ length es = places_length (g + 5 + length e) es in omega (arith, l)
 
-place_at : (g : ℕ) (es : List (List ℕ)) (i : ℕ) → i < length es → get_or (places_from g es) i 0 ≡ end_from g (take i es) + 1
+place_at : (g : ℕ) (es : List (List ℕ)) (i : ℕ) → i < length es → get_or (record_places_from g es) i 0 ≡ end_from g (take i es) + 1
 place_at g [] i l = absurd (omega arith)
 place_at g (e ∷ es) zero l = refl
 place_at g (e ∷ es) (suc i) l = place_at (g + 5 + length e) es i (omega arith)

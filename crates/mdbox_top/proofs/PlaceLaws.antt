@@ -5,7 +5,7 @@ use Rattle.std.proofs.lemmas.List.{take_at, drop_at}
 use Rattle.model_storage.specs.declared.places.MessageAt.{MessageAt}
 use Rattle.mdbox_top.specs.DumpText.{shown_message, dump_text}
 use Rattle.model_storage.proofs.ScanLemmas.{message_length}
-use Rattle.model_storage.specs.StorageFile.{line_text, Message, IsMessage, AreMessages, IsFile, place_at, places_from}
+use Rattle.model_storage.specs.StorageFile.{line_text, Message, IsMessage, AreMessages, IsFile, place_at, message_places_from}
 use Rattle.mdbox_top.specs.Printing.{Shows, ShowsAll}
 
 -- a message between what stands before and behind it, cut before its lines and behind them
@@ -36,7 +36,7 @@ message_shown file front first behind m e p =
       refl,
     )
 
-messages_shown : (file front rest : List ℕ) (ms : List Message) → file ≡ front ++ rest → AreMessages rest ms → ShowsAll file (places_from (length front) ms) (dump_text (length front) ms)
+messages_shown : (file front rest : List ℕ) (ms : List Message) → file ≡ front ++ rest → AreMessages rest ms → ShowsAll file (message_places_from (length front) ms) (dump_text (length front) ms)
 messages_shown file front rest [] e a = refl
 messages_shown file front rest (m ∷ ms) e a =
     let cut = e ∙ ap (λ (o : List ℕ). front ++ o) a.2 in
@@ -45,10 +45,10 @@ messages_shown file front rest (m ∷ ms) e a =
       shown_message (length front) m,
       dump_text (place_at (length front) m).end ms,
       message_shown file front a.0 a.1 m cut a.3,
-      subst (λ (n : ℕ). ShowsAll file (places_from n ms) (dump_text n ms)) next behind,
+      subst (λ (n : ℕ). ShowsAll file (message_places_from n ms) (dump_text n ms)) next behind,
       refl,
     )
 
 -- what is printed at the places of a storage file's messages is its dump
-pub file_shown : (file header : List ℕ) (ms : List Message) (places : List MessageAt) → IsFile file header ms → places ≡ places_from (length header) ms → ShowsAll file places (dump_text (length header) ms)
+pub file_shown : (file header : List ℕ) (ms : List Message) (places : List MessageAt) → IsFile file header ms → places ≡ message_places_from (length header) ms → ShowsAll file places (dump_text (length header) ms)
 file_shown file header ms places p e = subst (λ (ps : List MessageAt). ShowsAll file ps (dump_text (length header) ms)) (sym e) (messages_shown file header p.rest ms p.parts p.follow)

@@ -1,14 +1,13 @@
 -- How a command on the store ends.
 use Rattle.std.specs.Prelude.{◌≡◌, ℕ, List, [], ◌∷◌, ◌++◌, codes, Option, ◌⊎◌}
-use Rattle.disk_model.specs.Disk.{History, IfTold, EachImage}
+use Rattle.disk_model.specs.Disk.{History, IfTold, EachImage, IsIdle}
 use Rattle.disk_model.specs.declared.name.FileName.TheVariants as file
 use Rattle.mdbox_base.specs.Numbers.{decimal_text}
 use Rattle.mdbox_base.specs.Streams.{Appended}
 use Rattle.file_paths.specs.Paths.{path_text}
 use Rattle.model_store.specs.Opening.{empty_inbox}
 use Rattle.model_store.specs.Settled.{IsSettled}
-use Rattle.gate_log.specs.Log.{Idle}
-use Rattle.store_open.specs.Making.{IdleUnless, IsFree, IsMade, NeverHasEntry, HasNothingOrInbox}
+use Rattle.store_open.specs.Making.{IdleUnless, IsFreeForStore, IsMadeStore, NeverHasEntry, HasNothingOrInbox}
 use Rattle.store_open.specs.Refused.{IsMakingError, IsOfFiles}
 use Rattle.store_open.specs.declared.error.OpenError.{OpenError}
 use Rattle.store_open.specs.declared.error.OpenError.TheVariants as error
@@ -58,9 +57,9 @@ StoreYields outcome.WriteFault last = last ≡ outcome.WriteFault
 
 -- A store was made: there was none, and no mail files; now the disk is settled for an empty INBOX, in logs of this id.
 pub record IsNew (id : List ℕ) (old new : Option History) : Type 0 where
-  pub free : IfTold old IsFree
+  pub free : IfTold old IsFreeForStore
   pub settled : IfTold new (λ disk. IsSettled disk empty_inbox)
-  pub made : IfTold new (IsMade id)
+  pub made : IfTold new (IsMadeStore id)
 
 -- `OK` was printed, or a front of it
 abbrev pub ShowsOk : Option (List ℕ) → Option (List ℕ) → StoreOutcome → Type 0
@@ -75,10 +74,10 @@ abbrev pub Inits : List ℕ → Option (List ℕ) → Option (List ℕ) → Opti
 Inits id held later old new outcome.Done = IsNew id old new × Appended held (codes "OK" ++ 10 ∷ []) later
 Inits id held later old new outcome.No = ⊥
 Inits id held later old new outcome.WriteFault = IsNew id old new × Cut held [] (codes "OK" ++ 10 ∷ []) later
-Inits id held later old new (outcome.Refused why) = (later ≡ held) × IsMakingError old why × (IsOfFiles why → Idle old new)
+Inits id held later old new (outcome.Refused why) = (later ≡ held) × IsMakingError old why × (IsOfFiles why → IsIdle old new)
 
 -- A stop at any moment of an `init` that began where no image has a root entry: each image has none, or is safe for an empty
 -- INBOX. Where a store may not be made nothing changes, whatever is answered.
 pub record InitMoments (old new : Option History) : Type 0 where
   pub each : IfTold old (λ disk. NeverHasEntry (disk file.Root)) → EachImage (λ _ image. HasNothingOrInbox image) old new
-  pub untouched : IdleUnless IsFree old new
+  pub untouched : IdleUnless IsFreeForStore old new

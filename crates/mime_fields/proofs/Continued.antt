@@ -2,11 +2,11 @@
 use Rattle.std.proofs.Common.{refl, ◌≡◌, ◌≢◌, ◌<◌, ◌+◌, ◌-◌, ℕ, zero, suc, Bool, true, false, cond, List, [], ◌∷◌, ◌++◌, length, get_or, take, drop, map, sym, ◌∙◌, ap, arith}
 use Rattle.std.proofs.lemmas.List.{length-take-le}
 use Rattle.model_mime.specs.declared.mime.Line.{Line}
-use Rattle.model_mime.specs.Lines.{TextLine, placed, raw_lines, texts, content, is_blank, range, IsLineAt}
+use Rattle.model_mime.specs.Lines.{TextLine, placed_lines, raw_lines, texts, content, is_blank, range, IsLineAt}
 use Rattle.model_mime.specs.Fields.{continuation}
 use Rattle.mime_fields.proofs.LineLemmas.{rest_is}
 
-pub texts_placed : (at : ℕ) (raws : List (List ℕ)) → map (λ l. l.text) (placed at raws) ≡ map content raws
+pub texts_placed : (at : ℕ) (raws : List (List ℕ)) → map (λ l. l.text) (placed_lines at raws) ≡ map content raws
 texts_placed at [] = refl
 texts_placed at (raw ∷ raws) = ap (λ (x : List (List ℕ)). content raw ∷ x) (texts_placed (at + length raw) raws)
 

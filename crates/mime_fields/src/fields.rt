@@ -1,7 +1,7 @@
 // What the header fields of an entity say.
 ghost use Rattle.std.specs.Prelude.{◌≡◌, ◌≤◌, ◌<◌, ◌∷◌, ◌++◌, [], ℕ, List, length, take, drop, IfSome, IfNone, Some, None, true, false, codes};
 ghost use Rattle.model_mime.specs.Lines.{texts};
-ghost use Rattle.model_mime.specs.Fields.{value_of, is_named, fields_of, kind_of, coding_of};
+ghost use Rattle.model_mime.specs.Fields.{value_of, is_field_named, fields_of, kind_of, coding_of};
 
 use crate::lines::next_line;
 use crate::value::Value;
@@ -57,8 +57,8 @@ fn field<'a>(block: &'a [u8], name: &[u8]) -> Option<Value<'a>>
 
 /// What stands in a line behind a name.
 fn behind_name<'a>(line: &'a [u8], name: &[u8]) -> Option<&'a [u8]>
-    ensures some { IfSome result (λ value. (is_named name.now line.now ≡ true) × (value.now ≡ drop (length name.now) line.now)) }
-    ensures none { IfNone result (is_named name.now line.now ≡ false) }
+    ensures some { IfSome result (λ value. (is_field_named name.now line.now ≡ true) × (value.now ≡ drop (length name.now) line.now)) }
+    ensures none { IfNone result (is_field_named name.now line.now ≡ false) }
 {
     if line.len() < name.len() {
         return None;

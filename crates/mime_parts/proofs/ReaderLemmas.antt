@@ -18,7 +18,7 @@ use Rattle.model_mime.specs.Parts.{part_found, Found, found_in, whole_entity, is
 use Rattle.model_mime.specs.Parts.Found.{APart}
 use Rattle.mime_parts.specs.ToCome.{open_found, own_end, end_here, to_come}
 use Rattle.mime_parts.specs.Marks.{Says, EndsAt}
-use Rattle.mime_parts.specs.Reading.{found_parts, IsOpen, HasLevel, IsRead, IsSettled, EndsAs, Ended}
+use Rattle.mime_parts.specs.Reading.{found_parts, IsOpen, HasLevel, IsRead, IsOutsideParts, EndsAs, Ended}
 use Rattle.mime_parts.specs.declared.reader.Reader.{Reader}
 use Rattle.mime_parts.specs.declared.reader.Place.{Place}
 use Rattle.mime_parts.specs.declared.reader.Place.TheVariants as places
@@ -334,7 +334,7 @@ same_body message places.Between levels levels' ls end h = refl
 same_body message (places.Head start) levels levels' ls end h = absurd (h start refl)
 same_body message (places.Body start body coding other) levels levels' ls end h = refl
 
-pub end_settled : (message : List ℕ) (s : Reader) (at : ℕ) → IsSettled s → EndsAs message s at
+pub end_settled : (message : List ℕ) (s : Reader) (at : ℕ) → IsOutsideParts s → EndsAs message s at
 end_settled message s at h levels few = rw h.alone (same_body message s.place 64 levels (lines_from at (drop at message)) (length message) h.body)
 
 -- the end, with nothing behind it

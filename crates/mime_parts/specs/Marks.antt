@@ -23,7 +23,7 @@ pub record EndsAt (stack : List (List ℕ)) (text : List ℕ) (k : ℕ) (P : Lis
   pub before : list_any (λ b. ends_part b text) outer ≡ false
   pub says : P boundary text
 
-abbrev pub Ends : Ending → List (List ℕ) → List ℕ → Type 0
-Ends endings.Nothing stack text = list_any (λ b. ends_part b text) stack ≡ false
-Ends (endings.Delimiter k) stack text = EndsAt stack text k (Says marks.Delimiter)
-Ends (endings.Closing k) stack text = EndsAt stack text k (Says marks.Closing)
+abbrev pub LineEnds : Ending → List (List ℕ) → List ℕ → Type 0
+LineEnds endings.Nothing stack text = list_any (λ b. ends_part b text) stack ≡ false
+LineEnds (endings.Delimiter k) stack text = EndsAt stack text k (Says marks.Delimiter)
+LineEnds (endings.Closing k) stack text = EndsAt stack text k (Says marks.Closing)

@@ -29,7 +29,7 @@ pub record IsRead (message : List ℕ) (s : Reader) (at : ℕ) : Type 0 where
   pub all : found_parts s.parts.items ++ to_come message 64 s.stack.items s.place s.before (lines_from at (drop at message)) (length message) ≡ found_in message 64 (whole_entity message)
 
 -- no multipart and no header block is open
-pub record IsSettled (s : Reader) : Type 0 where
+pub record IsOutsideParts (s : Reader) : Type 0 where
   pub alone : s.stack.items ≡ []
   pub body : (start : ℕ) → s.place ≢ places.Head start
 

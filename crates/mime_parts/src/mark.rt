@@ -2,7 +2,7 @@
 ghost use Rattle.std.specs.Prelude.{◌≡◌, ◌++◌, ◌<◌, List, ℕ, length, true, false, IfSome, IfNone};
 ghost use Rattle.std.specs.List.{list_all};
 ghost use Rattle.model_mime.specs.Lines.{is_blank};
-ghost use Rattle.mime_parts.specs.Marks.{Says, Ends};
+ghost use Rattle.mime_parts.specs.Marks.{Says, LineEnds};
 
 use model_mime::Boundary;
 
@@ -24,7 +24,7 @@ pub enum Ending {
 
 /// Which of these boundaries a line ends a part of.
 pub fn ending_of(stack: &[Boundary], text: &[u8]) -> Ending
-    ensures { Ends result stack.now text.now }
+    ensures { LineEnds result stack.now text.now }
 {
     let Some(_) = behind(b"--", text) else {
         return Ending::Nothing;

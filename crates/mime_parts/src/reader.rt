@@ -6,7 +6,7 @@ ghost use Rattle.model_mime.specs.Parts.{ends_part, part_of, trimmed_size, parts
 ghost use Rattle.mime_parts.specs.Marks.{Says, EndsAt};
 ghost use Rattle.mime_parts.specs.ToCome.{own_end};
 ghost use Rattle.mime_parts.specs.declared.mark.Mark.{Mark};
-ghost use Rattle.mime_parts.specs.Reading.{IsRead, IsSettled, EndsAs, Flushes, Ended};
+ghost use Rattle.mime_parts.specs.Reading.{IsRead, IsOutsideParts, EndsAs, Flushes, Ended};
 
 use crate::mark::{Ending, ending_of};
 use mdbox_base::{NoMemory, Seq};
@@ -84,7 +84,7 @@ impl Reader {
 
     /// Whether no multipart and no header block is open.
     fn is_settled(&self) -> bool
-        ensures { result ≡ true → IsSettled self.now }
+        ensures { result ≡ true → IsOutsideParts self.now }
     {
         self.stack.is_empty() && !matches!(self.place, Place::Head { .. })
     }

@@ -65,8 +65,8 @@ change_first test change [] = []
 change_first test change (x ∷ xs) = if test x then change x ∷ xs else x ∷ change_first test change xs
 
 -- a row of a listing
-abbrev pub row_of : ListedMessage → ListRow
-row_of message = record {
+abbrev pub listing_row : ListedMessage → ListRow
+listing_row message = record {
   uid = record { 0 = message.uid };
   flags = message.flags;
   size = length message.octets;

@@ -11,7 +11,7 @@ use Rattle.model_logs.specs.declared.log_head.LogKind.{LogKind}
 use Rattle.model_logs.specs.declared.log_head.LogKind.TheVariants.{Root, Map, Box}
 use Rattle.model_octets.proofs.PiecesLemmas.{split_same}
 use Rattle.model_octets.proofs.NumberLemmas.{four_same}
-use Rattle.model_logs.specs.LogFile.{kind_letter, HeadFits, head_octets, record_octets, EntryFits, opened, log_front, end_from, log_end, places_from, Ends, IsLog, IsTaken, BeginsHead, IsHeadDamaged, BeginsRecord, IsRecordDamaged, IsDamagedAt}
+use Rattle.model_logs.specs.LogFile.{kind_letter, HeadFits, head_octets, record_octets, EntryFits, opened, log_front, end_from, log_end, record_places_from, EndsLog, IsLog, IsTaken, BeginsHead, IsHeadDamaged, BeginsRecord, IsRecordDamaged, IsDamagedAt}
 
 -- a record begins no other
 pub record_same : (a b x y : List ℕ) → EntryFits a → EntryFits b → record_octets a ++ x ≡ record_octets b ++ y → (a ≡ b) × (x ≡ y)
@@ -75,7 +75,7 @@ head_length h f = let e : length h.store.0 ≡ 8 = f.store in omega (arith, leng
 abbrev pub Stops : ℕ → List ℕ → Type 0
 Stops gate behind = gate ≡ 1 → BeginsRecord behind → ⊥
 
-pub stops-ends : (gate : ℕ) (behind : List ℕ) → Ends gate behind → Stops gate behind
+pub stops-ends : (gate : ℕ) (behind : List ℕ) → EndsLog gate behind → Stops gate behind
 stops-ends gate behind (inl closed) one b = closed one
 stops-ends gate behind (inr ended) one b = no_octets b.entry b.gate b.behind (sym ended ∙ b.spelled)
   where
@@ -210,7 +210,7 @@ pub end_from_more : (gate : ℕ) (es : List (List ℕ)) (e : List ℕ) → end_f
 end_from_more gate [] e = refl
 end_from_more gate (x ∷ es) e = end_from_more (gate + 5 + length x) es e
 
-pub places_from_more : (gate : ℕ) (es : List (List ℕ)) (e : List ℕ) → places_from gate (es ++ e ∷ []) ≡ places_from gate es ++ (end_from gate es + 1) ∷ []
+pub places_from_more : (gate : ℕ) (es : List (List ℕ)) (e : List ℕ) → record_places_from gate (es ++ e ∷ []) ≡ record_places_from gate es ++ (end_from gate es + 1) ∷ []
 places_from_more gate [] e = refl
 places_from_more gate (x ∷ es) e = ap (λ (t : List ℕ). (gate + 1) ∷ t) (places_from_more (gate + 5 + length x) es e)
 

@@ -9,7 +9,7 @@ use Rattle.std.proofs.lemmas.List.Elements.{All-nil, All-cons, All-tail, All-tak
 use Rattle.std.proofs.lemmas.Nat.{be_bytes_4, from_be_bytes-to_be_bytes_4}
 use Rattle.mdbox_base.specs.Words.{IsOctets}
 use Rattle.model_logs.specs.declared.log_head.LogHead.{LogHead}
-use Rattle.model_logs.specs.LogFile.{HeadFits, head_octets, record_octets, EntryFits, opened, log_front, Ends, IsLog, IsTaken, BeginsHead, BeginsRecord, IsDamagedAt}
+use Rattle.model_logs.specs.LogFile.{HeadFits, head_octets, record_octets, EntryFits, opened, log_front, EndsLog, IsLog, IsTaken, BeginsHead, BeginsRecord, IsDamagedAt}
 use Rattle.model_logs.proofs.LogFileLemmas.{head_length}
 use Rattle.model_logs.proofs.LogHeadLemmas.{octet_at, number_below, begins_where, head_damaged, head_short, first_place}
 
@@ -67,7 +67,7 @@ record_decides octets o = elim (cases_lt 0 (said octets)) [
 
 -- how the gates and records behind a head end
 pub data Behind (octets : List ℕ) : Type 0 where
-  whole : (entries : List (List ℕ)) (fits : All EntryFits entries) (gate : ℕ) (behind : List ℕ) (spelled : octets ≡ opened entries ++ gate ∷ behind) (ends : Ends gate behind) → Behind octets
+  whole : (entries : List (List ℕ)) (fits : All EntryFits entries) (gate : ℕ) (behind : List ℕ) (spelled : octets ≡ opened entries ++ gate ∷ behind) (ends : EndsLog gate behind) → Behind octets
   broken : (entries : List (List ℕ)) (fits : All EntryFits entries) (behind : List ℕ) (spelled : octets ≡ opened entries ++ 1 ∷ behind) (some : behind ≢ []) (none : BeginsRecord behind → ⊥) → Behind octets
 
 further : (b : List ℕ) (one : BeginsRecord b) → Behind (one.gate ∷ one.behind) → Behind (1 ∷ b)

@@ -16,7 +16,7 @@ use Rattle.mdbox_base.specs.declared.entries.MapPlace.{MapPlace}
 use Rattle.mdbox_base.specs.declared.entries.MapEntry.TheVariants as map
 use Rattle.model_octets.proofs.PiecesLemmas.{split_same}
 use Rattle.model_octets.proofs.NumberLemmas.{four_same, next_one, next_two, next_four, behind, differ}
-use Rattle.model_logs.specs.Entries.{four, list_text, row_text, map_text, MapInRange, RowInRange, HasOneText}
+use Rattle.model_logs.specs.Entries.{four, list_text, instance_row_text, map_text, MapInRange, RowInRange, HasOneText}
 use Rattle.model_logs.proofs.EntryLemmas.{map_uid_same, guid_same}
 
 -- an item in front, whatever follows it
@@ -82,7 +82,7 @@ hash_same a b e = ap (λ (n : List ℕ). let u : Hash = record { 0 = n } in u) e
 pub id_same : (a b : InstId) → a.0 ≡ b.0 → a ≡ b
 id_same a b e = ap (λ (n : List ℕ). let u : InstId = record { 0 = n } in u) e
 
-row_front : IsOneInFront row_text RowInRange
+row_front : IsOneInFront instance_row_text RowInRange
 unfolding made_row
 row_front a b x y p q e =
     let e1 : a.hash.0 ++ (a.id.0 ++ (four a.size ++ x)) ≡ b.hash.0 ++ (b.id.0 ++ (four b.size ++ y)) = sym (simp append_assoc) ∙ e ∙ simp append_assoc in
@@ -146,7 +146,7 @@ map_one (map.S o c u f a z g is) (map.S o2 c2 u2 f2 a2 z2 g2 js) p q e =
     let r5 = next_four z z2 _ _ p.5 q.5 r4.1 in
     let r6 = split_same g.0 g2.0 _ _ (p.6 ∙ sym q.6) r5.1 in
     let r7 = next_two (length is) (length js) _ _ p.7 q.7 r6.1 in
-    let r8 = items_same row_text RowInRange row_front is js [] [] r7.0 p.8 q.8 (append-nil _ ∙ r7.1 ∙ sym (append-nil _)) in
+    let r8 = items_same instance_row_text RowInRange row_front is js [] [] r7.0 p.8 q.8 (append-nil _ ∙ r7.1 ∙ sym (append-nil _)) in
     stored_same o o2 c c2 u u2 f f2 a a2 z z2 g g2 is js r0.0 r1.0 (map_uid_same u u2 r2.0) (file_no_same f f2 r3.0) r4.0 r5.0 (guid_same g g2 r6.0) r8.0
 map_one (map.U u) (map.U v) p q e = ap map.U (map_uid_same u v (four_same u.0 v.0 p q (ap behind e)))
 map_one (map.D us) (map.D vs) p q e =

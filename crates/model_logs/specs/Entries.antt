@@ -36,8 +36,8 @@ box_text (box.F uid flags) = 70 ∷ (four uid.0 ++ flags ∷ [])
 box_text (box.R uid) = 82 ∷ four uid.0
 
 -- an instance in a map entry: hash, id and size
-abbrev pub row_text : InstRow → List ℕ
-row_text row = row.hash.0 ++ (row.id.0 ++ four row.size)
+abbrev pub instance_row_text : InstRow → List ℕ
+instance_row_text row = row.hash.0 ++ (row.id.0 ++ four row.size)
 
 -- The text of an entry of the map log.
 abbrev pub map_text : MapEntry → List ℕ
@@ -46,7 +46,7 @@ map_text (map.B mailbox generation name) = 66 ∷ (four mailbox.0 ++ (four gener
 map_text (map.G mailbox generation) = 71 ∷ (four mailbox.0 ++ four generation)
 map_text (map.S origin count uid file offset size guid instances) =
     83 ∷ origin ∷ (to_be_bytes w16 count ++ (four uid.0 ++ (four file.0 ++ (four offset ++ (four size ++ (guid.0
-    ++ (to_be_bytes w16 (length instances) ++ flat_map row_text instances)))))))
+    ++ (to_be_bytes w16 (length instances) ++ flat_map instance_row_text instances)))))))
 map_text (map.U uid) = 85 ∷ four uid.0
 map_text (map.D uids) = 68 ∷ list_text (λ u. four u.0) uids
 map_text (map.T counts) = 84 ∷ list_text (λ c. four c.uid.0 ++ to_be_bytes w16 c.count) counts

@@ -14,8 +14,8 @@ are_octets : IsOctets example_store
 are_octets = All-from_recursion (λ o. o < 256) example_store (lit< tt, (lit< tt, (lit< tt, (lit< tt, (lit< tt, (lit< tt, (lit< tt, (lit< tt, tt))))))))
 
 -- The log of a store's root with one entry, which names map log 1: 36 octets, the record at 26, the last gate at 35.
-abbrev pub root_head : LogHead
-root_head = record { store = record { 0 = example_store }; kind = Root; number = 0; generation = 0 }
+abbrev pub example_root_head : LogHead
+example_root_head = record { store = record { 0 = example_store }; kind = Root; number = 0; generation = 0 }
 
 abbrev pub root_entry : List ℕ
 root_entry = 0x4d ∷ 0 ∷ 0 ∷ 0 ∷ 1 ∷ []
@@ -23,7 +23,7 @@ root_entry = 0x4d ∷ 0 ∷ 0 ∷ 0 ∷ 1 ∷ []
 abbrev pub root_log : List ℕ
 root_log = codes "MDBXLOG1" ++ example_store ++ (0x52 ∷ 0 ∷ 0 ∷ 0 ∷ 0 ∷ 0 ∷ 0 ∷ 0 ∷ 0 ∷ 1 ∷ 0 ∷ 0 ∷ 0 ∷ 5 ∷ []) ++ root_entry ++ 0 ∷ []
 
-pub root_is_log : IsLog root_log root_head (root_entry ∷ [])
+pub root_is_log : IsLog root_log example_root_head (root_entry ∷ [])
 unfolding head_octets
 root_is_log = record {
   head_fits = record { store = refl; octets = are_octets; number = lit< tt; generation = lit< tt };
@@ -35,8 +35,8 @@ root_is_log = record {
 }
 
 -- The log of a mailbox with one entry of 38 octets: the record at 26, the last gate at 68.
-abbrev pub box_head : LogHead
-box_head = record { store = record { 0 = example_store }; kind = Box; number = 1; generation = 1 }
+abbrev pub example_box_head : LogHead
+example_box_head = record { store = record { 0 = example_store }; kind = Box; number = 1; generation = 1 }
 
 abbrev pub box_entry : List ℕ
 box_entry = 0x41 ∷ 0 ∷ 0 ∷ 0 ∷ 1 ∷ 0 ∷ 0 ∷ 0 ∷ 0 ∷ 0 ∷ 0x65 ∷ 0 ∷ 0 ∷ 0 ∷ 0 ∷ 0 ∷ 0 ∷ 0 ∷ 0 ∷ 0 ∷ 0 ∷ 1
@@ -45,7 +45,7 @@ box_entry = 0x41 ∷ 0 ∷ 0 ∷ 0 ∷ 1 ∷ 0 ∷ 0 ∷ 0 ∷ 0 ∷ 0 ∷ 0x65 
 abbrev pub box_log : List ℕ
 box_log = codes "MDBXLOG1" ++ example_store ++ (0x42 ∷ 0 ∷ 0 ∷ 0 ∷ 1 ∷ 0 ∷ 0 ∷ 0 ∷ 1 ∷ 1 ∷ 0 ∷ 0 ∷ 0 ∷ 38 ∷ []) ++ box_entry ++ 0 ∷ []
 
-pub box_is_log : IsLog box_log box_head (box_entry ∷ [])
+pub box_is_log : IsLog box_log example_box_head (box_entry ∷ [])
 unfolding head_octets
 box_is_log = record {
   head_fits = record { store = refl; octets = are_octets; number = lit< tt; generation = lit< tt };
@@ -57,8 +57,8 @@ box_is_log = record {
 }
 
 -- The log of a map with two entries, of 15 and of 38 octets: records at 26 and 46, the last gate at 88.
-abbrev pub map_head : LogHead
-map_head = record { store = record { 0 = example_store }; kind = Map; number = 0; generation = 1 }
+abbrev pub example_map_head : LogHead
+example_map_head = record { store = record { 0 = example_store }; kind = Map; number = 0; generation = 1 }
 
 abbrev pub map_made : List ℕ
 map_made = 0x42 ∷ 0 ∷ 0 ∷ 0 ∷ 1 ∷ 0 ∷ 0 ∷ 0 ∷ 1 ∷ 5 ∷ codes "INBOX"
@@ -70,7 +70,7 @@ map_stored = 0x53 ∷ 0 ∷ 0 ∷ 1 ∷ 0 ∷ 0 ∷ 0 ∷ 1 ∷ 0 ∷ 0 ∷ 0 �
 abbrev pub map_log : List ℕ
 map_log = codes "MDBXLOG1" ++ example_store ++ (0x4d ∷ 0 ∷ 0 ∷ 0 ∷ 0 ∷ 0 ∷ 0 ∷ 0 ∷ 1 ∷ 1 ∷ 0 ∷ 0 ∷ 0 ∷ 15 ∷ []) ++ map_made ++ (1 ∷ 0 ∷ 0 ∷ 0 ∷ 38 ∷ []) ++ map_stored ++ 0 ∷ []
 
-pub map_is_log : IsLog map_log map_head (map_made ∷ map_stored ∷ [])
+pub map_is_log : IsLog map_log example_map_head (map_made ∷ map_stored ∷ [])
 unfolding head_octets
 map_is_log = record {
   head_fits = record { store = refl; octets = are_octets; number = lit< tt; generation = lit< tt };

@@ -42,8 +42,8 @@ abbrev pub log_front : LogHead → List (List ℕ) → List ℕ
 log_front head entries = head_octets head ++ opened entries
 
 -- A gate is open where its value is 1 and something follows it. Any other gate ends the log, whatever follows it.
-abbrev pub Ends : ℕ → List ℕ → Type 0
-Ends gate behind = (gate ≢ 1) ⊎ (behind ≡ [])
+abbrev pub EndsLog : ℕ → List ℕ → Type 0
+EndsLog gate behind = (gate ≢ 1) ⊎ (behind ≡ [])
 
 -- The octets are a log with this head and these entries: the head, an open gate and a record for each entry, and a
 -- gate that ends the log. What follows that gate is no part of the log.
@@ -53,7 +53,7 @@ pub record IsLog (octets : List ℕ) (head : LogHead) (entries : List (List ℕ)
   pub gate : ℕ
   pub behind : List ℕ
   pub spelled : octets ≡ log_front head entries ++ gate ∷ behind
-  pub ends : Ends gate behind
+  pub ends : EndsLog gate behind
 
 -- where the last gate of a log with these entries stands
 abbrev pub end_from : ℕ → List (List ℕ) → ℕ
@@ -64,12 +64,12 @@ abbrev pub log_end : List (List ℕ) → ℕ
 log_end entries = end_from 25 entries
 
 -- where the record of each entry stands: behind its gate
-abbrev pub places_from : ℕ → List (List ℕ) → List ℕ
-places_from gate [] = []
-places_from gate (entry ∷ entries) = (gate + 1) ∷ places_from (gate + 5 + length entry) entries
+abbrev pub record_places_from : ℕ → List (List ℕ) → List ℕ
+record_places_from gate [] = []
+record_places_from gate (entry ∷ entries) = (gate + 1) ∷ record_places_from (gate + 5 + length entry) entries
 
 abbrev pub record_places : List (List ℕ) → List ℕ
-record_places entries = places_from 25 entries
+record_places entries = record_places_from 25 entries
 
 -- a file with these octets, where there is a file
 abbrev pub IsLogFile : Option (List ℕ) → LogHead → List (List ℕ) → Type 0

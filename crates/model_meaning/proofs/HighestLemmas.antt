@@ -13,7 +13,7 @@ use Rattle.mdbox_base.specs.declared.entries.MapEntry.TheVariants as map
 use Rattle.model_meaning.specs.MapMeaning.{MapMeaning, map_meaning, map_applied, number_at, is_own, own_number, guid_file, instance_number}
 use Rattle.model_meaning.specs.MapFits.{AllMapFit, FitsTarget, MapFits}
 use Rattle.model_meaning.proofs.MapLemmas.{map_more}
-use Rattle.model_logs.specs.Entries.{MapInRange, RowInRange, four, row_text}
+use Rattle.model_logs.specs.Entries.{MapInRange, RowInRange, four, instance_row_text}
 use Rattle.model_meaning.specs.Sound.{AreInRange, HasOctets, IsSoundMap}
 use Rattle.model_meaning.proofs.MapSoundLemmas.{greatest_fits, map_sound_empty, map_sound_more}
 
@@ -32,10 +32,10 @@ behind_five : (a b c d e rest : List ℕ) → IsOctets (a ++ (b ++ (c ++ (d ++ (
 behind_five a b c d e rest h = behind e rest (behind d (e ++ rest) (behind c (d ++ (e ++ rest)) (behind b (c ++ (d ++ (e ++ rest))) (behind a (b ++ (c ++ (d ++ (e ++ rest)))) h))))
 
 -- the ids of instances
-ids_octets : (rows : List InstRow) → IsOctets (flat_map row_text rows) → All (λ row. IsOctets row.id.0) rows
+ids_octets : (rows : List InstRow) → IsOctets (flat_map instance_row_text rows) → All (λ row. IsOctets row.id.0) rows
 ids_octets [] h = All-nil (λ (row : InstRow). IsOctets row.id.0)
 ids_octets (row ∷ rows) h =
-    let r = split_octets (row_text row) (flat_map row_text rows) h in
+    let r = split_octets (instance_row_text row) (flat_map instance_row_text rows) h in
     let id = split_octets row.id.0 (four row.size) (behind row.hash.0 (row.id.0 ++ four row.size) r.0) in
     All-cons (λ (x : InstRow). IsOctets x.id.0) row rows id.0 (ids_octets rows r.1)
 
@@ -102,14 +102,14 @@ others_more m (map.H h) a f r o =
 others_more m (map.B b g n) a f r o = raised _ _ 0 a.file a.instance (omega arith)
 others_more m (map.G b g) a f r o = raised _ _ 0 a.file a.instance (omega arith)
 others_more m (map.S origin count uid file offset size guid rows) a f r o =
-    let ids : IsOctets (guid.0 ++ (to_be_bytes w16 (length rows) ++ flat_map row_text rows)) =
-    behind_five (83 ∷ origin ∷ to_be_bytes w16 count) (four uid.0) (four file.0) (four offset) (four size) (guid.0 ++ (to_be_bytes w16 (length rows) ++ flat_map row_text rows)) o in
-    let parts = split_octets guid.0 (to_be_bytes w16 (length rows) ++ flat_map row_text rows) ids in
+    let ids : IsOctets (guid.0 ++ (to_be_bytes w16 (length rows) ++ flat_map instance_row_text rows)) =
+    behind_five (83 ∷ origin ∷ to_be_bytes w16 count) (four uid.0) (four file.0) (four offset) (four size) (guid.0 ++ (to_be_bytes w16 (length rows) ++ flat_map instance_row_text rows)) o in
+    let parts = split_octets guid.0 (to_be_bytes w16 (length rows) ++ flat_map instance_row_text rows) ids in
     let p = a.file in
     let q = a.instance in
     let x = f.region.file_number.high in
     let y = guid_fits m.store guid.0 r.6 parts.0 in
-    let z = greatest_fits (λ (row : InstRow). instance_number m.store row.id.0) 4294967294 rows (instances_fit m.store rows r.8 (ids_octets rows (behind (to_be_bytes w16 (length rows)) (flat_map row_text rows) parts.1))) in
+    let z = greatest_fits (λ (row : InstRow). instance_number m.store row.id.0) 4294967294 rows (instances_fit m.store rows r.8 (ids_octets rows (behind (to_be_bytes w16 (length rows)) (flat_map instance_row_text rows) parts.1))) in
     record { file_high = omega (arith, p, x, y); instance_high = omega (arith, q, z) }
 others_more m (map.U u) a f r o = raised _ _ 0 a.file a.instance (omega arith)
 others_more m (map.D us) a f r o = raised _ _ 0 a.file a.instance (omega arith)

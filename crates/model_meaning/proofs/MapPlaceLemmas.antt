@@ -10,7 +10,7 @@ use Rattle.mdbox_base.specs.declared.entries.MapPlace.{MapPlace}
 use Rattle.mdbox_base.specs.declared.ids.MapUid.{MapUid}
 use Rattle.mdbox_base.specs.declared.entries.MapEntry.{MapEntry}
 use Rattle.mdbox_base.specs.declared.entries.MapEntry.TheVariants as map
-use Rattle.model_meaning.specs.MapMeaning.{MapRecord, MapMeaning, record_changed, record_rules, placed, place_given, count_given, has_uid, record_at}
+use Rattle.model_meaning.specs.MapMeaning.{MapRecord, MapMeaning, record_changed, record_rules, moved_record, place_given, count_given, has_map_uid, record_at}
 use Rattle.model_logs.specs.Entries.{RowInRange}
 use Rattle.model_meaning.specs.MapFits.{AgreesOn, ArePlacedApart, FitsPlace, FitsTarget, HasRecord, IsApart, size_at}
 use Rattle.mdbox_base.specs.Words.{IsNumber}
@@ -41,7 +41,7 @@ counted : (hit : Bool) (n : ℕ) (row : MapRecord) → IsSameMessage row (if hit
 counted true n row = record { uid = refl; origin = refl; size = refl; guid = refl; instances = refl }
 counted false n row = is_itself row
 
-placed_same : (row : MapRecord) (target : ℕ) (place : Option MapPlace) → IsSameMessage row (placed row target place)
+placed_same : (row : MapRecord) (target : ℕ) (place : Option MapPlace) → IsSameMessage row (moved_record row target place)
 placed_same row target None = is_itself row
 placed_same row target (Some place) = record { uid = refl; origin = refl; size = refl; guid = refl; instances = refl }
 
@@ -52,7 +52,7 @@ changed_same (map.B m g n) row = is_itself row
 changed_same (map.G m g) row = is_itself row
 changed_same (map.S o c u f a z g is) row = is_itself row
 changed_same (map.U u) row = counted (u.0 == row.uid) (row.count + 1) row
-changed_same (map.D us) row = counted (has_uid row.uid us) (row.count - 1) row
+changed_same (map.D us) row = counted (has_map_uid row.uid us) (row.count - 1) row
 changed_same (map.T cs) row = record { uid = refl; origin = refl; size = refl; guid = refl; instances = refl }
 changed_same (map.P f t ms us) row = placed_same row t (place_given row.uid ms)
 changed_same (map.E f) row = is_itself row
@@ -164,7 +164,7 @@ all_places m most le s = λ k d lt.
     let file = s.files k d lt in
     record { file = (s.records k d lt).file; file_below = omega (arith, file, le); ends = (s.records k d lt).ends; count = (s.records k d lt).count }
 
-moved_place : (m : MapMeaning) (target most : ℕ) (row : MapRecord) (place : MapPlace) → IsNumber target → target ≤ most → FitsPlace m target place → IsPlaced most row → ((r : MapRecord) → record_at m place.uid.0 ≡ Some r → row ≡ r) → IsPlaced most (placed row target (Some place))
+moved_place : (m : MapMeaning) (target most : ℕ) (row : MapRecord) (place : MapPlace) → IsNumber target → target ≤ most → FitsPlace m target place → IsPlaced most row → ((r : MapRecord) → record_at m place.uid.0 ≡ Some r → row ≡ r) → IsPlaced most (moved_record row target (Some place))
 moved_place m target most row place n le f p is =
     let e : row ≡ f.0 = is f.0 f.1 in
     let size : row.size ≡ f.0.size = ap (λ (r : MapRecord). r.size) e in
@@ -177,12 +177,12 @@ own_record m s = λ k d lt uid r hit found.
     found_only (λ row. row.uid == uid) m.records r found (λ i j e l le p q. let a = equal_is _ uid p in let b = equal_is _ uid q in let h = s.rising i j e l le in omega (arith, a, b, h)) k d lt hit
 
 places_after : (target most : ℕ) (row : MapRecord) (given : Option MapPlace) → IsPlaced most row
-    → ((place : MapPlace) → given ≡ Some place → IsPlaced most (placed row target (Some place))) → IsPlaced most (placed row target given)
+    → ((place : MapPlace) → given ≡ Some place → IsPlaced most (moved_record row target (Some place))) → IsPlaced most (moved_record row target given)
 places_after target most row None p h = p
 places_after target most row (Some place) p h = h place refl
 
 pub target_places : (m : MapMeaning) (file target most : ℕ) (moved : List MapPlace) → m.highest.file ≤ most → target ≤ most → IsSoundMap m → FitsTarget m file target moved
-    → All (λ row. IsPlaced most (placed row target (place_given row.uid moved))) m.records
+    → All (λ row. IsPlaced most (moved_record row target (place_given row.uid moved))) m.records
 target_places m file target most [] le lt s f = all_places m most le s
 target_places m file target most (p ∷ ps) le below s f = λ k d lt.
     places_after target most (slice_index_or m.records k d) (place_given (slice_index_or m.records k d).uid (p ∷ ps)) (all_places m most le s k d lt)
@@ -208,11 +208,11 @@ raised_places m most uid le s f = λ k d lt.
 
 -- those that a `D` names have one less
 pub lowered_places : (m : MapMeaning) (most : ℕ) (uids : List MapUid) → m.highest.file ≤ most → IsSoundMap m
-    → All (λ row. IsPlaced most (if has_uid row.uid uids then record row { count = row.count - 1 } else row)) m.records
+    → All (λ row. IsPlaced most (if has_map_uid row.uid uids then record row { count = row.count - 1 } else row)) m.records
 lowered_places m most uids le s = λ k d lt.
     let row : MapRecord = slice_index_or m.records k d in
     let fits = (s.records k d lt).count in
-    counted_place most (has_uid row.uid uids) (row.count - 1) row (λ hit. omega (arith, fits)) (all_places m most le s k d lt)
+    counted_place most (has_map_uid row.uid uids) (row.count - 1) row (λ hit. omega (arith, fits)) (all_places m most le s k d lt)
 
 count_fits : (found : Option MapCount) (old : ℕ) → old ≤ 65535 → ((c : MapCount) → found ≡ Some c → c.count ≤ 65535) → option_map_or (λ c. c.count) found old ≤ 65535
 count_fits None old h f = h
@@ -238,7 +238,7 @@ pair_apart : (target : ℕ) (a b : MapRecord) (p q : Option MapPlace) → AreApa
     → ((x : MapPlace) → p ≡ Some x → b.file ≡ target → IsApart x.offset a.size b)
     → ((x : MapPlace) → q ≡ Some x → a.file ≡ target → IsApart x.offset b.size a)
     → ((x y : MapPlace) → p ≡ Some x → q ≡ Some y → (x.offset + a.size ≤ y.offset) ⊎ (y.offset + b.size ≤ x.offset))
-    → AreApart (placed a target p) (placed b target q)
+    → AreApart (moved_record a target p) (moved_record b target q)
 pair_apart target a b None None h fa fb both = h
 pair_apart target a b (Some p) None h fa fb both = λ e. fa p refl (sym e)
 pair_apart target a b None (Some q) h fa fb both = λ e. turned _ _ _ _ (fb q refl e)
@@ -282,7 +282,7 @@ places_apart m target moved s fits apart i j d lt le x y ex ey =
     subst (λ (n : ℕ). (x.offset + a.size ≤ y.offset) ⊎ (y.offset + n ≤ x.offset)) sb (subst (λ (n : ℕ). (x.offset + n ≤ y.offset) ⊎ (y.offset + size_at m y.uid.0 ≤ x.offset)) sa r)
 
 moved_apart : (m : MapMeaning) (target : ℕ) (moved : List MapPlace) → IsSoundMap m → All (FitsPlace m target) moved → AllPairs (ArePlacedApart m) moved
-    → AllPairs (λ a b. AreApart (placed a target (place_given a.uid moved)) (placed b target (place_given b.uid moved))) m.records
+    → AllPairs (λ a b. AreApart (moved_record a target (place_given a.uid moved)) (moved_record b target (place_given b.uid moved))) m.records
 moved_apart m target moved s fits apart = λ i j d lt le.
     pair_apart target (slice_index_or m.records i d) (slice_index_or m.records j d) (place_given (slice_index_or m.records i d).uid moved) (place_given (slice_index_or m.records j d).uid moved)
     (s.apart i j d lt le)
@@ -291,6 +291,6 @@ moved_apart m target moved s fits apart = λ i j d lt le.
     (λ x y ex ey. places_apart m target moved s fits apart i j d lt le x y ex ey)
 
 pub target_apart : (m : MapMeaning) (file target : ℕ) (moved : List MapPlace) → IsSoundMap m → FitsTarget m file target moved
-    → AllPairs (λ a b. AreApart (placed a target (place_given a.uid moved)) (placed b target (place_given b.uid moved))) m.records
+    → AllPairs (λ a b. AreApart (moved_record a target (place_given a.uid moved)) (moved_record b target (place_given b.uid moved))) m.records
 target_apart m file target [] s f = s.apart
 target_apart m file target (p ∷ ps) s f = moved_apart m target (p ∷ ps) s f.2 f.3

@@ -167,21 +167,21 @@ part_stays f = let h : false ≡ true = f.each 1 example_record (lit≤ tt) refl
 
 -- ---- counts at their ends
 
-abbrev pub counted : ℕ → MapMeaning
-counted n = map_meaning example_store (example_map ++ map.T (record { uid = first; count = n } ∷ []) ∷ [])
+abbrev pub example_counted : ℕ → MapMeaning
+example_counted n = map_meaning example_store (example_map ++ map.T (record { uid = first; count = n } ∷ []) ∷ [])
 
 count_in : Option MapRecord → ℕ
 count_in None = 0
 count_in (Some row) = row.count
 
-pub full_stays : MapFits (counted 65535) (map.U first) → ⊥
+pub full_stays : MapFits (example_counted 65535) (map.U first) → ⊥
 unfolding count_in
 full_stays f =
     let e : 65535 ≡ f.0.count = ap count_in f.1 in
     let k = f.2.1 in
     omega (arith, e, k)
 
-pub none_stays : MapFits (counted 0) (map.U first) → ⊥
+pub none_stays : MapFits (example_counted 0) (map.U first) → ⊥
 unfolding count_in
 none_stays f =
     let e : 0 ≡ f.0.count = ap count_in f.1 in

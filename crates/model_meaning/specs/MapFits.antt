@@ -9,7 +9,7 @@ use Rattle.mdbox_base.specs.declared.entries.InstRow.{InstRow}
 use Rattle.mdbox_base.specs.declared.entries.MapPlace.{MapPlace}
 use Rattle.mdbox_base.specs.declared.entries.MapEntry.{MapEntry}
 use Rattle.mdbox_base.specs.declared.entries.MapEntry.TheVariants as entry
-use Rattle.model_meaning.specs.MapMeaning.{MapRecord, MapBox, MapMeaning, map_meaning, record_at, box_at, has_uid}
+use Rattle.model_meaning.specs.MapMeaning.{MapRecord, MapBox, MapMeaning, map_meaning, record_at, box_at, has_map_uid}
 
 -- a number is at least the present highest, and in its range
 pub record IsRaised (present n : ℕ) : Type 0 where
@@ -64,7 +64,7 @@ pub record FitsMade (m : MapMeaning) (number generation : ℕ) (name : List ℕ)
 
 -- a record of the file is moved or dropped, and not both
 abbrev pub IsMovedOrDropped : List MapPlace → List MapUid → MapRecord → Type 0
-IsMovedOrDropped moved dropped row = list_any (λ p. p.uid.0 == row.uid) moved ≡ not (has_uid row.uid dropped)
+IsMovedOrDropped moved dropped row = list_any (λ p. p.uid.0 == row.uid) moved ≡ not (has_map_uid row.uid dropped)
 
 -- a moved region ends within 4,294,967,295 octets, and overlaps no region of the target
 abbrev pub FitsPlace : MapMeaning → ℕ → MapPlace → Type 0

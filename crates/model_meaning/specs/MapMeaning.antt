@@ -26,8 +26,8 @@ pub record MapRecord : Type 0 where
   pub instances : List InstRow
 
 -- the list has this map uid
-abbrev pub has_uid : ℕ → List MapUid → Bool
-has_uid uid uids = list_any (λ u. u.0 == uid) uids
+abbrev pub has_map_uid : ℕ → List MapUid → Bool
+has_map_uid uid uids = list_any (λ u. u.0 == uid) uids
 
 -- the count that a list gives this map uid, else the old one
 abbrev pub count_given : ℕ → List MapCount → ℕ → ℕ
@@ -37,9 +37,9 @@ count_given uid counts old = option_map_or (λ c. c.count) (find (λ c. c.uid.0 
 abbrev pub place_given : ℕ → List MapPlace → Option MapPlace
 place_given uid moved = find (λ m. m.uid.0 == uid) moved
 
-abbrev pub placed : MapRecord → ℕ → Option MapPlace → MapRecord
-placed row target None = row
-placed row target (Some place) = record row { file = target; offset = place.offset }
+abbrev pub moved_record : MapRecord → ℕ → Option MapPlace → MapRecord
+moved_record row target None = row
+moved_record row target (Some place) = record row { file = target; offset = place.offset }
 
 -- An `S` makes a record, a `P` drops or moves it, `T`, `U` and `D` change its count.
 abbrev pub record_made : MapEntry → List MapRecord
@@ -48,14 +48,14 @@ record_made (map.S origin count uid file offset size guid instances) =
 record_made entry = []
 
 abbrev pub record_dropped : MapEntry → MapRecord → Bool
-record_dropped (map.P file target moved dropped) row = has_uid row.uid dropped
+record_dropped (map.P file target moved dropped) row = has_map_uid row.uid dropped
 record_dropped entry row = false
 
 abbrev pub record_changed : MapEntry → MapRecord → MapRecord
 record_changed (map.U uid) row = if uid.0 == row.uid then record row { count = row.count + 1 } else row
-record_changed (map.D uids) row = if has_uid row.uid uids then record row { count = row.count - 1 } else row
+record_changed (map.D uids) row = if has_map_uid row.uid uids then record row { count = row.count - 1 } else row
 record_changed (map.T counts) row = record row { count = count_given row.uid counts row.count }
-record_changed (map.P file target moved dropped) row = placed row target (place_given row.uid moved)
+record_changed (map.P file target moved dropped) row = moved_record row target (place_given row.uid moved)
 record_changed entry row = row
 
 abbrev pub record_rules : Rules MapEntry MapRecord
@@ -196,8 +196,8 @@ abbrev pub box_at : MapMeaning → ℕ → Option MapBox
 box_at m number = find (λ box. box.number == number) m.boxes
 
 -- the instances that records name, once for each naming
-abbrev pub named : MapMeaning → List InstRow
-named m = flat_map (λ row. row.instances) m.records
+abbrev pub named_instances : MapMeaning → List InstRow
+named_instances m = flat_map (λ row. row.instances) m.records
 
 -- a file is sealed
 abbrev pub is_sealed : MapMeaning → ℕ → Bool

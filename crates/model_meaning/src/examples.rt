@@ -5,7 +5,7 @@ ghost use Rattle.model_meaning.specs.BoxMeaning.{box_meaning};
 ghost use Rattle.mdbox_base.specs.declared.entries.MapEntry.TheVariants as map;
 ghost use Rattle.model_meaning.specs.MapMeaning.{map_meaning};
 ghost use Rattle.model_meaning.specs.MapFits.{MapFits};
-ghost use Rattle.model_meaning.specs.FitExamples.{example_meaning, first, other_stored, other_guid, two_stored, purge, first_place, second_place, counted};
+ghost use Rattle.model_meaning.specs.FitExamples.{example_meaning, first, other_stored, other_guid, two_stored, purge, first_place, second_place, example_counted};
 ghost use Rattle.model_logs.specs.LogExamples.{example_store, box_entry, map_made, map_stored};
 ghost use Rattle.model_meaning.specs.MeaningExamples.{example_guid, example_added, example_made, example_stored, example_map};
 
@@ -46,6 +46,6 @@ pub fn example_fits()
     ensures same_guid { MapFits example_meaning (other_stored 0x69 example_guid) → ⊥ }
     ensures purged_whole { MapFits two_stored (purge (first_place ∷ second_place ∷ [])) }
     ensures purged_part { MapFits two_stored (purge (first_place ∷ [])) → ⊥ }
-    ensures raised_full { MapFits (counted 65535) (map.U first) → ⊥ }
-    ensures raised_none { MapFits (counted 0) (map.U first) → ⊥ }
+    ensures raised_full { MapFits (example_counted 65535) (map.U first) → ⊥ }
+    ensures raised_none { MapFits (example_counted 0) (map.U first) → ⊥ }
 {}

@@ -7,7 +7,7 @@ use Rattle.model_mime.specs.declared.mime.Coding.{Coding}
 use Rattle.model_mime.specs.declared.mime.Kind.{Kind}
 use Rattle.model_mime.specs.declared.mime.Kind.TheVariants as kinds
 use Rattle.model_mime.specs.declared.mime.Part.{Part}
-use Rattle.model_mime.specs.Lines.{TextLine, front_line, content_back, without_cr, placed, raw_lines, content, range}
+use Rattle.model_mime.specs.Lines.{TextLine, front_line, content_back, without_cr, placed_lines, raw_lines, content, range}
 use Rattle.model_mime.specs.Parts.{Entity, Found, part_of, part_sized, trimmed_size, skip_breaks, body_lines, body_start, is_delimiter, is_closing, ends_part, part_lines, part_end, parts_of, leaf_or_parts, fields_in, found_in, whole_entity, is_too_deep, part_found, within_limits, parts_in, InOrder}
 use Rattle.model_mime.specs.Parts.Found.{APart, TooDeep}
 
@@ -204,7 +204,7 @@ content_fits : (raw : List ℕ) → length (content raw) ≤ length raw
 unfolding content
 content_fits raw = omega (arith, length-reverse (content_back (reverse raw)), length-reverse raw, back_fits (reverse raw))
 
-placed_from : (at end : ℕ) (raws : List (List ℕ)) → at + total raws ≤ end → LinesFrom at end (placed at raws)
+placed_from : (at end : ℕ) (raws : List (List ℕ)) → at + total raws ≤ end → LinesFrom at end (placed_lines at raws)
 placed_from at end [] h = tt
 placed_from at end (raw ∷ raws) h = (omega arith, omega arith, omega (arith, content_fits raw), omega (arith, content_fits raw), placed_from (at + length raw) end raws (omega (arith, h)))
 

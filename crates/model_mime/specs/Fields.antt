@@ -31,12 +31,12 @@ continuation ((c ∷ line) ∷ lines) = if is_blank c then (c ∷ line) ++ conti
 
 -- The value of the first field of a name, which is given with its colon and stands in any case: what follows the colon,
 -- with the continuation lines.
-abbrev pub is_named : List ℕ → List ℕ → Bool
-is_named name line = is_word (take (length name) line) name
+abbrev pub is_field_named : List ℕ → List ℕ → Bool
+is_field_named name line = is_word (take (length name) line) name
 
 abbrev pub value_of : List ℕ → List (List ℕ) → Option (List ℕ)
 value_of name [] = None
-value_of name (line ∷ lines) = if is_named name line then Some (drop (length name) line ++ continuation lines) else value_of name lines
+value_of name (line ∷ lines) = if is_field_named name line then Some (drop (length name) line ++ continuation lines) else value_of name lines
 
 -- the octets that have a meaning of their own in a field (RFC 2045, section 5.1)
 abbrev pub specials : List ℕ

@@ -37,13 +37,13 @@ unfoldable pub content : List ℕ → List ℕ
 content line = reverse (content_back (reverse line))
 
 -- lines with their places, where the first starts at a place
-abbrev pub placed : ℕ → List (List ℕ) → List TextLine
-placed at [] = []
-placed at (raw ∷ raws) = record { start = at; end = at + length (content raw); next = at + length raw; text = content raw } ∷ placed (at + length raw) raws
+abbrev pub placed_lines : ℕ → List (List ℕ) → List TextLine
+placed_lines at [] = []
+placed_lines at (raw ∷ raws) = record { start = at; end = at + length (content raw); next = at + length raw; text = content raw } ∷ placed_lines (at + length raw) raws
 
 -- the lines of a text that starts at a place
 abbrev pub lines_from : ℕ → List ℕ → List TextLine
-lines_from at text = placed at (raw_lines text)
+lines_from at text = placed_lines at (raw_lines text)
 
 -- the lines of a text, without their places
 abbrev pub texts : List ℕ → List (List ℕ)

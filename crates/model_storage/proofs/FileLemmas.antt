@@ -4,7 +4,7 @@ use Rattle.std.specs.List.{AllByRecursion, list_all}
 use Rattle.std.proofs.Common.{sym, ◌∙◌, ap, append_assoc, subst}
 use Rattle.std.proofs.lemmas.Bool.{eqb-false}
 use Rattle.mdbox_base.specs.Numbers.{IsHex, hex_from}
-use Rattle.model_storage.specs.Grammars.{IsPrefixFree, Ends}
+use Rattle.model_storage.specs.Grammars.{IsPrefixFree, RunEnds}
 use Rattle.model_octets.proofs.PiecesLemmas.{split_same}
 use Rattle.model_storage.specs.StorageFile.{Line, IsLine, is_no_end, line_text, Message, IsMessageHeader, IsBlock, IsMessage, AreMessages, is_letter_or_digit, IsField, field_text, values_of, IsHeaderLine, IsFile}
 
@@ -25,7 +25,7 @@ refuted test c d rest h fails e =
     let f : test c ≡ false = ap test e ∙ fails in
     cc (yes, f)
 
-pub run_same : (test : ℕ → Bool) (a b x y : List ℕ) → IsTrue (list_all test a) → IsTrue (list_all test b) → Ends test x → Ends test y → a ++ x ≡ b ++ y → (a ≡ b) × (x ≡ y)
+pub run_same : (test : ℕ → Bool) (a b x y : List ℕ) → IsTrue (list_all test a) → IsTrue (list_all test b) → RunEnds test x → RunEnds test y → a ++ x ≡ b ++ y → (a ≡ b) × (x ≡ y)
 run_same test [] [] x y pa pb ex ey e = (refl, e)
 run_same test [] (b ∷ bs) [] y pa pb ex ey e = absurd (cc e)
 run_same test [] (b ∷ bs) (c ∷ x) y pa pb ex ey e = absurd (let h : b ≡ c = cc in refuted test b c (list_all test bs) pb ex h)
@@ -138,7 +138,7 @@ messages_same octets (m ∷ ms) (n ∷ ns) a b =
     cc (r.1, t)
 
 -- a space is no letter or digit, and LF neither
-fields_end : (fields : List Line) (x : List ℕ) → Ends is_letter_or_digit (flat_map field_text fields ++ 10 ∷ x)
+fields_end : (fields : List Line) (x : List ℕ) → RunEnds is_letter_or_digit (flat_map field_text fields ++ 10 ∷ x)
 fields_end [] x = refl
 fields_end (f ∷ fs) x = refl
 

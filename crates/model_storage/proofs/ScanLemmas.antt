@@ -6,7 +6,7 @@ use Rattle.model_storage.specs.declared.places.ScanError.{ScanError}
 use Rattle.model_storage.specs.declared.places.ScanError.TheVariants as scan
 use Rattle.model_storage.specs.Grammars.{Begins, IsFrontOf}
 use Rattle.model_octets.proofs.PiecesLemmas.{split_same}
-use Rattle.model_storage.specs.StorageFile.{line_text, Message, IsMessage, AreMessages, IsHeaderLine, IsFile, place_at, places_from, StopsAt, IsRefused, ScanGives}
+use Rattle.model_storage.specs.StorageFile.{line_text, Message, IsMessage, AreMessages, IsHeaderLine, IsFile, place_at, message_places_from, StopsAt, IsRefused, ScanGives}
 use Rattle.model_storage.proofs.FileLemmas.{message_same, message_some, header_line_same, file_same}
 
 -- the octets of a message, counted
@@ -108,7 +108,7 @@ file_not_refused octets h ms (scan.Truncated n) a q = file_goes_on octets h q.0 
 file_not_refused octets h ms (scan.BadMessage n) a q = file_goes_on octets h q.0 ms n a q.1
 file_not_refused octets h ms scan.NoMemory a q = q
 
-places_same : (h k : List ℕ) (ms ns : List Message) (xs ys : List MessageAt) → xs ≡ places_from (length h) ms → ys ≡ places_from (length k) ns → h ≡ k → ms ≡ ns → xs ≡ ys
+places_same : (h k : List ℕ) (ms ns : List Message) (xs ys : List MessageAt) → xs ≡ message_places_from (length h) ms → ys ≡ message_places_from (length k) ns → h ≡ k → ms ≡ ns → xs ≡ ys
 places_same h k ms ns xs ys ex ey p q = cc
 
 -- A scan gives one answer.

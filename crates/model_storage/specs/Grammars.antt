@@ -18,6 +18,6 @@ abbrev pub IsPrefixFree : {X : Type 0} → Grammar X → Type 0
 IsPrefixFree {X = X} G = (a b x y : List ℕ) (m n : X) → G a m → G b n → a ++ x ≡ b ++ y → (a ≡ b) × (m ≡ n)
 
 -- a text without such octets ends where such an octet or nothing comes
-abbrev pub Ends : (ℕ → Bool) → List ℕ → Type 0
-Ends test [] = Unit {0}
-Ends test (c ∷ rest) = test c ≡ false
+abbrev pub RunEnds : (ℕ → Bool) → List ℕ → Type 0
+RunEnds test [] = Unit {0}
+RunEnds test (c ∷ rest) = test c ≡ false

@@ -124,9 +124,9 @@ place_at offset m = record {
 }
 
 -- where messages stand, one directly after another from this offset on
-abbrev pub places_from : ℕ → List Message → List MessageAt
-places_from offset [] = []
-places_from offset (m ∷ rest) = place_at offset m ∷ places_from (place_at offset m).end rest
+abbrev pub message_places_from : ℕ → List Message → List MessageAt
+message_places_from offset [] = []
+message_places_from offset (m ∷ rest) = place_at offset m ∷ message_places_from (place_at offset m).end rest
 
 -- a message stands at this offset, and this is its place
 abbrev pub StandsAt : List ℕ → ℕ → MessageAt → Type 0
@@ -144,7 +144,7 @@ PlaceGives octets offset (Err (at.BadMessage n)) = (n ≡ offset) × StandsNone 
 
 -- These are the places of a storage file's messages.
 abbrev pub HasPlaces : List ℕ → List MessageAt → Type 0
-HasPlaces octets places = (header : List ℕ) × (messages : List Message) × IsFile octets header messages × (places ≡ places_from (length header) messages)
+HasPlaces octets places = (header : List ℕ) × (messages : List Message) × IsFile octets header messages × (places ≡ message_places_from (length header) messages)
 
 -- Behind a good header line and whole messages the rest, from this offset on, isn't empty, and no whole message stands there.
 pub record StopsAt (octets : List ℕ) (offset : ℕ) (rest : List ℕ) : Type 0 where

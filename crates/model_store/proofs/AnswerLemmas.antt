@@ -25,14 +25,14 @@ use Rattle.model_meaning.specs.Rows.{row_behind}
 use Rattle.model_meaning.proofs.RowLemmas.{all_flat, behind_all, rows_all}
 use Rattle.model_meaning.specs.BoxMeaning.{LogRow, row_made, row_rules, rows_after}
 use Rattle.model_meaning.proofs.BoxSoundLemmas.{changed_uid}
-use Rattle.model_meaning.specs.MapMeaning.{MapRecord, MapBox, MapMeaning, map_meaning, box_made, box_changed, box_rules, boxes_after, named}
+use Rattle.model_meaning.specs.MapMeaning.{MapRecord, MapBox, MapMeaning, map_meaning, box_made, box_changed, box_rules, boxes_after, named_instances}
 use Rattle.model_logs.specs.Entries.{box_text, MapInRange}
 use Rattle.model_logs.specs.LogFile.{HeadFits, log_end}
 use Rattle.model_store.specs.Stands.{head_of, HasBox}
 use Rattle.model_store.specs.Safe.{LiesInFile, IsThereWhole}
 use Rattle.model_octets.proofs.ClassicalLemmas.{either, all_or_one, IsLeast, least_of, IsOrder, some_first}
 use Rattle.model_store.proofs.ReadLogLemmas.{IsRead, read_log, root_read, map_read}
-use Rattle.model_store.specs.Opening.{HoldOctets, HasNoEntry, AreBoxEntries, HasItsRecord, PassesBox, PassBoxes, IsBare, IsBadBox, PassLogs, listed_of, IsCounted, IsNotBehind, name_of, Opens, IsDamaged}
+use Rattle.model_store.specs.Opening.{HoldOctets, HasNoEntry, AreBoxEntries, HasItsRecord, PassesBox, PassBoxes, IsDangling, IsBadBox, PassLogs, listed_of, IsCounted, IsNotBehind, name_of, Opens, IsDamaged}
 
 -- ---- heads of mailbox logs
 
@@ -138,10 +138,10 @@ all_added (e ∷ es) =
     (All-weaker (WasAdded es) (WasAdded (e ∷ es)) (later_added e es) (rows_after es) (all_added es))
 
 -- where not each row has its record, there is a least place of one that has none
-lacks_record : (m : MapMeaning) (entries : List BoxEntry) → (All (HasItsRecord m) (rows_after entries) → ⊥) → ((place : ℕ) → IsLeast (IsBare m entries) place → ⊥) → ⊥
+lacks_record : (m : MapMeaning) (entries : List BoxEntry) → (All (HasItsRecord m) (rows_after entries) → ⊥) → ((place : ℕ) → IsLeast (IsDangling m entries) place → ⊥) → ⊥
 lacks_record m entries not_all k = all_or_one (HasItsRecord m) (rows_after entries) not_all (λ row c bare.
     let w : WasAdded entries row = All-contains (WasAdded entries) (rows_after entries) row (all_added entries) c in
-    least_of (IsBare m entries) (log_end (map box_text w.before) + 1) (record {
+    least_of (IsDangling m entries) (log_end (map box_text w.before) + 1) (record {
       before = w.before;
       uid = w.uid;
       flags = w.flags;
@@ -253,8 +253,8 @@ later_read files store entries logs p bad k = either (λ (h : All (IsCounted log
       passed = p;
       bad = inr (counts, inl (record { row = row; cut_off = record { is_record = f.element; outside = f.holds }; first = λ other o. f.first other o.is_record o.outside; is_name = refl; is = refl }));
     })))))
-    | inl regions ↦ either (λ (i : All (IsThereWhole files) (named m) ⊎ (All (IsThereWhole files) (named m) → ⊥)). elim i [
-      | inr not_all ↦ some_first IsNamedFirst (λ (inst : InstRow). IsThereWhole files inst → ⊥) names (named m) (λ none. all_or_one (IsThereWhole files) (named m) not_all none) (λ inst f. bad (file.Inst inst.hash.0 inst.id.0) 0 (inr (inr (inr (record {
+    | inl regions ↦ either (λ (i : All (IsThereWhole files) (named_instances m) ⊎ (All (IsThereWhole files) (named_instances m) → ⊥)). elim i [
+      | inr not_all ↦ some_first IsNamedFirst (λ (inst : InstRow). IsThereWhole files inst → ⊥) names (named_instances m) (λ none. all_or_one (IsThereWhole files) (named_instances m) not_all none) (λ inst f. bad (file.Inst inst.hash.0 inst.id.0) 0 (inr (inr (inr (record {
         store = store;
         entries = entries;
         logs = logs;

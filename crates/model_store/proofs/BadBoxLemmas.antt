@@ -23,7 +23,7 @@ use Rattle.model_store.specs.Stands.{head_of, HasRoot, HasMap, HasBox}
 use Rattle.model_store.proofs.StandsLemmas.{log_same, root_same}
 use Rattle.model_store.proofs.BadLogLemmas.{Cuts, two_cuts, root_grammar, map_grammar, box_grammar, one_bad_log, good_log, good_octets}
 use Rattle.model_store.proofs.BadLogLemmas.Cuts.{Same, Later, Earlier}
-use Rattle.model_store.specs.Opening.{HasNoEntry, AreRootEntries, AreMapEntries, AreBoxEntries, IsBadLog, root_head, IsBadRoot, IsBadMapLog, IsBadMap, HasItsRecord, PassesBox, PassBoxes, IsBare, LacksRecord, IsBadBox}
+use Rattle.model_store.specs.Opening.{HasNoEntry, AreRootEntries, AreMapEntries, AreBoxEntries, IsBadLog, root_head, IsBadRoot, IsBadMapLog, IsBadMap, HasItsRecord, PassesBox, PassBoxes, IsDangling, LacksRecord, IsBadBox}
 
 some_same : {X : Type 0} → (o : Option X) (a b : X) → o ≡ Some a → o ≡ Some b → a ≡ b
 some_same o a b p q = let h : Some a ≡ Some b = sym p ∙ q in cc h
@@ -185,7 +185,7 @@ least_same p q h k = omega (arith, h, k)
 lacks_once : (files : Files) (m : MapMeaning) (box : MapBox) (p q : ℕ) → LacksRecord files m box p → LacksRecord files m box q → p ≡ q
 lacks_once files m box p q a b =
     let e : a.entries ≡ b.entries = box_log_same files m.store box a.entries b.entries a.log b.log in
-    least_same p q (a.least q (subst (λ (es : List BoxEntry). IsBare m es q) (sym e) b.bare)) (b.least p (subst (λ (es : List BoxEntry). IsBare m es p) e a.bare))
+    least_same p q (a.least q (subst (λ (es : List BoxEntry). IsDangling m es q) (sym e) b.bare)) (b.least p (subst (λ (es : List BoxEntry). IsDangling m es p) e a.bare))
 
 wrong_once : (files : Files) (m : MapMeaning) (box : MapBox) (name : FileName) (p q : ℕ) → name ≡ file.Box box.number box.generation → IsWrong files m box name p → IsWrong files m box name q → p ≡ q
 wrong_once files m box name p q e (inl a) (inl b) = one_bad_log box_text BoxInRange AreBoxEntries box_grammar _ (files name) p q a b

@@ -17,7 +17,7 @@ use Rattle.mdbox_base.specs.declared.entries.MapEntry.{MapEntry}
 use Rattle.mdbox_base.specs.declared.entries.MapEntry.TheVariants as map_entry
 use Rattle.mdbox_base.specs.declared.entries.BoxEntry.{BoxEntry}
 use Rattle.model_meaning.proofs.RowLemmas.{all_flat, rows_all}
-use Rattle.model_meaning.specs.MapMeaning.{MapRecord, MapMeaning, map_meaning, record_made, record_rules, records_after, named}
+use Rattle.model_meaning.specs.MapMeaning.{MapRecord, MapMeaning, map_meaning, record_made, record_rules, records_after, named_instances}
 use Rattle.model_meaning.proofs.MapPlaceLemmas.{changed_same}
 use Rattle.model_logs.specs.Entries.{MapInRange, RowInRange}
 use Rattle.model_octets.proofs.PiecesLemmas.{split_same}
@@ -27,7 +27,7 @@ use Rattle.model_store.specs.Safe.{LiesInFile, IsThereWhole}
 use Rattle.model_store.proofs.BadBoxLemmas.{has_entry, good_root, one_bad_root, good_map, one_bad_map, passed_same, good_boxes, one_bad_box}
 use Rattle.model_store.specs.Opening.{HasNoEntry, PassBoxes, IsBadBox, PassLogs, IsCounted, IsMiscounted, IsNotBehind, IsFirstCutOff, name_of, IsFirstMissing, Opens, IsBadBehindLogs, IsDamaged}
 
--- ---- named instances
+-- ---- named_instances instances
 
 -- the instances of a record are in range
 abbrev HasInRange : MapRecord → Type 0
@@ -46,7 +46,7 @@ made_in_range (map_entry.P f t ms us) r = All-nil HasInRange
 made_in_range (map_entry.E f) r = All-nil HasInRange
 
 -- each instance that a record names is in range
-named_in_range : (store : List ℕ) (entries : List MapEntry) → AllByRecursion MapInRange entries → All RowInRange (named (map_meaning store entries))
+named_in_range : (store : List ℕ) (entries : List MapEntry) → AllByRecursion MapInRange entries → All RowInRange (named_instances (map_meaning store entries))
 named_in_range store entries h =
     all_flat RowInRange (λ row. row.instances) (records_after entries)
     (rows_all record_rules MapInRange HasInRange made_in_range (λ entry row q a. subst (λ (is : List InstRow). All RowInRange is) (sym (changed_same entry row).instances) a) entries h)
@@ -76,11 +76,11 @@ equal_both Greater y e f g = absurd (f refl)
 least_list : (a b : List ℕ) → slice_cmp nat_cmp a b ≢ Greater → slice_cmp nat_cmp b a ≢ Greater → a ≡ b
 least_list a b f g = exact_bytes a b (equal_both (slice_cmp nat_cmp a b) (slice_cmp nat_cmp b a) (nat_list_cmp_total.antisymm a b) f g)
 
-missing_once : (files : Files) (m : MapMeaning) (n k : FileName) → All RowInRange (named m) → IsFirstMissing files m n → IsFirstMissing files m k → n ≡ k
+missing_once : (files : Files) (m : MapMeaning) (n k : FileName) → All RowInRange (named_instances m) → IsFirstMissing files m n → IsFirstMissing files m k → n ≡ k
 missing_once files m n k range a b =
     let e : name_of a.inst ≡ name_of b.inst = least_list (name_of a.inst) (name_of b.inst) (a.first b.inst b.missing) (b.first a.inst a.missing) in
-    let r = All-contains RowInRange (named m) a.inst range a.missing.is_named in
-    let s = All-contains RowInRange (named m) b.inst range b.missing.is_named in
+    let r = All-contains RowInRange (named_instances m) a.inst range a.missing.is_named in
+    let s = All-contains RowInRange (named_instances m) b.inst range b.missing.is_named in
     let h = split_same a.inst.hash.0 b.inst.hash.0 a.inst.id.0 b.inst.id.0 (r.0 ∙ sym s.0) e in
     a.is_name ∙ inst_same _ _ _ _ h.0 h.1 ∙ sym b.is_name
   where
@@ -127,16 +127,16 @@ miscounted_not m logs h a =
 cut_off_not : (files : Files) (m : MapMeaning) (name : FileName) (place : ℕ) → IsFirstCutOff files m name place → All (LiesInFile files) m.records → ⊥
 cut_off_not files m name place h a = h.cut_off.outside (All-contains (LiesInFile files) m.records h.row a h.cut_off.is_record)
 
-missing_not : (files : Files) (m : MapMeaning) (name : FileName) → IsFirstMissing files m name → All (IsThereWhole files) (named m) → ⊥
-missing_not files m name h a = h.missing.not_there (All-contains (IsThereWhole files) (named m) h.inst a h.missing.is_named)
+missing_not : (files : Files) (m : MapMeaning) (name : FileName) → IsFirstMissing files m name → All (IsThereWhole files) (named_instances m) → ⊥
+missing_not files m name h a = h.missing.not_there (All-contains (IsThereWhole files) (named_instances m) h.inst a h.missing.is_named)
 
-later_not : (files : Files) (map_name : FileName) (m : MapMeaning) (logs : List (List BoxEntry)) (name : FileName) (place : ℕ) → All (IsCounted logs) m.records → All (LiesInFile files) m.records → All (IsThereWhole files) (named m)
+later_not : (files : Files) (map_name : FileName) (m : MapMeaning) (logs : List (List BoxEntry)) (name : FileName) (place : ℕ) → All (IsCounted logs) m.records → All (LiesInFile files) m.records → All (IsThereWhole files) (named_instances m)
     → FailsLater files map_name m logs name place → ⊥
 later_not files map_name m logs name place counts regions instances (inl h) = miscounted_not m logs h.2 counts
 later_not files map_name m logs name place counts regions instances (inr (c, inl h)) = cut_off_not files m name place h regions
 later_not files map_name m logs name place counts regions instances (inr (c, inr h)) = missing_not files m name h.1 instances
 
-later_once : (files : Files) (map_name : FileName) (m : MapMeaning) (logs : List (List BoxEntry)) (n k : FileName) (p q : ℕ) → All RowInRange (named m) → FailsLater files map_name m logs n p → FailsLater files map_name m logs k q → (n ≡ k) × (p ≡ q)
+later_once : (files : Files) (map_name : FileName) (m : MapMeaning) (logs : List (List BoxEntry)) (n k : FileName) (p q : ℕ) → All RowInRange (named_instances m) → FailsLater files map_name m logs n p → FailsLater files map_name m logs k q → (n ≡ k) × (p ≡ q)
 later_once files map_name m logs n k p q range (inl a) (inl b) = (a.0 ∙ sym b.0, a.1 ∙ sym b.1)
 later_once files map_name m logs n k p q range (inl a) (inr b) = absurd (miscounted_not m logs a.2 b.0)
 later_once files map_name m logs n k p q range (inr a) (inl b) = absurd (miscounted_not m logs b.2 a.0)

@@ -9,7 +9,7 @@ use Rattle.disk_model.specs.Disk.{Files}
 use Rattle.mdbox_base.specs.declared.entries.BoxEntry.{BoxEntry}
 use Rattle.mdbox_base.specs.declared.entries.MapEntry.{MapEntry}
 use Rattle.mdbox_base.specs.declared.replies.ListRow.{ListRow}
-use Rattle.model_lists.specs.Lists.{ListedMessage, Mailbox, Lists, refs_of, row_of}
+use Rattle.model_lists.specs.Lists.{ListedMessage, Mailbox, Lists, refs_of, listing_row}
 use Rattle.model_meaning.specs.BoxMeaning.{LogRow, rows_after, next_after}
 use Rattle.model_meaning.specs.MapMeaning.{MapRecord, MapBox, MapMeaning, map_meaning, record_at, record_of, count_of}
 use Rattle.model_logs.specs.Entries.{box_text, BoxInRange}
@@ -93,19 +93,19 @@ boxes_pass image m (box ∷ boxes) (es ∷ logs) (x ∷ xs) h =
 made_row : ℕ → ℕ → ℕ → ℕ → List ℕ → ListRow
 made_row uid flags size time guid = record { uid = record { 0 = uid }; flags = flags; size = size; time = time; guid = record { 0 = guid } }
 
-row_shown : (image : Files) (m : MapMeaning) (row : LogRow) (x : ListedMessage) → IsListed image m row x → listed_row row ≡ row_of x
+row_shown : (image : Files) (m : MapMeaning) (row : LogRow) (x : ListedMessage) → IsListed image m row x → listed_row row ≡ listing_row x
 unfolding made_row
 row_shown image m row x l =
     let same : made_row row.uid row.flags row.size row.time row.guid ≡ made_row x.uid x.flags (length x.octets) x.time x.guid = cc (l.uid, l.flags, l.time, l.guid, l.size) in
     same
 
-rows_shown : (image : Files) (m : MapMeaning) (rows : List LogRow) (xs : List ListedMessage) → AreListed image m rows xs → map listed_row rows ≡ map row_of xs
+rows_shown : (image : Files) (m : MapMeaning) (rows : List LogRow) (xs : List ListedMessage) → AreListed image m rows xs → map listed_row rows ≡ map listing_row xs
 rows_shown image m [] [] l = refl
 rows_shown image m [] (x ∷ xs) l = absurd l
 rows_shown image m (row ∷ rows) [] l = absurd l
 rows_shown image m (row ∷ rows) (x ∷ xs) l =
-    let h : listed_row row ≡ row_of x = row_shown image m row x l.0 in
-    let t : map listed_row rows ≡ map row_of xs = rows_shown image m rows xs l.1 in
+    let h : listed_row row ≡ listing_row x = row_shown image m row x l.0 in
+    let t : map listed_row rows ≡ map listing_row xs = rows_shown image m rows xs l.1 in
     cc (h, t)
 
 listings : (image : Files) (m : MapMeaning) (boxes : List MapBox) (logs : List (List BoxEntry)) (lists : Lists) → AreBy image m boxes logs lists → HaveListings boxes logs lists

@@ -16,7 +16,7 @@ use Rattle.mdbox_base.specs.declared.entries.MapEntry.{MapEntry}
 use Rattle.mdbox_base.specs.declared.entries.RootEntry.{RootEntry}
 use Rattle.mdbox_base.specs.declared.entries.RootEntry.TheVariants as root
 use Rattle.model_logs.specs.Entries.{root_text, map_text, RootInRange}
-use Rattle.model_logs.specs.LogFile.{HeadFits, head_octets, log_front, log_end, Ends, IsLog}
+use Rattle.model_logs.specs.LogFile.{HeadFits, head_octets, log_front, log_end, EndsLog, IsLog}
 use Rattle.model_logs.proofs.LogFileLemmas.{head_length}
 use Rattle.model_logs.proofs.LogRecordLemmas.{log_or_damage}
 use Rattle.model_store.specs.Stands.{head_of, HasLog, HasRoot, HasMap}
@@ -105,7 +105,7 @@ last_of (root.M g) [] = record { before = []; generation = g; is = refl }
 last_of e (f ∷ fs) = let r = last_of f fs in record { before = e ∷ r.before; generation = r.generation; is = ap (λ (es : List RootEntry). e ∷ es) r.is }
 
 -- a log without entries has a closed gate, or is short
-none_there : (octets : List ℕ) (head : LogHead) → (log : IsLog octets head []) → Ends log.gate log.behind → HasNoEntry (Some octets)
+none_there : (octets : List ℕ) (head : LogHead) → (log : IsLog octets head []) → EndsLog log.gate log.behind → HasNoEntry (Some octets)
 none_there octets head log (inl closed) = inr (record { head = head; fits = log.head_fits; gate = log.gate; behind = log.behind; spelled = log.spelled ∙ ap (λ (t : List ℕ). t ++ log.gate ∷ log.behind) (append-nil (head_octets head)); closed = closed })
 none_there octets head log (inr last) =
     let l : length octets ≡ length (log_front head []) + length (log.gate ∷ log.behind) = ap length log.spelled ∙ length-append (log_front head []) (log.gate ∷ log.behind) in

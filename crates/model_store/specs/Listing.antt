@@ -6,7 +6,7 @@ use Rattle.mdbox_base.specs.declared.replies.ListRow.{ListRow}
 use Rattle.mdbox_base.specs.declared.replies.Refusal.TheVariants as refusal
 use Rattle.mdbox_base.specs.declared.replies.Reply.{Reply}
 use Rattle.mdbox_base.specs.declared.replies.Reply.TheVariants as reply
-use Rattle.model_lists.specs.Lists.{Mailbox, Lists, row_of}
+use Rattle.model_lists.specs.Lists.{Mailbox, Lists, listing_row}
 use Rattle.model_meaning.specs.BoxMeaning.{LogRow, BoxMeaning, rows_after, next_after}
 use Rattle.model_meaning.specs.MapMeaning.{MapBox}
 
@@ -26,7 +26,7 @@ pub record HasListing (box : MapBox) (entries : List BoxEntry) (mailbox : Mailbo
   pub number : mailbox.number ≡ box.number
   pub name : mailbox.name ≡ box.name
   pub next : mailbox.next_uid ≡ next_after entries
-  pub rows : map listed_row (rows_after entries) ≡ map row_of mailbox.messages
+  pub rows : map listed_row (rows_after entries) ≡ map listing_row mailbox.messages
 
 -- The lists are the map's mailboxes, one by one in their order, each with the listing of its log.
 abbrev pub HaveListings : List MapBox → List (List BoxEntry) → Lists → Type 0
@@ -41,7 +41,7 @@ pub record ShowsMailbox (box : MapBox) (m : BoxMeaning) (mailbox : Mailbox) : Ty
   pub number : mailbox.number ≡ box.number
   pub name : mailbox.name ≡ box.name
   pub next : mailbox.next_uid ≡ m.next
-  pub rows : map listed_row m.rows ≡ map row_of mailbox.messages
+  pub rows : map listed_row m.rows ≡ map listing_row mailbox.messages
 
 -- The lists are the map's mailboxes, one by one in their order, each with the listing of this meaning.
 abbrev pub ShowLists : List MapBox → List BoxMeaning → Lists → Type 0

@@ -24,7 +24,7 @@ use Rattle.mdbox_base.specs.declared.entries.RootEntry.{RootEntry}
 use Rattle.mdbox_base.specs.declared.entries.RootEntry.TheVariants as root_entry
 use Rattle.model_lists.specs.Lists.{Lists, empty_mailbox}
 use Rattle.model_meaning.specs.BoxMeaning.{LogRow, rows_after, AllBoxFit}
-use Rattle.model_meaning.specs.MapMeaning.{MapRecord, MapBox, MapMeaning, map_meaning, record_at, named}
+use Rattle.model_meaning.specs.MapMeaning.{MapRecord, MapBox, MapMeaning, map_meaning, record_at, named_instances}
 use Rattle.model_meaning.specs.MapFits.{AllMapFit}
 use Rattle.model_logs.specs.Entries.{root_text, map_text, box_text, RootInRange, MapInRange, BoxInRange}
 use Rattle.model_logs.specs.LogFile.{HeadFits, head_octets, log_end, IsLog, IsDamagedAt}
@@ -125,7 +125,7 @@ PassBoxes files m [] (entries ∷ logs) = ⊥
 PassBoxes files m (mailbox ∷ boxes) [] = ⊥
 
 -- the record at this place of a mailbox log adds a message that is listed and has no record of its GUID
-pub record IsBare (m : MapMeaning) (entries : List BoxEntry) (place : ℕ) : Type 0 where
+pub record IsDangling (m : MapMeaning) (entries : List BoxEntry) (place : ℕ) : Type 0 where
   pub before : List BoxEntry
   pub uid : Uid
   pub flags : ℕ
@@ -145,8 +145,8 @@ pub record IsBare (m : MapMeaning) (entries : List BoxEntry) (place : ℕ) : Typ
 pub record LacksRecord (files : Files) (m : MapMeaning) (mailbox : MapBox) (place : ℕ) : Type 0 where
   pub entries : List BoxEntry
   pub log : HasBox files m.store mailbox entries
-  pub bare : IsBare m entries place
-  pub least : (other : ℕ) → IsBare m entries other → place ≤ other
+  pub bare : IsDangling m entries place
+  pub least : (other : ℕ) → IsDangling m entries other → place ≤ other
 
 -- a mailbox is the first that doesn't pass
 pub record IsBadBox (files : Files) (m : MapMeaning) (name : FileName) (place : ℕ) : Type 0 where
@@ -201,7 +201,7 @@ pub record IsFirstCutOff (files : Files) (m : MapMeaning) (name : FileName) (pla
 
 -- an instance that a record names and that isn't there with its size
 pub record IsMissing (files : Files) (m : MapMeaning) (inst : InstRow) : Type 0 where
-  pub is_named : Contains (named m) inst
+  pub is_named : Contains (named_instances m) inst
   pub not_there : IsThereWhole files inst → ⊥
 
 -- the octets by which names of instances are ordered
@@ -223,7 +223,7 @@ pub record Opens (files : Files) (store : List ℕ) (entries : List MapEntry) (l
   pub passed : PassLogs files store entries logs
   pub counts : All (IsCounted logs) (map_meaning store entries).records
   pub regions : All (LiesInFile files) (map_meaning store entries).records
-  pub instances : All (IsThereWhole files) (named (map_meaning store entries))
+  pub instances : All (IsThereWhole files) (named_instances (map_meaning store entries))
 
 -- The logs pass, and a later check fails at this file and place.
 pub record IsBadBehindLogs (files : Files) (name : FileName) (place : ℕ) : Type 0 where

@@ -5,7 +5,7 @@ use Rattle.disk_model.specs.declared.name.FileName.TheVariants as file
 use Rattle.mdbox_base.specs.declared.entries.InstRow.{InstRow}
 use Rattle.mdbox_base.specs.declared.entries.MapEntry.{MapEntry}
 use Rattle.model_lists.specs.Lists.{Lists, refs_of}
-use Rattle.model_meaning.specs.MapMeaning.{MapRecord, MapMeaning, map_meaning, count_of, named}
+use Rattle.model_meaning.specs.MapMeaning.{MapRecord, MapMeaning, map_meaning, count_of, named_instances}
 use Rattle.model_store.specs.Stands.{StandsBy}
 
 -- a record's region lies in its storage file
@@ -25,7 +25,7 @@ pub record IsThereWhole (image : Files) (inst : InstRow) : Type 0 where
 pub record HasAll (image : Files) (m : MapMeaning) (lists : Lists) : Type 0 where
   pub counts : (guid : List ℕ) → refs_of lists guid ≤ count_of m guid
   pub regions : All (LiesInFile image) m.records
-  pub instances : All (IsThereWhole image) (named m)
+  pub instances : All (IsThereWhole image) (named_instances m)
 
 -- The image of a store with this id and these entries of its map log is safe for the lists.
 pub record SafeBy (image : Files) (store : List ℕ) (entries : List MapEntry) (lists : Lists) : Type 0 where

@@ -5,7 +5,8 @@ use Rattle.std.specs.List.{find, position, position_or_len, remove}
 use Rattle.std.proofs.lemmas.Grind.{common_steps}
 use Rattle.std.proofs.lemmas.List.Quantifiers.{position-Some}
 use Rattle.std.proofs.lemmas.List.Sums.{fails_before_first}
-use Rattle.list_machine.specs.Machine.{change_first, without_first}
+use Rattle.list_machine.specs.Machine.{without_first}
+use Rattle.model_lists.specs.Lists.{change_first}
 
 -- the first place of a list whose element, seen through a view, passes a test
 pub record IsFirstPlace {X Y : Type 0} (view : X → Y) (test : Y → Bool) (xs : List X) (i : ℕ) : Type 0 where

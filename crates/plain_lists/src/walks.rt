@@ -1,8 +1,8 @@
 // Walks over vectors.
 ghost use Rattle.std.specs.Prelude.{◌≡◌, ◌≤◌, ◌==◌, ◌^◌, ◌-◌, ℕ, min, List, length, map, position, count_by, IfOk};
 ghost use Rattle.std.specs.Str.{bytes_eq};
-ghost use Rattle.model_lists.specs.Lists.{refs_of, row_of};
-ghost use Rattle.list_machine.specs.Machine.{has_name, has_uid};
+ghost use Rattle.model_lists.specs.Lists.{refs_of, listing_row};
+ghost use Rattle.list_machine.specs.Machine.{has_name, is_message_of_uid};
 ghost use Rattle.model_meaning.specs.MapMeaning.{greatest};
 ghost use Rattle.plain_lists.specs.View.{message_of, mailbox_of};
 
@@ -20,14 +20,14 @@ pub fn place_of_mailbox(mailboxes: &[PlainMailbox], name: &Name) -> Option<usize
 
 /// The place of the message with this UID.
 pub fn place_of_message(messages: &[PlainMessage], uid: Uid) -> Option<usize>
-    ensures { result ≡ position (λ m. has_uid uid.0 (message_of m)) messages.now }
+    ensures { result ≡ position (λ m. is_message_of_uid uid.0 (message_of m)) messages.now }
 {
     messages.iter().position(|m| m.uid.0 == uid.0)
 }
 
 /// The rows of a listing.
 pub fn rows_of(alloc: Global, messages: &[PlainMessage]) -> Result<Seq<ListRow>, NoMemory>
-    ensures { IfOk result (λ rows. rows ≡ map row_of (map message_of messages.now)) }
+    ensures { IfOk result (λ rows. rows ≡ map listing_row (map message_of messages.now)) }
 {
     let mut rows = Seq::empty(alloc);
     for message in messages {

@@ -5,7 +5,7 @@ use Rattle.std.proofs.lemmas.Option.{slice_get_within, get_or_from_slice_get}
 use Rattle.std.proofs.lemmas.List.Sums.{count_by_more_yes, count_by_more_no, sum_by-take-le}
 use Rattle.std.specs.Option.{option_map}
 use Rattle.model_meaning.specs.MapMeaning.{MapRecord, MapMeaning}
-use Rattle.map_index.specs.Shown.{shown}
+use Rattle.map_index.specs.Shown.{shown_record}
 use Rattle.map_index.specs.declared.rows.MapRow.{MapRow}
 use Rattle.store_checks.specs.declared.mailbox.CheckedBox.{CheckedBox}
 use Rattle.store_checks.specs.Checked.{listed_in, IsCountedIn, IsMiscountedIn}
@@ -27,14 +27,14 @@ one_too_many p xs k x left count e t l z =
     omega (arith, more, le, l, z)
 
 -- the record that was looked at
-pub counted_record : (boxes : List CheckedBox) (records : List MapRecord) (place : ℕ) (o : Option MapRow) (row : MapRow) → o ≡ option_map shown (slice_get records place) → o ≡ Some row
+pub counted_record : (boxes : List CheckedBox) (records : List MapRecord) (place : ℕ) (o : Option MapRow) (row : MapRow) → o ≡ option_map shown_record (slice_get records place) → o ≡ Some row
     → listed_in row.uid.0 boxes ≤ row.count → (record' : MapRecord) × (slice_get records place ≡ Some record') × IsCountedIn boxes record'
 counted_record boxes records place o row e is h =
-    let b = behind shown (slice_get records place) row (sym is ∙ e) in
+    let b = behind shown_record (slice_get records place) row (sym is ∙ e) in
     (b.0, b.1, subst (λ (r : MapRow). listed_in r.uid.0 boxes ≤ r.count) b.2 h)
 
-pub miscounted_record : (boxes : List CheckedBox) (m : MapMeaning) (place : ℕ) (o : Option MapRow) (row : MapRow) → o ≡ option_map shown (slice_get m.records place) → o ≡ Some row
+pub miscounted_record : (boxes : List CheckedBox) (m : MapMeaning) (place : ℕ) (o : Option MapRow) (row : MapRow) → o ≡ option_map shown_record (slice_get m.records place) → o ≡ Some row
     → row.count < listed_in row.uid.0 boxes → IsMiscountedIn m boxes
 miscounted_record boxes m place o row e is h =
-    let b = behind shown (slice_get m.records place) row (sym is ∙ e) in
+    let b = behind shown_record (slice_get m.records place) row (sym is ∙ e) in
     (b.0, contained m.records place b.0 b.1, subst (λ (r : MapRow). r.count < listed_in r.uid.0 boxes) b.2 h)

@@ -15,7 +15,7 @@ use Rattle.model_meaning.specs.MapMeaning.{MapMeaning}
 use Rattle.model_logs.specs.Entries.{box_text, BoxInRange}
 use Rattle.model_logs.proofs.EntryLemmas.{box_one}
 use Rattle.model_octets.proofs.PairLemmas.{found_holds}
-use Rattle.model_store.specs.Opening.{AreBoxEntries, HasItsRecord, IsBare}
+use Rattle.model_store.specs.Opening.{AreBoxEntries, HasItsRecord, IsDangling}
 use Rattle.store_checks.specs.Folds.{IsBoxFold}
 use Rattle.store_checks.specs.Bare.{added_uid, AddsBare, AddsNoBare, IsFirstBare}
 use Rattle.store_checks.proofs.Added.{Added, added, HasAdded, rows_added}
@@ -39,7 +39,7 @@ front_is entries texts k is = ap (take k) is ∙ take-map box_text k entries
 -- the record of an entry that adds such a message
 bare_at : (m : MapMeaning) (b : BoxMeaning) (texts : List (List ℕ)) (k place : ℕ) (text : List ℕ) (entries : List BoxEntry)
     → slice_get texts k ≡ Some text → AddsBare m b text → place ≡ log_end (take k texts) + 1
-    → texts ≡ map box_text entries → AreBoxEntries entries → b ≡ box_meaning entries → IsBare m entries place
+    → texts ≡ map box_text entries → AreBoxEntries entries → b ≡ box_meaning entries → IsDangling m entries place
 bare_at m b texts k place text entries at adds is texts_are good means =
     let e = entry_at box_text entries texts k text texts_are at in
     let same : adds.entry ≡ e.0 = box_one adds.entry e.0 adds.is.in_range (in_range entries k e.0 good e.1) (sym adds.is.text ∙ e.2) in
@@ -75,7 +75,7 @@ split_place (y ∷ before) behind x = split_place before behind x
 
 -- no such record stands before this place
 none_before : (m : MapMeaning) (b : BoxMeaning) (texts : List (List ℕ)) (k other : ℕ) (entries : List BoxEntry) → All (AddsNoBare m b) (take k texts)
-    → texts ≡ map box_text entries → AreBoxEntries entries → b ≡ box_meaning entries → (bare : IsBare m entries other) → length bare.before < k → ⊥
+    → texts ≡ map box_text entries → AreBoxEntries entries → b ≡ box_meaning entries → (bare : IsDangling m entries other) → length bare.before < k → ⊥
 none_before m b texts k other entries none texts_are good means bare lt =
     let entry : BoxEntry = box.A bare.uid bare.flags bare.time bare.size bare.map_uid bare.guid in
     let at : slice_get entries (length bare.before) ≡ Some entry = ap (λ (es : List BoxEntry). slice_get es (length bare.before)) bare.split ∙ split_place bare.before bare.behind entry in

@@ -2,15 +2,15 @@
 use Rattle.std.proofs.Common.{◌≡◌, ◌<◌, ◌+◌, ℕ, suc, zero, List, [], ◌∷◌, ◌++◌, length, take, drop, get_or, slice_get, Option, Some, None, inr, refl, sym, ◌∙◌, ap, subst, arith, add-one}
 use Rattle.std.proofs.lemmas.Option.{slice_get_within}
 use Rattle.disk_model.specs.Disk.{History, IfTold, reading}
-use Rattle.disk_model.proofs.Moments.{if_told-map}
+use Rattle.disk_model.proofs.MomentLemmas.{if_told-map}
 use Rattle.disk_model.specs.declared.name.FileName.{FileName}
 use Rattle.model_logs.specs.declared.log_head.LogHead.{LogHead}
-use Rattle.model_logs.specs.LogFile.{IsLog, end_from, log_end, places_from, record_places}
+use Rattle.model_logs.specs.LogFile.{IsLog, end_from, log_end, record_places_from, record_places}
 use Rattle.gate_log.specs.Reading.{IsReading}
 use Rattle.gate_log.specs.declared.read.LogRead.{LogRead}
 use Rattle.store_checks.specs.Logs.{IsRefusedAt, IsBadFold}
 
-place_from : (gate : ℕ) (entries : List (List ℕ)) (k : ℕ) → k < length entries → get_or (places_from gate entries) k 0 ≡ end_from gate (take k entries) + 1
+place_from : (gate : ℕ) (entries : List (List ℕ)) (k : ℕ) → k < length entries → get_or (record_places_from gate entries) k 0 ≡ end_from gate (take k entries) + 1
 place_from gate [] k lt = absurd (omega (arith, lt))
 place_from gate (e ∷ es) zero lt = refl
 place_from gate (e ∷ es) (suc k) lt = place_from (gate + 5 + length e) es k (omega (arith, lt))
@@ -19,7 +19,7 @@ place_from gate (e ∷ es) (suc k) lt = place_from (gate + 5 + length e) es k (o
 pub place_of : (entries : List (List ℕ)) (k : ℕ) → k < length entries → get_or (record_places entries) k 0 ≡ log_end (take k entries) + 1
 place_of entries k lt = place_from 25 entries k lt
 
-pub places_long : (gate : ℕ) (entries : List (List ℕ)) → length (places_from gate entries) ≡ length entries
+pub places_long : (gate : ℕ) (entries : List (List ℕ)) → length (record_places_from gate entries) ≡ length entries
 places_long gate [] = refl
 places_long gate (e ∷ es) = let h = places_long (gate + 5 + length e) es in omega (arith, h)
 

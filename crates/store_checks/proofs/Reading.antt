@@ -2,7 +2,7 @@
 use Rattle.std.proofs.Common.{◌≡◌, ◌+◌, ℕ, List, [], ◌∷◌, ◌++◌, map, Option, Some, None, inl, inr, sym, ◌∙◌, ap, subst}
 use Rattle.disk_model.specs.Disk.{DiskState, History, IfTold, reading}
 use Rattle.disk_model.specs.declared.name.FileName.{FileName}
-use Rattle.disk_model.proofs.Moments.{if_told-map}
+use Rattle.disk_model.proofs.MomentLemmas.{if_told-map}
 use Rattle.model_logs.specs.declared.log_head.LogHead.{LogHead}
 use Rattle.model_logs.specs.LogFile.{log_end, IsLog}
 use Rattle.model_meaning.specs.BoxMeaning.{BoxMeaning}
@@ -12,7 +12,7 @@ use Rattle.model_store.specs.Settled.{files_of}
 use Rattle.model_store.specs.Stands.{HasLog}
 use Rattle.model_store.specs.Opening.{AreBoxEntries, IsBadLog}
 use Rattle.gate_log.specs.Reading.{IsReading}
-use Rattle.gate_log.specs.State.{Found}
+use Rattle.gate_log.specs.State.{InspectedLog}
 use Rattle.gate_log.specs.Log.{IsFound}
 use Rattle.gate_log.specs.declared.read.LogRead.{LogRead}
 use Rattle.map_index.specs.Shown.{shown_box}
@@ -31,7 +31,7 @@ has_log name head octets read texts old r h e told =
     let whole : IsLog octets head texts = subst (λ (ts : List (List ℕ)). IsLog octets head ts) e (subst (λ (o : LogHead). IsLog octets o read.entries) h r.log) in
     if_told-map _ _ old (λ disk there. record { octets = octets; there = there; whole = whole }) told
 
-pub found_as : (found : Found) (name : FileName) (head : LogHead) (entries texts : List (List ℕ)) (now : Option History) → (found.name ≡ name) × (found.head ≡ head) → entries ≡ texts → IfTold now (IsFound found entries) → IsFoundAs found name head texts now
+pub found_as : (found : InspectedLog) (name : FileName) (head : LogHead) (entries texts : List (List ℕ)) (now : Option History) → (found.name ≡ name) × (found.head ≡ head) → entries ≡ texts → IfTold now (IsFound found entries) → IsFoundAs found name head texts now
 found_as found name head entries texts now l e s = record { name_is = l.0; head_is = l.1; stands = subst (λ (ts : List (List ℕ)). IfTold now (IsFound found ts)) e s }
 
 -- ---- a log whose entries are not all taken in is bad

@@ -12,7 +12,7 @@ use Rattle.std.specs.Prelude.{IsSome}
 use Rattle.std.proofs.lemmas.List.{map-append}
 use Rattle.mdbox_base.specs.declared.entries.InstRow.{InstRow}
 use Rattle.model_meaning.specs.MapMeaning.{MapRecord, MapMeaning, record_at}
-use Rattle.map_index.specs.Shown.{shown}
+use Rattle.map_index.specs.Shown.{shown_record}
 use Rattle.map_index.specs.declared.rows.MapRow.{MapRow}
 use Rattle.store_checks.specs.declared.regions.Region.{Region}
 use Rattle.store_checks.specs.Lengths.{region_of, IsNoLater, instance_of, IsNamedNoLater}
@@ -22,10 +22,10 @@ use Rattle.store_checks.proofs.Walks.{behind, map_next, take_next, at_place, fin
 abbrev shown_region : MapRow → Region
 shown_region row = record { file = row.file.0; offset = row.offset; size = row.size }
 
-pub region_next : (records : List MapRecord) (place : ℕ) (o : Option MapRow) (row : MapRow) (regions more : List Region) → o ≡ option_map shown (slice_get records place) → o ≡ Some row
+pub region_next : (records : List MapRecord) (place : ℕ) (o : Option MapRow) (row : MapRow) (regions more : List Region) → o ≡ option_map shown_record (slice_get records place) → o ≡ Some row
     → regions ≡ map region_of (take place records) → more ≡ regions ++ shown_region row ∷ [] → more ≡ map region_of (take (place + 1) records)
 region_next records place o row regions more e is same push =
-    let b = behind shown (slice_get records place) row (sym is ∙ e) in
+    let b = behind shown_record (slice_get records place) row (sym is ∙ e) in
     map_next region_of records place b.0 (shown_region row) regions more b.1 (ap shown_region b.2) same push
 
 -- ---- what neighbours keep, all keep
@@ -115,9 +115,9 @@ pub record NamesNext (m : MapMeaning) (place uid : ℕ) : Type 0 where
   pub found : option_map (λ r. r.instances) (record_at m uid) ≡ Some items
   pub more : first_named m (place + 1) ≡ first_named m place ++ items
 
-pub names_next : (m : MapMeaning) (place : ℕ) (o : Option MapRow) (row : MapRow) → AllPairs (λ a b. a.uid < b.uid) m.records → o ≡ option_map shown (slice_get m.records place) → o ≡ Some row → NamesNext m place row.uid.0
+pub names_next : (m : MapMeaning) (place : ℕ) (o : Option MapRow) (row : MapRow) → AllPairs (λ a b. a.uid < b.uid) m.records → o ≡ option_map shown_record (slice_get m.records place) → o ≡ Some row → NamesNext m place row.uid.0
 names_next m place o row rising e is =
-    let b = behind shown (slice_get m.records place) row (sym is ∙ e) in
+    let b = behind shown_record (slice_get m.records place) row (sym is ∙ e) in
     let self : record_at m b.0.uid ≡ Some b.0 = at_place (λ (x : MapRecord). record_at m x.uid ≡ Some x) m.records place b.0 b.1 (find_self (λ (r : MapRecord). r.uid) m.records rising) in
     let uid : row.uid.0 ≡ b.0.uid = ap (λ (r : MapRow). r.uid.0) b.2 in
     record {

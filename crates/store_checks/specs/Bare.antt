@@ -5,7 +5,7 @@ use Rattle.mdbox_base.specs.declared.entries.BoxEntry.TheVariants as box
 use Rattle.model_meaning.specs.BoxMeaning.{LogRow, BoxMeaning, box_meaning, row_at}
 use Rattle.model_meaning.specs.MapMeaning.{MapMeaning}
 use Rattle.model_logs.specs.Entries.{box_text, IsBoxText}
-use Rattle.model_store.specs.Opening.{AreBoxEntries, HasItsRecord, IsBare}
+use Rattle.model_store.specs.Opening.{AreBoxEntries, HasItsRecord, IsDangling}
 
 -- the UID of the message that an entry adds
 abbrev pub added_uid : BoxEntry → Option ℕ
@@ -37,4 +37,4 @@ AddsNoBare m b text = (entry : BoxEntry) (uid : ℕ) → IsBoxText text entry �
 -- of the entries with these texts and this meaning, the record at this place is the first that adds such a message
 abbrev pub IsFirstBare : MapMeaning → BoxMeaning → List (List ℕ) → ℕ → Type 0
 IsFirstBare m b texts place = (entries : List BoxEntry) → texts ≡ map box_text entries → AreBoxEntries entries → b ≡ box_meaning entries
-    → IsBare m entries place × ((other : ℕ) → IsBare m entries other → place ≤ other)
+    → IsDangling m entries place × ((other : ℕ) → IsDangling m entries other → place ≤ other)

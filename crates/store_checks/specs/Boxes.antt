@@ -13,7 +13,7 @@ use Rattle.model_logs.specs.Entries.{box_text}
 use Rattle.model_store.specs.Settled.{files_of}
 use Rattle.model_store.specs.Stands.{head_of, HasLog}
 use Rattle.model_store.specs.Opening.{IsBadLog, AreBoxEntries, HasItsRecord, LacksRecord, PassBoxes, IsBadBox}
-use Rattle.gate_log.specs.State.{Found}
+use Rattle.gate_log.specs.State.{InspectedLog}
 use Rattle.gate_log.specs.Log.{IsFound}
 use Rattle.map_index.specs.Shown.{shown_box}
 use Rattle.map_index.specs.declared.rows.BoxAt.{BoxAt}
@@ -22,7 +22,7 @@ use Rattle.store_checks.specs.declared.error.CheckError.{CheckError}
 use Rattle.store_checks.specs.declared.error.CheckError.TheVariants as check
 
 -- a log was found under this name, with this head, and stands with these entries
-pub record IsFoundAs (found : Found) (name : FileName) (head : LogHead) (entries : List (List ℕ)) (now : Option History) : Type 0 where
+pub record IsFoundAs (found : InspectedLog) (name : FileName) (head : LogHead) (entries : List (List ℕ)) (now : Option History) : Type 0 where
   pub name_is : found.name ≡ name
   pub head_is : found.head ≡ head
   pub stands : IfTold now (IsFound found entries)

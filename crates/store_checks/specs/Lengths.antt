@@ -9,7 +9,7 @@ use Rattle.model_store.specs.Settled.{files_of}
 use Rattle.model_store.specs.Opening.{IsFirstCutOff, IsFirstMissing}
 use Rattle.store_checks.specs.declared.error.CheckError.{CheckError}
 use Rattle.store_checks.specs.declared.error.CheckError.TheVariants as check
-use Rattle.model_meaning.specs.MapMeaning.{MapRecord, MapMeaning, named}
+use Rattle.model_meaning.specs.MapMeaning.{MapRecord, MapMeaning, named_instances}
 use Rattle.mdbox_base.specs.declared.entries.InstRow.{InstRow}
 use Rattle.store_checks.specs.declared.lengths.Asked.{Asked}
 use Rattle.store_checks.specs.declared.regions.Region.{Region}
@@ -47,15 +47,15 @@ abbrev pub instance_of : InstRow → Instance
 instance_of inst = record { hash = inst.hash; id = inst.id; size = inst.size }
 
 -- the octets by which names of instances are ordered
-abbrev pub name_text : Instance → List ℕ
-name_text inst = inst.hash.0 ++ inst.id.0
+abbrev pub instance_name_text : Instance → List ℕ
+instance_name_text inst = inst.hash.0 ++ inst.id.0
 
 -- in the order of names, the first doesn't stand behind the second
 abbrev pub IsNamedNoLater : Instance → Instance → Type 0
-IsNamedNoLater a b = is_gt (slice_cmp nat_cmp (name_text a) (name_text b)) ≡ false
+IsNamedNoLater a b = is_gt (slice_cmp nat_cmp (instance_name_text a) (instance_name_text b)) ≡ false
 
 abbrev pub instances_in : MapMeaning → List Instance
-instances_in m = map instance_of (named m)
+instances_in m = map instance_of (named_instances m)
 
 -- ---- what passes with the lengths of files
 

@@ -13,7 +13,7 @@ use Rattle.model_logs.specs.Entries.{root_text, map_text}
 use Rattle.model_store.specs.Settled.{files_of}
 use Rattle.model_store.specs.Stands.{head_of, HasLog, HasRoot}
 use Rattle.model_store.specs.Opening.{HasNoEntry, AreMapEntries, IsBadRoot, IsBadMapLog}
-use Rattle.gate_log.specs.State.{Found}
+use Rattle.gate_log.specs.State.{InspectedLog}
 use Rattle.store_checks.specs.Boxes.{IsFoundAs}
 use Rattle.store_checks.specs.declared.error.CheckError.{CheckError}
 use Rattle.store_checks.specs.declared.error.CheckError.TheVariants as check
@@ -35,7 +35,7 @@ abbrev pub root_texts : List RootEntry → ℕ → List (List ℕ)
 root_texts before generation = map root_text (before ++ root.M generation ∷ [])
 
 -- The root log was read: its last entry, behind these, names this generation, and it stands as it was found.
-pub record IsRootRead (store : List ℕ) (generation : ℕ) (found : Found) (before : List RootEntry) (old new : Option History) : Type 0 where
+pub record IsRootRead (store : List ℕ) (generation : ℕ) (found : InspectedLog) (before : List RootEntry) (old new : Option History) : Type 0 where
   pub root : IfTold old (λ disk. HasRoot (files_of disk) store generation)
   pub log : IsFoundAs found file.Root (root_log_head store) (root_texts before generation) new
 
@@ -52,7 +52,7 @@ abbrev pub map_log_head : List ℕ → ℕ → LogHead
 map_log_head store generation = head_of store kind.Map 0 generation
 
 -- The map log was read: it has these entries, which fit, the index is what they mean, and it stands as it was found.
-pub record IsMapRead (store : List ℕ) (generation : ℕ) (map_log : Found) (m : MapMeaning) (entries : List MapEntry) (old new : Option History) : Type 0 where
+pub record IsMapRead (store : List ℕ) (generation : ℕ) (map_log : InspectedLog) (m : MapMeaning) (entries : List MapEntry) (old new : Option History) : Type 0 where
   pub number : IsNumber generation
   pub good : AreMapEntries store entries
   pub meaning : m ≡ map_meaning store entries

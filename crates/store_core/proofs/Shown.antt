@@ -7,7 +7,7 @@ use Rattle.std.proofs.lemmas.Bool.{cond-true, cond-false}
 use Rattle.mdbox_base.specs.declared.entries.BoxEntry.{BoxEntry}
 use Rattle.mdbox_base.specs.declared.replies.ListRow.{ListRow}
 use Rattle.mdbox_base.specs.declared.requests.Request.TheVariants.{List as ListBox}
-use Rattle.model_lists.specs.Lists.{ListedMessage, Mailbox, Lists, refs_of, row_of}
+use Rattle.model_lists.specs.Lists.{ListedMessage, Mailbox, Lists, refs_of, listing_row}
 use Rattle.list_machine.specs.Machine.{Run, First, Answers, mailbox_named}
 use Rattle.model_meaning.specs.BoxMeaning.{LogRow, BoxMeaning, box_meaning}
 use Rattle.model_meaning.specs.MapMeaning.{MapBox}
@@ -24,14 +24,14 @@ logs_show (b ∷ bs) (e ∷ es) [] h = absurd h
 logs_show (b ∷ bs) (e ∷ es) (l ∷ ls) h = (record { number = h.0.number; name = h.0.name; next = h.0.next; rows = h.0.rows }, logs_show bs es ls h.1)
 
 -- as many rows have a GUID as messages
-rows_of_guid : (guid : List ℕ) (rows : List LogRow) (messages : List ListedMessage) → map listed_row rows ≡ map row_of messages → count_by (λ row. bytes_eq row.guid guid) rows ≡ count_by (λ m. bytes_eq m.guid guid) messages
+rows_of_guid : (guid : List ℕ) (rows : List LogRow) (messages : List ListedMessage) → map listed_row rows ≡ map listing_row messages → count_by (λ row. bytes_eq row.guid guid) rows ≡ count_by (λ m. bytes_eq m.guid guid) messages
 rows_of_guid guid [] [] e = refl
-rows_of_guid guid [] (m ∷ ms) e = absurd (let h : [] ≡ row_of m ∷ map row_of ms = e in cc)
+rows_of_guid guid [] (m ∷ ms) e = absurd (let h : [] ≡ listing_row m ∷ map listing_row ms = e in cc)
 rows_of_guid guid (r ∷ rs) [] e = absurd (let h : listed_row r ∷ map listed_row rs ≡ [] = e in cc)
 rows_of_guid guid (r ∷ rs) (m ∷ ms) e =
-    let h : listed_row r ∷ map listed_row rs ≡ row_of m ∷ map row_of ms = e in
-    let first : listed_row r ≡ row_of m = cc in
-    let rest : map listed_row rs ≡ map row_of ms = cc in
+    let h : listed_row r ∷ map listed_row rs ≡ listing_row m ∷ map listing_row ms = e in
+    let first : listed_row r ≡ listing_row m = cc in
+    let rest : map listed_row rs ≡ map listing_row ms = cc in
     let same : r.guid ≡ m.guid = ap (λ (x : ListRow). x.guid.0) first in
     sum_by-cons (λ (row : LogRow). cond (bytes_eq row.guid guid) 1 0) r rs
     ∙ ap (λ (g : List ℕ). cond (bytes_eq g guid) 1 0 + count_by (λ (row : LogRow). bytes_eq row.guid guid) rs) same
@@ -57,7 +57,7 @@ refs_shown (b ∷ bs) (m ∷ ms) (l ∷ ls) guid h =
 pub record IsFound (name : List ℕ) (lists : Lists) (m : BoxMeaning) : Type 0 where
   pub mailbox : Mailbox
   pub there : mailbox_named name lists ≡ Some mailbox
-  pub rows : map listed_row m.rows ≡ map row_of mailbox.messages
+  pub rows : map listed_row m.rows ≡ map listing_row mailbox.messages
 
 abbrev pub Finds : List ℕ → Lists → Option BoxMeaning → Type 0
 Finds name lists None = mailbox_named name lists ≡ None

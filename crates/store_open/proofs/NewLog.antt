@@ -2,11 +2,11 @@
 use Rattle.std.proofs.Common.{◌≡◌, inl, inr, ℕ, List, [], Option, Some, None, sym, ◌∙◌, ap, subst}
 use Rattle.disk_model.specs.Disk.{Files, FileState, History, MayLeave, IfTold, EachImage, OthersStay}
 use Rattle.disk_model.specs.declared.name.FileName.{FileName}
-use Rattle.disk_model.proofs.Moments.{if_told-all, if_told-map, each_image-map, each_image-then}
-use Rattle.disk_model.proofs.OneFile.{named-narrows}
+use Rattle.disk_model.proofs.MomentLemmas.{if_told-all, if_told-map, each_image-map, each_image-then}
+use Rattle.disk_model.proofs.OneFileLemmas.{named-narrows}
 use Rattle.model_logs.specs.declared.log_head.LogHead.{LogHead}
 use Rattle.gate_log.specs.State.{LogState}
-use Rattle.gate_log.specs.Log.{Holds, IsNoLonger, IsLogWithOrWithout, NamedButFor}
+use Rattle.gate_log.specs.Log.{Holds, IsAtMostAsLong, IsLogWithOrWithout, NamedButFor}
 use Rattle.store_open.specs.Making.{IsBeingMade}
 
 -- what each image has of the log that is made, and of other files
@@ -15,7 +15,7 @@ IsMaking name head entry old image = IfTold old (λ before. IsBeingMade head ent
 
 -- while it has no entry
 pub first-images : (name : FileName) (head : LogHead) (entry : List ℕ) (old new : Option History)
-    → EachImage (λ _ image. IfTold old (λ before. IsNoLonger 26 (before name) (image name)) × OthersStay name old image) old new
+    → EachImage (λ _ image. IfTold old (λ before. IsAtMostAsLong 26 (before name) (image name)) × OthersStay name old image) old new
     → EachImage (λ _ image. IsMaking name head entry old image) old new
 first-images name head entry old new each = each_image-map _ _ old new (λ m image is. (if_told-map _ _ old (λ disk short. inl short) is.0, is.1)) each
 
@@ -44,7 +44,7 @@ ready-holds made log h same holds = subst (λ (l : LogState). Holds l [] h) (sym
 -- while the entry is added
 pub entry-images : (name : FileName) (head : LogHead) (entry : List ℕ) (made log : LogState) (old now new : Option History) → made ≡ empty_log name head 0 → log ≡ record made { room = log.room }
     → NamedButFor name old now
-    → EachImage (λ _ image. IfTold old (λ before. IsNoLonger 26 (before name) (image name)) × OthersStay name old image) old now
+    → EachImage (λ _ image. IfTold old (λ before. IsAtMostAsLong 26 (before name) (image name)) × OthersStay name old image) old now
     → EachImage (λ _ image. IsLogWithOrWithout log.head [] entry (image log.name) × OthersStay log.name now image) now new
     → EachImage (λ _ image. IsMaking name head entry old image) old new
 entry-images name head entry made log old now new is same named first each =

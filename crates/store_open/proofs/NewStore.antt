@@ -5,9 +5,9 @@ use Rattle.std.proofs.lemmas.List.Elements.{All-nil, All-cons}
 use Rattle.disk_model.specs.Disk.{Files, FileState, DiskState, History, MayLeave, IsImage, IsThere, Keeps, IfTold, EachImage, OthersStay, reading, named, no_file}
 use Rattle.disk_model.specs.declared.name.FileName.{FileName}
 use Rattle.disk_model.specs.declared.name.FileName.TheVariants as file
-use Rattle.disk_model.proofs.Moments.{if_told-all, if_told-map, if_told-both, each_image-map}
-use Rattle.disk_model.proofs.OneFile.{named-narrows}
-use Rattle.disk_model.proofs.Firm.{IsFirm, firm_from_keeps, keeps_from_firm}
+use Rattle.disk_model.proofs.MomentLemmas.{if_told-all, if_told-map, if_told-both, each_image-map}
+use Rattle.disk_model.proofs.OneFileLemmas.{named-narrows}
+use Rattle.disk_model.proofs.FirmLemmas.{IsFirm, firm_from_keeps, keeps_from_firm}
 use Rattle.model_logs.specs.declared.log_head.LogHead.{LogHead}
 use Rattle.model_logs.specs.LogFile.{HeadFits, EntryFits, head_octets, IsLog, IsLogFile}
 use Rattle.model_logs.proofs.LogFileLemmas.{head_length}
@@ -20,8 +20,8 @@ use Rattle.model_store.specs.Settled.{files_of, HasSameRegion, HasSameInstance, 
 use Rattle.model_store.specs.Opening.{HasNoEntry, IsNewStore, first_root, first_box, empty_inbox}
 use Rattle.model_store.proofs.NewStoreLemmas.{new_safe, new_safe_by}
 use Rattle.gate_log.specs.State.{LogState}
-use Rattle.gate_log.specs.Log.{IsHeld, Holds, IsNoLonger, NamedButFor, log_text}
-use Rattle.store_open.specs.Making.{IsBeingMade, NeverHasEntry, IsBare, IsMade, HasNothingOrInbox, root_head, map_head, inbox_head}
+use Rattle.gate_log.specs.Log.{IsLogHeld, Holds, IsAtMostAsLong, NamedButFor, log_text}
+use Rattle.store_open.specs.Making.{IsBeingMade, NeverHasEntry, IsEmptyDisk, IsMadeStore, HasNothingOrInbox, new_root_head, new_map_head, inbox_head}
 use Rattle.store_open.proofs.Clearing.{never-no_file}
 use Rattle.store_open.proofs.NewLog.{IsMaking}
 
@@ -59,7 +59,7 @@ made-on P K Q name (Some old) None f is p k = elim is [ ]
 made-on P K Q name (Some old) (Some new) f is p k = f old.now new.now is p k
 
 -- what a held log keeps
-held-keeps : (log : LogState) (name : FileName) (head : LogHead) (entries : List (List ℕ)) (disk : DiskState) → log.name ≡ name → log.head ≡ head → IsHeld log entries disk → Keeps (disk name) (log_text head entries)
+held-keeps : (log : LogState) (name : FileName) (head : LogHead) (entries : List (List ℕ)) (disk : DiskState) → log.name ≡ name → log.head ≡ head → IsLogHeld log entries disk → Keeps (disk name) (log_text head entries)
 held-keeps log name head entries disk n h k =
     subst (λ (o : FileName). Keeps (disk o) (log_text head entries)) n (subst (λ (o : LogHead). Keeps (disk log.name) (log_text o entries)) h k.keeps)
 
@@ -69,21 +69,21 @@ pub record HasInbox (store : List ℕ) (disk : DiskState) : Type 0 where
   pub inbox : Keeps (disk (file.Box 1 1)) (log_text (inbox_head store) [])
   pub nothing_else : (name : FileName) → name ≢ file.Box 1 1 → disk name ≡ no_file
 
-inbox-first : (store : List ℕ) (log : LogState) → log.name ≡ file.Box 1 1 → log.head ≡ inbox_head store → (a b : DiskState) → ((other : FileName) → other ≢ file.Box 1 1 → b other ≡ named (a other)) → IsBare a → IsHeld log [] b → HasInbox store b
+inbox-first : (store : List ℕ) (log : LogState) → log.name ≡ file.Box 1 1 → log.head ≡ inbox_head store → (a b : DiskState) → ((other : FileName) → other ≢ file.Box 1 1 → b other ≡ named (a other)) → IsEmptyDisk a → IsLogHeld log [] b → HasInbox store b
 inbox-first store log n h a b is bare k = record {
   fits = subst HeadFits h k.reads.head_fits;
   inbox = held-keeps log (file.Box 1 1) (inbox_head store) [] b n h k;
   nothing_else = λ name apart. is name apart ∙ named-gone (a name) (bare name);
 }
 
-pub has-inbox : (store : List ℕ) (log : LogState) (old new : Option History) → log.name ≡ file.Box 1 1 → log.head ≡ inbox_head store → NamedButFor (file.Box 1 1) old new → IfTold old IsBare → IfTold new (IsHeld log []) → IfTold new (HasInbox store)
-has-inbox store log old new n h is bare k = made-on IsBare (IsHeld log []) (HasInbox store) (file.Box 1 1) old new (inbox-first store log n h) is bare k
+pub has-inbox : (store : List ℕ) (log : LogState) (old new : Option History) → log.name ≡ file.Box 1 1 → log.head ≡ inbox_head store → NamedButFor (file.Box 1 1) old new → IfTold old IsEmptyDisk → IfTold new (IsLogHeld log []) → IfTold new (HasInbox store)
+has-inbox store log old new n h is bare k = made-on IsEmptyDisk (IsLogHeld log []) (HasInbox store) (file.Box 1 1) old new (inbox-first store log n h) is bare k
 
 -- and the map log
 pub record HasMapLog (store : List ℕ) (disk : DiskState) : Type 0 where
   pub fits : HeadFits (inbox_head store)
   pub inbox : Keeps (disk (file.Box 1 1)) (log_text (inbox_head store) [])
-  pub map_log : Keeps (disk (file.Map 1)) (log_text (map_head store) (map_text first_box ∷ []))
+  pub map_log : Keeps (disk (file.Map 1)) (log_text (new_map_head store) (map_text first_box ∷ []))
   pub nothing_else : (name : FileName) → name ≢ file.Map 1 → name ≢ file.Box 1 1 → disk name ≡ no_file
 
 box-map : file.Box 1 1 ≢ file.Map 1
@@ -95,38 +95,38 @@ box-root e = let h : file.Box 1 1 ≡ file.Root = e in cc
 map-root : file.Map 1 ≢ file.Root
 map-root e = let h : file.Map 1 ≡ file.Root = e in cc
 
-map-second : (store : List ℕ) (log : LogState) → log.name ≡ file.Map 1 → log.head ≡ map_head store → (a b : DiskState) → ((other : FileName) → other ≢ file.Map 1 → b other ≡ named (a other)) → HasInbox store a → IsHeld log (map_text first_box ∷ []) b → HasMapLog store b
+map-second : (store : List ℕ) (log : LogState) → log.name ≡ file.Map 1 → log.head ≡ new_map_head store → (a b : DiskState) → ((other : FileName) → other ≢ file.Map 1 → b other ≡ named (a other)) → HasInbox store a → IsLogHeld log (map_text first_box ∷ []) b → HasMapLog store b
 map-second store log n h a b is p k = record {
   fits = p.fits;
   inbox = subst (λ (f : FileState). Keeps f (log_text (inbox_head store) [])) (sym (is (file.Box 1 1) box-map)) (named-kept (a (file.Box 1 1)) (log_text (inbox_head store) []) p.inbox);
-  map_log = held-keeps log (file.Map 1) (map_head store) (map_text first_box ∷ []) b n h k;
+  map_log = held-keeps log (file.Map 1) (new_map_head store) (map_text first_box ∷ []) b n h k;
   nothing_else = λ name other apart. is name other ∙ ap named (p.nothing_else name apart);
 }
 
-pub has-map : (store : List ℕ) (log : LogState) (old new : Option History) → log.name ≡ file.Map 1 → log.head ≡ map_head store → NamedButFor (file.Map 1) old new → IfTold old (HasInbox store) → IfTold new (IsHeld log (map_text first_box ∷ [])) → IfTold new (HasMapLog store)
-has-map store log old new n h is p k = made-on (HasInbox store) (IsHeld log (map_text first_box ∷ [])) (HasMapLog store) (file.Map 1) old new (map-second store log n h) is p k
+pub has-map : (store : List ℕ) (log : LogState) (old new : Option History) → log.name ≡ file.Map 1 → log.head ≡ new_map_head store → NamedButFor (file.Map 1) old new → IfTold old (HasInbox store) → IfTold new (IsLogHeld log (map_text first_box ∷ [])) → IfTold new (HasMapLog store)
+has-map store log old new n h is p k = made-on (HasInbox store) (IsLogHeld log (map_text first_box ∷ [])) (HasMapLog store) (file.Map 1) old new (map-second store log n h) is p k
 
 -- and last the root log
-root-last : (store : List ℕ) (log : LogState) → log.name ≡ file.Root → log.head ≡ root_head store → (a b : DiskState) → ((other : FileName) → other ≢ file.Root → b other ≡ named (a other)) → HasMapLog store a → IsHeld log (root_text first_root ∷ []) b → IsMade store b
+root-last : (store : List ℕ) (log : LogState) → log.name ≡ file.Root → log.head ≡ new_root_head store → (a b : DiskState) → ((other : FileName) → other ≢ file.Root → b other ≡ named (a other)) → HasMapLog store a → IsLogHeld log (root_text first_root ∷ []) b → IsMadeStore store b
 root-last store log n h a b is p k = record {
-  root_log = held-keeps log file.Root (root_head store) (root_text first_root ∷ []) b n h k;
-  map_log = subst (λ (f : FileState). Keeps f (log_text (map_head store) (map_text first_box ∷ []))) (sym (is (file.Map 1) map-root)) (named-kept (a (file.Map 1)) (log_text (map_head store) (map_text first_box ∷ [])) p.map_log);
+  root_log = held-keeps log file.Root (new_root_head store) (root_text first_root ∷ []) b n h k;
+  map_log = subst (λ (f : FileState). Keeps f (log_text (new_map_head store) (map_text first_box ∷ []))) (sym (is (file.Map 1) map-root)) (named-kept (a (file.Map 1)) (log_text (new_map_head store) (map_text first_box ∷ [])) p.map_log);
   inbox = subst (λ (f : FileState). Keeps f (log_text (inbox_head store) [])) (sym (is (file.Box 1 1) box-root)) (named-kept (a (file.Box 1 1)) (log_text (inbox_head store) []) p.inbox);
   nothing_else = λ name root other apart. is name root ∙ ap named (p.nothing_else name other apart);
 }
 
-pub is-made : (store : List ℕ) (log : LogState) (old new : Option History) → log.name ≡ file.Root → log.head ≡ root_head store → NamedButFor file.Root old new → IfTold old (HasMapLog store) → IfTold new (IsHeld log (root_text first_root ∷ [])) → IfTold new (IsMade store)
-is-made store log old new n h is p k = made-on (HasMapLog store) (IsHeld log (root_text first_root ∷ [])) (IsMade store) file.Root old new (root-last store log n h) is p k
+pub is-made : (store : List ℕ) (log : LogState) (old new : Option History) → log.name ≡ file.Root → log.head ≡ new_root_head store → NamedButFor file.Root old new → IfTold old (HasMapLog store) → IfTold new (IsLogHeld log (root_text first_root ∷ [])) → IfTold new (IsMadeStore store)
+is-made store log old new n h is p k = made-on (HasMapLog store) (IsLogHeld log (root_text first_root ∷ [])) (IsMadeStore store) file.Root old new (root-last store log n h) is p k
 
 -- a log that is held stays so, when another is made
-held-named : (log : LogState) (entries : List (List ℕ)) (name : FileName) → log.name ≢ name → (a b : DiskState) → ((other : FileName) → other ≢ name → b other ≡ named (a other)) → IsHeld log entries a → IsHeld log entries b
+held-named : (log : LogState) (entries : List (List ℕ)) (name : FileName) → log.name ≢ name → (a b : DiskState) → ((other : FileName) → other ≢ name → b other ≡ named (a other)) → IsLogHeld log entries a → IsLogHeld log entries b
 held-named log entries name apart a b is k =
     let kept : Keeps (b log.name) (log_text log.head entries) = subst (λ (f : FileState). Keeps f (log_text log.head entries)) (sym (is log.name apart)) (named-kept (a log.name) (log_text log.head entries) k.keeps) in
     record { reads = record { file = kept.reads; end = k.reads.end; head_fits = k.reads.head_fits; entries_fit = k.reads.entries_fit }; keeps = kept }
 
 pub holds-named : (log : LogState) (entries : List (List ℕ)) (own name : FileName) (old new : Option History) → log.name ≡ own → own ≢ name → NamedButFor name old new → Holds log entries old → Holds log entries new
 holds-named log entries own name old new e apart is k =
-    made-on (IsHeld log entries) (λ _. Unit {0}) (IsHeld log entries) name old new
+    made-on (IsLogHeld log entries) (λ _. Unit {0}) (IsLogHeld log entries) name old new
     (λ a b same held u. held-named log entries name (λ at. apart (sym e ∙ at)) a b same held) is k (if_told-all _ new (λ disk. tt))
 
 -- what images have
@@ -153,7 +153,7 @@ inbox-never store disk p = subst NeverHasEntry (sym (p.nothing_else file.Root (�
 pub inbox-nevers : (store : List ℕ) (h : Option History) → IfTold h (HasInbox store) → IfTold h (λ disk. NeverHasEntry (disk file.Root))
 inbox-nevers store h p = if_told-map _ _ h (inbox-never store) p
 
-short-none : (f : FileState) (left : Option (List ℕ)) → f ≡ no_file → IsNoLonger 26 f left → HasNoEntry left
+short-none : (f : FileState) (left : Option (List ℕ)) → f ≡ no_file → IsAtMostAsLong 26 f left → HasNoEntry left
 short-none f None gone short = tt
 short-none f (Some octets) gone short =
     let g : f.greatest ≡ 0 = ap (λ (s : FileState). s.greatest) gone in
@@ -178,7 +178,7 @@ has-log image name head entries (Some octets) e l = record { octets = octets; th
 text-log : (head : LogHead) (entries : List (List ℕ)) → HeadFits head → All EntryFits entries → IsLog (log_text head entries) head entries
 text-log head entries f e = record { head_fits = f; entries_fit = e; gate = 0; behind = []; spelled = refl; ends = inr refl }
 
-map-fits : (store : List ℕ) → HeadFits (inbox_head store) → HeadFits (map_head store)
+map-fits : (store : List ℕ) → HeadFits (inbox_head store) → HeadFits (new_map_head store)
 map-fits store f = record { store = f.store; octets = f.octets; number = lit< tt; generation = lit< tt }
 
 first-fits : All EntryFits (map_text first_box ∷ [])
@@ -188,13 +188,13 @@ kept-left : (f : FileState) (octets : List ℕ) (left : Option (List ℕ)) → K
 kept-left f octets left k leaves = (k.leaves left).0 leaves
 
 new-store : (store : List ℕ) (disk : DiskState) (image : Files) → HasMapLog store disk → ((other : FileName) → other ≢ file.Root → MayLeave (disk other) (image other))
-    → IsLogFile (image file.Root) (root_head store) (root_text first_root ∷ []) → IsNewStore image store
+    → IsLogFile (image file.Root) (new_root_head store) (root_text first_root ∷ []) → IsNewStore image store
 new-store store disk image p stay root = record {
-  root_log = has-log image file.Root (root_head store) (root_text first_root ∷ []) (image file.Root) refl root;
+  root_log = has-log image file.Root (new_root_head store) (root_text first_root ∷ []) (image file.Root) refl root;
   map_log = record {
-    octets = log_text (map_head store) (map_text first_box ∷ []);
-    there = kept-left (disk (file.Map 1)) (log_text (map_head store) (map_text first_box ∷ [])) (image (file.Map 1)) p.map_log (stay (file.Map 1) map-root);
-    whole = text-log (map_head store) (map_text first_box ∷ []) (map-fits store p.fits) first-fits;
+    octets = log_text (new_map_head store) (map_text first_box ∷ []);
+    there = kept-left (disk (file.Map 1)) (log_text (new_map_head store) (map_text first_box ∷ [])) (image (file.Map 1)) p.map_log (stay (file.Map 1) map-root);
+    whole = text-log (new_map_head store) (map_text first_box ∷ []) (map-fits store p.fits) first-fits;
   };
   inbox = record {
     octets = log_text (inbox_head store) [];
@@ -203,31 +203,31 @@ new-store store disk image p stay root = record {
   };
 }
 
-root-image : (store : List ℕ) (disk : DiskState) (image : Files) → HasMapLog store disk → IsBeingMade (root_head store) (root_text first_root) (disk file.Root) (image file.Root)
+root-image : (store : List ℕ) (disk : DiskState) (image : Files) → HasMapLog store disk → IsBeingMade (new_root_head store) (root_text first_root) (disk file.Root) (image file.Root)
     → ((other : FileName) → other ≢ file.Root → MayLeave (disk other) (image other)) → HasNothingOrInbox image
 root-image store disk image p (inl short) stay = inl (short-none (disk file.Root) (image file.Root) (p.nothing_else file.Root (λ e. map-root (sym e)) (λ e. box-root (sym e))) short)
-root-image store disk image p (inr (inl empty)) stay = inl (log-none (root_head store) (image file.Root) empty)
+root-image store disk image p (inr (inl empty)) stay = inl (log-none (new_root_head store) (image file.Root) empty)
 root-image store disk image p (inr (inr full)) stay = inr (new_safe image store (new-store store disk image p stay full))
 
 -- while the root log is made, it has no entry, or the store is there
-pub with-root : (store : List ℕ) (head : LogHead) (entry : List ℕ) (old new : Option History) → head ≡ root_head store → entry ≡ root_text first_root → IfTold old (HasMapLog store)
+pub with-root : (store : List ℕ) (head : LogHead) (entry : List ℕ) (old new : Option History) → head ≡ new_root_head store → entry ≡ root_text first_root → IfTold old (HasMapLog store)
     → EachImage (λ _ image. IsMaking file.Root head entry old image) old new → EachImage (λ _ image. HasNothingOrInbox image) old new
 with-root store head entry None new h e p each = each
 with-root store head entry (Some old) new h e p each =
     let F : LogHead → List ℕ → Type 0 = λ o t. EachImage (λ _ image. IsMaking file.Root o t (Some old) image) (Some old) new in
     each_image-map _ _ (Some old) new (λ m image is. root-image store old.now image p is.0 is.1)
-    (subst (λ (t : List ℕ). F (root_head store) t) e (subst (λ (o : LogHead). F o entry) h each))
+    (subst (λ (t : List ℕ). F (new_root_head store) t) e (subst (λ (o : LogHead). F o entry) h each))
 
 -- the disk is settled
 
-pub made-new : (store : List ℕ) (disk : DiskState) → IsMade store disk → HeadFits (inbox_head store) → IsNewStore (files_of disk) store
+pub made-new : (store : List ℕ) (disk : DiskState) → IsMadeStore store disk → HeadFits (inbox_head store) → IsNewStore (files_of disk) store
 made-new store disk m f = record {
-  root_log = record { octets = log_text (root_head store) (root_text first_root ∷ []); there = m.root_log.reads; whole = text-log (root_head store) (root_text first_root ∷ []) (root-fits store f) root-entry-fits };
-  map_log = record { octets = log_text (map_head store) (map_text first_box ∷ []); there = m.map_log.reads; whole = text-log (map_head store) (map_text first_box ∷ []) (map-fits store f) first-fits };
+  root_log = record { octets = log_text (new_root_head store) (root_text first_root ∷ []); there = m.root_log.reads; whole = text-log (new_root_head store) (root_text first_root ∷ []) (root-fits store f) root-entry-fits };
+  map_log = record { octets = log_text (new_map_head store) (map_text first_box ∷ []); there = m.map_log.reads; whole = text-log (new_map_head store) (map_text first_box ∷ []) (map-fits store f) first-fits };
   inbox = record { octets = log_text (inbox_head store) []; there = m.inbox.reads; whole = text-log (inbox_head store) [] f (All-nil EntryFits) };
 }
   where
-    root-fits : (store : List ℕ) → HeadFits (inbox_head store) → HeadFits (root_head store)
+    root-fits : (store : List ℕ) → HeadFits (inbox_head store) → HeadFits (new_root_head store)
     root-fits store f = record { store = f.store; octets = f.octets; number = lit< tt; generation = lit< tt }
 
     root-entry-fits : All EntryFits (root_text first_root ∷ [])
@@ -236,7 +236,7 @@ made-new store disk m f = record {
 same-left : (disk : DiskState) (image : Files) (name : FileName) (octets : List ℕ) → Keeps (disk name) octets → IsImage disk image → image name ≡ files_of disk name
 same-left disk image name octets k is = kept-left (disk name) octets (image name) k (is name) ∙ sym k.reads
 
-settled : (store : List ℕ) (disk : DiskState) → IsMade store disk → HeadFits (inbox_head store) → IsSettled disk empty_inbox
+settled : (store : List ℕ) (disk : DiskState) → IsMadeStore store disk → HeadFits (inbox_head store) → IsSettled disk empty_inbox
 settled store disk m f =
     let n : IsNewStore (files_of disk) store = made-new store disk m f in
     let safe : SafeBy (files_of disk) store (first_box ∷ []) empty_inbox = new_safe_by (files_of disk) store n in
@@ -247,8 +247,8 @@ settled store disk m f =
       entries = first_box ∷ [];
       safe = safe;
       alike = λ image is. subst (λ (g : ℕ). AreAlike g (map_meaning store (first_box ∷ [])) (files_of disk) image) (sym one) (record {
-        root = same-left disk image file.Root (log_text (root_head store) (root_text first_root ∷ [])) m.root_log is;
-        map = same-left disk image (file.Map 1) (log_text (map_head store) (map_text first_box ∷ [])) m.map_log is;
+        root = same-left disk image file.Root (log_text (new_root_head store) (root_text first_root ∷ [])) m.root_log is;
+        map = same-left disk image (file.Map 1) (log_text (new_map_head store) (map_text first_box ∷ [])) m.map_log is;
         boxes = All-cons (λ (box : MapBox). image (file.Box box.number box.generation) ≡ files_of disk (file.Box box.number box.generation)) (record { number = 1; generation = 1; name = codes "INBOX" }) []
             (same-left disk image (file.Box 1 1) (log_text (inbox_head store) []) m.inbox is) (All-nil (λ (box : MapBox). image (file.Box box.number box.generation) ≡ files_of disk (file.Box box.number box.generation)));
         regions = All-nil (HasSameRegion (files_of disk) image);
@@ -256,5 +256,5 @@ settled store disk m f =
       });
     }
 
-pub is-settled : (store : List ℕ) (log : LogState) (entries : List (List ℕ)) (h : Option History) → log.head ≡ inbox_head store → IfTold h (IsMade store) → Holds log entries h → IfTold h (λ disk. IsSettled disk empty_inbox)
+pub is-settled : (store : List ℕ) (log : LogState) (entries : List (List ℕ)) (h : Option History) → log.head ≡ inbox_head store → IfTold h (IsMadeStore store) → Holds log entries h → IfTold h (λ disk. IsSettled disk empty_inbox)
 is-settled store log entries h e m k = if_told-both _ _ _ h (λ disk made held. settled store disk made (subst HeadFits e held.reads.head_fits)) m k

@@ -3,7 +3,7 @@ use Rattle.std.proofs.Common.{◌≡◌, ℕ, false, List, [], ◌∷◌, Option
 use Rattle.std.proofs.lemmas.List.Elements.{All-nil}
 use Rattle.disk_model.specs.Disk.{DiskState, History, IfTold}
 use Rattle.disk_model.specs.declared.name.FileName.TheVariants as file
-use Rattle.disk_model.proofs.Moments.{if_told-map, if_told-both}
+use Rattle.disk_model.proofs.MomentLemmas.{if_told-map, if_told-both}
 use Rattle.mdbox_base.specs.declared.entries.MapEntry.{MapEntry}
 use Rattle.model_meaning.specs.BoxMeaning.{box_meaning}
 use Rattle.model_logs.specs.Entries.{map_text}
@@ -19,7 +19,7 @@ use Rattle.gate_log.specs.State.{LogState}
 use Rattle.gate_log.specs.Log.{Holds}
 use Rattle.store_core.specs.Running.{IsStore}
 use Rattle.store_core.specs.declared.store.OpenBox.{OpenBox}
-use Rattle.store_open.specs.Making.{IsMade, map_head, inbox_head}
+use Rattle.store_open.specs.Making.{IsMadeStore, new_map_head, inbox_head}
 use Rattle.store_open.proofs.NewStore.{made-new}
 
 -- ---- the map
@@ -49,15 +49,15 @@ new_good store = record {
   counts = All-nil _;
 }
 
-is_new : (store : List ℕ) (box_log : LogState) (new : Option History) → box_log.head ≡ inbox_head store → IfTold new (IsMade store) → Holds box_log [] new → IfTold new (λ disk. IsNewStore (files_of disk) store)
+is_new : (store : List ℕ) (box_log : LogState) (new : Option History) → box_log.head ≡ inbox_head store → IfTold new (IsMadeStore store) → Holds box_log [] new → IfTold new (λ disk. IsNewStore (files_of disk) store)
 is_new store box_log new e made held = if_told-both _ _ _ new (λ disk m h. made-new store disk m (subst HeadFits e h.reads.head_fits)) made held
 
 -- what is known of a new store's logs
 pub record HasNewLogs (store : List ℕ) (map_log box_log : LogState) (new : Option History) : Type 0 where
-  pub made : IfTold new (IsMade store)
+  pub made : IfTold new (IsMadeStore store)
   pub map_held : Holds map_log (map_text first_box ∷ []) new
   pub map_name : map_log.name ≡ file.Map 1
-  pub map_head_is : map_log.head ≡ map_head store
+  pub map_head_is : map_log.head ≡ new_map_head store
   pub box_held : Holds box_log [] new
   pub box_is : box_log ≡ record { name = file.Box 1 1; head = inbox_head store; end = 25; room = 0 }
 
@@ -76,7 +76,7 @@ new_store store m map_log box boxes new is l number index one =
       boxes_are = ap (λ (i : _). i ∷ []) index;
       counts = All-nil _;
       map_name = l.map_name;
-      map_head = l.map_head_is;
+      new_map_head = l.map_head_is;
       box_logs = (number, ap (λ (s : LogState). s.name) l.box_is, ap (λ (s : LogState). s.head) l.box_is, tt);
       some_lanes = lit≤ tt;
       few_lanes = lit≤ tt;

@@ -3,9 +3,9 @@ use Rattle.std.proofs.Common.{◌≡◌, ◌≤◌, ◌-◌, ℕ, false, List, [
 use Rattle.std.specs.List.{AllZip}
 use Rattle.std.proofs.lemmas.List.{length-map}
 use Rattle.std.proofs.lemmas.List.Elements.{All-weaker}
-use Rattle.disk_model.specs.Disk.{History, IfTold}
+use Rattle.disk_model.specs.Disk.{History, IfTold, IsIdle}
 use Rattle.disk_model.specs.declared.name.FileName.TheVariants as file
-use Rattle.disk_model.proofs.Moments.{if_told-map}
+use Rattle.disk_model.proofs.MomentLemmas.{if_told-map}
 use Rattle.mdbox_base.specs.declared.entries.BoxEntry.{BoxEntry}
 use Rattle.mdbox_base.specs.declared.entries.MapEntry.{MapEntry}
 use Rattle.mdbox_base.specs.declared.entries.RootEntry.{RootEntry}
@@ -14,8 +14,7 @@ use Rattle.model_logs.specs.Entries.{map_text}
 use Rattle.model_store.specs.GoodLogs.{AreGoodLogs}
 use Rattle.model_meaning.specs.MapMeaning.{MapRecord, MapBox, MapMeaning, map_meaning}
 use Rattle.model_store.specs.Opening.{listed_of, IsCounted}
-use Rattle.gate_log.specs.State.{LogState, Found}
-use Rattle.gate_log.specs.Log.{Idle}
+use Rattle.gate_log.specs.State.{LogState, InspectedLog}
 use Rattle.store_checks.specs.Boxes.{IsFoundAs, AreFound}
 use Rattle.store_checks.specs.Roots.{map_log_head}
 use Rattle.store_checks.specs.Store.{IsChecked}
@@ -92,14 +91,14 @@ store_is : (m : MapMeaning) (store : List ℕ) (entries : List MapEntry) → m �
 store_is m store entries e = sym (ap (λ (k : MapMeaning). k.store) e)
 
 -- what is known of a store with this id that was swept
-record IsKnown (store : List ℕ) (generation : ℕ) (entries : List MapEntry) (logs : List (List BoxEntry)) (m : MapMeaning) (log : Found) (boxes : List CheckedBox) (now new : Option History) : Type 0 where
+record IsKnown (store : List ℕ) (generation : ℕ) (entries : List MapEntry) (logs : List (List BoxEntry)) (m : MapMeaning) (log : InspectedLog) (boxes : List CheckedBox) (now new : Option History) : Type 0 where
   good : AreGoodLogs store entries logs
   map_is : m ≡ map_meaning store entries
   map_found : IsFoundAs log (file.Map generation) (map_log_head store generation) (map map_text entries) now
   found : AreFound store m.boxes boxes logs now
   opens : IfTold new (OpensAt store generation entries logs)
 
-is_store : (generation : ℕ) (entries : List MapEntry) (logs : List (List BoxEntry)) (m : MapMeaning) (found : Found) (map_log : LogState) (boxes : List CheckedBox) (opened : List OpenBox) (lanes : ℕ) (now new : Option History)
+is_store : (generation : ℕ) (entries : List MapEntry) (logs : List (List BoxEntry)) (m : MapMeaning) (found : InspectedLog) (map_log : LogState) (boxes : List CheckedBox) (opened : List OpenBox) (lanes : ℕ) (now new : Option History)
     → IsKnown m.store generation entries logs m found boxes now new → IsOpened now new found map_log → Opened now new boxes opened → map (λ o. o.number.0) opened ≡ map (λ b. b.number) m.boxes → indexes_of opened ≡ map box_meaning logs
     → 1 ≤ lanes → lanes ≤ 64 → IsStore new m map_log opened lanes false
 is_store generation entries logs m found map_log boxes opened lanes now new k map_opened zip numbers indexes some few = record {
@@ -128,7 +127,7 @@ pub indexes_are : (c : Checked) (before : List RootEntry) (entries : List MapEnt
     → AreParted c.map.boxes c.boxes parts → AreJoined gates parts.rest.items opened → indexes_of opened ≡ map box_meaning logs
 indexes_are c before entries logs parts gates opened old now k p j = j.indexes ∙ p.indexes ∙ k.boxes_are
 
-pub opened_store : (c : Checked) (before : List RootEntry) (entries : List MapEntry) (logs : List (List BoxEntry)) (parts : Parts) (map_log : LogState) (gates : List LogState) (opened : List OpenBox) (lanes : ℕ) (old now new : Option History) → Idle old now
+pub opened_store : (c : Checked) (before : List RootEntry) (entries : List MapEntry) (logs : List (List BoxEntry)) (parts : Parts) (map_log : LogState) (gates : List LogState) (opened : List OpenBox) (lanes : ℕ) (old now new : Option History) → IsIdle old now
     → IsChecked c before entries logs old now → AreParted c.map.boxes c.boxes parts → FilesCarry c.generation c.map now new → IsOpened now new c.map_log map_log → AllZip (IsOpened now new) parts.logs.items gates → AreJoined gates parts.rest.items opened
     → 1 ≤ lanes → lanes ≤ 64 → IsStore new c.map map_log opened lanes false
 opened_store c before entries logs parts map_log gates opened lanes old now new idle k p carry map_opened zip j some few =
@@ -141,5 +140,5 @@ opened_store c before entries logs parts map_log gates opened lanes old now new 
       opens = still_opens c.id.0 c.generation entries logs c.map now new k.map_is (opens_at c before entries logs old now idle k) carry;
     }))
     map_opened
-    (subst (λ (ls : List LogState). AllZip (IsOpened now new) (map (λ (b : CheckedBox). b.log) c.boxes) ls) (sym j.logs) (subst (λ (ls : List Found). AllZip (IsOpened now new) ls gates) p.logs zip))
+    (subst (λ (ls : List LogState). AllZip (IsOpened now new) (map (λ (b : CheckedBox). b.log) c.boxes) ls) (sym j.logs) (subst (λ (ls : List InspectedLog). AllZip (IsOpened now new) ls gates) p.logs zip))
     (j.numbers ∙ p.numbers) (indexes_are c before entries logs parts gates opened old now k p j) some few

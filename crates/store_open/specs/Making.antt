@@ -1,8 +1,9 @@
 -- What is known of a disk on which a store is made.
+use Rattle.disk_model.specs.Name.{IsLogName}
 use Rattle.std.specs.Prelude.{◌≡◌, ◌≢◌, ◌<◌, ◌^◌, ◌⊎◌, ℕ, List, [], ◌∷◌, Option, Some, None}
 use Rattle.std.specs.declared.cmp.Ordering.{Ordering}
 use Rattle.std.specs.declared.cmp.Ordering.TheVariants.{Less}
-use Rattle.disk_model.specs.Disk.{Files, FileState, DiskState, History, IsThere, IfTold, IsPast, Keeps, MayLeave, no_file, named, removed, reading}
+use Rattle.disk_model.specs.Disk.{Files, FileState, DiskState, History, IsThere, IfTold, IsPast, Keeps, MayLeave, no_file, named, removed, reading, IsIdle}
 use Rattle.disk_model.specs.declared.name.FileName.{FileName}
 use Rattle.disk_model.specs.declared.name.FileName.TheVariants as file
 use Rattle.model_logs.specs.declared.log_head.LogHead.{LogHead}
@@ -12,25 +13,11 @@ use Rattle.model_logs.specs.Entries.{root_text, map_text}
 use Rattle.model_store.specs.Stands.{head_of}
 use Rattle.model_store.specs.Safe.{Safe}
 use Rattle.model_store.specs.Opening.{HasNoEntry, first_root, first_box, empty_inbox}
-use Rattle.gate_log.specs.Log.{Idle, IsNoLonger, log_text}
-
--- a relation of the present states, where the disk tells them
-abbrev pub BothTold : (DiskState → DiskState → Type 0) → Option History → Option History → Type 0
-BothTold R None new = new ≡ None
-BothTold R (Some old) None = ⊥
-BothTold R (Some old) (Some new) = R old.now new.now
+use Rattle.gate_log.specs.Log.{IsAtMostAsLong, log_text}
 
 -- Where the disk has not this at the beginning, nothing has changed.
 abbrev pub IdleUnless : (DiskState → Type 0) → Option History → Option History → Type 0
-IdleUnless P old new = IfTold old (λ now. (P now → ⊥) → Idle old new)
-
--- a log of the store, and no storage file and no instance
-abbrev pub IsLogName : FileName → Type 0
-IsLogName file.Root = Unit {0}
-IsLogName (file.Map generation) = Unit {0}
-IsLogName (file.Box number generation) = Unit {0}
-IsLogName (file.Mail number) = ⊥
-IsLogName (file.Inst hash id) = ⊥
+IdleUnless P old new = IfTold old (λ now. (P now → ⊥) → IsIdle old new)
 
 -- a storage file or an instance is there
 abbrev pub HasMailFile : DiskState → Type 0
@@ -40,14 +27,6 @@ HasMailFile disk = (name : FileName) × (IsLogName name → ⊥) × IsThere (dis
 abbrev pub HasAnyLog : DiskState → Type 0
 HasAnyLog disk = (name : FileName) × IsLogName name × IsThere (disk name)
 
--- the name of a log as the code's type can hold it
-abbrev pub IsLogInRange : FileName → Type 0
-IsLogInRange file.Root = Unit {0}
-IsLogInRange (file.Map generation) = generation < 2 ^ 32
-IsLogInRange (file.Box number generation) = (number < 2 ^ 32) × (generation < 2 ^ 32)
-IsLogInRange (file.Mail number) = ⊥
-IsLogInRange (file.Inst hash id) = ⊥
-
 -- the least log that is there, of those past this name
 abbrev pub IsFirstLog : (FileName → FileName → Ordering) → Option FileName → Option FileName → DiskState → Type 0
 IsFirstLog cmp after None disk = (name : FileName) → IsLogName name → IsThere (disk name) → IsPast cmp after name → ⊥
@@ -55,7 +34,7 @@ IsFirstLog cmp after (Some next) disk = IsLogName next × IsThere (disk next)
     × ((name : FileName) → IsThere (disk name) → IsPast cmp after name → cmp name next ≢ Less)
 
 -- A store may be made here: the root log has no entry, and no storage file and no instance is there.
-pub record IsFree (disk : DiskState) : Type 0 where
+pub record IsFreeForStore (disk : DiskState) : Type 0 where
   pub no_entry : HasNoEntry (reading (disk file.Root))
   pub no_mail : HasMailFile disk → ⊥
 
@@ -80,28 +59,28 @@ abbrev pub AreRemoved : DiskState → DiskState → Type 0
 AreRemoved old new = (name : FileName) → IsRemoved name (old name) (new name)
 
 -- no file is there
-abbrev pub IsBare : DiskState → Type 0
-IsBare disk = (name : FileName) → IsThere (disk name) → ⊥
+abbrev pub IsEmptyDisk : DiskState → Type 0
+IsEmptyDisk disk = (name : FileName) → IsThere (disk name) → ⊥
 
 -- A file that is made as a log with one entry: it is no longer than it could be before, or than a log without entries, or
 -- it is the log without the entry, or with it.
 abbrev pub IsBeingMade : LogHead → List ℕ → FileState → Option (List ℕ) → Type 0
-IsBeingMade head entry f left = IsNoLonger 26 f left ⊎ (IsLogFile left head [] ⊎ IsLogFile left head (entry ∷ []))
+IsBeingMade head entry f left = IsAtMostAsLong 26 f left ⊎ (IsLogFile left head [] ⊎ IsLogFile left head (entry ∷ []))
 
 -- the heads of a new store's logs
-abbrev pub root_head : List ℕ → LogHead
-root_head store = head_of store kind.Root 0 0
+abbrev pub new_root_head : List ℕ → LogHead
+new_root_head store = head_of store kind.Root 0 0
 
-abbrev pub map_head : List ℕ → LogHead
-map_head store = head_of store kind.Map 0 1
+abbrev pub new_map_head : List ℕ → LogHead
+new_map_head store = head_of store kind.Map 0 1
 
 abbrev pub inbox_head : List ℕ → LogHead
 inbox_head store = head_of store kind.Box 1 1
 
 -- A new store with this id is on the disk: a stop leaves just its three logs, each as it reads.
-pub record IsMade (store : List ℕ) (disk : DiskState) : Type 0 where
-  pub root_log : Keeps (disk file.Root) (log_text (root_head store) (root_text first_root ∷ []))
-  pub map_log : Keeps (disk (file.Map 1)) (log_text (map_head store) (map_text first_box ∷ []))
+pub record IsMadeStore (store : List ℕ) (disk : DiskState) : Type 0 where
+  pub root_log : Keeps (disk file.Root) (log_text (new_root_head store) (root_text first_root ∷ []))
+  pub map_log : Keeps (disk (file.Map 1)) (log_text (new_map_head store) (map_text first_box ∷ []))
   pub inbox : Keeps (disk (file.Box 1 1)) (log_text (inbox_head store) [])
   pub nothing_else : (name : FileName) → name ≢ file.Root → name ≢ file.Map 1 → name ≢ file.Box 1 1 → disk name ≡ no_file
 

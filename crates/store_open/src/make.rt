@@ -1,14 +1,15 @@
 // The logs of a new store.
 ghost use Rattle.std.specs.Prelude.{◌≡◌, ◌≤◌, ◌+◌, ◌∷◌, [], length, IfOk, IfErr, IsErr, IsErrOf, OnOk};
-ghost use Rattle.disk_model.specs.Disk.{IfTold, EachImage, OthersStay, FaultsRoseIf};
+ghost use Rattle.disk_model.specs.FaultCounts.{ChangeFaultCounted};
+ghost use Rattle.disk_model.specs.Disk.{IfTold, EachImage, OthersStay};
 ghost use Rattle.disk_model.specs.declared.name.FileName.TheVariants as file;
 ghost use Rattle.model_logs.specs.LogFile.{EntryFits};
 ghost use Rattle.model_logs.specs.Entries.{map_text, root_text};
 ghost use Rattle.model_store.specs.Stands.{head_of};
 ghost use Rattle.model_store.specs.Opening.{first_root, first_box, empty_inbox};
 ghost use Rattle.model_store.specs.Settled.{IsSettled};
-ghost use Rattle.gate_log.specs.Log.{Holds, IsNoLonger, NamedButFor};
-ghost use Rattle.store_open.specs.Making.{IsBeingMade, NeverHasEntry, IsBare, IsMade, HasNothingOrInbox, map_head, inbox_head};
+ghost use Rattle.gate_log.specs.Log.{Holds, IsAtMostAsLong, NamedButFor};
+ghost use Rattle.store_open.specs.Making.{IsBeingMade, NeverHasEntry, IsEmptyDisk, IsMadeStore, HasNothingOrInbox, new_map_head, inbox_head};
 ghost use Rattle.store_open.specs.Refused.{IsFaultOrMemory};
 
 use crate::error::OpenError;
@@ -35,16 +36,16 @@ pub fn make_logs<D: Disk>(
     inbox: &[u8],
     first: &[u8],
 ) -> Result<MadeLogs, OpenError>
-    requires bare { IfTold (D.history disk.old) IsBare }
+    requires bare { IfTold (D.history disk.old) IsEmptyDisk }
     requires inbox { inbox.now ≡ map_text first_box }
     requires first { first.now ≡ root_text first_root }
     ensures any_moment { IfTold (D.history disk.old) (λ now. NeverHasEntry (now file.Root)) → EachImage (λ _ image. HasNothingOrInbox image) (D.history disk.old) (D.history disk.new) }
-    ensures store { OnOk result (IfTold (D.history disk.new) (IsMade id.0)) }
+    ensures store { OnOk result (IfTold (D.history disk.new) (IsMadeStore id.0)) }
     ensures settled { OnOk result (IfTold (D.history disk.new) (λ now. IsSettled now empty_inbox)) }
-    ensures map_log { IfOk result (λ made. Holds made.map_log (map_text first_box ∷ []) (D.history disk.new) × (made.map_log.name ≡ file.Map 1) × (made.map_log.head ≡ map_head id.0)) }
+    ensures map_log { IfOk result (λ made. Holds made.map_log (map_text first_box ∷ []) (D.history disk.new) × (made.map_log.name ≡ file.Map 1) × (made.map_log.head ≡ new_map_head id.0)) }
     ensures box_log { IfOk result (λ made. Holds made.box_log [] (D.history disk.new) × (made.box_log ≡ record { name = file.Box 1 1; head = inbox_head id.0; end = 25; room = 0 })) }
     ensures refused { IfErr result IsFaultOrMemory }
-    ensures fault { FaultsRoseIf (IsErrOf result OpenError.DiskFault) (D.faults disk.old) (D.faults disk.new) }
+    ensures fault { ChangeFaultCounted (IsErrOf result OpenError.DiskFault) (D.faults disk.old) (D.faults disk.new) }
 {
     let head = head_of(id, LogKind::Box, 1, 1);
     let box_log = make_empty_log(alloc, disk, FileName::Box(1, 1), head)?;
@@ -73,11 +74,11 @@ fn make_empty_log<D: Disk>(
     name: FileName,
     head: LogHead,
 ) -> Result<GateLog, DiskFault>
-    ensures any_moment { EachImage (λ _ image. IfTold (D.history disk.old) (λ before. IsNoLonger 26 (before name) (image name)) × OthersStay name (D.history disk.old) image) (D.history disk.old) (D.history disk.new) }
+    ensures any_moment { EachImage (λ _ image. IfTold (D.history disk.old) (λ before. IsAtMostAsLong 26 (before name) (image name)) × OthersStay name (D.history disk.old) image) (D.history disk.old) (D.history disk.new) }
     ensures made { IfOk result (λ log. Holds log [] (D.history disk.new)) }
     ensures log { IfOk result (λ log. log ≡ record { name = name; head = head; end = 25; room = 0 }) }
     ensures others { OnOk result (NamedButFor name (D.history disk.old) (D.history disk.new)) }
-    ensures fault { FaultsRoseIf (IsErr result) (D.faults disk.old) (D.faults disk.new) }
+    ensures fault { ChangeFaultCounted (IsErr result) (D.faults disk.old) (D.faults disk.new) }
 {
     create_log(alloc, disk, name, head).map_err(|_| DiskFault)
 }
@@ -98,7 +99,7 @@ fn make_log<D: Disk>(
     ensures log { IfOk result (λ log. (log.name ≡ name) × (log.head ≡ head)) }
     ensures others { OnOk result (NamedButFor name (D.history disk.old) (D.history disk.new)) }
     ensures refused { IfErr result IsFaultOrMemory }
-    ensures fault { FaultsRoseIf (IsErrOf result OpenError.DiskFault) (D.faults disk.old) (D.faults disk.new) }
+    ensures fault { ChangeFaultCounted (IsErrOf result OpenError.DiskFault) (D.faults disk.old) (D.faults disk.new) }
 {
     let mut log = make_empty_log(alloc, disk, name, head)?;
     log.reserve(entry.len() + 5)?;

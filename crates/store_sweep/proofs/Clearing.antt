@@ -7,7 +7,8 @@ use Rattle.disk_model.specs.declared.name.FileName.TheVariants as file
 use Rattle.model_meaning.specs.MapMeaning.{MapMeaning}
 use Rattle.model_store.specs.Carrying.{CarriesOver}
 use Rattle.store_sweep.specs.Held.{IsHeldStore, IsReadStore}
-use Rattle.store_sweep.specs.Wanted.{is_wanted, is_log, IsNoLonger, end_of}
+use Rattle.disk_model.specs.Name.{is_log}
+use Rattle.store_sweep.specs.Wanted.{is_wanted, EndsByLastRegion, end_of}
 use Rattle.store_sweep.specs.Moments.{ImagesCarry, KeepsStore, SameWhere, NoneMade, LogStays}
 use Rattle.store_sweep.proofs.Holding.{named_holds, named_reads}
 use Rattle.store_sweep.proofs.Sweeping.{images_then, images_named, keeps_then, keeps_where}
@@ -66,14 +67,14 @@ pub named_gone : (P : FileName → Type 0) (old new : Option History) → new �
 named_gone P None new is h = subst (λ (k : Option History). IfTold k (λ disk. (name : FileName) → IsThere (disk name) → P name)) (sym is) tt
 named_gone P (Some old) new is h = subst (λ (k : Option History). IfTold k (λ disk. (name : FileName) → IsThere (disk name) → P name)) (sym is) (λ name there. h name (named_is_there (old.now name) there))
 
-no_longer_named : (m : MapMeaning) (name : FileName) (f : FileState) → IsThere f → IsNoLonger m name f → IsNoLonger m name (named f)
+no_longer_named : (m : MapMeaning) (name : FileName) (f : FileState) → IsThere f → EndsByLastRegion m name f → EndsByLastRegion m name (named f)
 no_longer_named m file.Root f there h = tt
 no_longer_named m (file.Map g) f there h = tt
 no_longer_named m (file.Box n g) f there h = tt
 no_longer_named m (file.Mail n) f there h = λ open_file. subst (λ (o : List ℕ). length o ≤ end_of m n) (sym (named_octets f there)) (h open_file)
 no_longer_named m (file.Inst hash id) f there h = tt
 
-pub named_cut : (m : MapMeaning) (old new : Option History) → new ≡ after (change_all named) old → IfTold old (λ disk. (name : FileName) → IsThere (disk name) → IsNoLonger m name (disk name)) → IfTold new (λ disk. (name : FileName) → IsThere (disk name) → IsNoLonger m name (disk name))
-named_cut m None new is h = subst (λ (k : Option History). IfTold k (λ disk. (name : FileName) → IsThere (disk name) → IsNoLonger m name (disk name))) (sym is) tt
-named_cut m (Some old) new is h = subst (λ (k : Option History). IfTold k (λ disk. (name : FileName) → IsThere (disk name) → IsNoLonger m name (disk name))) (sym is)
+pub named_cut : (m : MapMeaning) (old new : Option History) → new ≡ after (change_all named) old → IfTold old (λ disk. (name : FileName) → IsThere (disk name) → EndsByLastRegion m name (disk name)) → IfTold new (λ disk. (name : FileName) → IsThere (disk name) → EndsByLastRegion m name (disk name))
+named_cut m None new is h = subst (λ (k : Option History). IfTold k (λ disk. (name : FileName) → IsThere (disk name) → EndsByLastRegion m name (disk name))) (sym is) tt
+named_cut m (Some old) new is h = subst (λ (k : Option History). IfTold k (λ disk. (name : FileName) → IsThere (disk name) → EndsByLastRegion m name (disk name))) (sym is)
     (λ name there. let own : IsThere (old.now name) = named_is_there (old.now name) there in no_longer_named m name (old.now name) own (h name own))

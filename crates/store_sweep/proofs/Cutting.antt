@@ -9,11 +9,11 @@ use Rattle.std.proofs.lemmas.Option.{same_Some}
 use Rattle.disk_model.specs.Disk.{FileState, History, IfTold, IsThere, Reaches, Unchanged, AfterFailed, SameButFor, after, change, cut_to, half_cut, synced, reading}
 use Rattle.disk_model.specs.declared.name.FileName.{FileName}
 use Rattle.disk_model.specs.declared.name.FileName.TheVariants as file
-use Rattle.disk_model.proofs.Moments.{if_told-all, if_told-map, if_told-unchanged, told-after}
-use Rattle.disk_model.proofs.OneFile.{same-begins, same-goes_on}
-use Rattle.disk_model.proofs.ChangeAndSync.{changed_state, state}
+use Rattle.disk_model.proofs.MomentLemmas.{if_told-all, if_told-map, if_told-unchanged, told-after}
+use Rattle.disk_model.proofs.OneFileLemmas.{same-begins, same-goes_on}
+use Rattle.disk_model.proofs.ChangeAndSyncLemmas.{changed_state, state}
 use Rattle.model_meaning.specs.MapMeaning.{MapRecord, MapMeaning}
-use Rattle.store_sweep.specs.Wanted.{EndBy, IsNoLonger, end_of, ends_at}
+use Rattle.store_sweep.specs.Wanted.{EndBy, EndsByLastRegion, end_of, ends_at}
 use Rattle.store_sweep.specs.Moments.{ImagesCarry, KeepsStore, NoneMade}
 use Rattle.store_sweep.proofs.Holding.{half_cut_holds, cut_holds, synced_holds, cut_carries, reads_there}
 use Rattle.store_sweep.proofs.Sweeping.{Keeping, images_goes_on, images_fails, images_fails_still, images_then, holds_goes_on, reads_goes_on, none_goes_on, none_then}
@@ -114,7 +114,7 @@ not_there name end old new unchanged is =
     if_told-unchanged _ old new unchanged (if_told-map _ _ old (λ disk e there. absurd (let s : None ≡ Some (disk name).octets = sym e ∙ reads_there (disk name) there in cc)) is)
 
 -- what is no storage file needs no cut
-pub fits_anyway : (m : MapMeaning) (name : FileName) (f : FileState) → ((n : ℕ) → name ≡ file.Mail n → ⊥) → IsNoLonger m name f
+pub fits_anyway : (m : MapMeaning) (name : FileName) (f : FileState) → ((n : ℕ) → name ≡ file.Mail n → ⊥) → EndsByLastRegion m name f
 fits_anyway m file.Root f apart = tt
 fits_anyway m (file.Map g) f apart = tt
 fits_anyway m (file.Box n g) f apart = tt

@@ -8,16 +8,16 @@ use Rattle.disk_model.specs.Disk.{Files, FileState, DiskState, History, IfTold, 
 use Rattle.disk_model.specs.Name.{same_name}
 use Rattle.disk_model.specs.declared.name.FileName.{FileName}
 use Rattle.disk_model.specs.declared.name.FileName.TheVariants as file
-use Rattle.disk_model.proofs.Names.{same_name-true, same_name-eq}
-use Rattle.disk_model.proofs.Moments.{each_image-map}
+use Rattle.disk_model.proofs.NameLemmas.{same_name-true, same_name-eq}
+use Rattle.disk_model.proofs.MomentLemmas.{each_image-map}
 use Rattle.model_logs.specs.declared.log_head.LogHead.{LogHead}
-use Rattle.model_logs.specs.LogFile.{IsLog, IsLogFile, log_front, HeadFits, EntryFits, Ends}
+use Rattle.model_logs.specs.LogFile.{IsLog, IsLogFile, log_front, HeadFits, EntryFits, EndsLog}
 use Rattle.model_logs.proofs.LogFileLemmas.{one_log}
 use Rattle.model_meaning.specs.MapMeaning.{MapBox, MapMeaning}
 use Rattle.model_store.specs.Carrying.{HasSameEntries, CarryOver, CarriesOver}
 use Rattle.model_store.proofs.CarryingLemmas.{each_name}
-use Rattle.gate_log.specs.State.{LogState, Found}
-use Rattle.gate_log.specs.Log.{IsFound, IsFoundKept, IsRead, IsHeld, Reads, Holds, log_text}
+use Rattle.gate_log.specs.State.{LogState, InspectedLog}
+use Rattle.gate_log.specs.Log.{IsFound, IsFoundKept, IsLogRead, IsLogHeld, Reads, Holds, log_text}
 use Rattle.store_sweep.specs.Held.{IsHeldLog, IsHeldAt, IsHeldStore, IsReadStore}
 use Rattle.store_sweep.specs.Moments.{ImagesCarry, KeepsStore, SameWhere, LogStays}
 use Rattle.store_sweep.specs.Repaired.{IsRepaired}
@@ -48,13 +48,13 @@ box_log g m box among = record {
 
 -- ---- one log
 
-standing_log : (head : LogHead) (entries : List (List ℕ)) (gate : ℕ) (rest : List ℕ) → HeadFits head → All EntryFits entries → Ends gate rest → IsLog (log_front head entries ++ gate ∷ rest) head entries
+standing_log : (head : LogHead) (entries : List (List ℕ)) (gate : ℕ) (rest : List ℕ) → HeadFits head → All EntryFits entries → EndsLog gate rest → IsLog (log_front head entries ++ gate ∷ rest) head entries
 standing_log head entries gate rest head_fits entries_fit ends = record { head_fits = head_fits; entries_fit = entries_fit; gate = gate; behind = rest; spelled = refl; ends = ends }
 
 text_log : (head : LogHead) (entries : List (List ℕ)) → HeadFits head → All EntryFits entries → IsLog (log_text head entries) head entries
 text_log head entries head_fits entries_fit = standing_log head entries 0 [] head_fits entries_fit (inr refl)
 
-log_of : (found : Found) (entries : List (List ℕ)) (disk : DiskState) → (h : IsFound found entries disk) → IsLog (log_front found.head entries ++ found.gate ∷ h.rest) found.head entries
+log_of : (found : InspectedLog) (entries : List (List ℕ)) (disk : DiskState) → (h : IsFound found entries disk) → IsLog (log_front found.head entries ++ found.gate ∷ h.rest) found.head entries
 log_of found entries disk h = standing_log found.head entries found.gate h.rest h.stands.head_fits h.stands.entries_fit h.stands.ends
 
 -- a log of the same entries carries over what a log of them does
@@ -63,19 +63,19 @@ same_log was octets left head entries same is log = λ h es l.
     let one = one_log octets h head es entries (same h es l) is in
     subst (λ (k : LogHead). IsLogFile left k es) (sym one.0) (subst (λ (xs : List (List ℕ)). IsLogFile left head xs) (sym one.1) log)
 
-kept_found : (g : ℕ) (m : MapMeaning) (was : Files) (found : Found) (entries : List (List ℕ)) (disk : DiskState) → IsLogAt g m found.name → IsFound found entries disk → IsHeldStore g m was disk → IsFoundKept found entries disk
+kept_found : (g : ℕ) (m : MapMeaning) (was : Files) (found : InspectedLog) (entries : List (List ℕ)) (disk : DiskState) → IsLogAt g m found.name → IsFound found entries disk → IsHeldStore g m was disk → IsFoundKept found entries disk
 kept_found g m was found entries disk at h k =
     let own : IsHeldLog (was found.name) (disk found.name) = at.held was (disk found.name) (k found.name) in
     let e : own.octets ≡ log_front found.head entries ++ found.gate ∷ h.rest = same_Some _ _ (sym own.keeps.reads ∙ h.stands.reads) in
     record { rest = h.rest; behind = h.behind; kept = record { stands = h.stands; keeps = subst (Keeps (disk found.name)) e own.keeps } }
 
 -- where the store is held, the log is
-pub repair_kept : (g : ℕ) (m : MapMeaning) (was : Files) (found : Found) (entries : List (List ℕ)) (old : Option History) → IsLogAt g m found.name → IfTold old (IsFound found entries) → IfTold old (IsHeldStore g m was) → IfTold old (IsFoundKept found entries)
+pub repair_kept : (g : ℕ) (m : MapMeaning) (was : Files) (found : InspectedLog) (entries : List (List ℕ)) (old : Option History) → IsLogAt g m found.name → IfTold old (IsFound found entries) → IfTold old (IsHeldStore g m was) → IfTold old (IsFoundKept found entries)
 repair_kept g m was found entries None at h k = tt
 repair_kept g m was found entries (Some old) at h k = kept_found g m was found entries old.now at h k
 
 -- the octets that are held are those of the log
-held_same : (g : ℕ) (m : MapMeaning) (was : Files) (found : Found) (entries : List (List ℕ)) (disk : DiskState) (left : Option (List ℕ)) → IsLogAt g m found.name → IsFound found entries disk → IsHeldStore g m was disk
+held_same : (g : ℕ) (m : MapMeaning) (was : Files) (found : InspectedLog) (entries : List (List ℕ)) (disk : DiskState) (left : Option (List ℕ)) → IsLogAt g m found.name → IsFound found entries disk → IsHeldStore g m was disk
     → IsLogFile left found.head entries → HasSameEntries (was found.name) left
 held_same g m was found entries disk left at h k log =
     let own : IsHeldLog (was found.name) (disk found.name) = at.held was (disk found.name) (k found.name) in
@@ -89,7 +89,7 @@ by_name P name own others n = elim (cases_Bool (same_name n name)) [
   | inr apart ↦ others n (λ e. true≢false (sym (same_name-eq n name e) ∙ apart))
 ]
 
-image_of : (g : ℕ) (m : MapMeaning) (was : Files) (found : Found) (entries : List (List ℕ)) (disk : DiskState) (image : Files) → IsLogAt g m found.name → IsFound found entries disk → IsHeldStore g m was disk
+image_of : (g : ℕ) (m : MapMeaning) (was : Files) (found : InspectedLog) (entries : List (List ℕ)) (disk : DiskState) (image : Files) → IsLogAt g m found.name → IsFound found entries disk → IsHeldStore g m was disk
     → IsLogFile (image found.name) found.head entries → ((other : FileName) → other ≢ found.name → MayLeave (disk other) (image other)) → CarryOver g m was image
 image_of g m was found entries disk image at h k log others =
     each_name g m was image
@@ -97,7 +97,7 @@ image_of g m was found entries disk image at h k log others =
     (at.reads was (image found.name) (held_same g m was found entries disk (image found.name) at h k log))
     (λ other apart. left_at g m was other (disk other) (image other) (k other) (others other apart)))
 
-pub repair_images : (g : ℕ) (m : MapMeaning) (found : Found) (entries : List (List ℕ)) (old new : Option History) → IsLogAt g m found.name → IfTold old (IsFound found entries)
+pub repair_images : (g : ℕ) (m : MapMeaning) (found : InspectedLog) (entries : List (List ℕ)) (old new : Option History) → IsLogAt g m found.name → IfTold old (IsFound found entries)
     → ((es : List (List ℕ)) → IfTold old (IsFoundKept found es) → EachImage (λ _ image. IsLogFile (image found.name) found.head es × OthersStay found.name old image) old new) → ImagesCarry g m old new
 repair_images g m found entries None new at h each was k = each entries tt
 repair_images g m found entries (Some old) new at h each was k =
@@ -107,10 +107,10 @@ repair_images g m found entries (Some old) new at h each was k =
 
 -- ---- after it
 
-holds_after : (g : ℕ) (m : MapMeaning) (was : Files) (found : Found) (log : LogState) (entries : List (List ℕ)) (old new : DiskState) → IsLogAt g m found.name → log ≡ record { name = found.name; head = found.head; end = found.end; room = 0 }
-    → IsFound found entries old → ((other : FileName) → other ≢ found.name → new other ≡ old other) → IsHeld log entries new → IsHeldStore g m was old → IsHeldStore g m was new
+holds_after : (g : ℕ) (m : MapMeaning) (was : Files) (found : InspectedLog) (log : LogState) (entries : List (List ℕ)) (old new : DiskState) → IsLogAt g m found.name → log ≡ record { name = found.name; head = found.head; end = found.end; room = 0 }
+    → IsFound found entries old → ((other : FileName) → other ≢ found.name → new other ≡ old other) → IsLogHeld log entries new → IsHeldStore g m was old → IsHeldStore g m was new
 holds_after g m was found log entries old new at is h same held k =
-    let there : IsHeld (record { name = found.name; head = found.head; end = found.end; room = 0 }) entries new = subst (λ (l : LogState). IsHeld l entries new) is held in
+    let there : IsLogHeld (record { name = found.name; head = found.head; end = found.end; room = 0 }) entries new = subst (λ (l : LogState). IsLogHeld l entries new) is held in
     by_name (λ (n : FileName). IsHeldAt g m was n (new n)) found.name
     (at.holds was (new found.name) (record {
       octets = log_text found.head entries;
@@ -119,10 +119,10 @@ holds_after g m was found log entries old new at is h same held k =
     }))
     (λ other apart. subst (IsHeldAt g m was other) (sym (same other apart)) (k other))
 
-reads_after : (g : ℕ) (m : MapMeaning) (was : Files) (found : Found) (log : LogState) (entries : List (List ℕ)) (old new : DiskState) → IsLogAt g m found.name → log ≡ record { name = found.name; head = found.head; end = found.end; room = 0 }
-    → IsFound found entries old → ((other : FileName) → other ≢ found.name → new other ≡ old other) → IsRead log entries new → IsReadStore g m was old → IsReadStore g m was new
+reads_after : (g : ℕ) (m : MapMeaning) (was : Files) (found : InspectedLog) (log : LogState) (entries : List (List ℕ)) (old new : DiskState) → IsLogAt g m found.name → log ≡ record { name = found.name; head = found.head; end = found.end; room = 0 }
+    → IsFound found entries old → ((other : FileName) → other ≢ found.name → new other ≡ old other) → IsLogRead log entries new → IsReadStore g m was old → IsReadStore g m was new
 reads_after g m was found log entries old new at is h same read k =
-    let there : IsRead (record { name = found.name; head = found.head; end = found.end; room = 0 }) entries new = subst (λ (l : LogState). IsRead l entries new) is read in
+    let there : IsLogRead (record { name = found.name; head = found.head; end = found.end; room = 0 }) entries new = subst (λ (l : LogState). IsLogRead l entries new) is read in
     let before : HasSameEntries (was found.name) (Some (log_front found.head entries ++ found.gate ∷ h.rest)) =
     subst (HasSameEntries (was found.name)) h.stands.reads (at.read was (reading (old found.name)) (k found.name)) in
     by_name (λ (n : FileName). CarriesOver g m was n (reading (new n))) found.name
@@ -131,7 +131,7 @@ reads_after g m was found log entries old new at is h same read k =
     (same_log (was found.name) (log_front found.head entries ++ found.gate ∷ h.rest) (Some (log_text found.head entries)) found.head entries before (log_of found entries old h) (text_log found.head entries there.head_fits there.entries_fit))))
     (λ other apart. subst (λ (f : FileState). CarriesOver g m was other (reading f)) (sym (same other apart)) (k other))
 
-pub repair_keeps : (g : ℕ) (m : MapMeaning) (found : Found) (log : LogState) (entries : List (List ℕ)) (old new : Option History) → IsLogAt g m found.name → IfTold old (IsFound found entries) → SameButFor found.name old new → IsRepaired old new found log → KeepsStore g m old new
+pub repair_keeps : (g : ℕ) (m : MapMeaning) (found : InspectedLog) (log : LogState) (entries : List (List ℕ)) (old new : Option History) → IsLogAt g m found.name → IfTold old (IsFound found entries) → SameButFor found.name old new → IsRepaired old new found log → KeepsStore g m old new
 repair_keeps g m found log entries None None at h same r = record { holds = λ was k. tt; reads = λ was k. tt; told = λ t. t }
 repair_keeps g m found log entries None (Some new) at h same r = absurd (let e : Some new ≡ None = same in cc)
 repair_keeps g m found log entries (Some old) None at h same r = elim same [ ]
@@ -159,7 +159,7 @@ stays_holds log entries (Some old) (Some new) stays h = record {
 }
 
 -- a log that was repaired, and then stays
-pub repaired_stays : (found : Found) (log : LogState) (old now new : Option History) → LogStays found.name now new → IsRepaired old now found log → IsRepaired old new found log
+pub repaired_stays : (found : InspectedLog) (log : LogState) (old now new : Option History) → LogStays found.name now new → IsRepaired old now found log → IsRepaired old new found log
 repaired_stays found log old now new stays r =
     let own : LogStays log.name now new = subst (λ (l : LogState). LogStays l.name now new) (sym r.is) stays in
     record {

@@ -8,20 +8,21 @@ use Rattle.std.proofs.lemmas.Option.{same_Some}
 use Rattle.disk_model.specs.Disk.{Files, FileState, DiskState, History, IfTold, IsThere, IsImage, EachImage, reading}
 use Rattle.disk_model.specs.declared.name.FileName.{FileName}
 use Rattle.disk_model.specs.declared.name.FileName.TheVariants as file
-use Rattle.disk_model.proofs.Moments.{each_image-map}
+use Rattle.disk_model.proofs.MomentLemmas.{each_image-map}
 use Rattle.model_lists.specs.Lists.{Lists}
 use Rattle.model_store.specs.Safe.{Safe}
 use Rattle.model_meaning.specs.MapMeaning.{MapRecord, MapMeaning}
 use Rattle.model_store.specs.Settled.{files_of, IsSameRegion, IsSettled}
 use Rattle.model_store.specs.Carrying.{CarryOver}
 use Rattle.model_store.proofs.CarryingLemmas.{each_name}
-use Rattle.gate_log.specs.State.{LogState, Found}
+use Rattle.gate_log.specs.State.{LogState, InspectedLog}
 use Rattle.gate_log.specs.Log.{IsFound, IsFoundKept}
 use Rattle.store_sweep.specs.Held.{IsReadStore}
 use Rattle.store_sweep.specs.Moments.{ImagesCarry, KeepsStore, LogStays}
-use Rattle.store_sweep.specs.Repaired.{IsRepaired, AreBoxLogs}
+use Rattle.store_sweep.specs.Repaired.{IsRepaired, AreLogsOfBoxes}
 use Rattle.store_sweep.specs.Swept.{OpensWith, FilesCarry, IsOpened, EndWithRegions}
-use Rattle.store_sweep.specs.Wanted.{is_wanted, is_log, IsNoLonger, end_of, ends_at}
+use Rattle.disk_model.specs.Name.{is_log}
+use Rattle.store_sweep.specs.Wanted.{is_wanted, EndsByLastRegion, end_of, ends_at}
 use Rattle.store_sweep.proofs.Holding.{reads_there}
 use Rattle.store_sweep.proofs.Repairing.{IsLogAt, repair_kept, repaired_stays}
 use Rattle.store_sweep.proofs.Logs.{IsBoxLog, box_logs, box_at, box_is_log, box_is_wanted, root_at, root_is_log, root_is_wanted, map_at, map_is_log, map_is_wanted}
@@ -57,24 +58,24 @@ files_carry g m (Some old) (Some new) opens images keeps = each_name g m (files_
 
 -- ---- the logs
 
-kept_log : (g : ℕ) (m : MapMeaning) (lists : Lists) (log : Found) (entries : List (List ℕ)) (old : Option History) → IfTold old ReadsImage → IfTold old (OpensWith g m) → IsLogAt g m log.name → IfTold old (λ disk. IsSettled disk lists) → IfTold old (IsFound log entries) → IfTold old (IsFoundKept log entries)
+kept_log : (g : ℕ) (m : MapMeaning) (lists : Lists) (log : InspectedLog) (entries : List (List ℕ)) (old : Option History) → IfTold old ReadsImage → IfTold old (OpensWith g m) → IsLogAt g m log.name → IfTold old (λ disk. IsSettled disk lists) → IfTold old (IsFound log entries) → IfTold old (IsFoundKept log entries)
 kept_log g m lists log entries None image opens at s h = tt
 kept_log g m lists log entries (Some old) image opens at s h = repair_kept g m (files_of old.now) log entries (Some old) at h (held_opened g m old.now lists opens image s)
 
-opened_log : (g : ℕ) (m : MapMeaning) (log : Found) (gate : LogState) (old mid new : Option History) → IfTold old ReadsImage → IfTold old (OpensWith g m) → IsLogAt g m log.name → LogStays log.name mid new → IsRepaired old mid log gate → IsOpened old new log gate
+opened_log : (g : ℕ) (m : MapMeaning) (log : InspectedLog) (gate : LogState) (old mid new : Option History) → IfTold old ReadsImage → IfTold old (OpensWith g m) → IsLogAt g m log.name → LogStays log.name mid new → IsRepaired old mid log gate → IsOpened old new log gate
 opened_log g m log gate old mid new image opens at stays r =
     let s : IsRepaired old new log gate = repaired_stays log gate old mid new stays r in
     record { is = s.is; reads = s.reads; holds = λ lists entries settled h. s.holds entries (kept_log g m lists log entries old image opens at settled h) }
 
-pub opened_map : (g : ℕ) (m : MapMeaning) (log : Found) (gate : LogState) (old mid new : Option History) → IfTold old ReadsImage → IfTold old (OpensWith g m) → log.name ≡ file.Map g
+pub opened_map : (g : ℕ) (m : MapMeaning) (log : InspectedLog) (gate : LogState) (old mid new : Option History) → IfTold old ReadsImage → IfTold old (OpensWith g m) → log.name ≡ file.Map g
     → ((name : FileName) → is_log name ≡ true → is_wanted g m name ≡ true → LogStays name mid new) → IsRepaired old mid log gate → IsOpened old new log gate
 opened_map g m log gate old mid new image opens is stays r = opened_log g m log gate old mid new image opens (map_at g m log is) (stays log.name (map_is_log g log is) (map_is_wanted g m log is)) r
 
-pub opened_root : (g : ℕ) (m : MapMeaning) (log : Found) (gate : LogState) (old mid new : Option History) → IfTold old ReadsImage → IfTold old (OpensWith g m) → log.name ≡ file.Root
+pub opened_root : (g : ℕ) (m : MapMeaning) (log : InspectedLog) (gate : LogState) (old mid new : Option History) → IfTold old ReadsImage → IfTold old (OpensWith g m) → log.name ≡ file.Root
     → ((name : FileName) → is_log name ≡ true → is_wanted g m name ≡ true → LogStays name mid new) → IsRepaired old mid log gate → IsOpened old new log gate
 opened_root g m log gate old mid new image opens is stays r = opened_log g m log gate old mid new image opens (root_at g m log is) (stays log.name (root_is_log log is) (root_is_wanted g m log is)) r
 
-opened_each : (g : ℕ) (m : MapMeaning) (logs : List Found) (gates : List LogState) (old mid new : Option History) → IfTold old ReadsImage → IfTold old (OpensWith g m) → All (IsBoxLog m) logs
+opened_each : (g : ℕ) (m : MapMeaning) (logs : List InspectedLog) (gates : List LogState) (old mid new : Option History) → IfTold old ReadsImage → IfTold old (OpensWith g m) → All (IsBoxLog m) logs
     → ((name : FileName) → is_log name ≡ true → is_wanted g m name ≡ true → LogStays name mid new) → AllZip (IsRepaired old mid) logs gates → AllZip (IsOpened old new) logs gates
 opened_each g m [] [] old mid new image opens boxes stays z = tt
 opened_each g m [] (gate ∷ gates) old mid new image opens boxes stays z = absurd z
@@ -85,7 +86,7 @@ opened_each g m (log ∷ logs) (gate ∷ gates) old mid new image opens boxes st
       opened_each g m logs gates old mid new image opens (All-tail (IsBoxLog m) log logs boxes) stays z.1,
     )
 
-pub opened_boxes : (g : ℕ) (m : MapMeaning) (logs : List Found) (gates : List LogState) (old mid new : Option History) → IfTold old ReadsImage → IfTold old (OpensWith g m) → AreBoxLogs m logs
+pub opened_boxes : (g : ℕ) (m : MapMeaning) (logs : List InspectedLog) (gates : List LogState) (old mid new : Option History) → IfTold old ReadsImage → IfTold old (OpensWith g m) → AreLogsOfBoxes m logs
     → ((name : FileName) → is_log name ≡ true → is_wanted g m name ≡ true → LogStays name mid new) → AllZip (IsRepaired old mid) logs gates → AllZip (IsOpened old new) logs gates
 opened_boxes g m logs gates old mid new image opens names stays z = opened_each g m logs gates old mid new image opens (box_logs m logs names) stays z
 
@@ -113,7 +114,7 @@ end_reached g m found n disk r there =
     (λ row h. ends_below n (length (disk (file.Mail n)).octets) row (λ own. region_ends (found (file.Mail n)) row (disk (file.Mail n)) there (h own))) m.records (r (file.Mail n)))
 
 pub end_with_regions : (g : ℕ) (m : MapMeaning) (old new : Option History) → IfTold old (OpensWith g m) → ImagesCarry g m old new → KeepsStore g m old new
-    → IfTold new (λ disk. (name : FileName) → IsThere (disk name) → IsNoLonger m name (disk name)) → IfTold new (EndWithRegions m)
+    → IfTold new (λ disk. (name : FileName) → IsThere (disk name) → EndsByLastRegion m name (disk name)) → IfTold new (EndWithRegions m)
 end_with_regions g m None new opens images keeps cut = subst (λ (h : Option History). IfTold h (EndWithRegions m)) (sym (untold g m new images)) tt
 end_with_regions g m (Some old) None opens images keeps cut = tt
 end_with_regions g m (Some old) (Some new) opens images keeps cut = λ n there open_file.

@@ -9,9 +9,9 @@ use Rattle.model_meaning.specs.MapMeaning.{MapMeaning, map_meaning, is_sealed}
 use Rattle.model_store.specs.Settled.{files_of, IsSettled}
 use Rattle.model_store.specs.Carrying.{CarryOver}
 use Rattle.model_store.specs.Opening.{Opens}
-use Rattle.gate_log.specs.State.{LogState, Found}
+use Rattle.gate_log.specs.State.{LogState, InspectedLog}
 use Rattle.gate_log.specs.Log.{IsFound, Reads, Holds}
-use Rattle.store_sweep.specs.Repaired.{at_rest}
+use Rattle.store_sweep.specs.Repaired.{repaired_log}
 use Rattle.store_sweep.specs.Wanted.{end_of}
 
 -- The files pass all checks, and the map log in force has this generation and means this.
@@ -30,8 +30,8 @@ FilesCarry generation m (Some old) None = ⊥
 FilesCarry generation m (Some old) (Some new) = CarryOver generation m (files_of old.now) (files_of new.now)
 
 -- The log that was found is this one afterwards, with the entries that it had, and held where the disk was settled.
-pub record IsOpened (old new : Option History) (found : Found) (log : LogState) : Type 0 where
-  pub is : log ≡ at_rest found
+pub record IsOpened (old new : Option History) (found : InspectedLog) (log : LogState) : Type 0 where
+  pub is : log ≡ repaired_log found
   pub reads : (entries : List (List ℕ)) → IfTold old (IsFound found entries) → Reads log entries new
   pub holds : (lists : Lists) (entries : List (List ℕ)) → IfTold old (λ disk. IsSettled disk lists) → IfTold old (IsFound found entries) → Holds log entries new
 

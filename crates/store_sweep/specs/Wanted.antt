@@ -44,14 +44,6 @@ abbrev pub EndBy : MapMeaning → ℕ → ℕ → Type 0
 EndBy m number end = All (λ row. row.file ≡ number → row.offset + row.size ≤ end) m.records
 
 -- a storage file that isn't sealed has no octet behind its last region
-abbrev pub IsNoLonger : MapMeaning → FileName → FileState → Type 0
-IsNoLonger m (file.Mail number) f = is_sealed m number ≡ false → length f.octets ≤ end_of m number
-IsNoLonger m other f = Unit {0}
-
--- the name of a log
-abbrev pub is_log : FileName → Bool
-is_log file.Root = true
-is_log (file.Map g) = true
-is_log (file.Box number g) = true
-is_log (file.Mail number) = false
-is_log (file.Inst hash id) = false
+abbrev pub EndsByLastRegion : MapMeaning → FileName → FileState → Type 0
+EndsByLastRegion m (file.Mail number) f = is_sealed m number ≡ false → length f.octets ≤ end_of m number
+EndsByLastRegion m other f = Unit {0}

@@ -1,17 +1,18 @@
 // The sweep of a store.
 ghost use Rattle.std.specs.Prelude.{◌≡◌, ◌∷◌, true, ℕ, [], length, vec_len, vec_capacity, ◌≤◌, OnOk, IfOk, IsErr, IsErrOf, All};
 ghost use Rattle.std.specs.List.{AllZip};
-ghost use Rattle.disk_model.specs.Disk.{EachImage, IfTold, IsThere, FaultsRoseIf};
+ghost use Rattle.disk_model.specs.FaultCounts.{ChangeFaultCounted, AnyFaultCounted};
+ghost use Rattle.disk_model.specs.Disk.{EachImage, IfTold, IsThere};
 ghost use Rattle.disk_model.specs.declared.name.FileName.{FileName};
 ghost use Rattle.disk_model.specs.declared.name.FileName.TheVariants as file;
-ghost use Rattle.gate_log.specs.Log.{OneRoseIf};
 ghost use Rattle.model_lists.specs.Lists.{Lists};
 ghost use Rattle.model_store.specs.Safe.{Safe};
 ghost use Rattle.model_store.specs.Settled.{IsSettled};
 ghost use Rattle.store_sweep.specs.Moments.{ImagesCarry, KeepsStore, SameWhere, LogStays, SyncedWhereCut, NamesSynced};
-ghost use Rattle.store_sweep.specs.Repaired.{StandsFound, at_rest, IsRepaired, AreBoxLogs, is_outside};
+ghost use Rattle.store_sweep.specs.Repaired.{StandsFound, repaired_log, IsRepaired, AreLogsOfBoxes, is_outside};
 ghost use Rattle.store_sweep.specs.Swept.{OpensWith, FilesCarry, IsOpened, EndWithRegions};
-ghost use Rattle.store_sweep.specs.Wanted.{is_wanted, is_log, IsNoLonger};
+ghost use Rattle.disk_model.specs.Name.{is_log};
+ghost use Rattle.store_sweep.specs.Wanted.{is_wanted, EndsByLastRegion};
 ghost use Rattle.store_sweep.specs.declared.error.SweepError.TheVariants as error;
 
 use crate::cuts::cut_files;
@@ -39,8 +40,8 @@ pub(crate) fn clear<D: Disk>(disk: &mut D, generation: u32, map: &MapIndex) -> R
     ensures synced { OnOk result (SyncedWhereCut (D.history disk.old) (D.history disk.new)) }
     ensures names { OnOk result (NamesSynced generation map.now (D.history disk.old) (D.history disk.new)) }
     ensures gone { OnOk result (IfTold (D.history disk.new) (λ now. (name : FileName) → IsThere (now name) → is_wanted generation map.now name ≡ true)) }
-    ensures cut { OnOk result (IfTold (D.history disk.new) (λ now. (name : FileName) → IsThere (now name) → IsNoLonger map.now name (now name))) }
-    ensures fault { OneRoseIf (IsErr result) (D.faults disk.old) (D.faults disk.new) }
+    ensures cut { OnOk result (IfTold (D.history disk.new) (λ now. (name : FileName) → IsThere (now name) → EndsByLastRegion map.now name (now name))) }
+    ensures fault { AnyFaultCounted (IsErr result) (D.faults disk.old) (D.faults disk.new) }
 {
     let removed = remove_strays(disk, generation, map)?;
     cut_files(disk, map)?;
@@ -63,17 +64,17 @@ fn repair_logs<D: Disk>(
 ) -> Result<GateLog, DiskFault>
     requires root { (root_log.name ≡ file.Root) × IfTold (D.history disk.old) (λ now. StandsFound now root_log) }
     requires map_log { ((generation : ℕ) × (map_log.name ≡ file.Map generation)) × IfTold (D.history disk.old) (λ now. StandsFound now map_log) }
-    requires box_logs { AreBoxLogs map.now box_logs.items }
+    requires box_logs { AreLogsOfBoxes map.now box_logs.items }
     requires box_logs_stand { IfTold (D.history disk.old) (λ now. All (StandsFound now) box_logs.items) }
     requires empty { (opened.old.items ≡ []) × (vec_len opened.old ≡ 0) }
     requires room { (vec_len box_logs ≡ length box_logs.items) × (vec_len box_logs ≤ vec_capacity opened.old) }
     ensures images { (generation : ℕ) → map_log.name ≡ file.Map generation → ImagesCarry generation map.now (D.history disk.old) (D.history disk.new) }
     ensures keeps { OnOk result ((generation : ℕ) → map_log.name ≡ file.Map generation → KeepsStore generation map.now (D.history disk.old) (D.history disk.new)) }
     ensures others { OnOk result (SameWhere (is_outside (root_log ∷ map_log ∷ box_logs.items)) (D.history disk.old) (D.history disk.new)) }
-    ensures root_log { OnOk result (IsRepaired (D.history disk.old) (D.history disk.new) root_log (at_rest root_log)) }
+    ensures root_log { OnOk result (IsRepaired (D.history disk.old) (D.history disk.new) root_log (repaired_log root_log)) }
     ensures map_log { IfOk result (λ log. IsRepaired (D.history disk.old) (D.history disk.new) map_log log) }
     ensures box_logs { OnOk result (AllZip (IsRepaired (D.history disk.old) (D.history disk.new)) box_logs.items opened.new.items) }
-    ensures fault { FaultsRoseIf (IsErr result) (D.faults disk.old) (D.faults disk.new) }
+    ensures fault { ChangeFaultCounted (IsErr result) (D.faults disk.old) (D.faults disk.new) }
 {
     root_log.repair(alloc, disk)?;
     let map_log = map_log.repair(alloc, disk)?;
@@ -96,7 +97,7 @@ pub fn sweep<D: Disk>(
     requires opened { IfTold (D.history disk.old) (OpensWith generation map.now) }
     requires root { (root_log.name ≡ file.Root) × IfTold (D.history disk.old) (λ now. StandsFound now root_log) }
     requires map_log { (map_log.name ≡ file.Map generation) × IfTold (D.history disk.old) (λ now. StandsFound now map_log) }
-    requires box_logs { AreBoxLogs map.now box_logs.items }
+    requires box_logs { AreLogsOfBoxes map.now box_logs.items }
     requires box_logs_stand { IfTold (D.history disk.old) (λ now. All (StandsFound now) box_logs.items) }
 
     // At every moment of the call, whatever fails, each image of a settled disk is safe for the same lists.
@@ -105,7 +106,7 @@ pub fn sweep<D: Disk>(
     // After Ok a settled disk is settled for the same lists, and what the store reads is carried over.
     ensures settled { OnOk result ((lists : Lists) → IfTold (D.history disk.old) (λ now. IsSettled now lists) → IfTold (D.history disk.new) (λ now. IsSettled now lists)) }
     ensures reads { OnOk result (FilesCarry generation map.now (D.history disk.old) (D.history disk.new)) }
-    ensures root_log { OnOk result (IsOpened (D.history disk.old) (D.history disk.new) root_log (at_rest root_log)) }
+    ensures root_log { OnOk result (IsOpened (D.history disk.old) (D.history disk.new) root_log (repaired_log root_log)) }
     ensures map_log { IfOk result (λ swept. IsOpened (D.history disk.old) (D.history disk.new) map_log swept.map_log) }
     ensures box_logs { IfOk result (λ swept. AllZip (IsOpened (D.history disk.old) (D.history disk.new)) box_logs.items swept.box_logs.items) }
 
@@ -118,7 +119,7 @@ pub fn sweep<D: Disk>(
     ensures names { OnOk result (NamesSynced generation map.now (D.history disk.old) (D.history disk.new)) }
 
     ensures memory { IsErrOf result error.NoMemory → disk.new ≡ disk.old }
-    ensures fault { OneRoseIf (IsErrOf result error.DiskFault) (D.faults disk.old) (D.faults disk.new) }
+    ensures fault { AnyFaultCounted (IsErrOf result error.DiskFault) (D.faults disk.old) (D.faults disk.new) }
 {
     let mut opened = Vec::with_capacity(alloc, box_logs.as_slice().len())?;
     let map_log = repair_logs(alloc, disk, root_log, map_log, box_logs, map, &mut opened)?;

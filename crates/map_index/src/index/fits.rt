@@ -2,7 +2,7 @@
 ghost use Rattle.std.specs.Prelude.{◌≡◌, ◌≢◌, ◌<◌, ◌≤◌, ◌↔◌, map, IsTrue, Some, All, AllPairs};
 ghost use Rattle.std.specs.List.Sorted.{IsStrictlyIncreasing};
 ghost use Rattle.model_meaning.specs.MapMeaning.{MapBox, box_at};
-ghost use Rattle.map_index.specs.Has.{HasRow, IsCounted};
+ghost use Rattle.map_index.specs.Has.{HasRow, HasCount};
 ghost use Rattle.model_meaning.specs.MapFits.{MapFits, IsRaised, IsKnown, HasRecord, FitsMade, FitsRegion, IsFree, AgreesOn};
 ghost use Rattle.mdbox_base.specs.Words.{IsNumber};
 
@@ -108,7 +108,7 @@ impl MapIndex {
         }
     }
 
-    #[tactic(auto, unfolding(crate::specs::Has::IsCounted))]
+    #[tactic(auto, unfolding(crate::specs::Has::HasCount))]
     fn can_count_down(&self, uids: &[MapUid]) -> bool
         ensures { IsTrue result ↔ (IsStrictlyIncreasing (map (λ u. u.0) uids.now) × All (λ u. HasRecord self.now u.0 (λ row. 1 ≤ row.count)) uids.now) }
     {
@@ -116,7 +116,7 @@ impl MapIndex {
     }
 
     fn are_counted(&self, uids: &[MapUid]) -> bool
-        ensures { IsTrue result ↔ All (λ u. IsCounted self.now u.0) uids.now }
+        ensures { IsTrue result ↔ All (λ u. HasCount self.now u.0) uids.now }
     {
         uids.iter().all(|uid| self.is_counted(*uid))
     }
@@ -134,9 +134,9 @@ impl MapIndex {
         self.find(uid).is_some()
     }
 
-    #[tactic(auto, unfolding(crate::specs::Has::IsCounted))]
+    #[tactic(auto, unfolding(crate::specs::Has::HasCount))]
     fn is_counted(&self, uid: MapUid) -> bool
-        ensures { IsTrue result ↔ IsCounted self.now uid.0 }
+        ensures { IsTrue result ↔ HasCount self.now uid.0 }
     {
         match self.find(uid) {
             Some(record) => 1 <= record.row.count,

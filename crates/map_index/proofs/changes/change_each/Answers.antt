@@ -2,7 +2,7 @@ use Rattle.std.proofs.Common.{◌≡◌, ◌<◌, ◌∙◌, ap, sym, arith, add
 use Rattle.std.proofs.lemmas.List.{get_or_default}
 use Rattle.model_meaning.specs.MapMeaning.{MapRecord, record_changed}
 use Rattle.map_index.specs.declared.rows.Record.{Record}
-use Rattle.map_index.specs.Shown.{record_of, IsRisen}
+use Rattle.map_index.specs.Shown.{meant_record, IsRisen}
 use Rattle.map_index.proofs.InPlace.{changed_to-none, changed_more, changed_all, holds_next, seen_size}
 use Rattle.map_index.proofs.changes.change_each.Goals as goal
 
@@ -11,17 +11,17 @@ loop-place-init c = sym (changed_to-none _ _)
 
 pub changed-row-requires : goal.changed-row-requires
 changed-row-requires c =
-    let size : length c.loop-place.records.items ≡ length c.args.records.now.items = seen_size record_of (record_changed c.args.entry.now) c.loop-place.place c.loop-place.records.items c.args.records.now.items c.loop-place.invariant in
+    let size : length c.loop-place.records.items ≡ length c.args.records.now.items = seen_size meant_record (record_changed c.args.entry.now) c.loop-place.place c.loop-place.records.items c.args.records.now.items c.loop-place.invariant in
     let within : c.loop-place.place < length c.loop-place.records.items = omega arith in
-    holds_next (λ (row : MapRecord). IsRisen c.args.entry.now row.uid row.count) record_of (record_changed c.args.entry.now) c.loop-place.place c.loop-place.records.items (map record_of c.args.records.now.items) c.index.result.now c.loop-place.invariant within c.index.ensures c.requires
+    holds_next (λ (row : MapRecord). IsRisen c.args.entry.now row.uid row.count) meant_record (record_changed c.args.entry.now) c.loop-place.place c.loop-place.records.items (map meant_record c.args.records.now.items) c.index.result.now c.loop-place.invariant within c.index.ensures c.requires
 
 pub loop-place-preserved : goal.loop-place-preserved
 loop-place-preserved c =
-    let size : length c.loop-place.records.items ≡ length c.args.records.now.items = seen_size record_of (record_changed c.args.entry.now) c.loop-place.place c.loop-place.records.items c.args.records.now.items c.loop-place.invariant in
+    let size : length c.loop-place.records.items ≡ length c.args.records.now.items = seen_size meant_record (record_changed c.args.entry.now) c.loop-place.place c.loop-place.records.items c.args.records.now.items c.loop-place.invariant in
     let within : c.loop-place.place < length c.loop-place.records.items = omega arith in
     let one : c.index.result.now ≡ c.index_mut.result.now = c.index.ensures ∙ get_or_default c.loop-place.records.items c.loop-place.place c.index.result.now c.index_mut.result.now within ∙ sym c.index_mut.ensures.value in
-    let changed = c.changed-row.ensures c.index_mut.result.now.instances ∙ ap (λ (r : Record). record_changed c.args.entry.now (record_of (record { row = r.row; instances = c.index_mut.result.now.instances }))) one in
-    rw add-one (changed_more record_of (record_changed c.args.entry.now) c.loop-place.place c.loop-place.records.items (map record_of c.args.records.now.items) c.index_mut.result.now (record { row = c.changed-row.result; instances = c.index_mut.result.now.instances }) c.loop-place.invariant within c.index_mut.ensures.value changed)
+    let changed = c.changed-row.ensures c.index_mut.result.now.instances ∙ ap (λ (r : Record). record_changed c.args.entry.now (meant_record (record { row = r.row; instances = c.index_mut.result.now.instances }))) one in
+    rw add-one (changed_more meant_record (record_changed c.args.entry.now) c.loop-place.place c.loop-place.records.items (map meant_record c.args.records.now.items) c.index_mut.result.now (record { row = c.changed-row.result; instances = c.index_mut.result.now.instances }) c.loop-place.invariant within c.index_mut.ensures.value changed)
 
 pub returns : goal.returns
-returns c = changed_all record_of (record_changed c.args.entry.now) c.loop-place.place c.loop-place.records.items c.args.records.now.items c.loop-place.invariant (omega arith)
+returns c = changed_all meant_record (record_changed c.args.entry.now) c.loop-place.place c.loop-place.records.items c.args.records.now.items c.loop-place.invariant (omega arith)

@@ -1,9 +1,9 @@
 use Rattle.std.proofs.Common.{◌≡◌, map}
 use Rattle.model_meaning.specs.MapMeaning.{record_changed}
-use Rattle.map_index.specs.Shown.{record_of}
+use Rattle.map_index.specs.Shown.{meant_record}
 use Rattle.map_index.proofs.InPlace.{changed_to}
 use Rattle.map_index.proofs.changes.change_each.Given as goal
 
 -- the records before this one are changed
 abbrev pub invariant-loop-place : goal.invariant-loop-place
-invariant-loop-place l = map record_of l.records.items ≡ changed_to (record_changed l.entry) l.place (map record_of l.fn.records.items)
+invariant-loop-place l = map meant_record l.records.items ≡ changed_to (record_changed l.entry) l.place (map meant_record l.fn.records.items)

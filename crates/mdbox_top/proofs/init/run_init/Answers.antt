@@ -2,7 +2,7 @@ use Rattle.std.proofs.Common.{refl, sym, subst}
 use Rattle.disk_model.specs.Disk.{IfTold}
 use Rattle.model_store.specs.Settled.{IsSettled}
 use Rattle.model_store.specs.Opening.{empty_inbox}
-use Rattle.store_open.specs.Making.{IsMade}
+use Rattle.store_open.specs.Making.{IsMadeStore}
 use Rattle.mdbox_top.specs.declared.store_outcome.StoreOutcome.TheVariants as outcome
 use Rattle.mdbox_top.proofs.StoreLaws.{inits_last, made_ends}
 use Rattle.mdbox_top.proofs.init.run_init.Goals as goal
@@ -18,7 +18,7 @@ returns-in-Ok-clause-ends g c =
           (record {
             free = c.in-Ok.ensures.free;
             settled = subst (λ d. IfTold (g.D.Disk.history d) (λ now. IsSettled now empty_inbox)) back c.in-Ok.ensures.settled;
-            made = subst (λ d. IfTold (g.D.Disk.history d) (IsMade c.args.id.0)) back c.in-Ok.ensures.store;
+            made = subst (λ d. IfTold (g.D.Disk.history d) (IsMadeStore c.args.id.0)) back c.in-Ok.ensures.store;
           })
           c.print_ok-outcome.ensures.shown),
       told.3,

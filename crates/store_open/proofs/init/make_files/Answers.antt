@@ -1,4 +1,4 @@
-use Rattle.store_open.specs.Making.{IsFree}
+use Rattle.store_open.specs.Making.{IsFreeForStore}
 use Rattle.store_open.proofs.Idle.{stays, has_it}
 use Rattle.store_open.proofs.Files.{all-bare, checked-images, cleared-images, made-images}
 use Rattle.store_open.proofs.init.make_files.Goals as goal
@@ -23,16 +23,16 @@ returns-clause-any_moment g c =
     made-images _ _ _ _ c.in_ok-check_free.ensures.idle c.in_ok-remove_old_logs.ensures.cleared c.in_ok-remove_old_logs.ensures.any_moment c.make_logs.ensures.any_moment
 
 pub returns-in_err-check_free-clause-untouched : goal.returns-in_err-check_free-clause-untouched
-returns-in_err-check_free-clause-untouched g c = stays IsFree _ _ c.in_err-check_free.ensures.idle
+returns-in_err-check_free-clause-untouched g c = stays IsFreeForStore _ _ c.in_err-check_free.ensures.idle
 
 pub returns-in_err-inbox-clause-untouched : goal.returns-in_err-inbox-clause-untouched
-returns-in_err-inbox-clause-untouched g c = has_it IsFree _ _ c.in_ok-check_free.ensures.free
+returns-in_err-inbox-clause-untouched g c = has_it IsFreeForStore _ _ c.in_ok-check_free.ensures.free
 
 pub returns-in_err-first-clause-untouched : goal.returns-in_err-first-clause-untouched
-returns-in_err-first-clause-untouched g c = has_it IsFree _ _ c.in_ok-check_free.ensures.free
+returns-in_err-first-clause-untouched g c = has_it IsFreeForStore _ _ c.in_ok-check_free.ensures.free
 
 pub returns-in_err-remove_old_logs-clause-untouched : goal.returns-in_err-remove_old_logs-clause-untouched
-returns-in_err-remove_old_logs-clause-untouched g c = has_it IsFree _ _ c.in_ok-check_free.ensures.free
+returns-in_err-remove_old_logs-clause-untouched g c = has_it IsFreeForStore _ _ c.in_ok-check_free.ensures.free
 
 pub returns-clause-untouched : goal.returns-clause-untouched
-returns-clause-untouched g c = has_it IsFree _ _ c.in_ok-check_free.ensures.free
+returns-clause-untouched g c = has_it IsFreeForStore _ _ c.in_ok-check_free.ensures.free

@@ -1,7 +1,7 @@
 use Rattle.std.proofs.Common.{◌++◌, ◌∷◌, [], refl, List, ◌∙◌, ap}
-use Rattle.gate_log.proofs.Idling.{idle-begins}
+use Rattle.disk_model.proofs.IdleLemmas.{idle-begins}
 use Rattle.store_core.specs.declared.store.OpenBox.{OpenBox}
-use Rattle.store_open.specs.Making.{IsFree}
+use Rattle.store_open.specs.Making.{IsFreeForStore}
 use Rattle.store_open.proofs.Idle.{stays}
 use Rattle.store_open.proofs.Files.{checked-images}
 use Rattle.store_open.proofs.NewlyOpened.{new_store}
@@ -25,10 +25,10 @@ returns-clause-store g c =
     (c.push_box.ensures.items ∙ ap (λ (bs : List OpenBox). bs ++ box ∷ []) c.in_ok-boxes.ensures.items)
 
 pub returns-in_err-map-clause-untouched : goal.returns-in_err-map-clause-untouched
-returns-in_err-map-clause-untouched g c = stays IsFree _ _ (idle-begins _)
+returns-in_err-map-clause-untouched g c = stays IsFreeForStore _ _ (idle-begins _)
 
 pub returns-in_err-index-clause-untouched : goal.returns-in_err-index-clause-untouched
-returns-in_err-index-clause-untouched g c = stays IsFree _ _ (idle-begins _)
+returns-in_err-index-clause-untouched g c = stays IsFreeForStore _ _ (idle-begins _)
 
 pub returns-in_err-boxes-clause-untouched : goal.returns-in_err-boxes-clause-untouched
-returns-in_err-boxes-clause-untouched g c = stays IsFree _ _ (idle-begins _)
+returns-in_err-boxes-clause-untouched g c = stays IsFreeForStore _ _ (idle-begins _)

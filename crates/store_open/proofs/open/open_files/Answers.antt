@@ -1,6 +1,6 @@
 use Rattle.std.proofs.Common.{◌≡◌, List, All, length, map, sym, ◌∙◌, ap, subst, arith}
 use Rattle.disk_model.specs.Disk.{IfTold}
-use Rattle.gate_log.specs.State.{LogState, Found}
+use Rattle.gate_log.specs.State.{LogState, InspectedLog}
 use Rattle.store_checks.specs.declared.check.Checked.{Checked}
 use Rattle.store_checks.specs.declared.mailbox.CheckedBox.{CheckedBox}
 use Rattle.store_sweep.specs.Repaired.{StandsFound}
@@ -39,13 +39,13 @@ sweep-requires-clause-opened g c =
 pub sweep-requires-clause-box_logs : goal.sweep-requires-clause-box_logs
 sweep-requires-clause-box_logs g c =
     let k = c.in_ok-id.ensures.checked in
-    ap (map (λ (l : Found). l.name)) (c.in_ok-parts.ensures.logs ∙ ap (map (λ (b : CheckedBox). b.log)) c.into_vec-boxes.ensures) ∙ names_are c.in_ok-id.field-0.id.0 c.in_ok-id.field-0.map.boxes c.in_ok-id.field-0.boxes k.2 _ k.3.box_logs
+    ap (map (λ (l : InspectedLog). l.name)) (c.in_ok-parts.ensures.logs ∙ ap (map (λ (b : CheckedBox). b.log)) c.into_vec-boxes.ensures) ∙ names_are c.in_ok-id.field-0.id.0 c.in_ok-id.field-0.map.boxes c.in_ok-id.field-0.boxes k.2 _ k.3.box_logs
 
 pub sweep-requires-clause-box_logs_stand : goal.sweep-requires-clause-box_logs_stand
 sweep-requires-clause-box_logs_stand g c =
     let k = c.in_ok-id.ensures.checked in
     let e = c.in_ok-parts.ensures.logs ∙ ap (map (λ (b : CheckedBox). b.log)) c.into_vec-boxes.ensures in
-    subst (λ (ls : List Found). IfTold (g.D.Disk.history c.check_store.new.disk) (λ now. All (StandsFound now) ls)) (sym e) (all_stand c.in_ok-id.field-0.id.0 c.in_ok-id.field-0.map.boxes c.in_ok-id.field-0.boxes k.2 _ k.3.box_logs)
+    subst (λ (ls : List InspectedLog). IfTold (g.D.Disk.history c.check_store.new.disk) (λ now. All (StandsFound now) ls)) (sym e) (all_stand c.in_ok-id.field-0.id.0 c.in_ok-id.field-0.map.boxes c.in_ok-id.field-0.boxes k.2 _ k.3.box_logs)
 
 pub returns-in_err-swept-clause-any_moment : goal.returns-in_err-swept-clause-any_moment
 returns-in_err-swept-clause-any_moment g c = λ lists s. swept_safe lists _ _ _ c.in_ok-id.ensures.idle s (c.in_err-swept.ensures.any_moment lists)

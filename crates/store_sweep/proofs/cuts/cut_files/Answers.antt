@@ -3,9 +3,10 @@ use Rattle.std.specs.Prelude.{IfSome}
 use Rattle.disk_model.specs.Disk.{IfTold, IsPast, IsNext}
 use Rattle.disk_model.specs.contracts.name.FileNameOrd.TheImpl.{ghosts}
 use Rattle.disk_model.specs.declared.name.FileName.{FileName}
-use Rattle.disk_model.proofs.Moments.{if_told-all}
-use Rattle.store_sweep.specs.Wanted.{is_log, IsNoLonger}
-use Rattle.store_sweep.proofs.Order.{walk_shrinks}
+use Rattle.disk_model.proofs.MomentLemmas.{if_told-all}
+use Rattle.disk_model.specs.Name.{is_log}
+use Rattle.store_sweep.specs.Wanted.{EndsByLastRegion}
+use Rattle.disk_model.proofs.NameOrderLemmas.{walk_shrinks}
 use Rattle.store_sweep.proofs.Walking.{passed_none, walk_more, walk_ends}
 use Rattle.store_sweep.proofs.Sweeping.{images_now, images_unchanged, keeps_now, keeps_then, keeps_unchanged, where_now, where_then, where_unchanged, none_now, none_then, none_unchanged, kept_images, kept_keeps, walk_same, walk_none}
 use Rattle.store_sweep.proofs.Faults.{read_fault}
@@ -19,7 +20,7 @@ loop-name-init g c = record {
   logs = where_now is_log (g.D.Disk.history c.args.disk.now);
   synced = synced_now (g.D.Disk.history c.args.disk.now);
   none_made = none_now (g.D.Disk.history c.args.disk.now);
-  cut = if_told-all _ (g.D.Disk.history c.args.disk.now) (λ disk. passed_none (IsNoLonger c.args.map.now) disk);
+  cut = if_told-all _ (g.D.Disk.history c.args.disk.now) (λ disk. passed_none (EndsByLastRegion c.args.map.now) disk);
   in_range = tt;
   reads = omega arith;
   changes = omega arith;
@@ -48,7 +49,7 @@ loop-name-preserved g c = record {
   logs = walk_same is_log _ _ _ _ c.loop-name.invariant.logs c.in_ok-name.ensures.state c.in_ok-fit_file.ensures.logs;
   synced = walk_synced _ _ _ _ c.loop-name.invariant.synced c.in_ok-name.ensures.state c.in_ok-fit_file.ensures.synced;
   none_made = walk_none _ _ _ _ c.loop-name.invariant.none_made c.in_ok-name.ensures.state c.in_ok-fit_file.ensures.none_made;
-  cut = walk_more (IsNoLonger c.args.map.now) c.loop-name.last c.in-Some.name _ _ _ c.in_ok-name.ensures.state
+  cut = walk_more (EndsByLastRegion c.args.map.now) c.loop-name.last c.in-Some.name _ _ _ c.in_ok-name.ensures.state
       (let F : Option FileName → Type 0 = λ n. IfTold (g.D.Disk.history c.loop-name.disk) (IsNext ghosts.cmp c.loop-name.last n) in subst F c.in-Some.is c.in_ok-name.ensures.next)
       c.loop-name.invariant.cut c.in_ok-fit_file.ensures.others c.in_ok-fit_file.ensures.cut;
   in_range = c.is_name_in_range.ensures;
@@ -70,7 +71,7 @@ returns-clause-none_made g c = none_then _ _ _ c.loop-name.invariant.none_made (
 
 pub returns-clause-cut : goal.returns-clause-cut
 returns-clause-cut g c =
-    walk_ends (IsNoLonger c.args.map.now) c.loop-name.last _ _ c.in_ok-name.ensures.state
+    walk_ends (EndsByLastRegion c.args.map.now) c.loop-name.last _ _ c.in_ok-name.ensures.state
     (let F : Option FileName → Type 0 = λ n. IfTold (g.D.Disk.history c.loop-name.disk) (IsNext ghosts.cmp c.loop-name.last n) in subst F c.in_default.is c.in_ok-name.ensures.next)
     c.loop-name.invariant.cut
 

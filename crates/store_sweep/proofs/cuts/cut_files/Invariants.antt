@@ -3,10 +3,10 @@ use Rattle.std.specs.Prelude.{IfSome}
 use Rattle.disk_model.specs.Disk.{IfTold, IsThere, IsPast}
 use Rattle.disk_model.specs.contracts.name.FileNameOrd.TheImpl.{ghosts}
 use Rattle.disk_model.specs.declared.name.FileName.{FileName}
-use Rattle.store_sweep.specs.Names.{IsNameInRange}
-use Rattle.store_sweep.specs.Wanted.{is_log, IsNoLonger}
+use Rattle.disk_model.specs.Name.{IsNameInRange, is_log}
+use Rattle.store_sweep.specs.Wanted.{EndsByLastRegion}
 use Rattle.store_sweep.specs.Moments.{ImagesCarry, KeepsStore, SameWhere, SyncedWhereCut, NoneMade}
-use Rattle.store_sweep.proofs.Order.{top, passed}
+use Rattle.disk_model.proofs.NameOrderLemmas.{top, passed}
 use Rattle.store_sweep.proofs.cuts.cut_files.Given as goal
 
 abbrev pub invariant-loop-name : goal.invariant-loop-name
@@ -16,7 +16,7 @@ invariant-loop-name g l = record {
   logs : SameWhere is_log (g.D.Disk.history l.initial.disk) (g.D.Disk.history l.disk);
   synced : SyncedWhereCut (g.D.Disk.history l.initial.disk) (g.D.Disk.history l.disk);
   none_made : NoneMade (g.D.Disk.history l.initial.disk) (g.D.Disk.history l.disk);
-  cut : IfTold (g.D.Disk.history l.disk) (λ now. (name : FileName) → IsThere (now name) → (IsPast ghosts.cmp l.last name → ⊥) → IsNoLonger l.map name (now name));
+  cut : IfTold (g.D.Disk.history l.disk) (λ now. (name : FileName) → IsThere (now name) → (IsPast ghosts.cmp l.last name → ⊥) → EndsByLastRegion l.map name (now name));
   in_range : IfSome l.last IsNameInRange;
   reads : (g.D.Disk.faults l.initial.disk).reads ≤ (g.D.Disk.faults l.disk).reads;
   changes : (g.D.Disk.faults l.initial.disk).changes ≤ (g.D.Disk.faults l.disk).changes;

@@ -1,6 +1,6 @@
 use Rattle.std.proofs.Common.{[], List, ap, length, sym, subst, ◌∙◌, arith}
 use Rattle.std.specs.List.{AllZip}
-use Rattle.gate_log.specs.State.{Found}
+use Rattle.gate_log.specs.State.{InspectedLog}
 use Rattle.store_sweep.specs.Moments.{SameWhere}
 use Rattle.store_sweep.specs.Repaired.{IsRepaired, is_outside}
 use Rattle.store_sweep.proofs.Sweeping.{images_now, keeps_now, where_now}
@@ -68,11 +68,11 @@ returns-clause-keeps g c = c.loop-log.invariant.keeps
 pub returns-clause-opened : goal.returns-clause-opened
 returns-clause-opened g c =
     let e = whole_done c.loop-log.yielded _ c.args.found.items _ c.in-None.ensures.steps.0 c.loop-log.invariant.left c.loop-log.invariant.whole in
-    let F : List Found → Type 0 = λ xs. AllZip (IsRepaired (g.D.Disk.history c.args.disk.now) (g.D.Disk.history c.loop-log.disk)) xs c.loop-log.opened.items in
+    let F : List InspectedLog → Type 0 = λ xs. AllZip (IsRepaired (g.D.Disk.history c.args.disk.now) (g.D.Disk.history c.loop-log.disk)) xs c.loop-log.opened.items in
     subst F e c.loop-log.invariant.opened
 
 pub returns-clause-others : goal.returns-clause-others
 returns-clause-others g c =
     let e = whole_done c.loop-log.yielded _ c.args.found.items _ c.in-None.ensures.steps.0 c.loop-log.invariant.left c.loop-log.invariant.whole in
-    let F : List Found → Type 0 = λ xs. SameWhere (is_outside xs) (g.D.Disk.history c.args.disk.now) (g.D.Disk.history c.loop-log.disk) in
+    let F : List InspectedLog → Type 0 = λ xs. SameWhere (is_outside xs) (g.D.Disk.history c.args.disk.now) (g.D.Disk.history c.loop-log.disk) in
     subst F e c.loop-log.invariant.outside

@@ -2,10 +2,10 @@ use Rattle.std.proofs.Common.{ap}
 use Rattle.std.specs.Prelude.{All}
 use Rattle.model_meaning.specs.MapMeaning.{MapRecord, MapMeaning}
 use Rattle.model_meaning.specs.MapFits.{AgreesOn}
-use Rattle.map_index.specs.Shown.{record_of}
+use Rattle.map_index.specs.Shown.{meant_record}
 use Rattle.map_index.proofs.Lists.{all_in}
 use Rattle.map_index.proofs.index.MapIndex.agrees.Goals as goal
 
 pub returns : goal.returns
 returns c =
-    all_in (λ (row : MapRecord). All (λ i. All (AgreesOn i) row.instances) c.args.instances.now) record_of _ _ _ _ c.agree_with_records.ensures c.deref.ensures.value (ap (λ (m : MapMeaning). m.records) c.self.view_is)
+    all_in (λ (row : MapRecord). All (λ i. All (AgreesOn i) row.instances) c.args.instances.now) meant_record _ _ _ _ c.agree_with_records.ensures c.deref.ensures.value (ap (λ (m : MapMeaning). m.records) c.self.view_is)

@@ -1,9 +1,9 @@
 use Rattle.std.proofs.Common.{◌==◌, ap}
 use Rattle.model_meaning.specs.MapMeaning.{MapRecord, MapMeaning}
-use Rattle.map_index.specs.Shown.{record_of}
+use Rattle.map_index.specs.Shown.{meant_record}
 use Rattle.map_index.proofs.Lists.{found_in}
 use Rattle.map_index.proofs.index.MapIndex.find.Goals as goal
 
 pub returns : goal.returns
 returns c =
-    found_in (λ (row : MapRecord). row.uid == c.args.uid.0) record_of _ _ _ _ c.with_uid.ensures c.deref.ensures.value (ap (λ (m : MapMeaning). m.records) c.self.view_is)
+    found_in (λ (row : MapRecord). row.uid == c.args.uid.0) meant_record _ _ _ _ c.with_uid.ensures c.deref.ensures.value (ap (λ (m : MapMeaning). m.records) c.self.view_is)

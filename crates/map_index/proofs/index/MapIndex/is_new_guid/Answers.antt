@@ -1,9 +1,9 @@
 use Rattle.std.proofs.Common.{◌≢◌, ap}
 use Rattle.model_meaning.specs.MapMeaning.{MapRecord, MapMeaning}
-use Rattle.map_index.specs.Shown.{record_of}
+use Rattle.map_index.specs.Shown.{meant_record}
 use Rattle.map_index.proofs.Lists.{all_in}
 use Rattle.map_index.proofs.index.MapIndex.is_new_guid.Goals as goal
 
 pub returns : goal.returns
 returns c =
-    all_in (λ (row : MapRecord). row.guid ≢ c.args.guid.0) record_of _ _ _ _ c.is_new_guid.ensures c.deref.ensures.value (ap (λ (m : MapMeaning). m.records) c.self.view_is)
+    all_in (λ (row : MapRecord). row.guid ≢ c.args.guid.0) meant_record _ _ _ _ c.is_new_guid.ensures c.deref.ensures.value (ap (λ (m : MapMeaning). m.records) c.self.view_is)

@@ -3,10 +3,10 @@ use Rattle.std.specs.Str.{bytes_eq}
 use Rattle.std.specs.List.{list_any}
 use Rattle.mdbox_base.specs.declared.entries.InstRow.{InstRow}
 use Rattle.model_meaning.specs.MapMeaning.{MapRecord, MapMeaning}
-use Rattle.map_index.specs.Shown.{record_of}
+use Rattle.map_index.specs.Shown.{meant_record}
 use Rattle.map_index.proofs.Lists.{any_in}
 use Rattle.map_index.proofs.index.MapIndex.names_file.Goals as goal
 
 pub returns : goal.returns
 returns c =
-    any_in (λ (row : MapRecord). list_any (λ (i : InstRow). bytes_eq i.hash.0 c.args.hash.0 && bytes_eq i.id.0 c.args.id.0) row.instances) record_of _ _ _ _ c.names_file.ensures c.deref.ensures.value (ap (λ (m : MapMeaning). m.records) c.self.view_is)
+    any_in (λ (row : MapRecord). list_any (λ (i : InstRow). bytes_eq i.hash.0 c.args.hash.0 && bytes_eq i.id.0 c.args.id.0) row.instances) meant_record _ _ _ _ c.names_file.ensures c.deref.ensures.value (ap (λ (m : MapMeaning). m.records) c.self.view_is)

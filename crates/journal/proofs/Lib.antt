@@ -1,0 +1,13 @@
+pub mod AloneLemmas
+pub mod BrokenLemmas
+pub mod CountLemmas
+pub mod EventExampleLemmas
+pub mod ExampleLemmas
+pub mod ExpungeLemmas
+pub mod FaultLemmas
+pub mod JournalLemmas
+pub mod LegalLemmas
+pub mod MakesLemmas
+pub mod OwnEventLemmas
+pub mod ReachedLemmas
+pub mod RunLemmas
