@@ -36,11 +36,6 @@ SameBut log a b = (name : FileName) → name ≢ log → b name ≡ a name
 abbrev pub StatesBut : FileName → DiskState → DiskState → Type 0
 StatesBut log old new = (other : FileName) → other ≢ log → new other ≡ old other
 
--- a file that is neither a storage file nor an instance
-pub record IsLogName (log : FileName) : Type 0 where
-  pub mails : (n : ℕ) → file.Mail n ≢ log
-  pub instances : (hash id : List ℕ) → file.Inst hash id ≢ log
-
 -- of each other file the image has what a crash may leave
 abbrev pub LeftBut : FileName → DiskState → Files → Type 0
 LeftBut log disk image = (other : FileName) → other ≢ log → MayLeave (disk other) (image other)

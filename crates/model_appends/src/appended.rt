@@ -1,6 +1,7 @@
 // Files and disks on which one log has an entry more.
 ghost use Rattle.std.specs.Prelude.{◌++◌, ◌∷◌, [], ℕ, List};
 ghost use Rattle.disk_model.specs.Disk.{Files, DiskState, IsImage, reading};
+ghost use Rattle.disk_model.specs.Name.{IsLogName};
 ghost use Rattle.disk_model.specs.declared.name.FileName.{FileName};
 ghost use Rattle.disk_model.specs.declared.name.FileName.TheVariants.{Map, Box};
 ghost use Rattle.mdbox_base.specs.declared.entries.BoxEntry.{BoxEntry};
@@ -11,7 +12,7 @@ ghost use Rattle.model_meaning.specs.MapMeaning.{MapBox, map_meaning};
 ghost use Rattle.model_store.specs.Carrying.{HasSameEntries};
 ghost use Rattle.model_store.specs.Safe.{Safe, SafeBy};
 ghost use Rattle.model_store.specs.Settled.{files_of, IsSettled};
-ghost use Rattle.model_appends.specs.Appending.{HasOneMore, CarryMore, StatesBut, IsLogName, LeftBut, LeavesAsRead, lists_by, IsBoxAppend};
+ghost use Rattle.model_appends.specs.Appending.{HasOneMore, CarryMore, StatesBut, LeftBut, LeavesAsRead, lists_by, IsBoxAppend};
 ghost use Rattle.model_appends.specs.MapAppending.{IsMapAppend, LeavesAlike};
 
 /// Where an entry can be appended to a log of safe files, other files are safe for the lists that it gives if their log has
