@@ -13,7 +13,7 @@ use Rattle.mdbox_base.specs.declared.entries.MapEntry.TheVariants as map_entry
 use Rattle.model_meaning.proofs.RowLemmas.{one_more}
 use Rattle.model_meaning.proofs.AppliedLemmas.{rows_by_next, rows_by_removed, rows_by_added}
 use Rattle.model_meaning.specs.BoxMeaning.{LogRow, BoxMeaning, row_rules, rows_after, box_meaning, row_at}
-use Rattle.model_meaning.specs.MapMeaning.{MapRecord, MapBox, record_changed, has_uid}
+use Rattle.model_meaning.specs.MapMeaning.{MapRecord, MapBox, record_changed, has_map_uid}
 use Rattle.model_meaning.proofs.MapPlaceLemmas.{equal_is, equal_yes}
 use Rattle.model_octets.proofs.PairLemmas.{pairs_head, pairs_tail}
 use Rattle.model_store.specs.Listing.{meaning_numbered}
@@ -186,16 +186,16 @@ removed_due due leak logs later row k less a = omega (arith, a, less)
 added_due : (due leak : ℕ → ℕ) (logs later : List (List BoxEntry)) (row : MapRecord) (k : MapUid) → listed_of later row.uid ≡ listed_of logs row.uid + bit (k.0 == row.uid) → 1 ≤ due k.0 → IsAccounted due leak logs row → IsAccounted (less_due (k ∷ []) due) leak later row
 added_due due leak logs later row k more held a = by_test (k.0 == row.uid) refl
   where
-    by_test : (t : Bool) → (k.0 == row.uid) ≡ t → row.count ≡ listed_of later row.uid + (due row.uid - bit (has_uid row.uid (k ∷ []))) + leak row.uid
+    by_test : (t : Bool) → (k.0 == row.uid) ≡ t → row.count ≡ listed_of later row.uid + (due row.uid - bit (has_map_uid row.uid (k ∷ []))) + leak row.uid
     by_test true is =
         let e : k.0 ≡ row.uid = equal_is k.0 row.uid is in
         let some : 1 ≤ due row.uid = subst (λ (n : ℕ). 1 ≤ due n) e held in
         let b : bit (k.0 == row.uid) ≡ 1 = ap bit is in
-        let h : bit (has_uid row.uid (k ∷ [])) ≡ 1 = ap (λ (t : Bool). bit (t || false)) is in
+        let h : bit (has_map_uid row.uid (k ∷ [])) ≡ 1 = ap (λ (t : Bool). bit (t || false)) is in
         omega (arith, a, more, b, h, some)
     by_test false is =
         let b : bit (k.0 == row.uid) ≡ 0 = ap bit is in
-        let h : bit (has_uid row.uid (k ∷ [])) ≡ 0 = ap (λ (t : Bool). bit (t || false)) is in
+        let h : bit (has_map_uid row.uid (k ∷ [])) ≡ 0 = ap (λ (t : Bool). bit (t || false)) is in
         omega (arith, a, more, b, h)
 
 same_due : (due leak : ℕ → ℕ) (logs later : List (List BoxEntry)) (row : MapRecord) → listed_of later row.uid ≡ listed_of logs row.uid → IsAccounted due leak logs row → IsAccounted due leak later row
@@ -229,12 +229,12 @@ raised_due due leak logs k row a = by_test (k.0 == row.uid) refl
     by_test true is = let b : bit (k.0 == row.uid) ≡ 1 = ap bit is in omega (arith, a, b)
     by_test false is = let b : bit (k.0 == row.uid) ≡ 0 = ap bit is in omega (arith, a, b)
 
-lowered_due : (due leak : ℕ → ℕ) (logs : List (List BoxEntry)) (uids : List MapUid) (row : MapRecord) → (has_uid row.uid uids ≡ true → 1 ≤ due row.uid) → IsAccounted due leak logs row → IsAccounted (less_due uids due) leak logs (record_changed (map_entry.D uids) row)
-lowered_due due leak logs uids row some a = by_test (has_uid row.uid uids) refl
+lowered_due : (due leak : ℕ → ℕ) (logs : List (List BoxEntry)) (uids : List MapUid) (row : MapRecord) → (has_map_uid row.uid uids ≡ true → 1 ≤ due row.uid) → IsAccounted due leak logs row → IsAccounted (less_due uids due) leak logs (record_changed (map_entry.D uids) row)
+lowered_due due leak logs uids row some a = by_test (has_map_uid row.uid uids) refl
   where
-    by_test : (t : Bool) → has_uid row.uid uids ≡ t → IsAccounted (less_due uids due) leak logs (if t then record row { count = row.count - 1 } else row)
-    by_test true is = let s = some is in let b : bit (has_uid row.uid uids) ≡ 1 = ap bit is in omega (arith, a, b, s)
-    by_test false is = let b : bit (has_uid row.uid uids) ≡ 0 = ap bit is in omega (arith, a, b)
+    by_test : (t : Bool) → has_map_uid row.uid uids ≡ t → IsAccounted (less_due uids due) leak logs (if t then record row { count = row.count - 1 } else row)
+    by_test true is = let s = some is in let b : bit (has_map_uid row.uid uids) ≡ 1 = ap bit is in omega (arith, a, b, s)
+    by_test false is = let b : bit (has_map_uid row.uid uids) ≡ 0 = ap bit is in omega (arith, a, b)
 
 counted_due : (due leak : ℕ → ℕ) (logs : List (List BoxEntry)) (counts : List MapCount) (row : MapRecord) → ((c : MapCount) → find (λ c. c.uid.0 == row.uid) counts ≡ Some c → c.count ≡ listed_of logs row.uid + due row.uid) → IsAccounted due leak logs row
     → IsAccounted due (leak_by (map_entry.T counts) leak) logs (record_changed (map_entry.T counts) row)

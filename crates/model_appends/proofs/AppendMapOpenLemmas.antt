@@ -15,7 +15,7 @@ use Rattle.model_meaning.proofs.FitLemmas.{each_more, map_fit_more}
 use Rattle.model_meaning.proofs.MapLemmas.{map_more}
 use Rattle.model_meaning.specs.BoxMeaning.{LogRow, rows_after}
 use Rattle.model_meaning.specs.MapFits.{MapFits}
-use Rattle.model_meaning.specs.MapMeaning.{MapRecord, MapBox, MapMeaning, map_meaning, record_rules, record_changed, record_made, box_rules, box_made, record_at, named}
+use Rattle.model_meaning.specs.MapMeaning.{MapRecord, MapBox, MapMeaning, map_meaning, record_rules, record_changed, record_made, box_rules, box_made, record_at, named_instances}
 use Rattle.model_meaning.specs.Rows.{rows_by}
 use Rattle.model_octets.proofs.PairLemmas.{all_map}
 use Rattle.model_store.specs.GoodLogs.{AreGoodLogs}
@@ -193,7 +193,7 @@ opens_by_map_entry a b store entries logs e o only in_range fits lies there made
       instances = subst (λ (is : List InstRow). All (IsThereWhole b) is)
           (sym (ap (flat_map (λ (r : MapRecord). r.instances)) records ∙ flat_map-append (λ (r : MapRecord). r.instances) (map (record_changed e) m.records) (record_made e)
           ∙ ap (λ (is : List InstRow). is ++ flat_map (λ (r : MapRecord). r.instances) (record_made e)) (named_same (record_changed e) (same_record e only) m.records)))
-          (All-append (IsThereWhole b) (named m) (flat_map (λ (r : MapRecord). r.instances) (record_made e))
-          (All-weaker (IsThereWhole a) (IsThereWhole b) (λ inst r. instances_as a b inst stored r) (named m) o.instances)
+          (All-append (IsThereWhole b) (named_instances m) (flat_map (λ (r : MapRecord). r.instances) (record_made e))
+          (All-weaker (IsThereWhole a) (IsThereWhole b) (λ inst r. instances_as a b inst stored r) (named_instances m) o.instances)
           (All-weaker (IsThereWhole a) (IsThereWhole b) (λ inst r. instances_as a b inst stored r) (flat_map (λ (r : MapRecord). r.instances) (record_made e)) (all_instances (IsThereWhole a) (record_made e) there)));
     }

@@ -18,7 +18,7 @@ use Rattle.mdbox_base.specs.declared.entries.MapEntry.{MapEntry}
 use Rattle.mdbox_base.specs.declared.entries.MapEntry.TheVariants as entry
 use Rattle.mdbox_base.specs.declared.ids.MapUid.{MapUid}
 use Rattle.model_meaning.proofs.AppliedLemmas.{records_by_stored, boxes_by_stored, records_by_mailbox, boxes_by_mailbox, records_by_raised, records_by_lowered, records_by_counted, boxes_by_raised, boxes_by_lowered, boxes_by_counted, boxes_by_highest, boxes_by_sealed, only_changes}
-use Rattle.model_meaning.specs.MapMeaning.{MapRecord, MapBox, MapMeaning, map_meaning, map_applied, record_changed, record_made, box_made, has_uid, count_of, named}
+use Rattle.model_meaning.specs.MapMeaning.{MapRecord, MapBox, MapMeaning, map_meaning, map_applied, record_changed, record_made, box_made, has_map_uid, count_of, named_instances}
 use Rattle.model_meaning.proofs.MapLemmas.{map_more}
 use Rattle.model_meaning.specs.MapFits.{MapFits}
 use Rattle.model_logs.specs.Entries.{map_text, MapInRange}
@@ -65,7 +65,7 @@ recounted false n row = count_itself row
 
 pub same_but_count : (e : MapEntry) → ChangesCounts e → (row : MapRecord) → SameButCount row (record_changed e row)
 same_but_count (entry.U u) c row = recounted (u.0 == row.uid) (row.count + 1) row
-same_but_count (entry.D us) c row = recounted (has_uid row.uid us) (row.count - 1) row
+same_but_count (entry.D us) c row = recounted (has_map_uid row.uid us) (row.count - 1) row
 same_but_count (entry.T cs) c row = record { uid = refl; origin = refl; file = refl; offset = refl; size = refl; guid = refl; instances = refl }
 same_but_count (entry.H h) c row = count_itself row
 same_but_count (entry.B m g n) c row = absurd c
@@ -159,7 +159,7 @@ stored_append a store entries lists origin count uid file_no offset size guid in
         counts = counts;
         regions = subst (λ (rows : List MapRecord). All (LiesInFile a) rows) (sym records) (all_more (LiesInFile a) m.records row s.has_all.regions lies);
         instances = subst (λ (is : List InstRow). All (IsThereWhole a) is) (sym (ap (flat_map (λ (r : MapRecord). r.instances)) records ∙ flat_map-append (λ (r : MapRecord). r.instances) m.records (row ∷ [])))
-            (All-append (IsThereWhole a) (named m) (instances ++ []) s.has_all.instances (subst (λ (xs : List InstRow). All (IsThereWhole a) xs) (sym (append-nil instances)) there));
+            (All-append (IsThereWhole a) (named_instances m) (instances ++ []) s.has_all.instances (subst (λ (xs : List InstRow). All (IsThereWhole a) xs) (sym (append-nil instances)) there));
       };
     }
 

@@ -10,7 +10,7 @@ use Rattle.mdbox_base.specs.declared.entries.MapEntry.{MapEntry}
 use Rattle.mdbox_base.specs.declared.entries.MapEntry.TheVariants as map_entry
 use Rattle.mdbox_base.specs.declared.ids.MapUid.{MapUid}
 use Rattle.model_meaning.specs.BoxMeaning.{BoxMeaning, row_at}
-use Rattle.model_meaning.specs.MapMeaning.{MapRecord, has_uid}
+use Rattle.model_meaning.specs.MapMeaning.{MapRecord, has_map_uid}
 use Rattle.model_store.specs.Opening.{listed_of}
 
 -- a record's count is its listed messages, what is due of it, and its leak; both by map uid
@@ -25,7 +25,7 @@ abbrev pub more_due : ℕ → ℕ → (ℕ → ℕ) → ℕ → ℕ
 more_due n k due uid = due uid + (if k == uid then n else 0)
 
 abbrev pub less_due : List MapUid → (ℕ → ℕ) → ℕ → ℕ
-less_due uids due uid = due uid - bit (has_uid uid uids)
+less_due uids due uid = due uid - bit (has_map_uid uid uids)
 
 -- ---- entries of mailbox logs
 
@@ -57,7 +57,7 @@ leak_by entry leak = leak
 -- What the entry asks of these: of each record that a `D` lowers something is due, a `T` sets each count to what is listed
 -- and due, and nothing is due of the new record of an `S`, nor does it leak.
 abbrev pub MayChange : MapEntry → (ℕ → ℕ) → (ℕ → ℕ) → List (List BoxEntry) → Type 0
-MayChange (map_entry.D uids) due leak logs = (uid : ℕ) → has_uid uid uids ≡ true → 1 ≤ due uid
+MayChange (map_entry.D uids) due leak logs = (uid : ℕ) → has_map_uid uid uids ≡ true → 1 ≤ due uid
 MayChange (map_entry.T counts) due leak logs = (uid : ℕ) (c : MapCount) → find (λ c. c.uid.0 == uid) counts ≡ Some c → c.count ≡ listed_of logs uid + due uid
 MayChange (map_entry.S origin count uid file offset size guid instances) due leak logs = (due uid.0 ≡ 0) × (leak uid.0 ≡ 0)
 MayChange entry due leak logs = Unit {0}

@@ -2,7 +2,6 @@
 use Rattle.std.specs.Prelude.{◌≡◌, ◌≢◌, ◌≤◌, ◌==◌, ℕ, max, Bool, false, List, [], ◌∷◌, ◌++◌, map, Option, Some, if◌then◌else◌, Contains}
 use Rattle.disk_model.specs.Disk.{Files, DiskState, MayLeave, reading}
 use Rattle.disk_model.specs.declared.name.FileName.{FileName}
-use Rattle.disk_model.specs.declared.name.FileName.TheVariants as file
 use Rattle.model_logs.specs.declared.log_head.LogHead.{LogHead}
 use Rattle.mdbox_base.specs.declared.entries.BoxEntry.{BoxEntry}
 use Rattle.mdbox_base.specs.declared.entries.BoxEntry.TheVariants as box
