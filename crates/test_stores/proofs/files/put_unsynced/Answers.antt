@@ -4,7 +4,7 @@ use Rattle.disk_model.proofs.ChangeAndSyncLemmas.{changed_state}
 use Rattle.disk_mem.specs.Mem.{told}
 use Rattle.disk_mem.specs.Sound.{length-overlaid}
 use Rattle.disk_mem.proofs.StepLemmas.{on_ok}
-use Rattle.disk_mem.proofs.tests.put.Goals as goal
+use Rattle.test_stores.proofs.files.put_unsynced.Goals as goal
 
 made_reaches : (f : FileState) → Unit {0} → Reaches (made f) 0
 made_reaches f u = (refl, omega arith)
@@ -20,6 +20,6 @@ pub returns-clause-reaches : goal.returns-clause-reaches
 returns-clause-reaches c =
     let before = changed_state c.args.name (λ f. Unit {0}) (λ f. Reaches f 0) made (Some (told c.args.disk.now)) (Some (told c.make.new.self)) c.in_ok-make.ensures.state made_reaches tt in
     on_ok c.write_at.result
-    (λ is. changed_state c.args.name (λ f. Reaches f 0) (λ f. Reaches f (length c.args.text.now)) (written 0 c.args.text.now)
-    (Some (told c.make.new.self)) (Some (told c.write_at.new.self)) is (written_reaches c.args.text.now) before)
+    (λ is. changed_state c.args.name (λ f. Reaches f 0) (λ f. Reaches f (length c.args.octets.now)) (written 0 c.args.octets.now)
+    (Some (told c.make.new.self)) (Some (told c.write_at.new.self)) is (written_reaches c.args.octets.now) before)
     c.write_at.ensures.state
