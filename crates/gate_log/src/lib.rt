@@ -16,5 +16,3 @@ mod make;
 mod read;
 mod record;
 mod repair;
-#[cfg(test)]
-mod tests;
