@@ -4,7 +4,7 @@ use mdbox_base::LineForm;
 use std::test::Fail;
 
 /// Canonical texts, each with the length of its lines, whether they end in CRLF, and its octets.
-const CANONICAL: [(&[u8], u32, bool, &[u8]); 3] = [
+const CANONICAL: [(&[u8], u16, bool, &[u8]); 3] = [
     (b"Zm9vYmFy\nZm9vYmFy", 8, false, b"foobarfoobar"),
     (b"Zm9v\r\nYg==", 4, true, b"foob"),
     (b"Zm9vYmFy\r\nZm8=", 8, true, b"foobarfo"),

@@ -26,6 +26,10 @@ fn reference(start: u32, count: u32, form: Option<LineForm>) -> ExtRef
     }
 }
 
+fn octets(alloc: Global, text: &[u8]) -> Result<Octets, NoMemory> {
+    Ok(Octets::of(text.to_vec(alloc)?))
+}
+
 /// The whole of a body with this reference to an instance.
 fn with_one(
     alloc: Global,
@@ -38,10 +42,8 @@ fn with_one(
 {
     let mut refs = Seq::empty(alloc);
     refs.push(reference)?;
-    let mut instance = Octets::empty(alloc);
-    instance.push_all(text)?;
     let mut instances = Seq::empty(alloc);
-    instances.push(instance)?;
+    instances.push(octets(alloc, text)?)?;
     rejoin(alloc, body, whole, &refs, &instances)
 }
 
@@ -76,8 +78,9 @@ fn ranges_that_overlap(rt: HostRuntime) -> Result<(), Fail> {
     refs.push(reference(0, 3, None))?;
     refs.push(reference(2, 3, None))?;
     let mut instances = Seq::empty(rt.alloc());
-    instances.push(instance(rt.alloc(), b"xyz")?)?;
-    instances.push(instance(rt.alloc(), b"xyz")?)?;
+    for _ in 0..2 {
+        instances.push(octets(rt.alloc(), b"xyz")?)?;
+    }
     let outcome = rejoin(rt.alloc(), b"ab", 8, &refs, &instances);
     assert!(rt; outcome.err() == Some(JoinError::RangeBad(1)));
     Ok(())

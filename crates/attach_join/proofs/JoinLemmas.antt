@@ -7,7 +7,7 @@ use Rattle.mdbox_base.specs.declared.metadata.ExtRef.{ExtRef}
 use Rattle.model_attach.specs.declared.join_error.JoinError.TheVariants.{InstanceDiffers}
 use Rattle.model_attach.specs.Rejoined.{IsWhole, IsWholeFrom, part_text, is_bad, first_bad, first_differs, one_later}
 use Rattle.model_attach.proofs.RejoinedLemmas.{whole_size}
-use Rattle.attach_join.proofs.Checks.{good, next_of}
+use Rattle.attach_join.proofs.CheckLemmas.{good, next_of}
 
 map_none : {A B : Type 0} (f : A → B) (o : Option A) → option_map f o ≡ None → o ≡ None
 map_none f None e = refl

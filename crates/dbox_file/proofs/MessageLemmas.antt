@@ -13,9 +13,9 @@ use Rattle.dbox_file.specs.MessageFound.{HasMessage}
 use Rattle.dbox_file.specs.Reading.{StandsFirst, FoundSome, Flawed, IsText, IsRun}
 use Rattle.dbox_file.specs.Rows.{IsRows}
 use Rattle.dbox_file.specs.Sizes.{IsSize}
-use Rattle.dbox_file.proofs.Fronts.{Then, CanFollow, flawed_first, flawed_behind, found_behind, flawed_along}
-use Rattle.dbox_file.proofs.RunLaws.{text_free, run_free}
-use Rattle.dbox_file.proofs.SizeLaws.{size_free}
+use Rattle.dbox_file.proofs.PrefixLemmas.{Then, CanFollow, flawed_first, flawed_behind, found_behind, flawed_along}
+use Rattle.dbox_file.proofs.RunLemmas.{text_free, run_free}
+use Rattle.dbox_file.proofs.SizeLemmas.{size_free}
 
 -- The header of a message: its mark, ten printing octets, the digits, LF.
 abbrev pub mark : List ℕ

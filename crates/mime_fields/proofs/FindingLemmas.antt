@@ -4,7 +4,7 @@ use Rattle.model_mime.specs.declared.mime.Line.{Line}
 use Rattle.model_mime.specs.Lines.{TextLine, raw_lines, texts, range, IsLineAt}
 use Rattle.model_mime.specs.Fields.{continuation, is_field_named, value_of}
 use Rattle.mime_fields.proofs.LineLemmas.{rest_is}
-use Rattle.mime_fields.proofs.Continued.{texts_placed}
+use Rattle.mime_fields.proofs.ContinuedLemmas.{texts_placed}
 
 -- the texts from a place on, by the line there
 pub texts_at : (text : List ℕ) (at : ℕ) (line : Line) → IsLineAt text at line → texts (drop at text) ≡ range text line.start line.end ∷ texts (drop line.next text)

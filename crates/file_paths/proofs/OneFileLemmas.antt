@@ -11,8 +11,8 @@ use Rattle.file_paths.specs.Paths.{path_text, IsStoreFile}
 use Rattle.model_octets.proofs.PiecesLemmas.{split_same}
 use Rattle.model_storage.proofs.ReferenceLemmas.{number_until, hex_same}
 use Rattle.file_paths.specs.OneFile.{HaveOwnPaths}
-use Rattle.file_paths.proofs.InstLaws.{inst_text, named, same_digits}
-use Rattle.file_paths.proofs.ReadLaws.{middle_same, regroup}
+use Rattle.file_paths.proofs.InstLemmas.{inst_text, named, same_digits}
+use Rattle.file_paths.proofs.ReadLemmas.{middle_same, regroup}
 
 -- texts that differ at a place
 apart_at : (i : ℕ) (x y : List ℕ) → x ≡ y → (slice_index x i == slice_index y i) ≡ false → ⊥

@@ -12,8 +12,8 @@ use Rattle.model_storage.proofs.FileLemmas.{run_same, line_of, first, second}
 use Rattle.model_storage.specs.Grammars.{RunEnds}
 use Rattle.model_storage.specs.StorageFile.{Line, IsField, field_text, values_of, is_letter, is_letter_or_digit, is_no_end, IsHeaderLine}
 use Rattle.dbox_file.specs.HeaderFields.{TimeFits, CanEnd, Completes, IsNextField, HasHeaderLine}
-use Rattle.dbox_file.proofs.RowLaws.{longer_value, none_before}
-use Rattle.dbox_file.proofs.RunLaws.{all_joined}
+use Rattle.dbox_file.proofs.RowLemmas.{longer_value, none_before}
+use Rattle.dbox_file.proofs.RunLemmas.{all_joined}
 
 field_joined : (f : Line) (x : List ℕ) → field_text f ++ x ≡ 32 ∷ f.key ∷ (f.value ++ x)
 field_joined f x = refl

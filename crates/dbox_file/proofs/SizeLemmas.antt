@@ -15,7 +15,7 @@ use Rattle.model_storage.proofs.FileLemmas.{first, second}
 use Rattle.dbox_file.specs.declared.reading.Flaw.TheVariants.{Short, Bad}
 use Rattle.dbox_file.specs.Reading.{Flawed}
 use Rattle.dbox_file.specs.Sizes.{IsSize, is_zero_digit}
-use Rattle.dbox_file.proofs.RunLaws.{all_front, all_back, all_joined, all_replicated}
+use Rattle.dbox_file.proofs.RunLemmas.{all_front, all_back, all_joined, all_replicated}
 
 digit_counts : (c : ℕ) → is_ascii_hexdigit c ≡ true → hex_digit_value c ≡ None → ⊥
 digit_counts c h e = grind (arith, common_steps, nat_tests)
