@@ -263,3 +263,11 @@ SameButFor name = Between (λ old new. (other : FileName) → other ≢ name →
 pub record IsIdle (old new : Option History) : Type 0 where
   pub same : SameState old new
   pub each : EachImage (λ _ image. IfTold old (λ disk. IsImage disk image)) old new
+
+-- how many calls have returned, or 0 where the disk isn't modelled; and that time has gone on
+abbrev pub told_calls : Option History → ℕ
+told_calls None = 0
+told_calls (Some h) = calls h
+
+abbrev pub Grows : Option History → Option History → Type 0
+Grows old new = told_calls old ≤ told_calls new
