@@ -9,23 +9,6 @@ use Rattle.disk_model.specs.declared.name.FileName.{FileName}
 use Rattle.disk_model.proofs.MomentLemmas.{if_told-both, each_image-begins, each_image-unchanged, each_image-map}
 use Rattle.disk_model.proofs.OneFileLemmas.{IsAlong, Along}
 
-same-begins : (old : Option History) → SameState old old
-same-begins None = refl
-same-begins (Some old) = refl
-
-same-unchanged : (old now new : Option History) → SameState old now → Unchanged now new → SameState old new
-same-unchanged None None new same (inl is) = is
-same-unchanged None None new same (inr is) = is.0
-same-unchanged None (Some now) new same unchanged = absurd (let e : Some now ≡ None = same in cc)
-same-unchanged (Some old) None new same unchanged = elim same [ ]
-same-unchanged (Some old) (Some now) new same (inl is) = subst (SameState (Some old)) (sym is) same
-same-unchanged (Some old) (Some now) new same (inr is) = subst (SameState (Some old)) (sym is.0) same
-
-    but : (old new : Option History) → SameState old new → SameButFor name old new
-    but None new same = same
-    but (Some old) None same = same
-    but (Some old) (Some new) same = λ other apart. ap (λ (d : DiskState). d other) same
-
 -- a file that was read from its beginning to its end
 pub whole_file : (name : FileName) (old mid : Option History) (count : ℕ) (n : ℕ) (buffer result : List ℕ) → IsIdle old mid
     → IfTold old (λ disk. option_map length (reading (disk name)) ≡ Some n)
