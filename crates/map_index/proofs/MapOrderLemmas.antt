@@ -15,7 +15,7 @@ use Rattle.model_octets.proofs.PairLemmas.{found_only, pairs_nil, pairs_push, pa
 use Rattle.model_meaning.proofs.KeptRowLemmas.{kept_all, kept_length, kept_pairs, kept_rows}
 use Rattle.map_index.specs.Kept.{AreKeptRecords, AreKeptBoxes, AreKeptFiles, IsMapInOrder}
 use Rattle.map_index.specs.Shown.{CanRise}
-use Rattle.map_index.proofs.Pairs.{few_rising}
+use Rattle.map_index.proofs.RisingLemmas.{few_rising}
 
 -- ---- records
 

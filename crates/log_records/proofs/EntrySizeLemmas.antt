@@ -14,7 +14,7 @@ use Rattle.mdbox_base.specs.declared.entries.MapEntry.TheVariants as map
 use Rattle.model_logs.specs.Entries.{four, list_text, instance_row_text, map_text, MapInRange, RowInRange}
 use Rattle.log_records.specs.declared.stored.Stored.{Stored}
 use Rattle.log_records.specs.Stored.{stored_text}
-use Rattle.log_records.proofs.ListItems.{Sized, flat_size, row_sized}
+use Rattle.log_records.proofs.ListItemLemmas.{Sized, flat_size, row_sized}
 
 list_size : {X : Type 0} → (text : X → List ℕ) (InRange : X → Type 0) (size : ℕ) → Sized text InRange size → (xs : List X) → AllByRecursion InRange xs → length (list_text text xs) ≡ 4 + size * length xs
 list_size text InRange size sized xs all =

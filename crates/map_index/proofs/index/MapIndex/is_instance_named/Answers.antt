@@ -4,8 +4,8 @@ use Rattle.std.specs.List.{list_any}
 use Rattle.mdbox_base.specs.declared.entries.InstRow.{InstRow}
 use Rattle.model_meaning.specs.MapMeaning.{MapRecord, MapMeaning}
 use Rattle.map_index.specs.Shown.{meant_record}
-use Rattle.map_index.proofs.Lists.{any_in, list_any-flat_map}
-use Rattle.map_index.proofs.index.MapIndex.is_named.Goals as goal
+use Rattle.map_index.proofs.DerivedListLemmas.{any_in, list_any-flat_map}
+use Rattle.map_index.proofs.index.MapIndex.is_instance_named.Goals as goal
 
 pub returns : goal.returns
 returns c =

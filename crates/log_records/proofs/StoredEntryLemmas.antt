@@ -7,7 +7,7 @@ use Rattle.mdbox_base.specs.declared.entries.MapEntry.TheVariants as map
 use Rattle.model_logs.specs.Entries.{IsMapText}
 use Rattle.model_octets.proofs.NumberLemmas.{behind, differ}
 use Rattle.log_records.specs.Refused.{IsNotStored}
-use Rattle.log_records.proofs.ListItems.{match_weaker}
+use Rattle.log_records.proofs.ListItemLemmas.{match_weaker}
 
 stored_not : (text fields : List ℕ) (other : MapEntry) → text ≡ 83 ∷ fields → IsNotStored fields → IsMapText text other → ⊥
 stored_not text fields (map.S o c u f a z g is) e refused t = refused o c u f a z g is t.in_range.6 t.in_range.7 t.in_range.8 (ap behind (sym e ∙ t.text))
