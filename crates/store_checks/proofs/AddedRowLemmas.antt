@@ -10,7 +10,7 @@ use Rattle.mdbox_base.specs.declared.entries.BoxEntry.TheVariants as box
 use Rattle.model_meaning.specs.Rows.{row_behind, rows_of}
 use Rattle.model_meaning.specs.BoxMeaning.{LogRow, row_rules, row_made, row_removed, row_changed, rows_after}
 use Rattle.model_meaning.proofs.BoxSoundLemmas.{changed_uid}
-use Rattle.store_checks.specs.Bare.{added_uid}
+use Rattle.store_checks.specs.Dangling.{added_uid}
 
 -- the fields of an entry that adds the message with this UID
 pub record Added (entry : BoxEntry) (number : ℕ) : Type 0 where

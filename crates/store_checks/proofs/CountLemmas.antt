@@ -9,7 +9,7 @@ use Rattle.map_index.specs.Shown.{shown_record}
 use Rattle.map_index.specs.declared.rows.MapRow.{MapRow}
 use Rattle.store_checks.specs.declared.mailbox.CheckedBox.{CheckedBox}
 use Rattle.store_checks.specs.Checked.{listed_in, IsCountedIn, IsMiscountedIn}
-use Rattle.store_checks.proofs.Walks.{behind, contained}
+use Rattle.store_checks.proofs.WalkLemmas.{behind, contained}
 
 -- one that counts
 pub counts_one : {X : Type 0} → (p : X → Bool) (xs : List X) (k : ℕ) (x : X) → slice_get xs k ≡ Some x → p x ≡ true → count_by p (take (k + 1) xs) ≡ count_by p (take k xs) + 1

@@ -16,11 +16,11 @@ use Rattle.model_logs.specs.Entries.{box_text, BoxInRange}
 use Rattle.model_logs.proofs.EntryLemmas.{box_one}
 use Rattle.model_octets.proofs.PairLemmas.{found_holds}
 use Rattle.model_store.specs.Opening.{AreBoxEntries, HasItsRecord, IsDangling}
-use Rattle.store_checks.specs.Folds.{IsBoxFold}
-use Rattle.store_checks.specs.Bare.{added_uid, AddsBare, AddsNoBare, IsFirstBare}
-use Rattle.store_checks.proofs.Added.{Added, added, HasAdded, rows_added}
-use Rattle.store_checks.proofs.Places.{place_of, places_long, split_at}
-use Rattle.store_checks.proofs.Walks.{behind, at_place, before_place, place_in, find_self}
+use Rattle.store_checks.specs.Replays.{IsBoxReplay}
+use Rattle.store_checks.specs.Dangling.{added_uid, AddsDangling, AddsNoDangling, IsFirstDangling}
+use Rattle.store_checks.proofs.AddedRowLemmas.{Added, added, HasAdded, rows_added}
+use Rattle.store_checks.proofs.RecordPlaceLemmas.{place_of, places_long, split_at}
+use Rattle.store_checks.proofs.WalkLemmas.{behind, at_place, before_place, place_in, find_self}
 
 -- the entry whose text stands at a place
 pub entry_at : {E : Type 0} → (text : E → List ℕ) (entries : List E) (texts : List (List ℕ)) (k : ℕ) (one : List ℕ) → texts ≡ map text entries → slice_get texts k ≡ Some one → (entry : E) × (slice_get entries k ≡ Some entry) × (one ≡ text entry)
@@ -37,10 +37,10 @@ front_is : (entries : List BoxEntry) (texts : List (List ℕ)) (k : ℕ) → tex
 front_is entries texts k is = ap (take k) is ∙ take-map box_text k entries
 
 -- the record of an entry that adds such a message
-bare_at : (m : MapMeaning) (b : BoxMeaning) (texts : List (List ℕ)) (k place : ℕ) (text : List ℕ) (entries : List BoxEntry)
-    → slice_get texts k ≡ Some text → AddsBare m b text → place ≡ log_end (take k texts) + 1
+dangling_at : (m : MapMeaning) (b : BoxMeaning) (texts : List (List ℕ)) (k place : ℕ) (text : List ℕ) (entries : List BoxEntry)
+    → slice_get texts k ≡ Some text → AddsDangling m b text → place ≡ log_end (take k texts) + 1
     → texts ≡ map box_text entries → AreBoxEntries entries → b ≡ box_meaning entries → IsDangling m entries place
-bare_at m b texts k place text entries at adds is texts_are good means =
+dangling_at m b texts k place text entries at adds is texts_are good means =
     let e = entry_at box_text entries texts k text texts_are at in
     let same : adds.entry ≡ e.0 = box_one adds.entry e.0 adds.is.in_range (in_range entries k e.0 good e.1) (sym adds.is.text ∙ e.2) in
     let a : Added e.0 adds.uid = added e.0 adds.uid (subst (λ (x : BoxEntry). added_uid x ≡ Some adds.uid) same adds.added) in
@@ -58,7 +58,7 @@ bare_at m b texts k place text entries at adds is texts_are good means =
       row = adds.lacks.row;
       listed = subst (λ (z : BoxMeaning). Contains z.rows adds.lacks.row) means held.0;
       same = eqb-true adds.lacks.row.uid adds.uid held.1 ∙ sym a.same;
-      bare = adds.lacks.bare;
+      bare = adds.lacks.none;
       is = is ∙ ap (λ (ts : List (List ℕ)). log_end ts + 1) (front_is entries texts k texts_are);
     }
 
@@ -74,12 +74,12 @@ split_place [] behind x = refl
 split_place (y ∷ before) behind x = split_place before behind x
 
 -- no such record stands before this place
-none_before : (m : MapMeaning) (b : BoxMeaning) (texts : List (List ℕ)) (k other : ℕ) (entries : List BoxEntry) → All (AddsNoBare m b) (take k texts)
+none_before : (m : MapMeaning) (b : BoxMeaning) (texts : List (List ℕ)) (k other : ℕ) (entries : List BoxEntry) → All (AddsNoDangling m b) (take k texts)
     → texts ≡ map box_text entries → AreBoxEntries entries → b ≡ box_meaning entries → (bare : IsDangling m entries other) → length bare.before < k → ⊥
 none_before m b texts k other entries none texts_are good means bare lt =
     let entry : BoxEntry = box.A bare.uid bare.flags bare.time bare.size bare.map_uid bare.guid in
     let at : slice_get entries (length bare.before) ≡ Some entry = ap (λ (es : List BoxEntry). slice_get es (length bare.before)) bare.split ∙ split_place bare.before bare.behind entry in
-    let has = before_place (AddsNoBare m b) texts k (length bare.before) (box_text entry) (text_at box_text entries texts (length bare.before) entry texts_are at) lt none in
+    let has = before_place (AddsNoDangling m b) texts k (length bare.before) (box_text entry) (text_at box_text entries texts (length bare.before) entry texts_are at) lt none in
     let found : row_at b bare.uid.0 ≡ Some bare.row =
     subst (λ (z : BoxMeaning). row_at z bare.uid.0 ≡ Some bare.row) (sym means) (subst (λ (n : ℕ). row_at (box_meaning entries) n ≡ Some bare.row) bare.same (row_found entries bare.row good bare.listed)) in
     bare.bare (has entry bare.uid.0 (record { text = refl; in_range = in_range entries (length bare.before) entry good at }) refl bare.row found)
@@ -99,11 +99,11 @@ ends_rise gate (t ∷ ts) zero (suc k) le = absurd (omega (arith, le))
 ends_rise gate (t ∷ ts) (suc j) (suc k) le = ends_rise (gate + 5 + length t) ts j k (omega (arith, le))
 
 -- the first place of such an entry
-pub first_bare : (m : MapMeaning) (b : BoxMeaning) (texts : List (List ℕ)) (places : List ℕ) (k place : ℕ) (text : List ℕ)
-    → slice_get texts k ≡ Some text → AddsBare m b text → All (AddsNoBare m b) (take k texts) → places ≡ record_places texts → place ≡ get_or places k 0 → IsFirstBare m b texts place
-first_bare m b texts places k place text at adds none places_are is entries texts_are good means =
+pub first_dangling : (m : MapMeaning) (b : BoxMeaning) (texts : List (List ℕ)) (places : List ℕ) (k place : ℕ) (text : List ℕ)
+    → slice_get texts k ≡ Some text → AddsDangling m b text → All (AddsNoDangling m b) (take k texts) → places ≡ record_places texts → place ≡ get_or places k 0 → IsFirstDangling m b texts place
+first_dangling m b texts places k place text at adds none places_are is entries texts_are good means =
     let here : place ≡ log_end (take k texts) + 1 = is ∙ ap (λ (ps : List ℕ). get_or ps k 0) places_are ∙ place_of texts k (slice_get_within texts k text at) in (
-      bare_at m b texts k place text entries at adds here texts_are good means,
+      dangling_at m b texts k place text entries at adds here texts_are good means,
       λ other bare. elim (cases_lt (length bare.before) k) [
         | inl lt ↦ absurd (none_before m b texts k other entries none texts_are good means bare lt)
         | inr le ↦
@@ -116,14 +116,14 @@ first_bare m b texts places k place text at adds none places_are is entries text
     )
 
 -- each listed message has its record where no entry adds one without
-pub none_bare : (m : MapMeaning) (b : BoxMeaning) (texts : List (List ℕ)) → IsBoxFold b texts → All (AddsNoBare m b) texts → All (HasItsRecord m) b.rows
-none_bare m b texts f none =
+pub none_dangling : (m : MapMeaning) (b : BoxMeaning) (texts : List (List ℕ)) → IsBoxReplay b texts → All (AddsNoDangling m b) texts → All (HasItsRecord m) b.rows
+none_dangling m b texts f none =
     subst (λ (z : BoxMeaning). All (HasItsRecord m) z.rows) (sym f.meaning)
     (λ k d lt. each _ (rows_added f.entries k d lt) (find_self (λ (r : LogRow). r.uid) (rows_after f.entries) (box_sound f.entries f.good.1 f.good.0).rising k d lt))
   where
     each : (row : LogRow) → HasAdded f.entries row → find (λ r. r.uid == row.uid) (rows_after f.entries) ≡ Some row → HasItsRecord m row
     each row h found =
-        at_place (AddsNoBare m b) texts h.0 (box_text h.1) (text_at box_text f.entries texts h.0 h.1 f.texts_are h.2) none h.1 row.uid
+        at_place (AddsNoDangling m b) texts h.0 (box_text h.1) (text_at box_text f.entries texts h.0 h.1 f.texts_are h.2) none h.1 row.uid
         (record { text = refl; in_range = in_range f.entries h.0 h.1 f.good h.2 }) h.3 row (subst (λ (z : BoxMeaning). row_at z row.uid ≡ Some row) (sym f.meaning) found)
 
 -- the text that was read at a place

@@ -5,7 +5,7 @@ use Rattle.std.specs.Option.{option_map}
 use Rattle.std.proofs.lemmas.Bool.{cases_order}
 use Rattle.std.proofs.lemmas.Option.{slice_get-map, slice_get_within, slice_get-get_or, get_or_from_slice_get}
 use Rattle.std.proofs.lemmas.List.Sorted.{IsPermutation-sym, All-permutation, Contains-permutation}
-use Rattle.store_checks.proofs.Walks.{behind, at_place, before_place, contained, place_in}
+use Rattle.store_checks.proofs.WalkLemmas.{behind, at_place, before_place, contained, place_in}
 
 -- what an element of a mapped list is made of
 made_of : {X Y : Type 0} → (f : X → Y) (xs : List X) (y : Y) → Contains (map f xs) y → (x : X) × Contains xs x × (y ≡ f x)

@@ -17,10 +17,10 @@ use Rattle.gate_log.specs.Log.{IsFound}
 use Rattle.gate_log.specs.declared.read.LogRead.{LogRead}
 use Rattle.map_index.specs.Shown.{shown_box}
 use Rattle.map_index.specs.declared.rows.BoxAt.{BoxAt}
-use Rattle.store_checks.specs.Bare.{IsFirstBare}
+use Rattle.store_checks.specs.Dangling.{IsFirstDangling}
 use Rattle.store_checks.specs.Boxes.{box_file, box_head, FailsBox, IsBoxCause, IsFoundAs}
-use Rattle.store_checks.specs.Folds.{IsBoxFold, RefusesBox}
-use Rattle.store_checks.specs.Logs.{IsBadFold, IsLogCause}
+use Rattle.store_checks.specs.Replays.{IsBoxReplay, RefusesBox}
+use Rattle.store_checks.specs.Logs.{IsBadReplay, IsLogCause}
 use Rattle.store_checks.specs.declared.error.CheckError.{CheckError}
 use Rattle.store_checks.specs.declared.error.CheckError.TheVariants as check
 
@@ -34,7 +34,7 @@ has_log name head octets read texts old r h e told =
 pub found_as : (found : InspectedLog) (name : FileName) (head : LogHead) (entries texts : List (List ℕ)) (now : Option History) → (found.name ≡ name) × (found.head ≡ head) → entries ≡ texts → IfTold now (IsFound found entries) → IsFoundAs found name head texts now
 found_as found name head entries texts now l e s = record { name_is = l.0; head_is = l.1; stands = subst (λ (ts : List (List ℕ)). IfTold now (IsFound found ts)) e s }
 
--- ---- a log whose entries are not all taken in is bad
+-- ---- a log whose entries can't all be replayed is bad
 
 -- what a value says of the texts that it is made of
 pub record Tells {E V : Type 0} (text : E → List ℕ) (AreGood : List E → Type 0) (Refuses : V → List ℕ → Type 0) (value : V) (texts : List (List ℕ)) : Type 0 where
@@ -43,12 +43,12 @@ pub record Tells {E V : Type 0} (text : E → List ℕ) (AreGood : List E → Ty
   pub good : AreGood entries
   pub none : (bad : List ℕ) → Refuses value bad → (entry : E) → bad ≡ text entry → AreGood (entries ++ entry ∷ []) → ⊥
 
-pub bad_log : {E V : Type 0} → (text : E → List ℕ) (AreGood : List E → Type 0) (IsFold : V → List (List ℕ) → Type 0) (Refuses : V → List ℕ → Type 0) (value : V) (head : LogHead) (octets : Option (List ℕ)) (place : ℕ)
-    → ((texts : List (List ℕ)) → IsFold value texts → Tells text AreGood Refuses value texts) → IsBadFold IsFold Refuses value head octets place → IsBadLog text AreGood head octets place
-bad_log text AreGood IsFold Refuses value head None place tells bad = bad
-bad_log text AreGood IsFold Refuses value head (Some octets) place tells (inl d) = inl d
-bad_log text AreGood IsFold Refuses value head (Some octets) place tells (inr r) =
-    let t = tells r.before r.folded in
+pub bad_log : {E V : Type 0} → (text : E → List ℕ) (AreGood : List E → Type 0) (IsReplay : V → List (List ℕ) → Type 0) (Refuses : V → List ℕ → Type 0) (value : V) (head : LogHead) (octets : Option (List ℕ)) (place : ℕ)
+    → ((texts : List (List ℕ)) → IsReplay value texts → Tells text AreGood Refuses value texts) → IsBadReplay IsReplay Refuses value head octets place → IsBadLog text AreGood head octets place
+bad_log text AreGood IsReplay Refuses value head None place tells bad = bad
+bad_log text AreGood IsReplay Refuses value head (Some octets) place tells (inl d) = inl d
+bad_log text AreGood IsReplay Refuses value head (Some octets) place tells (inr r) =
+    let t = tells r.before r.replayed in
     inr (record {
       before = t.entries;
       bad = r.bad;
@@ -59,7 +59,7 @@ bad_log text AreGood IsFold Refuses value head (Some octets) place tells (inr r)
       is = r.is ∙ ap (λ (ts : List (List ℕ)). log_end ts + 1) t.texts_are;
     })
 
-box_tells : (value : BoxMeaning) (texts : List (List ℕ)) → IsBoxFold value texts → Tells box_text AreBoxEntries RefusesBox value texts
+box_tells : (value : BoxMeaning) (texts : List (List ℕ)) → IsBoxReplay value texts → Tells box_text AreBoxEntries RefusesBox value texts
 box_tells value texts f = record { entries = f.entries; texts_are = f.texts_are; good = f.good; none = λ bad refused entry is good. refused f.entries entry f.meaning is good }
 
 -- ---- mailboxes
@@ -69,13 +69,13 @@ at_box P at mailbox e p = subst P (sym e) p
 
 -- why a mailbox log wasn't read
 pub box_cause : (m : MapMeaning) (store : List ℕ) (at : BoxAt) (value : BoxMeaning) (old : Option History) (error : CheckError) → m.store ≡ store
-    → IsLogCause IsBoxFold RefusesBox value (box_file at) (box_head store at) old error → IsBoxCause m at old error
+    → IsLogCause IsBoxReplay RefusesBox value (box_file at) (box_head store at) old error → IsBoxCause m at old error
 box_cause m store at value old (check.Damaged name place) same (is, bad) = (
   is,
   λ mailbox e.
-      let bad' = at_box (λ (a : BoxAt). IfTold old (λ (disk : DiskState). IsBadFold IsBoxFold RefusesBox value (box_head store a) (reading (disk (box_file a))) place)) at mailbox e bad in
-      let bad'' = subst (λ (s : List ℕ). IfTold old (λ (disk : DiskState). IsBadFold IsBoxFold RefusesBox value (box_head s (shown_box mailbox)) (reading (disk (box_file (shown_box mailbox)))) place)) (sym same) bad' in
-      if_told-map _ _ old (λ disk b. inl (bad_log box_text AreBoxEntries IsBoxFold RefusesBox value (box_head m.store (shown_box mailbox)) (reading (disk (box_file (shown_box mailbox)))) place (box_tells value) b)) bad'',
+      let bad' = at_box (λ (a : BoxAt). IfTold old (λ (disk : DiskState). IsBadReplay IsBoxReplay RefusesBox value (box_head store a) (reading (disk (box_file a))) place)) at mailbox e bad in
+      let bad'' = subst (λ (s : List ℕ). IfTold old (λ (disk : DiskState). IsBadReplay IsBoxReplay RefusesBox value (box_head s (shown_box mailbox)) (reading (disk (box_file (shown_box mailbox)))) place)) (sym same) bad' in
+      if_told-map _ _ old (λ disk b. inl (bad_log box_text AreBoxEntries IsBoxReplay RefusesBox value (box_head m.store (shown_box mailbox)) (reading (disk (box_file (shown_box mailbox)))) place (box_tells value) b)) bad'',
 )
 box_cause m store at value old check.NoStore same c = c
 box_cause m store at value old check.DiskFault same c = c
@@ -83,11 +83,11 @@ box_cause m store at value old check.NoMemory same c = c
 
 -- a message without its record
 pub lacks_record : (m : MapMeaning) (store : List ℕ) (at : BoxAt) (value : BoxMeaning) (texts : List (List ℕ)) (place : ℕ) (old : Option History) → m.store ≡ store
-    → (f : IsBoxFold value texts) → IsFirstBare m value texts place → IfTold old (λ disk. HasLog (files_of disk) (box_file at) (box_head store at) texts)
+    → (f : IsBoxReplay value texts) → IsFirstDangling m value texts place → IfTold old (λ disk. HasLog (files_of disk) (box_file at) (box_head store at) texts)
     → (mailbox : MapBox) → shown_box mailbox ≡ at → IfTold old (λ disk. FailsBox (files_of disk) m mailbox place)
 lacks_record m store at value texts place old same f first log mailbox e =
     let log' = at_box (λ (a : BoxAt). IfTold old (λ (disk : DiskState). HasLog (files_of disk) (box_file a) (box_head store a) texts)) at mailbox e log in
-    let bare = first f.entries f.texts_are f.good f.meaning in
+    let dangling = first f.entries f.texts_are f.good f.meaning in
     if_told-map _ _ old
     (λ disk has. inr (record {
       entries = f.entries;
@@ -97,7 +97,7 @@ lacks_record m store at value texts place old same f first log mailbox e =
         in_range = f.good.0;
         fit = f.good.1;
       };
-      bare = bare.0;
-      least = bare.1;
+      bare = dangling.0;
+      least = dangling.1;
     }))
     log'

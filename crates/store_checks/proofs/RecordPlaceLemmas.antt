@@ -8,7 +8,7 @@ use Rattle.model_logs.specs.declared.log_head.LogHead.{LogHead}
 use Rattle.model_logs.specs.LogFile.{IsLog, end_from, log_end, record_places_from, record_places}
 use Rattle.gate_log.specs.Reading.{IsReading}
 use Rattle.gate_log.specs.declared.read.LogRead.{LogRead}
-use Rattle.store_checks.specs.Logs.{IsRefusedAt, IsBadFold}
+use Rattle.store_checks.specs.Logs.{IsRefusedAt, IsBadReplay}
 
 place_from : (gate : ℕ) (entries : List (List ℕ)) (k : ℕ) → k < length entries → get_or (record_places_from gate entries) k 0 ≡ end_from gate (take k entries) + 1
 place_from gate [] k lt = absurd (omega (arith, lt))
@@ -39,19 +39,19 @@ split_at (y ∷ ys) zero x e = let h : y ≡ x = cc e in ap (λ (z : _). z ∷ y
 split_at (y ∷ ys) (suc k) x e = simp add-one (ap (λ (zs : _). y ∷ zs) (simp add-one at (split_at ys k x e)))
 
 -- an entry that was refused
-pub bad_fold : {V : Type 0} → (IsFold : V → List (List ℕ) → Type 0) (Refuses : V → List ℕ → Type 0) (value : V) (name : FileName) (head : LogHead) (octets places : List ℕ) (es : List (List ℕ)) (read : LogRead) (k place : ℕ) (old : Option History)
+pub bad_replay : {V : Type 0} → (IsReplay : V → List (List ℕ) → Type 0) (Refuses : V → List ℕ → Type 0) (value : V) (name : FileName) (head : LogHead) (octets places : List ℕ) (es : List (List ℕ)) (read : LogRead) (k place : ℕ) (old : Option History)
     → IsReading octets read → read.head ≡ head → IfTold old (λ disk. reading (disk name) ≡ Some octets) → es ≡ read.entries → places ≡ read.places → place ≡ get_or places k 0
-    → ((text : List ℕ) × (slice_get es k ≡ Some text) × IsFold value (take k es) × Refuses value text)
-    → IfTold old (λ disk. IsBadFold IsFold Refuses value head (reading (disk name)) place)
-bad_fold IsFold Refuses value name head octets places es read k place old r h told f e p bad =
+    → ((text : List ℕ) × (slice_get es k ≡ Some text) × IsReplay value (take k es) × Refuses value text)
+    → IfTold old (λ disk. IsBadReplay IsReplay Refuses value head (reading (disk name)) place)
+bad_replay IsReplay Refuses value name head octets places es read k place old r h told f e p bad =
     let whole : IsLog octets head es = subst (λ (ts : List (List ℕ)). IsLog octets head ts) (sym f) (subst (λ (o : LogHead). IsLog octets o read.entries) h r.log) in
-    let at : IsRefusedAt IsFold Refuses value head octets place = record {
+    let at : IsRefusedAt IsReplay Refuses value head octets place = record {
       before = take k es;
       bad = bad.0;
       behind = drop (k + 1) es;
       whole = subst (λ (ts : List (List ℕ)). IsLog octets head ts) (split_at es k bad.0 bad.1) whole;
-      folded = bad.2;
+      replayed = bad.2;
       refused = bad.3;
       is = p ∙ ap (λ (ps : List ℕ). get_or ps k 0) (e ∙ r.places ∙ ap record_places (sym f)) ∙ place_of es k (slice_get_within es k bad.0 bad.1);
     } in
-    if_told-map _ _ old (λ disk there. subst (λ (o : Option (List ℕ)). IsBadFold IsFold Refuses value head o place) (sym there) (inr at)) told
+    if_told-map _ _ old (λ disk there. subst (λ (o : Option (List ℕ)). IsBadReplay IsReplay Refuses value head o place) (sym there) (inr at)) told

@@ -19,7 +19,7 @@ use Rattle.disk_model.proofs.IdleLemmas.{idle-back}
 use Rattle.store_checks.specs.declared.regions.Region.{Region}
 use Rattle.store_checks.specs.declared.instances.Instance.{Instance}
 use Rattle.store_checks.specs.Lengths.{region_of, regions_in, instance_of, instances_in, EndsWithin, IsNoLater, IsNamedNoLater, LiesIn, IsWholeIn}
-use Rattle.store_checks.proofs.Failing.{first_fail, all_pass}
+use Rattle.store_checks.proofs.FirstFailureLemmas.{first_fail, all_pass}
 
 -- ---- regions
 

@@ -1,4 +1,4 @@
--- Entries that are taken in, and such as are not.
+-- Entries that are replayed, and such as are refused.
 use Rattle.std.proofs.Common.{◌≡◌, ℕ, List, [], ◌∷◌, ◌++◌, map, Option, Some, None, MatchOption, refl, sym, ◌∙◌, ap, subst}
 use Rattle.std.proofs.lemmas.List.{map-append}
 use Rattle.std.proofs.lemmas.Option.{MatchOption-at_some, MatchOption-at_none}
@@ -16,15 +16,15 @@ use Rattle.mdbox_base.specs.declared.entries.MapEntry.{MapEntry}
 use Rattle.model_logs.specs.Entries.{root_text, box_text, map_text, RootInRange, BoxInRange, MapInRange, IsRootText, IsBoxText, IsMapText}
 use Rattle.model_logs.proofs.EntryLemmas.{box_one}
 use Rattle.model_meaning.proofs.FitLemmas.{each_more, each_of, box_fit_more, box_fit_of, map_fit_more, map_fit_of}
-use Rattle.store_checks.specs.Folds.{IsRootFold, IsBoxFold, IsMapFold, RefusesRoot, RefusesBox, RefusesMap, generation_of}
+use Rattle.store_checks.specs.Replays.{IsRootReplay, IsBoxReplay, IsMapReplay, RefusesRoot, RefusesBox, RefusesMap, generation_of}
 
 more_texts : {E : Type 0} → (text : E → List ℕ) (texts : List (List ℕ)) (entries : List E) (one : List ℕ) (entry : E) → texts ≡ map text entries → one ≡ text entry → texts ++ one ∷ [] ≡ map text (entries ++ entry ∷ [])
 more_texts text texts entries one entry e f = ap (λ (ts : List (List ℕ)). ts ++ one ∷ []) e ∙ ap (λ (t : List ℕ). map text entries ++ t ∷ []) f ∙ sym (map-append text entries (entry ∷ []))
 
 -- ---- the root log
 
-pub root_taken : (last : Option ℕ) (texts : List (List ℕ)) (one : List ℕ) (entry : RootEntry) (generation : ℕ) → generation ≡ generation_of entry → IsRootText one entry → IsRootFold last texts → IsRootFold (Some generation) (texts ++ one ∷ [])
-root_taken last texts one (root.M g) generation e is f = subst (λ (n : ℕ). IsRootFold (Some n) (texts ++ one ∷ [])) (sym e) (record {
+pub root_taken : (last : Option ℕ) (texts : List (List ℕ)) (one : List ℕ) (entry : RootEntry) (generation : ℕ) → generation ≡ generation_of entry → IsRootText one entry → IsRootReplay last texts → IsRootReplay (Some generation) (texts ++ one ∷ [])
+root_taken last texts one (root.M g) generation e is f = subst (λ (n : ℕ). IsRootReplay (Some n) (texts ++ one ∷ [])) (sym e) (record {
   entries = f.entries ++ root.M g ∷ [];
   texts_are = more_texts root_text texts f.entries one (root.M g) f.texts_are is.text;
   good = each_more RootInRange f.entries (root.M g) f.good is.in_range;
@@ -36,7 +36,7 @@ root_refused text none before entry is good = none entry (record { text = is; in
 
 -- ---- a mailbox log
 
-pub box_taken : (old new : BoxMeaning) (texts : List (List ℕ)) (one : List ℕ) (entry : BoxEntry) → IsBoxText one entry → BoxFits old entry → new ≡ box_applied entry old → IsBoxFold old texts → IsBoxFold new (texts ++ one ∷ [])
+pub box_taken : (old new : BoxMeaning) (texts : List (List ℕ)) (one : List ℕ) (entry : BoxEntry) → IsBoxText one entry → BoxFits old entry → new ≡ box_applied entry old → IsBoxReplay old texts → IsBoxReplay new (texts ++ one ∷ [])
 box_taken old new texts one entry is fits e f = record {
   entries = f.entries ++ entry ∷ [];
   texts_are = more_texts box_text texts f.entries one entry f.texts_are is.text;
@@ -56,7 +56,7 @@ box_misfit m text one has misfit before entry means is good =
 
 -- ---- the map log
 
-pub map_taken : (old new : MapMeaning) (texts : List (List ℕ)) (one : List ℕ) (entry : MapEntry) → IsMapText one entry → MapFits old entry → new ≡ map_applied entry old → IsMapFold old texts → IsMapFold new (texts ++ one ∷ [])
+pub map_taken : (old new : MapMeaning) (texts : List (List ℕ)) (one : List ℕ) (entry : MapEntry) → IsMapText one entry → MapFits old entry → new ≡ map_applied entry old → IsMapReplay old texts → IsMapReplay new (texts ++ one ∷ [])
 map_taken old new texts one entry is fits e f =
     let same : old.store ≡ new.store = sym (ap (λ (m : MapMeaning). m.store) e) in
     let more : new ≡ map_meaning old.store (f.entries ++ entry ∷ []) = e ∙ ap (map_applied entry) f.meaning ∙ sym (map_more old.store f.entries entry) in

@@ -10,6 +10,7 @@ use Rattle.model_logs.specs.LogFile.{head_octets}
 use Rattle.model_logs.proofs.LogFileLemmas.{head_length}
 use Rattle.model_store.specs.Settled.{files_of}
 use Rattle.model_store.specs.Opening.{HasClosedHead, HasNoEntry}
+use Rattle.gate_log.specs.Reading.{IsFrontOf}
 use Rattle.store_checks.specs.Roots.{HasId}
 
 -- 27 octets tell whether there is an entry
@@ -44,36 +45,25 @@ pub none_in_all : (octets : List ℕ) → HasNoEntry (Some octets) → HasNoEntr
 none_in_all octets (inl short) = let l = length-take 27 octets in inl (omega (arith, l, short))
 none_in_all octets (inr h) = inr (front_closed octets h)
 
--- what was read of a root log
-pub record IsFront (front : List ℕ) (count : ℕ) (disk : DiskState) : Type 0 where
-  pub octets : List ℕ
-  pub there : reading (disk file.Root) ≡ Some octets
-  pub text : take count front ≡ take 27 octets
-
-pub front_is : (front : List ℕ) (count : ℕ) (old : Option History) → IfTold old (λ disk. (reading (disk file.Root) ≡ Some (disk file.Root).octets) × (take count front ≡ take 27 (disk file.Root).octets)) → IfTold old (IsFront front count)
-front_is front count old told = if_told-map _ _ old (λ disk r. record { octets = (disk file.Root).octets; there = r.0; text = r.1 }) told
-
--- no entry in front
-pub no_entry : (front : List ℕ) (count : ℕ) (old : Option History) → HasNoEntry (Some (take count front)) → IfTold old (IsFront front count) → IfTold old (λ disk. HasNoEntry (reading (disk file.Root)))
-no_entry front count old none told =
-    if_told-map _ _ old (λ disk f. subst HasNoEntry (sym f.there) (none_in_front f.octets (subst (λ (o : List ℕ). HasNoEntry (Some o)) f.text none))) told
-
-pub no_file : (old : Option History) → IfTold old (λ disk. reading (disk file.Root) ≡ None) → IfTold old (λ disk. HasNoEntry (reading (disk file.Root)))
-no_file old told = if_told-map _ _ old (λ disk e. subst HasNoEntry (sym e) tt) told
+-- what the first octets tell, where the file has so many
+pub no_entry : (found : Option (List ℕ)) (front : List ℕ) (old : Option History) → found ≡ Some front → HasNoEntry (Some front) → IfTold old (λ disk. IsFrontOf (reading (disk file.Root)) found) → IfTold old (λ disk. HasNoEntry (reading (disk file.Root)))
+no_entry found front old is none told =
+    let F : Option (List ℕ) → Type 0 = λ o. IfTold old (λ disk. IsFrontOf (reading (disk file.Root)) o) in
+    if_told-map _ _ old (λ disk f. subst HasNoEntry (sym f.1) (none_in_front f.0 (subst (λ (o : List ℕ). HasNoEntry (Some o)) f.3 none))) (subst F is told)
 
 -- the id in front
-pub has_id : (front : List ℕ) (count : ℕ) (store : List ℕ) (old : Option History) → length front ≡ 27 → (HasNoEntry (Some (take count front)) → ⊥) → store ≡ take 8 (drop 8 front) → IfTold old (IsFront front count) → IfTold old (λ disk. HasId store (files_of disk))
-has_id front count store old long some is told =
-    let full : take count front ≡ front = take_all count front (elim (cases_lt 26 (length (take count front))) [ inl lt ↦ (let l = length-take count front in omega (arith, l, lt, long)) | inr le ↦ absurd (some (inl le)) ]) in
+pub has_id : (found : Option (List ℕ)) (front : List ℕ) (store : List ℕ) (old : Option History) → found ≡ Some front → (HasNoEntry (Some front) → ⊥) → store ≡ take 8 (drop 8 front) → IfTold old (λ disk. IsFrontOf (reading (disk file.Root)) found) → IfTold old (λ disk. HasId store (files_of disk))
+has_id found front store old here some is told =
+    let F : Option (List ℕ) → Type 0 = λ o. IfTold old (λ disk. IsFrontOf (reading (disk file.Root)) o) in
     if_told-map _ _ old
     (λ disk f.
     record {
-      octets = f.octets;
-      there = f.there;
-      has_entry = λ none. some (subst (λ (o : List ℕ). HasNoEntry (Some o)) (sym f.text) (none_in_all f.octets none));
-      id_is = is ∙ ap (λ (o : List ℕ). take 8 (drop 8 o)) (sym full ∙ f.text) ∙ id_front f.octets;
+      octets = f.0;
+      there = f.1;
+      has_entry = λ none. some (subst (λ (o : List ℕ). HasNoEntry (Some o)) (sym f.3) (none_in_all f.0 none));
+      id_is = is ∙ ap (λ (o : List ℕ). take 8 (drop 8 o)) f.3 ∙ id_front f.0;
     })
-    told
+    (subst F here told)
   where
     id_front : (octets : List ℕ) → take 8 (drop 8 (take 27 octets)) ≡ take 8 (drop 8 octets)
     id_front octets = ap (take 8) (drop-take 8 19 octets) ∙ take-take 8 19 (drop 8 octets) (omega arith)

@@ -19,29 +19,29 @@ use Rattle.gate_log.specs.State.{InspectedLog}
 use Rattle.gate_log.specs.Log.{IsFound}
 use Rattle.gate_log.specs.declared.read.LogRead.{LogRead}
 use Rattle.disk_model.proofs.IdleLemmas.{idle-back}
-use Rattle.store_checks.specs.Folds.{NamesLast, IsRootFold, IsMapFold, RefusesRoot, RefusesMap}
-use Rattle.store_checks.specs.declared.fold.RootFold.{RootFold}
-use Rattle.store_checks.specs.Logs.{IsBadFold, IsLogCause}
+use Rattle.store_checks.specs.Replays.{NamesLast, IsRootReplay, IsMapReplay, RefusesRoot, RefusesMap}
+use Rattle.store_checks.specs.declared.replay.RootReplay.{RootReplay}
+use Rattle.store_checks.specs.Logs.{IsBadReplay, IsLogCause}
 use Rattle.store_checks.specs.Roots.{HasId, root_log_head, root_texts, map_log_head, IsRootRead, IsRootCause, IsMapRead, IsMapCause}
 use Rattle.store_checks.specs.declared.error.CheckError.{CheckError}
 use Rattle.store_checks.specs.declared.error.CheckError.TheVariants as check
-use Rattle.store_checks.proofs.Reading.{has_log, found_as, Tells, bad_log}
+use Rattle.store_checks.proofs.LogReadLemmas.{has_log, found_as, Tells, bad_log}
 
 -- ---- the root log
 
 -- a root log's entries make this value, and this text is refused behind them
-abbrev IsFold : RootFold → List (List ℕ) → Type 0
-IsFold value texts = IsRootFold value.last texts
+abbrev IsReplay : RootReplay → List (List ℕ) → Type 0
+IsReplay value texts = IsRootReplay value.last texts
 
-abbrev Refuses : RootFold → List ℕ → Type 0
+abbrev Refuses : RootReplay → List ℕ → Type 0
 Refuses value text = RefusesRoot text
 
-root_tells : (value : RootFold) (texts : List (List ℕ)) → IsFold value texts → Tells root_text AreRootEntries Refuses value texts
+root_tells : (value : RootReplay) (texts : List (List ℕ)) → IsReplay value texts → Tells root_text AreRootEntries Refuses value texts
 root_tells value texts f = record { entries = f.entries; texts_are = f.texts_are; good = f.good; none = λ bad refused entry is good. refused f.entries entry is good }
 
 -- why the root log wasn't read
-pub root_cause : (store : List ℕ) (value : RootFold) (old now : Option History) (error : CheckError) → IsIdle old now → IfTold old (λ disk. HasId store (files_of disk))
-    → IsLogCause IsFold Refuses value file.Root (root_log_head store) now error → IsRootCause old error
+pub root_cause : (store : List ℕ) (value : RootReplay) (old now : Option History) (error : CheckError) → IsIdle old now → IfTold old (λ disk. HasId store (files_of disk))
+    → IsLogCause IsReplay Refuses value file.Root (root_log_head store) now error → IsRootCause old error
 root_cause store value old now (check.Damaged name place) idle id (is, bad) = (
   is,
   if_told-both _ _ _ old
@@ -52,10 +52,10 @@ root_cause store value old now (check.Damaged name place) idle id (is, bad) = (
         there = i.there;
         has_entry = i.has_entry;
         bad = subst (λ (h : LogHead). IsBadLog root_text AreRootEntries h (Some i.octets) place) head
-            (bad_log root_text AreRootEntries IsFold Refuses value (root_log_head store) (Some i.octets) place (root_tells value)
-            (subst (λ (o : Option (List ℕ)). IsBadFold IsFold Refuses value (root_log_head store) o place) i.there b));
+            (bad_log root_text AreRootEntries IsReplay Refuses value (root_log_head store) (Some i.octets) place (root_tells value)
+            (subst (λ (o : Option (List ℕ)). IsBadReplay IsReplay Refuses value (root_log_head store) o place) i.there b));
       })
-      id (idle-back (λ (disk : DiskState). IsBadFold IsFold Refuses value (root_log_head store) (reading (disk file.Root)) place) old now idle bad),
+      id (idle-back (λ (disk : DiskState). IsBadReplay IsReplay Refuses value (root_log_head store) (reading (disk file.Root)) place) old now idle bad),
 )
 root_cause store value old now check.NoStore idle id c = absurd c
 root_cause store value old now check.DiskFault idle id c = c
@@ -71,7 +71,7 @@ empty_log octets head l =
           let h = head_length head l.head_fits in let b : length l.behind ≡ 0 = ap length nothing in omega (arith, n, h, b))
     ]
 
-pub none_last : (store : List ℕ) (last : Option ℕ) (octets : List ℕ) (read : LogRead) (old now : Option History) → IsIdle old now → IsReading octets read → read.head ≡ root_log_head store → IsRootFold last read.entries → last ≡ None
+pub none_last : (store : List ℕ) (last : Option ℕ) (octets : List ℕ) (read : LogRead) (old now : Option History) → IsIdle old now → IsReading octets read → read.head ≡ root_log_head store → IsRootReplay last read.entries → last ≡ None
     → IfTold now (λ disk. reading (disk file.Root) ≡ Some octets) → IfTold old (λ disk. HasNoEntry (reading (disk file.Root)))
 none_last store last octets read old now idle r h f e told =
     let last_is = subst (λ (l : Option ℕ). NamesLast l f.entries) e f.last_is in
@@ -80,7 +80,7 @@ none_last store last octets read old now idle r h f e told =
     if_told-map _ _ old (λ disk there. subst HasNoEntry (sym there) none) (idle-back (λ (disk : DiskState). reading (disk file.Root) ≡ Some octets) old now idle told)
 
 pub root_read : (store : List ℕ) (last : Option ℕ) (generation : ℕ) (found : InspectedLog) (octets : List ℕ) (read : LogRead) (old now new : Option History) → IsIdle old now → IsReading octets read → read.head ≡ root_log_head store
-    → IsRootFold last read.entries → last ≡ Some generation → IfTold now (λ disk. reading (disk file.Root) ≡ Some octets) → (found.name ≡ file.Root) × (found.head ≡ root_log_head store) → IfTold new (IsFound found read.entries)
+    → IsRootReplay last read.entries → last ≡ Some generation → IfTold now (λ disk. reading (disk file.Root) ≡ Some octets) → (found.name ≡ file.Root) × (found.head ≡ root_log_head store) → IfTold new (IsFound found read.entries)
     → (before : List RootEntry) × IsRootRead store generation found before old new
 root_read store last generation found octets read old now new idle r h f e told log stands =
     let last_is = subst (λ (l : Option ℕ). NamesLast l f.entries) e f.last_is in
@@ -95,7 +95,7 @@ root_read store last generation found octets read old now new idle r h f e told 
 
 -- ---- the map log
 
-map_tells : (store : List ℕ) (value : MapMeaning) (texts : List (List ℕ)) → value.store ≡ store → IsMapFold value texts → Tells map_text (AreMapEntries store) RefusesMap value texts
+map_tells : (store : List ℕ) (value : MapMeaning) (texts : List (List ℕ)) → value.store ≡ store → IsMapReplay value texts → Tells map_text (AreMapEntries store) RefusesMap value texts
 map_tells store value texts same f = record {
   entries = f.entries;
   texts_are = f.texts_are;
@@ -105,11 +105,11 @@ map_tells store value texts same f = record {
 
 -- why the map log wasn't read
 pub map_cause : (store : List ℕ) (generation : ℕ) (value : MapMeaning) (old : Option History) (error : CheckError) → IsNumber generation → value.store ≡ store
-    → IsLogCause IsMapFold RefusesMap value (file.Map generation) (map_log_head store generation) old error → IsMapCause store generation old error
+    → IsLogCause IsMapReplay RefusesMap value (file.Map generation) (map_log_head store generation) old error → IsMapCause store generation old error
 map_cause store generation value old (check.Damaged name place) number same (is, bad) = (
   is,
   if_told-map _ _ old
-      (λ disk b. inr (number, bad_log map_text (AreMapEntries store) IsMapFold RefusesMap value (map_log_head store generation) (reading (disk (file.Map generation))) place (λ texts f. map_tells store value texts same f) b)) bad,
+      (λ disk b. inr (number, bad_log map_text (AreMapEntries store) IsMapReplay RefusesMap value (map_log_head store generation) (reading (disk (file.Map generation))) place (λ texts f. map_tells store value texts same f) b)) bad,
 )
 map_cause store generation value old check.NoStore number same c = absurd c
 map_cause store generation value old check.DiskFault number same c = c
@@ -120,7 +120,7 @@ pub no_number : (store : List ℕ) (generation : ℕ) (old : Option History) →
 no_number store generation old none = if_told-all _ old (λ disk. inl (none, refl))
 
 pub map_read : (store : List ℕ) (generation : ℕ) (m : MapMeaning) (found : InspectedLog) (octets : List ℕ) (read : LogRead) (old new : Option History) → IsNumber generation → m.store ≡ store → IsReading octets read → read.head ≡ map_log_head store generation
-    → IsMapFold m read.entries → IfTold old (λ disk. reading (disk (file.Map generation)) ≡ Some octets) → (found.name ≡ file.Map generation) × (found.head ≡ map_log_head store generation) → IfTold new (IsFound found read.entries)
+    → IsMapReplay m read.entries → IfTold old (λ disk. reading (disk (file.Map generation)) ≡ Some octets) → (found.name ≡ file.Map generation) × (found.head ≡ map_log_head store generation) → IfTold new (IsFound found read.entries)
     → (entries : List MapEntry) × IsMapRead store generation found m entries old new
 map_read store generation m found octets read old new number same r h f told log stands = (
   f.entries,
@@ -134,7 +134,7 @@ map_read store generation m found octets read old new number same r h f told log
 )
 
 -- no entries yet
-pub empty_map : (store : List ℕ) (m : MapMeaning) → m ≡ map_meaning store [] → IsMapFold m []
+pub empty_map : (store : List ℕ) (m : MapMeaning) → m ≡ map_meaning store [] → IsMapReplay m []
 empty_map store m e =
     let same : store ≡ m.store = sym (ap (λ (k : MapMeaning). k.store) e) in
     record { entries = []; texts_are = refl; good = (tt, tt); meaning = e ∙ ap (λ (s : List ℕ). map_meaning s []) same }

@@ -16,7 +16,7 @@ use Rattle.map_index.specs.Shown.{shown_record}
 use Rattle.map_index.specs.declared.rows.MapRow.{MapRow}
 use Rattle.store_checks.specs.declared.regions.Region.{Region}
 use Rattle.store_checks.specs.Lengths.{region_of, IsNoLater, instance_of, IsNamedNoLater}
-use Rattle.store_checks.proofs.Walks.{behind, map_next, take_next, at_place, find_self}
+use Rattle.store_checks.proofs.WalkLemmas.{behind, map_next, take_next, at_place, find_self}
 
 -- the region of a row
 abbrev shown_region : MapRow → Region

@@ -13,28 +13,28 @@ added_uid (box.A uid flags time size map_uid guid) = Some uid.0
 added_uid entry = None
 
 -- a message with this UID is listed and has no record of its GUID
-pub record LacksAt (m : MapMeaning) (b : BoxMeaning) (uid : ℕ) : Type 0 where
+pub record LacksRecordAt (m : MapMeaning) (b : BoxMeaning) (uid : ℕ) : Type 0 where
   pub row : LogRow
   pub found : row_at b uid ≡ Some row
-  pub bare : HasItsRecord m row → ⊥
+  pub none : HasItsRecord m row → ⊥
 
 -- a message with this UID has one, where it is listed
-abbrev pub HasAt : MapMeaning → BoxMeaning → ℕ → Type 0
-HasAt m b uid = (row : LogRow) → row_at b uid ≡ Some row → HasItsRecord m row
+abbrev pub HasRecordAt : MapMeaning → BoxMeaning → ℕ → Type 0
+HasRecordAt m b uid = (row : LogRow) → row_at b uid ≡ Some row → HasItsRecord m row
 
 -- the text is an entry that adds a message of the first kind
-pub record AddsBare (m : MapMeaning) (b : BoxMeaning) (text : List ℕ) : Type 0 where
+pub record AddsDangling (m : MapMeaning) (b : BoxMeaning) (text : List ℕ) : Type 0 where
   pub entry : BoxEntry
   pub is : IsBoxText text entry
   pub uid : ℕ
   pub added : added_uid entry ≡ Some uid
-  pub lacks : LacksAt m b uid
+  pub lacks : LacksRecordAt m b uid
 
 -- each message that an entry with this text adds is of the second kind
-abbrev pub AddsNoBare : MapMeaning → BoxMeaning → List ℕ → Type 0
-AddsNoBare m b text = (entry : BoxEntry) (uid : ℕ) → IsBoxText text entry → added_uid entry ≡ Some uid → HasAt m b uid
+abbrev pub AddsNoDangling : MapMeaning → BoxMeaning → List ℕ → Type 0
+AddsNoDangling m b text = (entry : BoxEntry) (uid : ℕ) → IsBoxText text entry → added_uid entry ≡ Some uid → HasRecordAt m b uid
 
 -- of the entries with these texts and this meaning, the record at this place is the first that adds such a message
-abbrev pub IsFirstBare : MapMeaning → BoxMeaning → List (List ℕ) → ℕ → Type 0
-IsFirstBare m b texts place = (entries : List BoxEntry) → texts ≡ map box_text entries → AreBoxEntries entries → b ≡ box_meaning entries
+abbrev pub IsFirstDangling : MapMeaning → BoxMeaning → List (List ℕ) → ℕ → Type 0
+IsFirstDangling m b texts place = (entries : List BoxEntry) → texts ≡ map box_text entries → AreBoxEntries entries → b ≡ box_meaning entries
     → IsDangling m entries place × ((other : ℕ) → IsDangling m entries other → place ≤ other)

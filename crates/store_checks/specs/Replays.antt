@@ -1,4 +1,4 @@
--- What values mean that take in the entries of a log, one after another.
+-- What a value means to which the entries of a log are applied, one after another.
 use Rattle.std.specs.Prelude.{◌≡◌, ℕ, List, [], ◌∷◌, ◌++◌, map, Option, Some, None}
 use Rattle.mdbox_base.specs.declared.entries.BoxEntry.{BoxEntry}
 use Rattle.mdbox_base.specs.declared.entries.MapEntry.{MapEntry}
@@ -20,19 +20,19 @@ NamesLast (Some generation) entries = (before : List RootEntry) × (entries ≡ 
 
 -- ---- good entries with these texts, and what they mean
 
-pub record IsRootFold (last : Option ℕ) (texts : List (List ℕ)) : Type 0 where
+pub record IsRootReplay (last : Option ℕ) (texts : List (List ℕ)) : Type 0 where
   pub entries : List RootEntry
   pub texts_are : texts ≡ map root_text entries
   pub good : AreRootEntries entries
   pub last_is : NamesLast last entries
 
-pub record IsBoxFold (m : BoxMeaning) (texts : List (List ℕ)) : Type 0 where
+pub record IsBoxReplay (m : BoxMeaning) (texts : List (List ℕ)) : Type 0 where
   pub entries : List BoxEntry
   pub texts_are : texts ≡ map box_text entries
   pub good : AreBoxEntries entries
   pub meaning : m ≡ box_meaning entries
 
-pub record IsMapFold (m : MapMeaning) (texts : List (List ℕ)) : Type 0 where
+pub record IsMapReplay (m : MapMeaning) (texts : List (List ℕ)) : Type 0 where
   pub entries : List MapEntry
   pub texts_are : texts ≡ map map_text entries
   pub good : AreMapEntries m.store entries

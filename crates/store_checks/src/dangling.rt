@@ -4,8 +4,8 @@ ghost use Rattle.std.specs.Option.{option_map};
 ghost use Rattle.model_logs.specs.LogFile.{record_places};
 ghost use Rattle.model_store.specs.Opening.{HasItsRecord};
 ghost use Rattle.box_index.specs.Row.{row_of};
-ghost use Rattle.store_checks.specs.Folds.{IsBoxFold};
-ghost use Rattle.store_checks.specs.Bare.{added_uid, LacksAt, HasAt, AddsBare, AddsNoBare, IsFirstBare};
+ghost use Rattle.store_checks.specs.Replays.{IsBoxReplay};
+ghost use Rattle.store_checks.specs.Dangling.{added_uid, LacksRecordAt, HasRecordAt, AddsDangling, AddsNoDangling, IsFirstDangling};
 
 use box_index::{BoxIndex, BoxRow};
 use gate_log::LogRead;
@@ -14,18 +14,18 @@ use map_index::MapIndex;
 use mdbox_base::{BoxEntry, NoMemory, Uid};
 
 /// Where the record stands that adds the first listed message without a record of its GUID. None where each has one.
-pub fn first_bare(map: &MapIndex, index: &BoxIndex, read: &LogRead) -> Result<Option<u64>, NoMemory>
-    requires folded { IsBoxFold index.now read.now.entries }
+pub fn first_dangling(map: &MapIndex, index: &BoxIndex, read: &LogRead) -> Result<Option<u64>, NoMemory>
+    requires replayed { IsBoxReplay index.now read.now.entries }
     requires places { read.now.places ≡ record_places read.now.entries }
-    ensures { IfOk result (λ bare. MatchOption bare
+    ensures { IfOk result (λ dangling. MatchOption dangling
         (All (HasItsRecord map.now) index.now.rows)
-        (IsFirstBare map.now index.now read.now.entries)) }
+        (IsFirstDangling map.now index.now read.now.entries)) }
 {
     if each_has_record(map, index) {
         return Ok(None);
     }
     for place in 0..read.entries.length() {
-        if adds_bare(map, index, read.entries.as_slice()[place].as_slice())? {
+        if adds_dangling(map, index, read.entries.as_slice()[place].as_slice())? {
             return Ok(Some(read.places.as_slice()[place]));
         }
     }
@@ -56,8 +56,8 @@ fn has_record(map: &MapIndex, row: &BoxRow) -> bool
 }
 
 /// Whether the text adds a listed message without a record of its GUID.
-fn adds_bare(map: &MapIndex, index: &BoxIndex, text: &[u8]) -> Result<bool, NoMemory>
-    ensures { IfOk result (λ bare. MatchBool bare (AddsBare map.now index.now text.now) (AddsNoBare map.now index.now text.now)) }
+fn adds_dangling(map: &MapIndex, index: &BoxIndex, text: &[u8]) -> Result<bool, NoMemory>
+    ensures { IfOk result (λ dangling. MatchBool dangling (AddsDangling map.now index.now text.now) (AddsNoDangling map.now index.now text.now)) }
 {
     let Some(entry) = read_box_entry(text)? else {
         return Ok(false);
@@ -70,7 +70,7 @@ fn adds_bare(map: &MapIndex, index: &BoxIndex, text: &[u8]) -> Result<bool, NoMe
 
 /// Whether a message with this UID is listed and has no record of its GUID.
 fn lacks_record(map: &MapIndex, index: &BoxIndex, uid: Uid) -> bool
-    ensures { MatchBool result (LacksAt map.now index.now uid.0) (HasAt map.now index.now uid.0) }
+    ensures { MatchBool result (LacksRecordAt map.now index.now uid.0) (HasRecordAt map.now index.now uid.0) }
 {
     match index.find(uid) {
         Some(row) => !has_record(map, &row),

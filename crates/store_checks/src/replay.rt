@@ -1,6 +1,6 @@
-// Values that take in the entries of a log.
+// Values to which the entries of a log are applied, one after another.
 ghost use Rattle.std.specs.Prelude.{◌≡◌, ◌<◌, ◌++◌, ◌∷◌, [], ℕ, List, length, take, slice_get, Some, IfOk, MatchOption, MatchBool};
-ghost use Rattle.store_checks.specs.Folds.{IsRootFold, IsBoxFold, IsMapFold, RefusesRoot, RefusesBox, RefusesMap, generation_of};
+ghost use Rattle.store_checks.specs.Replays.{IsRootReplay, IsBoxReplay, IsMapReplay, RefusesRoot, RefusesBox, RefusesMap, generation_of};
 
 use box_index::BoxIndex;
 use log_records::{read_box_entry, read_map_entry, read_root_entry};
@@ -9,9 +9,9 @@ use mdbox_base::{NoMemory, Octets, RootEntry};
 use std::alloc::Global;
 
 /// What the entries of a log mean so far.
-pub trait Fold {
+pub trait Replay {
     /// The value is what entries with these texts mean, each of which is good behind those before it.
-    ghost is_fold: { Self → List (List ℕ) → Type 0 };
+    ghost is_replay: { Self → List (List ℕ) → Type 0 };
 
     /// No entry with this text is good behind those so far.
     ghost refuses: { Self → List ℕ → Type 0 };
@@ -20,16 +20,16 @@ pub trait Fold {
     ghost store: { Self → List ℕ };
 
     /// Takes in the entry with this text. False exactly where there is none that is good behind those so far.
-    fn take_in(&mut self, alloc: Global, text: &[u8]) -> Result<bool, NoMemory>
+    fn replay_entry(&mut self, alloc: Global, text: &[u8]) -> Result<bool, NoMemory>
         ensures taken { IfOk result (λ taken. MatchBool taken
-            ((texts : List (List ℕ)) → is_fold self.old texts → is_fold self.new (texts ++ text.now ∷ []))
+            ((texts : List (List ℕ)) → is_replay self.old texts → is_replay self.new (texts ++ text.now ∷ []))
             ((self.new ≡ self.old) × refuses self.old text.now)) }
         ensures store { store self.new ≡ store self.old };
 }
 
 /// The generation that the last entry of a root log names.
 #[derive(Drop)]
-pub struct RootFold {
+pub struct RootReplay {
     pub last: Option<u32>,
 }
 
@@ -41,14 +41,14 @@ fn generation_of(entry: RootEntry) -> u32
     }
 }
 
-impl Fold for RootFold {
-    ghost is_fold = { λ root. IsRootFold root.last };
+impl Replay for RootReplay {
+    ghost is_replay = { λ root. IsRootReplay root.last };
 
     ghost refuses = { λ _. RefusesRoot };
 
     ghost store = { λ _. [] };
 
-    fn take_in(&mut self, _alloc: Global, text: &[u8]) -> Result<bool, NoMemory> {
+    fn replay_entry(&mut self, _alloc: Global, text: &[u8]) -> Result<bool, NoMemory> {
         let Some(entry) = read_root_entry(text)? else {
             return Ok(false);
         };
@@ -57,14 +57,14 @@ impl Fold for RootFold {
     }
 }
 
-impl Fold for BoxIndex {
-    ghost is_fold = { IsBoxFold };
+impl Replay for BoxIndex {
+    ghost is_replay = { IsBoxReplay };
 
     ghost refuses = { RefusesBox };
 
     ghost store = { λ _. [] };
 
-    fn take_in(&mut self, _alloc: Global, text: &[u8]) -> Result<bool, NoMemory> {
+    fn replay_entry(&mut self, _alloc: Global, text: &[u8]) -> Result<bool, NoMemory> {
         let Some(entry) = read_box_entry(text)? else {
             return Ok(false);
         };
@@ -76,14 +76,14 @@ impl Fold for BoxIndex {
     }
 }
 
-impl Fold for MapIndex {
-    ghost is_fold = { IsMapFold };
+impl Replay for MapIndex {
+    ghost is_replay = { IsMapReplay };
 
     ghost refuses = { RefusesMap };
 
     ghost store = { λ map. map.store };
 
-    fn take_in(&mut self, alloc: Global, text: &[u8]) -> Result<bool, NoMemory> {
+    fn replay_entry(&mut self, alloc: Global, text: &[u8]) -> Result<bool, NoMemory> {
         let Some(entry) = read_map_entry(alloc, text)? else {
             return Ok(false);
         };
@@ -97,19 +97,19 @@ impl Fold for MapIndex {
 
 /// Takes in entries, up to the first that isn't good behind those before it, and answers the place of that one in the
 /// list. None where all are.
-pub fn fold_entries<F: Fold>(
+pub fn replay_entries<F: Replay>(
     alloc: Global,
-    fold: &mut F,
+    replay: &mut F,
     entries: &[Octets],
 ) -> Result<Option<usize>, NoMemory>
-    requires { F.is_fold fold.old [] }
-    ensures folded { IfOk result (λ bad. MatchOption bad
-        (F.is_fold fold.new entries.now)
-        (λ place. (text : List ℕ) × (slice_get entries.now place ≡ Some text) × F.is_fold fold.new (take place entries.now) × F.refuses fold.new text)) }
-    ensures store { F.store fold.new ≡ F.store fold.old }
+    requires { F.is_replay replay.old [] }
+    ensures replayed { IfOk result (λ bad. MatchOption bad
+        (F.is_replay replay.new entries.now)
+        (λ place. (text : List ℕ) × (slice_get entries.now place ≡ Some text) × F.is_replay replay.new (take place entries.now) × F.refuses replay.new text)) }
+    ensures store { F.store replay.new ≡ F.store replay.old }
 {
     for place in 0..entries.len() {
-        if !fold.take_in(alloc, entries[place].as_slice())? {
+        if !replay.replay_entry(alloc, entries[place].as_slice())? {
             return Ok(Some(place));
         }
     }

@@ -1,8 +1,8 @@
 use Rattle.std.proofs.Common.{◌≡◌, slice_get, Some, true, false, refl, arith}
 use Rattle.model_store.specs.Opening.{HasItsRecord}
 use Rattle.box_index.specs.Row.{row_of}
-use Rattle.store_checks.proofs.Walks.{seen, all_next, all_places, at_place}
-use Rattle.store_checks.proofs.bare.each_has_record.Goals as goal
+use Rattle.store_checks.proofs.WalkLemmas.{seen, all_next, all_places, at_place}
+use Rattle.store_checks.proofs.dangling.each_has_record.Goals as goal
 
 pub returns-then-not-has_record : goal.returns-then-not-has_record
 returns-then-not-has_record c =

@@ -1,6 +1,6 @@
 use Rattle.std.proofs.Common.{◌≡◌, refl, true, false}
-use Rattle.store_checks.proofs.Taking.{map_taken, map_misfit, some_text}
-use Rattle.store_checks.proofs.fold.MapIndexFold.take_in.Goals as goal
+use Rattle.store_checks.proofs.ReplayLemmas.{map_taken, map_misfit, some_text}
+use Rattle.store_checks.proofs.replay.MapIndexReplay.replay_entry.Goals as goal
 
 pub returns-then-not-fits-clause-taken : goal.returns-then-not-fits-clause-taken
 returns-then-not-fits-clause-taken c =
