@@ -14,7 +14,7 @@ pub changed_to-none : {X : Type 0} → (f : X → X) (xs : List X) → changed_t
 changed_to-none f [] = refl
 changed_to-none f (x ∷ xs) = refl
 
-changed_to-full : {X : Type 0} → (f : X → X) (n : ℕ) (xs : List X) → length xs ≤ n → changed_to f n xs ≡ map f xs
+pub changed_to-full : {X : Type 0} → (f : X → X) (n : ℕ) (xs : List X) → length xs ≤ n → changed_to f n xs ≡ map f xs
 changed_to-full f n [] h = refl
 changed_to-full f zero (x ∷ xs) h = absurd (omega (arith, h))
 changed_to-full f (suc n) (x ∷ xs) h = ap (λ t. f x ∷ t) (changed_to-full f n xs (omega (arith, h)))
@@ -24,11 +24,17 @@ length-changed_to f n [] = refl
 length-changed_to f zero (x ∷ xs) = refl
 length-changed_to f (suc n) (x ∷ xs) = let h = length-changed_to f n xs in omega (arith, h)
 
--- one row more is changed
+-- one item more is changed
 pub changed_to-set : {X : Type 0} → (f : X → X) (n : ℕ) (xs : List X) (x : X) → n < length xs → x ≡ get_or (changed_to f n xs) n x → slice_set (changed_to f n xs) n (f x) ≡ changed_to f (suc n) xs
 changed_to-set f n [] x h e = absurd (omega (arith, h))
 changed_to-set f zero (y ∷ xs) x h e = let none = changed_to-none f xs in cc
 changed_to-set f (suc n) (y ∷ xs) x h e = ap (λ t. f y ∷ t) (changed_to-set f n xs x (omega (arith, h)) e)
+
+-- one item more stays as it is, where the change leaves it
+pub changed_to-keep : {X : Type 0} → (f : X → X) (n : ℕ) (xs : List X) (x : X) → n < length xs → x ≡ get_or (changed_to f n xs) n x → f x ≡ x → changed_to f n xs ≡ changed_to f (suc n) xs
+changed_to-keep f n [] x h e same = absurd (omega (arith, h))
+changed_to-keep f zero (y ∷ xs) x h e same = let none = changed_to-none f xs in cc
+changed_to-keep f (suc n) (y ∷ xs) x h e same = ap (λ t. f y ∷ t) (changed_to-keep f n xs x (omega (arith, h)) e same)
 
 -- the next one isn't changed yet
 pub changed_to-at : {X : Type 0} → (f : X → X) (n : ℕ) (xs : List X) (d : X) → n < length xs → get_or (changed_to f n xs) n d ≡ get_or xs n d
@@ -78,13 +84,13 @@ kept_by-all keep n [] h = refl
 kept_by-all keep zero (x ∷ xs) h = absurd (omega (arith, h))
 kept_by-all keep (suc n) (x ∷ xs) h = ap (λ t. x ∷ t) (kept_by-all keep n xs (omega (arith, h)))
 
--- a row that doesn't pass is removed
+-- an item that doesn't pass is removed
 pub kept_by-remove : {X : Type 0} → (keep : X → Bool) (n : ℕ) (xs : List X) (x : X) → n < length xs → x ≡ get_or xs n x → keep x ≡ false → kept_by keep n (remove xs n) ≡ kept_by keep n xs
 kept_by-remove keep n [] x h e fails = absurd (omega (arith, h))
 kept_by-remove keep zero (y ∷ xs) x h e fails = let f : keep y ≡ false = cc in rw f (kept_by-none keep xs)
 kept_by-remove keep (suc n) (y ∷ xs) x h e fails = ap (λ t. y ∷ t) (kept_by-remove keep n xs x (omega (arith, h)) e fails)
 
--- a row that passes stays
+-- an item that passes stays
 pub kept_by-keep : {X : Type 0} → (keep : X → Bool) (n : ℕ) (xs : List X) (x : X) → n < length xs → x ≡ get_or xs n x → keep x ≡ true → kept_by keep (suc n) xs ≡ kept_by keep n xs
 kept_by-keep keep n [] x h e passes = absurd (omega (arith, h))
 kept_by-keep keep zero (y ∷ xs) x h e passes = let f : keep y ≡ true = cc in rw (kept_by-none keep xs, f) refl

@@ -15,7 +15,7 @@ use Rattle.gate_log.specs.declared.read.LogRead.{LogRead}
 use Rattle.gate_log.specs.State.{InspectedLog}
 use Rattle.gate_log.specs.Log.{IsStanding, IsDurable, IsFound, IsFoundKept}
 use Rattle.disk_model.proofs.IdleLemmas.{idle-on, idle-along}
-use Rattle.gate_log.proofs.Ending.{each_image-if, then-others}
+use Rattle.gate_log.proofs.LogEndLemmas.{each_image-if, then-others}
 
 -- where the last gate stands, which it is, and how much stands behind it
 

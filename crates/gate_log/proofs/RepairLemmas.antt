@@ -8,7 +8,7 @@ use Rattle.model_logs.specs.declared.log_head.LogHead.{LogHead}
 use Rattle.model_logs.specs.LogFile.{IsLogFile}
 use Rattle.gate_log.specs.State.{LogState, InspectedLog}
 use Rattle.gate_log.specs.Log.{IsStanding, IsDurable, IsFound, IsFoundKept, Reads, Holds, log_text}
-use Rattle.gate_log.proofs.Ending.{Frame, carried}
+use Rattle.gate_log.proofs.LogEndLemmas.{Frame, carried}
 
 -- what stands behind the last gate: where the disk tells nothing, any octets
 

@@ -2,7 +2,7 @@
 use Rattle.std.specs.Prelude.{◌⊎◌}
 use mir.Syntax.{w8}
 use Rattle.std.specs.Int.{w32, to_be_bytes}
-use Rattle.gate_log.proofs.Heads.{octets_of}
+use Rattle.gate_log.proofs.HeadLemmas.{octets_of}
 use Rattle.std.proofs.lemmas.List.{take-take, take-append-le}
 use Rattle.std.proofs.Common.{◌≡◌, inl, inr, ℕ, ◌+◌, ◌<◌, ◌≤◌, List, [], ◌∷◌, ◌++◌, length, take, get_or, Fits, ◌^◌, Option, Some, true, All, refl, sym, ◌∙◌, subst, ap, append_assoc, append-nil, length-append, arith, lit<}
 use Rattle.std.proofs.Math.Seq.{take-append_seam}
