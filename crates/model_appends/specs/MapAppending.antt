@@ -1,5 +1,5 @@
 -- What an entry more in the map log leads to.
-use Rattle.std.specs.Prelude.{◌≡◌, ℕ, List, [], ◌∷◌, ◌++◌, map, Some, All}
+use Rattle.std.specs.Prelude.{◌≡◌, ◌≤◌, ℕ, List, [], ◌∷◌, ◌++◌, map, Some, All}
 use Rattle.disk_model.specs.Disk.{Files, DiskState, IsImage}
 use Rattle.disk_model.specs.declared.name.FileName.TheVariants as file
 use Rattle.mdbox_base.specs.declared.ids.FileNo.{FileNo}
@@ -57,12 +57,12 @@ logs_made e logs = logs ++ map (λ box. []) (box_made e)
 -- ---- what an entry needs
 
 -- An entry of the map log changes its meaning from m to n in these files: no mailbox goes, those that it makes are there and
--- stand for these lists; each record that was found is still there, with its GUID, and stores what it stored; each attachment
--- is stored once, and own saves keep detached forms.
+-- stand for these lists; each record that is referred to is still there, with its GUID, and stores what it stored; each
+-- attachment is stored once, and own saves keep detached forms.
 pub record IsMapStep (files : Files) (m n : MapMeaning) (made : List MapBox) (added : Lists) : Type 0 where
   pub boxes : n.boxes ≡ m.boxes ++ made
   pub made_there : AreMailboxes files n made added
-  pub found : (uid : ℕ) (row : MapRecord) → record_at m uid ≡ Some row → HasRecord n uid (λ other. (other.guid ≡ row.guid) × ((octets : List ℕ) → StoresMessage files row octets → StoresMessage files other octets))
+  pub found : (uid : ℕ) (row : MapRecord) → record_at m uid ≡ Some row → 1 ≤ row.count → HasRecord n uid (λ other. (other.guid ≡ row.guid) × ((octets : List ℕ) → StoresMessage files row octets → StoresMessage files other octets))
   pub once : StoredOnce files n
   pub detached : KeepsDetached files n
 
