@@ -183,7 +183,7 @@ find_changed f same uid (x ∷ xs) row h =
     by_test true found h rest = let e : Some x ≡ Some row = h in ap (λ (r : MapRecord). Some (f r)) (cc e)
     by_test false found h rest = rest h
 
-contains_map : {X Y : Type 0} → (f : X → Y) (xs : List X) (y : Y) → Contains (map f xs) y → (x : X) × Contains xs x × (f x ≡ y)
+pub contains_map : {X Y : Type 0} → (f : X → Y) (xs : List X) (y : Y) → Contains (map f xs) y → (x : X) × Contains xs x × (f x ≡ y)
 contains_map f xs y c = All-contains (λ y. (x : _) × Contains xs x × (f x ≡ y)) (map f xs) y (all_map (Contains xs) (λ y. (x : _) × Contains xs x × (f x ≡ y)) f (λ a h. (a, h, refl)) xs (All-contains_itself xs)) c
 
 -- a record of the new meaning is an old one but for its count
