@@ -1,10 +1,10 @@
 -- One entry more in the map log that moves and drops the records of a file.
-use Rattle.std.specs.Prelude.{◌≡◌, ◌≤◌, ◌<◌, ◌+◌, ◌==◌, ℕ, suc, Bool, true, false, not, cond, ◌||◌, List, [], ◌∷◌, ◌++◌, length, take, drop, map, filter, find, flat_map, Option, Some, None, All, Contains, refl}
+use Rattle.std.specs.Prelude.{◌≡◌, ◌≤◌, ◌<◌, ◌==◌, ℕ, Bool, true, false, not, cond, ◌||◌, List, [], ◌∷◌, ◌++◌, take, drop, map, filter, find, flat_map, Option, Some, None, All, Contains, refl}
 use Rattle.std.specs.Option.{option_map_or}
 use Rattle.std.specs.Str.{bytes_eq}
 use Rattle.std.proofs.Common.{sym, ◌∙◌, subst, ap, arith, append-nil, inl, inr, ◌⊎◌}
 use Rattle.std.proofs.lemmas.Bool.{false≢true, cases_lt}
-use Rattle.std.proofs.lemmas.List.Elements.{All-nil, All-cons, All-head, All-tail, All-append, All-contains, All-contains_itself, All-weaker}
+use Rattle.std.proofs.lemmas.List.Elements.{All-nil, All-cons, All-head, All-tail, All-append, All-contains, All-contains_itself}
 use Rattle.disk_model.specs.Disk.{Files, DiskState}
 use Rattle.disk_model.specs.declared.name.FileName.TheVariants as file
 use Rattle.mdbox_base.specs.declared.ids.FileNo.{FileNo}
@@ -23,14 +23,14 @@ use Rattle.model_meaning.proofs.MapLemmas.{map_more}
 use Rattle.model_meaning.proofs.MapPlaceLemmas.{IsSameMessage, changed_same, equal_is}
 use Rattle.model_meaning.proofs.MapSoundLemmas.{map_sound}
 use Rattle.model_meaning.specs.MapFits.{MapFits, HasRecord}
-use Rattle.model_meaning.specs.MapMeaning.{MapRecord, MapBox, MapMeaning, map_meaning, map_applied, record_rules, record_changed, record_dropped, record_at, record_of, count_of, has_map_uid, place_given, moved_record}
+use Rattle.model_meaning.specs.MapMeaning.{MapRecord, MapBox, MapMeaning, map_meaning, record_rules, record_changed, record_dropped, record_at, record_of, count_of, has_map_uid, place_given, moved_record}
 use Rattle.model_meaning.specs.Sound.{IsSoundMap}
 use Rattle.model_octets.proofs.SearchLemmas.{found_one, text_is}
 use Rattle.model_storage.specs.StorageFile.{IsMessage}
 use Rattle.model_store.proofs.OpeningSafeLemmas.{at_uid, count_is}
-use Rattle.model_store.specs.Safe.{LiesInFile, IsThereWhole, HasAll, SafeBy}
+use Rattle.model_store.specs.Safe.{LiesInFile, IsThereWhole, SafeBy}
 use Rattle.model_store.specs.Settled.{files_of, HasSameRegion, HasSameInstance, AreAlike, IsSettled}
-use Rattle.model_store.specs.Stands.{HoldsMessage, StoresMessage, NamesOwn, NamesAny, StoredOnce, KeepsDetached}
+use Rattle.model_store.specs.Stands.{HoldsMessage, StoresMessage, NamesOwn, NamesAny, StoredOnce}
 use Rattle.model_appends.specs.MapAppending.{IsMapStep, IsMapAppend, LeavesAlike, IsCopiedTo, AreCopied, AreCopiesSynced}
 
 some_same : {X : Type 0} → (o : Option X) (a b : X) → o ≡ Some a → o ≡ Some b → a ≡ b
@@ -81,18 +81,18 @@ detached_placed a target row None c h octets k = h octets k
 detached_placed a target row (Some place) c h octets k =
     h octets (record { stored = message_unmoved a target place.offset row (c place refl) k.stored; instances = k.instances; names = k.names; found = k.found; whole = k.whole; size = k.size })
 
-placed_count : (row : MapRecord) (target : ℕ) (o : Option MapPlace) → (moved_record row target o).count ≡ row.count
+pub placed_count : (row : MapRecord) (target : ℕ) (o : Option MapPlace) → (moved_record row target o).count ≡ row.count
 placed_count row target None = refl
 placed_count row target (Some place) = refl
 
-lies_placed : (a : Files) (target : ℕ) (row : MapRecord) (o : Option MapPlace) → ((place : MapPlace) → o ≡ Some place → IsCopiedTo a target place.offset row) → LiesInFile a row → LiesInFile a (moved_record row target o)
+pub lies_placed : (a : Files) (target : ℕ) (row : MapRecord) (o : Option MapPlace) → ((place : MapPlace) → o ≡ Some place → IsCopiedTo a target place.offset row) → LiesInFile a row → LiesInFile a (moved_record row target o)
 lies_placed a target row None c h = h
 lies_placed a target row (Some place) c h = record { octets = (c place refl).second; there = (c place refl).in_second; inside = (c place refl).second_holds }
 
 -- ---- the records
 
 -- the copy of a record that is placed
-place_found : (m : MapMeaning) (P : MapPlace → MapRecord → Type 0) (moved : List MapPlace) (row : MapRecord) → IsSoundMap m → Contains m.records row → All (λ place. HasRecord m place.uid.0 (P place)) moved → (place : MapPlace) → place_given row.uid moved ≡ Some place → P place row
+pub place_found : (m : MapMeaning) (P : MapPlace → MapRecord → Type 0) (moved : List MapPlace) (row : MapRecord) → IsSoundMap m → Contains m.records row → All (λ place. HasRecord m place.uid.0 (P place)) moved → (place : MapPlace) → place_given row.uid moved ≡ Some place → P place row
 place_found m P moved row sound c all place given =
     let one = found_one (λ (p : MapPlace). p.uid.0 == row.uid) moved place given in
     let has = All-contains (λ (p : MapPlace). HasRecord m p.uid.0 (P p)) moved place all one.0 in
@@ -147,12 +147,12 @@ purged_records : (store : List ℕ) (entries : List MapEntry) (file_no : FileNo)
 purged_records store entries file_no target moved dropped =
     ap (λ (k : MapMeaning). k.records) (map_more store entries (entry.P file_no target moved dropped)) ∙ records_by_purged file_no target moved dropped (map_meaning store entries).records
 
-purged_boxes : (store : List ℕ) (entries : List MapEntry) (file_no : FileNo) (target : ℕ) (moved : List MapPlace) (dropped : List MapUid) → (map_meaning store (entries ++ entry.P file_no target moved dropped ∷ [])).boxes ≡ (map_meaning store entries).boxes
+pub purged_boxes : (store : List ℕ) (entries : List MapEntry) (file_no : FileNo) (target : ℕ) (moved : List MapPlace) (dropped : List MapUid) → (map_meaning store (entries ++ entry.P file_no target moved dropped ∷ [])).boxes ≡ (map_meaning store entries).boxes
 purged_boxes store entries file_no target moved dropped =
     ap (λ (k : MapMeaning). k.boxes) (map_more store entries (entry.P file_no target moved dropped)) ∙ boxes_by_purged file_no target moved dropped (map_meaning store entries).boxes
 
 -- what holds of each old record that is placed holds of the new ones
-each_placed : (store : List ℕ) (entries : List MapEntry) (file_no : FileNo) (target : ℕ) (moved : List MapPlace) (dropped : List MapUid) (P Q : MapRecord → Type 0)
+pub each_placed : (store : List ℕ) (entries : List MapEntry) (file_no : FileNo) (target : ℕ) (moved : List MapPlace) (dropped : List MapUid) (P Q : MapRecord → Type 0)
     → ((row : MapRecord) → P row → Q (moved_record row target (place_given row.uid moved))) → All P (map_meaning store entries).records → All Q (map_meaning store (entries ++ entry.P file_no target moved dropped ∷ [])).records
 each_placed store entries file_no target moved dropped P Q f all =
     subst (λ (rows : List MapRecord). All Q rows) (sym (purged_records store entries file_no target moved dropped)) (kept_all record_rules (entry.P file_no target moved dropped) (map_meaning store entries).records P Q f all)
@@ -197,7 +197,7 @@ abbrev Detaches : Files → MapRecord → Type 0
 Detaches files row = row.origin ≡ 0 → (octets : List ℕ) → (kept : StoresMessage files row octets) → AreDetached octets kept.stored.message.body kept.stored.meta.refs kept.instances
 
 -- the instances of each record
-rows_instances : (P : InstRow → Type 0) (rows : List MapRecord) → All P (flat_map (λ row. row.instances) rows) → All (λ row. All P row.instances) rows
+pub rows_instances : (P : InstRow → Type 0) (rows : List MapRecord) → All P (flat_map (λ row. row.instances) rows) → All (λ row. All P row.instances) rows
 rows_instances P [] h = All-nil (λ (row : MapRecord). All P row.instances)
 rows_instances P (row ∷ rows) h =
     let r = split row.instances (flat_map (λ (r : MapRecord). r.instances) rows) h in
@@ -207,7 +207,7 @@ rows_instances P (row ∷ rows) h =
     split [] ys a = (All-nil P, a)
     split (x ∷ xs) ys a = let r = split xs ys (All-tail P x (xs ++ ys) a) in (All-cons P x xs (All-head P x (xs ++ ys) a) r.0, r.1)
 
-instances_of : (P : InstRow → Type 0) (rows : List MapRecord) → All (λ row. All P row.instances) rows → All P (flat_map (λ row. row.instances) rows)
+pub instances_of : (P : InstRow → Type 0) (rows : List MapRecord) → All (λ row. All P row.instances) rows → All P (flat_map (λ row. row.instances) rows)
 instances_of P [] h = All-nil P
 instances_of P (row ∷ rows) h =
     All-append P row.instances (flat_map (λ (r : MapRecord). r.instances) rows) (All-head (λ (r : MapRecord). All P r.instances) row rows h) (instances_of P rows (All-tail (λ (r : MapRecord). All P r.instances) row rows h))
@@ -225,11 +225,14 @@ purged_step a store entries lists file_no target moved dropped s fits copied =
     record {
       boxes = purged_boxes store entries file_no target moved dropped ∙ sym (append-nil m.boxes);
       made_there = tt;
-      found = λ uid row h some.
-          (moved_record row target (place_given row.uid moved),
-          found_purged store entries file_no target moved dropped uid row sound fits h some,
-          ((changed_same e row).guid,
-          λ octets k. text_placed a target row (place_given row.uid moved) octets (copies row (found_one (λ (r : MapRecord). r.uid == uid) m.records row h).0) k));
+      found = λ uid row h some. (
+        moved_record row target (place_given row.uid moved),
+        found_purged store entries file_no target moved dropped uid row sound fits h some,
+        (
+          (changed_same e row).guid,
+          λ octets k. text_placed a target row (place_given row.uid moved) octets (copies row (found_one (λ (r : MapRecord). r.uid == uid) m.records row h).0) k,
+        ),
+      );
       once = once_from a e m n (all_from store entries file_no target moved dropped) s.stands.once;
       detached = λ row octets c own kept.
           All-contains (Detaches a) n.records row

@@ -6,6 +6,7 @@ pub mod AppendMapLemmas
 pub mod AppendMapOpenLemmas
 pub mod AppendOpenLemmas
 pub mod AppendPurgeLemmas
+pub mod AppendPurgeOpenLemmas
 pub mod AppendSafeLemmas
 pub mod AppendSafeMapLemmas
 pub mod HeldLogLemmas
