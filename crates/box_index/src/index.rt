@@ -63,7 +63,7 @@ impl BoxIndex {
     }
 
     /// UIDs rise and lie below the next one.
-    pub fn in_order(&self)
+    pub fn known_facts(&self)
         ensures { IsInOrder self.now }
     {
         let _ = &self.rows;
@@ -208,61 +208,5 @@ fn remove_rows(rows: &mut Vec<BoxRow>, uid: Uid)
         } else {
             place += 1;
         }
-    }
-}
-
-#[cfg(test)]
-mod tests {
-    use super::*;
-    use std::test::Fail;
-
-    fn added(uid: u32) -> BoxEntry {
-        BoxEntry::A {
-            uid: Uid(uid),
-            flags: 0,
-            time: 0x6500_0000,
-            size: 5,
-            map_uid: MapUid(1),
-            guid: Guid([7; 16]),
-        }
-    }
-
-    fn take_in(index: &mut BoxIndex, entry: BoxEntry, rt: &impl std::process::Abort) {
-        assert!(rt; index.fits(&entry));
-        assert!(rt; index.apply(&entry).is_ok());
-    }
-
-    #[test]
-    fn a_full_mailbox_takes_no_more(rt: HostRuntime) -> Result<(), Fail> {
-        let mut index = BoxIndex::empty(rt.alloc())?;
-        for uid in 1..=1_000_000 {
-            take_in(&mut index, added(uid), &rt);
-        }
-        assert_eq!(rt; index.length(), 1_000_000);
-        assert!(rt; !index.fits(&added(1_000_001)));
-        Ok(())
-    }
-
-    #[test]
-    fn follows_a_log(rt: HostRuntime) -> Result<(), Fail> {
-        let mut index = BoxIndex::empty(rt.alloc())?;
-        assert_eq!(rt; index.next_uid(), Some(Uid(1)));
-        take_in(&mut index, added(1), &rt);
-        take_in(&mut index, added(4), &rt);
-        let seen = BoxEntry::F {
-            uid: Uid(4),
-            flags: 8,
-        };
-        take_in(&mut index, seen, &rt);
-        take_in(&mut index, BoxEntry::R { uid: Uid(1) }, &rt);
-        assert_eq!(rt; index.length(), 1);
-        assert_eq!(rt; index.row_at(0), index.find(Uid(4)));
-        assert_eq!(rt; index.find(Uid(4)).map(|row| row.flags.bits()), Some(8));
-        assert_eq!(rt; index.find(Uid(1)), None);
-        assert!(rt; !index.fits(&BoxEntry::N { next: 4 }));
-        take_in(&mut index, BoxEntry::N { next: u32::MAX }, &rt);
-        assert_eq!(rt; index.next_uid(), None);
-        assert!(rt; !index.fits(&added(u32::MAX)));
-        Ok(())
     }
 }
