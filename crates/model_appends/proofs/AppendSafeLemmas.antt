@@ -1,9 +1,10 @@
 -- What an append to a log leaves of a settled disk.
 use Rattle.std.specs.Prelude.{◌≡◌, ◌≢◌, ◌≤◌, ℕ, true, false, Bool, List, [], ◌∷◌, ◌++◌, Option, Some, None, All, Contains, refl}
 use Rattle.std.proofs.Common.{sym, ◌∙◌, subst, ap}
+use Rattle.std.proofs.lemmas.Bool.{false≢true}
 use Rattle.std.proofs.lemmas.List.Elements.{All-weaker, All-nil, All-cons}
 use Rattle.disk_model.specs.Disk.{Files, FileState, DiskState, IsImage, MayLeave, reading}
-use Rattle.disk_model.specs.Name.{same_name}
+use Rattle.disk_model.specs.Name.{same_name, is_log, IsLogName}
 use Rattle.disk_model.proofs.NameLemmas.{same_name-true, same_name-apart}
 use Rattle.disk_model.specs.declared.name.FileName.{FileName}
 use Rattle.disk_model.specs.declared.name.FileName.TheVariants as file
@@ -24,7 +25,7 @@ use Rattle.model_store.specs.Settled.{files_of, IsSameRegion, HasSameRegion, Has
 use Rattle.model_store.proofs.SettledLemmas.{safe_carried, has_all_carried}
 use Rattle.model_store.specs.Carrying.{HasSameEntries, CarryOver, CarriesOver}
 use Rattle.model_store.proofs.CarryingLemmas.{each_name}
-use Rattle.model_appends.specs.Appending.{LeftBut, NamesLog, LeavesAsRead, IsBoxAppend, StatesBut, SameBut, HasOneMore, CarryMore, message_made, lists_by}
+use Rattle.model_appends.specs.Appending.{LeftBut, LeavesAsRead, IsBoxAppend, StatesBut, SameBut, HasOneMore, CarryMore, message_made, lists_by}
 use Rattle.model_appends.proofs.AppendFileLemmas.{log_as, mixed, mixed-here, mixed-other, same_but_mixed, carry_mixed, box_itself, SameStored, box_stored}
 use Rattle.model_appends.proofs.AppendBoxLemmas.{stands_by_box_entry}
 
@@ -122,15 +123,15 @@ all_of P f [] = All-nil P
 all_of P f (x ∷ xs) = All-cons P x xs (f x) (all_of P f xs)
 
 -- the same entries carry over, of a log
-log_carries : (log : FileName) (g : ℕ) (m : MapMeaning) (a : Files) (left : Option (List ℕ)) → NamesLog log → HasSameEntries (a log) left → CarriesOver g m a log left
+log_carries : (log : FileName) (g : ℕ) (m : MapMeaning) (a : Files) (left : Option (List ℕ)) → IsLogName log → HasSameEntries (a log) left → CarriesOver g m a log left
 log_carries file.Root g m a left is same = same
 log_carries (file.Map k) g m a left is same = λ e. same
 log_carries (file.Box k l) g m a left is same = all_of (λ (box : MapBox). box.number ≡ k → box.generation ≡ l → HasSameEntries (a (file.Box k l)) left) (λ box p q. same) m.boxes
-log_carries (file.Mail n) g m a left is same = absurd (is.mails n refl)
-log_carries (file.Inst hash id) g m a left is same = absurd (is.instances hash id refl)
+log_carries (file.Mail n) g m a left is same = absurd (false≢true is)
+log_carries (file.Inst hash id) g m a left is same = absurd (false≢true is)
 
 -- An image with the log's entries and no more, which has of each other file what a crash may leave, is safe for the old lists.
-pub safe_without : (disk : DiskState) (lists : Lists) (log : FileName) (image : Files) → IsSettled disk lists → IsImage disk (files_of disk) → NamesLog log → LeftBut log disk image → HasSameEntries (reading (disk log)) (image log) → Safe image lists
+pub safe_without : (disk : DiskState) (lists : Lists) (log : FileName) (image : Files) → IsSettled disk lists → IsImage disk (files_of disk) → IsLogName log → LeftBut log disk image → HasSameEntries (reading (disk log)) (image log) → Safe image lists
 safe_without disk lists log image s own is left same =
     let g : ℕ = s.safe.stands.map_log.generation in
     let m : MapMeaning = map_meaning s.store s.entries in
@@ -158,14 +159,11 @@ safe_with_box_entry disk lists box octets e image s own h left more = record {
 
 -- ---- afterwards
 
-pub box_is_log : (k h : ℕ) → NamesLog (file.Box k h)
-box_is_log k h = record { mails = λ n e. absurd (cc e); instances = λ hash id e. absurd (cc e) }
-
-pub map_is_log : (h : ℕ) → NamesLog (file.Map h)
-map_is_log h = record { mails = λ n e. absurd (cc e); instances = λ hash id e. absurd (cc e) }
+no_mail : (log : FileName) → IsLogName log → (n : ℕ) → file.Mail n ≢ log
+no_mail log is n e = false≢true (ap is_log e ∙ is)
 
 -- where files agree on the rest, and on the log, they agree
-alike_over : (g : ℕ) (m : MapMeaning) (a b c d : Files) (log : FileName) → NamesLog log → AreAlike g m a b → SameBut log a c → SameBut log b d → d log ≡ c log → AreAlike g m c d
+alike_over : (g : ℕ) (m : MapMeaning) (a b c d : Files) (log : FileName) → IsLogName log → AreAlike g m a b → SameBut log a c → SameBut log b d → d log ≡ c log → AreAlike g m c d
 alike_over g m a b c d log is e first second here = record {
   root = at file.Root e.root;
   map = at (file.Map g) e.map;
@@ -185,8 +183,8 @@ alike_over g m a b c d log is e first second here = record {
 
     region : (row : MapRecord) → HasSameRegion a b row → HasSameRegion c d row
     region row r =
-        let p : c (file.Mail row.file) ≡ a (file.Mail row.file) = first (file.Mail row.file) (is.mails row.file) in
-        let q : d (file.Mail row.file) ≡ b (file.Mail row.file) = second (file.Mail row.file) (is.mails row.file) in
+        let p : c (file.Mail row.file) ≡ a (file.Mail row.file) = first (file.Mail row.file) (no_mail log is row.file) in
+        let q : d (file.Mail row.file) ≡ b (file.Mail row.file) = second (file.Mail row.file) (no_mail log is row.file) in
         record { first = r.first; second = r.second; in_first = p ∙ r.in_first; in_second = q ∙ r.in_second; first_holds = r.first_holds; second_holds = r.second_holds; same = r.same }
 
 files_but : (log : FileName) (old new : DiskState) → StatesBut log old new → SameBut log (files_of old) (files_of new)
@@ -197,7 +195,7 @@ pub left_before : (log : FileName) (old new : DiskState) (image : Files) → Sta
 left_before log old new image s is = λ other apart. subst (λ (f : FileState). MayLeave f (image other)) (s other apart) (is other)
 
 -- a disk that reads safe files is settled, where all but one log are as they were left, and the log is left as it reads
-pub settled_but : (old new : DiskState) (lists later : Lists) (log : FileName) (store : List ℕ) (entries : List MapEntry) → (s : IsSettled old lists) → IsImage old (files_of old) → NamesLog log → StatesBut log old new
+pub settled_but : (old new : DiskState) (lists later : Lists) (log : FileName) (store : List ℕ) (entries : List MapEntry) → (s : IsSettled old lists) → IsImage old (files_of old) → IsLogName log → StatesBut log old new
     → LeavesAsRead log new → (safe : SafeBy (files_of new) store entries later)
     → ((image : Files) → IsImage new image → AreAlike safe.stands.map_log.generation (map_meaning store entries) (files_of old) (mixed log (files_of old) image)) → IsSettled new later
 settled_but old new lists later log store entries s own is states leaves safe alike = record {
@@ -228,7 +226,7 @@ settled_by_box_entry old new lists box log octets e s own there has in_range fit
       in_range = s.safe.stands.map_log.root.in_range;
     } in
     let one : g ≡ safe.stands.map_log.generation = (root_same (files_of new) s.store s.store g safe.stands.map_log.generation root safe.stands.map_log.root).1 in
-    settled_but old new lists (lists_by box.number octets e lists) name s.store s.entries s own (box_is_log box.number box.generation) states leaves safe
+    settled_but old new lists (lists_by box.number octets e lists) name s.store s.entries s own refl states leaves safe
     (λ image i. subst (λ (k : ℕ). AreAlike k m (files_of old) (mixed name (files_of old) image)) one (others_alike old lists s name image own (left_before name old new image states i)))
 
 -- the same of an entry that can be appended

@@ -27,12 +27,12 @@ use Rattle.model_store.specs.Safe.{LiesInFile, IsThereWhole, HasAll, SafeBy, Saf
 use Rattle.model_store.proofs.SettledLemmas.{has_all_carried}
 use Rattle.model_store.specs.Stands.{HasRoot, HasBox, StoredOnce, KeepsDetached}
 use Rattle.model_appends.specs.Appending.{LeftBut, LeavesAsRead, StatesBut, SameBut, HasOneMore, CarryMore}
-use Rattle.model_appends.specs.MapAppending.{LeavesAlike, IsMapAppend, IsSynced, OnlyAdds, ChangesCounts, stored_row, IsMapStep}
+use Rattle.model_appends.specs.MapAppending.{LeavesAlike, IsMapAppend, AddsSynced, OnlyAdds, ChangesCounts, stored_row, IsMapStep}
 use Rattle.model_appends.proofs.AppendFileLemmas.{log_as, SameButCount, count_itself, mixed, mixed-other, map_stored, carry_back}
 use Rattle.model_store.specs.Settled.{files_of, HasSameRegion, HasSameInstance, AreAlike, IsSettled}
 use Rattle.model_store.specs.Carrying.{CarriesOver}
 use Rattle.model_store.proofs.StandsLemmas.{root_same}
-use Rattle.model_appends.proofs.AppendSafeLemmas.{has_all_as, carries_alike, mixed_image, left_before, map_is_log, settled_but}
+use Rattle.model_appends.proofs.AppendSafeLemmas.{has_all_as, carries_alike, mixed_image, left_before, settled_but}
 use Rattle.model_appends.proofs.AppendMapLemmas.{stands_by_map_entry, counts_step, stored_step, made_step}
 
 -- Files that carry over what a store reads by the new meaning, but for the map log, which has one entry more, are safe for the
@@ -218,7 +218,7 @@ settled_by_map_entry old new lists added made e s own in_range fits step all ali
       in_range = s.safe.stands.map_log.root.in_range;
     } in
     let one : g ≡ safe.stands.map_log.generation = (root_same (files_of new) s.store s.store g safe.stands.map_log.generation root safe.stands.map_log.root).1 in
-    settled_but old new lists (lists ++ added) name s.store (s.entries ++ e ∷ []) s own (map_is_log g) states leaves safe
+    settled_but old new lists (lists ++ added) name s.store (s.entries ++ e ∷ []) s own refl states leaves safe
     (λ image i. subst (λ (k : ℕ). AreAlike k n (files_of old) (mixed name (files_of old) image)) one (alike (mixed name (files_of old) image) (mixed_image name old image own (left_before name old new image states i))))
 
 -- ---- agreeing by the new meaning
@@ -259,14 +259,14 @@ alike_counted g m n a b f same records boxes e = record {
 }
 
 -- what an entry adds is synced: what is left agrees by the new meaning too
-pub alike_added : (g : ℕ) (store : List ℕ) (entries : List MapEntry) (e : MapEntry) (disk : DiskState) (image : Files) → OnlyAdds e → IsSynced disk e → IsImage disk image
+pub alike_added : (g : ℕ) (store : List ℕ) (entries : List MapEntry) (e : MapEntry) (disk : DiskState) (image : Files) → OnlyAdds e → AddsSynced disk e → IsImage disk image
     → AreAlike g (map_meaning store entries) (files_of disk) image → AreAlike g (map_meaning store (entries ++ e ∷ [])) (files_of disk) image
 alike_added g store entries e disk image only synced held alike = subst (λ (n : MapMeaning). AreAlike g n (files_of disk) image) (sym (map_more store entries e)) (by_kind e only synced)
   where
     m : MapMeaning
     m = map_meaning store entries
 
-    by_kind : (e : MapEntry) → OnlyAdds e → IsSynced disk e → AreAlike g (map_applied e m) (files_of disk) image
+    by_kind : (e : MapEntry) → OnlyAdds e → AddsSynced disk e → AreAlike g (map_applied e m) (files_of disk) image
     by_kind (entry.U u) o y = alike_counted g m (map_applied (entry.U u) m) (files_of disk) image (record_changed (entry.U u)) (same_but_count (entry.U u) tt) (records_changed (entry.U u) tt m) (boxes_stay (entry.U u) tt m) alike
     by_kind (entry.D us) o y = alike_counted g m (map_applied (entry.D us) m) (files_of disk) image (record_changed (entry.D us)) (same_but_count (entry.D us) tt) (records_changed (entry.D us) tt m) (boxes_stay (entry.D us) tt m) alike
     by_kind (entry.T cs) o y = alike_counted g m (map_applied (entry.T cs) m) (files_of disk) image (record_changed (entry.T cs)) (same_but_count (entry.T cs) tt) (records_changed (entry.T cs) tt m) (boxes_stay (entry.T cs) tt m) alike
@@ -288,11 +288,11 @@ alike_added g store entries e disk image only synced held alike = subst (λ (n :
     by_kind (entry.P f t ms us) o y = absurd o
 
 -- of a settled disk
-pub leaves_added : (disk : DiskState) (lists : Lists) (e : MapEntry) → (s : IsSettled disk lists) → OnlyAdds e → IsSynced disk e → LeavesAlike s.safe.stands.map_log.generation (map_meaning s.store (s.entries ++ e ∷ [])) disk
+pub leaves_added : (disk : DiskState) (lists : Lists) (e : MapEntry) → (s : IsSettled disk lists) → OnlyAdds e → AddsSynced disk e → LeavesAlike s.safe.stands.map_log.generation (map_meaning s.store (s.entries ++ e ∷ [])) disk
 leaves_added disk lists e s only synced = λ image held. alike_added s.safe.stands.map_log.generation s.store s.entries e disk image only synced held (s.alike image held)
 
 -- an entry that changes counts at most adds nothing that has to be synced
-nothing_synced : (disk : DiskState) (e : MapEntry) → record_made e ≡ [] → box_made e ≡ [] → IsSynced disk e
+nothing_synced : (disk : DiskState) (e : MapEntry) → record_made e ≡ [] → box_made e ≡ [] → AddsSynced disk e
 nothing_synced disk e records boxes = record {
   regions = λ image held. subst (λ (rows : List MapRecord). All (HasSameRegion (files_of disk) image) rows) (sym records) (All-nil (HasSameRegion (files_of disk) image));
   instances = λ image held. subst (λ (rows : List MapRecord). All (λ (row : MapRecord). All (HasSameInstance (files_of disk) image) row.instances) rows) (sym records) (All-nil (λ (row : MapRecord). All (HasSameInstance (files_of disk) image) row.instances));
@@ -300,7 +300,7 @@ nothing_synced disk e records boxes = record {
       (All-nil (λ (box : MapBox). image (file.Box box.number box.generation) ≡ files_of disk (file.Box box.number box.generation)));
 }
 
-pub counts_synced : (disk : DiskState) (e : MapEntry) → ChangesCounts e → IsSynced disk e
+pub counts_synced : (disk : DiskState) (e : MapEntry) → ChangesCounts e → AddsSynced disk e
 counts_synced disk (entry.U u) c = nothing_synced disk (entry.U u) refl refl
 counts_synced disk (entry.D us) c = nothing_synced disk (entry.D us) refl refl
 counts_synced disk (entry.T cs) c = nothing_synced disk (entry.T cs) refl refl

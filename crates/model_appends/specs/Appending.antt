@@ -2,7 +2,6 @@
 use Rattle.std.specs.Prelude.{◌≡◌, ◌≢◌, ◌≤◌, ◌==◌, ℕ, max, Bool, false, List, [], ◌∷◌, ◌++◌, map, Option, Some, if◌then◌else◌, Contains}
 use Rattle.disk_model.specs.Disk.{Files, DiskState, MayLeave, reading}
 use Rattle.disk_model.specs.declared.name.FileName.{FileName}
-use Rattle.disk_model.specs.declared.name.FileName.TheVariants as file
 use Rattle.model_logs.specs.declared.log_head.LogHead.{LogHead}
 use Rattle.mdbox_base.specs.declared.entries.BoxEntry.{BoxEntry}
 use Rattle.mdbox_base.specs.declared.entries.BoxEntry.TheVariants as box
@@ -35,11 +34,6 @@ SameBut log a b = (name : FileName) → name ≢ log → b name ≡ a name
 -- a disk on which no other file has changed
 abbrev pub StatesBut : FileName → DiskState → DiskState → Type 0
 StatesBut log old new = (other : FileName) → other ≢ log → new other ≡ old other
-
--- a file that is neither a storage file nor an instance
-pub record NamesLog (log : FileName) : Type 0 where
-  pub mails : (n : ℕ) → file.Mail n ≢ log
-  pub instances : (hash id : List ℕ) → file.Inst hash id ≢ log
 
 -- of each other file the image has what a crash may leave
 abbrev pub LeftBut : FileName → DiskState → Files → Type 0

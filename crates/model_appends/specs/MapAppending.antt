@@ -80,7 +80,7 @@ pub record IsMapAppend (files : Files) (store : List ℕ) (entries : List MapEnt
 
 -- What a store will read for this entry, a crash leaves as the disk reads it: the region and the instances of the record that
 -- it makes, and the log of the mailbox that it makes.
-pub record IsSynced (disk : DiskState) (e : MapEntry) : Type 0 where
+pub record AddsSynced (disk : DiskState) (e : MapEntry) : Type 0 where
   pub regions : (image : Files) → IsImage disk image → All (HasSameRegion (files_of disk) image) (record_made e)
   pub instances : (image : Files) → IsImage disk image → All (λ row. All (HasSameInstance (files_of disk) image) row.instances) (record_made e)
   pub boxes : (image : Files) → IsImage disk image → All (λ box. image (file.Box box.number box.generation) ≡ files_of disk (file.Box box.number box.generation)) (box_made e)

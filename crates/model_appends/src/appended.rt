@@ -1,6 +1,7 @@
 // Files and disks on which one log has an entry more.
 ghost use Rattle.std.specs.Prelude.{◌++◌, ◌∷◌, [], ℕ, List};
 ghost use Rattle.disk_model.specs.Disk.{Files, DiskState, IsImage, reading};
+ghost use Rattle.disk_model.specs.Name.{IsLogName};
 ghost use Rattle.disk_model.specs.declared.name.FileName.{FileName};
 ghost use Rattle.disk_model.specs.declared.name.FileName.TheVariants.{Map, Box};
 ghost use Rattle.mdbox_base.specs.declared.entries.BoxEntry.{BoxEntry};
@@ -11,7 +12,7 @@ ghost use Rattle.model_meaning.specs.MapMeaning.{MapBox, map_meaning};
 ghost use Rattle.model_store.specs.Carrying.{HasSameEntries};
 ghost use Rattle.model_store.specs.Safe.{Safe, SafeBy};
 ghost use Rattle.model_store.specs.Settled.{files_of, IsSettled};
-ghost use Rattle.model_appends.specs.Appending.{HasOneMore, CarryMore, StatesBut, NamesLog, LeftBut, LeavesAsRead, lists_by, IsBoxAppend};
+ghost use Rattle.model_appends.specs.Appending.{HasOneMore, CarryMore, StatesBut, LeftBut, LeavesAsRead, lists_by, IsBoxAppend};
 ghost use Rattle.model_appends.specs.MapAppending.{IsMapAppend, LeavesAlike};
 
 /// Where an entry can be appended to a log of safe files, other files are safe for the lists that it gives if their log has
@@ -47,7 +48,7 @@ pub fn appends_settle()
 /// A crash within an append to a log of a settled disk leaves that log with or without the entry, and of each other file what
 /// a crash could leave before. Without the entry the image is safe for the lists so far, with it for those that it gives.
 pub fn crash_within_append()
-    ensures without { (disk : DiskState) (lists : Lists) (log : FileName) (image : Files) → IsSettled disk lists → IsImage disk (files_of disk) → NamesLog log → LeftBut log disk image
+    ensures without { (disk : DiskState) (lists : Lists) (log : FileName) (image : Files) → IsSettled disk lists → IsImage disk (files_of disk) → IsLogName log → LeftBut log disk image
         → HasSameEntries (reading (disk log)) (image log) → Safe image lists }
     ensures box_entry { (disk : DiskState) (lists : Lists) (mailbox : MapBox) (octets : List ℕ) (e : BoxEntry) (image : Files) → (s : IsSettled disk lists) → IsImage disk (files_of disk)
         → IsBoxAppend (files_of disk) s.store s.entries lists mailbox octets e → LeftBut (Box mailbox.number mailbox.generation) disk image

@@ -19,7 +19,7 @@ ghost use Rattle.model_store.specs.Safe.{LiesInFile, IsThereWhole, SafeBy};
 ghost use Rattle.model_store.specs.Settled.{IsSettled};
 ghost use Rattle.model_store.specs.Stands.{HasBox, AreListed, StoredOnce, KeepsDetached, StandsBy};
 ghost use Rattle.model_appends.specs.Appending.{message_made, logs_by, FitsIn, IsBoxAppend};
-ghost use Rattle.model_appends.specs.MapAppending.{OnlyAdds, ChangesCounts, stored_row, IsMapAppend, IsSynced, LeavesAlike};
+ghost use Rattle.model_appends.specs.MapAppending.{OnlyAdds, ChangesCounts, stored_row, IsMapAppend, AddsSynced, LeavesAlike};
 
 /// An entry can be appended to the log of a mailbox where it fits behind it, a message that it adds is listed, and each count
 /// is at least what the logs list with the entry.
@@ -55,7 +55,7 @@ pub fn map_entries_can_be_appended()
 /// Whatever a crash leaves of a settled disk agrees by the new meaning too, where what the entry adds is synced. An entry that
 /// changes counts at most adds nothing.
 pub fn what_entries_add_is_synced()
-    ensures agrees { (disk : DiskState) (lists : Lists) (e : MapEntry) → (s : IsSettled disk lists) → OnlyAdds e → IsSynced disk e
+    ensures agrees { (disk : DiskState) (lists : Lists) (e : MapEntry) → (s : IsSettled disk lists) → OnlyAdds e → AddsSynced disk e
         → LeavesAlike s.safe.stands.map_log.generation (map_meaning s.store (s.entries ++ e ∷ [])) disk }
-    ensures counts { (disk : DiskState) (e : MapEntry) → ChangesCounts e → IsSynced disk e }
+    ensures counts { (disk : DiskState) (e : MapEntry) → ChangesCounts e → AddsSynced disk e }
 {}

@@ -8,15 +8,13 @@ ghost use Rattle.model_logs.specs.declared.log_head.LogHead.{LogHead};
 ghost use Rattle.model_meaning.specs.MapMeaning.{MapBox, map_meaning};
 ghost use Rattle.model_store.specs.Carrying.{HasSameEntries};
 ghost use Rattle.model_store.specs.Settled.{files_of, IsSettled};
-ghost use Rattle.model_appends.specs.Appending.{HasOneMore, NamesLog, LeavesAsRead};
+ghost use Rattle.model_appends.specs.Appending.{HasOneMore, LeavesAsRead};
 
 /// Two logs with one head and the same entries have the same entries, whatever stands behind them; and one with an entry
-/// more has this more. The files of logs are neither storage files nor instances.
+/// more has this more.
 pub fn logs_compare()
     ensures same { (a b : Option (List ℕ)) (head : LogHead) (entries : List (List ℕ)) → IsLogFile a head entries → IsLogFile b head entries → HasSameEntries a b }
     ensures more { (a b : Option (List ℕ)) (head : LogHead) (entries : List (List ℕ)) (entry : List ℕ) → IsLogFile a head entries → IsLogFile b head (entries ++ entry ∷ []) → HasOneMore entry a b }
-    ensures map_log { (generation : ℕ) → NamesLog (Map generation) }
-    ensures box_log { (number generation : ℕ) → NamesLog (Box number generation) }
 {}
 
 /// A crash leaves the logs of a settled disk just as it reads them.

@@ -5,7 +5,7 @@ use Rattle.model_meaning.specs.MapMeaning.{MapRecord, greatest}
 use Rattle.map_index.specs.Shown.{shown_record}
 use Rattle.map_index.specs.declared.rows.MapRow.{MapRow}
 use Rattle.store_sweep.specs.Wanted.{ends_at}
-use Rattle.store_sweep.proofs.Scans.{At, shown_at, shown_within, greatest_more}
+use Rattle.store_sweep.proofs.ScanLemmas.{At, shown_at, shown_within, greatest_more}
 
 -- one row more has been looked at
 pub end_more : (n : ℕ) (rows : List MapRecord) (i : ℕ) (seen : Option MapRow) (end next : ℕ) → i < length rows → end ≡ greatest (ends_at n) (take i rows) → seen ≡ option_map shown_record (slice_get rows i)

@@ -30,8 +30,8 @@ use Rattle.model_store.specs.Carrying.{HasSameEntries, CarryOver, CarriesOver}
 use Rattle.model_store.proofs.CarryingLemmas.{each_name}
 use Rattle.store_sweep.specs.Held.{IsHeldLog, IsFirmRegion, IsHeldInstance, IsHeldAt, IsHeldStore, IsReadStore}
 use Rattle.store_sweep.specs.Swept.{OpensWith}
-use Rattle.store_sweep.proofs.Holding.{reads_there}
-use Rattle.store_sweep.proofs.Regions.{region_left, region_long}
+use Rattle.store_sweep.proofs.HeldLemmas.{reads_there}
+use Rattle.store_sweep.proofs.FirmRegionLemmas.{region_left, region_long}
 
 -- ---- an image with one file of our choice
 

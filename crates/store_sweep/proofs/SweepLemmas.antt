@@ -23,10 +23,10 @@ use Rattle.store_sweep.specs.Repaired.{IsRepaired, AreLogsOfBoxes}
 use Rattle.store_sweep.specs.Swept.{OpensWith, FilesCarry, IsOpened, EndWithRegions}
 use Rattle.disk_model.specs.Name.{is_log}
 use Rattle.store_sweep.specs.Wanted.{is_wanted, EndsByLastRegion, end_of, ends_at}
-use Rattle.store_sweep.proofs.Holding.{reads_there}
-use Rattle.store_sweep.proofs.Repairing.{IsLogAt, repair_kept, repaired_stays}
-use Rattle.store_sweep.proofs.Logs.{IsBoxLog, box_logs, box_at, box_is_log, box_is_wanted, root_at, root_is_log, root_is_wanted, map_at, map_is_log, map_is_wanted}
-use Rattle.store_sweep.proofs.Settling.{held_opened, carried_safe, still_settled, reads_opened}
+use Rattle.store_sweep.proofs.HeldLemmas.{reads_there}
+use Rattle.store_sweep.proofs.RepairLemmas.{IsLogAt, repair_kept, repaired_stays}
+use Rattle.store_sweep.proofs.LogsInForceLemmas.{IsBoxLog, box_logs, box_at, box_is_log, box_is_wanted, root_at, root_is_log, root_is_wanted, map_at, map_is_log, map_is_wanted}
+use Rattle.store_sweep.proofs.HeldStoreLemmas.{held_opened, carried_safe, still_settled, reads_opened}
 
 abbrev pub ReadsImage : DiskState → Type 0
 ReadsImage disk = IsImage disk (λ name. reading (disk name))

@@ -4,7 +4,7 @@ use Rattle.std.proofs.lemmas.List.Elements.{All-contains}
 use Rattle.std.specs.Prelude.{Contains}
 use Rattle.std.proofs.lemmas.Bool.{cases_Bool, true≢false}
 use Rattle.std.proofs.lemmas.Option.{same_Some}
-use Rattle.disk_model.specs.Disk.{Files, FileState, DiskState, History, IfTold, MayLeave, EachImage, OthersStay, SameButFor, Keeps, reading, named, after, change_all}
+use Rattle.disk_model.specs.Disk.{Files, FileState, DiskState, History, IfTold, MayLeave, EachImage, OthersStay, SameButFor, IsThere, Keeps, reading, named, after, change_all}
 use Rattle.disk_model.specs.Name.{same_name}
 use Rattle.disk_model.specs.declared.name.FileName.{FileName}
 use Rattle.disk_model.specs.declared.name.FileName.TheVariants as file
@@ -19,9 +19,9 @@ use Rattle.model_store.proofs.CarryingLemmas.{each_name}
 use Rattle.gate_log.specs.State.{LogState, InspectedLog}
 use Rattle.gate_log.specs.Log.{IsFound, IsFoundKept, IsLogRead, IsLogHeld, Reads, Holds, log_text}
 use Rattle.store_sweep.specs.Held.{IsHeldLog, IsHeldAt, IsHeldStore, IsReadStore}
-use Rattle.store_sweep.specs.Moments.{ImagesCarry, KeepsStore, SameWhere, LogStays}
+use Rattle.store_sweep.specs.Moments.{ImagesCarry, KeepsStore, SameWhere, SameThere, LogStays}
 use Rattle.store_sweep.specs.Repaired.{IsRepaired}
-use Rattle.store_sweep.proofs.Holding.{left_at, named_reads, named_keeps}
+use Rattle.store_sweep.proofs.HeldLemmas.{left_at, reads_some, named_reads, named_keeps}
 
 -- ---- the names of the logs in force
 
@@ -140,6 +140,19 @@ repair_keeps g m found log entries (Some old) (Some new) at h same r = record {
   reads = λ was k. reads_after g m was found log entries old.now new.now at r.is h same (r.reads entries h) k;
   told = λ t. tt;
 }
+
+-- each file is there as before
+pub repaired_there : (found : InspectedLog) (log : LogState) (entries : List (List ℕ)) (old new : Option History) → IfTold old (IsFound found entries) → SameButFor found.name old new → IsRepaired old new found log → SameThere old new
+repaired_there found log entries None new h same r = same
+repaired_there found log entries (Some old) None h same r = elim same [ ]
+repaired_there found log entries (Some old) (Some new) h same r =
+    let read : IsLogRead log entries new.now = r.reads entries h in
+    let named : log.name ≡ found.name = ap (λ (l : LogState). l.name) r.is in
+    let F : FileName → Type 0 = λ n. IsThere (new.now n) in
+    let there : IsThere (new.now found.name) = subst F named (reads_some (new.now log.name) (log_text log.head entries) read.file) in
+    by_name (λ (n : FileName). (new.now n).is_there ≡ (old.now n).is_there) found.name
+    (there ∙ sym (reads_some (old.now found.name) (log_front found.head entries ++ found.gate ∷ h.rest) h.stands.reads))
+    (λ other apart. ap (λ (f : FileState). f.is_there) (same other apart))
 
 -- ---- a log that stays as it is repaired
 

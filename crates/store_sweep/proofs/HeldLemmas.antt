@@ -17,8 +17,8 @@ use Rattle.model_store.specs.Carrying.{HasSameEntries, CarryOver, CarriesOver}
 use Rattle.model_store.proofs.CarryingLemmas.{each_name}
 use Rattle.store_sweep.specs.Held.{IsHeldLog, IsFirmRegion, IsHeldInstance, IsHeldAt, IsHeldStore}
 use Rattle.store_sweep.specs.Wanted.{has_region, row_names, is_wanted, EndBy}
-use Rattle.store_sweep.proofs.Scans.{none_pass}
-use Rattle.store_sweep.proofs.Regions.{region_left, region_before, region_half_cut, region_cut, region_synced}
+use Rattle.store_sweep.proofs.ScanLemmas.{none_pass}
+use Rattle.store_sweep.proofs.FirmRegionLemmas.{region_left, region_before, region_half_cut, region_cut, region_synced}
 
 -- ---- what a stop leaves
 
@@ -159,7 +159,7 @@ named_reads f = elim (cases_Bool f.is_there) [
 named_there : (P : FileState → Type 0) (f : FileState) → IsThere f → P (record f { is_name_loose = false }) → P (named f)
 named_there P f there p = subst P (sym (cond-true f.is_there (record f { is_name_loose = false }) no_file there)) p
 
-reads_some : (f : FileState) (octets : List ℕ) → reading f ≡ Some octets → IsThere f
+pub reads_some : (f : FileState) (octets : List ℕ) → reading f ≡ Some octets → IsThere f
 reads_some f octets e = elim (cases_Bool f.is_there) [
   | inl there ↦ there
   | inr gone ↦ absurd (let n : reading f ≡ None = cond-false f.is_there (Some f.octets) None gone in let s : None ≡ Some octets = sym n ∙ e in cc)

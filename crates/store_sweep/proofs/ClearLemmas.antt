@@ -9,10 +9,10 @@ use Rattle.model_store.specs.Carrying.{CarriesOver}
 use Rattle.store_sweep.specs.Held.{IsHeldStore, IsReadStore}
 use Rattle.disk_model.specs.Name.{is_log}
 use Rattle.store_sweep.specs.Wanted.{is_wanted, EndsByLastRegion, end_of}
-use Rattle.store_sweep.specs.Moments.{ImagesCarry, KeepsStore, SameWhere, NoneMade, LogStays}
-use Rattle.store_sweep.proofs.Holding.{named_holds, named_reads}
-use Rattle.store_sweep.proofs.Sweeping.{images_then, images_named, keeps_then, keeps_where}
-use Rattle.store_sweep.proofs.Repairing.{stays_then, stays_where, stays_named}
+use Rattle.store_sweep.specs.Moments.{ImagesCarry, KeepsStore, SameWhere, LogStays}
+use Rattle.store_sweep.proofs.HeldLemmas.{named_holds, named_reads}
+use Rattle.store_sweep.proofs.SweepStepLemmas.{images_then, images_named, keeps_then, keeps_where}
+use Rattle.store_sweep.proofs.RepairLemmas.{stays_then, stays_where, stays_named}
 
 -- ---- removed, and then cut
 
@@ -24,12 +24,6 @@ cut_keeps g m old mid new same keeps = keeps_then g m old mid new (keeps_where g
 
 pub cut_logs : (g : ℕ) (m : MapMeaning) (name : FileName) (old mid new : Option History) → is_log name ≡ true → is_wanted g m name ≡ true → SameWhere (is_wanted g m) old mid → SameWhere is_log mid new → LogStays name old new
 cut_logs g m name old mid new log wanted same logs = stays_then name old mid new (stays_where (is_wanted g m) name old mid wanted same) (stays_where is_log name mid new log logs)
-
-pub cut_gone : (P : FileName → Type 0) (old new : Option History) → NoneMade old new → IfTold old (λ disk. (name : FileName) → IsThere (disk name) → P name) → IfTold new (λ disk. (name : FileName) → IsThere (disk name) → P name)
-cut_gone P None None none h = tt
-cut_gone P None (Some new) none h = absurd (let e : Some new ≡ None = none in cc)
-cut_gone P (Some old) None none h = tt
-cut_gone P (Some old) (Some new) none h = λ name there. h name (none name there)
 
 -- ---- and the names synced
 
@@ -62,10 +56,6 @@ named_keeps_store g m old mid new keeps is = keeps_then g m old mid new keeps (k
 
 pub named_logs : (name : FileName) (old mid new : Option History) → LogStays name old mid → new ≡ after (change_all named) mid → LogStays name old new
 named_logs name old mid new stays is = stays_then name old mid new stays (stays_named name mid new is)
-
-pub named_gone : (P : FileName → Type 0) (old new : Option History) → new ≡ after (change_all named) old → IfTold old (λ disk. (name : FileName) → IsThere (disk name) → P name) → IfTold new (λ disk. (name : FileName) → IsThere (disk name) → P name)
-named_gone P None new is h = subst (λ (k : Option History). IfTold k (λ disk. (name : FileName) → IsThere (disk name) → P name)) (sym is) tt
-named_gone P (Some old) new is h = subst (λ (k : Option History). IfTold k (λ disk. (name : FileName) → IsThere (disk name) → P name)) (sym is) (λ name there. h name (named_is_there (old.now name) there))
 
 no_longer_named : (m : MapMeaning) (name : FileName) (f : FileState) → IsThere f → EndsByLastRegion m name f → EndsByLastRegion m name (named f)
 no_longer_named m file.Root f there h = tt

@@ -1,10 +1,10 @@
 use Rattle.std.proofs.Common.{◌≡◌, true}
 use Rattle.disk_model.specs.declared.name.FileName.{FileName}
 use Rattle.store_sweep.specs.Wanted.{is_wanted}
-use Rattle.store_sweep.proofs.Clearing.{cut_images, cut_keeps, cut_logs, cut_gone, named_images, named_keeps_store, named_logs, named_gone, named_cut}
-use Rattle.store_sweep.proofs.Sweeping.{images_fails_still}
-use Rattle.store_sweep.proofs.Syncing.{synced_then, synced_where, synced_named, both_synced, names_unneeded, names_named}
-use Rattle.store_sweep.proofs.opening.clear.Goals as goal
+use Rattle.store_sweep.proofs.ClearLemmas.{cut_images, cut_keeps, cut_logs, cut_gone, named_images, named_keeps_store, named_logs, named_gone, named_cut}
+use Rattle.store_sweep.proofs.SweepStepLemmas.{images_fails_still}
+use Rattle.store_sweep.proofs.FittedLemmas.{synced_then, synced_where, synced_named, both_synced, names_unneeded, names_named}
+use Rattle.store_sweep.proofs.swept.clear.Goals as goal
 
 pub returns-in_err-cut_files-clause-images : goal.returns-in_err-cut_files-clause-images
 returns-in_err-cut_files-clause-images g c =

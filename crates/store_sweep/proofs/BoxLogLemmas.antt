@@ -16,8 +16,8 @@ use Rattle.gate_log.specs.State.{LogState, InspectedLog}
 use Rattle.gate_log.specs.Log.{IsFound, IsFoundKept, Reads, Holds}
 use Rattle.store_sweep.specs.Moments.{ImagesCarry, KeepsStore, SameWhere}
 use Rattle.store_sweep.specs.Repaired.{StandsFound, IsRepaired, box_name, AreLogsOfBoxes, is_outside, is_no_box}
-use Rattle.store_sweep.proofs.Repairing.{IsLogAt, box_log, repair_images, repair_keeps, repaired_stays, stays_but_for}
-use Rattle.store_sweep.proofs.Sweeping.{images_then, keeps_then}
+use Rattle.store_sweep.proofs.RepairLemmas.{IsLogAt, box_log, repair_images, repair_keeps, repaired_stays, stays_but_for}
+use Rattle.store_sweep.proofs.SweepStepLemmas.{images_then, keeps_then}
 
 -- ---- the next log
 

@@ -1,7 +1,7 @@
-use Rattle.store_sweep.proofs.Sweeping.{images_then, keeps_then}
-use Rattle.store_sweep.proofs.Boxes.{made_repaired}
-use Rattle.store_sweep.proofs.Logs.{found_of, log_images, log_keeps, root_at, map_at, stands_still, log_since, map_apart, boxes_still, boxes_since, no_box_root, no_box_map, map_stays, root_stays, three_stay}
-use Rattle.store_sweep.proofs.opening.repair_logs.Goals as goal
+use Rattle.store_sweep.proofs.SweepStepLemmas.{images_then, keeps_then}
+use Rattle.store_sweep.proofs.BoxLogLemmas.{made_repaired}
+use Rattle.store_sweep.proofs.LogsInForceLemmas.{found_of, log_images, log_keeps, root_at, map_at, stands_still, log_since, map_apart, boxes_still, boxes_since, no_box_root, no_box_map, map_stays, root_stays, three_stay}
+use Rattle.store_sweep.proofs.swept.repair_logs.Goals as goal
 
 pub repair-requires : goal.repair-requires
 repair-requires g c = record { stands = found_of c.args.root_log (g.D.Disk.history c.args.disk.now) c.requires.root.1 }

@@ -14,9 +14,10 @@ use Rattle.disk_model.proofs.OneFileLemmas.{same-begins, same-goes_on}
 use Rattle.disk_model.proofs.ChangeAndSyncLemmas.{changed_state, state}
 use Rattle.model_meaning.specs.MapMeaning.{MapRecord, MapMeaning}
 use Rattle.store_sweep.specs.Wanted.{EndBy, EndsByLastRegion, end_of, ends_at}
-use Rattle.store_sweep.specs.Moments.{ImagesCarry, KeepsStore, NoneMade}
-use Rattle.store_sweep.proofs.Holding.{half_cut_holds, cut_holds, synced_holds, cut_carries, reads_there}
-use Rattle.store_sweep.proofs.Sweeping.{Keeping, images_goes_on, images_fails, images_fails_still, images_then, holds_goes_on, reads_goes_on, none_goes_on, none_then}
+use Rattle.store_sweep.specs.Moments.{ImagesCarry, KeepsStore, SameThere}
+use Rattle.store_sweep.proofs.HeldLemmas.{half_cut_holds, cut_holds, synced_holds, cut_carries, reads_there}
+use Rattle.store_sweep.proofs.SweepStepLemmas.{Keeping, images_goes_on, images_fails, images_fails_still, images_then, holds_goes_on, reads_goes_on}
+use Rattle.store_sweep.proofs.FittedLemmas.{there-step, there-then}
 
 -- ---- the end of the last region
 
@@ -76,9 +77,9 @@ shortened_keeps g m n end old mid new ends reaches is synced_is = record {
 pub sync_there : (n end : ℕ) (old mid : Option History) → IfTold old (λ disk. Reaches (disk (file.Mail n)) end) → mid ≡ after (change (file.Mail n) (cut_to end)) old → IfTold mid (λ disk. IsThere (disk (file.Mail n)))
 sync_there n end old mid reaches is = changed_state (file.Mail n) (λ f. Reaches f end) IsThere (cut_to end) old mid is (λ f reach. reach.0) reaches
 
-pub shortened_made : (n end : ℕ) (old mid new : Option History) → mid ≡ after (change (file.Mail n) (cut_to end)) old → new ≡ after (change (file.Mail n) synced) mid → NoneMade old new
-shortened_made n end old mid new is synced_is =
-    none_then old mid new (none_goes_on (file.Mail n) (cut_to end) old mid is (λ f. refl)) (none_goes_on (file.Mail n) synced mid new synced_is (λ f. refl))
+pub shortened_there : (n end : ℕ) (old mid new : Option History) → mid ≡ after (change (file.Mail n) (cut_to end)) old → new ≡ after (change (file.Mail n) synced) mid → SameThere old new
+shortened_there n end old mid new is synced_is =
+    there-then old mid new (there-step (file.Mail n) (cut_to end) old mid is (λ f. refl)) (there-step (file.Mail n) synced mid new synced_is (λ f. refl))
 
 pub shortened_others : (n end : ℕ) (old mid new : Option History) → mid ≡ after (change (file.Mail n) (cut_to end)) old → new ≡ after (change (file.Mail n) synced) mid → SameButFor (file.Mail n) old new
 shortened_others n end old mid new is synced_is =

@@ -12,8 +12,8 @@ use Rattle.model_meaning.specs.MapMeaning.{MapMeaning}
 use Rattle.model_store.specs.Carrying.{CarryOver, CarriesOver}
 use Rattle.store_sweep.specs.Held.{IsHeldAt, IsHeldStore, IsReadStore}
 use Rattle.store_sweep.specs.Wanted.{is_wanted}
-use Rattle.store_sweep.specs.Moments.{ImagesCarry, KeepsStore, SameWhere, NoneMade}
-use Rattle.store_sweep.proofs.Holding.{image_carries, unwanted_holds, unwanted_carries, each_changed, named_holds}
+use Rattle.store_sweep.specs.Moments.{ImagesCarry, KeepsStore, SameWhere}
+use Rattle.store_sweep.proofs.HeldLemmas.{image_carries, unwanted_holds, unwanted_carries, each_changed, named_holds}
 
 abbrev Carries : ℕ → MapMeaning → Files → ℕ → Files → Type 0
 Carries g m found moment image = CarryOver g m found image
@@ -167,40 +167,6 @@ reads_goes_on g m name step (Some old) new is keeping found k =
     subst (λ (h : Option History). IfTold h (IsReadStore g m found)) (sym is)
     (each_changed (λ (n : FileName) (f : FileState). CarriesOver g m found n (reading f)) name step old.now k (keeping found (k name)))
 
--- ---- files that are there
-
-pub none_now : (old : Option History) → NoneMade old old
-none_now None = refl
-none_now (Some old) = λ name there. there
-
-pub none_then : (old now new : Option History) → NoneMade old now → NoneMade now new → NoneMade old new
-none_then None None new first second = second
-none_then None (Some now) new first second = absurd (let e : Some now ≡ None = first in cc)
-none_then (Some old) None new first second = elim first [ ]
-none_then (Some old) (Some now) None first second = second
-none_then (Some old) (Some now) (Some new) first second = λ name there. first name (second name there)
-
-pub none_unchanged : (old new : Option History) → Unchanged old new → NoneMade old new
-none_unchanged None new (inl is) = is
-none_unchanged None new (inr is) = is.0
-none_unchanged (Some old) new (inl is) = subst (NoneMade (Some old)) (sym is) (λ name there. there)
-none_unchanged (Some old) new (inr is) = subst (NoneMade (Some old)) (sym is.0) (λ name there. there)
-
--- a call that leaves a file there or not
-pub none_goes_on : (name : FileName) (step : FileState → FileState) (old new : Option History) → new ≡ after (change name step) old → ((f : FileState) → (step f).is_there ≡ f.is_there) → NoneMade old new
-none_goes_on name step None new is same = is
-none_goes_on name step (Some old) new is same =
-    subst (NoneMade (Some old)) (sym is) (λ other there. same_there other (cases_Bool (same_name other name)) there)
-  where
-    same_there : (other : FileName) → (same_name other name ≡ true) ⊎ (same_name other name ≡ false) → IsThere (change name step old.now other) → IsThere (old.now other)
-    same_there other (inl own) there =
-        let e : other ≡ name = same_name-true other name own in
-        subst (λ (n : FileName). IsThere (old.now n)) (sym e)
-        (sym (same (old.now name)) ∙ sym (ap (λ (f : FileState). f.is_there) (change-here name step old.now)) ∙ subst (λ (n : FileName). IsThere (change name step old.now n)) e there)
-    same_there other (inr apart) there =
-        let differ : other ≡ name → ⊥ = λ e. true≢false (sym (same_name-eq other name e) ∙ apart) in
-        sym (ap (λ (f : FileState). f.is_there) (change-other name other step old.now differ)) ∙ there
-
 -- each log stays where only a storage file changes
 pub logs_stay : (n : ℕ) (old new : Option History) → SameButFor (file.Mail n) old new → SameWhere is_log old new
 logs_stay n None new same = same
@@ -215,6 +181,3 @@ kept_images g m old now mid new images keeps unchanged last =
 
 pub kept_keeps : (g : ℕ) (m : MapMeaning) (old now mid new : Option History) → KeepsStore g m old now → Unchanged now mid → KeepsStore g m mid new → KeepsStore g m old new
 kept_keeps g m old now mid new keeps unchanged last = keeps_then g m old now new keeps (keeps_then g m now mid new (keeps_unchanged g m now mid unchanged) last)
-
-pub walk_none : (old now mid new : Option History) → NoneMade old now → Unchanged now mid → NoneMade mid new → NoneMade old new
-walk_none old now mid new made unchanged last = none_then old now new made (none_then now mid new (none_unchanged now mid unchanged) last)

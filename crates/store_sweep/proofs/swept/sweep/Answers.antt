@@ -1,10 +1,10 @@
 use Rattle.std.proofs.Common.{◌∷◌}
-use Rattle.store_sweep.proofs.Sweeping.{images_now, images_then, keeps_then}
-use Rattle.store_sweep.proofs.Whole.{safe_images, settled_after, files_carry, opened_root, opened_map, opened_boxes, end_with_regions}
+use Rattle.store_sweep.proofs.SweepStepLemmas.{images_now, images_then, keeps_then}
+use Rattle.store_sweep.proofs.SweepLemmas.{safe_images, settled_after, files_carry, opened_root, opened_map, opened_boxes, end_with_regions}
 use Rattle.store_sweep.specs.Repaired.{is_outside}
-use Rattle.store_sweep.proofs.Logs.{strays_stay, mail_outside}
-use Rattle.store_sweep.proofs.Syncing.{synced_then, synced_mail, names_since}
-use Rattle.store_sweep.proofs.opening.sweep.Goals as goal
+use Rattle.store_sweep.proofs.LogsInForceLemmas.{strays_stay, mail_outside}
+use Rattle.store_sweep.proofs.FittedLemmas.{synced_then, synced_mail, names_since}
+use Rattle.store_sweep.proofs.swept.sweep.Goals as goal
 
 pub returns-in_err-opened-clause-any_moment : goal.returns-in_err-opened-clause-any_moment
 returns-in_err-opened-clause-any_moment g c = λ lists s.
