@@ -67,7 +67,11 @@ fn root_logs_without_an_entry(rt: HostRuntime) -> Result<(), Fail> {
         (damaged.as_slice(), 26, true),
     ] {
         let (octets, _) = octets.split_at_checked(size).ok_or("too short")?;
-        assert_eq!(rt; has_no_entry(rt.alloc(), octets), Ok(expected), "{size} octets");
+        assert_eq!(rt;
+            has_no_entry(rt.alloc(), octets),
+            Ok(expected),
+            "{size} octets"
+        );
     }
     Ok(())
 }
