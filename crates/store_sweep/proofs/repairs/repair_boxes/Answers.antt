@@ -29,13 +29,13 @@ loop-log-init g c = record {
 pub repair-requires : goal.repair-requires
 repair-requires g c =
     let whole = whole_next c.loop-log.yielded c.in-Some.log _ _ c.args.found.items c.in-Some.ensures.steps.0 c.loop-log.invariant.whole in
-    let next : Next c.args.map.now c.loop-log.yielded c.in-Some.log = next_log c.args.map.now c.args.found.items c.loop-log.yielded c.in-Some.log _ c.is_kept.ensures.boxes.rising c.requires.logs whole in
+    let next : Next c.args.map.now c.loop-log.yielded c.in-Some.log = next_log c.args.map.now c.args.found.items c.loop-log.yielded c.in-Some.log _ c.known_facts.ensures.boxes.rising c.requires.logs whole in
     record { stands = next_stands c.args.map.now c.args.found.items c.loop-log.yielded c.in-Some.log _ _ _ next whole c.requires.stand c.loop-log.invariant.outside }
 
 pub returns-in_err-log-clause-images : goal.returns-in_err-log-clause-images
 returns-in_err-log-clause-images g c = λ generation.
     let whole = whole_next c.loop-log.yielded c.in-Some.log _ _ c.args.found.items c.in-Some.ensures.steps.0 c.loop-log.invariant.whole in
-    let next : Next c.args.map.now c.loop-log.yielded c.in-Some.log = next_log c.args.map.now c.args.found.items c.loop-log.yielded c.in-Some.log _ c.is_kept.ensures.boxes.rising c.requires.logs whole in
+    let next : Next c.args.map.now c.loop-log.yielded c.in-Some.log = next_log c.args.map.now c.args.found.items c.loop-log.yielded c.in-Some.log _ c.known_facts.ensures.boxes.rising c.requires.logs whole in
     let stands = next_stands c.args.map.now c.args.found.items c.loop-log.yielded c.in-Some.log _ _ _ next whole c.requires.stand c.loop-log.invariant.outside in
     next_images generation c.args.map.now c.loop-log.yielded c.in-Some.log _ _ _ next stands (c.loop-log.invariant.images generation) (c.loop-log.invariant.keeps generation) c.in_err-log.ensures.any_moment
 
@@ -47,7 +47,7 @@ push_log-requires g c =
 pub loop-log-preserved : goal.loop-log-preserved
 loop-log-preserved g c =
     let whole = whole_next c.loop-log.yielded c.in-Some.log _ _ c.args.found.items c.in-Some.ensures.steps.0 c.loop-log.invariant.whole in
-    let next : Next c.args.map.now c.loop-log.yielded c.in-Some.log = next_log c.args.map.now c.args.found.items c.loop-log.yielded c.in-Some.log _ c.is_kept.ensures.boxes.rising c.requires.logs whole in
+    let next : Next c.args.map.now c.loop-log.yielded c.in-Some.log = next_log c.args.map.now c.args.found.items c.loop-log.yielded c.in-Some.log _ c.known_facts.ensures.boxes.rising c.requires.logs whole in
     let stands = next_stands c.args.map.now c.args.found.items c.loop-log.yielded c.in-Some.log _ _ _ next whole c.requires.stand c.loop-log.invariant.outside in
     let r : IsRepaired (g.D.Disk.history c.loop-log.disk) (g.D.Disk.history c.repair.new.disk) c.in-Some.log c.in_ok-log.log = made_repaired _ _ c.in-Some.log c.in_ok-log.log c.in_ok-log.ensures.log c.in_ok-log.ensures.reads c.in_ok-log.ensures.holds in
     record {
