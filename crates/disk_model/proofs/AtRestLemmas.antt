@@ -1,13 +1,22 @@
 -- Files at rest, and what a crash leaves of them.
-use Rattle.std.proofs.Common.{◌≡◌, ◌↔◌, inl, inr, ℕ, ◌<◌, List, Option, Some, None, All, refl, sym, ◌∙◌, ap, subst, arith}
-use Rattle.std.proofs.lemmas.Bool.{false≢true}
+use Rattle.std.proofs.Common.{◌≤◌, length, ◌≡◌, ◌↔◌, inl, inr, ℕ, ◌<◌, List, Option, Some, None, All, refl, sym, ◌∙◌, ap, subst, arith}
+use Rattle.std.proofs.lemmas.Bool.{false≢true, true≢false}
 use Rattle.disk_model.specs.Disk.{Files, FileState, DiskState, MayLeave, IsImage, IsAtRest, Keeps, IsThere, no_file, still, reading}
 use Rattle.disk_model.specs.declared.name.FileName.{FileName}
-use Rattle.disk_model.proofs.OneFileLemmas.{still_leaves}
+use Rattle.disk_model.proofs.OneFileLemmas.{same_by_get}
 
 none_leaves : (left : Option (List ℕ)) → MayLeave no_file left → left ≡ None
 none_leaves None leaves = refl
 none_leaves (Some octets) holds = elim holds.named [ inl there ↦ absurd (false≢true there) | inr loose ↦ absurd (false≢true loose) ]
+
+-- a file that stands still is left as it reads
+pub still_leaves : (text : List ℕ) (octets : Option (List ℕ)) → MayLeave (still text) octets → octets ≡ Some text
+still_leaves text None (inl gone) = absurd (true≢false gone)
+still_leaves text None (inr loose) = absurd (false≢true loose)
+still_leaves text (Some octets) holds =
+    let long : length octets ≡ length text = let a : length text ≤ length octets = holds.least in let b : length octets ≤ length text = holds.greatest in omega arith in
+    let same : octets ≡ text = same_by_get octets text long (λ i below. holds.same i below refl) in
+    ap Some same
 
 still_left : (text : List ℕ) → All (λ octet. octet < 256) text → MayLeave (still text) (Some text)
 still_left text are = record { named = inl refl; least = omega arith; greatest = omega arith; same = λ i below firm. refl; are_octets = are }

@@ -80,7 +80,7 @@ read_fault-present r old new present cause = read_fault-map old new (failed r pr
 
 pub change_fault-none : {F : Type 0} → (old new : Faults) → (F → ⊥) → NoFault old new → ChangeFaultCounted F old new
 change_fault-none old new unfailed same = record {
-  reads = let e = ap (λ (f : Faults). f.reads) same in omega (arith, e);
+  reads = ap (λ (f : Faults). f.reads) same;
   changes = let e = ap (λ (f : Faults). f.changes) same in omega (arith, e);
   rose = λ f. absurd (unfailed f);
 }
@@ -93,21 +93,21 @@ change_fault-map old new f counted = record { reads = counted.reads; changes = c
 
 pub change_fault-then : {E F : Type 0} → (old now new : Faults) → ChangeFaultCounted E old now → ChangeFaultCounted F now new → ChangeFaultCounted F old new
 change_fault-then old now new first second = record {
-  reads = let a = first.reads in let b = second.reads in omega (arith, a, b);
+  reads = second.reads ∙ first.reads;
   changes = let a = first.changes in let b = second.changes in omega (arith, a, b);
   rose = λ f. change_rose-since old now new first.changes (second.rose f);
 }
 
 pub change_fault-goes_on : {E F : Type 0} → (old now new : Faults) → ChangeFaultCounted F old now → ChangeFaultCounted E now new → ChangeFaultCounted F old new
 change_fault-goes_on old now new first second = record {
-  reads = let a = first.reads in let b = second.reads in omega (arith, a, b);
+  reads = second.reads ∙ first.reads;
   changes = let a = first.changes in let b = second.changes in omega (arith, a, b);
   rose = λ f. let r = first.rose f in let b = second.changes in omega (arith, r, b);
 }
 
 pub change_fault-call : {T : Type 0} → (r : Result T DiskError) (old new : Faults) → ChangeCause r old new → ChangeFaultCounted (IsErr r) old new
 change_fault-call r old new cause = record {
-  reads = let e = cause.reads in omega (arith, e);
+  reads = cause.reads;
   changes = cause.no_less;
   rose = λ err. (cause.failed err).1;
 }
@@ -135,7 +135,11 @@ any_fault-of_read old new counted = record {
 }
 
 pub any_fault-of_change : {F : Type 0} → (old new : Faults) → ChangeFaultCounted F old new → AnyFaultCounted F old new
-any_fault-of_change old new counted = record { reads = counted.reads; changes = counted.changes; rose = λ f. inr (counted.rose f) }
+any_fault-of_change old new counted = record {
+  reads = let e = counted.reads in omega (arith, e);
+  changes = counted.changes;
+  rose = λ f. inr (counted.rose f);
+}
 
 pub any_fault-then : {E F : Type 0} → (old now new : Faults) → AnyFaultCounted E old now → AnyFaultCounted F now new → AnyFaultCounted F old new
 any_fault-then old now new first second = record {

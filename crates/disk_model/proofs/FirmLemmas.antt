@@ -9,6 +9,7 @@ use Rattle.std.proofs.lemmas.List.Elements.{All-take, All-append, All-cons, All-
 use Rattle.std.proofs.lemmas.Bool.{cases_Bool, cases_lt, cases_eq, true≢false, false≢true, or_from, eq-eqb, ne_eqb, cond-true, cond-false}
 use Rattle.std.proofs.lemmas.Option.{slice_get-get_or, same_Some}
 use Rattle.disk_model.specs.Disk.{FileState, MayHold, MayLeave, Keeps, reading, covers, overlaid, written, half_written, cut_to, half_cut, synced}
+use Rattle.disk_model.proofs.OneFileLemmas.{same_by_get}
 use Rattle.disk_model.proofs.LeavingLemmas.{covers-before, covers-behind, front_stays, overlaid-end}
 
 abbrev AreOctets : List ℕ → Type 0
@@ -28,22 +29,12 @@ pub record IsFirm (f : FileState) (text : List ℕ) : Type 0 where
 pub at_place : (xs ys : List ℕ) (i : ℕ) → i < length xs → i < length ys → get_or xs i 0 ≡ get_or ys i 0 → slice_get xs i ≡ slice_get ys i
 at_place xs ys i a b e = slice_get-get_or xs i 0 a ∙ ap Some e ∙ sym (slice_get-get_or ys i 0 b)
 
--- lists that agree at each place
-same_list : (a b : List ℕ) → length a ≡ length b → ((i : ℕ) → i < length b → slice_get a i ≡ slice_get b i) → a ≡ b
-same_list [] [] long same = refl
-same_list [] (y ∷ ys) long same = absurd (omega (arith, long))
-same_list (x ∷ xs) [] long same = absurd (omega (arith, long))
-same_list (x ∷ xs) (y ∷ ys) long same =
-    let head : Some x ≡ Some y = same 0 (omega arith) in
-    let tail : xs ≡ ys = same_list xs ys (omega (arith, long)) (λ i below. same (suc i) (omega arith)) in
-    cc
-
 -- lists that agree at each place but one
 one_apart : (a b o : List ℕ) (x : ℕ) → length o ≡ length (a ++ x ∷ b) → ((i : ℕ) → i < length o → i ≢ length a → slice_get o i ≡ slice_get (a ++ x ∷ b) i) → (z : ℕ) × (o ≡ a ++ z ∷ b)
 one_apart [] b [] x l same = absurd (omega (arith, l))
 one_apart [] b (z ∷ o) x l same =
     let long : length o ≡ length b = omega (arith, l) in
-    (z, ap (λ (t : List ℕ). z ∷ t) (same_list o b long (λ i below. same (suc i) (omega (arith, long)) (λ e. omega (arith, e)))))
+    (z, ap (λ (t : List ℕ). z ∷ t) (same_by_get o b long (λ i below. same (suc i) (omega (arith, long)) (λ e. omega (arith, e)))))
 one_apart (p ∷ ps) b [] x l same = absurd (omega (arith, l))
 one_apart (p ∷ ps) b (q ∷ o) x l same =
     let head : Some q ≡ Some p = same 0 (omega arith) (λ e. omega (arith, e)) in
@@ -154,7 +145,7 @@ firm_left f text k (Some octets) h =
     let least : f.least ≤ length octets = h.least in
     let greatest : length octets ≤ f.greatest = h.greatest in
     let long : length octets ≡ length text = omega (arith, k.least, k.greatest) in
-    ap Some (same_list octets text long (λ i below. h.same i (omega (arith, k.least)) (k.firm i below) ∙ ap (λ (o : List ℕ). slice_get o i) k.octets))
+    ap Some (same_by_get octets text long (λ i below. h.same i (omega (arith, k.least)) (k.firm i below) ∙ ap (λ (o : List ℕ). slice_get o i) k.octets))
 
 firm_holds : (f : FileState) (text : List ℕ) → IsFirm f text → MayHold f text
 firm_holds f text k = record {

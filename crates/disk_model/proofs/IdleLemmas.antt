@@ -74,14 +74,14 @@ pub idle-each_image : (P : Files → Type 0) (old now new : Option History) → 
 idle-each_image P old now new idle holds each =
     each_image-then _ old now new (idle-images P old now idle (idle-back _ old now idle holds)) each
 
+pub idle-but : (name : FileName) (old new : Option History) → IsIdle old new → SameButFor name old new
+idle-but name old new idle = between-map _ _ old new (λ a b e other apart. ap (λ (d : DiskState). d other) e) idle.same
+
 -- what holds of all that a crash may leave of a file holds at each moment
 pub idle-along : (name : FileName) (P : Option (List ℕ) → Type 0) (old new : Option History) → IsIdle old new
     → IfTold old (λ disk. (octets : Option (List ℕ)) → MayLeave (disk name) octets → P octets) → Along name P old new
-idle-along name P old new idle holds = record { each = go old holds new idle.each; same = idle-but old new }
+idle-along name P old new idle holds = record { each = go old holds new idle.each; same = idle-but name old new idle }
   where
     go : (old : Option History) → IfTold old (λ disk. (octets : Option (List ℕ)) → MayLeave (disk name) octets → P octets) → (new : Option History) → EachImage (λ _ image. IfTold old (λ disk. IsImage disk image)) old new → EachImage (IsAlong name P old) old new
     go None holds new each = each
     go (Some old) holds new each = each_image-map _ _ (Some old) new (λ m image is. (holds (image name) (is name), λ other apart. is other)) each
-
-    idle-but : (o n : Option History) → SameButFor name old new
-    idle-but o n = between-map _ _ old new (λ a b e other apart. ap (λ (d : DiskState). d other) e) idle.same

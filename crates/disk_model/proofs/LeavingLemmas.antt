@@ -1,10 +1,9 @@
 -- What a crash may leave of a file, by what was done to it.
-use Rattle.std.proofs.Common.{◌≡◌, ℕ, ◌+◌, ◌<◌, ◌≤◌, zero, suc, false, nat_le, nat_lt, List, [], ◌∷◌, ◌++◌, length, take, drop, slice_get, Some, refl, sym, ◌∙◌, subst, arith}
-use Rattle.std.proofs.Common.{max, length-append, length-drop}
-use Rattle.std.proofs.Math.Seq.{take-length, take-append_seam}
-use Rattle.std.proofs.lemmas.List.{take-append-drop, drop_all, append-nil}
-use Rattle.std.proofs.lemmas.Bool.{or_from, le-ltb, lt-leb, and_left, and_right}
-use Rattle.disk_model.specs.Disk.{FileState, MayHold, still, covers, overlaid, written}
+use Rattle.std.proofs.Common.{◌≡◌, ℕ, ◌+◌, ◌<◌, ◌≤◌, zero, suc, false, nat_le, nat_lt, List, [], ◌∷◌, ◌++◌, length, take, drop, slice_get, Some, refl, arith}
+use Rattle.std.proofs.Math.Seq.{take-length}
+use Rattle.std.proofs.lemmas.List.{drop_all, append-nil}
+use Rattle.std.proofs.lemmas.Bool.{le-ltb, lt-leb, and_left, and_right}
+use Rattle.disk_model.specs.Disk.{FileState, MayHold, covers, overlaid}
 
 -- a place before or behind a range isn't covered by it
 pub covers-before : (at n i : ℕ) → i < at → covers at n i ≡ false
@@ -35,18 +34,3 @@ pub overlaid-end : (text from : List ℕ) → overlaid text (length text) from �
 overlaid-end text from =
     let behind : drop (length text + length from) text ≡ [] = drop_all (length text + length from) text (omega arith) in
     rw (take-length text, behind) (append-nil (text ++ from))
-
--- a write behind the end of a settled file leaves what stood before it, and no more octets than it wrote
-pub end_written : (text from octets : List ℕ) → MayHold (written (length text) from (still text)) octets
-    → (rest : List ℕ) × (octets ≡ text ++ rest) × (length rest ≤ length from)
-end_written text from octets holds =
-    let least : length text ≤ length octets = holds.least in
-    let greatest : length octets ≤ max (length text) (length text + length from) = holds.greatest in
-    let front : take (length text) octets ≡ text =
-    front_stays (written (length text) from (still text)) octets (length text) holds (omega arith)
-    (let e : length (overlaid text (length text) from) ≡ length text + length from = rw (overlaid-end text from) (length-append text from) in omega (arith, e))
-    (λ i below. or_from false (covers (length text) (length from) i) refl (covers-before (length text) (length from) i below))
-    ∙ (rw (overlaid-end text from) (take-append_seam text from)) in
-    let whole : take (length text) octets ++ drop (length text) octets ≡ octets = take-append-drop (length text) octets in
-    let F : List ℕ → Type 0 = λ front. octets ≡ front ++ drop (length text) octets in
-    (drop (length text) octets, subst F front (sym whole), omega (arith, length-drop (length text) octets))

@@ -1,4 +1,4 @@
--- The order of names: a number for each, which rises with it.
+-- The order of names: a rank for each, which rises with it.
 use Rattle.std.proofs.Common.{inl, inr, ◌≡◌, ◌≢◌, ◌⊎◌, ℕ, ◌+◌, ◌-◌, ◌*◌, ◌^◌, ◌<◌, ◌≤◌, suc, List, [], ◌∷◌, length, All, Option, Some, None, refl, sym, ◌∙◌, ap, subst, arith, lit<}
 use Rattle.std.specs.Prelude.{IfSome}
 use Rattle.std.proofs.Math.Nat.{mul-le-mul_right, pow-succ', suc-mul}
@@ -129,15 +129,15 @@ own_small (file.Inst hash id) r =
     let h = pair_less (256 ^ 16) (value hash) (256 ^ 20) (value id) 0 b (inl a) in
     omega (arith, h)
 
--- the number of a name
-pub rank : FileName → ℕ
-rank name = kind name * most + own name
+-- the rank of a name
+pub name_rank : FileName → ℕ
+name_rank name = kind name * most + own name
 
 own_less : (base a b i j : ℕ) → i < base → i < j → a ≡ b → a * base + i < b * base + j
 own_less base a b i j small less same = pair_less base a b i j small (inr (same, less))
 
-pub rank_less : (a b : FileName) → IsNameInRange a → IsNameInRange b → ghosts.cmp a b ≡ Less → rank a < rank b
-unfolding rank own kind
+pub rank_less : (a b : FileName) → IsNameInRange a → IsNameInRange b → ghosts.cmp a b ≡ Less → name_rank a < name_rank b
+unfolding name_rank own kind
 rank_less file.Root file.Root r s e = absurd (let k : Equal ≡ Less = e in cc)
 rank_less (file.Map g) (file.Map h) r s e = own_less most 1 1 g h (own_small (file.Map g) r) (less_nat g h e) refl
 rank_less (file.Box k g) (file.Box l h) r s e =
@@ -156,9 +156,9 @@ rank_less (file.Inst a i) (file.Inst b j) r s e =
     own_less most 4 4 (value a * 256 ^ 16 + value i) (value b * 256 ^ 16 + value j) (own_small (file.Inst a i) r) less refl
 rank_less a b r s e = pair_less most (kind a) (kind b) (own a) (own b) (own_small a r) (inl (less_nat (kind a) (kind b) e))
 
--- more than each number
-pub top : ℕ
-top = 5 * most
+-- more than each rank
+pub rank_limit : ℕ
+rank_limit = 5 * most
 
 kind_small : (name : FileName) → kind name < 5
 unfolding kind
@@ -168,17 +168,21 @@ kind_small (file.Box k g) = lit< tt
 kind_small (file.Mail n) = lit< tt
 kind_small (file.Inst hash id) = lit< tt
 
-pub rank_below : (name : FileName) → IsNameInRange name → rank name < top
-unfolding rank top
+pub rank_below : (name : FileName) → IsNameInRange name → name_rank name < rank_limit
+unfolding name_rank rank_limit
 rank_below name r = let h = pair_less most (kind name) 5 (own name) 0 (own_small name r) (inl (kind_small name)) in omega (arith, h)
 
--- how far a walk has come, and how much is left of it
-pub passed : Option FileName → ℕ
-passed None = 0
-passed (Some name) = rank name + 1
+-- how far a walk over names has come, and how much is left of it
 
-pub walk_shrinks : (last : Option FileName) (name : FileName) → IfSome last IsNameInRange → IsNameInRange name → IsPast ghosts.cmp last name → (top + 1) - passed (Some name) < (top + 1) - passed last
-unfolding passed
+rank_passed : Option FileName → ℕ
+rank_passed None = 0
+rank_passed (Some name) = name_rank name + 1
+
+pub names_left : Option FileName → ℕ
+names_left last = (rank_limit + 1) - rank_passed last
+
+pub walk_shrinks : (last : Option FileName) (name : FileName) → IfSome last IsNameInRange → IsNameInRange name → IsPast ghosts.cmp last name → names_left (Some name) < names_left last
+unfolding names_left rank_passed
 walk_shrinks None name r s past = let b = rank_below name s in omega (arith, b)
 walk_shrinks (Some last) name r s past = let b = rank_below name s in let l = rank_less last name r s past in omega (arith, b, l)
 

@@ -1,7 +1,7 @@
 -- A run of calls on one file: what each image has of it, and that the other files stay.
-use Rattle.std.proofs.Common.{◌≡◌, ◌≢◌, inl, inr, ℕ, ◌<◌, ◌≤◌, suc, [], ◌∷◌, slice_get, false, List, Option, Some, None, refl, sym, ◌∙◌, subst, ap, arith, length}
-use Rattle.std.proofs.lemmas.Bool.{cond-true, cond-false, cases_Bool, true≢false, false≢true}
-use Rattle.disk_model.specs.Disk.{Files, FileState, DiskState, History, MayLeave, IsImage, IfTold, Unchanged, AfterFailed, EachImage, OthersStay, SameButFor, after, change, change_all, still, named, no_file}
+use Rattle.std.proofs.Common.{◌≡◌, ◌≢◌, inl, inr, ℕ, ◌<◌, suc, [], ◌∷◌, slice_get, false, List, Option, Some, None, refl, sym, ◌∙◌, subst, arith, length}
+use Rattle.std.proofs.lemmas.Bool.{cond-true, cond-false, cases_Bool, false≢true}
+use Rattle.disk_model.specs.Disk.{Files, FileState, DiskState, History, MayLeave, IsImage, IfTold, Unchanged, AfterFailed, EachImage, OthersStay, SameButFor, after, change, change_all, named, no_file}
 use Rattle.disk_model.specs.Name.{same_name}
 use Rattle.disk_model.specs.declared.name.FileName.{FileName}
 use Rattle.disk_model.proofs.NameLemmas.{same_name-refl, same_name-false}
@@ -188,7 +188,7 @@ along-named name P old now new along is holds =
     (named-image name P old now along.same holds)
 
 -- lists that agree at each place
-same_by_get : (a b : List ℕ) → length a ≡ length b → ((i : ℕ) → i < length b → slice_get a i ≡ slice_get b i) → a ≡ b
+pub same_by_get : (a b : List ℕ) → length a ≡ length b → ((i : ℕ) → i < length b → slice_get a i ≡ slice_get b i) → a ≡ b
 same_by_get [] [] long same = refl
 same_by_get [] (y ∷ ys) long same = absurd (omega (arith, long))
 same_by_get (x ∷ xs) [] long same = absurd (omega (arith, long))
@@ -196,12 +196,3 @@ same_by_get (x ∷ xs) (y ∷ ys) long same =
     let head : Some x ≡ Some y = same 0 (omega arith) in
     let tail : xs ≡ ys = same_by_get xs ys (omega (arith, long)) (λ i below. same (suc i) (omega arith)) in
     cc
-
--- a file that stands still is left as it reads
-pub still_leaves : (text : List ℕ) (octets : Option (List ℕ)) → MayLeave (still text) octets → octets ≡ Some text
-still_leaves text None (inl gone) = absurd (true≢false gone)
-still_leaves text None (inr loose) = absurd (false≢true loose)
-still_leaves text (Some octets) holds =
-    let long : length octets ≡ length text = let a : length text ≤ length octets = holds.least in let b : length octets ≤ length text = holds.greatest in omega arith in
-    let same : octets ≡ text = same_by_get octets text long (λ i below. holds.same i below refl) in
-    ap Some same

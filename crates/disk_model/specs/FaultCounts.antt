@@ -13,9 +13,9 @@ pub record ReadFaultCounted (failed : Type 0) (old new : Faults) : Type 0 where
   pub changes : new.changes ≡ old.changes
   pub rose : failed → Rose old.reads new.reads
 
--- The counts never fall, and that of failed changes rose where this holds.
+-- No failed read was counted. The count of failed changes never falls, and it rose where this holds.
 pub record ChangeFaultCounted (failed : Type 0) (old new : Faults) : Type 0 where
-  pub reads : old.reads ≤ new.reads
+  pub reads : new.reads ≡ old.reads
   pub changes : old.changes ≤ new.changes
   pub rose : failed → Rose old.changes new.changes
 

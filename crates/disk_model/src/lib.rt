@@ -4,7 +4,7 @@
 pub use disk::Disk;
 pub use error::DiskError;
 pub use laws::{images_of_disk_at_rest, names_are_ordered};
-pub use name::{FileName, is_named, order, same_file};
+pub use name::{FileName, is_log, is_named, known_range, order, same_file};
 
 mod disk;
 mod error;

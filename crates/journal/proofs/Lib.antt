@@ -4,9 +4,12 @@ pub mod CountLemmas
 pub mod EventExampleLemmas
 pub mod ExampleLemmas
 pub mod ExpungeLemmas
+pub mod FaultLemmas
 pub mod JournalLemmas
 pub mod LegalLemmas
 pub mod MakesLemmas
 pub mod OwnEventLemmas
+pub mod PurgeExampleLemmas
 pub mod ReachedLemmas
 pub mod RunLemmas
+pub mod ServedExampleLemmas

@@ -2,14 +2,11 @@
 #![tactic(auto)]
 
 pub use error::SweepError;
-pub use opening::{SweptLogs, sweep};
+pub use swept::{SweptLogs, sweep};
 
 mod cuts;
 mod error;
-mod names;
-mod opening;
 mod repairs;
 mod strays;
-#[cfg(test)]
-mod tests;
+mod swept;
 mod wanted;

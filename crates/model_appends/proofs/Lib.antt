@@ -1,0 +1,12 @@
+pub mod AmountLemmas
+pub mod AppendBoxLemmas
+pub mod AppendCountLemmas
+pub mod AppendFileLemmas
+pub mod AppendMapLemmas
+pub mod AppendMapOpenLemmas
+pub mod AppendOpenLemmas
+pub mod AppendPurgeLemmas
+pub mod AppendPurgeOpenLemmas
+pub mod AppendSafeLemmas
+pub mod AppendSafeMapLemmas
+pub mod HeldLogLemmas
