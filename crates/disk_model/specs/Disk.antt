@@ -146,7 +146,7 @@ calls h = length h.before
 -- modelled.
 abbrev pub IsMoment : Option History → ℕ → Type 0
 IsMoment None moment = ⊤
-IsMoment (Some h) moment = (2 ^ 64 - 1 ≤ moment) ⊎ (moment ≡ calls h)
+IsMoment (Some h) moment = moment ≡ min (calls h) (2 ^ 64 - 1)
 
 -- one more call has returned, and left this state
 abbrev pub joined_by : DiskState → History → History
@@ -263,3 +263,11 @@ SameButFor name = Between (λ old new. (other : FileName) → other ≢ name →
 pub record IsIdle (old new : Option History) : Type 0 where
   pub same : SameState old new
   pub each : EachImage (λ _ image. IfTold old (λ disk. IsImage disk image)) old new
+
+-- how many calls have returned, or 0 where the disk isn't modelled; and that time has gone on
+abbrev pub told_calls : Option History → ℕ
+told_calls None = 0
+told_calls (Some h) = calls h
+
+abbrev pub Grows : Option History → Option History → Type 0
+Grows old new = told_calls old ≤ told_calls new

@@ -7,7 +7,7 @@ use Rattle.std.proofs.lemmas.Option.{same_Some}
 use Rattle.disk_model.specs.Disk.{Files, DiskState, History, MayLeave, IsImage, IfTold, Unchanged, EachImage, SameButFor, reading, SameState, IsIdle}
 use Rattle.disk_model.specs.declared.name.FileName.{FileName}
 use Rattle.disk_model.proofs.MomentLemmas.{if_told-both, if_told-map, each_image-begins, each_image-unchanged, each_image-map}
-use Rattle.gate_log.specs.Reading.{IsFrontOf}
+use Rattle.gate_log.specs.Reading.{IsPeekedFront}
 use Rattle.disk_model.proofs.OneFileLemmas.{IsAlong, Along}
 
 -- a file that was read from its beginning to its end
@@ -26,19 +26,19 @@ whole_file name old mid count n buffer result idle long read e =
 
 -- the first octets of a file that has fewer
 pub front-short : (name : FileName) (old : Option History) (front : List ℕ) (count : ℕ) → length front ≡ 27 → count < 27
-    → IfTold old (λ disk. (reading (disk name) ≡ Some (disk name).octets) × (take count front ≡ take 27 (disk name).octets)) → IfTold old (λ disk. IsFrontOf (reading (disk name)) None)
+    → IfTold old (λ disk. (reading (disk name) ≡ Some (disk name).octets) × (take count front ≡ take 27 (disk name).octets)) → IfTold old (λ disk. IsPeekedFront (reading (disk name)) None)
 front-short name old front count long less read =
     if_told-map _ _ old
     (λ disk r.
     let a = length-take count front in
     let b = length-take 27 (disk name).octets in
     let e : length (take count front) ≡ length (take 27 (disk name).octets) = ap length r.1 in
-    subst (λ (file : Option (List ℕ)). IsFrontOf file None) (sym r.0) (omega (arith, a, b, e, long, less)))
+    subst (λ (file : Option (List ℕ)). IsPeekedFront file None) (sym r.0) (omega (arith, a, b, e, long, less)))
     read
 
 -- and of one that has them
 pub front-whole : (name : FileName) (old : Option History) (front : List ℕ) (count : ℕ) → length front ≡ 27 → 27 ≤ count
-    → IfTold old (λ disk. (reading (disk name) ≡ Some (disk name).octets) × (take count front ≡ take 27 (disk name).octets)) → IfTold old (λ disk. IsFrontOf (reading (disk name)) (Some front))
+    → IfTold old (λ disk. (reading (disk name) ≡ Some (disk name).octets) × (take count front ≡ take 27 (disk name).octets)) → IfTold old (λ disk. IsPeekedFront (reading (disk name)) (Some front))
 front-whole name old front count long more read =
     if_told-map _ _ old
     (λ disk r.

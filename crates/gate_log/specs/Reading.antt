@@ -39,6 +39,6 @@ IsOpenError name head old NoMemory = ⊤
 
 -- The first 27 octets of a file, which are a log's head, its first gate and one octet more. None where it has fewer, or where
 -- there is no file.
-abbrev pub IsFrontOf : Option (List ℕ) → Option (List ℕ) → Type 0
-IsFrontOf file None = IfSome file (λ octets. length octets < 27)
-IsFrontOf file (Some front) = (octets : List ℕ) × (file ≡ Some octets) × (27 ≤ length octets) × (front ≡ take 27 octets)
+abbrev pub IsPeekedFront : Option (List ℕ) → Option (List ℕ) → Type 0
+IsPeekedFront file None = IfSome file (λ octets. length octets < 27)
+IsPeekedFront file (Some front) = (octets : List ℕ) × (file ≡ Some octets) × (27 ≤ length octets) × (front ≡ take 27 octets)

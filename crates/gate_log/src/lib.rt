@@ -18,5 +18,3 @@ mod peek;
 mod read;
 mod record;
 mod repair;
-#[cfg(test)]
-mod tests;

@@ -2,7 +2,7 @@
 ghost use Rattle.std.specs.Prelude.{◌≡◌, take, drop, IfOk, OnOk, IsErr};
 ghost use Rattle.disk_model.specs.FaultCounts.{NoFault, ReadFaultCounted};
 ghost use Rattle.disk_model.specs.Disk.{IfTold, reading, IsIdle};
-ghost use Rattle.gate_log.specs.Reading.{IsFrontOf};
+ghost use Rattle.gate_log.specs.Reading.{IsPeekedFront};
 
 use crate::error::DiskFault;
 use disk_model::{Disk, DiskError, FileName};
@@ -13,7 +13,7 @@ pub const FRONT_SIZE: usize = 27;
 
 /// The first octets of a log. None where its file has fewer, or where there is none.
 pub fn peek_head<D: Disk>(disk: &mut D, name: FileName) -> Result<Option<[u8; 27]>, DiskFault>
-    ensures front { IfOk result (λ front. IfTold (D.history disk.old) (λ now. IsFrontOf (reading (now name)) front)) }
+    ensures front { IfOk result (λ front. IfTold (D.history disk.old) (λ now. IsPeekedFront (reading (now name)) front)) }
     ensures idle { IsIdle (D.history disk.old) (D.history disk.new) }
     ensures fault { ReadFaultCounted (IsErr result) (D.faults disk.old) (D.faults disk.new) }
     ensures unfailed { OnOk result (NoFault (D.faults disk.old) (D.faults disk.new)) }

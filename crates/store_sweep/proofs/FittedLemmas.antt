@@ -12,7 +12,7 @@ use Rattle.disk_model.proofs.IdleLemmas.{same_state-back}
 use Rattle.disk_model.proofs.BetweenLemmas.{between-begins, between-then, between-map, between-if, between-since, between-on, between-step, between-goes_on}
 use Rattle.model_meaning.specs.MapMeaning.{MapMeaning, is_sealed}
 use Rattle.store_sweep.specs.Wanted.{is_wanted, end_of}
-use Rattle.store_sweep.specs.Moments.{SameWhere, SameThere, KeepsWanted, SameContent, IsSynced, IsCutToRegions, IsFitted, AreFitted, NamesSynced}
+use Rattle.store_sweep.specs.Moments.{SameWhere, SameThere, KeepsWanted, SameContent, IsFirm, IsCutToRegions, IsFitted, AreFitted, NamesSynced}
 
 -- ---- one storage file
 
@@ -22,7 +22,7 @@ same_content f g e = record { octets = ap (λ (h : FileState). h.octets) e; leas
 content_then : (f g h : FileState) → SameContent f g → SameContent g h → SameContent f h
 content_then f g h a b = record { octets = b.octets ∙ a.octets; least = b.least ∙ a.least; greatest = b.greatest ∙ a.greatest; firm = λ i. b.firm i ∙ a.firm i }
 
-content_synced : (f g : FileState) → SameContent f g → IsSynced f → IsSynced g
+content_synced : (f g : FileState) → SameContent f g → IsFirm f → IsFirm g
 content_synced f g s k = record {
   least = s.least ∙ k.least ∙ sym (ap length s.octets);
   greatest = s.greatest ∙ k.greatest ∙ sym (ap length s.octets);
@@ -104,7 +104,7 @@ shortened_file m n end f g unsealed is e there = record {
   content = inr (record {
       unsealed = unsealed;
       octets = ap (λ (h : FileState). h.octets) e ∙ ap (λ (k : ℕ). take k f.octets) is;
-      synced = subst IsSynced (sym e) (record { least = refl; greatest = refl; firm = λ i. refl });
+      synced = subst IsFirm (sym e) (record { least = refl; greatest = refl; firm = λ i. refl });
     });
 }
 

@@ -48,7 +48,7 @@ pub record SameContent (f g : FileState) : Type 0 where
   pub firm : (place : ℕ) → g.is_loose place ≡ f.is_loose place
 
 -- a crash leaves the file's octets as they read
-pub record IsSynced (f : FileState) : Type 0 where
+pub record IsFirm (f : FileState) : Type 0 where
   pub least : f.least ≡ length f.octets
   pub greatest : f.greatest ≡ length f.octets
   pub firm : (place : ℕ) → f.is_loose place ≡ false
@@ -57,7 +57,7 @@ pub record IsSynced (f : FileState) : Type 0 where
 pub record IsCutToRegions (m : MapMeaning) (number : ℕ) (f g : FileState) : Type 0 where
   pub unsealed : is_sealed m number ≡ false
   pub octets : g.octets ≡ take (end_of m number) f.octets
-  pub synced : IsSynced g
+  pub synced : IsFirm g
 
 -- A storage file, before a sweep and after it: it was there, its name is loose only if it was, and it has the content that it
 -- had, or was cut.
