@@ -1,4 +1,4 @@
-use Rattle.std.proofs.Common.{◌≡◌, List, All, length, map, sym, ◌∙◌, ap, subst, arith}
+use Rattle.std.proofs.Common.{◌≡◌, List, All, length, map, refl, sym, ◌∙◌, ap, subst, arith}
 use Rattle.disk_model.specs.Disk.{IfTold}
 use Rattle.gate_log.specs.State.{LogState, InspectedLog}
 use Rattle.store_checks.specs.declared.check.Checked.{Checked}
@@ -10,8 +10,8 @@ use Rattle.store_open.specs.Opened.{Opening}
 use Rattle.store_open.proofs.IdleUnlessLemmas.{stays, has_it, opening}
 use Rattle.store_open.proofs.CheckedLemmas.{one_each, names_are, all_stand, opens_at, opens_with}
 use Rattle.store_open.proofs.OpenStoreLemmas.{as_many, indexes_are, opened_store}
-use Rattle.store_open.proofs.SweptStoreLemmas.{idle_safe, swept_safe, settled_swept, reads_since, synced_since, names_since, shown}
-use Rattle.store_open.proofs.open.open_files.Goals as goal
+use Rattle.store_open.proofs.SweptStoreLemmas.{idle_settled, idle_safe, swept_safe, swept_since, carries-idle, carries-swept, shown}
+use Rattle.store_open.proofs.open.open_logs.Goals as goal
 
 pub part-requires : goal.part-requires
 part-requires g c =
@@ -64,8 +64,8 @@ join-requires-clause-room g c =
 pub returns-clause-store : goal.returns-clause-store
 returns-clause-store g c = λ lanes some few.
     let k = c.in_ok-id.ensures.checked in
-    opened_store c.in_ok-id.field-0 k.0 k.1 k.2 c.in_ok-parts.parts c.in_ok-swept.swept.map_log c.in_ok-swept.swept.box_logs.items c.join.new.opened.items lanes _ _ _ c.in_ok-id.ensures.idle k.3
-    (parted c.in_ok-id.field-0 _ c.in_ok-parts.parts c.into_vec-boxes.ensures c.in_ok-parts.ensures) c.in_ok-swept.ensures.reads c.in_ok-swept.ensures.map_log c.in_ok-swept.ensures.box_logs
+    opened_store c.args.alloc _ c.in_ok-id.field-0 k.0 k.1 k.2 c.in_ok-parts.parts c.in_ok-swept.swept.box_logs.items _ lanes _ _ _ c.counts_cover_listings.ensures c.in_ok-id.ensures.idle k.3
+    (parted c.in_ok-id.field-0 _ c.in_ok-parts.parts c.into_vec-boxes.ensures c.in_ok-parts.ensures) c.in_ok-swept.ensures.swept.reads refl c.in_ok-swept.ensures.root_log c.in_ok-swept.ensures.map_log c.in_ok-swept.ensures.box_logs
     (record { logs = c.join.ensures.logs; numbers = c.join.ensures.numbers; indexes = c.join.ensures.indexes }) some few
 
 pub returns-clause-shows : goal.returns-clause-shows
@@ -75,23 +75,48 @@ returns-clause-shows g c = λ lists s.
     (indexes_are c.in_ok-id.field-0 k.0 k.1 k.2 c.in_ok-parts.parts c.in_ok-swept.swept.box_logs.items c.join.new.opened.items _ _ k.3 (parted c.in_ok-id.field-0 _ c.in_ok-parts.parts c.into_vec-boxes.ensures c.in_ok-parts.ensures) (record { logs = c.join.ensures.logs; numbers = c.join.ensures.numbers; indexes = c.join.ensures.indexes }))
     k.3.opens s
 
-pub returns-clause-settled : goal.returns-clause-settled
-returns-clause-settled g c = λ lists s.
-    settled_swept c.in_ok-id.field-0.generation c.in_ok-id.field-0.map lists _ _ _ c.in_ok-id.ensures.idle c.in_ok-swept.ensures.reads (c.in_ok-swept.ensures.settled lists) s
+-- where no change failed
+
+pub returns-in_err-id-clause-settled_again : goal.returns-in_err-id-clause-settled_again
+returns-in_err-id-clause-settled_again g c = λ none lists s. idle_settled lists _ _ c.in_err-id.ensures.idle s
+
+pub returns-in_err-opened-clause-settled_again : goal.returns-in_err-opened-clause-settled_again
+returns-in_err-opened-clause-settled_again g c = λ none lists s. idle_settled lists _ _ c.in_ok-id.ensures.idle s
+
+pub returns-in_err-parts-clause-settled_again : goal.returns-in_err-parts-clause-settled_again
+returns-in_err-parts-clause-settled_again g c = λ none lists s. idle_settled lists _ _ c.in_ok-id.ensures.idle s
+
+pub returns-in_err-swept-clause-settled_again : goal.returns-in_err-swept-clause-settled_again
+returns-in_err-swept-clause-settled_again g c = λ none lists s. c.in_err-swept.ensures.settled_again ? lists (idle_settled lists _ _ c.in_ok-id.ensures.idle s)
+
+pub returns-clause-settled_again : goal.returns-clause-settled_again
+returns-clause-settled_again g c = λ none lists s. c.in_ok-swept.ensures.settled_again (λ fault. absurd (cc fault)) lists (idle_settled lists _ _ c.in_ok-id.ensures.idle s)
+
+pub returns-in_err-id-clause-carried : goal.returns-in_err-id-clause-carried
+returns-in_err-id-clause-carried g c = λ none. carries-idle _ _ c.in_err-id.ensures.idle
+
+pub returns-in_err-opened-clause-carried : goal.returns-in_err-opened-clause-carried
+returns-in_err-opened-clause-carried g c = λ none. carries-idle _ _ c.in_ok-id.ensures.idle
+
+pub returns-in_err-parts-clause-carried : goal.returns-in_err-parts-clause-carried
+returns-in_err-parts-clause-carried g c = λ none. carries-idle _ _ c.in_ok-id.ensures.idle
+
+pub returns-in_err-swept-clause-carried : goal.returns-in_err-swept-clause-carried
+returns-in_err-swept-clause-carried g c = λ none.
+    let k = c.in_ok-id.ensures.checked in
+    carries-swept c.in_ok-id.field-0.generation c.in_ok-id.field-0.map c.in_ok-id.field-0.id.0 k.1 k.2 _ _ _ c.in_ok-id.ensures.idle.same k.3.map_is (opens_at c.in_ok-id.field-0 k.0 k.1 k.2 _ _ c.in_ok-id.ensures.idle k.3) (c.in_err-swept.ensures.carried ?)
+
+pub returns-clause-carried : goal.returns-clause-carried
+returns-clause-carried g c = λ none.
+    let k = c.in_ok-id.ensures.checked in
+    carries-swept c.in_ok-id.field-0.generation c.in_ok-id.field-0.map c.in_ok-id.field-0.id.0 k.1 k.2 _ _ _ c.in_ok-id.ensures.idle.same k.3.map_is (opens_at c.in_ok-id.field-0 k.0 k.1 k.2 _ _ c.in_ok-id.ensures.idle k.3) c.in_ok-swept.ensures.swept.reads
 
 pub returns-clause-swept : goal.returns-clause-swept
-returns-clause-swept g c =
-    let same = c.in_ok-id.ensures.idle.same in (
-      c.in_ok-id.field-0.generation,
-      ap (λ (l : LogState). l.name) c.in_ok-swept.ensures.map_log.is ∙ c.in_ok-id.ensures.checked.3.map_log.name_is,
-      record {
-        reads = reads_since c.in_ok-id.field-0.generation c.in_ok-id.field-0.map _ _ _ same c.in_ok-swept.ensures.reads;
-        only = c.in_ok-swept.ensures.swept;
-        ends = c.in_ok-swept.ensures.ends;
-        synced = synced_since _ _ _ same c.in_ok-swept.ensures.synced;
-        names = names_since c.in_ok-id.field-0.generation c.in_ok-id.field-0.map _ _ _ same c.in_ok-swept.ensures.names;
-      },
-    )
+returns-clause-swept g c = (
+  c.in_ok-id.field-0.generation,
+  ap (λ (l : LogState). l.name) c.in_ok-swept.ensures.map_log.is ∙ c.in_ok-id.ensures.checked.3.map_log.name_is,
+  swept_since c.in_ok-id.field-0.generation c.in_ok-id.field-0.map _ _ _ c.in_ok-id.ensures.idle.same c.in_ok-swept.ensures.swept,
+)
 
 pub returns-clause-any_moment : goal.returns-clause-any_moment
 returns-clause-any_moment g c = λ lists s. swept_safe lists _ _ _ c.in_ok-id.ensures.idle s (c.in_ok-swept.ensures.any_moment lists)
