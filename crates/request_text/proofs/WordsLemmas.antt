@@ -1,5 +1,5 @@
 -- The words of the commands: which command they say.
-use Rattle.std.specs.Prelude.{◌≡◌, ◌≤◌, ◌<◌, ◌+◌, ◌*◌, ℕ, nat_eq, false, List, [], ◌∷◌, length, map, get_or, Ok, Err, Result, MatchResult}
+use Rattle.std.specs.Prelude.{◌≡◌, ◌≤◌, ◌<◌, ◌+◌, ◌*◌, ℕ, nat_eq, false, List, [], ◌∷◌, length, map, get_or, Ok, Err, Result, MatchResult, IfOk}
 use Rattle.std.proofs.Common.{sym, inl, inr, ◌∙◌, ap, subst, arith, refl}
 use Rattle.std.proofs.lemmas.Bool.{cases_lt, eqb-false}
 use Rattle.std.proofs.lemmas.List.{get_or_past}
@@ -77,3 +77,8 @@ same_words a b p q e = absurd (differ (words_of a) (words_of b) e refl)
 -- words say one command at most
 pub says_only : (words : List (List ℕ)) (command : Command) → Says words command → SaysOnly words command
 says_only words command p = record { says = p; only = λ other q. same_words other command q.0 p.0 (sym q.1 ∙ p.1) }
+
+-- the words are two
+pub said_only : {X : Type 0} → (r : Result Command X) (words two : List (List ℕ)) → IfOk r (Says two) → words ≡ two → IfOk r (SaysOnly words)
+said_only (Ok command) words two p e = says_only words command (p.0, e ∙ p.1)
+said_only (Err x) words two p e = tt
