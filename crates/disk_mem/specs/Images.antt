@@ -1,6 +1,6 @@
--- The disk that a stop leaves.
-use Rattle.std.specs.Prelude.{◌≡◌, ◌⊎◌, ℕ, List, [], take, Option, Some}
-use Rattle.disk_model.specs.Disk.{FileState, DiskState, IsImage, reading, no_file, still, state_at}
+-- The disk that a crash leaves.
+use Rattle.std.specs.Prelude.{◌≡◌, ℕ, List, [], take, Option, Some}
+use Rattle.disk_model.specs.Disk.{DiskState, IsImage, IsAtRest, reading, state_at}
 use Rattle.disk_model.specs.declared.name.FileName.{FileName}
 use Rattle.disk_mem.specs.declared.choice.Choice.{Choice}
 use Rattle.disk_mem.specs.declared.disk.MemDisk.{MemDisk}
@@ -12,11 +12,7 @@ use Rattle.disk_mem.specs.Record.{found, at_rest}
 abbrev pub left_at : MemDisk → ℕ → FileName → Option (List ℕ)
 left_at disk calls name = left_by_syncs name (take (noted calls disk.notes.items) disk.notes.items) (at_rest (found disk.base.items name))
 
--- no file, or one that a stop leaves as it reads
-abbrev pub IsAtRest : FileState → Type 0
-IsAtRest f = (f ≡ no_file) ⊎ ((octets : List ℕ) × (f ≡ still octets))
-
--- The disk after a stop when so many calls had run, by a choice: one of the images of that moment, at rest, on which no call
+-- The disk after a crash when so many calls had run, by a choice: one of the images of that moment, at rest, on which no call
 -- has run.
 pub record IsImageOf (old : MemDisk) (calls : ℕ) (choice : Choice) (new : MemDisk) : Type 0 where
   pub state : DiskState

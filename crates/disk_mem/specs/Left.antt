@@ -1,4 +1,4 @@
--- What a stop leaves of a file, by the notes of the calls before it.
+-- What a crash leaves of a file, by the notes of the calls before it.
 use Rattle.std.specs.Prelude.{◌≡◌, ◌≢◌, ℕ, ◌+◌, ◌-◌, ◌<◌, nat_lt, Bool, true, false, not, ◌&&◌, ◌||◌, if◌then◌else◌, List, [], ◌∷◌, length, slice_index, Option, Some, None}
 use Rattle.disk_model.specs.Disk.{FileState, reading, covers}
 use Rattle.disk_model.specs.Name.{same_name}
@@ -86,7 +86,7 @@ abbrev pub AreLeft : Choice → List File → List Note → List File → Type 0
 AreLeft choice base notes files = (name : FileName) (file : File) → found files name ≡ Some file → IsLeft choice base notes name (shown file)
 
 -- the file of this name is among the first, and each that was among the others
-pub record IsAdded (name : FileName) (old new : List File) : Type 0 where
+pub record IsOneMore (name : FileName) (old new : List File) : Type 0 where
   pub own : found new name ≢ None
   pub others : (other : FileName) → found old other ≢ None → found new other ≢ None
 

@@ -83,20 +83,20 @@ at_rest None = no_file
 at_rest (Some file) = if file.is_there then still file.text.octets.items else no_file
 
 -- a disk that begins with these files, at rest
-abbrev pub begun : List File → History
-begun files = record { now = λ name. at_rest (found files name); before = [] }
+abbrev pub from_rest : List File → History
+from_rest files = record { now = λ name. at_rest (found files name); before = [] }
 
 -- the history of a disk that began with these files, made these changes, and then so many calls that changed nothing
 unfoldable pub told_of : List File → List Note → ℕ → History
-told_of files notes idle = waited idle (played notes (begun files))
+told_of files notes idle = waited idle (played notes (from_rest files))
 
 -- a file is there and has these octets, as the state says
-abbrev pub Shows : File → FileState → Type 0
-Shows file f = (f.is_there ≡ file.is_there) × (f.octets ≡ file.text.octets.items)
+abbrev pub HoldsAs : File → FileState → Type 0
+HoldsAs file f = (f.is_there ≡ file.is_there) × (f.octets ≡ file.text.octets.items)
 
 -- a file reads as the state says; what it holds while it is gone doesn't matter
-abbrev pub Reads : File → FileState → Type 0
-Reads file f = (f.is_there ≡ file.is_there) × (f.is_there ≡ true → f.octets ≡ file.text.octets.items)
+abbrev pub ReadsAs : File → FileState → Type 0
+ReadsAs file f = (f.is_there ≡ file.is_there) × (f.is_there ≡ true → f.octets ≡ file.text.octets.items)
 
 -- whether there is such a file, and what it holds
 abbrev pub there_of : Option File → Bool
@@ -107,12 +107,12 @@ abbrev pub octets_of : Option File → List ℕ
 octets_of None = []
 octets_of (Some file) = file.text.octets.items
 
-abbrev pub IsRead : Option File → FileState → Type 0
-IsRead file f = (f.is_there ≡ there_of file) × (f.is_there ≡ true → f.octets ≡ octets_of file)
+abbrev pub IsReadAt : Option File → FileState → Type 0
+IsReadAt file f = (f.is_there ≡ there_of file) × (f.is_there ≡ true → f.octets ≡ octets_of file)
 
 -- the files as they read
 abbrev pub ReadsAll : List File → DiskState → Type 0
-ReadsAll files disk = (name : FileName) → IsRead (found files name) (disk name)
+ReadsAll files disk = (name : FileName) → IsReadAt (found files name) (disk name)
 
 pub record SameFile (old new : File) : Type 0 where
   pub name : new.name ≡ old.name

@@ -11,7 +11,7 @@ use Rattle.disk_mem.specs.declared.file.File.{File}
 use Rattle.disk_mem.specs.declared.note.Note.{Note}
 use Rattle.disk_mem.specs.declared.note.Change.{Change}
 use Rattle.disk_mem.specs.declared.note.Change.TheVariants.{Written, HalfWritten, Cut, HalfCut, Synced, Made, HalfMade, Removed, HalfRemoved, NamesSynced}
-use Rattle.disk_mem.specs.Record.{changed, is_for_all, at_name, stepped, waited, played, found, at_rest, begun, told_of}
+use Rattle.disk_mem.specs.Record.{changed, is_for_all, at_name, stepped, waited, played, found, at_rest, from_rest, told_of}
 
 pub record IsSound (f : FileState) : Type 0 where
   pub least : f.least ≤ length f.octets
@@ -96,9 +96,9 @@ played_sound (note ∷ notes) h s = played_sound notes (joined_by (stepped note 
 
 pub told_sound : (base : List File) (notes : List Note) (idle : ℕ) (name : FileName) → IsSound ((told_of base notes idle).now name)
 unfolding told_of
-told_sound base notes idle = waited_sound idle (played notes (begun base)) (played_sound notes (begun base) (λ name. rest_sound (found base name)))
+told_sound base notes idle = waited_sound idle (played notes (from_rest base)) (played_sound notes (from_rest base) (λ name. rest_sound (found base name)))
 
--- a file as it reads is what a stop may leave
+-- a file as it reads is what a crash may leave
 pub reading_left : (f : FileState) → IsSound f → MayLeave f (reading f)
 reading_left f s = elim (cases_Bool f.is_there) [
   | inl there ↦

@@ -1,10 +1,10 @@
 // The calls of a disk.
-ghost use Rattle.std.specs.Prelude.{◌≡◌, Some, None, ◌+◌, ◌^◌, ◌<◌, ◌≤◌, true, length, take, drop, IsErrOf, IsErr, IfOk, IfSome, OnOk, OnErr};
+ghost use Rattle.std.specs.Prelude.{◌≡◌, Some, None, ◌+◌, ◌-◌, ◌^◌, ◌<◌, ◌≤◌, min, true, length, take, drop, IsErrOf, IsErr, IfOk, IfSome, OnOk, OnErr};
 ghost use Rattle.std.specs.Option.{option_map};
 ghost use Rattle.disk_model.specs.Disk.{IfTold, IsThere, Reaches, after, Unchanged, IsPast, IsNext, AfterFailed, reading, change, change_all, written, cut_to, synced, made, removed, named, half_written, half_cut, half_made, half_removed, ReadCause, ChangeCause};
 ghost use Rattle.disk_model.specs.declared.error.DiskError.TheVariants.{Failed, Absent};
 ghost use Rattle.disk_mem.specs.Numbers.{fails_call, fails_write, counted, counted_write};
-ghost use Rattle.disk_mem.specs.Mem.{told, faults_of, ReadFails, ChangeFails};
+ghost use Rattle.disk_mem.specs.Mem.{told, calls_of, faults_of, ReadFails, ChangeFails};
 ghost use Rattle.disk_mem.specs.Sound.{told_reads_image};
 
 use crate::disk::MemDisk;
@@ -16,6 +16,12 @@ impl Disk for MemDisk {
     ghost history = { λ disk. Some (told disk) };
 
     ghost faults = { faults_of };
+
+    fn moment(&self) -> u64
+        ensures { result ≡ min (calls_of self.now) (2 ^ 64 - 1) }
+    {
+        self.calls()
+    }
 
     fn length(&mut self, name: FileName) -> Result<u64, DiskError>
         ensures length { IfOk result (λ n. option_map length (reading ((told self.old).now name)) ≡ Some n) }

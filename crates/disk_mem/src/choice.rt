@@ -1,6 +1,6 @@
-// What a stop leaves.
+// What a crash leaves.
 
-/// What a stop leaves of the calls since the last syncs.
+/// What a crash leaves of the calls since the last syncs.
 #[derive(Clone, Copy, Debug, PartialEq, Eq)]
 pub enum Choice {
     /// Nothing: what the last syncs left.

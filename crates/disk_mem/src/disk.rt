@@ -11,7 +11,7 @@ use disk_model::{DiskError, FileName};
 use mdbox_base::{NoMemory, Seq};
 use std::alloc::Global;
 
-/// A disk in memory. It tells its content, keeps a record of its calls, and makes the disks that a stop would leave.
+/// A disk in memory. It tells its content, keeps a record of its calls, and makes the disks that a crash would leave.
 ///
 /// Its calls fail where they were listed to fail, and a change also where there is no memory for it.
 #[derive(Drop)]
@@ -38,13 +38,13 @@ pub struct MemDisk {
 impl MemDisk {
     ghost use Rattle.std.specs.Prelude.{true, ◌≤◌, IfOk, OnOk, OnErr, IsErr, is_ok, length};
     ghost use Rattle.disk_model.specs.Disk.{Unchanged, AfterFailed, ChangeCause, joined_by, after, change, written, half_written};
-    ghost use Rattle.disk_mem.specs.Record.{begun, done, is_half};
+    ghost use Rattle.disk_mem.specs.Record.{from_rest, done, is_half};
     ghost use Rattle.disk_mem.specs.Numbers.{fails_call, fails_write, counted, counted_write};
     ghost use Rattle.disk_mem.specs.Mem.{told, faults_of, IsUnlisted, SameCounts, ReadCounts, ChangeCounts, ChangeFails, ReadsAsBefore};
 
     /// An empty disk, on which no call has run.
     pub fn fresh(alloc: Global) -> Result<MemDisk, NoMemory>
-        ensures empty { IfOk result (λ disk. told disk ≡ begun []) }
+        ensures empty { IfOk result (λ disk. told disk ≡ from_rest []) }
         ensures unlisted { IfOk result IsUnlisted }
         ensures starved { IfOk result (λ disk. disk.starved ≡ 0) }
         ensures faults { IfOk result (λ disk. faults_of disk ≡ record { reads = 0; changes = 0 }) }
@@ -54,7 +54,7 @@ impl MemDisk {
 
     /// A disk with these files, at rest, on which no call has run.
     pub(crate) fn resting(alloc: Global, base: Vec<File>) -> Result<MemDisk, NoMemory>
-        ensures told { IfOk result (λ disk. told disk ≡ begun base.items) }
+        ensures told { IfOk result (λ disk. told disk ≡ from_rest base.items) }
         ensures unlisted { IfOk result IsUnlisted }
         ensures starved { IfOk result (λ disk. disk.starved ≡ 0) }
         ensures faults { IfOk result (λ disk. faults_of disk ≡ record { reads = 0; changes = 0 }) }

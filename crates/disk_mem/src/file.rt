@@ -1,7 +1,7 @@
 // Files as they read.
 ghost use Rattle.std.specs.Prelude.{◌≡◌, ◌↔◌, IsTrue, true, false, Some, IsNone, IfSome, IfOk, None, OnOk, OnErr};
 ghost use Rattle.disk_model.specs.Disk.{FileState, DiskState, reading, IsPast, IsNext};
-ghost use Rattle.disk_mem.specs.Record.{Shows, at_rest, at_file, Reads, ReadsAll, SameFile, found, changed, is_for_all, stepped, IsPlaceOf, IsLessThan, IsNearer};
+ghost use Rattle.disk_mem.specs.Record.{HoldsAs, at_rest, at_file, ReadsAs, ReadsAll, SameFile, found, changed, is_for_all, stepped, IsPlaceOf, IsLessThan, IsNearer};
 
 use crate::note::{Change, Note};
 use crate::text::Text;
@@ -21,8 +21,8 @@ impl File {
     /// Makes a change.
     pub fn apply(&mut self, change: &Change) -> Result<(), NoMemory>
         ensures name { self.new.name ≡ self.old.name }
-        ensures ok { OnOk result ((f : FileState) → Shows self.old f → Shows self.new (changed change.now f)) }
-        ensures reads { OnOk result ((f : FileState) → Reads self.old f → Reads self.new (changed change.now f)) }
+        ensures ok { OnOk result ((f : FileState) → HoldsAs self.old f → HoldsAs self.new (changed change.now f)) }
+        ensures reads { OnOk result ((f : FileState) → ReadsAs self.old f → ReadsAs self.new (changed change.now f)) }
         ensures err { OnErr result (SameFile self.old self.new) }
     {
         match change {
@@ -53,7 +53,7 @@ impl File {
     /// No file of this name.
     pub fn gone(alloc: Global, name: FileName) -> File
         ensures name { result.name ≡ name }
-        ensures shows { Shows result (at_rest None) }
+        ensures shows { HoldsAs result (at_rest None) }
     {
         File {
             name,
@@ -65,7 +65,7 @@ impl File {
     /// The file of this name as it stands still.
     pub fn at_rest(&self, alloc: Global, name: FileName) -> Result<File, NoMemory>
         ensures name { IfOk result (λ file. file.name ≡ name) }
-        ensures shows { IfOk result (λ file. Shows file (at_rest (Some self.now))) }
+        ensures shows { IfOk result (λ file. HoldsAs file (at_rest (Some self.now))) }
     {
         if !self.is_there {
             return Ok(File::gone(alloc, name));
@@ -81,7 +81,7 @@ impl File {
     /// Makes the change of a note, where it is of this file or of each.
     pub fn follow(&mut self, note: &Note) -> Result<(), NoMemory>
         ensures name { self.new.name ≡ self.old.name }
-        ensures shows { OnOk result ((f : FileState) → Shows self.old f → Shows self.new (at_file self.old.name note.now f)) }
+        ensures shows { OnOk result ((f : FileState) → HoldsAs self.old f → HoldsAs self.new (at_file self.old.name note.now f)) }
     {
         let own = is_named(self.name, note.name);
         if let Change::NamesSynced = note.change {

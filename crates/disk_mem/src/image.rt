@@ -1,8 +1,8 @@
-// The disks that a stop would leave.
+// The disks that a crash would leave.
 ghost use Rattle.std.specs.Prelude.{◌≡◌, ◌+◌, ◌-◌, ◌^◌, min, sum_by, ◌<◌, ◌≤◌, ℕ, if◌then◌else◌, length, slice_get, slice_index, ◌≢◌, Some, None, IfOk, OnOk};
 ghost use Rattle.disk_model.specs.Disk.{covers};
-ghost use Rattle.disk_mem.specs.Record.{Shows, found, at_rest, file_after};
-ghost use Rattle.disk_mem.specs.Left.{calls_by, noted, IsLeft, shown, shown_of, AreLeft, IsAdded, IsCopy, touched, touched_by};
+ghost use Rattle.disk_mem.specs.Record.{HoldsAs, found, at_rest, file_after};
+ghost use Rattle.disk_mem.specs.Left.{calls_by, noted, IsLeft, shown, shown_of, AreLeft, IsOneMore, IsCopy, touched, touched_by};
 
 use crate::choice::Choice;
 use crate::disk::MemDisk;
@@ -43,7 +43,7 @@ fn run_by(notes: &[Note], idle: u64) -> u64
 /// A file as it was at the beginning.
 fn first(alloc: Global, base: &[File], name: FileName) -> Result<File, NoMemory>
     ensures name { IfOk result (λ file. file.name ≡ name) }
-    ensures shows { IfOk result (λ file. Shows file (at_rest (found base.now name))) }
+    ensures shows { IfOk result (λ file. HoldsAs file (at_rest (found base.now name))) }
 {
     match place_of(base, name) {
         Some(i) => base[i].at_rest(alloc, name),
@@ -54,7 +54,7 @@ fn first(alloc: Global, base: &[File], name: FileName) -> Result<File, NoMemory>
 /// A file after these notes.
 fn replayed(alloc: Global, base: &[File], name: FileName, notes: &[Note]) -> Result<File, NoMemory>
     ensures name { IfOk result (λ file. file.name ≡ name) }
-    ensures shows { IfOk result (λ file. Shows file (file_after name notes.now (at_rest (found base.now name)))) }
+    ensures shows { IfOk result (λ file. HoldsAs file (file_after name notes.now (at_rest (found base.now name)))) }
 {
     let mut file = first(alloc, base, name)?;
     for note in notes {
@@ -94,7 +94,7 @@ fn tear_range(text: &mut Text, at: u64, count: u64, octet: u8)
     text.fill(at.min(end) as usize, end as usize, octet);
 }
 
-/// What a stop leaves of a file by a choice, after these notes.
+/// What a crash leaves of a file by a choice, after these notes.
 fn left_of(
     alloc: Global,
     base: &[File],
@@ -133,7 +133,7 @@ fn add_left(
 ) -> Result<(), NoMemory>
     requires { AreLeft choice base.now notes.now made.old.items }
     ensures left { OnOk result (AreLeft choice base.now notes.now made.new.items) }
-    ensures added { OnOk result (IsAdded name made.old.items made.new.items) }
+    ensures added { OnOk result (IsOneMore name made.old.items made.new.items) }
 {
     match place_of(made, name) {
         Some(_) => return Ok(()),
@@ -204,7 +204,7 @@ impl MemDisk {
         run_by(&self.notes, self.idle)
     }
 
-    /// The disk after a stop when so many calls had run, which are at most those that did. It is at rest, no call of it is
+    /// The disk after a crash when so many calls had run, which are at most those that did. It is at rest, no call of it is
     /// listed to fail, and its counts are 0.
     pub fn image(&self, alloc: Global, calls: u64, choice: Choice) -> Result<MemDisk, NoMemory>
         requires { calls ≤ calls_of self.now }

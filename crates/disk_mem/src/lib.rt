@@ -1,4 +1,4 @@
-//! A disk in memory, which keeps a record of its calls and makes the disks that a stop would leave.
+//! A disk in memory, which keeps a record of its calls and makes the disks that a crash would leave.
 #![tactic(auto)]
 
 pub use choice::Choice;

@@ -1,4 +1,4 @@
-// What a disk in memory does, call by call, and what a stop leaves of it.
+// What a disk in memory does, call by call, and what a crash leaves of it.
 ghost use Rattle.std.specs.Prelude.{◌≡◌, ◌+◌, ◌≤◌, OnOk, length};
 ghost use Rattle.disk_model.specs.Disk.{Reaches};
 ghost use Rattle.disk_mem.specs.Mem.{told, calls_of};

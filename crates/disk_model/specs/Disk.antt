@@ -1,5 +1,6 @@
--- What a disk is: its files, what each call does to them, and what a stop may leave.
-use Rattle.std.specs.Prelude.{◌≡◌, ◌≢◌, ◌↔◌, ◌==◌, ◌⊎◌, ℕ, ◌+◌, ◌-◌, ◌^◌, ◌<◌, ◌≤◌, min, max, nat_le, nat_lt, Bool, true, false, not, ◌&&◌, ◌||◌, if◌then◌else◌, List, [], ◌∷◌, ◌++◌, length, take, drop, slice_get, Option, Some, None, MatchOption, Result, IsErr, IsErrOf, ⊤, All}
+-- What a disk is: its files, what each call does to them, and what a crash may leave.
+use Rattle.mdbox_base.specs.Streams.{Rose}
+use Rattle.std.specs.Prelude.{◌≡◌, ◌≢◌, ◌↔◌, ◌==◌, ◌⊎◌, ℕ, ◌+◌, ◌-◌, ◌^◌, ◌<◌, ◌≤◌, min, max, nat_le, nat_lt, Bool, true, false, not, ◌&&◌, ◌||◌, if◌then◌else◌, List, [], ◌∷◌, ◌++◌, length, take, drop, slice_get, Option, Some, None, MatchOption, Result, IsOk, IsErr, IsErrOf, ⊤, All}
 use Rattle.std.specs.declared.cmp.Ordering.{Ordering}
 use Rattle.std.specs.declared.cmp.Ordering.TheVariants.{Less}
 use Rattle.disk_model.specs.Name.{same_name}
@@ -13,7 +14,7 @@ Files = FileName → Option (List ℕ)
 
 -- One file, and what has happened to it since its last sync and since the last sync of names.
 pub record FileState : Type 0 where
-  -- what a read gives: whether the file is there, and its octets; of a file that was removed, those that a stop may still leave
+  -- what a read gives: whether the file is there, and its octets; of a file that was removed, those that a crash may still leave
   pub is_there : Bool
   pub octets : List ℕ
   -- its least and greatest length since its last sync, and the places of octets that were written since
@@ -37,7 +38,7 @@ IsThere f = f.is_there ≡ true
 abbrev pub Reaches : FileState → ℕ → Type 0
 Reaches f n = (f.is_there ≡ true) × (n ≤ length f.octets)
 
--- A stop may leave these octets of one file: of a length that it had since its last sync, any octets in each range that
+-- A crash may leave these octets of one file: of a length that it had since its last sync, any octets in each range that
 -- was written since and past the shortest length since, and elsewhere those that stand.
 pub record MayHold (f : FileState) (octets : List ℕ) : Type 0 where
   pub named : (f.is_there ≡ true) ⊎ (f.is_name_loose ≡ true)
@@ -46,17 +47,17 @@ pub record MayHold (f : FileState) (octets : List ℕ) : Type 0 where
   pub same : (i : ℕ) → i < f.least → f.is_loose i ≡ false → slice_get octets i ≡ slice_get f.octets i
   pub are_octets : All (λ octet. octet < 256) octets
 
--- What a stop may leave of one file: octets, or no file where it isn't there or was made or removed since the last sync
+-- What a crash may leave of one file: octets, or no file where it isn't there or was made or removed since the last sync
 -- of names.
 abbrev pub MayLeave : FileState → Option (List ℕ) → Type 0
 MayLeave f None = (f.is_there ≡ false) ⊎ (f.is_name_loose ≡ true)
 MayLeave f (Some octets) = MayHold f octets
 
--- an image of a disk: each file is as a stop may leave it
+-- an image of a disk: each file is as a crash may leave it
 abbrev pub IsImage : DiskState → Files → Type 0
 IsImage disk image = (name : FileName) → MayLeave (disk name) (image name)
 
--- the file reads these octets, and they are what a stop leaves of it
+-- the file reads these octets, and they are what a crash leaves of it
 pub record Keeps (f : FileState) (octets : List ℕ) : Type 0 where
   pub reads : reading f ≡ Some octets
   pub leaves : (left : Option (List ℕ)) → MayLeave f left ↔ (left ≡ Some octets)
@@ -68,6 +69,10 @@ no_file = record { is_there = false; octets = []; least = 0; greatest = 0; is_lo
 -- a file with these octets, synced, and its name too
 abbrev pub still : List ℕ → FileState
 still octets = record { is_there = true; octets = octets; least = length octets; greatest = length octets; is_loose = λ _. false; is_name_loose = false }
+
+-- no file, or one that a crash leaves just as it reads
+abbrev pub IsAtRest : FileState → Type 0
+IsAtRest f = (f ≡ no_file) ⊎ ((octets : List ℕ) × All (λ octet. octet < 256) octets × (f ≡ still octets))
 
 -- from `at` on, `n` of them
 abbrev pub covers : ℕ → ℕ → ℕ → Bool
@@ -137,6 +142,12 @@ pub record History : Type 0 where
 abbrev pub calls : History → ℕ
 calls h = length h.before
 
+-- This is the number of calls that have returned, or the greatest that a u64 holds. Nothing is asked where no content is
+-- modelled.
+abbrev pub IsMoment : Option History → ℕ → Type 0
+IsMoment None moment = ⊤
+IsMoment (Some h) moment = (2 ^ 64 - 1 ≤ moment) ⊎ (moment ≡ calls h)
+
 -- one more call has returned, and left this state
 abbrev pub joined_by : DiskState → History → History
 joined_by state h = record { now = state; before = h.now ∷ h.before }
@@ -149,6 +160,17 @@ IfTold h P = MatchOption h ⊤ (λ told. P told.now)
 abbrev pub IsTold : Option History → Type 0
 IsTold None = ⊥
 IsTold (Some h) = ⊤
+
+-- A relation of the states at two times, where the disk tells them. A disk that tells goes on to tell, and one that doesn't
+-- doesn't.
+abbrev pub Between : (DiskState → DiskState → Type 0) → Option History → Option History → Type 0
+Between R None new = new ≡ None
+Between R (Some old) None = ⊥
+Between R (Some old) (Some new) = R old.now new.now
+
+-- the state is the same
+abbrev pub SameState : Option History → Option History → Type 0
+SameState = Between (λ old new. new ≡ old)
 
 -- a call that did this
 abbrev pub after : (DiskState → DiskState) → Option History → Option History
@@ -183,27 +205,19 @@ pub record Faults : Type 0 where
   pub reads : ℕ
   pub changes : ℕ
 
--- a count rose, or stands at the top of a u64
-abbrev pub Rose : ℕ → ℕ → Type 0
-Rose old new = min (old + 1) (2 ^ 64 - 1) ≤ new
-
--- `Failed` comes only where the count of failed reads rose
+-- `Failed` comes only where the count of failed reads rose, and any other answer only where it stayed
 pub record ReadCause {T : Type 0} (result : Result T DiskError) (old new : Faults) : Type 0 where
   pub no_less : old.reads ≤ new.reads
   pub failed : IsErrOf result Failed → Rose old.reads new.reads
+  pub unfailed : (IsErrOf result Failed → ⊥) → new.reads ≡ old.reads
   pub changes : new.changes ≡ old.changes
 
--- `Failed` is the only error, and comes only where the count of failed changes rose
+-- `Failed` is the only error, and comes only where the count of failed changes rose. Success comes only where it stayed.
 pub record ChangeCause {T : Type 0} (result : Result T DiskError) (old new : Faults) : Type 0 where
   pub no_less : old.changes ≤ new.changes
   pub failed : IsErr result → IsErrOf result Failed × Rose old.changes new.changes
+  pub unfailed : IsOk result → new.changes ≡ old.changes
   pub reads : new.reads ≡ old.reads
-
--- The counts never fall, and that of failed changes rose where this holds.
-pub record FaultsRoseIf (failed : Type 0) (old new : Faults) : Type 0 where
-  pub reads : old.reads ≤ new.reads
-  pub changes : old.changes ≤ new.changes
-  pub rose : failed → Rose old.changes new.changes
 
 -- a name greater than this one
 abbrev pub IsPast : (FileName → FileName → Ordering) → Option FileName → FileName → Type 0
@@ -241,8 +255,19 @@ EachImage P (Some old) (Some new) = EachImageSince P old new
 abbrev pub OthersStay : FileName → Option History → Files → Type 0
 OthersStay name old image = IfTold old (λ disk. (other : FileName) → other ≢ name → MayLeave (disk other) (image other))
 
--- both told, and each other file as it was
+-- each other file is as it was
 abbrev pub SameButFor : FileName → Option History → Option History → Type 0
-SameButFor name None new = new ≡ None
-SameButFor name (Some old) None = ⊥
-SameButFor name (Some old) (Some new) = (other : FileName) → other ≢ name → new.now other ≡ old.now other
+SameButFor name = Between (λ old new. (other : FileName) → other ≢ name → new other ≡ old other)
+
+-- Nothing has changed: the state is the same, and each image since is one that the disk could leave before.
+pub record IsIdle (old new : Option History) : Type 0 where
+  pub same : SameState old new
+  pub each : EachImage (λ _ image. IfTold old (λ disk. IsImage disk image)) old new
+
+-- how many calls have returned, or 0 where the disk isn't modelled; and that time has gone on
+abbrev pub told_calls : Option History → ℕ
+told_calls None = 0
+told_calls (Some h) = calls h
+
+abbrev pub Grows : Option History → Option History → Type 0
+Grows old new = told_calls old ≤ told_calls new

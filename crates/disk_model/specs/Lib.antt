@@ -1,2 +1,4 @@
 pub mod Disk
+pub mod Error
+pub mod FaultCounts
 pub mod Name

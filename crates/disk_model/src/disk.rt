@@ -1,18 +1,18 @@
-// A disk that may stop at any moment.
+// A disk under a program that may crash at any moment.
 ghost use Rattle.std.specs.Prelude.{◌≡◌, ◌+◌, ◌^◌, ◌<◌, ◌≤◌, ℕ, List, length, take, drop, Option, min, IsErrOf, IfOk, IfSome, OnOk, OnErr};
 ghost use Rattle.std.specs.Option.{option_map};
-ghost use Rattle.disk_model.specs.Disk.{History, Faults, IfTold, IsThere, Reaches, after, Unchanged, IsPast, IsNext, AfterFailed, reading, IsImage, change, change_all, written, cut_to, synced, made, removed, named, half_written, half_cut, half_made, half_removed, ReadCause, ChangeCause};
+ghost use Rattle.disk_model.specs.Disk.{History, Faults, IfTold, IsThere, Reaches, after, Unchanged, IsPast, IsNext, AfterFailed, reading, IsImage, IsMoment, change, change_all, written, cut_to, synced, made, removed, named, half_written, half_cut, half_made, half_removed, ReadCause, ChangeCause};
 ghost use Rattle.disk_model.specs.declared.error.DiskError.TheVariants.{Failed, Absent};
 
 use crate::{DiskError, FileName};
 
-/// The files of a store, on a device that may stop at any moment and whose calls may fail.
+/// The files of a store, where a crash may come at any moment, and calls may fail.
 ///
-/// A disk may tell what it holds and what a stop would leave, as one in memory does, or be bound by its answers and counts
+/// A disk may tell what it holds and what a crash would leave, as one in memory does, or be bound by its answers and counts
 /// alone, as a real one is. Where it tells, a write, a cut and a sync have the condition that the file is there, and a
 /// write or a cut one on its length. A disk that doesn't tell counts such a call as a fault.
 ///
-/// What a stop may leave is in `specs/Disk.antt` and, in plain words, in `docs/model.md`.
+/// What a crash may leave is in `specs/Disk.antt` and, in plain words, in `docs/model.md`.
 pub trait Disk {
     /// The disk's states at each moment so far, a moment being a number of calls that have returned. None where it tells
     /// no content.
@@ -20,6 +20,10 @@ pub trait Disk {
 
     /// How often a call that reads has failed, and how often one that changes. Neither count falls.
     ghost faults: { Self → Faults };
+
+    /// The present moment: how many calls have returned, as far as the type goes. This one isn't counted.
+    fn moment(&self) -> u64
+        ensures { IsMoment (history self.now) result };
 
     /// The file's length in octets. `Absent` exactly where there is no such file.
     fn length(&mut self, name: FileName) -> Result<u64, DiskError>
@@ -49,7 +53,7 @@ pub trait Disk {
         ensures state { Unchanged (history self.old) (history self.new) }
         ensures cause { ReadCause result (faults self.old) (faults self.new) };
 
-    /// Writes all of `from` at `offset`, which is at most the file's length, and so may lengthen the file. A stop before its
+    /// Writes all of `from` at `offset`, which is at most the file's length, and so may lengthen the file. A crash before its
     /// sync may leave any octets in that range.
     fn write_at(&mut self, name: FileName, offset: u64, from: &[u8]) -> Result<(), DiskError>
         requires { IfTold (history self.old) (λ disk. Reaches (disk name) offset) }
@@ -65,7 +69,7 @@ pub trait Disk {
         ensures failed { OnErr result (AfterFailed (change name (half_cut length)) (history self.old) (history self.new)) }
         ensures cause { ChangeCause result (faults self.old) (faults self.new) };
 
-    /// After this a stop leaves the file's octets as they read.
+    /// After this a crash leaves the file's octets as they read.
     fn sync(&mut self, name: FileName) -> Result<(), DiskError>
         requires { IfTold (history self.old) (λ disk. IsThere (disk name)) }
         ensures state { OnOk result (history self.new ≡ after (change name synced) (history self.old)) }
@@ -84,7 +88,7 @@ pub trait Disk {
         ensures failed { OnErr result (AfterFailed (change name half_removed) (history self.old) (history self.new)) }
         ensures cause { ChangeCause result (faults self.old) (faults self.new) };
 
-    /// After this a stop leaves just the files that are there.
+    /// After this a crash leaves just the files that are there.
     fn sync_names(&mut self) -> Result<(), DiskError>
         ensures state { OnOk result (history self.new ≡ after (change_all named) (history self.old)) }
         ensures failed { OnErr result (AfterFailed (λ disk. disk) (history self.old) (history self.new)) }

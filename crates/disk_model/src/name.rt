@@ -1,6 +1,6 @@
 // Names of files.
-ghost use Rattle.std.specs.Prelude.{◌≡◌, ◌↔◌, IsTrue};
-ghost use Rattle.disk_model.specs.Name.{same_name};
+ghost use Rattle.std.specs.Prelude.{◌≡◌, ◌↔◌, ◌<◌, IsTrue, All};
+ghost use Rattle.disk_model.specs.Name.{same_name, is_log, IsNameInRange};
 
 use std::cmp::Ordering;
 
@@ -38,4 +38,36 @@ pub fn order(a: FileName, b: FileName) -> Ordering
     ensures { result ≡ ⟦<FileName as Ord>⟧.cmp a b }
 {
     a.cmp(&b)
+}
+
+/// Whether it is the name of a log, and of no storage file and no instance.
+pub fn is_log(name: FileName) -> bool
+    ensures { result ≡ is_log name }
+{
+    matches!(
+        name,
+        FileName::Root | FileName::Map(_) | FileName::Box(_, _)
+    )
+}
+
+/// The numbers and octets of a name are in their types' ranges.
+pub fn known_range(name: FileName)
+    ensures { IsNameInRange name }
+{
+    match name {
+        FileName::Root => (),
+        FileName::Map(_generation) => (),
+        FileName::Box(_number, _generation) => (),
+        FileName::Mail(_number) => (),
+        FileName::Inst(hash, id) => {
+            known_octets(&hash);
+            known_octets(&id);
+        }
+    }
+}
+
+fn known_octets(octets: &[u8])
+    ensures { All (λ octet. octet < 256) octets.now }
+{
+    let _length = octets.len();
 }

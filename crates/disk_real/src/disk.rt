@@ -1,6 +1,7 @@
 // A disk over the files of the current folder.
 ghost use Rattle.std.specs.Prelude.{None, ◌≡◌, ◌≤◌, OnOk, IsOk, find};
-ghost use Rattle.disk_model.specs.Disk.{Rose, ReadCause, ChangeCause};
+ghost use Rattle.mdbox_base.specs.Streams.{Rose};
+ghost use Rattle.disk_model.specs.Disk.{ReadCause, ChangeCause};
 ghost use Rattle.disk_model.specs.declared.error.DiskError.TheVariants.{Failed};
 ghost use Rattle.disk_real.specs.Counts.{real_faults_of};
 ghost use Rattle.disk_real.specs.Past.{is_past};

@@ -11,7 +11,7 @@ use Rattle.file_paths.specs.Paths.{path_text, IsStoreFile}
 use Rattle.model_octets.proofs.PiecesLemmas.{split_same}
 use Rattle.model_storage.proofs.ReferenceLemmas.{until_same, hex_same}
 use Rattle.file_paths.specs.InstPath.{inst_path}
-use Rattle.file_paths.proofs.HexLaws.{lower_digit}
+use Rattle.mdbox_base.proofs.LowerHexLemmas.{lower_digit}
 
 -- a digit is none of the marks below `0`
 other_digit : (mark d : ℕ) → mark < 48 → d < 16 → is_other_than mark (slice_index lower_digits d) ≡ true

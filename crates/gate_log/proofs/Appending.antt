@@ -9,10 +9,10 @@ use Rattle.std.proofs.Math.Seq.{take-append_seam}
 use Rattle.std.proofs.lemmas.Bool.{cases_eq}
 use Rattle.std.proofs.lemmas.List.Elements.{All-nil, All-cons, All-append, All-push, All-take, All-from_recursion}
 use Rattle.disk_model.specs.Disk.{FileState, DiskState, History, IsThere, Reaches, Keeps, IfTold, AfterFailed, EachImage, after, change, written, half_written, synced, reading}
-use Rattle.disk_model.proofs.Moments.{if_told-map}
-use Rattle.disk_model.proofs.OneFile.{IsAlong, Along, one_file-then}
-use Rattle.disk_model.proofs.ChangeAndSync.{Can, CanNow, changed_state, state, change_fails, sync_fails, along, images}
-use Rattle.disk_model.proofs.Firm.{IsFirm, firm_from_keeps, keeps_from_firm, synced_firm, reading_from_there, reads_there, end_written_left, end_half_left, one_written_left, one_half_left, end_octets, one_octets}
+use Rattle.disk_model.proofs.MomentLemmas.{if_told-map}
+use Rattle.disk_model.proofs.OneFileLemmas.{IsAlong, Along, one_file-then}
+use Rattle.disk_model.proofs.ChangeAndSyncLemmas.{Can, CanNow, changed_state, state, change_fails, sync_fails, along, images}
+use Rattle.disk_model.proofs.FirmLemmas.{IsFirm, firm_from_keeps, keeps_from_firm, synced_firm, reading_from_there, reads_there, end_written_left, end_half_left, one_written_left, one_half_left, end_octets, one_octets}
 use Rattle.model_logs.specs.declared.log_head.LogHead.{LogHead}
 use Rattle.model_logs.specs.LogFile.{HeadFits, record_octets, EntryFits, log_front, IsLog}
 use Rattle.model_logs.proofs.LogFileLemmas.{front_more}

@@ -3,8 +3,8 @@ use Rattle.std.specs.Prelude.{OnOk, Result, Ok, Err}
 use Rattle.std.proofs.Common.{◌≡◌, inl, inr, ℕ, ◌+◌, List, [], ◌∷◌, ◌++◌, length, Option, Some, None, All, refl, sym, ◌∙◌, subst, ap, append_assoc, length-append, arith}
 use Rattle.disk_model.specs.Disk.{Files, DiskState, History, IfTold, EachImage, OthersStay, SameButFor, Keeps, reading}
 use Rattle.disk_model.specs.declared.name.FileName.{FileName}
-use Rattle.disk_model.proofs.Moments.{if_told-map, if_told-both, each_image-map, each_image-then}
-use Rattle.disk_model.proofs.OneFile.{IsAlong, Along, along-begins, one_file-then, others-back}
+use Rattle.disk_model.proofs.MomentLemmas.{if_told-map, if_told-both, each_image-map, each_image-then}
+use Rattle.disk_model.proofs.OneFileLemmas.{IsAlong, Along, along-begins, one_file-then, others-back}
 use Rattle.model_logs.specs.declared.log_head.LogHead.{LogHead}
 use Rattle.model_logs.specs.LogFile.{HeadFits, EntryFits, log_front, EndsLog, IsLogFile}
 use Rattle.gate_log.specs.Log.{IsStanding, IsDurable, ReadsParts, KeepsParts, BeginsWith, IsOneBetween, log_text}

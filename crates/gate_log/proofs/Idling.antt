@@ -1,13 +1,13 @@
 -- Calls that change nothing, and reading a file whole.
+use Rattle.disk_model.proofs.IdleLemmas.{idle-back}
 use Rattle.std.specs.Option.{option_map}
 use Rattle.std.proofs.Common.{◌≡◌, inl, inr, ℕ, List, length, take, Option, Some, None, refl, sym, ◌∙◌, subst, ap, arith}
 use Rattle.std.proofs.lemmas.List.{take_all}
 use Rattle.std.proofs.lemmas.Option.{same_Some}
-use Rattle.disk_model.specs.Disk.{Files, DiskState, History, MayLeave, IsImage, IfTold, Unchanged, EachImage, SameButFor, reading}
+use Rattle.disk_model.specs.Disk.{Files, DiskState, History, MayLeave, IsImage, IfTold, Unchanged, EachImage, SameButFor, reading, SameState, IsIdle}
 use Rattle.disk_model.specs.declared.name.FileName.{FileName}
-use Rattle.disk_model.proofs.Moments.{if_told-both, each_image-begins, each_image-unchanged, each_image-map}
-use Rattle.disk_model.proofs.OneFile.{IsAlong, Along}
-use Rattle.gate_log.specs.Log.{SameState, Idle}
+use Rattle.disk_model.proofs.MomentLemmas.{if_told-both, each_image-begins, each_image-unchanged, each_image-map}
+use Rattle.disk_model.proofs.OneFileLemmas.{IsAlong, Along}
 
 same-begins : (old : Option History) → SameState old old
 same-begins None = refl
@@ -21,51 +21,13 @@ same-unchanged (Some old) None new same unchanged = elim same [ ]
 same-unchanged (Some old) (Some now) new same (inl is) = subst (SameState (Some old)) (sym is) same
 same-unchanged (Some old) (Some now) new same (inr is) = subst (SameState (Some old)) (sym is.0) same
 
-pub idle-begins : (old : Option History) → Idle old old
-idle-begins old = record { same = same-begins old; each = each_image-begins _ old (images old) }
-  where
-    images : (old : Option History) → IfTold old (λ disk. (m : ℕ) (image : Files) → IsImage disk image → IfTold old (λ d. IsImage d image))
-    images None = tt
-    images (Some old) = λ m image is. is
-
-pub idle-unchanged : (old now new : Option History) → Idle old now → Unchanged now new → Idle old new
-idle-unchanged old now new idle unchanged = record {
-  same = same-unchanged old now new idle.same unchanged;
-  each = each_image-unchanged _ old now new idle.each unchanged (λ m image is. is);
-}
-
-pub idle-told : (P : DiskState → Type 0) (old new : Option History) → Idle old new → IfTold old P → IfTold new P
-idle-told P old new idle p = go old new idle.same p
-  where
-    go : (old new : Option History) → SameState old new → IfTold old P → IfTold new P
-    go None new same p = subst (λ (h : Option History). IfTold h P) (sym same) tt
-    go (Some old) None same p = elim same [ ]
-    go (Some old) (Some new) same p = subst P (sym same) p
-
-pub idle-back : (P : DiskState → Type 0) (old new : Option History) → Idle old new → IfTold new P → IfTold old P
-idle-back P old new idle p = go old new idle.same p
-  where
-    go : (old new : Option History) → SameState old new → IfTold new P → IfTold old P
-    go None new same p = tt
-    go (Some old) None same p = elim same [ ]
-    go (Some old) (Some new) same p = subst P same p
-
--- what holds of all that a stop may leave of a file holds at each moment
-pub idle-along : (name : FileName) (P : Option (List ℕ) → Type 0) (old new : Option History) → Idle old new
-    → IfTold old (λ disk. (octets : Option (List ℕ)) → MayLeave (disk name) octets → P octets) → Along name P old new
-idle-along name P old new idle holds = record { each = go old holds new idle.each; same = but old new idle.same }
-  where
-    go : (old : Option History) → IfTold old (λ disk. (octets : Option (List ℕ)) → MayLeave (disk name) octets → P octets) → (new : Option History) → EachImage (λ _ image. IfTold old (λ disk. IsImage disk image)) old new → EachImage (IsAlong name P old) old new
-    go None holds new each = each
-    go (Some old) holds new each = each_image-map _ _ (Some old) new (λ m image is. (holds (image name) (is name), λ other apart. is other)) each
-
     but : (old new : Option History) → SameState old new → SameButFor name old new
     but None new same = same
     but (Some old) None same = same
     but (Some old) (Some new) same = λ other apart. ap (λ (d : DiskState). d other) same
 
 -- a file that was read from its beginning to its end
-pub whole_file : (name : FileName) (old mid : Option History) (count : ℕ) (n : ℕ) (buffer result : List ℕ) → Idle old mid
+pub whole_file : (name : FileName) (old mid : Option History) (count : ℕ) (n : ℕ) (buffer result : List ℕ) → IsIdle old mid
     → IfTold old (λ disk. option_map length (reading (disk name)) ≡ Some n)
     → IfTold mid (λ disk. (reading (disk name) ≡ Some (disk name).octets) × (take count buffer ≡ take n (disk name).octets))
     → result ≡ take count buffer → IfTold old (λ disk. reading (disk name) ≡ Some result)

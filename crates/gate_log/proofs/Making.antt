@@ -3,10 +3,10 @@ use Rattle.std.proofs.Common.{◌≡◌, ℕ, ◌+◌, ◌<◌, ◌≤◌, List,
 use Rattle.std.proofs.lemmas.Bool.{cond-true}
 use Rattle.disk_model.specs.Disk.{FileState, History, MayLeave, IsThere, Reaches, Keeps, IfTold, AfterFailed, EachImage, SameButFor, after, change, change_all, made, half_made, written, half_written, synced, named, no_file}
 use Rattle.disk_model.specs.declared.name.FileName.{FileName}
-use Rattle.disk_model.proofs.Moments.{if_told-all, if_told-map, if_told-after}
-use Rattle.disk_model.proofs.OneFile.{IsAlong, Along, along-begins, along-goes_on, along-fails, along-fails_still, along-named, named-narrows}
-use Rattle.disk_model.proofs.ChangeAndSync.{changed_state}
-use Rattle.disk_model.proofs.Firm.{keeps_from_firm, end_octets}
+use Rattle.disk_model.proofs.MomentLemmas.{if_told-all, if_told-map, if_told-after}
+use Rattle.disk_model.proofs.OneFileLemmas.{IsAlong, Along, along-begins, along-goes_on, along-fails, along-fails_still, along-named, named-narrows}
+use Rattle.disk_model.proofs.ChangeAndSyncLemmas.{changed_state}
+use Rattle.disk_model.proofs.FirmLemmas.{keeps_from_firm, end_octets}
 use Rattle.model_logs.specs.declared.log_head.LogHead.{LogHead}
 use Rattle.model_logs.specs.LogFile.{HeadFits, log_front}
 use Rattle.model_logs.proofs.LogFileLemmas.{front_length}

@@ -4,9 +4,9 @@ use Rattle.std.proofs.Math.Seq.{take-append_seam, drop-append_seam}
 use Rattle.std.proofs.lemmas.List.Elements.{All-take, All-append, All-cons, All-tail, All-drop}
 use Rattle.disk_model.specs.Disk.{FileState, History, IsThere, Reaches, Keeps, IfTold, after, change, cut_to, half_cut, written, half_written, synced, reading}
 use Rattle.disk_model.specs.declared.name.FileName.{FileName}
-use Rattle.disk_model.proofs.Moments.{if_told-map}
-use Rattle.disk_model.proofs.ChangeAndSync.{Can, CanNow, changed_state, state}
-use Rattle.disk_model.proofs.Firm.{IsFirm, firm_from_keeps, keeps_from_firm, synced_firm, reading_from_there, reads_there, cut_to_left, half_cut_left, cut_octets, one_written_left, one_half_left, one_octets}
+use Rattle.disk_model.proofs.MomentLemmas.{if_told-map}
+use Rattle.disk_model.proofs.ChangeAndSyncLemmas.{Can, CanNow, changed_state, state}
+use Rattle.disk_model.proofs.FirmLemmas.{IsFirm, firm_from_keeps, keeps_from_firm, synced_firm, reading_from_there, reads_there, cut_to_left, half_cut_left, cut_octets, one_written_left, one_half_left, one_octets}
 use Rattle.gate_log.specs.Log.{ReadsParts, KeepsParts, BeginsWith, IsOneBetween}
 
 abbrev AreOctets : List ℕ → Type 0

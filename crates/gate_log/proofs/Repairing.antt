@@ -3,7 +3,7 @@ use Rattle.std.proofs.Common.{◌≡◌, ℕ, List, length, Option, Some, None, 
 use Rattle.std.proofs.Math.ListN.{replicate}
 use Rattle.std.proofs.lemmas.List.{length-replicate}
 use Rattle.disk_model.specs.Disk.{History, IfTold, EachImage, OthersStay, SameButFor, Keeps, reading}
-use Rattle.disk_model.proofs.Moments.{if_told-map, if_told-both}
+use Rattle.disk_model.proofs.MomentLemmas.{if_told-map, if_told-both}
 use Rattle.model_logs.specs.declared.log_head.LogHead.{LogHead}
 use Rattle.model_logs.specs.LogFile.{IsLogFile}
 use Rattle.gate_log.specs.State.{LogState, InspectedLog}

@@ -1,6 +1,7 @@
 -- Logs on a disk.
 use Rattle.std.specs.Prelude.{◌≡◌, ◌≢◌, ◌⊎◌, ◌≤◌, ℕ, List, [], ◌∷◌, ◌++◌, length, max, All, Option, Some, None, IfSome}
-use Rattle.disk_model.specs.Disk.{FileState, DiskState, History, IfTold, IsImage, EachImage, Keeps, named, reading, Faults, Rose}
+use Rattle.mdbox_base.specs.Streams.{Rose}
+use Rattle.disk_model.specs.Disk.{FileState, DiskState, History, IfTold, IsImage, EachImage, Keeps, named, reading, Faults}
 use Rattle.disk_model.specs.declared.name.FileName.{FileName}
 use Rattle.model_logs.specs.declared.log_head.LogHead.{LogHead}
 use Rattle.model_logs.specs.LogFile.{HeadFits, EntryFits, log_front, EndsLog, IsLogFile}
@@ -43,29 +44,6 @@ abbrev pub NamedButFor : FileName → Option History → Option History → Type
 NamedButFor name None new = new ≡ None
 NamedButFor name (Some old) None = ⊥
 NamedButFor name (Some old) (Some new) = (other : FileName) → other ≢ name → new.now other ≡ named (old.now other)
-
--- both told, and the state the same
-abbrev pub SameState : Option History → Option History → Type 0
-SameState None new = new ≡ None
-SameState (Some old) None = ⊥
-SameState (Some old) (Some new) = new.now ≡ old.now
-
--- nothing has changed: the state is the same, and was so at each moment between
-pub record Idle (old new : Option History) : Type 0 where
-  pub same : SameState old new
-  pub each : EachImage (λ _ image. IfTold old (λ disk. IsImage disk image)) old new
-
--- The counts never fall, and one of them rose where this holds.
-pub record OneRoseIf (failed : Type 0) (old new : Faults) : Type 0 where
-  pub reads : old.reads ≤ new.reads
-  pub changes : old.changes ≤ new.changes
-  pub rose : failed → Rose old.reads new.reads ⊎ Rose old.changes new.changes
-
--- No failed change was counted. The count of failed reads never falls, and it rose where this holds.
-pub record ReadsRoseIf (failed : Type 0) (old new : Faults) : Type 0 where
-  pub reads : old.reads ≤ new.reads
-  pub changes : new.changes ≡ old.changes
-  pub rose : failed → Rose old.reads new.reads
 
 -- the file reads these octets in two parts, the first of this length
 pub record ReadsParts (size : ℕ) (front rest : List ℕ) (f : FileState) : Type 0 where

@@ -1,7 +1,8 @@
 // A file read whole, and one octet of it written.
 ghost use Rattle.std.specs.Prelude.{◌≡◌, ◌++◌, ◌∷◌, ℕ, List, Some, OnOk, IfOk, IfErr, IsErr, IsErrOf};
-ghost use Rattle.disk_model.specs.Disk.{EachImage, OthersStay, SameButFor, FaultsRoseIf, IfTold, Keeps, reading};
-ghost use Rattle.gate_log.specs.Log.{Idle, ReadsRoseIf, ReadsParts, KeepsParts, IsOneBetween};
+ghost use Rattle.disk_model.specs.FaultCounts.{ChangeFaultCounted, ReadFaultCounted};
+ghost use Rattle.disk_model.specs.Disk.{EachImage, OthersStay, SameButFor, IfTold, Keeps, reading, IsIdle};
+ghost use Rattle.gate_log.specs.Log.{ReadsParts, KeepsParts, IsOneBetween};
 ghost use Rattle.gate_log.specs.Reading.{IsFileError};
 
 use crate::error::{DiskFault, LogError};
@@ -11,9 +12,9 @@ use std::alloc::Global;
 /// The octets of a file. `NoLog` exactly where there is no such file.
 pub fn read_file<D: Disk>(alloc: Global, disk: &mut D, name: FileName) -> Result<Vec<u8>, LogError>
     ensures octets { IfOk result (λ octets. IfTold (D.history disk.old) (λ now. reading (now name) ≡ Some octets.items)) }
-    ensures idle { Idle (D.history disk.old) (D.history disk.new) }
+    ensures idle { IsIdle (D.history disk.old) (D.history disk.new) }
     ensures refused { IfErr result (λ error. IsFileError name (D.history disk.old) error) }
-    ensures fault { ReadsRoseIf (IsErrOf result LogError.DiskFault) (D.faults disk.old) (D.faults disk.new) }
+    ensures fault { ReadFaultCounted (IsErrOf result LogError.DiskFault) (D.faults disk.old) (D.faults disk.new) }
 {
     let length = disk.length(name)? as usize;
     let mut octets = vec![in alloc; 0; length]?;
@@ -35,7 +36,7 @@ pub fn put_octet<D: Disk>(
     ensures reads { OnOk result ((front : List ℕ) (before : ℕ) (rest : List ℕ) → IfTold (D.history disk.old) (λ now. ReadsParts size front (before ∷ rest) (now name)) → IfTold (D.history disk.new) (λ now. reading (now name) ≡ Some (front ++ octet ∷ rest))) }
     ensures keeps { OnOk result ((front : List ℕ) (before : ℕ) (rest : List ℕ) → IfTold (D.history disk.old) (λ now. KeepsParts size front (before ∷ rest) (now name)) → IfTold (D.history disk.new) (λ now. Keeps (now name) (front ++ octet ∷ rest))) }
     ensures others { OnOk result (SameButFor name (D.history disk.old) (D.history disk.new)) }
-    ensures fault { FaultsRoseIf (IsErr result) (D.faults disk.old) (D.faults disk.new) }
+    ensures fault { ChangeFaultCounted (IsErr result) (D.faults disk.old) (D.faults disk.new) }
 {
     disk.write_at(name, size, &[octet])?;
     disk.sync(name)?;

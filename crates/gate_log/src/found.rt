@@ -1,9 +1,10 @@
 // Logs that were looked at, and how they are repaired.
 ghost use Rattle.std.specs.Prelude.{◌≡◌, ◌↔◌, ℕ, List, Some, IsTrue, IfOk, IfErr, OnOk, IsErr, IsErrOf, IsOk};
-ghost use Rattle.disk_model.specs.Disk.{EachImage, OthersStay, SameButFor, FaultsRoseIf, IfTold, Keeps, reading};
+ghost use Rattle.disk_model.specs.FaultCounts.{ChangeFaultCounted, ReadFaultCounted};
+ghost use Rattle.disk_model.specs.Disk.{EachImage, OthersStay, SameButFor, IfTold, Keeps, reading, IsIdle};
 ghost use Rattle.model_logs.specs.LogFile.{IsLogFile};
 ghost use Rattle.gate_log.specs.State.{IsWholeLog};
-ghost use Rattle.gate_log.specs.Log.{Reads, Holds, Idle, ReadsRoseIf, IsFound, IsFoundKept};
+ghost use Rattle.gate_log.specs.Log.{Reads, Holds, IsFound, IsFoundKept};
 ghost use Rattle.gate_log.specs.Reading.{IsReading, IsOpenError};
 
 use crate::device::read_file;
@@ -57,9 +58,9 @@ pub fn inspect_log<D: Disk>(
     ensures stands { IfOk result (λ found. IfTold (D.history disk.new) (IsFound found.0 found.1.entries)) }
     ensures kept { IfOk result (λ found. (octets : List ℕ) → IfTold (D.history disk.old) (λ now. Keeps (now name) octets) → IfTold (D.history disk.new) (IsFoundKept found.0 found.1.entries)) }
 
-    ensures idle { Idle (D.history disk.old) (D.history disk.new) }
+    ensures idle { IsIdle (D.history disk.old) (D.history disk.new) }
     ensures refused { IfErr result (IsOpenError name head (D.history disk.old)) }
-    ensures fault { ReadsRoseIf (IsErrOf result LogError.DiskFault) (D.faults disk.old) (D.faults disk.new) }
+    ensures fault { ReadFaultCounted (IsErrOf result LogError.DiskFault) (D.faults disk.old) (D.faults disk.new) }
 {
     let octets = read_file(alloc, disk, name)?;
     let read = read_log_of(alloc, &octets, head)?;
@@ -101,7 +102,7 @@ impl FoundLog {
 
         // A whole log is left alone.
         ensures untouched { IsWholeLog self → IsOk result × (disk.new ≡ disk.old) }
-        ensures fault { FaultsRoseIf (IsErr result) (D.faults disk.old) (D.faults disk.new) }
+        ensures fault { ChangeFaultCounted (IsErr result) (D.faults disk.old) (D.faults disk.new) }
     {
         repair(disk, self.name, self.end, self.gate, self.behind)?;
         Ok(GateLog::at_rest(alloc, self.name, self.head, self.end))

@@ -1,9 +1,10 @@
 // Logs on a disk.
 ghost use Rattle.std.specs.Prelude.{◌≡◌, ◌≢◌, Some, IsErrOf, ◌+◌, ◌-◌, ◌<◌, ◌≤◌, ◌^◌, ◌++◌, ◌∷◌, [], ℕ, List, length, take, OnOk, OnErr, IfOk, IfErr, IsErr};
-ghost use Rattle.disk_model.specs.Disk.{EachImage, OthersStay, SameButFor, FaultsRoseIf, IfTold, Keeps, reading};
+ghost use Rattle.disk_model.specs.FaultCounts.{ChangeFaultCounted, AnyFaultCounted};
+ghost use Rattle.disk_model.specs.Disk.{EachImage, OthersStay, SameButFor, IfTold, Keeps, reading, IsIdle};
 ghost use Rattle.model_logs.specs.LogFile.{record_octets, IsLog, IsLogFile};
 ghost use Rattle.gate_log.specs.State.{LogState, IsSameLog};
-ghost use Rattle.gate_log.specs.Log.{Reads, Holds, IsLogWithOrWithout, IsAtMostAsLong, NamedButFor, Idle, OneRoseIf};
+ghost use Rattle.gate_log.specs.Log.{Reads, Holds, IsLogWithOrWithout, IsAtMostAsLong, NamedButFor};
 ghost use Rattle.gate_log.specs.Reading.{IsReading, IsOpenError};
 
 use crate::error::{DiskFault, LogError};
@@ -97,7 +98,7 @@ impl GateLog {
         ensures held { OnOk result ((entries : List (List ℕ)) → Holds self.old entries (D.history disk.old) → Holds self.new (entries ++ entry.now ∷ []) (D.history disk.new)) }
         ensures others { OnOk result (SameButFor self.old.name (D.history disk.old) (D.history disk.new)) }
 
-        ensures fault { FaultsRoseIf (IsErr result) (D.faults disk.old) (D.faults disk.new) }
+        ensures fault { ChangeFaultCounted (IsErr result) (D.faults disk.old) (D.faults disk.new) }
         ensures log { IsSameLog self.old self.new }
     {
         let size = entry.len() + 5;
@@ -124,7 +125,7 @@ pub fn create_log<D: Disk>(
     ensures log { IfOk result (λ log. log ≡ record { name = name; head = head; end = 25; room = 0 }) }
     ensures others { OnOk result (NamedButFor name (D.history disk.old) (D.history disk.new)) }
     ensures refused { IfErr result (λ error. error ≡ LogError.DiskFault) }
-    ensures fault { FaultsRoseIf (IsErr result) (D.faults disk.old) (D.faults disk.new) }
+    ensures fault { ChangeFaultCounted (IsErr result) (D.faults disk.old) (D.faults disk.new) }
 {
     make_file(disk, name, &first_text(head))?;
     Ok(GateLog::at_rest(alloc, name, head, HEAD_SIZE as u64))
@@ -153,8 +154,8 @@ pub fn open_log<D: Disk>(
     ensures others { OnOk result (SameButFor name (D.history disk.old) (D.history disk.new)) }
 
     ensures refused { IfErr result (IsOpenError name head (D.history disk.old)) }
-    ensures idle { IfErr result (λ error. error ≢ LogError.DiskFault → Idle (D.history disk.old) (D.history disk.new)) }
-    ensures fault { OneRoseIf (IsErrOf result LogError.DiskFault) (D.faults disk.old) (D.faults disk.new) }
+    ensures idle { IfErr result (λ error. error ≢ LogError.DiskFault → IsIdle (D.history disk.old) (D.history disk.new)) }
+    ensures fault { AnyFaultCounted (IsErrOf result LogError.DiskFault) (D.faults disk.old) (D.faults disk.new) }
 {
     let (found, read) = inspect_log(alloc, disk, name, head)?;
     let log = found.repair(alloc, disk)?;

@@ -1,6 +1,7 @@
 // A file that is made anew.
 ghost use Rattle.std.specs.Prelude.{length, OnOk, IsErr};
-ghost use Rattle.disk_model.specs.Disk.{EachImage, OthersStay, FaultsRoseIf, IfTold, Keeps};
+ghost use Rattle.disk_model.specs.FaultCounts.{ChangeFaultCounted};
+ghost use Rattle.disk_model.specs.Disk.{EachImage, OthersStay, IfTold, Keeps};
 ghost use Rattle.gate_log.specs.Log.{IsAtMostAsLong, NamedButFor};
 
 use crate::error::DiskFault;
@@ -11,7 +12,7 @@ pub fn make_file<D: Disk>(disk: &mut D, name: FileName, text: &[u8]) -> Result<(
     ensures any_moment { EachImage (λ _ image. IfTold (D.history disk.old) (λ before. IsAtMostAsLong (length text.now) (before name) (image name)) × OthersStay name (D.history disk.old) image) (D.history disk.old) (D.history disk.new) }
     ensures made { OnOk result (IfTold (D.history disk.new) (λ now. Keeps (now name) text.now)) }
     ensures others { OnOk result (NamedButFor name (D.history disk.old) (D.history disk.new)) }
-    ensures fault { FaultsRoseIf (IsErr result) (D.faults disk.old) (D.faults disk.new) }
+    ensures fault { ChangeFaultCounted (IsErr result) (D.faults disk.old) (D.faults disk.new) }
 {
     disk.make(name)?;
     disk.write_at(name, 0, text)?;

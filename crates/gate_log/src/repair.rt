@@ -1,6 +1,7 @@
 // The end of a log that was found.
 ghost use Rattle.std.specs.Prelude.{◌≡◌, ◌-◌, ◌<◌, ◌^◌, ℕ, List, [], length, Some, OnOk, IsOk, IsErr};
-ghost use Rattle.disk_model.specs.Disk.{EachImage, OthersStay, SameButFor, FaultsRoseIf, IfTold, Keeps, reading};
+ghost use Rattle.disk_model.specs.FaultCounts.{ChangeFaultCounted};
+ghost use Rattle.disk_model.specs.Disk.{EachImage, OthersStay, SameButFor, IfTold, Keeps, reading};
 ghost use Rattle.model_logs.specs.declared.log_head.LogHead.{LogHead};
 ghost use Rattle.model_logs.specs.LogFile.{IsLogFile};
 ghost use Rattle.gate_log.specs.Log.{IsStanding, IsDurable, log_text, ReadsParts, KeepsParts, BeginsWith};
@@ -32,7 +33,7 @@ pub fn repair<D: Disk>(
         → IfTold (D.history disk.new) (λ now. Keeps (now name) (log_text head entries))) }
     ensures others { OnOk result (SameButFor name (D.history disk.old) (D.history disk.new)) }
     ensures untouched { gate ≡ 0 → behind ≡ 0 → IsOk result × (disk.new ≡ disk.old) }
-    ensures fault { FaultsRoseIf (IsErr result) (D.faults disk.old) (D.faults disk.new) }
+    ensures fault { ChangeFaultCounted (IsErr result) (D.faults disk.old) (D.faults disk.new) }
 {
     if behind == 0 {
         return close_gate(disk, name, end, gate);
@@ -53,7 +54,7 @@ fn close_gate<D: Disk>(disk: &mut D, name: FileName, end: u64, gate: u8) -> Resu
         → IfTold (D.history disk.new) (λ now. Keeps (now name) (log_text head entries))) }
     ensures others { OnOk result (SameButFor name (D.history disk.old) (D.history disk.new)) }
     ensures untouched { gate ≡ 0 → IsOk result × (disk.new ≡ disk.old) }
-    ensures fault { FaultsRoseIf (IsErr result) (D.faults disk.old) (D.faults disk.new) }
+    ensures fault { ChangeFaultCounted (IsErr result) (D.faults disk.old) (D.faults disk.new) }
 {
     if gate == CLOSED {
         return Ok(());
@@ -69,7 +70,7 @@ fn cut_file<D: Disk>(disk: &mut D, name: FileName, size: u64) -> Result<(), Disk
     ensures reads { OnOk result ((front rest : List ℕ) → IfTold (D.history disk.old) (λ now. ReadsParts size front rest (now name)) → IfTold (D.history disk.new) (λ now. reading (now name) ≡ Some front)) }
     ensures keeps { OnOk result ((front rest : List ℕ) → IfTold (D.history disk.old) (λ now. KeepsParts size front rest (now name)) → IfTold (D.history disk.new) (λ now. Keeps (now name) front)) }
     ensures others { OnOk result (SameButFor name (D.history disk.old) (D.history disk.new)) }
-    ensures fault { FaultsRoseIf (IsErr result) (D.faults disk.old) (D.faults disk.new) }
+    ensures fault { ChangeFaultCounted (IsErr result) (D.faults disk.old) (D.faults disk.new) }
 {
     disk.cut(name, size)?;
     disk.sync(name)?;

@@ -11,7 +11,8 @@ use Rattle.mdbox_base.specs.declared.replies.Refusal.{Refusal}
 use Rattle.mdbox_base.specs.declared.replies.Refusal.TheVariants.{NoMailbox, Exists, NoMessage, TooManyCopies, MailboxFull, TooManyMailboxes, StoreFull}
 use Rattle.mdbox_base.specs.declared.replies.Reply.{Reply}
 use Rattle.mdbox_base.specs.declared.replies.Reply.TheVariants as reply
-use Rattle.list_machine.specs.Machine.{Run, Check, HasMailbox, IsNewName, HasMessage, RoomForMailbox, RoomForMessage, NextUid, NextMapUid, NextFile, NextInstance, NextMailbox, MayBeCopied, refused_where, refusal_at, is_step, Event, First, Last, SecondHalf, Answers, Does, IsCopied, IsDelivered, IsMade, IsSecondHalf, checks_of, first_refusal, refs_added, refs_taken, without_first, has_name, has_uid, mailbox_named, message_at, set_flags, expunge, add_last, add_message, one_of_guid}
+use Rattle.list_machine.specs.Run.{EventPart, First, Last, SecondHalf, RunEvent, Run}
+use Rattle.list_machine.specs.Machine.{Check, HasMailbox, IsNewName, HasMessage, RoomForMailbox, RoomForMessage, NextUid, NextMapUid, NextFiles, TargetFits, NextInstance, NextMailbox, MayBeCopied, refused_where, refusal_at, is_step, Answers, Does, IsCopied, IsDelivered, IsMade, IsSecondHalf, checks_of, first_refusal, refs_added, refs_taken, without_first, has_name, is_message_of_uid, mailbox_named, message_at, set_flags, expunge, add_last, add_message, one_of_guid}
 
 -- what a change of the first that passes does to a sum
 sum_change : {X : Type 0} → (f : X → ℕ) (test : X → Bool) (change : X → X) (more less : ℕ) (xs : List X) → ((x : X) → find test xs ≡ Some x → f (change x) + less ≡ f x + more) →
@@ -54,8 +55,8 @@ some_one o x y p q = let h : Some x ≡ Some y = sym p ∙ q in cc h
 -- flags are no matter
 pub refs_flagged : (old : Lists) (name : List ℕ) (uid flags : ℕ) (guid : List ℕ) → refs_of (set_flags name uid flags old) guid ≡ refs_of old guid
 refs_flagged old name uid flags guid =
-    let h = sum_change (refs_in guid) (has_name name) (λ (mailbox : Mailbox). record mailbox { messages = change_first (has_uid uid) (λ message. record message { flags = flags }) mailbox.messages }) 0 0 old
-    (λ mailbox e. sum_change (of_guid guid) (has_uid uid) (λ message. record message { flags = flags }) 0 0 mailbox.messages (λ message e. refl) (λ e. refl)) (λ e. refl) in
+    let h = sum_change (refs_in guid) (has_name name) (λ (mailbox : Mailbox). record mailbox { messages = change_first (is_message_of_uid uid) (λ message. record message { flags = flags }) mailbox.messages }) 0 0 old
+    (λ mailbox e. sum_change (of_guid guid) (is_message_of_uid uid) (λ message. record message { flags = flags }) 0 0 mailbox.messages (λ message e. refl) (λ e. refl)) (λ e. refl) in
     omega (arith, h)
 
 -- one message more
@@ -72,8 +73,8 @@ one_is_of guid message = refl
 
 pub refs_expunged : (old : Lists) (name : List ℕ) (uid : ℕ) (guid : List ℕ) → refs_of (expunge name uid old) guid + one_of_guid guid (message_at name uid old) ≡ refs_of old guid
 refs_expunged old name uid guid =
-    let h = sum_change (refs_in guid) (has_name name) (λ (mailbox : Mailbox). record mailbox { messages = without_first (has_uid uid) mailbox.messages }) 0 (one_of_guid guid (message_at name uid old)) old
-    (λ m e. let k = sum_without (of_guid guid) (has_uid uid) (one_of_guid guid (message_at name uid old)) m.messages
+    let h = sum_change (refs_in guid) (has_name name) (λ (mailbox : Mailbox). record mailbox { messages = without_first (is_message_of_uid uid) mailbox.messages }) 0 (one_of_guid guid (message_at name uid old)) old
+    (λ m e. let k = sum_without (of_guid guid) (is_message_of_uid uid) (one_of_guid guid (message_at name uid old)) m.messages
     (λ x f. rw (e, f) refl) (λ f. rw (e, f) refl) in omega (arith, k)) (λ e. rw e refl) in
     omega (arith, h)
 
@@ -88,15 +89,15 @@ copied_refs old new name uid target given guid c =
     let n : refs_of new guid ≡ refs_of (add_message target c.message old) guid = ap (λ (lists : Lists). refs_of lists guid) c.new_is in
     omega (arith, k, e, n)
 
-delivered_refs : (run : Run) (old new : Lists) (name : List ℕ) (time : ℕ) (octets : List ℕ) (given : ℕ) (own guid : List ℕ) → IsDelivered run old name time octets given own new →
+delivered_refs : (run : Run) (event : RunEvent) (old new : Lists) (name : List ℕ) (time : ℕ) (octets : List ℕ) (given : ℕ) (own guid : List ℕ) → IsDelivered run event old name time octets given own new →
     refs_of new guid + 0 ≡ refs_of old guid + (if bytes_eq own guid then 1 else 0)
-delivered_refs run old new name time octets given own guid d =
+delivered_refs run event old new name time octets given own guid d =
     let k = refs_added_last old name (record { uid = given; flags = 0; time = time; guid = own; octets = octets }) d.mailbox guid d.target_is in
     let n = ap (λ (lists : Lists). refs_of lists guid) d.new_is in
     omega (arith, k, n)
 
-made_refs : (run : Run) (old new : Lists) (name guid : List ℕ) → IsMade run old name new → refs_of new guid + 0 ≡ refs_of old guid + 0
-made_refs run old new name guid m =
+made_refs : (run : Run) (event : RunEvent) (old new : Lists) (name guid : List ℕ) → IsMade run event old name new → refs_of new guid + 0 ≡ refs_of old guid + 0
+made_refs run event old new name guid m =
     let k = sum_by-append (refs_in guid) old (empty_mailbox m.number name ∷ []) in
     let n = ap (λ (lists : Lists). refs_of lists guid) m.new_is in
     omega (arith, k, n)
@@ -117,43 +118,45 @@ half_refs old new name uid false guid h =
     omega (arith, k, n)
 
 -- What a step does to the references of each GUID, where it isn't refused.
-does_refs : (run : Run) (old : Lists) (q : Request) (event : Event) (r : Reply) (new : Lists) (guid : List ℕ) → Does run old q event r new →
-    refs_of new guid + refs_taken old q event r guid ≡ refs_of old guid + refs_added old q event r guid
-does_refs run old (request.List name) First (reply.Listed rows) new guid d = same_lists old new guid d.3
-does_refs run old (request.Fetch name uid) First (reply.Fetched octets) new guid d = same_lists old new guid d.3
-does_refs run old (request.Flag name uid flags) First reply.Done new guid d =
+does_refs : (run : Run) (event : RunEvent) (old : Lists) (q : Request) (part : EventPart) (r : Reply) (new : Lists) (guid : List ℕ) → Does run event old q part r new →
+    refs_of new guid + refs_taken old q part r guid ≡ refs_of old guid + refs_added old q part r guid
+does_refs run event old (request.List name) First (reply.Listed rows) new guid d = same_lists old new guid d.3
+does_refs run event old (request.Fetch name uid) First (reply.Fetched octets) new guid d = same_lists old new guid d.3
+does_refs run event old (request.Flag name uid flags) First reply.Done new guid d =
     let k = refs_flagged old name uid.0 flags guid in let n = ap (λ (lists : Lists). refs_of lists guid) d in omega (arith, k, n)
-does_refs run old (request.Make name) Last reply.Done new guid d = made_refs run old new name guid d
-does_refs run old (request.Deliver name time octets) Last (reply.Saved uid own) new guid d = delivered_refs run old new name time octets uid.0 own.0 guid d
-does_refs run old (request.Copy name uid target) Last (reply.Copied given) new guid d = copied_refs old new name uid.0 target given.0 guid d
-does_refs run old (request.Move name uid target) Last (reply.Copied given) new guid d = copied_refs old new name uid.0 target given.0 guid d
-does_refs run old (request.Move name uid target) (SecondHalf copied) (reply.Moved given gone) new guid d = half_refs old new name uid.0 gone guid d.1
-does_refs run old (request.Expunge name uid) First reply.Done new guid d =
+does_refs run event old (request.Make name) Last reply.Done new guid d = made_refs run event old new name guid d
+does_refs run event old (request.Deliver name time octets) Last (reply.Saved uid own) new guid d = delivered_refs run event old new name time octets uid.0 own.0 guid d
+does_refs run event old (request.Copy name uid target) Last (reply.Copied given) new guid d = copied_refs old new name uid.0 target given.0 guid d
+does_refs run event old (request.Move name uid target) Last (reply.Copied given) new guid d = copied_refs old new name uid.0 target given.0 guid d
+does_refs run event old (request.Move name uid target) SecondHalf (reply.Moved given gone) new guid d = half_refs old new name uid.0 gone guid d.1
+does_refs run event old (request.Expunge name uid) First reply.Done new guid d =
     let k = refs_expunged old name uid.0 guid in let n = ap (λ (lists : Lists). refs_of lists guid) d in omega (arith, k, n)
-does_refs run old request.Counts First (reply.Counted records references counts instances) new guid d = same_lists old new guid d.1
-does_refs run old q event r new guid d = absurd d
+does_refs run event old request.Counts First (reply.Counted records references counts instances) new guid d = same_lists old new guid d.1
+does_refs run event old (request.Purge) Last (reply.Purged dropped files instances) new guid d = same_lists old new guid d.1
+does_refs run event old (request.Resync) Last (reply.Resynced corrected damaged) new guid d = same_lists old new guid d.1
+does_refs run event old q part r new guid d = absurd d
 
-refused_taken : (old : Lists) (q : Request) (event : Event) (refusal : Refusal) (guid : List ℕ) → refs_taken old q event (reply.Refused refusal) guid ≡ 0
+refused_taken : (old : Lists) (q : Request) (part : EventPart) (refusal : Refusal) (guid : List ℕ) → refs_taken old q part (reply.Refused refusal) guid ≡ 0
 refused_taken old (request.Expunge name uid) First refusal guid = refl
-refused_taken old (request.Move name uid target) (SecondHalf copied) refusal guid = refl
-refused_taken old q event refusal guid = refl
+refused_taken old (request.Move name uid target) SecondHalf refusal guid = refl
+refused_taken old q part refusal guid = refl
 
-refused_added : (old : Lists) (q : Request) (event : Event) (refusal : Refusal) (guid : List ℕ) → refs_added old q event (reply.Refused refusal) guid ≡ 0
+refused_added : (old : Lists) (q : Request) (part : EventPart) (refusal : Refusal) (guid : List ℕ) → refs_added old q part (reply.Refused refusal) guid ≡ 0
 refused_added old (request.Deliver name time octets) Last refusal guid = refl
 refused_added old (request.Copy name uid target) Last refusal guid = refl
 refused_added old (request.Move name uid target) Last refusal guid = refl
-refused_added old q event refusal guid = refl
+refused_added old q part refusal guid = refl
 
 -- What a step does to the references of each GUID.
-pub answers_refs : (run : Run) (old : Lists) (q : Request) (event : Event) (r : Reply) (new : Lists) (guid : List ℕ) → Answers run old q event r new →
-    refs_of new guid + refs_taken old q event r guid ≡ refs_of old guid + refs_added old q event r guid
+pub answers_refs : (run : Run) (old : Lists) (q : Request) (event : RunEvent) (r : Reply) (new : Lists) (guid : List ℕ) → Answers run old q event r new →
+    refs_of new guid + refs_taken old q event.part r guid ≡ refs_of old guid + refs_added old q event.part r guid
 answers_refs run old q event (reply.Refused refusal) new guid a =
     let same = same_lists old new guid a.1 in
-    rw (refused_taken old q event refusal guid, refused_added old q event refusal guid) same
-answers_refs run old q event r new guid a = does_refs run old q event r new guid a.1
+    rw (refused_taken old q event.part refusal guid, refused_added old q event.part refusal guid) same
+answers_refs run old q event r new guid a = does_refs run event old q event.part r new guid a.1
 
 -- A refusal changes no list.
-pub refused_same : (run : Run) (old : Lists) (q : Request) (event : Event) (refusal : Refusal) (new : Lists) → Answers run old q event (reply.Refused refusal) new → new ≡ old
+pub refused_same : (run : Run) (old : Lists) (q : Request) (event : RunEvent) (refusal : Refusal) (new : Lists) → Answers run old q event (reply.Refused refusal) new → new ≡ old
 refused_same run old q event refusal new a = a.1
 
 -- a refusal is one of the steps
@@ -169,7 +172,8 @@ check_refusal run old RoomForMailbox r e = refused_so _ (TooManyMailboxes 1024) 
 check_refusal run old (RoomForMessage name) r e = refused_so _ (MailboxFull 1000000) r refl e
 check_refusal run old (NextUid name) r e = refused_so _ (StoreFull 4294967294) r refl e
 check_refusal run old NextMapUid r e = refused_so _ (StoreFull 4294967294) r refl e
-check_refusal run old NextFile r e = refused_so _ (StoreFull 4294967294) r refl e
+check_refusal run old (NextFiles many) r e = refused_so _ (StoreFull 4294967294) r refl e
+check_refusal run old (TargetFits octets) r e = refused_so _ (StoreFull 4294967294) r refl e
 check_refusal run old NextInstance r e = refused_so _ (StoreFull 4294967294) r refl e
 check_refusal run old NextMailbox r e = refused_so _ (StoreFull 4294967294) r refl e
 check_refusal run old (MayBeCopied name uid) r e = refused_so _ (TooManyCopies 65535) r refl e
@@ -183,13 +187,13 @@ first_is_step run old (check ∷ checks) r e = by_first (refusal_at run old chec
     by_first (Some x) h e rest = let k : x ≡ r = (let z : Some x ≡ Some r = e in cc z) in rw (← k) (check_refusal run old check x h)
 
 -- A refusal is a step, and where one is due no other answer is.
-pub refused_is_step : (run : Run) (old : Lists) (q : Request) (event : Event) (refusal : Refusal) (new : Lists) → Answers run old q event (reply.Refused refusal) new → is_step refusal ≡ true
-refused_is_step run old q event refusal new a = first_is_step run old (checks_of q event) refusal a.0
+pub refused_is_step : (run : Run) (old : Lists) (q : Request) (event : RunEvent) (refusal : Refusal) (new : Lists) → Answers run old q event (reply.Refused refusal) new → is_step refusal ≡ true
+refused_is_step run old q event refusal new a = first_is_step run old (checks_of run q event) refusal a.0
 
 not_both : (o : Option Refusal) (r : Refusal) → o ≡ Some r → o ≡ None → ⊥
 not_both o r p q = let h : Some r ≡ None = sym p ∙ q in cc h
 
-pub refused_alone : (run : Run) (old : Lists) (q : Request) (event : Event) (refusal : Refusal) (r : Reply) (new other : Lists) →
+pub refused_alone : (run : Run) (old : Lists) (q : Request) (event : RunEvent) (refusal : Refusal) (r : Reply) (new other : Lists) →
     Answers run old q event (reply.Refused refusal) new → Answers run old q event r other → r ≡ reply.Refused refusal
 refused_alone run old q event refusal (reply.Refused second) new other a b =
     let h : Some second ≡ Some refusal = sym b.0 ∙ a.0 in

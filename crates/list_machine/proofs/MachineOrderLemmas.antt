@@ -14,7 +14,8 @@ use Rattle.mdbox_base.specs.declared.replies.Refusal.TheVariants.{Exists, StoreF
 use Rattle.mdbox_base.specs.declared.replies.Reply.{Reply}
 use Rattle.mdbox_base.specs.declared.replies.Reply.TheVariants as reply
 use Rattle.model_lists.specs.Lists.{ListedMessage, Mailbox, Lists, IsMessageInRange, IsMailboxInOrder, AreWellFormed, empty_mailbox, change_first}
-use Rattle.list_machine.specs.Machine.{Run, HasMailbox, IsNewName, HasMessage, RoomForMailbox, RoomForMessage, NextUid, refused_where, refusal_at, first_refusal, checks_of, Event, First, Last, SecondHalf, Answers, Does, RequestInRange, IsCopied, IsDelivered, IsMade, IsSecondHalf, without_first, has_name, has_uid, mailbox_named, message_in, message_at, set_flags, expunge, add_last, add_message}
+use Rattle.list_machine.specs.Run.{EventPart, First, Last, SecondHalf, RunEvent, Run}
+use Rattle.list_machine.specs.Machine.{HasMailbox, IsNewName, HasMessage, RoomForMailbox, RoomForMessage, NextUid, refused_where, refusal_at, first_refusal, part_checks, Answers, Does, RequestInRange, IsCopied, IsDelivered, IsMade, IsSecondHalf, without_first, has_name, is_message_of_uid, mailbox_named, message_in, message_at, set_flags, expunge, add_last, add_message}
 use Rattle.list_machine.proofs.MachineLemmas.{some_one}
 use Rattle.model_octets.proofs.PairLemmas.{found_among, pairs_nil, pairs_head, pairs_tail, pairs_push}
 
@@ -77,17 +78,17 @@ with_messages mailbox messages o rising below in_range = record {
 flagged_fits : (message : ListedMessage) (flags : ℕ) → flags ≤ 31 → IsMessageInRange message → IsMessageInRange (record message { flags = flags })
 flagged_fits message flags le f = record { uid_some = f.uid_some; uid_fits = f.uid_fits; flags = le; time = f.time; guid = f.guid; size = f.size }
 
-flagged_in_order : (mailbox : Mailbox) (uid flags : ℕ) → flags ≤ 31 → IsMailboxInOrder mailbox → IsMailboxInOrder (record mailbox { messages = change_first (has_uid uid) (λ message. record message { flags = flags }) mailbox.messages })
+flagged_in_order : (mailbox : Mailbox) (uid flags : ℕ) → flags ≤ 31 → IsMailboxInOrder mailbox → IsMailboxInOrder (record mailbox { messages = change_first (is_message_of_uid uid) (λ message. record message { flags = flags }) mailbox.messages })
 flagged_in_order mailbox uid flags le o =
-    with_messages mailbox (change_first (has_uid uid) (λ message. record message { flags = flags }) mailbox.messages) o
-    (pairs_changed Rises (has_uid uid) (λ message. record message { flags = flags }) (λ a b h. h) (λ a b h. h) mailbox.messages o.rising)
-    (all_changed (IsBelow mailbox.next_uid) (has_uid uid) (λ message. record message { flags = flags }) mailbox.messages (λ x e h. h) o.below)
-    (all_changed IsMessageInRange (has_uid uid) (λ message. record message { flags = flags }) mailbox.messages (λ x e h. flagged_fits x flags le h) o.in_range)
+    with_messages mailbox (change_first (is_message_of_uid uid) (λ message. record message { flags = flags }) mailbox.messages) o
+    (pairs_changed Rises (is_message_of_uid uid) (λ message. record message { flags = flags }) (λ a b h. h) (λ a b h. h) mailbox.messages o.rising)
+    (all_changed (IsBelow mailbox.next_uid) (is_message_of_uid uid) (λ message. record message { flags = flags }) mailbox.messages (λ x e h. h) o.below)
+    (all_changed IsMessageInRange (is_message_of_uid uid) (λ message. record message { flags = flags }) mailbox.messages (λ x e h. flagged_fits x flags le h) o.in_range)
 
-expunged_in_order : (mailbox : Mailbox) (uid : ℕ) → IsMailboxInOrder mailbox → IsMailboxInOrder (record mailbox { messages = without_first (has_uid uid) mailbox.messages })
+expunged_in_order : (mailbox : Mailbox) (uid : ℕ) → IsMailboxInOrder mailbox → IsMailboxInOrder (record mailbox { messages = without_first (is_message_of_uid uid) mailbox.messages })
 expunged_in_order mailbox uid o =
-    with_messages mailbox (without_first (has_uid uid) mailbox.messages) o (pairs_without Rises (has_uid uid) mailbox.messages o.rising)
-    (all_without (IsBelow mailbox.next_uid) (has_uid uid) mailbox.messages o.below) (all_without IsMessageInRange (has_uid uid) mailbox.messages o.in_range)
+    with_messages mailbox (without_first (is_message_of_uid uid) mailbox.messages) o (pairs_without Rises (is_message_of_uid uid) mailbox.messages o.rising)
+    (all_without (IsBelow mailbox.next_uid) (is_message_of_uid uid) mailbox.messages o.below) (all_without IsMessageInRange (is_message_of_uid uid) mailbox.messages o.in_range)
 
 -- what is in range of a message whatever its UID
 record IsContentInRange (message : ListedMessage) : Type 0 where
@@ -146,12 +147,12 @@ changed_well lists test change k w = record {
 
 flagged_well : (lists : Lists) (name : List ℕ) (uid flags : ℕ) → flags ≤ 31 → AreWellFormed lists → AreWellFormed (set_flags name uid flags lists)
 flagged_well lists name uid flags le w =
-    changed_well lists (has_name name) (λ (mailbox : Mailbox). record mailbox { messages = change_first (has_uid uid) (λ message. record message { flags = flags }) mailbox.messages })
+    changed_well lists (has_name name) (λ (mailbox : Mailbox). record mailbox { messages = change_first (is_message_of_uid uid) (λ message. record message { flags = flags }) mailbox.messages })
     (record { name = λ m. refl; number = λ m. refl; order = λ m e o. flagged_in_order m uid flags le o }) w
 
 expunged_well : (lists : Lists) (name : List ℕ) (uid : ℕ) → AreWellFormed lists → AreWellFormed (expunge name uid lists)
 expunged_well lists name uid w =
-    changed_well lists (has_name name) (λ (mailbox : Mailbox). record mailbox { messages = without_first (has_uid uid) mailbox.messages })
+    changed_well lists (has_name name) (λ (mailbox : Mailbox). record mailbox { messages = without_first (is_message_of_uid uid) mailbox.messages })
     (record { name = λ m. refl; number = λ m. refl; order = λ m e o. expunged_in_order m uid o }) w
 
 added_well : (lists : Lists) (name : List ℕ) (message : ListedMessage) (mailbox : Mailbox) → mailbox_named name lists ≡ Some mailbox → mailbox.next_uid ≤ 4294967294 → IsContentInRange message → AreWellFormed lists
@@ -209,7 +210,7 @@ listed_fits old name uid message w e = by_mailbox (mailbox_named name old) refl 
   where
     by_mailbox : (o : Option Mailbox) → mailbox_named name old ≡ o → option_and_then (message_in uid) o ≡ Some message → IsMessageInRange message
     by_mailbox None h f = absurd (let k : None ≡ Some message = f in cc k)
-    by_mailbox (Some mailbox) h f = found_among (has_uid uid) mailbox.messages message IsMessageInRange f (found_among (has_name name) old mailbox IsMailboxInOrder h w.each).in_range
+    by_mailbox (Some mailbox) h f = found_among (is_message_of_uid uid) mailbox.messages message IsMessageInRange f (found_among (has_name name) old mailbox IsMailboxInOrder h w.each).in_range
 
 content_of : (message : ListedMessage) → IsMessageInRange message → IsContentInRange message
 content_of message f = record { flags = f.flags; time = f.time; guid = f.guid; size = f.size }
@@ -225,9 +226,9 @@ copied_well run old new name uid target given w e c =
     subst AreWellFormed (sym c.new_is)
     (added_well old target c.message c.mailbox c.target_is (next_fits run old target c.mailbox c.target_is room) (content_of c.message (listed_fits old name uid c.message w c.source_is)) w)
 
-delivered_well : (run : Run) (old new : Lists) (name : List ℕ) (time : ℕ) (octets : List ℕ) (given : ℕ) (own : List ℕ) → AreWellFormed old → (time < 2 ^ 64) × (length octets ≤ 67108864)
-    → first_refusal run old (HasMailbox name ∷ RoomForMessage name ∷ NextUid name ∷ []) ≡ None → IsDelivered run old name time octets given own new → AreWellFormed new
-delivered_well run old new name time octets given own w f e d =
+delivered_well : (run : Run) (event : RunEvent) (old new : Lists) (name : List ℕ) (time : ℕ) (octets : List ℕ) (given : ℕ) (own : List ℕ) → AreWellFormed old → (time < 2 ^ 64) × (length octets ≤ 67108864)
+    → first_refusal run old (HasMailbox name ∷ RoomForMessage name ∷ NextUid name ∷ []) ≡ None → IsDelivered run event old name time octets given own new → AreWellFormed new
+delivered_well run event old new name time octets given own w f e d =
     let e1 = (or_none (refusal_at run old (HasMailbox name)) _ e).1 in
     let e2 = (or_none (refusal_at run old (RoomForMessage name)) _ e1).1 in
     let room = (or_none (refusal_at run old (NextUid name)) None e2).0 in
@@ -235,8 +236,8 @@ delivered_well run old new name time octets given own w f e d =
     (added_well old name (record { uid = given; flags = 0; time = time; guid = own; octets = octets }) d.mailbox d.target_is (next_fits run old name d.mailbox d.target_is room)
     (record { flags = omega arith; time = f.0; guid = d.guid_length; size = f.1 }) w)
 
-made_well : (run : Run) (old new : Lists) (name : List ℕ) → AreWellFormed old → IsName name → first_refusal run old (IsNewName name ∷ RoomForMailbox ∷ []) ≡ None → IsMade run old name new → AreWellFormed new
-made_well run old new name w is_name e m =
+made_well : (run : Run) (event : RunEvent) (old new : Lists) (name : List ℕ) → AreWellFormed old → IsName name → first_refusal run old (IsNewName name ∷ RoomForMailbox ∷ []) ≡ None → IsMade run event old name new → AreWellFormed new
+made_well run event old new name w is_name e m =
     let free = (or_none (refusal_at run old (IsNewName name)) _ e).0 in
     let made : Mailbox = empty_mailbox m.number name in
     let fresh = m.fresh in
@@ -252,20 +253,22 @@ half_well old new name uid true w h = subst AreWellFormed (sym h.1) w
 half_well old new name uid false w h = subst AreWellFormed (sym h.1) (expunged_well old name uid w)
 
 -- Where none of its checks refuses, what a request does keeps well formed lists so.
-does_well : (run : Run) (old : Lists) (q : Request) (event : Event) (r : Reply) (new : Lists) → AreWellFormed old → RequestInRange q → first_refusal run old (checks_of q event) ≡ None → Does run old q event r new → AreWellFormed new
-does_well run old (request.List name) First (reply.Listed rows) new w f e d = subst AreWellFormed (sym d.3) w
-does_well run old (request.Fetch name uid) First (reply.Fetched octets) new w f e d = subst AreWellFormed (sym d.3) w
-does_well run old (request.Flag name uid flags) First reply.Done new w f e d = subst AreWellFormed (sym d) (flagged_well old name uid.0 flags f w)
-does_well run old (request.Make name) Last reply.Done new w f e d = made_well run old new name w f e d
-does_well run old (request.Deliver name time octets) Last (reply.Saved uid own) new w f e d = delivered_well run old new name time octets uid.0 own.0 w f e d
-does_well run old (request.Copy name uid target) Last (reply.Copied given) new w f e d = copied_well run old new name uid.0 target given.0 w e d
-does_well run old (request.Move name uid target) Last (reply.Copied given) new w f e d = copied_well run old new name uid.0 target given.0 w e d
-does_well run old (request.Move name uid target) (SecondHalf copied) (reply.Moved given gone) new w f e d = half_well old new name uid.0 gone w d.1
-does_well run old (request.Expunge name uid) First reply.Done new w f e d = subst AreWellFormed (sym d) (expunged_well old name uid.0 w)
-does_well run old request.Counts First (reply.Counted records references counts instances) new w f e d = subst AreWellFormed (sym d.1) w
-does_well run old q event r new w f e d = absurd d
+does_well : (run : Run) (event : RunEvent) (old : Lists) (q : Request) (part : EventPart) (r : Reply) (new : Lists) → AreWellFormed old → RequestInRange q → first_refusal run old (part_checks run event q part) ≡ None → Does run event old q part r new → AreWellFormed new
+does_well run event old (request.List name) First (reply.Listed rows) new w f e d = subst AreWellFormed (sym d.3) w
+does_well run event old (request.Fetch name uid) First (reply.Fetched octets) new w f e d = subst AreWellFormed (sym d.3) w
+does_well run event old (request.Flag name uid flags) First reply.Done new w f e d = subst AreWellFormed (sym d) (flagged_well old name uid.0 flags f w)
+does_well run event old (request.Make name) Last reply.Done new w f e d = made_well run event old new name w f e d
+does_well run event old (request.Deliver name time octets) Last (reply.Saved uid own) new w f e d = delivered_well run event old new name time octets uid.0 own.0 w f e d
+does_well run event old (request.Copy name uid target) Last (reply.Copied given) new w f e d = copied_well run old new name uid.0 target given.0 w e d
+does_well run event old (request.Move name uid target) Last (reply.Copied given) new w f e d = copied_well run old new name uid.0 target given.0 w e d
+does_well run event old (request.Move name uid target) SecondHalf (reply.Moved given gone) new w f e d = half_well old new name uid.0 gone w d.1
+does_well run event old (request.Expunge name uid) First reply.Done new w f e d = subst AreWellFormed (sym d) (expunged_well old name uid.0 w)
+does_well run event old request.Counts First (reply.Counted records references counts instances) new w f e d = subst AreWellFormed (sym d.1) w
+does_well run event old request.Purge Last (reply.Purged dropped files instances) new w f e d = subst AreWellFormed (sym d.1) w
+does_well run event old request.Resync Last (reply.Resynced corrected damaged) new w f e d = subst AreWellFormed (sym d.1) w
+does_well run event old q part r new w f e d = absurd d
 
 -- A step of a request in range keeps well formed lists so.
-pub answers_well : (run : Run) (old : Lists) (q : Request) (event : Event) (r : Reply) (new : Lists) → AreWellFormed old → RequestInRange q → Answers run old q event r new → AreWellFormed new
+pub answers_well : (run : Run) (old : Lists) (q : Request) (event : RunEvent) (r : Reply) (new : Lists) → AreWellFormed old → RequestInRange q → Answers run old q event r new → AreWellFormed new
 answers_well run old q event (reply.Refused refusal) new w f a = subst AreWellFormed (sym a.1) w
-answers_well run old q event r new w f a = does_well run old q event r new w f a.0 a.1
+answers_well run old q event r new w f a = does_well run event old q event.part r new w f a.0 a.1

@@ -1,57 +1,39 @@
 -- The list machine: which answers a store may give. Mailbox lists are changed one step at a time; a move is a copy and
 -- then an expunge (after RFC 6851, but with two steps that others see).
-use Rattle.std.specs.Prelude.{◌≡◌, ◌≤◌, ◌<◌, ◌+◌, ◌^◌, ◌==◌, ℕ, nat_le, Bool, true, false, List, [], ◌∷◌, ◌++◌, length, map, find, sum_by, if◌then◌else◌, Option, Some, None, option_and_then, is_none, is_some, All, ◌≢◌}
+use Rattle.std.specs.Prelude.{◌≡◌, ◌≤◌, ◌<◌, ◌+◌, ◌^◌, ◌==◌, ℕ, nat_le, nat_lt, Bool, true, false, List, [], ◌∷◌, ◌++◌, length, map, find, sum_by, if◌then◌else◌, Option, Some, None, option_and_then, is_none, is_some, All, ◌≢◌}
 use Rattle.std.specs.List.{list_any}
 use Rattle.std.specs.Option.{option_map_or, option_or}
 use Rattle.std.specs.Str.{bytes_eq}
 use Rattle.mdbox_base.specs.Words.{IsName, IsOctets}
-use Rattle.mdbox_base.specs.declared.entries.Highest.{Highest}
 use Rattle.mdbox_base.specs.declared.requests.Request.{Request}
 use Rattle.mdbox_base.specs.declared.requests.Request.TheVariants as request
-use Rattle.mdbox_base.specs.declared.replies.ListRow.{ListRow}
 use Rattle.mdbox_base.specs.declared.replies.Refusal.{Refusal}
 use Rattle.mdbox_base.specs.declared.replies.Refusal.TheVariants as refusal
 use Rattle.mdbox_base.specs.declared.replies.Reply.{Reply}
 use Rattle.mdbox_base.specs.declared.replies.Reply.TheVariants as reply
-use Rattle.model_lists.specs.Lists.{ListedMessage, Mailbox, Lists, refs_of, empty_mailbox, listing_row, change_first}
+use Rattle.model_lists.specs.Lists.{ListedMessage, Mailbox, Lists, change_first, refs_of, empty_mailbox, listing_row}
 use Rattle.model_meaning.specs.MapMeaning.{MapMeaning, count_of, named_instances}
-
--- What the conditions read of a run, as an event begins: what the map's entries mean, the numbers drawn so far (the
--- highest at opening, and the draws of this run), and the GUIDs that other saves of this run gave.
-pub record Run : Type 0 where
-  pub map : MapMeaning
-  pub drawn : Highest
-  pub given : List (List ℕ)
-
--- An event of a request at which it is answered or refused. Most requests have one; `Last` is the event at which a
--- delivery, a copy or the first half of a move adds its message, or a make its mailbox. Whether an instance is placed, a
--- new file is made, and what UID the copy of a move got, isn't seen in lists: who cites a step says it of the event.
-pub data Event : Type 0 where
-  First : Event
-  PlacesInstance : Event
-  TakesFile : (new : Bool) → Event
-  StoresRegion : Event
-  Last : Event
-  SecondHalf : (copied : ℕ) → Event
+use Rattle.list_machine.specs.Run.{EventPart, First, PlacesInstance, TakesFile, StoresRecord, Last, SecondHalf, StartsOver, TakenFile, RunEvent, Run, map_of, drawn_of, given_by_others, guid_added, number_made, uid_copied, corrected_in, dropped_by, files_gone_by, instances_gone_by, damaged_by, with_targets, target_length}
 
 -- ---- lists
 
 abbrev pub has_name : List ℕ → Mailbox → Bool
 has_name name mailbox = bytes_eq mailbox.name name
 
-abbrev pub has_uid : ℕ → ListedMessage → Bool
-has_uid uid message = message.uid == uid
+abbrev pub is_message_of_uid : ℕ → ListedMessage → Bool
+is_message_of_uid uid message = message.uid == uid
 
 -- the mailbox with this name, and a message of it
 abbrev pub mailbox_named : List ℕ → Lists → Option Mailbox
 mailbox_named name lists = find (has_name name) lists
 
 abbrev pub message_in : ℕ → Mailbox → Option ListedMessage
-message_in uid mailbox = find (has_uid uid) mailbox.messages
+message_in uid mailbox = find (is_message_of_uid uid) mailbox.messages
 
 abbrev pub message_at : List ℕ → ℕ → Lists → Option ListedMessage
 message_at name uid lists = option_and_then (message_in uid) (mailbox_named name lists)
 
+-- the first that passes leaves
 abbrev pub without_first : {X : Type 0} → (X → Bool) → List X → List X
 without_first test [] = []
 without_first test (x ∷ xs) = if test x then xs else x ∷ without_first test xs
@@ -62,10 +44,10 @@ change_messages name change lists = change_first (has_name name) (λ mailbox. re
 
 -- a message has other flags, or leaves
 abbrev pub set_flags : List ℕ → ℕ → ℕ → Lists → Lists
-set_flags name uid flags lists = change_messages name (change_first (has_uid uid) (λ message. record message { flags = flags })) lists
+set_flags name uid flags lists = change_messages name (change_first (is_message_of_uid uid) (λ message. record message { flags = flags })) lists
 
 abbrev pub expunge : List ℕ → ℕ → Lists → Lists
-expunge name uid lists = change_messages name (without_first (has_uid uid)) lists
+expunge name uid lists = change_messages name (without_first (is_message_of_uid uid)) lists
 
 -- a message is added last to a mailbox, with its next UID
 abbrev pub add_last : ListedMessage → Mailbox → Mailbox
@@ -93,7 +75,8 @@ pub data Check : Type 0 where
   RoomForMessage : (name : List ℕ) → Check
   NextUid : (name : List ℕ) → Check
   NextMapUid : Check
-  NextFile : Check
+  NextFiles : (many : ℕ) → Check
+  TargetFits : (octets : ℕ) → Check
   NextInstance : Check
   NextMailbox : Check
   MayBeCopied : (name : List ℕ) → (uid : ℕ) → Check
@@ -106,8 +89,8 @@ abbrev pub is_used_up : ℕ → Bool
 is_used_up drawn = nat_le 4294967294 drawn
 
 -- What a check refuses: no mailbox has the name; a mailbox has it; no message has the UID; 1,024 mailboxes are there;
--- 1,000,000 messages are listed; the next number of its kind would be above 4,294,967,294; the count that is kept of the
--- message's GUID is 65,535.
+-- 1,000,000 messages are listed; a number that the event would draw, or the length of a purge's target, would be above
+-- 4,294,967,294; the count that is kept of the message's GUID is 65,535.
 abbrev pub refusal_at : Run → Lists → Check → Option Refusal
 refusal_at run lists (HasMailbox name) = refused_where (is_none (mailbox_named name lists)) refusal.NoMailbox
 refusal_at run lists (IsNewName name) = refused_where (is_some (mailbox_named name lists)) refusal.Exists
@@ -117,12 +100,13 @@ refusal_at run lists (RoomForMessage name) =
     refused_where (option_map_or (λ m. nat_le 1000000 (length m.messages)) (mailbox_named name lists) false) (refusal.MailboxFull 1000000)
 refusal_at run lists (NextUid name) =
     refused_where (option_map_or (λ m. nat_le 4294967295 m.next_uid) (mailbox_named name lists) false) (refusal.StoreFull 4294967294)
-refusal_at run lists NextMapUid = refused_where (is_used_up run.drawn.map) (refusal.StoreFull 4294967294)
-refusal_at run lists NextFile = refused_where (is_used_up run.drawn.file) (refusal.StoreFull 4294967294)
-refusal_at run lists NextInstance = refused_where (is_used_up run.drawn.instance) (refusal.StoreFull 4294967294)
-refusal_at run lists NextMailbox = refused_where (is_used_up run.drawn.mailbox) (refusal.StoreFull 4294967294)
+refusal_at run lists NextMapUid = refused_where (is_used_up (drawn_of run).map) (refusal.StoreFull 4294967294)
+refusal_at run lists (NextFiles many) = refused_where (nat_lt 4294967294 ((drawn_of run).file + many)) (refusal.StoreFull 4294967294)
+refusal_at run lists (TargetFits octets) = refused_where (nat_lt 4294967294 octets) (refusal.StoreFull 4294967294)
+refusal_at run lists NextInstance = refused_where (is_used_up (drawn_of run).instance) (refusal.StoreFull 4294967294)
+refusal_at run lists NextMailbox = refused_where (is_used_up (drawn_of run).mailbox) (refusal.StoreFull 4294967294)
 refusal_at run lists (MayBeCopied name uid) =
-    refused_where (option_map_or (λ m. nat_le 65535 (count_of run.map m.guid)) (message_at name uid lists) false) (refusal.TooManyCopies 65535)
+    refused_where (option_map_or (λ m. nat_le 65535 (count_of (map_of run) m.guid)) (message_at name uid lists) false) (refusal.TooManyCopies 65535)
 
 -- the first refusal of these checks
 abbrev pub first_refusal : Run → Lists → List Check → Option Refusal
@@ -131,35 +115,44 @@ first_refusal run lists (check ∷ checks) = option_or (refusal_at run lists che
 
 -- The checks of an event, in their order: mailbox (of a copy the source, then the target), name, message, mailboxes, room,
 -- numbers, copies.
-abbrev pub copy_checks : List ℕ → ℕ → List ℕ → Event → List Check
+abbrev pub copy_checks : List ℕ → ℕ → List ℕ → EventPart → List Check
 copy_checks name uid target First =
     HasMailbox name ∷ HasMailbox target ∷ HasMessage name uid ∷ RoomForMessage target ∷ NextUid target ∷ MayBeCopied name uid ∷ []
 copy_checks name uid target Last = HasMailbox name ∷ HasMailbox target ∷ HasMessage name uid ∷ RoomForMessage target ∷ NextUid target ∷ []
-copy_checks name uid target event = []
+copy_checks name uid target part = []
 
-abbrev pub deliver_checks : List ℕ → Event → List Check
+abbrev pub deliver_checks : List ℕ → EventPart → List Check
 deliver_checks name First = HasMailbox name ∷ RoomForMessage name ∷ NextUid name ∷ NextMapUid ∷ []
 deliver_checks name PlacesInstance = NextInstance ∷ []
-deliver_checks name (TakesFile true) = NextFile ∷ []
-deliver_checks name StoresRegion = NextMapUid ∷ []
+deliver_checks name (TakesFile true) = NextFiles 1 ∷ []
+deliver_checks name StoresRecord = NextMapUid ∷ []
 deliver_checks name Last = HasMailbox name ∷ RoomForMessage name ∷ NextUid name ∷ []
-deliver_checks name event = []
+deliver_checks name part = []
 
-abbrev pub make_checks : List ℕ → Event → List Check
+abbrev pub make_checks : List ℕ → EventPart → List Check
 make_checks name First = IsNewName name ∷ RoomForMailbox ∷ NextMailbox ∷ []
 make_checks name Last = IsNewName name ∷ RoomForMailbox ∷ []
-make_checks name event = []
+make_checks name StartsOver = IsNewName name ∷ RoomForMailbox ∷ []
+make_checks name part = []
 
-abbrev pub checks_of : Request → Event → List Check
-checks_of (request.Deliver name time octets) event = deliver_checks name event
-checks_of (request.List name) First = HasMailbox name ∷ []
-checks_of (request.Fetch name uid) First = HasMailbox name ∷ HasMessage name uid.0 ∷ []
-checks_of (request.Flag name uid flags) First = HasMailbox name ∷ HasMessage name uid.0 ∷ []
-checks_of (request.Copy name uid target) event = copy_checks name uid.0 target event
-checks_of (request.Move name uid target) event = copy_checks name uid.0 target event
-checks_of (request.Expunge name uid) First = HasMailbox name ∷ HasMessage name uid.0 ∷ []
-checks_of (request.Make name) event = make_checks name event
-checks_of request event = []
+-- A purge looks at the numbers of all its targets, and at the length of each.
+abbrev pub purge_checks : MapMeaning → List TakenFile → List Check
+purge_checks m files = NextFiles (length (with_targets m files)) ∷ map (λ t. TargetFits (target_length m t.file)) (with_targets m files)
+
+abbrev pub part_checks : Run → RunEvent → Request → EventPart → List Check
+part_checks run event (request.Deliver name time octets) part = deliver_checks name part
+part_checks run event (request.List name) First = HasMailbox name ∷ []
+part_checks run event (request.Fetch name uid) First = HasMailbox name ∷ HasMessage name uid.0 ∷ []
+part_checks run event (request.Flag name uid flags) First = HasMailbox name ∷ HasMessage name uid.0 ∷ []
+part_checks run event (request.Copy name uid target) part = copy_checks name uid.0 target part
+part_checks run event (request.Move name uid target) part = copy_checks name uid.0 target part
+part_checks run event (request.Expunge name uid) First = HasMailbox name ∷ HasMessage name uid.0 ∷ []
+part_checks run event (request.Make name) part = make_checks name part
+part_checks run event request.Purge First = purge_checks (map_of run) event.files
+part_checks run event request part = []
+
+abbrev pub checks_of : Run → Request → RunEvent → List Check
+checks_of run request event = part_checks run event request event.part
 
 -- ---- steps
 
@@ -172,60 +165,81 @@ pub record IsCopied (old : Lists) (name : List ℕ) (uid : ℕ) (target : List �
   pub given_is : given ≡ mailbox.next_uid
   pub new_is : new ≡ add_message target message old
 
--- A delivery: the message goes last into the mailbox, with flags 0 and a GUID of its own.
-pub record IsDelivered (run : Run) (old : Lists) (name : List ℕ) (time : ℕ) (octets : List ℕ) (given : ℕ) (guid : List ℕ) (new : Lists) : Type 0 where
+-- A delivery: the message goes last into the mailbox, with flags 0 and a GUID of its own, which the event's entry tells.
+pub record IsDelivered (run : Run) (event : RunEvent) (old : Lists) (name : List ℕ) (time : ℕ) (octets : List ℕ) (given : ℕ) (guid : List ℕ) (new : Lists) : Type 0 where
   pub mailbox : Mailbox
   pub target_is : mailbox_named name old ≡ Some mailbox
   pub given_is : given ≡ mailbox.next_uid
+  pub guid_is : guid_added event.box_entries ≡ Some guid
   pub guid_length : length guid ≡ 16
   pub guid_octets : IsOctets guid
   pub guid_unlisted : refs_of old guid ≡ 0
-  pub guid_new : All (λ other. other ≢ guid) run.given
+  pub guid_new : All (λ other. other ≢ guid) (given_by_others event.request run)
   pub new_is : new ≡ add_message name (record { uid = given; flags = 0; time = time; guid = guid; octets = octets }) old
 
--- A make: an empty mailbox is last, with a number that was drawn: above all others and above the highest of the map.
-pub record IsMade (run : Run) (old : Lists) (name : List ℕ) (new : Lists) : Type 0 where
+-- A make: an empty mailbox is last, with the number that the event's entry tells: above all others and above the highest
+-- of the map, and drawn.
+pub record IsMade (run : Run) (event : RunEvent) (old : Lists) (name : List ℕ) (new : Lists) : Type 0 where
   pub number : ℕ
+  pub number_is : number_made event.map_entries ≡ Some number
   pub above : All (λ mailbox. mailbox.number < number) old
-  pub fresh : run.map.highest.mailbox < number
-  pub drawn : number ≤ run.drawn.mailbox
+  pub fresh : (map_of run).highest.mailbox < number
+  pub drawn : number ≤ (drawn_of run).mailbox
   pub fits : number ≤ 4294967294
   pub new_is : new ≡ old ++ empty_mailbox number name ∷ []
 
 -- The numbers of a count: records, listed messages, the sum of the counts that are kept, and different instances.
 pub record AreCounts (run : Run) (lists : Lists) (records references counts instances : ℕ) : Type 0 where
-  pub records_are : records ≡ length run.map.records
+  pub records_are : records ≡ length (map_of run).records
   pub references_are : references ≡ sum_by (λ mailbox. length mailbox.messages) lists
-  pub counts_are : counts ≡ sum_by (λ row. row.count) run.map.records
-  pub instances_are : instances ≡ count_different (map (λ instance. instance.id.0) (named_instances run.map))
+  pub counts_are : counts ≡ sum_by (λ row. row.count) (map_of run).records
+  pub instances_are : instances ≡ count_different (map (λ instance. instance.id.0) (named_instances (map_of run)))
+
+-- The numbers of a purge: what its own events dropped, doomed or removed.
+pub record ArePurged (run : Run) (event : RunEvent) (dropped files instances : ℕ) : Type 0 where
+  pub dropped_are : dropped ≡ dropped_by event.request run
+  pub files_are : files ≡ files_gone_by event.request run
+  pub instances_are : instances ≡ instances_gone_by event.request run
+
+-- The numbers of a resync: the records whose count its last event changes, and the regions that its own events found damaged.
+pub record AreResynced (run : Run) (event : RunEvent) (corrected damaged : ℕ) : Type 0 where
+  pub corrected_are : corrected ≡ sum_by (corrected_in (map_of run)) event.map_entries
+  pub damaged_are : damaged ≡ damaged_by event.request run
 
 -- The second half of a move: where the message is listed it leaves, else nothing changes.
 abbrev pub IsSecondHalf : Lists → List ℕ → ℕ → Bool → Lists → Type 0
 IsSecondHalf old name uid gone new =
     (gone ≡ is_none (message_at name uid old)) × (new ≡ (if gone then old else expunge name uid old))
 
--- From the old lists an event that isn't refused may give this reply and lead to the new lists.
-abbrev pub Does : Run → Lists → Request → Event → Reply → Lists → Type 0
-Does run old (request.List name) First (reply.Listed rows) new =
+-- From the old lists a part of a request that isn't refused may give this reply and lead to the new lists.
+abbrev pub Does : Run → RunEvent → Lists → Request → EventPart → Reply → Lists → Type 0
+Does run event old (request.List name) First (reply.Listed rows) new =
     (mailbox : Mailbox) × (mailbox_named name old ≡ Some mailbox) × (rows ≡ map listing_row mailbox.messages) × (new ≡ old)
-Does run old (request.Fetch name uid) First (reply.Fetched octets) new =
+Does run event old (request.Fetch name uid) First (reply.Fetched octets) new =
     (message : ListedMessage) × (message_at name uid.0 old ≡ Some message) × (octets ≡ message.octets) × (new ≡ old)
-Does run old (request.Flag name uid flags) First reply.Done new = new ≡ set_flags name uid.0 flags old
-Does run old (request.Make name) Last reply.Done new = IsMade run old name new
-Does run old (request.Deliver name time octets) Last (reply.Saved uid guid) new = IsDelivered run old name time octets uid.0 guid.0 new
-Does run old (request.Copy name uid target) Last (reply.Copied given) new = IsCopied old name uid.0 target given.0 new
-Does run old (request.Move name uid target) Last (reply.Copied given) new = IsCopied old name uid.0 target given.0 new
-Does run old (request.Move name uid target) (SecondHalf copied) (reply.Moved given gone) new = (given.0 ≡ copied) × IsSecondHalf old name uid.0 gone new
-Does run old (request.Expunge name uid) First reply.Done new = new ≡ expunge name uid.0 old
-Does run old request.Counts First (reply.Counted records references counts instances) new =
+Does run event old (request.Flag name uid flags) First reply.Done new = new ≡ set_flags name uid.0 flags old
+Does run event old (request.Make name) Last reply.Done new = IsMade run event old name new
+Does run event old (request.Deliver name time octets) Last (reply.Saved uid guid) new = IsDelivered run event old name time octets uid.0 guid.0 new
+Does run event old (request.Copy name uid target) Last (reply.Copied given) new = IsCopied old name uid.0 target given.0 new
+Does run event old (request.Move name uid target) Last (reply.Copied given) new = IsCopied old name uid.0 target given.0 new
+Does run event old (request.Move name uid target) SecondHalf (reply.Moved given gone) new =
+    (uid_copied event.request run ≡ Some given.0) × IsSecondHalf old name uid.0 gone new
+Does run event old (request.Expunge name uid) First reply.Done new = new ≡ expunge name uid.0 old
+Does run event old request.Counts First (reply.Counted records references counts instances) new =
     AreCounts run old records references counts instances × (new ≡ old)
-Does run old request event reply new = ⊥
+Does run event old request.Purge Last (reply.Purged dropped files instances) new = ArePurged run event dropped files instances × (new ≡ old)
+Does run event old request.Resync Last (reply.Resynced corrected damaged) new = AreResynced run event corrected damaged × (new ≡ old)
+Does run event old request part reply new = ⊥
 
--- A step: a refusal, which is the first of the event's checks and changes nothing, or, where none of them refuses, what
--- the request does.
-abbrev pub Answers : Run → Lists → Request → Event → Reply → Lists → Type 0
-Answers run old request event (reply.Refused refusal) new = (first_refusal run old (checks_of request event) ≡ Some refusal) × (new ≡ old)
-Answers run old request event reply new = (first_refusal run old (checks_of request event) ≡ None) × Does run old request event reply new
+-- What a part of a request answers: a refusal, which is the first of its checks and changes nothing, or, where none of them
+-- refuses, what it does.
+abbrev pub PartAnswers : Run → RunEvent → Lists → Request → EventPart → Reply → Lists → Type 0
+PartAnswers run event old request part (reply.Refused refusal) new = (first_refusal run old (part_checks run event request part) ≡ Some refusal) × (new ≡ old)
+PartAnswers run event old request part reply new = (first_refusal run old (part_checks run event request part) ≡ None) × Does run event old request part reply new
+
+-- A step, by an event that begins when the run has come so far.
+abbrev pub Answers : Run → Lists → Request → RunEvent → Reply → Lists → Type 0
+Answers run old request event reply new = PartAnswers run event old request event.part reply new
 
 -- the refusals that are steps; the others, want of memory, faults and damage, are none
 abbrev pub is_step : Refusal → Bool
@@ -253,14 +267,14 @@ one_of_guid guid None = 0
 one_of_guid guid (Some message) = if bytes_eq message.guid guid then 1 else 0
 
 -- How many references to a GUID a step adds: a delivery one to its own, a copy one to that of its source.
-abbrev pub refs_added : Lists → Request → Event → Reply → List ℕ → ℕ
+abbrev pub refs_added : Lists → Request → EventPart → Reply → List ℕ → ℕ
 refs_added old (request.Deliver name time octets) Last (reply.Saved uid given) guid = if bytes_eq given.0 guid then 1 else 0
 refs_added old (request.Copy name uid target) Last (reply.Copied given) guid = one_of_guid guid (message_at name uid.0 old)
 refs_added old (request.Move name uid target) Last (reply.Copied given) guid = one_of_guid guid (message_at name uid.0 old)
-refs_added old request event reply guid = 0
+refs_added old request part reply guid = 0
 
 -- How many it takes: an expunge, and the second half of a move, one from that of the message, where it is listed.
-abbrev pub refs_taken : Lists → Request → Event → Reply → List ℕ → ℕ
+abbrev pub refs_taken : Lists → Request → EventPart → Reply → List ℕ → ℕ
 refs_taken old (request.Expunge name uid) First reply.Done guid = one_of_guid guid (message_at name uid.0 old)
-refs_taken old (request.Move name uid target) (SecondHalf copied) (reply.Moved given gone) guid = one_of_guid guid (message_at name uid.0 old)
-refs_taken old request event reply guid = 0
+refs_taken old (request.Move name uid target) SecondHalf (reply.Moved given gone) guid = one_of_guid guid (message_at name uid.0 old)
+refs_taken old request part reply guid = 0

@@ -1,3 +1,4 @@
-pub mod DecimalLaws
-pub mod DigitLaws
-pub mod StreamLaws
+pub mod DecimalLemmas
+pub mod DigitLemmas
+pub mod LowerHexLemmas
+pub mod StreamLemmas

@@ -1,3 +1,4 @@
+pub mod Clocks
 pub mod Numbers
 pub mod Streams
 pub mod Words

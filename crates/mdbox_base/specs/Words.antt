@@ -1,9 +1,18 @@
--- Plain words on octets.
-use Rattle.std.specs.Prelude.{ℕ, ◌<◌, ◌≤◌, List, length, All, ◌≢◌, IsUtf8, Bool, not, ◌==◌}
+-- Plain words on octets and numbers.
+use Rattle.std.specs.Prelude.{ℕ, Bool, not, ◌==◌, ◌<◌, ◌≤◌, List, length, All, ◌≢◌, IsUtf8}
 
 -- each is an octet
 abbrev pub IsOctets : List ℕ → Type 0
 IsOctets text = All (λ octet. octet < 256) text
+
+-- an octet isn't this mark
+abbrev pub is_other_than : ℕ → ℕ → Bool
+is_other_than mark octet = not (octet == mark)
+
+-- a number of a storage file, a mailbox, a record or a generation
+pub record IsNumber (n : ℕ) : Type 0 where
+  pub low : 1 ≤ n
+  pub high : n ≤ 4294967294
 
 -- a mailbox name: 1 to 255 octets of UTF-8, none of them a control octet
 pub record IsName (text : List ℕ) : Type 0 where
@@ -12,12 +21,3 @@ pub record IsName (text : List ℕ) : Type 0 where
   pub printing : All (λ octet. 32 ≤ octet) text
   pub no_delete : All (λ octet. octet ≢ 127) text
   pub utf8 : IsUtf8 text
-
--- a number of a storage file, a mailbox, a record or a generation
-pub record IsNumber (n : ℕ) : Type 0 where
-  pub low : 1 ≤ n
-  pub high : n ≤ 4294967294
-
--- another octet than the mark
-abbrev pub is_other_than : ℕ → ℕ → Bool
-is_other_than mark c = not (c == mark)

@@ -1,6 +1,7 @@
 // Sources and sinks of octets.
-ghost use Rattle.std.specs.Prelude.{◌≡◌, ◌≤◌, ◌<◌, ◌+◌, ℕ, min, List, [], length, take, Option, Some, codes, IfOk, IfErr, IfSome, OnOk, OnErr};
+ghost use Rattle.std.specs.Prelude.{◌≡◌, ◌≢◌, ◌≤◌, ◌<◌, ◌+◌, ℕ, min, List, [], length, take, Option, Some, codes, IfOk, IfErr, IfSome, OnOk, OnErr};
 ghost use Rattle.mdbox_base.specs.Streams.{Rose, Taken, Appended, IsAtEnd, Refused, input_error_text};
+ghost use Rattle.mdbox_base.specs.declared.stream.InputError.TheVariants.{Fault};
 
 use crate::octets::Octets;
 use std::alloc::Global;
@@ -41,6 +42,7 @@ pub trait Source {
         ensures within { IfOk result (λ count. count ≤ length into.new) }
         ensures octets { IfOk result (λ count. Taken (left self.old) (take count into.new) (left self.new)) }
         ensures end { IfOk result (λ count. count ≡ 0 → 0 < length into.new → IsAtEnd (left self.old)) }
+        ensures quiet { OnOk result (faults self.new ≡ faults self.old) }
         ensures failed { OnErr result (left self.new ≡ left self.old) }
         ensures cause { OnErr result (Rose (faults self.old) (faults self.new)) }
         ensures counted { faults self.old ≤ faults self.new };
@@ -59,6 +61,7 @@ pub trait Sink {
         ensures within { IfOk result (λ count. count ≤ length from.now) }
         ensures some { IfOk result (λ count. 0 < length from.now → 0 < count) }
         ensures octets { IfOk result (λ count. Appended (held self.old) (take count from.now) (held self.new)) }
+        ensures quiet { OnOk result (faults self.new ≡ faults self.old) }
         ensures failed { OnErr result (held self.new ≡ held self.old) }
         ensures cause { OnErr result (Rose (faults self.old) (faults self.new)) }
         ensures counted { faults self.old ≤ faults self.new };
@@ -69,6 +72,8 @@ pub fn read_all<I: Source>(alloc: Global, source: &mut I, limit: u64) -> Result<
     ensures octets { IfOk result (λ text. Taken (I.left source.old) text (I.left source.new)) }
     ensures end { OnOk result (IsAtEnd (I.left source.new)) }
     ensures short { IfOk result (λ text. length text ≤ limit) }
+    ensures quiet { OnOk result (I.faults source.new ≡ I.faults source.old) }
+    ensures unfailed { IfErr result (λ error. error ≢ Fault → I.faults source.new ≡ I.faults source.old) }
     ensures refused { IfErr result (Refused limit (I.left source.old) (I.left source.new) (I.faults source.old) (I.faults source.new)) }
     ensures counted { I.faults source.old ≤ I.faults source.new }
 {
@@ -106,6 +111,7 @@ fn piece_size(room: u64) -> usize
 /// Gives a whole text to a sink. After a fault the sink was given a prefix.
 pub fn give_all<O: Sink>(sink: &mut O, text: &[u8]) -> Result<(), SinkFault>
     ensures ok { OnOk result (Appended (O.held sink.old) text.now (O.held sink.new)) }
+    ensures quiet { OnOk result (O.faults sink.new ≡ O.faults sink.old) }
     ensures err { OnErr result ((given : ℕ) × (given < length text.now) × Appended (O.held sink.old) (take given text.now) (O.held sink.new)) }
     ensures cause { OnErr result (Rose (O.faults sink.old) (O.faults sink.new)) }
     ensures counted { O.faults sink.old ≤ O.faults sink.new }

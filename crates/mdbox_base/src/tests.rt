@@ -2,8 +2,9 @@ ghost use Rattle.std.specs.Prelude.{Some};
 
 // Vectors, and what no clause says: that calls succeed where memory is ample.
 use crate::{
-    InputError, MemSink, MemSource, Octets, Seq, Sink, SinkFault, flags_of, give_all, name_of,
-    push_decimal, push_hex, read_all, read_decimal, read_hex,
+    Clock, ClockFault, InputError, LAST_NUMBER, MemClock, MemSink, MemSource, Octets, Seq, Sink,
+    SinkFault, flags_of, give_all, is_number, name_of, push_decimal, push_hex, read_all,
+    read_decimal, read_hex, read_lower_hex,
 };
 use std::alloc::{AllocError, Global};
 
@@ -38,6 +39,24 @@ fn reads_numbers(rt: HostRuntime) {
     ] {
         assert_eq!(rt; read_decimal(text.as_bytes()), value, "decimal {text}");
     }
+}
+
+#[test]
+fn reads_lower_hex(rt: HostRuntime) {
+    for (text, octets) in [
+        ("00ff", Some([0, 255])),
+        ("00fF", None),
+        ("00f", None),
+        ("00ff00", None),
+    ] {
+        assert_eq!(rt; read_lower_hex::<2>(text.as_bytes()), octets, "{text}");
+    }
+}
+
+#[test]
+fn knows_numbers(rt: HostRuntime) {
+    assert!(rt; is_number(LAST_NUMBER));
+    assert!(rt; !is_number(u32::MAX));
 }
 
 #[test]
@@ -126,5 +145,14 @@ fn gives_to_the_end(rt: HostRuntime) -> Result<(), AllocError> {
     assert_eq!(rt; give_all(&mut sink, b"def"), Err(SinkFault));
     assert_eq!(rt; give_all(&mut sink, b"gh"), Ok(()));
     assert_eq!(rt; sink.held().as_slice(), b"abcgh".as_slice());
+    Ok(())
+}
+
+#[test]
+fn tells_the_time(rt: HostRuntime) -> Result<(), AllocError> {
+    let mut clock = MemClock::of(1_694_498_816, Seq::of(vec![in rt.alloc(); 2]?));
+    assert_eq!(rt; clock.now(), Ok(1_694_498_816));
+    assert_eq!(rt; clock.now(), Err(ClockFault));
+    assert_eq!(rt; clock.now(), Ok(1_694_498_816));
     Ok(())
 }

@@ -1,8 +1,8 @@
 -- How a listing ends.
 use Rattle.std.specs.Prelude.{◌≡◌, ◌⊎◌, ℕ, Bool, false, List, [], ◌∷◌, Option, Some, None}
 use Rattle.std.proofs.Common.{refl, sym, ◌∙◌, ap, subst, inl, inr}
-use Rattle.disk_model.specs.Disk.{History, EachImage}
-use Rattle.disk_model.proofs.Moments.{since-begins}
+use Rattle.disk_model.specs.Disk.{History, EachImage, IsIdle}
+use Rattle.disk_model.proofs.MomentLemmas.{since-begins}
 use Rattle.mdbox_base.specs.declared.replies.Reply.{Reply}
 use Rattle.mdbox_base.specs.declared.requests.Request.TheVariants as request
 use Rattle.model_lists.specs.Lists.{Lists}
@@ -11,13 +11,12 @@ use Rattle.model_meaning.specs.BoxMeaning.{BoxMeaning}
 use Rattle.model_meaning.specs.MapMeaning.{MapBox, MapMeaning}
 use Rattle.model_store.specs.Listing.{ShowLists, meaning_named, listing_of}
 use Rattle.model_store.specs.Safe.{Safe}
-use Rattle.model_store.specs.Settled.{files_of}
+use Rattle.model_store.specs.Settled.{files_of, IsSettledFor}
 use Rattle.model_store.proofs.SettledLemmas.{settled_safe}
 use Rattle.model_store.proofs.OpeningLemmas.{no_store_or_opens, opens_or_damaged}
 use Rattle.model_store.proofs.OpeningSafeLemmas.{safe_opens}
-use Rattle.gate_log.specs.Log.{Idle}
-use Rattle.gate_log.proofs.Idling.{idle-begins}
-use Rattle.store_core.specs.Running.{IsSettledFor, IsStore}
+use Rattle.disk_model.proofs.IdleLemmas.{idle-begins}
+use Rattle.store_core.specs.Running.{IsStore}
 use Rattle.store_open.specs.Making.{IdleUnless}
 use Rattle.store_open.specs.Opened.{Opening, IsOpenedAs, IsOpeningError}
 use Rattle.store_core.specs.Value.{indexes_of}
@@ -82,7 +81,7 @@ lists_last name h k old new (outcome.Refused why) last y e = elim y [
     wanting d (inr c) = inr (record { memory = refl; given = c.given; listed = c.listed; printed = c.printed })
 
 -- a store that was not opened
-pub unopened : (h : Option (List ℕ)) (old new : Option History) (why : OpenError) → IsOpeningError old why → ((why ≡ error.DiskFault → ⊥) → Idle old new) → IdleUnless Opening old new → IsNotOpened h h old new why
+pub unopened : (h : Option (List ℕ)) (old new : Option History) (why : OpenError) → IsOpeningError old why → ((why ≡ error.DiskFault → ⊥) → IsIdle old new) → IdleUnless Opening old new → IsNotOpened h h old new why
 unopened h old new why cause idle untouched = record { unprinted = refl; cause = cause; idle = idle; untouched = untouched }
 
 -- a store that isn't stopped opens again

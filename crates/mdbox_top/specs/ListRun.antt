@@ -1,6 +1,6 @@
 -- How a listing ends.
 use Rattle.std.specs.Prelude.{◌≡◌, ◌⊎◌, ℕ, Bool, true, false, List, [], Option}
-use Rattle.disk_model.specs.Disk.{History}
+use Rattle.disk_model.specs.Disk.{History, IsIdle}
 use Rattle.mdbox_base.specs.Streams.{Appended}
 use Rattle.mdbox_base.specs.declared.replies.Reply.{Reply}
 use Rattle.mdbox_base.specs.declared.replies.Reply.TheVariants as reply
@@ -11,8 +11,7 @@ use Rattle.model_meaning.specs.BoxMeaning.{BoxMeaning}
 use Rattle.model_meaning.specs.MapMeaning.{MapMeaning}
 use Rattle.model_store.specs.Listing.{meaning_named, listing_of}
 use Rattle.mdbox_top.specs.ReplyText.{reply_text}
-use Rattle.gate_log.specs.Log.{Idle}
-use Rattle.store_core.specs.Running.{IsSettledFor}
+use Rattle.model_store.specs.Settled.{IsSettledFor}
 use Rattle.store_open.specs.Making.{IdleUnless}
 use Rattle.store_open.specs.Opened.{Opening, IsOpenedAs, IsOpeningError}
 use Rattle.store_open.specs.declared.error.OpenError.{OpenError}
@@ -70,7 +69,7 @@ pub record ListsAll (name : List ℕ) (held later : Option (List ℕ)) (old new 
 pub record IsNotOpened (held later : Option (List ℕ)) (old new : Option History) (why : OpenError) : Type 0 where
   pub unprinted : later ≡ held
   pub cause : IsOpeningError old why
-  pub idle : (why ≡ error.DiskFault → ⊥) → Idle old new
+  pub idle : (why ≡ error.DiskFault → ⊥) → IsIdle old new
   pub untouched : IdleUnless Opening old new
 
 -- There was no memory for the listing, or not for all of its text.

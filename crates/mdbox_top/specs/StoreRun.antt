@@ -1,13 +1,12 @@
 -- How a command on the store ends.
 use Rattle.std.specs.Prelude.{◌≡◌, ℕ, List, [], ◌∷◌, ◌++◌, codes, Option, ◌⊎◌}
-use Rattle.disk_model.specs.Disk.{History, IfTold, EachImage}
+use Rattle.disk_model.specs.Disk.{History, IfTold, EachImage, IsIdle}
 use Rattle.disk_model.specs.declared.name.FileName.TheVariants as file
 use Rattle.mdbox_base.specs.Numbers.{decimal_text}
 use Rattle.mdbox_base.specs.Streams.{Appended}
 use Rattle.file_paths.specs.Paths.{path_text}
 use Rattle.model_store.specs.Opening.{empty_inbox}
 use Rattle.model_store.specs.Settled.{IsSettled}
-use Rattle.gate_log.specs.Log.{Idle}
 use Rattle.store_open.specs.Making.{IdleUnless, IsFreeForStore, IsMadeStore, NeverHasEntry, HasNothingOrInbox}
 use Rattle.store_open.specs.Refused.{IsMakingError, IsOfFiles}
 use Rattle.store_open.specs.declared.error.OpenError.{OpenError}
@@ -75,7 +74,7 @@ abbrev pub Inits : List ℕ → Option (List ℕ) → Option (List ℕ) → Opti
 Inits id held later old new outcome.Done = IsNew id old new × Appended held (codes "OK" ++ 10 ∷ []) later
 Inits id held later old new outcome.No = ⊥
 Inits id held later old new outcome.WriteFault = IsNew id old new × Cut held [] (codes "OK" ++ 10 ∷ []) later
-Inits id held later old new (outcome.Refused why) = (later ≡ held) × IsMakingError old why × (IsOfFiles why → Idle old new)
+Inits id held later old new (outcome.Refused why) = (later ≡ held) × IsMakingError old why × (IsOfFiles why → IsIdle old new)
 
 -- A stop at any moment of an `init` that began where no image has a root entry: each image has none, or is safe for an empty
 -- INBOX. Where a store may not be made nothing changes, whatever is answered.

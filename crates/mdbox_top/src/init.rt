@@ -2,7 +2,7 @@
 ghost use Rattle.std.specs.Prelude.{◌≡◌, ◌≤◌, ◌∷◌, [], length, codes, ◌++◌};
 ghost use Rattle.mdbox_base.specs.Words.{IsOctets};
 ghost use Rattle.mdbox_base.specs.Streams.{Rose, Appended};
-ghost use Rattle.gate_log.specs.Log.{OneRoseIf};
+ghost use Rattle.disk_model.specs.FaultCounts.{AnyFaultCounted};
 ghost use Rattle.mdbox_top.specs.Printing.{Cut};
 ghost use Rattle.mdbox_top.specs.StoreRun.{Inits, InitMoments, ShowsOk, store_status, store_error_text};
 ghost use Rattle.mdbox_top.specs.Run.{Gave, IsOneOf};
@@ -29,7 +29,7 @@ pub fn run_init<D: Disk, O: Sink, E: Sink>(
         × Inits id.0 (O.held output.old) (O.held output.new) (D.history disk) (D.history result.1) outcome
         × Gave (E.held errors.old) (E.faults errors.old) (store_error_text outcome) (E.held errors.new) (E.faults errors.new) }
     ensures moments { InitMoments (D.history disk) (D.history result.1) }
-    ensures disk_fault { OneRoseIf (result.0.0 ≡ 6) (D.faults disk) (D.faults result.1) }
+    ensures disk_fault { AnyFaultCounted (result.0.0 ≡ 6) (D.faults disk) (D.faults result.1) }
     ensures write_fault { result.0.0 ≡ 8 → Rose (O.faults output.old) (O.faults output.new) }
     ensures known { IsOneOf (0 ∷ 3 ∷ 5 ∷ 6 ∷ 8 ∷ []) result.0.0 }
     ensures counted { (O.faults output.old ≤ O.faults output.new) × (E.faults errors.old ≤ E.faults errors.new) }

@@ -2,13 +2,13 @@
 ghost use Rattle.std.specs.Prelude.{◌≡◌, ◌≤◌, ◌∷◌, ◌⊎◌, ◌↔◌, [], false, IsTrue, if◌then◌else◌};
 ghost use Rattle.disk_model.specs.Disk.{EachImage};
 ghost use Rattle.mdbox_base.specs.Streams.{Rose};
-ghost use Rattle.gate_log.specs.Log.{OneRoseIf};
+ghost use Rattle.disk_model.specs.FaultCounts.{AnyFaultCounted};
 ghost use Rattle.mdbox_base.specs.declared.replies.Refusal.TheVariants as refusal;
 ghost use Rattle.mdbox_base.specs.declared.replies.Reply.TheVariants as reply;
 ghost use Rattle.model_lists.specs.Lists.{Lists};
 ghost use Rattle.model_store.specs.Listing.{meaning_named, listing_of};
 ghost use Rattle.model_store.specs.Safe.{Safe};
-ghost use Rattle.store_core.specs.Running.{IsSettledFor};
+ghost use Rattle.model_store.specs.Settled.{IsSettledFor};
 ghost use Rattle.store_core.specs.Value.{indexes_of};
 ghost use Rattle.mdbox_top.specs.ListRun.{ListEnds, ShowsReply, ShowsNothing, is_refusal};
 ghost use Rattle.mdbox_top.specs.StoreRun.{store_status, store_error_text};
@@ -40,7 +40,7 @@ pub fn run_list<D: Disk, O: Sink, E: Sink>(
         × Gave (E.held errors.old) (E.faults errors.old) (store_error_text outcome) (E.held errors.new) (E.faults errors.new) }
     ensures moments { (lists : Lists) → IsSettledFor lists (D.history disk) → EachImage (λ _ image. Safe image lists) (D.history disk) (D.history result.1) }
     ensures complete { (lists : Lists) → IsSettledFor lists (D.history disk) → IsOneOf (0 ∷ 1 ∷ 5 ∷ 6 ∷ 8 ∷ []) result.0.0 }
-    ensures disk_fault { OneRoseIf (result.0.0 ≡ 6) (D.faults disk) (D.faults result.1) }
+    ensures disk_fault { AnyFaultCounted (result.0.0 ≡ 6) (D.faults disk) (D.faults result.1) }
     ensures write_fault { result.0.0 ≡ 8 → Rose (O.faults output.old) (O.faults output.new) }
     ensures known { IsOneOf (0 ∷ 1 ∷ 3 ∷ 5 ∷ 6 ∷ 8 ∷ []) result.0.0 }
     ensures counted { (O.faults output.old ≤ O.faults output.new) × (E.faults errors.old ≤ E.faults errors.new) }

@@ -3,13 +3,13 @@ ghost use Rattle.std.specs.Prelude.{◌≡◌, ◌≢◌, ◌≤◌, ◌↔◌, 
 ghost use Rattle.mdbox_base.specs.Words.{IsOctets, IsName};
 ghost use Rattle.mdbox_base.specs.Streams.{Rose};
 ghost use Rattle.mdbox_base.specs.declared.ids.StoreId.{StoreId};
-ghost use Rattle.gate_log.specs.Log.{OneRoseIf};
+ghost use Rattle.disk_model.specs.FaultCounts.{AnyFaultCounted};
 ghost use Rattle.mdbox_top.specs.Commands.{words_of, IsCommandLine, store_words, IsFit, IsStoreLine};
 ghost use Rattle.mdbox_top.specs.Run.{Prints, Refuses, Ends, status_of, error_text, Gave, IsOneOf};
 ghost use Rattle.disk_model.specs.Disk.{EachImage};
 ghost use Rattle.model_lists.specs.Lists.{Lists};
 ghost use Rattle.model_store.specs.Safe.{Safe};
-ghost use Rattle.store_core.specs.Running.{IsSettledFor};
+ghost use Rattle.model_store.specs.Settled.{IsSettledFor};
 ghost use Rattle.mdbox_top.specs.ListRun.{ListEnds};
 ghost use Rattle.mdbox_top.specs.StoreRun.{Inits, InitMoments, store_status, store_error_text};
 ghost use Rattle.mdbox_top.specs.declared.command.Command.{Command};
@@ -78,7 +78,7 @@ pub fn mdbox_run<D: Disk, I: Source, O: Sink, E: Sink>(
     ensures list_complete { (name : List ℕ) → IsName name → map string_bytes words.now ≡ store_words (store.List name) → (lists : Lists) → IsSettledFor lists (D.history disk) → IsOneOf (0 ∷ 1 ∷ 5 ∷ 6 ∷ 8 ∷ []) result.0.0 }
 
     // A fault only where that object's count rose.
-    ensures disk_fault { OneRoseIf (result.0.0 ≡ 6) (D.faults disk) (D.faults result.1) }
+    ensures disk_fault { AnyFaultCounted (result.0.0 ≡ 6) (D.faults disk) (D.faults result.1) }
     ensures read_fault { result.0.0 ≡ 7 → Rose (I.faults input.old) (I.faults input.new) }
     ensures write_fault { result.0.0 ≡ 8 → Rose (O.faults output.old) (O.faults output.new) }
     ensures counted { (I.faults input.old ≤ I.faults input.new) × (O.faults output.old ≤ O.faults output.new) × (E.faults errors.old ≤ E.faults errors.new) }
@@ -111,7 +111,7 @@ fn run_command<D: Disk, O: Sink, E: Sink>(
         × Gave (E.held errors.old) (E.faults errors.old) (store_error_text outcome) (E.held errors.new) (E.faults errors.new) }
     ensures list_moments { (name : List ℕ) → command ≡ store.List name → (lists : Lists) → IsSettledFor lists (D.history disk) → EachImage (λ _ image. Safe image lists) (D.history disk) (D.history result.1) }
     ensures list_complete { (name : List ℕ) → command ≡ store.List name → (lists : Lists) → IsSettledFor lists (D.history disk) → IsOneOf (0 ∷ 1 ∷ 5 ∷ 6 ∷ 8 ∷ []) result.0.0 }
-    ensures disk_fault { OneRoseIf (result.0.0 ≡ 6) (D.faults disk) (D.faults result.1) }
+    ensures disk_fault { AnyFaultCounted (result.0.0 ≡ 6) (D.faults disk) (D.faults result.1) }
     ensures write_fault { result.0.0 ≡ 8 → Rose (O.faults output.old) (O.faults output.new) }
     ensures known { IsOneOf (0 ∷ 1 ∷ 3 ∷ 5 ∷ 6 ∷ 8 ∷ []) result.0.0 }
     ensures counted { (O.faults output.old ≤ O.faults output.new) × (E.faults errors.old ≤ E.faults errors.new) }

@@ -1,6 +1,6 @@
 -- Mailbox lists: what a user sees of a store.
 use Rattle.mdbox_base.specs.declared.replies.ListRow.{ListRow}
-use Rattle.std.specs.Prelude.{◌≡◌, ◌≢◌, ◌<◌, ◌≤◌, ◌^◌, ℕ, List, length, All, AllPairs, sum_by, count_by, ◌∷◌, [], Bool, if◌then◌else◌}
+use Rattle.std.specs.Prelude.{◌≡◌, ◌≢◌, ◌<◌, ◌≤◌, ◌^◌, ℕ, Bool, List, length, All, AllPairs, sum_by, count_by, ◌∷◌, [], if◌then◌else◌}
 use Rattle.std.specs.Str.{bytes_eq}
 use Rattle.mdbox_base.specs.Words.{IsName}
 
@@ -59,6 +59,11 @@ refs_of lists guid = sum_by (λ mailbox. count_by (λ m. bytes_eq m.guid guid) m
 abbrev pub empty_mailbox : ℕ → List ℕ → Mailbox
 empty_mailbox number name = record { number = number; name = name; next_uid = 1; messages = [] }
 
+-- the first that passes is changed
+abbrev pub change_first : {X : Type 0} → (X → Bool) → (X → X) → List X → List X
+change_first test change [] = []
+change_first test change (x ∷ xs) = if test x then change x ∷ xs else x ∷ change_first test change xs
+
 -- a row of a listing
 abbrev pub listing_row : ListedMessage → ListRow
 listing_row message = record {
@@ -68,8 +73,3 @@ listing_row message = record {
   time = message.time;
   guid = record { 0 = message.guid };
 }
-
--- the first that passes is changed, or leaves
-abbrev pub change_first : {X : Type 0} → (X → Bool) → (X → X) → List X → List X
-change_first test change [] = []
-change_first test change (x ∷ xs) = if test x then change x ∷ xs else x ∷ change_first test change xs

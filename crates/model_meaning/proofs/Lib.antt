@@ -8,4 +8,5 @@ pub mod MapLemmas
 pub mod MapPlaceLemmas
 pub mod MapSoundLemmas
 pub mod RowLemmas
+pub mod SameMeaningLemmas
 pub mod SealedLemmas

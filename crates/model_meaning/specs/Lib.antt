@@ -4,4 +4,5 @@ pub mod MapFits
 pub mod MapMeaning
 pub mod MeaningExamples
 pub mod Rows
+pub mod SameMeaning
 pub mod Sound

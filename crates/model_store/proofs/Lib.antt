@@ -6,6 +6,7 @@ pub mod NewStoreLemmas
 pub mod OpeningLemmas
 pub mod OpeningSafeLemmas
 pub mod ReadLogLemmas
+pub mod RestLemmas
 pub mod SafeLemmas
 pub mod SettledLemmas
 pub mod StandsLemmas

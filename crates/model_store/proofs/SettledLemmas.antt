@@ -13,7 +13,7 @@ use Rattle.model_meaning.specs.BoxMeaning.{LogRow}
 use Rattle.model_meaning.specs.MapMeaning.{MapRecord, MapBox, MapMeaning, map_meaning}
 use Rattle.model_storage.specs.StorageFile.{IsMessage}
 use Rattle.model_octets.proofs.PairLemmas.{found_among}
-use Rattle.model_store.specs.Stands.{HasLog, HasMap, HasInstances, IsKept, IsListed, AreListed, IsMailbox, AreMailboxes, NamesOwn, NamesAny, StoredOnce, KeepsDetached, StandsBy}
+use Rattle.model_store.specs.Stands.{HasLog, HasMap, HasInstances, HoldsMessage, StoresMessage, IsListed, AreListed, IsMailbox, AreMailboxes, NamesOwn, NamesAny, StoredOnce, KeepsDetached, StandsBy}
 use Rattle.model_store.specs.Safe.{LiesInFile, IsThereWhole, HasAll, SafeBy, Safe}
 use Rattle.model_logs.specs.LogFile.{IsLog, IsLogFile}
 use Rattle.model_store.specs.Settled.{files_of, HasSameRegion, HasSameInstance, AreAlike, IsSettled}
@@ -32,16 +32,16 @@ region_back a b row h = record {
 }
 
 -- a log that the second file has where the first one has it
-log_in : (octets : Option (List ℕ)) (head : LogHead) (entries : List (List ℕ)) → IsLogFile octets head entries → (o : List ℕ) × (octets ≡ Some o) × IsLog o head entries
+pub log_in : (octets : Option (List ℕ)) (head : LogHead) (entries : List (List ℕ)) → IsLogFile octets head entries → (o : List ℕ) × (octets ≡ Some o) × IsLog o head entries
 log_in None head entries h = absurd h
 log_in (Some o) head entries h = (o, refl, h)
 
-log_along : (a b : Files) (name : FileName) (head : LogHead) (entries : List (List ℕ)) → HasSameEntries (a name) (b name) → HasLog a name head entries → HasLog b name head entries
+pub log_along : (a b : Files) (name : FileName) (head : LogHead) (entries : List (List ℕ)) → HasSameEntries (a name) (b name) → HasLog a name head entries → HasLog b name head entries
 log_along a b name head entries e h =
     let found = log_in (b name) head entries (e head entries (subst (λ (o : Option (List ℕ)). IsLogFile o head entries) (sym h.there) h.whole)) in
     record { octets = found.0; there = found.1; whole = found.2 }
 
-map_along : (store : List ℕ) (entries : List MapEntry) (a b : Files) → (h : HasMap a store entries) → CarryOver h.generation (map_meaning store entries) a b → HasMap b store entries
+pub map_along : (store : List ℕ) (entries : List MapEntry) (a b : Files) → (h : HasMap a store entries) → CarryOver h.generation (map_meaning store entries) a b → HasMap b store entries
 map_along store entries a b h e = record {
   generation = h.generation;
   generation_number = h.generation_number;
@@ -60,26 +60,33 @@ instances_along a b (r ∷ rows) (o ∷ os) e h = (All-head (HasSameInstance a b
 same_file : (o : Option (List ℕ)) (x y : List ℕ) → o ≡ Some x → o ≡ Some y → x ≡ y
 same_file o x y p q = let h : Some x ≡ Some y = sym p ∙ q in cc h
 
--- a record keeps the same text in both
-pub kept_along : (a b : Files) (row : MapRecord) (octets : List ℕ) → HasSameRegion a b row → All (HasSameInstance a b) row.instances → IsKept a row octets → IsKept b row octets
-kept_along a b row octets r is h =
+-- a record's region is the same message in both
+message_along : (a b : Files) (row : MapRecord) → HasSameRegion a b row → HoldsMessage a row → HoldsMessage b row
+message_along a b row r h =
     let e : h.octets_there ≡ r.first = same_file (a (file.Mail row.file)) h.octets_there r.first h.there r.in_first in
     let region : IsMessage (take row.size (drop row.offset r.first)) h.message = subst (λ (o : List ℕ). IsMessage (take row.size (drop row.offset o)) h.message) e h.region in
     record {
       octets_there = r.second;
       message = h.message;
       meta = h.meta;
-      instances = h.instances;
       there = r.in_second;
       inside = r.second_holds;
       region = subst (λ (o : List ℕ). IsMessage o h.message) (sym r.same) region;
       says = h.says;
       guid = h.guid;
-      names = h.names;
-      found = instances_along a b row.instances h.instances is h.found;
-      whole = h.whole;
-      size = h.size;
     }
+
+-- a record stores the same text in both
+pub kept_along : (a b : Files) (row : MapRecord) (octets : List ℕ) → HasSameRegion a b row → All (HasSameInstance a b) row.instances → StoresMessage a row octets → StoresMessage b row octets
+unfolding message_along
+kept_along a b row octets r is h = record {
+  stored = message_along a b row r h.stored;
+  instances = h.instances;
+  names = h.names;
+  found = instances_along a b row.instances h.instances is h.found;
+  whole = h.whole;
+  size = h.size;
+}
 
 listed_along : (g : ℕ) (m : MapMeaning) (a b : Files) (row : LogRow) (x : ListedMessage) → CarryOver g m a b → IsListed a m row x → IsListed b m row x
 listed_along g m a b row x e h = record {
@@ -96,7 +103,7 @@ listed_along g m a b row x e h = record {
       (found_among (λ (r : MapRecord). r.uid == row.map_uid) m.records h.entry (λ (r : MapRecord). All (HasSameInstance a b) r.instances) h.found e.instances) h.octets;
 }
 
-all_listed_along : (g : ℕ) (m : MapMeaning) (a b : Files) (rows : List LogRow) (xs : List ListedMessage) → CarryOver g m a b → AreListed a m rows xs → AreListed b m rows xs
+pub all_listed_along : (g : ℕ) (m : MapMeaning) (a b : Files) (rows : List LogRow) (xs : List ListedMessage) → CarryOver g m a b → AreListed a m rows xs → AreListed b m rows xs
 all_listed_along g m a b [] [] e h = tt
 all_listed_along g m a b [] (x ∷ xs) e h = absurd h
 all_listed_along g m a b (row ∷ rows) [] e h = absurd h
@@ -140,7 +147,7 @@ once_along g m a b e h = record {
 }
 
 detached_along : (g : ℕ) (m : MapMeaning) (a b : Files) → CarryOver g m a b → KeepsDetached a m → KeepsDetached b m
-unfolding kept_along
+unfolding kept_along message_along
 detached_along g m a b e h = λ row octets r own kept.
     let region : HasSameRegion a b row = All-contains (HasSameRegion a b) m.records row e.regions r in
     let is : All (HasSameInstance a b) row.instances = All-contains (λ (x : MapRecord). All (HasSameInstance a b) x.instances) m.records row e.instances r in

@@ -26,7 +26,7 @@ use Rattle.model_attach.proofs.RejoinedLemmas.{whole_same}
 use Rattle.model_logs.specs.Entries.{root_text, map_text, box_text, RootInRange, MapInRange, BoxInRange, HasOneText}
 use Rattle.model_logs.proofs.EntryLemmas.{texts_same, root_one, box_one}
 use Rattle.model_logs.proofs.MapEntryLemmas.{map_one}
-use Rattle.model_store.specs.Stands.{head_of, HasLog, HasRoot, HasMap, HasInstances, IsKept, IsListed, AreListed, IsMailbox, AreMailboxes, Stands}
+use Rattle.model_store.specs.Stands.{head_of, HasLog, HasRoot, HasMap, HasInstances, StoresMessage, IsListed, AreListed, IsMailbox, AreMailboxes, Stands}
 
 some_same : {X : Type 0} → (o : Option X) (a b : X) → o ≡ Some a → o ≡ Some b → a ≡ b
 some_same o a b p q = let h : Some a ≡ Some b = sym p ∙ q in cc h
@@ -68,14 +68,14 @@ region_same f1 f2 row m n e a b =
     let a2 = subst (λ (o : List ℕ). IsMessage (take row.size (drop row.offset o)) m) e a in
     (message_same _ _ [] [] m n a2 b refl).1
 
--- a record keeps one text at most
-pub kept_same : (image : Files) (row : MapRecord) (x y : List ℕ) → IsKept image row x → IsKept image row y → x ≡ y
+-- a record stores one text at most
+pub kept_same : (image : Files) (row : MapRecord) (x y : List ℕ) → StoresMessage image row x → StoresMessage image row y → x ≡ y
 kept_same image row x y a b =
-    let stored = some_same (image (file.Mail row.file)) a.octets_there b.octets_there a.there b.there in
-    let m = region_same a.octets_there b.octets_there row a.message b.message stored a.region b.region in
-    let meta = metadata_same b.message.lines a.meta b.meta (subst (λ (o : Message). IsMetadata o.lines a.meta) m a.says) b.says in
+    let stored = some_same (image (file.Mail row.file)) a.stored.octets_there b.stored.octets_there a.stored.there b.stored.there in
+    let m = region_same a.stored.octets_there b.stored.octets_there row a.stored.message b.stored.message stored a.stored.region b.stored.region in
+    let meta = metadata_same b.stored.message.lines a.stored.meta b.stored.meta (subst (λ (o : Message). IsMetadata o.lines a.stored.meta) m a.stored.says) b.stored.says in
     let i = instances_same image row.instances a.instances b.instances a.found b.found in
-    whole_along x y a.message.body b.message.body a.meta.refs b.meta.refs a.instances b.instances (ap (λ (o : Message). o.body) m) (ap (λ o. o.refs) meta) i a.whole b.whole
+    whole_along x y a.stored.message.body b.stored.message.body a.stored.meta.refs b.stored.meta.refs a.instances b.instances (ap (λ (o : Message). o.body) m) (ap (λ o. o.refs) meta) i a.whole b.whole
 
 made_message : ℕ → ℕ → ℕ → List ℕ → List ℕ → ListedMessage
 made_message uid flags time guid octets = record { uid = uid; flags = flags; time = time; guid = guid; octets = octets }
@@ -87,7 +87,7 @@ message_equal a b e1 e2 e3 e4 e5 = let h : made_message a.uid a.flags a.time a.g
 listed_same : (image : Files) (m : MapMeaning) (row : LogRow) (x y : ListedMessage) → IsListed image m row x → IsListed image m row y → x ≡ y
 listed_same image m row x y a b =
     let e : a.entry ≡ b.entry = some_same _ a.entry b.entry a.found b.found in
-    let o : x.octets ≡ y.octets = kept_same image b.entry x.octets y.octets (subst (λ (r : MapRecord). IsKept image r x.octets) e a.octets) b.octets in
+    let o : x.octets ≡ y.octets = kept_same image b.entry x.octets y.octets (subst (λ (r : MapRecord). StoresMessage image r x.octets) e a.octets) b.octets in
     message_equal x y (a.uid ∙ sym b.uid) (a.flags ∙ sym b.flags) (a.time ∙ sym b.time) (a.guid ∙ sym b.guid) o
 
 rows_same : (image : Files) (m : MapMeaning) (rows : List LogRow) (xs ys : List ListedMessage) → AreListed image m rows xs → AreListed image m rows ys → xs ≡ ys

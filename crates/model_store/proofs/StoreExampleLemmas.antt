@@ -20,7 +20,7 @@ use Rattle.model_mime.specs.Parts.{parts_in, part_of, found_in}
 use Rattle.model_attach.specs.Detached.{AreDetached}
 use Rattle.model_logs.specs.LogExamples.{example_store, root_log, box_log, map_log, root_is_log, box_is_log, map_is_log}
 use Rattle.model_meaning.specs.MeaningExamples.{example_guid, example_added, example_map}
-use Rattle.model_store.specs.Stands.{HasRoot, HasMap, HasBox, HasInstances, IsKept, StoredOnce, KeepsDetached, StandsBy, NamesOwn}
+use Rattle.model_store.specs.Stands.{HasRoot, HasMap, HasBox, HasInstances, HoldsMessage, StoresMessage, StoredOnce, KeepsDetached, StandsBy, NamesOwn}
 use Rattle.model_store.proofs.StandsLemmas.{kept_same}
 use Rattle.model_store.specs.Safe.{LiesInFile, IsThereWhole, Safe}
 use Rattle.mdbox_base.specs.Words.{IsName}
@@ -113,18 +113,24 @@ has_box = record {
 
 -- ---- the message
 
-kept : IsKept example_image example_record []
+holds_message : HoldsMessage example_image example_record
 unfolding example_image
-kept = record {
+holds_message = record {
   octets_there = example_file;
   message = example_message;
   meta = example_metadata;
-  instances = [];
   there = refl;
   inside = lit≤ tt;
   region = message_reads;
   says = lines_say;
   guid = refl;
+}
+
+kept : StoresMessage example_image example_record []
+unfolding holds_message
+kept = record {
+  stored = holds_message;
+  instances = [];
   names = tt;
   found = tt;
   whole = refl;
@@ -173,17 +179,18 @@ the_file : example_image (file.Mail 1) ≡ Some example_file
 unfolding example_image
 the_file = refl
 
-record_detached : (octets : List ℕ) → (k : IsKept example_image example_record octets) → AreDetached octets k.message.body k.meta.refs k.instances
+record_detached : (octets : List ℕ) → (k : StoresMessage example_image example_record octets) → AreDetached octets k.stored.message.body k.stored.meta.refs k.instances
 record_detached octets k =
-    let e : k.octets_there ≡ example_file = some_same (example_image (file.Mail 1)) k.octets_there example_file k.there the_file in
-    let m : k.message ≡ example_message = (message_same (take 89 (drop 16 k.octets_there)) (take 89 (drop 16 example_file)) [] [] k.message example_message k.region message_reads (ap (λ (o : List ℕ). take 89 (drop 16 o) ++ []) e)).1 in
-    let meta : k.meta ≡ example_metadata = metadata_same example_message.lines k.meta example_metadata (subst (λ (o : Message). IsMetadata o.lines k.meta) m k.says) lines_say in
-    detached_along octets k.message.body k.meta.refs k.instances (kept_same example_image example_record octets [] k kept) (ap (λ (o : Message). o.body) m) (ap (λ (o : Metadata). o.refs) meta) (no_instances k.instances k.found)
+    let h : HoldsMessage example_image example_record = k.stored in
+    let e : h.octets_there ≡ example_file = some_same (example_image (file.Mail 1)) h.octets_there example_file h.there the_file in
+    let m : h.message ≡ example_message = (message_same (take 89 (drop 16 h.octets_there)) (take 89 (drop 16 example_file)) [] [] h.message example_message h.region message_reads (ap (λ (o : List ℕ). take 89 (drop 16 o) ++ []) e)).1 in
+    let meta : h.meta ≡ example_metadata = metadata_same example_message.lines h.meta example_metadata (subst (λ (o : Message). IsMetadata o.lines h.meta) m h.says) lines_say in
+    detached_along octets h.message.body h.meta.refs k.instances (kept_same example_image example_record octets [] k kept) (ap (λ (o : Message). o.body) m) (ap (λ (o : Metadata). o.refs) meta) (no_instances k.instances k.found)
 
 keeps_detached : KeepsDetached example_image example_meaning
 keeps_detached row octets c own k =
     let e : row ≡ example_record = All-contains (λ (r : MapRecord). r ≡ example_record) example_meaning.records row only_record c in
-    subst (λ (r : MapRecord). (kept : IsKept example_image r octets) → AreDetached octets kept.message.body kept.meta.refs kept.instances) (sym e) (record_detached octets) k
+    subst (λ (r : MapRecord). (kept : StoresMessage example_image r octets) → AreDetached octets kept.stored.message.body kept.stored.meta.refs kept.instances) (sym e) (record_detached octets) k
 
 -- ---- the lists
 

@@ -83,27 +83,31 @@ NameInstances (ref ∷ refs) [] = ⊥
 abbrev pub whole_size : Metadata → List ℕ → ℕ
 whole_size meta body = option_map_or (λ size. size) meta.physical (length body)
 
--- A record of the map keeps this text: its region is one message, whose lines hold the record's GUID and whose references
--- name the record's instances. The whole of its body, its references and their instances is the text, of the size that
--- the lines tell.
-pub record IsKept (image : Files) (row : MapRecord) (octets : List ℕ) : Type 0 where
+-- A record's region is one message, whose lines hold the record's GUID.
+pub record HoldsMessage (image : Files) (row : MapRecord) : Type 0 where
   pub octets_there : List ℕ
   pub message : Message
   pub meta : Metadata
-  pub instances : List (List ℕ)
   pub there : image (file.Mail row.file) ≡ Some octets_there
   pub inside : row.offset + row.size ≤ length octets_there
   pub region : IsMessage (take row.size (drop row.offset octets_there)) message
   pub says : IsMetadata message.lines meta
   pub guid : meta.guid ≡ Some (record { 0 = row.guid })
-  pub names : NameInstances meta.refs row.instances
+
+-- A record of the map stores this text: its region is one message with the record's GUID, whose references name the
+-- record's instances. The whole of the message's body, its references and their instances is the text, of the size that
+-- its lines tell.
+pub record StoresMessage (image : Files) (row : MapRecord) (octets : List ℕ) : Type 0 where
+  pub stored : HoldsMessage image row
+  pub instances : List (List ℕ)
+  pub names : NameInstances stored.meta.refs row.instances
   pub found : HasInstances image row.instances instances
-  pub whole : IsWhole octets message.body meta.refs instances
-  pub size : length octets ≡ whole_size meta message.body
+  pub whole : IsWhole octets stored.message.body stored.meta.refs instances
+  pub size : length octets ≡ whole_size stored.meta stored.message.body
 
 -- ---- the mailboxes
 
--- A row of a mailbox log is this listed message: the row's map uid has a record with the row's GUID, which keeps the
+-- A row of a mailbox log is this listed message: the row's map uid has a record with the row's GUID, which stores the
 -- message's octets.
 pub record IsListed (image : Files) (m : MapMeaning) (row : LogRow) (message : ListedMessage) : Type 0 where
   pub uid : message.uid ≡ row.uid
@@ -114,7 +118,7 @@ pub record IsListed (image : Files) (m : MapMeaning) (row : LogRow) (message : L
   pub entry : MapRecord
   pub found : record_at m row.map_uid ≡ Some entry
   pub same : entry.guid ≡ row.guid
-  pub octets : IsKept image entry message.octets
+  pub octets : StoresMessage image entry message.octets
 
 abbrev pub AreListed : Files → MapMeaning → List LogRow → List ListedMessage → Type 0
 AreListed image m [] [] = Unit {0}
@@ -165,10 +169,10 @@ pub record StoredOnce (image : Files) (m : MapMeaning) : Type 0 where
   pub least : (a b : InstRow) (octets : List ℕ) → NamesOwn image m a octets → NamesAny image m b octets → b.hash ≡ a.hash → IsLess b.id.0 a.id.0 → ⊥
   pub hash : (a : InstRow) (octets : List ℕ) → NamesOwn image m a octets → a.hash.0 ≡ sha1 octets
 
--- Each record of an own save, listed or not, that keeps a text keeps its detached form.
+-- Each record of an own save, listed or not, that stores a text stores its detached form.
 abbrev pub KeepsDetached : Files → MapMeaning → Type 0
 KeepsDetached image m = (row : MapRecord) (octets : List ℕ) → Contains m.records row → row.origin ≡ 0
-    → (kept : IsKept image row octets) → AreDetached octets kept.message.body kept.meta.refs kept.instances
+    → (kept : StoresMessage image row octets) → AreDetached octets kept.stored.message.body kept.stored.meta.refs kept.instances
 
 -- ---- the image
 

@@ -1,6 +1,6 @@
 -- The files of a store with one message of no octets in INBOX, and that they are safe for these lists.
-use Rattle.std.specs.Prelude.{◌==◌, ◌&&◌, ℕ, List, [], ◌∷◌, ◌++◌, codes, if◌then◌else◌, Some, None}
-use Rattle.disk_model.specs.Disk.{Files}
+use Rattle.std.specs.Prelude.{◌==◌, ◌&&◌, ℕ, List, [], ◌∷◌, ◌++◌, codes, if◌then◌else◌, Option, Some, None}
+use Rattle.disk_model.specs.Disk.{Files, FileState, DiskState, no_file, still}
 use Rattle.disk_model.specs.declared.name.FileName.TheVariants as file
 use Rattle.model_storage.specs.declared.metadata_value.Metadata.{Metadata}
 use Rattle.model_lists.specs.Lists.{Lists}
@@ -37,6 +37,14 @@ example_image (file.Map g) = if g == 1 then Some map_log else None
 example_image (file.Box k g) = if (k == 1) && (g == 1) then Some box_log else None
 example_image (file.Mail n) = if n == 1 then Some example_file else None
 example_image (file.Inst hash id) = None
+
+-- a file at rest with these octets, or none, and the disk at rest that reads as these files
+abbrev pub file_at_rest : Option (List ℕ) → FileState
+file_at_rest None = no_file
+file_at_rest (Some octets) = still octets
+
+abbrev pub disk_at_rest : Files → DiskState
+disk_at_rest files = λ name. file_at_rest (files name)
 
 -- The lists.
 abbrev pub example_lists : Lists

@@ -4,7 +4,7 @@ ghost use Rattle.disk_model.specs.Disk.{Files};
 ghost use Rattle.mdbox_base.specs.declared.entries.MapEntry.{MapEntry};
 ghost use Rattle.model_lists.specs.Lists.{Lists, AreWellFormed, refs_of};
 ghost use Rattle.model_meaning.specs.MapMeaning.{MapRecord, map_meaning, count_of};
-ghost use Rattle.model_store.specs.Stands.{HasMap, IsKept, Stands, whole_size};
+ghost use Rattle.model_store.specs.Stands.{HasMap, StoresMessage, Stands, whole_size};
 ghost use Rattle.model_attach.specs.Rejoined.{join_error};
 ghost use Rattle.model_store.specs.Safe.{Safe};
 
@@ -23,10 +23,10 @@ pub fn counts_of_safe_image()
     ensures { (image : Files) (lists : Lists) (store : List ℕ) (entries : List MapEntry) (guid : List ℕ) → Safe image lists → HasMap image store entries → refs_of lists guid ≤ count_of (map_meaning store entries) guid }
 {}
 
-/// What a record keeps rejoins: nothing is wrong with its body, the size that its lines tell, its references and its
+/// What a record stores rejoins: nothing is wrong with its body, the size that its lines tell, its references and its
 /// instances.
 pub fn kept_messages_rejoin()
-    ensures { (image : Files) (row : MapRecord) (octets : List ℕ) → (kept : IsKept image row octets) → length octets ≤ 4294967295 → join_error kept.message.body (whole_size kept.meta kept.message.body) kept.meta.refs kept.instances ≡ None }
+    ensures { (image : Files) (row : MapRecord) (octets : List ℕ) → (kept : StoresMessage image row octets) → length octets ≤ 4294967295 → join_error kept.stored.message.body (whole_size kept.stored.meta kept.stored.message.body) kept.stored.meta.refs kept.instances ≡ None }
 {}
 
 /// Lists for which an image stands are well formed.

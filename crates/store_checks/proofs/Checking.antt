@@ -4,10 +4,10 @@ use Rattle.std.specs.Prelude.{sum_by}
 use Rattle.std.specs.List.{AllByRecursion}
 use Rattle.std.proofs.lemmas.List.Elements.{All-weaker}
 use Rattle.std.proofs.lemmas.List.Sums.{sum_by-cons}
-use Rattle.disk_model.specs.Disk.{DiskState, History, IfTold, reading}
+use Rattle.disk_model.specs.Disk.{DiskState, History, IfTold, reading, IsIdle}
 use Rattle.disk_model.specs.declared.name.FileName.{FileName}
 use Rattle.disk_model.specs.declared.name.FileName.TheVariants as file
-use Rattle.disk_model.proofs.Moments.{if_told-map, if_told-both}
+use Rattle.disk_model.proofs.MomentLemmas.{if_told-map, if_told-both}
 use Rattle.mdbox_base.specs.declared.entries.BoxEntry.{BoxEntry}
 use Rattle.mdbox_base.specs.declared.entries.MapEntry.{MapEntry}
 use Rattle.model_meaning.specs.BoxMeaning.{box_meaning, rows_after}
@@ -17,9 +17,8 @@ use Rattle.model_store.specs.Settled.{files_of}
 use Rattle.model_store.specs.Stands.{HasRoot, HasMap}
 use Rattle.model_store.specs.Safe.{LiesInFile, IsThereWhole}
 use Rattle.model_store.specs.Opening.{AreMapEntries, HasItsRecord, PassLogs, PassBoxes, listed_of, IsCounted, IsMiscounted, IsFirstCutOff, IsFirstMissing, Opens, IsBadMapLog, IsBadBox, IsDamaged}
-use Rattle.gate_log.specs.Log.{Idle}
 use Rattle.gate_log.specs.State.{InspectedLog}
-use Rattle.gate_log.proofs.Idling.{idle-back}
+use Rattle.disk_model.proofs.IdleLemmas.{idle-back}
 use Rattle.store_checks.specs.Boxes.{AreRead, IsBoxesCause}
 use Rattle.store_checks.specs.Checked.{listed_by, listed_in, IsCountedIn, IsMiscountedIn}
 use Rattle.store_checks.specs.Lengths.{IsRegionCause, IsInstanceCause}
@@ -35,7 +34,7 @@ root_fails old check.NoStore c = c
 root_fails old check.DiskFault c = c
 root_fails old check.NoMemory c = c
 
-pub map_fails : (store : List ℕ) (generation : ℕ) (old now : Option History) (error : CheckError) → Idle old now → IfTold old (λ disk. HasRoot (files_of disk) store generation) → IsMapCause store generation now error → IsCheckCause old error
+pub map_fails : (store : List ℕ) (generation : ℕ) (old now : Option History) (error : CheckError) → IsIdle old now → IfTold old (λ disk. HasRoot (files_of disk) store generation) → IsMapCause store generation now error → IsCheckCause old error
 map_fails store generation old now (check.Damaged name place) idle root (is, bad) =
     if_told-both _ _ _ old
     (λ disk r b. inr (inl (record { store = store; generation = generation; root = r; is_name = is; bad = subst (λ (k : FileName). IsBadMapLog store generation (files_of disk k) place) (sym is) b })))
@@ -45,12 +44,12 @@ map_fails store generation old now check.DiskFault idle root c = c
 map_fails store generation old now check.NoMemory idle root c = c
 
 -- the root log and the map log pass
-pub has_map : (store : List ℕ) (generation : ℕ) (found : InspectedLog) (m : MapMeaning) (entries : List MapEntry) (old now new : Option History) → Idle old now → IfTold old (λ disk. HasRoot (files_of disk) store generation)
+pub has_map : (store : List ℕ) (generation : ℕ) (found : InspectedLog) (m : MapMeaning) (entries : List MapEntry) (old now new : Option History) → IsIdle old now → IfTold old (λ disk. HasRoot (files_of disk) store generation)
     → IsMapRead store generation found m entries now new → IfTold old (λ disk. (h : HasMap (files_of disk) store entries) × (h.generation ≡ generation))
 has_map store generation found m entries old now new idle root r =
     if_told-both _ _ _ old (λ disk a b. (record { generation = generation; root = a; generation_number = r.number; log = b; in_range = r.good.0; fit = r.good.1 }, refl)) root (idle-back _ old now idle r.log)
 
-pub boxes_fail : (store : List ℕ) (generation : ℕ) (entries : List MapEntry) (m : MapMeaning) (old now : Option History) (error : CheckError) → Idle old now → m ≡ map_meaning store entries
+pub boxes_fail : (store : List ℕ) (generation : ℕ) (entries : List MapEntry) (m : MapMeaning) (old now : Option History) (error : CheckError) → IsIdle old now → m ≡ map_meaning store entries
     → IfTold old (λ disk. (h : HasMap (files_of disk) store entries) × (h.generation ≡ generation)) → IsBoxesCause m now error → IsCheckCause old error
 boxes_fail store generation entries m old now (check.Damaged name place) idle means has bad =
     if_told-both _ _ _ old (λ disk h b. inr (inr (inl (store, entries, h.0, subst (λ (k : MapMeaning). IsBadBox (files_of disk) k name place) means b))))
@@ -63,7 +62,7 @@ boxes_fail store generation entries m old now check.NoMemory idle means has c = 
 abbrev pub LogsPass : List ℕ → ℕ → List MapEntry → List (List BoxEntry) → DiskState → Type 0
 LogsPass store generation entries logs disk = (p : PassLogs (files_of disk) store entries logs) × (p.map_log.generation ≡ generation)
 
-pub logs_pass : (store : List ℕ) (generation : ℕ) (entries : List MapEntry) (m : MapMeaning) (boxes : List CheckedBox) (logs : List (List BoxEntry)) (old now new : Option History) → Idle old now → m ≡ map_meaning store entries
+pub logs_pass : (store : List ℕ) (generation : ℕ) (entries : List MapEntry) (m : MapMeaning) (boxes : List CheckedBox) (logs : List (List BoxEntry)) (old now new : Option History) → IsIdle old now → m ≡ map_meaning store entries
     → IfTold old (λ disk. (h : HasMap (files_of disk) store entries) × (h.generation ≡ generation)) → AreRead store m m.boxes boxes logs now new → IfTold old (LogsPass store generation entries logs)
 logs_pass store generation entries m boxes logs old now new idle means has r =
     if_told-both _ _ _ old
@@ -101,7 +100,7 @@ counts_fail store generation entries m boxes logs old means e passed (row, held,
 
 -- ---- regions and instances
 
-pub regions_fail : (store : List ℕ) (generation : ℕ) (entries : List MapEntry) (m : MapMeaning) (logs : List (List BoxEntry)) (old now : Option History) (error : CheckError) → Idle old now → m ≡ map_meaning store entries
+pub regions_fail : (store : List ℕ) (generation : ℕ) (entries : List MapEntry) (m : MapMeaning) (logs : List (List BoxEntry)) (old now : Option History) (error : CheckError) → IsIdle old now → m ≡ map_meaning store entries
     → IfTold old (LogsPass store generation entries logs) → All (IsCounted logs) m.records → IsRegionCause m now error → IsCheckCause old error
 regions_fail store generation entries m logs old now (check.Damaged name place) idle means passed counts bad =
     if_told-both _ _ _ old
@@ -117,7 +116,7 @@ regions_fail store generation entries m logs old now check.NoStore idle means pa
 regions_fail store generation entries m logs old now check.DiskFault idle means passed counts c = c
 regions_fail store generation entries m logs old now check.NoMemory idle means passed counts c = c
 
-pub instances_fail : (store : List ℕ) (generation : ℕ) (entries : List MapEntry) (m : MapMeaning) (logs : List (List BoxEntry)) (old mid now : Option History) (error : CheckError) → Idle old mid → Idle old now → m ≡ map_meaning store entries
+pub instances_fail : (store : List ℕ) (generation : ℕ) (entries : List MapEntry) (m : MapMeaning) (logs : List (List BoxEntry)) (old mid now : Option History) (error : CheckError) → IsIdle old mid → IsIdle old now → m ≡ map_meaning store entries
     → IfTold old (LogsPass store generation entries logs) → All (IsCounted logs) m.records → IfTold mid (λ disk. All (LiesInFile (files_of disk)) m.records) → IsInstanceCause m now error → IsCheckCause old error
 instances_fail store generation entries m logs old mid now (check.Damaged name place) before idle means passed counts regions (is, bad) =
     if_told-both _ _ _ old
@@ -140,7 +139,7 @@ instances_fail store generation entries m logs old mid now check.DiskFault befor
 instances_fail store generation entries m logs old mid now check.NoMemory before idle means passed counts regions c = c
 
 -- all checks pass
-pub opens : (store : List ℕ) (generation : ℕ) (entries : List MapEntry) (m : MapMeaning) (logs : List (List BoxEntry)) (old mid now : Option History) → Idle old mid → Idle old now → m ≡ map_meaning store entries
+pub opens : (store : List ℕ) (generation : ℕ) (entries : List MapEntry) (m : MapMeaning) (logs : List (List BoxEntry)) (old mid now : Option History) → IsIdle old mid → IsIdle old now → m ≡ map_meaning store entries
     → IfTold old (LogsPass store generation entries logs) → All (IsCounted logs) m.records → IfTold mid (λ disk. All (LiesInFile (files_of disk)) m.records) → IfTold now (λ disk. All (IsThereWhole (files_of disk)) (named_instances m))
     → IfTold old (λ disk. Opens (files_of disk) store entries logs)
 opens store generation entries m logs old mid now before idle means passed counts regions instances =

@@ -6,17 +6,16 @@ use Rattle.std.specs.declared.cmp.Ordering.TheVariants.{Greater}
 use Rattle.std.proofs.lemmas.Cmp.{tied_itself, nat_list_cmp_total}
 use Rattle.std.proofs.lemmas.List.Elements.{All-nil, All-weaker, All-more}
 use Rattle.std.proofs.lemmas.Option.{slice_get-get_or}
-use Rattle.disk_model.specs.Disk.{Files, DiskState, History, IfTold, reading}
+use Rattle.disk_model.specs.Disk.{Files, DiskState, History, IfTold, reading, IsIdle}
 use Rattle.disk_model.specs.declared.name.FileName.{FileName}
 use Rattle.disk_model.specs.declared.name.FileName.TheVariants as file
-use Rattle.disk_model.proofs.Moments.{if_told-all, if_told-map, if_told-both}
+use Rattle.disk_model.proofs.MomentLemmas.{if_told-all, if_told-map, if_told-both}
 use Rattle.mdbox_base.specs.declared.entries.InstRow.{InstRow}
 use Rattle.model_store.specs.Settled.{files_of}
 use Rattle.model_store.specs.Safe.{LiesInFile, IsThereWhole}
 use Rattle.model_meaning.specs.MapMeaning.{MapRecord, MapMeaning, named_instances}
 use Rattle.model_store.specs.Opening.{IsFirstCutOff, IsFirstMissing}
-use Rattle.gate_log.specs.Log.{Idle}
-use Rattle.gate_log.proofs.Idling.{idle-back}
+use Rattle.disk_model.proofs.IdleLemmas.{idle-back}
 use Rattle.store_checks.specs.declared.regions.Region.{Region}
 use Rattle.store_checks.specs.declared.instances.Instance.{Instance}
 use Rattle.store_checks.specs.Lengths.{region_of, regions_in, instance_of, instances_in, EndsWithin, IsNoLater, IsNamedNoLater, LiesIn, IsWholeIn}
@@ -84,7 +83,7 @@ first_missing m instances files k inst same order at passed fails =
 -- ---- on the disk
 
 -- one more passes
-pub told_more : {Y : Type 0} → (P : Files → Y → Type 0) (ys : List Y) (k : ℕ) (d : Y) (old now : Option History) → k < length ys → Idle old now
+pub told_more : {Y : Type 0} → (P : Files → Y → Type 0) (ys : List Y) (k : ℕ) (d : Y) (old now : Option History) → k < length ys → IsIdle old now
     → IfTold now (λ disk. P (files_of disk) (get_or ys k d)) → IfTold old (λ disk. All (P (files_of disk)) (take k ys)) → IfTold old (λ disk. All (P (files_of disk)) (take (k + 1) ys))
 told_more P ys k d old now lt idle passes all =
     if_told-both _ _ _ old (λ disk a p. All-more (P (files_of disk)) ys k d lt a p) all (idle-back (λ (disk : DiskState). P (files_of disk) (get_or ys k d)) old now idle passes)
@@ -94,12 +93,12 @@ abbrev HasAsked : FileName → Option ℕ → DiskState → Type 0
 HasAsked name long disk = option_map length (reading (disk name)) ≡ long
 
 -- the region at a place, and the next
-pub region_next : (regions : List Region) (k : ℕ) (d : Region) (old now : Option History) (long : Option ℕ) → k < length regions → Idle old now → IfTold now (HasAsked (file.Mail (get_or regions k d).file) long)
+pub region_next : (regions : List Region) (k : ℕ) (d : Region) (old now : Option History) (long : Option ℕ) → k < length regions → IsIdle old now → IfTold now (HasAsked (file.Mail (get_or regions k d).file) long)
     → EndsWithin (get_or regions k d) long → IfTold old (λ disk. All (LiesIn (files_of disk)) (take k regions)) → IfTold old (λ disk. All (LiesIn (files_of disk)) (take (k + 1) regions))
 region_next regions k d old now long lt idle asked ends all =
     told_more LiesIn regions k d old now lt idle (if_told-map _ _ now (λ disk e. subst (EndsWithin (get_or regions k d)) (sym e) ends) asked) all
 
-pub region_fails : (m : MapMeaning) (items regions : List Region) (k : ℕ) (d : Region) (old now : Option History) (long : Option ℕ) → regions ≡ items → k < length regions → Idle old now
+pub region_fails : (m : MapMeaning) (items regions : List Region) (k : ℕ) (d : Region) (old now : Option History) (long : Option ℕ) → regions ≡ items → k < length regions → IsIdle old now
     → IfTold now (HasAsked (file.Mail (get_or regions k d).file) long) → (EndsWithin (get_or regions k d) long → ⊥) → IsPermutation (regions_in m) items → AllPairs IsNoLater items
     → IfTold old (λ disk. All (LiesIn (files_of disk)) (take k regions)) → IfTold old (λ disk. IsFirstCutOff (files_of disk) m (file.Mail (get_or regions k d).file) (get_or regions k d).offset)
 region_fails m items regions k d old now long value lt idle asked fails same order all =
@@ -115,12 +114,12 @@ regions_done m items regions k old value le same all =
     if_told-map _ _ old (λ disk a. regions_pass m regions (files_of disk) (subst (IsPermutation (regions_in m)) (sym value) same) (subst (All (LiesIn (files_of disk))) (take_all k regions le) a)) all
 
 -- the instance at a place, and the next
-pub instance_next : (instances : List Instance) (k : ℕ) (d : Instance) (old now : Option History) (long : Option ℕ) → k < length instances → Idle old now
+pub instance_next : (instances : List Instance) (k : ℕ) (d : Instance) (old now : Option History) (long : Option ℕ) → k < length instances → IsIdle old now
     → IfTold now (HasAsked (file.Inst (get_or instances k d).hash.0 (get_or instances k d).id.0) long) → long ≡ Some (get_or instances k d).size
     → IfTold old (λ disk. All (IsWholeIn (files_of disk)) (take k instances)) → IfTold old (λ disk. All (IsWholeIn (files_of disk)) (take (k + 1) instances))
 instance_next instances k d old now long lt idle asked is all = told_more IsWholeIn instances k d old now lt idle (if_told-map _ _ now (λ disk e. e ∙ is) asked) all
 
-pub instance_fails : (m : MapMeaning) (items instances : List Instance) (k : ℕ) (d : Instance) (old now : Option History) (long : Option ℕ) → instances ≡ items → k < length instances → Idle old now
+pub instance_fails : (m : MapMeaning) (items instances : List Instance) (k : ℕ) (d : Instance) (old now : Option History) (long : Option ℕ) → instances ≡ items → k < length instances → IsIdle old now
     → IfTold now (HasAsked (file.Inst (get_or instances k d).hash.0 (get_or instances k d).id.0) long) → (long ≡ Some (get_or instances k d).size → ⊥) → IsPermutation (instances_in m) items → AllPairs IsNamedNoLater items
     → IfTold old (λ disk. All (IsWholeIn (files_of disk)) (take k instances)) → IfTold old (λ disk. IsFirstMissing (files_of disk) m (file.Inst (get_or instances k d).hash.0 (get_or instances k d).id.0))
 instance_fails m items instances k d old now long value lt idle asked fails same order all =

@@ -3,10 +3,10 @@ use Rattle.std.proofs.Common.{◌≡◌, ◌+◌, ℕ, List, [], ◌∷◌, ◌+
 use Rattle.std.specs.List.{AllByRecursion}
 use Rattle.std.specs.Option.{option_map}
 use Rattle.std.proofs.lemmas.List.{length-append, map-append}
-use Rattle.disk_model.specs.Disk.{Files, DiskState, History, IfTold}
+use Rattle.disk_model.specs.Disk.{Files, DiskState, History, IfTold, IsIdle}
 use Rattle.disk_model.specs.declared.name.FileName.{FileName}
 use Rattle.disk_model.specs.declared.name.FileName.TheVariants as file
-use Rattle.disk_model.proofs.Moments.{if_told-all, if_told-both}
+use Rattle.disk_model.proofs.MomentLemmas.{if_told-all, if_told-both}
 use Rattle.model_logs.specs.declared.log_head.LogHead.{LogHead}
 use Rattle.model_logs.specs.declared.log_head.LogKind.TheVariants as kind
 use Rattle.mdbox_base.specs.declared.entries.BoxEntry.{BoxEntry}
@@ -17,8 +17,8 @@ use Rattle.model_store.specs.Settled.{files_of}
 use Rattle.model_store.specs.Stands.{head_of, HasLog}
 use Rattle.model_store.specs.Opening.{HasItsRecord, PassesBox, PassBoxes, IsBadLog, LacksRecord, AreBoxEntries}
 use Rattle.gate_log.specs.State.{InspectedLog}
-use Rattle.gate_log.specs.Log.{Idle, IsFound}
-use Rattle.gate_log.proofs.Idling.{idle-told, idle-back}
+use Rattle.gate_log.specs.Log.{IsFound}
+use Rattle.disk_model.proofs.IdleLemmas.{idle-on, idle-back}
 use Rattle.map_index.specs.Shown.{shown_box}
 use Rattle.map_index.specs.declared.rows.BoxAt.{BoxAt}
 use Rattle.store_checks.specs.declared.mailbox.CheckedBox.{CheckedBox}
@@ -29,10 +29,10 @@ use Rattle.store_checks.proofs.Places.{split_at}
 use Rattle.store_checks.proofs.Walks.{behind, take_next}
 
 -- a log that was found stands so after calls that change nothing
-pub found-then : (found : InspectedLog) (name : FileName) (head : LogHead) (entries : List (List ℕ)) (now new : Option History) → Idle now new → IsFoundAs found name head entries now → IsFoundAs found name head entries new
-found-then found name head entries now new idle f = record { name_is = f.name_is; head_is = f.head_is; stands = idle-told (IsFound found entries) now new idle f.stands }
+pub found-then : (found : InspectedLog) (name : FileName) (head : LogHead) (entries : List (List ℕ)) (now new : Option History) → IsIdle now new → IsFoundAs found name head entries now → IsFoundAs found name head entries new
+found-then found name head entries now new idle f = record { name_is = f.name_is; head_is = f.head_is; stands = idle-on (IsFound found entries) now new idle f.stands }
 
-pub are_found-then : (store : List ℕ) (mailboxes : List MapBox) (boxes : List CheckedBox) (logs : List (List BoxEntry)) (now new : Option History) → Idle now new → AreFound store mailboxes boxes logs now → AreFound store mailboxes boxes logs new
+pub are_found-then : (store : List ℕ) (mailboxes : List MapBox) (boxes : List CheckedBox) (logs : List (List BoxEntry)) (now new : Option History) → IsIdle now new → AreFound store mailboxes boxes logs now → AreFound store mailboxes boxes logs new
 are_found-then store [] [] [] now new idle f = tt
 are_found-then store (x ∷ xs) (b ∷ bs) (l ∷ ls) now new idle f = (found-then b.log _ _ _ now new idle f.0, are_found-then store xs bs ls now new idle f.1)
 are_found-then store [] [] (l ∷ ls) now new idle f = absurd f
@@ -71,7 +71,7 @@ read_as P at mailbox e p = subst P e p
 
 -- one more was read
 pub one_read : (store : List ℕ) (m : MapMeaning) (place : ℕ) (o : Option BoxAt) (at : BoxAt) (boxes more : List CheckedBox) (logs : List (List BoxEntry)) (b : CheckedBox) (l : List BoxEntry) (old now new : Option History)
-    → m.store ≡ store → o ≡ option_map shown_box (slice_get m.boxes place) → o ≡ Some at → Idle old now → Idle now new → AreRead store m (take place m.boxes) boxes logs old now → IsBoxRead store m at b l now new → more ≡ boxes ++ b ∷ []
+    → m.store ≡ store → o ≡ option_map shown_box (slice_get m.boxes place) → o ≡ Some at → IsIdle old now → IsIdle now new → AreRead store m (take place m.boxes) boxes logs old now → IsBoxRead store m at b l now new → more ≡ boxes ++ b ∷ []
     → AreRead store m (take (place + 1) m.boxes) more (logs ++ l ∷ []) old new
 one_read store m place o at boxes more logs b l old now new same e is idle next r read push =
     let x = behind shown_box (slice_get m.boxes place) at (sym is ∙ e) in
@@ -92,7 +92,7 @@ one_read store m place o at boxes more logs b l old now new same e is idle next 
 
 -- one wasn't read
 pub boxes_cause : (store : List ℕ) (m : MapMeaning) (place : ℕ) (o : Option BoxAt) (at : BoxAt) (boxes : List CheckedBox) (logs : List (List BoxEntry)) (old now : Option History) (error : CheckError)
-    → o ≡ option_map shown_box (slice_get m.boxes place) → o ≡ Some at → Idle old now → AreRead store m (take place m.boxes) boxes logs old now → IsBoxCause m at now error → IsBoxesCause m old error
+    → o ≡ option_map shown_box (slice_get m.boxes place) → o ≡ Some at → IsIdle old now → AreRead store m (take place m.boxes) boxes logs old now → IsBoxCause m at now error → IsBoxesCause m old error
 boxes_cause store m place o at boxes logs old now (check.Damaged name offset) e is idle r (is_name, fails) =
     let x = behind shown_box (slice_get m.boxes place) at (sym is ∙ e) in
     let bad = fails x.0 (sym x.2) in

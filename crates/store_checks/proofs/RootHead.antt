@@ -5,7 +5,7 @@ use Rattle.std.proofs.lemmas.Bool.{cases_lt}
 use Rattle.std.proofs.Math.Seq.{take-append-add}
 use Rattle.disk_model.specs.Disk.{DiskState, History, IfTold, reading}
 use Rattle.disk_model.specs.declared.name.FileName.TheVariants as file
-use Rattle.disk_model.proofs.Moments.{if_told-map}
+use Rattle.disk_model.proofs.MomentLemmas.{if_told-map}
 use Rattle.model_logs.specs.LogFile.{head_octets}
 use Rattle.model_logs.proofs.LogFileLemmas.{head_length}
 use Rattle.model_store.specs.Settled.{files_of}

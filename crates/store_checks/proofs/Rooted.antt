@@ -1,8 +1,8 @@
 -- What the root log and the map log say.
 use Rattle.std.proofs.Common.{◌≡◌, ◌+◌, ℕ, List, [], ◌∷◌, ◌++◌, length, map, Option, Some, None, inl, inr, refl, sym, ◌∙◌, ap, subst, arith, append-nil, length-append}
-use Rattle.disk_model.specs.Disk.{DiskState, History, IfTold, reading}
+use Rattle.disk_model.specs.Disk.{DiskState, History, IfTold, reading, IsIdle}
 use Rattle.disk_model.specs.declared.name.FileName.TheVariants as file
-use Rattle.disk_model.proofs.Moments.{if_told-all, if_told-map, if_told-both}
+use Rattle.disk_model.proofs.MomentLemmas.{if_told-all, if_told-map, if_told-both}
 use Rattle.model_logs.specs.declared.log_head.LogHead.{LogHead}
 use Rattle.mdbox_base.specs.declared.entries.RootEntry.{RootEntry}
 use Rattle.mdbox_base.specs.declared.entries.MapEntry.{MapEntry}
@@ -16,9 +16,9 @@ use Rattle.model_store.specs.Stands.{HasLog}
 use Rattle.model_store.specs.Opening.{HasNoEntry, root_head, IsBadLog, AreRootEntries, IsBadMapLog, AreMapEntries}
 use Rattle.gate_log.specs.Reading.{IsReading}
 use Rattle.gate_log.specs.State.{InspectedLog}
-use Rattle.gate_log.specs.Log.{Idle, IsFound}
+use Rattle.gate_log.specs.Log.{IsFound}
 use Rattle.gate_log.specs.declared.read.LogRead.{LogRead}
-use Rattle.gate_log.proofs.Idling.{idle-back}
+use Rattle.disk_model.proofs.IdleLemmas.{idle-back}
 use Rattle.store_checks.specs.Folds.{NamesLast, IsRootFold, IsMapFold, RefusesRoot, RefusesMap}
 use Rattle.store_checks.specs.declared.fold.RootFold.{RootFold}
 use Rattle.store_checks.specs.Logs.{IsBadFold, IsLogCause}
@@ -40,7 +40,7 @@ root_tells : (value : RootFold) (texts : List (List ℕ)) → IsFold value texts
 root_tells value texts f = record { entries = f.entries; texts_are = f.texts_are; good = f.good; none = λ bad refused entry is good. refused f.entries entry is good }
 
 -- why the root log wasn't read
-pub root_cause : (store : List ℕ) (value : RootFold) (old now : Option History) (error : CheckError) → Idle old now → IfTold old (λ disk. HasId store (files_of disk))
+pub root_cause : (store : List ℕ) (value : RootFold) (old now : Option History) (error : CheckError) → IsIdle old now → IfTold old (λ disk. HasId store (files_of disk))
     → IsLogCause IsFold Refuses value file.Root (root_log_head store) now error → IsRootCause old error
 root_cause store value old now (check.Damaged name place) idle id (is, bad) = (
   is,
@@ -71,7 +71,7 @@ empty_log octets head l =
           let h = head_length head l.head_fits in let b : length l.behind ≡ 0 = ap length nothing in omega (arith, n, h, b))
     ]
 
-pub none_last : (store : List ℕ) (last : Option ℕ) (octets : List ℕ) (read : LogRead) (old now : Option History) → Idle old now → IsReading octets read → read.head ≡ root_log_head store → IsRootFold last read.entries → last ≡ None
+pub none_last : (store : List ℕ) (last : Option ℕ) (octets : List ℕ) (read : LogRead) (old now : Option History) → IsIdle old now → IsReading octets read → read.head ≡ root_log_head store → IsRootFold last read.entries → last ≡ None
     → IfTold now (λ disk. reading (disk file.Root) ≡ Some octets) → IfTold old (λ disk. HasNoEntry (reading (disk file.Root)))
 none_last store last octets read old now idle r h f e told =
     let last_is = subst (λ (l : Option ℕ). NamesLast l f.entries) e f.last_is in
@@ -79,7 +79,7 @@ none_last store last octets read old now idle r h f e told =
     let none : HasNoEntry (Some octets) = empty_log octets read.head (subst (λ (ts : List (List ℕ)). IsLog octets read.head ts) texts r.log) in
     if_told-map _ _ old (λ disk there. subst HasNoEntry (sym there) none) (idle-back (λ (disk : DiskState). reading (disk file.Root) ≡ Some octets) old now idle told)
 
-pub root_read : (store : List ℕ) (last : Option ℕ) (generation : ℕ) (found : InspectedLog) (octets : List ℕ) (read : LogRead) (old now new : Option History) → Idle old now → IsReading octets read → read.head ≡ root_log_head store
+pub root_read : (store : List ℕ) (last : Option ℕ) (generation : ℕ) (found : InspectedLog) (octets : List ℕ) (read : LogRead) (old now new : Option History) → IsIdle old now → IsReading octets read → read.head ≡ root_log_head store
     → IsRootFold last read.entries → last ≡ Some generation → IfTold now (λ disk. reading (disk file.Root) ≡ Some octets) → (found.name ≡ file.Root) × (found.head ≡ root_log_head store) → IfTold new (IsFound found read.entries)
     → (before : List RootEntry) × IsRootRead store generation found before old new
 root_read store last generation found octets read old now new idle r h f e told log stands =

@@ -3,7 +3,8 @@ ghost use Rattle.std.specs.Prelude.{◌≡◌, List, IfOk, IfErr, IsErrOf};
 ghost use Rattle.mdbox_base.specs.declared.entries.BoxEntry.{BoxEntry};
 ghost use Rattle.mdbox_base.specs.declared.entries.MapEntry.{MapEntry};
 ghost use Rattle.mdbox_base.specs.declared.entries.RootEntry.{RootEntry};
-ghost use Rattle.gate_log.specs.Log.{Idle, ReadsRoseIf};
+ghost use Rattle.disk_model.specs.Disk.{IsIdle};
+ghost use Rattle.disk_model.specs.FaultCounts.{ReadFaultCounted};
 ghost use Rattle.store_checks.specs.Store.{IsChecked, IsCheckCause};
 
 use crate::counts::are_counted;
@@ -37,8 +38,8 @@ pub struct Checked {
 pub fn check_store<D: Disk>(alloc: Global, disk: &mut D) -> Result<Checked, CheckError>
     ensures checked { IfOk result (λ checked. (before : List RootEntry) × (entries : List MapEntry) × (logs : List (List BoxEntry)) × IsChecked checked before entries logs (D.history disk.old) (D.history disk.new)) }
     ensures refused { IfErr result (IsCheckCause (D.history disk.old)) }
-    ensures idle { Idle (D.history disk.old) (D.history disk.new) }
-    ensures fault { ReadsRoseIf (IsErrOf result CheckError.DiskFault) (D.faults disk.old) (D.faults disk.new) }
+    ensures idle { IsIdle (D.history disk.old) (D.history disk.new) }
+    ensures fault { ReadFaultCounted (IsErrOf result CheckError.DiskFault) (D.faults disk.old) (D.faults disk.new) }
 {
     let root = read_root(alloc, disk)?;
     let (map_log, map) = read_map(alloc, disk, root.id, root.generation)?;

@@ -1,10 +1,10 @@
 // Instances that records name.
 ghost use Rattle.std.specs.Prelude.{◌≡◌, ◌↔◌, IsTrue, Some, length, All, AllPairs, IsPermutation, IfOk, IfErr, OnOk, IsErrOf};
-ghost use Rattle.disk_model.specs.Disk.{IfTold};
+ghost use Rattle.disk_model.specs.Disk.{IfTold, IsIdle};
 ghost use Rattle.model_store.specs.Settled.{files_of};
 ghost use Rattle.model_store.specs.Safe.{IsThereWhole};
 ghost use Rattle.model_meaning.specs.MapMeaning.{named_instances};
-ghost use Rattle.gate_log.specs.Log.{Idle, ReadsRoseIf};
+ghost use Rattle.disk_model.specs.FaultCounts.{ReadFaultCounted};
 ghost use Rattle.store_checks.specs.Lengths.{instance_of, instances_in, IsNamedNoLater, IsInstanceCause};
 
 use crate::error::CheckError;
@@ -43,8 +43,8 @@ pub fn check_instances<D: Disk>(
 ) -> Result<(), CheckError>
     ensures passed { OnOk result (IfTold (D.history disk.old) (λ now. All (IsThereWhole (files_of now)) (named_instances map.now))) }
     ensures refused { IfErr result (IsInstanceCause map.now (D.history disk.old)) }
-    ensures idle { Idle (D.history disk.old) (D.history disk.new) }
-    ensures fault { ReadsRoseIf (IsErrOf result CheckError.DiskFault) (D.faults disk.old) (D.faults disk.new) }
+    ensures idle { IsIdle (D.history disk.old) (D.history disk.new) }
+    ensures fault { ReadFaultCounted (IsErrOf result CheckError.DiskFault) (D.faults disk.old) (D.faults disk.new) }
 {
     let instances = instances_of(alloc, map)?;
     let mut asked = None;

@@ -1,8 +1,8 @@
 // Lengths of files.
 ghost use Rattle.std.specs.Prelude.{◌≡◌, length, Some, IfOk, IfErr, IsErr};
 ghost use Rattle.std.specs.Option.{option_map};
-ghost use Rattle.disk_model.specs.Disk.{IfTold, reading};
-ghost use Rattle.gate_log.specs.Log.{Idle, ReadsRoseIf};
+ghost use Rattle.disk_model.specs.Disk.{IfTold, reading, IsIdle};
+ghost use Rattle.disk_model.specs.FaultCounts.{ReadFaultCounted};
 ghost use Rattle.store_checks.specs.Lengths.{IsAsked};
 
 use crate::error::CheckError;
@@ -25,8 +25,8 @@ pub fn length_of<D: Disk>(
     ensures length { IfOk result (λ found. IfTold (D.history disk.old) (λ now. option_map length (reading (now name)) ≡ found)) }
     ensures asked { IsAsked last.new (D.history disk.new) }
     ensures refused { IfErr result (λ error. error ≡ CheckError.DiskFault) }
-    ensures idle { Idle (D.history disk.old) (D.history disk.new) }
-    ensures fault { ReadsRoseIf (IsErr result) (D.faults disk.old) (D.faults disk.new) }
+    ensures idle { IsIdle (D.history disk.old) (D.history disk.new) }
+    ensures fault { ReadFaultCounted (IsErr result) (D.faults disk.old) (D.faults disk.new) }
 {
     if let Some(asked) = last {
         if same_file(asked.name, name) {

@@ -1,7 +1,8 @@
 // One log of the disk.
 ghost use Rattle.std.specs.Prelude.{◌≡◌, [], ℕ, List, Some, IfOk, IfErr, IsErrOf};
-ghost use Rattle.disk_model.specs.Disk.{IfTold, reading};
-ghost use Rattle.gate_log.specs.Log.{Idle, ReadsRoseIf, IsFound};
+ghost use Rattle.disk_model.specs.Disk.{IfTold, reading, IsIdle};
+ghost use Rattle.disk_model.specs.FaultCounts.{ReadFaultCounted};
+ghost use Rattle.gate_log.specs.Log.{IsFound};
 ghost use Rattle.gate_log.specs.Reading.{IsReading};
 ghost use Rattle.store_checks.specs.Logs.{of_log, IsLogCause};
 
@@ -27,8 +28,8 @@ pub fn read_log<D: Disk, F: Fold>(
     ensures log { IfOk result (λ found. (found.0.name ≡ name) × (found.0.head ≡ head)) }
     ensures stands { IfOk result (λ found. IfTold (D.history disk.new) (IsFound found.0 found.1.entries)) }
     ensures refused { IfErr result (IsLogCause F.is_fold F.refuses fold.new name head (D.history disk.old)) }
-    ensures idle { Idle (D.history disk.old) (D.history disk.new) }
-    ensures fault { ReadsRoseIf (IsErrOf result CheckError.DiskFault) (D.faults disk.old) (D.faults disk.new) }
+    ensures idle { IsIdle (D.history disk.old) (D.history disk.new) }
+    ensures fault { ReadFaultCounted (IsErrOf result CheckError.DiskFault) (D.faults disk.old) (D.faults disk.new) }
 {
     let (log, read) = match inspect_log(alloc, disk, name, head) {
         Ok(found) => found,

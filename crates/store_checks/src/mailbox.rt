@@ -1,7 +1,8 @@
 // The log of one mailbox.
 ghost use Rattle.std.specs.Prelude.{◌≡◌, List, IfOk, IfErr, IsErrOf};
 ghost use Rattle.mdbox_base.specs.declared.entries.BoxEntry.{BoxEntry};
-ghost use Rattle.gate_log.specs.Log.{Idle, ReadsRoseIf};
+ghost use Rattle.disk_model.specs.Disk.{IsIdle};
+ghost use Rattle.disk_model.specs.FaultCounts.{ReadFaultCounted};
 ghost use Rattle.store_checks.specs.Boxes.{IsBoxRead, IsBoxCause, AreRead, IsBoxesCause};
 
 use crate::bare::first_bare;
@@ -32,8 +33,8 @@ pub fn read_boxes<D: Disk>(
     requires { map.now.store ≡ id.0 }
     ensures read { IfOk result (λ boxes. (logs : List (List BoxEntry)) × AreRead id.0 map.now map.now.boxes boxes logs (D.history disk.old) (D.history disk.new)) }
     ensures refused { IfErr result (IsBoxesCause map.now (D.history disk.old)) }
-    ensures idle { Idle (D.history disk.old) (D.history disk.new) }
-    ensures fault { ReadsRoseIf (IsErrOf result CheckError.DiskFault) (D.faults disk.old) (D.faults disk.new) }
+    ensures idle { IsIdle (D.history disk.old) (D.history disk.new) }
+    ensures fault { ReadFaultCounted (IsErrOf result CheckError.DiskFault) (D.faults disk.old) (D.faults disk.new) }
 {
     let mut boxes = Seq::empty(alloc);
     for place in 0..map.boxes() {
@@ -54,8 +55,8 @@ fn read_box<D: Disk>(
     requires { map.now.store ≡ id.0 }
     ensures read { IfOk result (λ checked. (entries : List BoxEntry) × IsBoxRead id.0 map.now at checked entries (D.history disk.old) (D.history disk.new)) }
     ensures refused { IfErr result (IsBoxCause map.now at (D.history disk.old)) }
-    ensures idle { Idle (D.history disk.old) (D.history disk.new) }
-    ensures fault { ReadsRoseIf (IsErrOf result CheckError.DiskFault) (D.faults disk.old) (D.faults disk.new) }
+    ensures idle { IsIdle (D.history disk.old) (D.history disk.new) }
+    ensures fault { ReadFaultCounted (IsErrOf result CheckError.DiskFault) (D.faults disk.old) (D.faults disk.new) }
 {
     let name = FileName::Box(at.number.0, at.generation);
     let head = LogHead {

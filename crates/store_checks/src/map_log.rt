@@ -2,7 +2,8 @@
 ghost use Rattle.std.specs.Prelude.{◌↔◌, List, IsTrue, IfOk, IfErr, IsErrOf};
 ghost use Rattle.mdbox_base.specs.declared.entries.MapEntry.{MapEntry};
 ghost use Rattle.mdbox_base.specs.Words.{IsNumber};
-ghost use Rattle.gate_log.specs.Log.{Idle, ReadsRoseIf};
+ghost use Rattle.disk_model.specs.Disk.{IsIdle};
+ghost use Rattle.disk_model.specs.FaultCounts.{ReadFaultCounted};
 ghost use Rattle.store_checks.specs.Roots.{IsMapRead, IsMapCause};
 
 use crate::error::CheckError;
@@ -23,8 +24,8 @@ pub fn read_map<D: Disk>(
 ) -> Result<(FoundLog, MapIndex), CheckError>
     ensures read { IfOk result (λ found. (entries : List MapEntry) × IsMapRead id.0 generation found.0 found.1 entries (D.history disk.old) (D.history disk.new)) }
     ensures refused { IfErr result (IsMapCause id.0 generation (D.history disk.old)) }
-    ensures idle { Idle (D.history disk.old) (D.history disk.new) }
-    ensures fault { ReadsRoseIf (IsErrOf result CheckError.DiskFault) (D.faults disk.old) (D.faults disk.new) }
+    ensures idle { IsIdle (D.history disk.old) (D.history disk.new) }
+    ensures fault { ReadFaultCounted (IsErrOf result CheckError.DiskFault) (D.faults disk.old) (D.faults disk.new) }
 {
     let name = FileName::Map(generation);
     if !is_number(generation) {

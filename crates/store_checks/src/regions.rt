@@ -1,9 +1,9 @@
 // Regions of records in their storage files.
 ghost use Rattle.std.specs.Prelude.{◌≡◌, ◌↔◌, All, AllPairs, IsPermutation, IsTrue, IfOk, IfErr, OnOk, IsErrOf};
-ghost use Rattle.disk_model.specs.Disk.{IfTold};
+ghost use Rattle.disk_model.specs.Disk.{IfTold, IsIdle};
 ghost use Rattle.model_store.specs.Settled.{files_of};
 ghost use Rattle.model_store.specs.Safe.{LiesInFile};
-ghost use Rattle.gate_log.specs.Log.{Idle, ReadsRoseIf};
+ghost use Rattle.disk_model.specs.FaultCounts.{ReadFaultCounted};
 ghost use Rattle.store_checks.specs.Lengths.{regions_in, EndsWithin, IsNoLater, IsRegionCause};
 
 use crate::error::CheckError;
@@ -38,8 +38,8 @@ impl Region {
 pub fn check_regions<D: Disk>(alloc: Global, disk: &mut D, map: &MapIndex) -> Result<(), CheckError>
     ensures passed { OnOk result (IfTold (D.history disk.old) (λ now. All (LiesInFile (files_of now)) map.now.records)) }
     ensures refused { IfErr result (IsRegionCause map.now (D.history disk.old)) }
-    ensures idle { Idle (D.history disk.old) (D.history disk.new) }
-    ensures fault { ReadsRoseIf (IsErrOf result CheckError.DiskFault) (D.faults disk.old) (D.faults disk.new) }
+    ensures idle { IsIdle (D.history disk.old) (D.history disk.new) }
+    ensures fault { ReadFaultCounted (IsErrOf result CheckError.DiskFault) (D.faults disk.old) (D.faults disk.new) }
 {
     let regions = regions_of(alloc, map)?;
     let mut asked = None;

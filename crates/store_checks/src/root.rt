@@ -1,9 +1,9 @@
 // The root log.
 ghost use Rattle.std.specs.Prelude.{◌≡◌, List, IfOk, IfErr, IsErrOf};
-ghost use Rattle.disk_model.specs.Disk.{IfTold};
+ghost use Rattle.disk_model.specs.Disk.{IfTold, IsIdle};
 ghost use Rattle.mdbox_base.specs.declared.entries.RootEntry.{RootEntry};
 ghost use Rattle.model_store.specs.Settled.{files_of};
-ghost use Rattle.gate_log.specs.Log.{Idle, ReadsRoseIf};
+ghost use Rattle.disk_model.specs.FaultCounts.{ReadFaultCounted};
 ghost use Rattle.store_checks.specs.Roots.{HasId, IsRootRead, IsRootCause};
 ghost use Rattle.store_checks.specs.RootId.{IsIdCause};
 
@@ -29,8 +29,8 @@ pub struct Root {
 pub fn read_root<D: Disk>(alloc: Global, disk: &mut D) -> Result<Root, CheckError>
     ensures read { IfOk result (λ root. (before : List RootEntry) × IsRootRead root.id.0 root.generation root.log before (D.history disk.old) (D.history disk.new)) }
     ensures refused { IfErr result (IsRootCause (D.history disk.old)) }
-    ensures idle { Idle (D.history disk.old) (D.history disk.new) }
-    ensures fault { ReadsRoseIf (IsErrOf result CheckError.DiskFault) (D.faults disk.old) (D.faults disk.new) }
+    ensures idle { IsIdle (D.history disk.old) (D.history disk.new) }
+    ensures fault { ReadFaultCounted (IsErrOf result CheckError.DiskFault) (D.faults disk.old) (D.faults disk.new) }
 {
     let id = root_id(alloc, disk)?;
     let head = LogHead {
@@ -55,8 +55,8 @@ pub fn read_root<D: Disk>(alloc: Global, disk: &mut D) -> Result<Root, CheckErro
 fn root_id<D: Disk>(alloc: Global, disk: &mut D) -> Result<StoreId, CheckError>
     ensures found { IfOk result (λ id. IfTold (D.history disk.old) (λ now. HasId id.0 (files_of now))) }
     ensures refused { IfErr result (IsIdCause (D.history disk.old)) }
-    ensures idle { Idle (D.history disk.old) (D.history disk.new) }
-    ensures fault { ReadsRoseIf (IsErrOf result CheckError.DiskFault) (D.faults disk.old) (D.faults disk.new) }
+    ensures idle { IsIdle (D.history disk.old) (D.history disk.new) }
+    ensures fault { ReadFaultCounted (IsErrOf result CheckError.DiskFault) (D.faults disk.old) (D.faults disk.new) }
 {
     let mut front = [0; ROOT_FRONT];
     let count = match disk.read_at(FileName::Root, 0, &mut front) {

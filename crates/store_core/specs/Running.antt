@@ -69,8 +69,3 @@ pub record IsStore (history : Option History) (m : MapMeaning) (map_log : LogSta
   pub some_lanes : 1 ≤ lanes
   pub few_lanes : lanes ≤ 64
   pub running : stopped ≡ false → IsRunning history generation m map_log boxes entries logs
-
--- the disk tells its content, and is settled for these lists
-abbrev pub IsSettledFor : Lists → Option History → Type 0
-IsSettledFor lists None = ⊥
-IsSettledFor lists (Some h) = IsSettled h.now lists

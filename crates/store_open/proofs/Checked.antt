@@ -2,10 +2,10 @@
 use Rattle.std.proofs.Common.{◌≡◌, ◌<◌, ◌^◌, ℕ, List, [], ◌∷◌, ◌++◌, length, map, All, Option, Some, refl, sym, ◌∙◌, ap, subst, arith}
 use Rattle.std.proofs.lemmas.List.{map-append, same_from_push}
 use Rattle.std.proofs.lemmas.List.Elements.{All-nil, All-cons}
-use Rattle.disk_model.specs.Disk.{DiskState, History, IfTold, reading}
+use Rattle.disk_model.specs.Disk.{DiskState, History, IfTold, reading, IsIdle}
 use Rattle.disk_model.specs.declared.name.FileName.{FileName}
 use Rattle.disk_model.specs.declared.name.FileName.TheVariants as file
-use Rattle.disk_model.proofs.Moments.{if_told-all, if_told-map, if_told-both}
+use Rattle.disk_model.proofs.MomentLemmas.{if_told-all, if_told-map, if_told-both}
 use Rattle.model_logs.specs.declared.log_head.LogHead.{LogHead}
 use Rattle.mdbox_base.specs.declared.entries.BoxEntry.{BoxEntry}
 use Rattle.mdbox_base.specs.declared.entries.MapEntry.{MapEntry}
@@ -20,8 +20,8 @@ use Rattle.model_store.specs.Settled.{files_of}
 use Rattle.model_store.specs.Stands.{HasMap}
 use Rattle.model_store.specs.Opening.{Opens}
 use Rattle.gate_log.specs.State.{InspectedLog}
-use Rattle.gate_log.specs.Log.{Idle, IsFound}
-use Rattle.gate_log.proofs.Idling.{idle-told}
+use Rattle.gate_log.specs.Log.{IsFound}
+use Rattle.disk_model.proofs.IdleLemmas.{idle-on}
 use Rattle.store_checks.specs.Boxes.{IsFoundAs, AreFound}
 use Rattle.store_checks.specs.Roots.{root_log_head, root_texts, map_log_head}
 use Rattle.store_checks.specs.Store.{IsChecked}
@@ -96,11 +96,11 @@ OpensAt store generation entries logs disk = (o : Opens (files_of disk) store en
 short : (found : InspectedLog) (store : List ℕ) (generation : ℕ) (entries : List (List ℕ)) (disk : DiskState) → found.head ≡ map_log_head store generation → IsFound found entries disk → generation < 2 ^ 32
 short found store generation entries disk e f = let h : HeadFits (map_log_head store generation) = subst HeadFits e f.stands.head_fits in h.generation
 
-pub opens_at : (c : Checked) (before : List RootEntry) (entries : List MapEntry) (logs : List (List BoxEntry)) (old now : Option History) → Idle old now → IsChecked c before entries logs old now → IfTold now (OpensAt c.id.0 c.generation entries logs)
+pub opens_at : (c : Checked) (before : List RootEntry) (entries : List MapEntry) (logs : List (List BoxEntry)) (old now : Option History) → IsIdle old now → IsChecked c before entries logs old now → IfTold now (OpensAt c.id.0 c.generation entries logs)
 opens_at c before entries logs old now idle k =
     if_told-both _ _ _ now (λ disk o f. o f) (if_told-both _ _ _ now
     (λ disk o s. give disk o s)
-    (idle-told (λ (disk : DiskState). Opens (files_of disk) c.id.0 entries logs) old now idle k.opens) k.root_log.stands) k.map_log.stands
+    (idle-on (λ (disk : DiskState). Opens (files_of disk) c.id.0 entries logs) old now idle k.opens) k.root_log.stands) k.map_log.stands
   where
     give : (disk : DiskState) → Opens (files_of disk) c.id.0 entries logs → IsFound c.root_log (root_texts before c.generation) disk → IsFound c.map_log (map map_text entries) disk → OpensAt c.id.0 c.generation entries logs disk
     give disk o s f = (o, last_is c.id.0 entries c.generation c.root_log before disk (short c.map_log c.id.0 c.generation (map map_text entries) disk k.map_log.head_is f) k.root_log.name_is o.passed.map_log s)

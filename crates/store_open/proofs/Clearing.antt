@@ -1,20 +1,20 @@
 -- Logs taken away, one by one.
+use Rattle.disk_model.proofs.BetweenLemmas.{between-after, between-same, between-since, between-back, between-on, between-if}
 use Rattle.std.proofs.Common.{◌≡◌, ◌⊎◌, inl, inr, ◌||◌, Bool, true, false, Option, Some, None, IfSome, refl, sym, ◌∙◌, ap, subst}
 use Rattle.std.proofs.lemmas.Bool.{cases_Bool, cond-true, cond-false, false≢true, true≢false}
 use Rattle.std.specs.Option.{is_some}
 use Rattle.std.specs.declared.cmp.Ordering.TheVariants.{Less}
-use Rattle.disk_model.specs.Disk.{Files, FileState, DiskState, History, IsImage, IsThere, IsPast, IfTold, EachImage, AfterFailed, after, change, change_all, removed, half_removed, named, no_file}
-use Rattle.disk_model.specs.Name.{same_name}
+use Rattle.disk_model.specs.Disk.{Files, FileState, DiskState, History, IsImage, IsThere, IsPast, IfTold, EachImage, AfterFailed, after, change, change_all, removed, half_removed, named, no_file, SameState, IsIdle, Between}
+use Rattle.disk_model.specs.Name.{same_name, IsLogName, IsLogInRange}
 use Rattle.disk_model.specs.declared.name.FileName.{FileName}
 use Rattle.disk_model.specs.declared.name.FileName.TheVariants as file
 use Rattle.disk_model.specs.contracts.name.FileNameOrd.TheImpl.{ghosts}
-use Rattle.disk_model.proofs.Moments.{if_told-all, if_told-map, if_told-both, each_image-begins, each_image-then, each_image-goes_on, each_image-fails, each_image-fails_still}
-use Rattle.disk_model.proofs.Names.{same_name-true, same_name-refl}
-use Rattle.disk_model.proofs.OneFile.{named-narrows}
+use Rattle.disk_model.proofs.MomentLemmas.{if_told-all, if_told-map, if_told-both, each_image-begins, each_image-then, each_image-goes_on, each_image-fails, each_image-fails_still}
+use Rattle.disk_model.proofs.NameLemmas.{same_name-true, same_name-refl}
+use Rattle.disk_model.proofs.OneFileLemmas.{named-narrows}
 use Rattle.model_store.specs.Opening.{HasNoEntry}
-use Rattle.gate_log.specs.Log.{SameState, Idle}
-use Rattle.store_open.specs.Making.{BothTold, HasAnyLog, IsLogName, IsLogInRange, IsFirstLog, NeverHasEntry, AreRemoved, AreCleared}
-use Rattle.store_open.proofs.Idle.{idle-images}
+use Rattle.store_open.specs.Making.{HasAnyLog, IsFirstLog, NeverHasEntry, AreRemoved, AreCleared}
+use Rattle.disk_model.proofs.IdleLemmas.{idle-images}
 use Rattle.store_open.proofs.Ranks.{past_log}
 
 -- one file that is changed
@@ -64,44 +64,6 @@ never-no_file (Some octets) holds = elim holds.named [ inl gone ↦ absurd (fals
 
 -- relations of states, where they are told
 
-pub both_told-map : (R S : DiskState → DiskState → Type 0) (old new : Option History) → ((a b : DiskState) → R a b → S a b) → BothTold R old new → BothTold S old new
-both_told-map R S None new f r = r
-both_told-map R S (Some old) None f r = r
-both_told-map R S (Some old) (Some new) f r = f old.now new.now r
-
-pub both_told-if : (R S : DiskState → DiskState → Type 0) (P : DiskState → Type 0) (old new : Option History) → ((a b : DiskState) → R a b → P a → S a b) → BothTold R old new → IfTold old P → BothTold S old new
-both_told-if R S P None new f r p = r
-both_told-if R S P (Some old) None f r p = r
-both_told-if R S P (Some old) (Some new) f r p = f old.now new.now r p
-
-pub both_told-on : (R : DiskState → DiskState → Type 0) (P Q : DiskState → Type 0) (old new : Option History) → ((a b : DiskState) → R a b → P a → Q b) → BothTold R old new → IfTold old P → IfTold new Q
-both_told-on R P Q None new f r p = subst (λ (h : Option History). IfTold h Q) (sym r) tt
-both_told-on R P Q (Some old) None f r p = elim r [ ]
-both_told-on R P Q (Some old) (Some new) f r p = f old.now new.now r p
-
-pub both_told-back : (R : DiskState → DiskState → Type 0) (P Q : DiskState → Type 0) (old new : Option History) → ((a b : DiskState) → R a b → P b → Q a) → BothTold R old new → IfTold new P → IfTold old Q
-both_told-back R P Q None new f r p = tt
-both_told-back R P Q (Some old) None f r p = elim r [ ]
-both_told-back R P Q (Some old) (Some new) f r p = f old.now new.now r p
-
-both_told-new : (R S : DiskState → DiskState → Type 0) (P : DiskState → Type 0) (old new : Option History) → ((a b : DiskState) → R a b → P b → S a b) → BothTold R old new → IfTold new P → BothTold S old new
-both_told-new R S P None new f r p = r
-both_told-new R S P (Some old) None f r p = r
-both_told-new R S P (Some old) (Some new) f r p = f old.now new.now r p
-
-pub both_told-same : (R : DiskState → DiskState → Type 0) (old now new : Option History) → BothTold R old now → SameState now new → BothTold R old new
-both_told-same R None None new r same = same
-both_told-same R None (Some now) new r same = absurd (let e : Some now ≡ None = r in cc)
-both_told-same R (Some old) None new r same = elim r [ ]
-both_told-same R (Some old) (Some now) None r same = elim same [ ]
-both_told-same R (Some old) (Some now) (Some new) r same = subst (R old.now) (sym same) r
-
-both_told-after : (R S : DiskState → DiskState → Type 0) (P : DiskState → Type 0) (step : DiskState → DiskState) (old now new : Option History) → ((a b : DiskState) → R a b → P b → S a (step b)) → BothTold R old now → IfTold now P → new ≡ after step now → BothTold S old new
-both_told-after R S P step None None new f r p is = is
-both_told-after R S P step None (Some now) new f r p is = absurd (let e : Some now ≡ None = r in cc)
-both_told-after R S P step (Some old) None new f r p is = elim r [ ]
-both_told-after R S P step (Some old) (Some now) new f r p is = subst (λ (h : Option History). BothTold S (Some old) h) (sym is) (f old.now now.now r p)
-
 -- the walk
 
 -- Of the logs, those up to this name have been removed.
@@ -113,7 +75,7 @@ pub record AreWalked (last : Option FileName) (old now : DiskState) : Type 0 whe
 pub record Walked (last : Option FileName) (old now : Option History) : Type 0 where
   pub named : IfSome last IsLogInRange
   pub each : IfTold old (λ disk. NeverHasEntry (disk file.Root)) → EachImage (λ _ image. HasNoEntry (image file.Root)) old now
-  pub states : BothTold (AreWalked last) old now
+  pub states : Between (AreWalked last) old now
 
 -- so far the root log never has an entry
 never-walked : (last : Option FileName) (old now : DiskState) → AreWalked last old now → NeverHasEntry (old file.Root) → NeverHasEntry (now file.Root)
@@ -132,18 +94,18 @@ walk-begins old = record {
   states = states old;
 }
   where
-    states : (old : Option History) → BothTold (AreWalked None) old old
+    states : (old : Option History) → Between (AreWalked None) old old
     states None = refl
     states (Some old) = record { taken = λ name. inl refl; past = λ name there. tt; first = λ e name. refl }
 
 -- a look for the next log
-pub walk-looks : (last : Option FileName) (old now new : Option History) → Walked last old now → Idle now new → Walked last old new
+pub walk-looks : (last : Option FileName) (old now new : Option History) → Walked last old now → IsIdle now new → Walked last old new
 walk-looks last old now new w idle = record {
   named = w.named;
   each = λ never. each_image-then _ old now new (w.each never)
       (idle-images (λ image. HasNoEntry (image file.Root)) now new idle
-      (if_told-map _ _ now image-of-root (both_told-on (AreWalked last) _ _ old now (never-walked last) w.states never)));
-  states = both_told-same (AreWalked last) old now new w.states idle.same;
+      (if_told-map _ _ now image-of-root (between-on (AreWalked last) _ _ old now (never-walked last) w.states never)));
+  states = between-same (AreWalked last) old now new w.states idle.same;
 }
 
 -- a removal of the next log
@@ -178,7 +140,7 @@ root-half name disk there never = changed-is name file.Root half_removed disk Ne
     (λ e. never-half (disk file.Root) (subst (λ (o : FileName). IsThere (disk o)) e there) never) (λ apart. never)
 
 never-now : (last : Option FileName) (old now : Option History) → Walked last old now → IfTold old (λ disk. NeverHasEntry (disk file.Root)) → IfTold now (λ disk. NeverHasEntry (disk file.Root))
-never-now last old now w never = both_told-on (AreWalked last) _ _ old now (never-walked last) w.states never
+never-now last old now w never = between-on (AreWalked last) _ _ old now (never-walked last) w.states never
 
 pub walk-goes_on : (last : Option FileName) (name : FileName) (old now new : Option History) → Walked last old now → IfTold now (IsFirstLog ghosts.cmp last (Some name)) → IsLogInRange name
     → new ≡ after (change name removed) now → Walked (Some name) old new
@@ -186,7 +148,7 @@ walk-goes_on last name old now new w first is_named is = record {
   named = is_named;
   each = λ never. each_image-goes_on _ (change name removed) old now new (w.each never) is
       (if_told-map _ _ now (λ disk n m image i. image-of-root (change name removed disk) (root-removed name disk n) image i) (never-now last old now w never));
-  states = both_told-after (AreWalked last) (AreWalked (Some name)) (IsFirstLog ghosts.cmp last (Some name)) (change name removed) old now new (next-walked last name) w.states first is;
+  states = between-after (AreWalked last) (AreWalked (Some name)) (IsFirstLog ghosts.cmp last (Some name)) (change name removed) old now new (next-walked last name) w.states first is;
 }
 
 pub walk-fails : (last : Option FileName) (name : FileName) (old now new : Option History) → Walked last old now → IfTold now (IsFirstLog ghosts.cmp last (Some name))
@@ -212,14 +174,14 @@ all-taken last old now w first = λ name. record {
   ];
 }
 
-pub walk-ends : (last : Option FileName) (old now : Option History) → Walked last old now → IfTold now (IsFirstLog ghosts.cmp last None) → BothTold AreRemoved old now
-walk-ends last old now w first = both_told-new (AreWalked last) AreRemoved (IsFirstLog ghosts.cmp last None) old now (all-taken last) w.states first
+pub walk-ends : (last : Option FileName) (old now : Option History) → Walked last old now → IfTold now (IsFirstLog ghosts.cmp last None) → Between AreRemoved old now
+walk-ends last old now w first = between-since (AreWalked last) AreRemoved (IsFirstLog ghosts.cmp last None) old now (all-taken last) w.states first
 
 none-was : (last : Option FileName) → last ≡ None → (old now : DiskState) → AreWalked last old now → IsFirstLog ghosts.cmp last None now → HasAnyLog old → ⊥
 none-was last e old now w first log = none-left last old now w first log.0 log.1 (subst IsThere (sym (w.first e log.0)) log.2)
 
 pub walk-none : (last : Option FileName) (old now : Option History) → last ≡ None → Walked last old now → IfTold now (IsFirstLog ghosts.cmp last None) → IfTold old (λ disk. HasAnyLog disk → ⊥)
-walk-none last old now e w first = both_told-back (AreWalked last) _ _ old now (none-was last e) w.states first
+walk-none last old now e w first = between-back (AreWalked last) _ _ old now (none-was last e) w.states first
 
 -- with the names synced
 
@@ -229,12 +191,12 @@ never-taken old now t never = elim (cases_Bool (old file.Root).is_there) [
   | inr gone ↦ subst NeverHasEntry (sym ((t file.Root).stays (λ log there. true≢false (sym there ∙ gone)))) never
 ]
 
-pub cleared-images : (old now new : Option History) → BothTold AreRemoved old now → (IfTold old (λ disk. NeverHasEntry (disk file.Root)) → EachImage (λ _ image. HasNoEntry (image file.Root)) old now)
+pub cleared-images : (old now new : Option History) → Between AreRemoved old now → (IfTold old (λ disk. NeverHasEntry (disk file.Root)) → EachImage (λ _ image. HasNoEntry (image file.Root)) old now)
     → new ≡ after (change_all named) now → IfTold old (λ disk. NeverHasEntry (disk file.Root)) → EachImage (λ _ image. HasNoEntry (image file.Root)) old new
 cleared-images old now new taken each is never =
     each_image-goes_on _ (change_all named) old now new (each never) is
     (if_told-map _ _ now (λ disk n m image i. image-of-root (change_all named disk) (never-named (disk file.Root) n) image i)
-    (both_told-on AreRemoved _ _ old now never-taken taken never))
+    (between-on AreRemoved _ _ old now never-taken taken never))
 
 pub cleared-fails : (old now new : Option History) → (IfTold old (λ disk. NeverHasEntry (disk file.Root)) → EachImage (λ _ image. HasNoEntry (image file.Root)) old now)
     → AfterFailed (λ disk. disk) now new → IfTold old (λ disk. NeverHasEntry (disk file.Root)) → EachImage (λ _ image. HasNoEntry (image file.Root)) old new
@@ -246,8 +208,8 @@ nothing-cleared old now t none = λ name. record {
   stays = λ other. inl ((t name).stays other);
 }
 
-pub cleared-none : (old now : Option History) → BothTold AreRemoved old now → IfTold old (λ disk. HasAnyLog disk → ⊥) → BothTold AreCleared old now
-cleared-none old now taken none = both_told-if AreRemoved AreCleared _ old now nothing-cleared taken none
+pub cleared-none : (old now : Option History) → Between AreRemoved old now → IfTold old (λ disk. HasAnyLog disk → ⊥) → Between AreCleared old now
+cleared-none old now taken none = between-if AreRemoved AreCleared _ old now nothing-cleared taken none
 
 -- the root log never has an entry, once logs are cleared
 pub never-cleared : (old new : DiskState) → AreCleared old new → NeverHasEntry (old file.Root) → NeverHasEntry (new file.Root)
@@ -270,6 +232,6 @@ named-cleared old now t = λ name. record {
   stays = λ other. inr (ap named ((t name).stays other));
 }
 
-pub cleared-synced : (old now new : Option History) → BothTold AreRemoved old now → new ≡ after (change_all named) now → BothTold AreCleared old new
+pub cleared-synced : (old now new : Option History) → Between AreRemoved old now → new ≡ after (change_all named) now → Between AreCleared old new
 cleared-synced old now new taken is =
-    both_told-after AreRemoved AreCleared (λ _. Unit {0}) (change_all named) old now new (λ a b t u. named-cleared a b t) taken (if_told-all _ now (λ disk. tt)) is
+    between-after AreRemoved AreCleared (λ _. Unit {0}) (change_all named) old now new (λ a b t u. named-cleared a b t) taken (if_told-all _ now (λ disk. tt)) is

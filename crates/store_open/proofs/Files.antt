@@ -1,16 +1,16 @@
 -- The making of a store's files, step after step.
 use Rattle.std.proofs.Common.{◌≡◌, ◌⊎◌, inl, inr, false, Option, sym, ◌∙◌, subst}
 use Rattle.std.proofs.lemmas.Bool.{cases_Bool, cond-false, false≢true, true≢false}
-use Rattle.disk_model.specs.Disk.{FileState, DiskState, History, IsThere, IfTold, EachImage, named, no_file}
+use Rattle.disk_model.specs.Disk.{FileState, DiskState, History, IsThere, IfTold, EachImage, named, no_file, IsIdle, Between}
 use Rattle.disk_model.specs.declared.name.FileName.{FileName}
 use Rattle.disk_model.specs.declared.name.FileName.TheVariants as file
-use Rattle.disk_model.proofs.Moments.{if_told-map, each_image-map, each_image-then}
+use Rattle.disk_model.proofs.MomentLemmas.{if_told-map, each_image-map, each_image-then}
 use Rattle.model_store.specs.Opening.{HasNoEntry}
-use Rattle.gate_log.specs.Log.{Idle}
-use Rattle.gate_log.proofs.Idling.{idle-told}
-use Rattle.store_open.specs.Making.{BothTold, IsLogName, IsFreeForStore, IsEmptyDisk, NeverHasEntry, AreCleared, HasNothingOrInbox}
-use Rattle.store_open.proofs.Idle.{idle-images}
-use Rattle.store_open.proofs.Clearing.{both_told-on, never-cleared}
+use Rattle.disk_model.proofs.IdleLemmas.{idle-on, idle-images}
+use Rattle.disk_model.specs.Name.{IsLogName}
+use Rattle.store_open.specs.Making.{IsFreeForStore, IsEmptyDisk, NeverHasEntry, AreCleared, HasNothingOrInbox}
+use Rattle.disk_model.proofs.BetweenLemmas.{between-on}
+use Rattle.store_open.proofs.Clearing.{never-cleared}
 
 log_or_not : (name : FileName) → IsLogName name ⊎ (IsLogName name → ⊥)
 log_or_not file.Root = inl tt
@@ -39,24 +39,24 @@ bare old new c free = λ name there. elim (log_or_not name) [
 ]
 
 -- no file is left, once the logs are cleared
-pub all-bare : (old now new : Option History) → IfTold old IsFreeForStore → Idle old now → BothTold AreCleared now new → IfTold new IsEmptyDisk
-all-bare old now new free idle cleared = both_told-on AreCleared IsFreeForStore IsEmptyDisk now new bare cleared (idle-told IsFreeForStore old now idle free)
+pub all-bare : (old now new : Option History) → IfTold old IsFreeForStore → IsIdle old now → Between AreCleared now new → IfTold new IsEmptyDisk
+all-bare old now new free idle cleared = between-on AreCleared IsFreeForStore IsEmptyDisk now new bare cleared (idle-on IsFreeForStore old now idle free)
 
 -- what images have while the disk is checked
-pub checked-images : (old new : Option History) → Idle old new → IfTold old (λ disk. NeverHasEntry (disk file.Root)) → EachImage (λ _ image. HasNothingOrInbox image) old new
+pub checked-images : (old new : Option History) → IsIdle old new → IfTold old (λ disk. NeverHasEntry (disk file.Root)) → EachImage (λ _ image. HasNothingOrInbox image) old new
 checked-images old new idle never = idle-images HasNothingOrInbox old new idle (if_told-map _ _ old (λ disk n image is. inl (n (image file.Root) (is file.Root))) never)
 
 -- and while logs are cleared
-pub cleared-images : (old now new : Option History) → Idle old now → (IfTold now (λ disk. NeverHasEntry (disk file.Root)) → EachImage (λ _ image. HasNoEntry (image file.Root)) now new)
+pub cleared-images : (old now new : Option History) → IsIdle old now → (IfTold now (λ disk. NeverHasEntry (disk file.Root)) → EachImage (λ _ image. HasNoEntry (image file.Root)) now new)
     → IfTold old (λ disk. NeverHasEntry (disk file.Root)) → EachImage (λ _ image. HasNothingOrInbox image) old new
 cleared-images old now new idle each never =
     each_image-then _ old now new (checked-images old now idle never)
-    (each_image-map _ _ now new (λ m image none. inl none) (each (idle-told _ old now idle never)))
+    (each_image-map _ _ now new (λ m image none. inl none) (each (idle-on _ old now idle never)))
 
 -- and while logs are made
-pub made-images : (old now mid new : Option History) → Idle old now → BothTold AreCleared now mid → (IfTold now (λ disk. NeverHasEntry (disk file.Root)) → EachImage (λ _ image. HasNoEntry (image file.Root)) now mid)
+pub made-images : (old now mid new : Option History) → IsIdle old now → Between AreCleared now mid → (IfTold now (λ disk. NeverHasEntry (disk file.Root)) → EachImage (λ _ image. HasNoEntry (image file.Root)) now mid)
     → (IfTold mid (λ disk. NeverHasEntry (disk file.Root)) → EachImage (λ _ image. HasNothingOrInbox image) mid new)
     → IfTold old (λ disk. NeverHasEntry (disk file.Root)) → EachImage (λ _ image. HasNothingOrInbox image) old new
 made-images old now mid new idle cleared each made never =
     each_image-then _ old mid new (cleared-images old now mid idle each never)
-    (made (both_told-on AreCleared _ _ now mid never-cleared cleared (idle-told _ old now idle never)))
+    (made (between-on AreCleared _ _ now mid never-cleared cleared (idle-on _ old now idle never)))

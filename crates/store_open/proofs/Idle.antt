@@ -1,8 +1,7 @@
 -- Calls that change nothing, one after another.
 use Rattle.std.proofs.Common.{◌≡◌, ℕ, List, Option, Some, None, ◌∙◌, subst}
-use Rattle.disk_model.specs.Disk.{Files, DiskState, History, IsImage, IfTold, EachImage}
-use Rattle.disk_model.proofs.Moments.{each_image-map, each_image-then}
-use Rattle.gate_log.specs.Log.{SameState, Idle}
+use Rattle.disk_model.specs.Disk.{Files, DiskState, History, IsImage, IfTold, EachImage, SameState, IsIdle}
+use Rattle.disk_model.proofs.MomentLemmas.{each_image-map, each_image-then}
 use Rattle.mdbox_base.specs.declared.entries.BoxEntry.{BoxEntry}
 use Rattle.mdbox_base.specs.declared.entries.MapEntry.{MapEntry}
 use Rattle.model_store.specs.Settled.{files_of}
@@ -22,14 +21,8 @@ image-back None now image same is = tt
 image-back (Some old) None image same is = elim same [ ]
 image-back (Some old) (Some now) image same is = subst (λ (d : DiskState). IsImage d image) same is
 
-pub idle-then : (old now new : Option History) → Idle old now → Idle now new → Idle old new
-idle-then old now new a b = record {
-  same = same-then old now new a.same b.same;
-  each = each_image-then _ old now new a.each (each_image-map _ _ now new (λ m image is. image-back old now image a.same is) b.each);
-}
-
 -- nothing has changed, or the disk has this
-pub stays : (P : DiskState → Type 0) (old new : Option History) → Idle old new → IdleUnless P old new
+pub stays : (P : DiskState → Type 0) (old new : Option History) → IsIdle old new → IdleUnless P old new
 stays P None new idle = tt
 stays P (Some h) new idle = λ lacks. idle
 
@@ -40,8 +33,3 @@ has_it P (Some h) new p = λ lacks. absurd (lacks p)
 pub opening : (old : Option History) (store : List ℕ) (entries : List MapEntry) (logs : List (List BoxEntry)) → IfTold old (λ now. Opens (files_of now) store entries logs) → IfTold old Opening
 opening None store entries logs o = tt
 opening (Some h) store entries logs o = (store, entries, logs, o)
-
--- what holds of each image at the beginning holds of each since
-pub idle-images : (P : Files → Type 0) (old new : Option History) → Idle old new → IfTold old (λ disk. (image : Files) → IsImage disk image → P image) → EachImage (λ _ image. P image) old new
-idle-images P None new idle holds = idle.each
-idle-images P (Some old) new idle holds = each_image-map _ _ (Some old) new (λ m image is. holds image is) idle.each

@@ -2,8 +2,8 @@
 use Rattle.std.proofs.Common.{◌≡◌, inl, inr, ℕ, List, [], Option, Some, None, sym, ◌∙◌, ap, subst}
 use Rattle.disk_model.specs.Disk.{Files, FileState, History, MayLeave, IfTold, EachImage, OthersStay}
 use Rattle.disk_model.specs.declared.name.FileName.{FileName}
-use Rattle.disk_model.proofs.Moments.{if_told-all, if_told-map, each_image-map, each_image-then}
-use Rattle.disk_model.proofs.OneFile.{named-narrows}
+use Rattle.disk_model.proofs.MomentLemmas.{if_told-all, if_told-map, each_image-map, each_image-then}
+use Rattle.disk_model.proofs.OneFileLemmas.{named-narrows}
 use Rattle.model_logs.specs.declared.log_head.LogHead.{LogHead}
 use Rattle.gate_log.specs.State.{LogState}
 use Rattle.gate_log.specs.Log.{Holds, IsAtMostAsLong, IsLogWithOrWithout, NamedButFor}

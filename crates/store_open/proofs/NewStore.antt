@@ -5,9 +5,9 @@ use Rattle.std.proofs.lemmas.List.Elements.{All-nil, All-cons}
 use Rattle.disk_model.specs.Disk.{Files, FileState, DiskState, History, MayLeave, IsImage, IsThere, Keeps, IfTold, EachImage, OthersStay, reading, named, no_file}
 use Rattle.disk_model.specs.declared.name.FileName.{FileName}
 use Rattle.disk_model.specs.declared.name.FileName.TheVariants as file
-use Rattle.disk_model.proofs.Moments.{if_told-all, if_told-map, if_told-both, each_image-map}
-use Rattle.disk_model.proofs.OneFile.{named-narrows}
-use Rattle.disk_model.proofs.Firm.{IsFirm, firm_from_keeps, keeps_from_firm}
+use Rattle.disk_model.proofs.MomentLemmas.{if_told-all, if_told-map, if_told-both, each_image-map}
+use Rattle.disk_model.proofs.OneFileLemmas.{named-narrows}
+use Rattle.disk_model.proofs.FirmLemmas.{IsFirm, firm_from_keeps, keeps_from_firm}
 use Rattle.model_logs.specs.declared.log_head.LogHead.{LogHead}
 use Rattle.model_logs.specs.LogFile.{HeadFits, EntryFits, head_octets, IsLog, IsLogFile}
 use Rattle.model_logs.proofs.LogFileLemmas.{head_length}

@@ -2,7 +2,7 @@
 use Rattle.std.proofs.Common.{◌≡◌, ◌↔◌, Bool, IsTrue, ℕ, List, take, Option, Some, sym, subst}
 use Rattle.disk_model.specs.Disk.{History, IfTold, reading}
 use Rattle.disk_model.specs.declared.name.FileName.TheVariants as file
-use Rattle.disk_model.proofs.Moments.{if_told-map}
+use Rattle.disk_model.proofs.MomentLemmas.{if_told-map}
 use Rattle.model_store.specs.Opening.{HasNoEntry}
 use Rattle.store_checks.proofs.RootHead.{none_in_front, none_in_all}
 

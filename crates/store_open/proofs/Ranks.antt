@@ -9,7 +9,7 @@ use Rattle.disk_model.specs.declared.name.FileName.{FileName}
 use Rattle.disk_model.specs.declared.name.FileName.TheVariants as file
 use Rattle.disk_model.specs.contracts.name.FileNameOrd.TheImpl.{ghosts}
 use Rattle.disk_model.specs.contracts.name.FileNameOrd.TheImpl.Laws.{total-law}
-use Rattle.store_open.specs.Making.{IsLogInRange, IsLogName}
+use Rattle.disk_model.specs.Name.{IsLogInRange, IsLogName}
 
 pub rank_of : FileName → ℕ
 rank_of file.Root = 1

@@ -3,9 +3,9 @@ use Rattle.std.proofs.Common.{◌≡◌, ◌≤◌, ◌-◌, ℕ, false, List, [
 use Rattle.std.specs.List.{AllZip}
 use Rattle.std.proofs.lemmas.List.{length-map}
 use Rattle.std.proofs.lemmas.List.Elements.{All-weaker}
-use Rattle.disk_model.specs.Disk.{History, IfTold}
+use Rattle.disk_model.specs.Disk.{History, IfTold, IsIdle}
 use Rattle.disk_model.specs.declared.name.FileName.TheVariants as file
-use Rattle.disk_model.proofs.Moments.{if_told-map}
+use Rattle.disk_model.proofs.MomentLemmas.{if_told-map}
 use Rattle.mdbox_base.specs.declared.entries.BoxEntry.{BoxEntry}
 use Rattle.mdbox_base.specs.declared.entries.MapEntry.{MapEntry}
 use Rattle.mdbox_base.specs.declared.entries.RootEntry.{RootEntry}
@@ -15,7 +15,6 @@ use Rattle.model_store.specs.GoodLogs.{AreGoodLogs}
 use Rattle.model_meaning.specs.MapMeaning.{MapRecord, MapBox, MapMeaning, map_meaning}
 use Rattle.model_store.specs.Opening.{listed_of, IsCounted}
 use Rattle.gate_log.specs.State.{LogState, InspectedLog}
-use Rattle.gate_log.specs.Log.{Idle}
 use Rattle.store_checks.specs.Boxes.{IsFoundAs, AreFound}
 use Rattle.store_checks.specs.Roots.{map_log_head}
 use Rattle.store_checks.specs.Store.{IsChecked}
@@ -128,7 +127,7 @@ pub indexes_are : (c : Checked) (before : List RootEntry) (entries : List MapEnt
     → AreParted c.map.boxes c.boxes parts → AreJoined gates parts.rest.items opened → indexes_of opened ≡ map box_meaning logs
 indexes_are c before entries logs parts gates opened old now k p j = j.indexes ∙ p.indexes ∙ k.boxes_are
 
-pub opened_store : (c : Checked) (before : List RootEntry) (entries : List MapEntry) (logs : List (List BoxEntry)) (parts : Parts) (map_log : LogState) (gates : List LogState) (opened : List OpenBox) (lanes : ℕ) (old now new : Option History) → Idle old now
+pub opened_store : (c : Checked) (before : List RootEntry) (entries : List MapEntry) (logs : List (List BoxEntry)) (parts : Parts) (map_log : LogState) (gates : List LogState) (opened : List OpenBox) (lanes : ℕ) (old now new : Option History) → IsIdle old now
     → IsChecked c before entries logs old now → AreParted c.map.boxes c.boxes parts → FilesCarry c.generation c.map now new → IsOpened now new c.map_log map_log → AllZip (IsOpened now new) parts.logs.items gates → AreJoined gates parts.rest.items opened
     → 1 ≤ lanes → lanes ≤ 64 → IsStore new c.map map_log opened lanes false
 opened_store c before entries logs parts map_log gates opened lanes old now new idle k p carry map_opened zip j some few =

@@ -1,7 +1,7 @@
 -- What an opening leaves of a disk, and what it shows.
 use Rattle.std.proofs.Common.{◌≡◌, ℕ, List, [], map, Option, Some, None, sym, subst}
-use Rattle.disk_model.specs.Disk.{DiskState, History, IfTold, IsTold, EachImage}
-use Rattle.disk_model.proofs.Moments.{each_image-then}
+use Rattle.disk_model.specs.Disk.{DiskState, History, IfTold, IsTold, EachImage, SameState, IsIdle}
+use Rattle.disk_model.proofs.MomentLemmas.{each_image-then}
 use Rattle.mdbox_base.specs.declared.entries.BoxEntry.{BoxEntry}
 use Rattle.mdbox_base.specs.declared.entries.MapEntry.{MapEntry}
 use Rattle.model_meaning.specs.BoxMeaning.{BoxMeaning, box_meaning}
@@ -12,14 +12,11 @@ use Rattle.model_store.specs.Opening.{Opens}
 use Rattle.model_store.proofs.OpeningLemmas.{one_store}
 use Rattle.model_store.proofs.OpeningSafeLemmas.{safe_opens}
 use Rattle.model_store.specs.Safe.{Safe}
-use Rattle.model_store.specs.Settled.{files_of, IsSettled}
+use Rattle.model_store.specs.Settled.{files_of, IsSettled, IsSettledFor}
 use Rattle.model_store.proofs.SettledLemmas.{settled_safe}
-use Rattle.gate_log.specs.Log.{SameState, Idle}
-use Rattle.gate_log.proofs.Idling.{idle-told}
-use Rattle.store_core.specs.Running.{IsSettledFor}
+use Rattle.disk_model.proofs.IdleLemmas.{idle-on, idle-images}
 use Rattle.store_sweep.specs.Moments.{SyncedWhereCut, NamesSynced}
 use Rattle.store_sweep.specs.Swept.{FilesCarry}
-use Rattle.store_open.proofs.Idle.{idle-images}
 
 -- ---- at every moment
 
@@ -28,13 +25,13 @@ settled_told lists None s = absurd s
 settled_told lists (Some old) s = s
 
 -- calls that change nothing
-pub idle_safe : (lists : Lists) (old new : Option History) → Idle old new → IsSettledFor lists old → EachImage (λ _ image. Safe image lists) old new
+pub idle_safe : (lists : Lists) (old new : Option History) → IsIdle old new → IsSettledFor lists old → EachImage (λ _ image. Safe image lists) old new
 idle_safe lists None new idle s = absurd s
 idle_safe lists (Some old) new idle s = idle-images (λ image. Safe image lists) (Some old) new idle (λ image is. settled_safe old.now lists image s is)
 
 -- and then a sweep
-pub swept_safe : (lists : Lists) (old now new : Option History) → Idle old now → IsSettledFor lists old → (IfTold now (λ disk. IsSettled disk lists) → EachImage (λ _ image. Safe image lists) now new) → EachImage (λ _ image. Safe image lists) old new
-swept_safe lists old now new idle s each = each_image-then _ old now new (idle_safe lists old now idle s) (each (idle-told (λ (disk : DiskState). IsSettled disk lists) old now idle (settled_told lists old s)))
+pub swept_safe : (lists : Lists) (old now new : Option History) → IsIdle old now → IsSettledFor lists old → (IfTold now (λ disk. IsSettled disk lists) → EachImage (λ _ image. Safe image lists) now new) → EachImage (λ _ image. Safe image lists) old new
+swept_safe lists old now new idle s each = each_image-then _ old now new (idle_safe lists old now idle s) (each (idle-on (λ (disk : DiskState). IsSettled disk lists) old now idle (settled_told lists old s)))
 
 -- ---- afterwards
 
@@ -52,10 +49,10 @@ carry_tells generation m None new carry told = elim told [ ]
 carry_tells generation m (Some now) None carry told = absurd carry
 carry_tells generation m (Some now) (Some new) carry told = tt
 
-pub settled_swept : (generation : ℕ) (m : MapMeaning) (lists : Lists) (old now new : Option History) → Idle old now → FilesCarry generation m now new
+pub settled_swept : (generation : ℕ) (m : MapMeaning) (lists : Lists) (old now new : Option History) → IsIdle old now → FilesCarry generation m now new
     → (IfTold now (λ disk. IsSettled disk lists) → IfTold new (λ disk. IsSettled disk lists)) → IsSettledFor lists old → IsSettledFor lists new
 settled_swept generation m lists old now new idle carry settled s =
-    settled_for lists new (carry_tells generation m now new carry (idle_tells lists old now idle.same s)) (settled (idle-told (λ (disk : DiskState). IsSettled disk lists) old now idle (settled_told lists old s)))
+    settled_for lists new (carry_tells generation m now new carry (idle_tells lists old now idle.same s)) (settled (idle-on (λ (disk : DiskState). IsSettled disk lists) old now idle (settled_told lists old s)))
 
 pub reads_since : (generation : ℕ) (m : MapMeaning) (old now new : Option History) → SameState old now → FilesCarry generation m now new → FilesCarry generation m old new
 reads_since generation m None None new same carry = carry

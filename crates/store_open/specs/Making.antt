@@ -1,8 +1,9 @@
 -- What is known of a disk on which a store is made.
+use Rattle.disk_model.specs.Name.{IsLogName}
 use Rattle.std.specs.Prelude.{◌≡◌, ◌≢◌, ◌<◌, ◌^◌, ◌⊎◌, ℕ, List, [], ◌∷◌, Option, Some, None}
 use Rattle.std.specs.declared.cmp.Ordering.{Ordering}
 use Rattle.std.specs.declared.cmp.Ordering.TheVariants.{Less}
-use Rattle.disk_model.specs.Disk.{Files, FileState, DiskState, History, IsThere, IfTold, IsPast, Keeps, MayLeave, no_file, named, removed, reading}
+use Rattle.disk_model.specs.Disk.{Files, FileState, DiskState, History, IsThere, IfTold, IsPast, Keeps, MayLeave, no_file, named, removed, reading, IsIdle}
 use Rattle.disk_model.specs.declared.name.FileName.{FileName}
 use Rattle.disk_model.specs.declared.name.FileName.TheVariants as file
 use Rattle.model_logs.specs.declared.log_head.LogHead.{LogHead}
@@ -12,25 +13,11 @@ use Rattle.model_logs.specs.Entries.{root_text, map_text}
 use Rattle.model_store.specs.Stands.{head_of}
 use Rattle.model_store.specs.Safe.{Safe}
 use Rattle.model_store.specs.Opening.{HasNoEntry, first_root, first_box, empty_inbox}
-use Rattle.gate_log.specs.Log.{Idle, IsAtMostAsLong, log_text}
-
--- a relation of the present states, where the disk tells them
-abbrev pub BothTold : (DiskState → DiskState → Type 0) → Option History → Option History → Type 0
-BothTold R None new = new ≡ None
-BothTold R (Some old) None = ⊥
-BothTold R (Some old) (Some new) = R old.now new.now
+use Rattle.gate_log.specs.Log.{IsAtMostAsLong, log_text}
 
 -- Where the disk has not this at the beginning, nothing has changed.
 abbrev pub IdleUnless : (DiskState → Type 0) → Option History → Option History → Type 0
-IdleUnless P old new = IfTold old (λ now. (P now → ⊥) → Idle old new)
-
--- a log of the store, and no storage file and no instance
-abbrev pub IsLogName : FileName → Type 0
-IsLogName file.Root = Unit {0}
-IsLogName (file.Map generation) = Unit {0}
-IsLogName (file.Box number generation) = Unit {0}
-IsLogName (file.Mail number) = ⊥
-IsLogName (file.Inst hash id) = ⊥
+IdleUnless P old new = IfTold old (λ now. (P now → ⊥) → IsIdle old new)
 
 -- a storage file or an instance is there
 abbrev pub HasMailFile : DiskState → Type 0
@@ -39,14 +26,6 @@ HasMailFile disk = (name : FileName) × (IsLogName name → ⊥) × IsThere (dis
 -- a log is there
 abbrev pub HasAnyLog : DiskState → Type 0
 HasAnyLog disk = (name : FileName) × IsLogName name × IsThere (disk name)
-
--- the name of a log as the code's type can hold it
-abbrev pub IsLogInRange : FileName → Type 0
-IsLogInRange file.Root = Unit {0}
-IsLogInRange (file.Map generation) = generation < 2 ^ 32
-IsLogInRange (file.Box number generation) = (number < 2 ^ 32) × (generation < 2 ^ 32)
-IsLogInRange (file.Mail number) = ⊥
-IsLogInRange (file.Inst hash id) = ⊥
 
 -- the least log that is there, of those past this name
 abbrev pub IsFirstLog : (FileName → FileName → Ordering) → Option FileName → Option FileName → DiskState → Type 0

@@ -1,9 +1,9 @@
 // Whether a store may be made.
 ghost use Rattle.std.specs.Prelude.{◌≡◌, ◌↔◌, IsTrue, IfOk, IfErr, IsErr, IsErrOf, OnOk};
-ghost use Rattle.disk_model.specs.Disk.{IfTold, reading};
+ghost use Rattle.disk_model.specs.Disk.{IfTold, reading, IsIdle};
 ghost use Rattle.disk_model.specs.declared.name.FileName.TheVariants as file;
 ghost use Rattle.model_store.specs.Opening.{HasNoEntry};
-ghost use Rattle.gate_log.specs.Log.{Idle, OneRoseIf};
+ghost use Rattle.disk_model.specs.FaultCounts.{AnyFaultCounted};
 ghost use Rattle.store_open.specs.Making.{HasMailFile, IsFreeForStore};
 ghost use Rattle.store_open.specs.Refused.{IsMakingError, IsFaultOrMemory};
 
@@ -20,8 +20,8 @@ const LAST_LOG: FileName = FileName::Box(u32::MAX, u32::MAX);
 pub fn check_free<D: Disk>(alloc: Global, disk: &mut D) -> Result<(), OpenError>
     ensures free { OnOk result (IfTold (D.history disk.old) IsFreeForStore) }
     ensures refused { IfErr result (IsMakingError (D.history disk.old)) }
-    ensures idle { Idle (D.history disk.old) (D.history disk.new) }
-    ensures fault { OneRoseIf (IsErrOf result OpenError.DiskFault) (D.faults disk.old) (D.faults disk.new) }
+    ensures idle { IsIdle (D.history disk.old) (D.history disk.new) }
+    ensures fault { AnyFaultCounted (IsErrOf result OpenError.DiskFault) (D.faults disk.old) (D.faults disk.new) }
 {
     if !lacks_entry(alloc, disk)? {
         return Err(OpenError::StoreWhole);
@@ -36,8 +36,8 @@ pub fn check_free<D: Disk>(alloc: Global, disk: &mut D) -> Result<(), OpenError>
 pub fn lacks_entry<D: Disk>(alloc: Global, disk: &mut D) -> Result<bool, OpenError>
     ensures told { IfOk result (λ lacks. IfTold (D.history disk.old) (λ now. IsTrue lacks ↔ HasNoEntry (reading (now file.Root)))) }
     ensures refused { IfErr result IsFaultOrMemory }
-    ensures idle { Idle (D.history disk.old) (D.history disk.new) }
-    ensures fault { OneRoseIf (IsErrOf result OpenError.DiskFault) (D.faults disk.old) (D.faults disk.new) }
+    ensures idle { IsIdle (D.history disk.old) (D.history disk.new) }
+    ensures fault { AnyFaultCounted (IsErrOf result OpenError.DiskFault) (D.faults disk.old) (D.faults disk.new) }
 {
     let mut front = [0; ROOT_FRONT];
     match disk.read_at(FileName::Root, 0, &mut front) {
@@ -50,8 +50,8 @@ pub fn lacks_entry<D: Disk>(alloc: Global, disk: &mut D) -> Result<bool, OpenErr
 /// Whether a storage file or an instance is there.
 fn has_mail_file<D: Disk>(disk: &mut D) -> Result<bool, DiskFault>
     ensures told { IfOk result (λ some. IfTold (D.history disk.old) (λ now. IsTrue some ↔ HasMailFile now)) }
-    ensures idle { Idle (D.history disk.old) (D.history disk.new) }
-    ensures fault { OneRoseIf (IsErr result) (D.faults disk.old) (D.faults disk.new) }
+    ensures idle { IsIdle (D.history disk.old) (D.history disk.new) }
+    ensures fault { AnyFaultCounted (IsErr result) (D.faults disk.old) (D.faults disk.new) }
 {
     let next = disk.next_name(Some(LAST_LOG))?;
     Ok(next.is_some())

@@ -1,11 +1,12 @@
 // Taking away the logs that a stopped making left.
 ghost use Rattle.std.specs.Prelude.{◌≡◌, ◌↔◌, Some, true, false, IsTrue, IfOk, IfSome, IfNone, IsErr, OnOk};
-ghost use Rattle.disk_model.specs.Disk.{IfTold, IsThere, IsPast, EachImage};
+ghost use Rattle.disk_model.specs.Disk.{IfTold, IsThere, IsPast, EachImage, IsIdle, Between};
 ghost use Rattle.disk_model.specs.declared.name.FileName.{FileName};
 ghost use Rattle.disk_model.specs.declared.name.FileName.TheVariants as file;
 ghost use Rattle.model_store.specs.Opening.{HasNoEntry};
-ghost use Rattle.gate_log.specs.Log.{Idle, OneRoseIf};
-ghost use Rattle.store_open.specs.Making.{BothTold, IsLogName, IsLogInRange, IsFirstLog, NeverHasEntry, AreRemoved, AreCleared, HasAnyLog};
+ghost use Rattle.disk_model.specs.FaultCounts.{AnyFaultCounted};
+ghost use Rattle.disk_model.specs.Name.{IsLogName, IsLogInRange};
+ghost use Rattle.store_open.specs.Making.{IsFirstLog, NeverHasEntry, AreRemoved, AreCleared, HasAnyLog};
 
 use disk_model::{Disk, FileName};
 use gate_log::DiskFault;
@@ -13,8 +14,8 @@ use gate_log::DiskFault;
 /// Takes away the root, map and mailbox logs, and syncs names where there were any.
 pub fn remove_old_logs<D: Disk>(disk: &mut D) -> Result<(), DiskFault>
     ensures any_moment { IfTold (D.history disk.old) (λ now. NeverHasEntry (now file.Root)) → EachImage (λ _ image. HasNoEntry (image file.Root)) (D.history disk.old) (D.history disk.new) }
-    ensures cleared { OnOk result (BothTold AreCleared (D.history disk.old) (D.history disk.new)) }
-    ensures fault { OneRoseIf (IsErr result) (D.faults disk.old) (D.faults disk.new) }
+    ensures cleared { OnOk result (Between AreCleared (D.history disk.old) (D.history disk.new)) }
+    ensures fault { AnyFaultCounted (IsErr result) (D.faults disk.old) (D.faults disk.new) }
 {
     if remove_logs(disk)? {
         disk.sync_names()?;
@@ -25,9 +26,9 @@ pub fn remove_old_logs<D: Disk>(disk: &mut D) -> Result<(), DiskFault>
 /// Removes the root, map and mailbox logs. Whether there were any.
 fn remove_logs<D: Disk>(disk: &mut D) -> Result<bool, DiskFault>
     ensures any_moment { IfTold (D.history disk.old) (λ now. NeverHasEntry (now file.Root)) → EachImage (λ _ image. HasNoEntry (image file.Root)) (D.history disk.old) (D.history disk.new) }
-    ensures taken { OnOk result (BothTold AreRemoved (D.history disk.old) (D.history disk.new)) }
+    ensures taken { OnOk result (Between AreRemoved (D.history disk.old) (D.history disk.new)) }
     ensures any { IfOk result (λ any. any ≡ false → IfTold (D.history disk.old) (λ now. HasAnyLog now → ⊥)) }
-    ensures fault { OneRoseIf (IsErr result) (D.faults disk.old) (D.faults disk.new) }
+    ensures fault { AnyFaultCounted (IsErr result) (D.faults disk.old) (D.faults disk.new) }
 {
     let mut after = None;
     while let Some(name) = next_log(disk, after)? {
@@ -42,8 +43,8 @@ fn next_log<D: Disk>(disk: &mut D, after: Option<FileName>) -> Result<Option<Fil
     ensures past { IfOk result (λ next. IfSome next (IsPast ⟦<FileName as Ord>⟧.cmp after)) }
     ensures named { IfOk result (λ next. IfSome next IsLogInRange) }
     ensures first { IfOk result (λ next. IfTold (D.history disk.old) (IsFirstLog ⟦<FileName as Ord>⟧.cmp after next)) }
-    ensures idle { Idle (D.history disk.old) (D.history disk.new) }
-    ensures fault { OneRoseIf (IsErr result) (D.faults disk.old) (D.faults disk.new) }
+    ensures idle { IsIdle (D.history disk.old) (D.history disk.new) }
+    ensures fault { AnyFaultCounted (IsErr result) (D.faults disk.old) (D.faults disk.new) }
 {
     match disk.next_name(after)? {
         Some(name) if is_log(name) => Ok(Some(name)),

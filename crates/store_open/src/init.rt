@@ -1,11 +1,12 @@
 // Making a new store's files.
 ghost use Rattle.std.specs.Prelude.{◌≡◌, ◌∷◌, [], IfOk, IfErr, IsErrOf, OnOk};
-ghost use Rattle.disk_model.specs.Disk.{IfTold, EachImage};
+ghost use Rattle.disk_model.specs.Disk.{IfTold, EachImage, IsIdle};
 ghost use Rattle.disk_model.specs.declared.name.FileName.TheVariants as file;
 ghost use Rattle.model_logs.specs.Entries.{map_text};
 ghost use Rattle.model_store.specs.Settled.{IsSettled};
 ghost use Rattle.model_store.specs.Opening.{first_box, empty_inbox};
-ghost use Rattle.gate_log.specs.Log.{Holds, Idle, OneRoseIf};
+ghost use Rattle.disk_model.specs.FaultCounts.{AnyFaultCounted};
+ghost use Rattle.gate_log.specs.Log.{Holds};
 ghost use Rattle.store_open.specs.Making.{IdleUnless, IsFreeForStore, IsMadeStore, NeverHasEntry, HasNothingOrInbox, new_map_head, inbox_head};
 ghost use Rattle.store_open.specs.Refused.{IsMakingError, IsOfFiles};
 
@@ -26,7 +27,7 @@ use std::alloc::Global;
 pub fn make_files<D: Disk>(alloc: Global, disk: &mut D, id: StoreId) -> Result<MadeLogs, OpenError>
     ensures refused { IfErr result (IsMakingError (D.history disk.old)) }
     ensures free { OnOk result (IfTold (D.history disk.old) IsFreeForStore) }
-    ensures idle { IfErr result (λ error. IsOfFiles error → Idle (D.history disk.old) (D.history disk.new)) }
+    ensures idle { IfErr result (λ error. IsOfFiles error → IsIdle (D.history disk.old) (D.history disk.new)) }
 
     // Whatever is answered, nothing changes where a store may not be made.
     ensures untouched { IdleUnless IsFreeForStore (D.history disk.old) (D.history disk.new) }
@@ -41,7 +42,7 @@ pub fn make_files<D: Disk>(alloc: Global, disk: &mut D, id: StoreId) -> Result<M
     ensures map_log { IfOk result (λ made. Holds made.map_log (map_text first_box ∷ []) (D.history disk.new) × (made.map_log.name ≡ file.Map 1) × (made.map_log.head ≡ new_map_head id.0)) }
     ensures box_log { IfOk result (λ made. Holds made.box_log [] (D.history disk.new) × (made.box_log ≡ record { name = file.Box 1 1; head = inbox_head id.0; end = 25; room = 0 })) }
 
-    ensures fault { OneRoseIf (IsErrOf result OpenError.DiskFault) (D.faults disk.old) (D.faults disk.new) }
+    ensures fault { AnyFaultCounted (IsErrOf result OpenError.DiskFault) (D.faults disk.old) (D.faults disk.new) }
 {
     check_free(alloc, disk)?;
     let inbox = inbox_entry(alloc)?;

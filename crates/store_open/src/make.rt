@@ -1,6 +1,7 @@
 // The logs of a new store.
 ghost use Rattle.std.specs.Prelude.{◌≡◌, ◌≤◌, ◌+◌, ◌∷◌, [], length, IfOk, IfErr, IsErr, IsErrOf, OnOk};
-ghost use Rattle.disk_model.specs.Disk.{IfTold, EachImage, OthersStay, FaultsRoseIf};
+ghost use Rattle.disk_model.specs.FaultCounts.{ChangeFaultCounted};
+ghost use Rattle.disk_model.specs.Disk.{IfTold, EachImage, OthersStay};
 ghost use Rattle.disk_model.specs.declared.name.FileName.TheVariants as file;
 ghost use Rattle.model_logs.specs.LogFile.{EntryFits};
 ghost use Rattle.model_logs.specs.Entries.{map_text, root_text};
@@ -44,7 +45,7 @@ pub fn make_logs<D: Disk>(
     ensures map_log { IfOk result (λ made. Holds made.map_log (map_text first_box ∷ []) (D.history disk.new) × (made.map_log.name ≡ file.Map 1) × (made.map_log.head ≡ new_map_head id.0)) }
     ensures box_log { IfOk result (λ made. Holds made.box_log [] (D.history disk.new) × (made.box_log ≡ record { name = file.Box 1 1; head = inbox_head id.0; end = 25; room = 0 })) }
     ensures refused { IfErr result IsFaultOrMemory }
-    ensures fault { FaultsRoseIf (IsErrOf result OpenError.DiskFault) (D.faults disk.old) (D.faults disk.new) }
+    ensures fault { ChangeFaultCounted (IsErrOf result OpenError.DiskFault) (D.faults disk.old) (D.faults disk.new) }
 {
     let head = head_of(id, LogKind::Box, 1, 1);
     let box_log = make_empty_log(alloc, disk, FileName::Box(1, 1), head)?;
@@ -77,7 +78,7 @@ fn make_empty_log<D: Disk>(
     ensures made { IfOk result (λ log. Holds log [] (D.history disk.new)) }
     ensures log { IfOk result (λ log. log ≡ record { name = name; head = head; end = 25; room = 0 }) }
     ensures others { OnOk result (NamedButFor name (D.history disk.old) (D.history disk.new)) }
-    ensures fault { FaultsRoseIf (IsErr result) (D.faults disk.old) (D.faults disk.new) }
+    ensures fault { ChangeFaultCounted (IsErr result) (D.faults disk.old) (D.faults disk.new) }
 {
     create_log(alloc, disk, name, head).map_err(|_| DiskFault)
 }
@@ -98,7 +99,7 @@ fn make_log<D: Disk>(
     ensures log { IfOk result (λ log. (log.name ≡ name) × (log.head ≡ head)) }
     ensures others { OnOk result (NamedButFor name (D.history disk.old) (D.history disk.new)) }
     ensures refused { IfErr result IsFaultOrMemory }
-    ensures fault { FaultsRoseIf (IsErrOf result OpenError.DiskFault) (D.faults disk.old) (D.faults disk.new) }
+    ensures fault { ChangeFaultCounted (IsErrOf result OpenError.DiskFault) (D.faults disk.old) (D.faults disk.new) }
 {
     let mut log = make_empty_log(alloc, disk, name, head)?;
     log.reserve(entry.len() + 5)?;

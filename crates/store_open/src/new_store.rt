@@ -1,8 +1,8 @@
 // Making a store and opening it.
 ghost use Rattle.std.specs.Prelude.{◌≡◌, ◌∷◌, [], false, MatchResult, IfOk, IfErr, IsErrOf, OnOk};
-ghost use Rattle.disk_model.specs.Disk.{IfTold, EachImage};
+ghost use Rattle.disk_model.specs.Disk.{IfTold, EachImage, IsIdle};
 ghost use Rattle.disk_model.specs.declared.name.FileName.TheVariants as file;
-ghost use Rattle.gate_log.specs.Log.{Idle, OneRoseIf};
+ghost use Rattle.disk_model.specs.FaultCounts.{AnyFaultCounted};
 ghost use Rattle.model_meaning.specs.BoxMeaning.{box_meaning};
 ghost use Rattle.model_meaning.specs.MapMeaning.{map_meaning};
 ghost use Rattle.model_store.specs.Opening.{first_box, empty_inbox};
@@ -32,7 +32,7 @@ use store_core::{OpenBox, Store};
 pub fn init_store<D: Disk>(alloc: Global, disk: D, id: StoreId) -> Result<Store<D>, OpenRefused<D>>
     ensures refused { IfErr result (λ refused. IsMakingError (D.history disk) refused.error) }
     ensures free { OnOk result (IfTold (D.history disk) IsFreeForStore) }
-    ensures idle { IfErr result (λ refused. IsOfFiles refused.error → Idle (D.history disk) (D.history refused.disk)) }
+    ensures idle { IfErr result (λ refused. IsOfFiles refused.error → IsIdle (D.history disk) (D.history refused.disk)) }
 
     // Whatever is answered, nothing changes where a store may not be made.
     ensures untouched { IdleUnless IsFreeForStore (D.history disk) (D.history (disk_of result)) }
@@ -46,7 +46,7 @@ pub fn init_store<D: Disk>(alloc: Global, disk: D, id: StoreId) -> Result<Store<
     ensures store { IfOk result (λ store. IfTold (D.history store.disk) (IsMadeStore id.0)) }
     ensures made { IfOk result (λ store. (store.map ≡ map_meaning id.0 (first_box ∷ [])) × (indexes_of store.boxes ≡ box_meaning [] ∷ []) × (store.lanes ≡ 1) × (store.stopped ≡ false)) }
 
-    ensures fault { OneRoseIf (MatchResult result (λ _. ⊥) (λ refused. refused.error ≡ OpenError.DiskFault)) (D.faults disk) (D.faults (disk_of result)) }
+    ensures fault { AnyFaultCounted (MatchResult result (λ _. ⊥) (λ refused. refused.error ≡ OpenError.DiskFault)) (D.faults disk) (D.faults (disk_of result)) }
 {
     let mut disk = disk;
     match new_files(alloc, &mut disk, id) {
@@ -72,9 +72,9 @@ fn new_files<D: Disk>(alloc: Global, disk: &mut D, id: StoreId) -> Result<OpenFi
     ensures any_moment { IfTold (D.history disk.old) (λ now. NeverHasEntry (now file.Root)) → EachImage (λ _ image. HasNothingOrInbox image) (D.history disk.old) (D.history disk.new) }
     ensures refused { IfErr result (IsMakingError (D.history disk.old)) }
     ensures free { OnOk result (IfTold (D.history disk.old) IsFreeForStore) }
-    ensures idle { IfErr result (λ error. IsOfFiles error → Idle (D.history disk.old) (D.history disk.new)) }
+    ensures idle { IfErr result (λ error. IsOfFiles error → IsIdle (D.history disk.old) (D.history disk.new)) }
     ensures untouched { IdleUnless IsFreeForStore (D.history disk.old) (D.history disk.new) }
-    ensures fault { OneRoseIf (IsErrOf result OpenError.DiskFault) (D.faults disk.old) (D.faults disk.new) }
+    ensures fault { AnyFaultCounted (IsErrOf result OpenError.DiskFault) (D.faults disk.old) (D.faults disk.new) }
 {
     let map = new_map(alloc, id)?;
     let index = BoxIndex::empty(alloc)?;

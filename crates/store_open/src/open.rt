@@ -1,13 +1,14 @@
 // Opening a store.
 ghost use Rattle.std.specs.Prelude.{◌≡◌, ◌≤◌, false, ℕ, ⊤, MatchResult, IfOk, IfErr, IsErrOf};
-ghost use Rattle.disk_model.specs.Disk.{EachImage};
+ghost use Rattle.disk_model.specs.Disk.{EachImage, IsIdle};
 ghost use Rattle.disk_model.specs.declared.name.FileName.TheVariants as file;
-ghost use Rattle.gate_log.specs.Log.{Idle, OneRoseIf};
+ghost use Rattle.disk_model.specs.FaultCounts.{AnyFaultCounted};
 ghost use Rattle.model_lists.specs.Lists.{Lists};
 ghost use Rattle.model_store.specs.Listing.{ShowLists};
 ghost use Rattle.model_store.specs.Safe.{Safe};
 ghost use Rattle.store_core.specs.Value.{indexes_of};
-ghost use Rattle.store_core.specs.Running.{IsStore, IsSettledFor};
+ghost use Rattle.model_store.specs.Settled.{IsSettledFor};
+ghost use Rattle.store_core.specs.Running.{IsStore};
 ghost use Rattle.store_open.specs.Making.{IdleUnless};
 ghost use Rattle.store_open.specs.Opened.{Opening, IsOpenedAs, IsSwept, IsOpeningError, disk_of};
 
@@ -39,11 +40,11 @@ pub fn open_store<D: Disk>(alloc: Global, disk: D, lanes: u32) -> Result<Store<D
     ensures any_moment { (lists : Lists) → IsSettledFor lists (D.history disk) → EachImage (λ _ image. Safe image lists) (D.history disk) (D.history (disk_of result)) }
 
     ensures refused { IfErr result (λ refused. IsOpeningError (D.history disk) refused.error) }
-    ensures idle { IfErr result (λ refused. (refused.error ≡ OpenError.DiskFault → ⊥) → Idle (D.history disk) (D.history refused.disk)) }
+    ensures idle { IfErr result (λ refused. (refused.error ≡ OpenError.DiskFault → ⊥) → IsIdle (D.history disk) (D.history refused.disk)) }
 
     // Whatever is answered, nothing changes where the files don't open.
     ensures untouched { IdleUnless Opening (D.history disk) (D.history (disk_of result)) }
-    ensures fault { OneRoseIf (MatchResult result (λ _. ⊥) (λ refused. refused.error ≡ OpenError.DiskFault)) (D.faults disk) (D.faults (disk_of result)) }
+    ensures fault { AnyFaultCounted (MatchResult result (λ _. ⊥) (λ refused. refused.error ≡ OpenError.DiskFault)) (D.faults disk) (D.faults (disk_of result)) }
 {
     let mut disk = disk;
     match open_files(alloc, &mut disk) {
@@ -79,9 +80,9 @@ fn open_files<D: Disk>(alloc: Global, disk: &mut D) -> Result<OpenFiles, OpenErr
     ensures swept { IfOk result (λ files. (generation : ℕ) × (files.map_log.name ≡ file.Map generation) × IsSwept generation files.map (D.history disk.old) (D.history disk.new)) }
     ensures any_moment { (lists : Lists) → IsSettledFor lists (D.history disk.old) → EachImage (λ _ image. Safe image lists) (D.history disk.old) (D.history disk.new) }
     ensures refused { IfErr result (IsOpeningError (D.history disk.old)) }
-    ensures idle { IfErr result (λ error. (error ≡ OpenError.DiskFault → ⊥) → Idle (D.history disk.old) (D.history disk.new)) }
+    ensures idle { IfErr result (λ error. (error ≡ OpenError.DiskFault → ⊥) → IsIdle (D.history disk.old) (D.history disk.new)) }
     ensures untouched { IdleUnless Opening (D.history disk.old) (D.history disk.new) }
-    ensures fault { OneRoseIf (IsErrOf result OpenError.DiskFault) (D.faults disk.old) (D.faults disk.new) }
+    ensures fault { AnyFaultCounted (IsErrOf result OpenError.DiskFault) (D.faults disk.old) (D.faults disk.new) }
 {
     let Checked {
         id,

@@ -8,7 +8,7 @@ use Rattle.std.proofs.lemmas.Bool.{true≢false, or_parts, or_from, not-true, no
 use Rattle.disk_model.specs.Disk.{FileState, DiskState, History, IfTold, EachImage, OthersStay, SameButFor, reading, Keeps}
 use Rattle.disk_model.specs.Name.{same_name}
 use Rattle.disk_model.specs.declared.name.FileName.{FileName}
-use Rattle.disk_model.proofs.Names.{same_name-eq, same_name-false}
+use Rattle.disk_model.proofs.NameLemmas.{same_name-eq, same_name-false}
 use Rattle.model_logs.specs.LogFile.{IsLogFile, log_front}
 use Rattle.model_meaning.specs.MapMeaning.{MapBox, MapMeaning}
 use Rattle.model_octets.proofs.PairLemmas.{pairs_head, pairs_tail}

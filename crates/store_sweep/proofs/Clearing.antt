@@ -7,7 +7,8 @@ use Rattle.disk_model.specs.declared.name.FileName.TheVariants as file
 use Rattle.model_meaning.specs.MapMeaning.{MapMeaning}
 use Rattle.model_store.specs.Carrying.{CarriesOver}
 use Rattle.store_sweep.specs.Held.{IsHeldStore, IsReadStore}
-use Rattle.store_sweep.specs.Wanted.{is_wanted, is_log, EndsByLastRegion, end_of}
+use Rattle.disk_model.specs.Name.{is_log}
+use Rattle.store_sweep.specs.Wanted.{is_wanted, EndsByLastRegion, end_of}
 use Rattle.store_sweep.specs.Moments.{ImagesCarry, KeepsStore, SameWhere, NoneMade, LogStays}
 use Rattle.store_sweep.proofs.Holding.{named_holds, named_reads}
 use Rattle.store_sweep.proofs.Sweeping.{images_then, images_named, keeps_then, keeps_where}

@@ -9,9 +9,9 @@ use Rattle.std.proofs.lemmas.Option.{same_Some}
 use Rattle.disk_model.specs.Disk.{FileState, History, IfTold, IsThere, Reaches, Unchanged, AfterFailed, SameButFor, after, change, cut_to, half_cut, synced, reading}
 use Rattle.disk_model.specs.declared.name.FileName.{FileName}
 use Rattle.disk_model.specs.declared.name.FileName.TheVariants as file
-use Rattle.disk_model.proofs.Moments.{if_told-all, if_told-map, if_told-unchanged, told-after}
-use Rattle.disk_model.proofs.OneFile.{same-begins, same-goes_on}
-use Rattle.disk_model.proofs.ChangeAndSync.{changed_state, state}
+use Rattle.disk_model.proofs.MomentLemmas.{if_told-all, if_told-map, if_told-unchanged, told-after}
+use Rattle.disk_model.proofs.OneFileLemmas.{same-begins, same-goes_on}
+use Rattle.disk_model.proofs.ChangeAndSyncLemmas.{changed_state, state}
 use Rattle.model_meaning.specs.MapMeaning.{MapRecord, MapMeaning}
 use Rattle.store_sweep.specs.Wanted.{EndBy, EndsByLastRegion, end_of, ends_at}
 use Rattle.store_sweep.specs.Moments.{ImagesCarry, KeepsStore, NoneMade}

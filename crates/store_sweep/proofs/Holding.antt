@@ -8,8 +8,8 @@ use Rattle.disk_model.specs.Disk.{Files, FileState, DiskState, IsThere, Reaches,
 use Rattle.disk_model.specs.Name.{same_name}
 use Rattle.disk_model.specs.declared.name.FileName.{FileName}
 use Rattle.disk_model.specs.declared.name.FileName.TheVariants as file
-use Rattle.disk_model.proofs.Names.{same_name-true, same_name-eq}
-use Rattle.disk_model.proofs.OneFile.{change-here, change-other, named-narrows}
+use Rattle.disk_model.proofs.NameLemmas.{same_name-true, same_name-eq}
+use Rattle.disk_model.proofs.OneFileLemmas.{change-here, change-other, named-narrows}
 use Rattle.mdbox_base.specs.declared.entries.InstRow.{InstRow}
 use Rattle.model_meaning.specs.MapMeaning.{MapRecord, MapBox, MapMeaning, is_sealed}
 use Rattle.model_store.specs.Settled.{IsSameRegion}

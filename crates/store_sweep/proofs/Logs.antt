@@ -6,15 +6,15 @@ use Rattle.std.proofs.lemmas.List.Elements.{All-nil, All-cons, All-head, All-tai
 use Rattle.std.proofs.lemmas.List.Folds.{list_any-from_Any}
 use Rattle.std.proofs.lemmas.Bool.{or_parts, or_from, true≢false, not_from_false, eq-eqb, and_from, not-true}
 use Rattle.disk_model.specs.Disk.{DiskState, History, IfTold, EachImage, OthersStay, SameButFor}
-use Rattle.disk_model.specs.Name.{same_name}
+use Rattle.disk_model.specs.Name.{same_name, is_log}
 use Rattle.disk_model.specs.declared.name.FileName.{FileName}
 use Rattle.disk_model.specs.declared.name.FileName.TheVariants as file
-use Rattle.disk_model.proofs.Names.{same_name-eq, same_name-false}
+use Rattle.disk_model.proofs.NameLemmas.{same_name-eq, same_name-false}
 use Rattle.model_logs.specs.LogFile.{IsLogFile}
 use Rattle.model_meaning.specs.MapMeaning.{MapBox, MapMeaning}
 use Rattle.gate_log.specs.State.{LogState, InspectedLog}
 use Rattle.gate_log.specs.Log.{IsFound, IsFoundKept}
-use Rattle.store_sweep.specs.Wanted.{is_wanted, is_log}
+use Rattle.store_sweep.specs.Wanted.{is_wanted}
 use Rattle.store_sweep.specs.Moments.{ImagesCarry, KeepsStore, SameWhere}
 use Rattle.store_sweep.specs.Repaired.{StandsFound, IsRepaired, box_name, repaired_log, AreLogsOfBoxes, is_outside, is_no_box}
 use Rattle.store_sweep.proofs.Repairing.{IsLogAt, root_log, map_log, box_log, repair_images, repair_keeps, repaired_stays, stays_where, stays_but_for}

@@ -14,7 +14,7 @@ use Rattle.disk_model.specs.contracts.name.FileNameOrd.TheImpl.{ghosts}
 use Rattle.disk_model.specs.contracts.name.FileNameOrd.TheImpl.Laws.{total-law}
 use Rattle.disk_model.specs.declared.name.FileName.{FileName}
 use Rattle.disk_model.specs.declared.name.FileName.TheVariants as file
-use Rattle.store_sweep.specs.Names.{IsNameInRange}
+use Rattle.disk_model.specs.Name.{IsNameInRange}
 
 -- ---- numbers
 
@@ -129,36 +129,8 @@ own_small (file.Inst hash id) r =
     let h = pair_less (256 ^ 16) (value hash) (256 ^ 20) (value id) 0 b (inl a) in
     omega (arith, h)
 
--- the number of a name
-pub rank : FileName → ℕ
-rank name = kind name * most + own name
-
 own_less : (base a b i j : ℕ) → i < base → i < j → a ≡ b → a * base + i < b * base + j
 own_less base a b i j small less same = pair_less base a b i j small (inr (same, less))
-
-pub rank_less : (a b : FileName) → IsNameInRange a → IsNameInRange b → ghosts.cmp a b ≡ Less → rank a < rank b
-unfolding rank own kind
-rank_less file.Root file.Root r s e = absurd (let k : Equal ≡ Less = e in cc)
-rank_less (file.Map g) (file.Map h) r s e = own_less most 1 1 g h (own_small (file.Map g) r) (less_nat g h e) refl
-rank_less (file.Box k g) (file.Box l h) r s e =
-    let less : k * 2 ^ 32 + g < l * 2 ^ 32 + h = pair_less (2 ^ 32) k l g h r.1 (elim (then_less (nat_cmp k l) (nat_cmp g h) e) [
-      | inl a ↦ inl (less_nat k l a)
-      | inr same ↦ inr (same_nat k l same.0, less_nat g h same.1)
-    ]) in
-    own_less most 2 2 (k * 2 ^ 32 + g) (l * 2 ^ 32 + h) (own_small (file.Box k g) r) less refl
-rank_less (file.Mail n) (file.Mail m) r s e = own_less most 3 3 n m (own_small (file.Mail n) r) (less_nat n m e) refl
-rank_less (file.Inst a i) (file.Inst b j) r s e =
-    let small : value i < 256 ^ 16 = subst (λ (n : ℕ). value i < 256 ^ n) r.1 (value_small i r.3) in
-    let less : value a * 256 ^ 16 + value i < value b * 256 ^ 16 + value j = pair_less (256 ^ 16) (value a) (value b) (value i) (value j) small (elim (then_less (slice_cmp nat_cmp a b) (slice_cmp nat_cmp i j) e) [
-      | inl x ↦ inl (value_less a b (r.0 ∙ sym s.0) r.2 x)
-      | inr same ↦ inr (ap value (same_list a b same.0), value_less i j (r.1 ∙ sym s.1) r.3 same.1)
-    ]) in
-    own_less most 4 4 (value a * 256 ^ 16 + value i) (value b * 256 ^ 16 + value j) (own_small (file.Inst a i) r) less refl
-rank_less a b r s e = pair_less most (kind a) (kind b) (own a) (own b) (own_small a r) (inl (less_nat (kind a) (kind b) e))
-
--- more than each number
-pub top : ℕ
-top = 5 * most
 
 kind_small : (name : FileName) → kind name < 5
 unfolding kind
@@ -167,46 +139,3 @@ kind_small (file.Map g) = lit< tt
 kind_small (file.Box k g) = lit< tt
 kind_small (file.Mail n) = lit< tt
 kind_small (file.Inst hash id) = lit< tt
-
-pub rank_below : (name : FileName) → IsNameInRange name → rank name < top
-unfolding rank top
-rank_below name r = let h = pair_less most (kind name) 5 (own name) 0 (own_small name r) (inl (kind_small name)) in omega (arith, h)
-
--- how far a walk has come, and how much is left of it
-pub passed : Option FileName → ℕ
-passed None = 0
-passed (Some name) = rank name + 1
-
-pub walk_shrinks : (last : Option FileName) (name : FileName) → IfSome last IsNameInRange → IsNameInRange name → IsPast ghosts.cmp last name → (top + 1) - passed (Some name) < (top + 1) - passed last
-unfolding passed
-walk_shrinks None name r s past = let b = rank_below name s in omega (arith, b)
-walk_shrinks (Some last) name r s past = let b = rank_below name s in let l = rank_less last name r s past in omega (arith, b, l)
-
--- two names whose order is neither way are one
-pub same_order : (a b : FileName) → ghosts.cmp a b ≡ Equal → a ≡ b
-unfolding kind
-same_order file.Root file.Root e = refl
-same_order (file.Map g) (file.Map h) e = ap file.Map (same_nat g h e)
-same_order (file.Box k g) (file.Box l h) e =
-    let parts = then_equal (nat_cmp k l) (nat_cmp g h) e in
-    let first : k ≡ l = same_nat k l parts.0 in
-    let second : g ≡ h = same_nat g h parts.1 in
-    cc
-same_order (file.Mail n) (file.Mail m) e = ap file.Mail (same_nat n m e)
-same_order (file.Inst a i) (file.Inst b j) e =
-    let parts = then_equal (slice_cmp nat_cmp a b) (slice_cmp nat_cmp i j) e in
-    let first : a ≡ b = same_list a b parts.0 in
-    let second : i ≡ j = same_list i j parts.1 in
-    cc
-same_order a b e = absurd (omega (arith, same_nat (kind a) (kind b) e))
-
-pub order_cases : (a b : FileName) → (ghosts.cmp a b ≡ Less) ⊎ ((ghosts.cmp b a ≡ Less) ⊎ (a ≡ b))
-order_cases a b = by (ghosts.cmp a b) refl
-  where
-    by : (o : Ordering) → ghosts.cmp a b ≡ o → (ghosts.cmp a b ≡ Less) ⊎ ((ghosts.cmp b a ≡ Less) ⊎ (a ≡ b))
-    by Less e = inl e
-    by Equal e = inr (inr (same_order a b e))
-    by Greater e = inr (inl (total-law.antisymm b a ∙ ap ordering_reverse e))
-
-pub not_itself : (a : FileName) → ghosts.cmp a a ≡ Less → ⊥
-not_itself a e = let h : Less ≡ Greater = sym e ∙ total-law.antisymm a a ∙ ap ordering_reverse e in less_not_greater h

@@ -3,7 +3,7 @@ use Rattle.std.proofs.Common.{◌≡◌, inl, inr, ℕ, ◌+◌, ◌<◌, ◌≤
 use Rattle.std.proofs.lemmas.List.{length-take-le}
 use Rattle.std.proofs.lemmas.Bool.{true≢false, false≢true}
 use Rattle.disk_model.specs.Disk.{FileState, MayLeave, cut_to, half_cut, synced}
-use Rattle.disk_model.proofs.Leaving.{same_front}
+use Rattle.disk_model.proofs.LeavingLemmas.{same_front}
 use Rattle.model_meaning.specs.MapMeaning.{MapRecord}
 use Rattle.model_store.specs.Settled.{IsSameRegion}
 use Rattle.store_sweep.specs.Held.{IsFirmRegion}

@@ -8,8 +8,8 @@ use Rattle.disk_model.specs.Disk.{Files, FileState, DiskState, History, IfTold, 
 use Rattle.disk_model.specs.Name.{same_name}
 use Rattle.disk_model.specs.declared.name.FileName.{FileName}
 use Rattle.disk_model.specs.declared.name.FileName.TheVariants as file
-use Rattle.disk_model.proofs.Names.{same_name-true, same_name-eq}
-use Rattle.disk_model.proofs.Moments.{each_image-map}
+use Rattle.disk_model.proofs.NameLemmas.{same_name-true, same_name-eq}
+use Rattle.disk_model.proofs.MomentLemmas.{each_image-map}
 use Rattle.model_logs.specs.declared.log_head.LogHead.{LogHead}
 use Rattle.model_logs.specs.LogFile.{IsLog, IsLogFile, log_front, HeadFits, EntryFits, EndsLog}
 use Rattle.model_logs.proofs.LogFileLemmas.{one_log}

@@ -10,8 +10,8 @@ use Rattle.disk_model.specs.Disk.{Files, FileState, DiskState, IsImage, MayLeave
 use Rattle.disk_model.specs.Name.{same_name}
 use Rattle.disk_model.specs.declared.name.FileName.{FileName}
 use Rattle.disk_model.specs.declared.name.FileName.TheVariants as file
-use Rattle.disk_model.proofs.Names.{same_name-true, same_name-refl}
-use Rattle.disk_model.proofs.Firm.{at_place}
+use Rattle.disk_model.proofs.NameLemmas.{same_name-true, same_name-refl}
+use Rattle.disk_model.proofs.FirmLemmas.{at_place}
 use Rattle.model_logs.specs.declared.log_head.LogHead.{LogHead}
 use Rattle.model_logs.specs.declared.log_head.LogKind.TheVariants as kind
 use Rattle.mdbox_base.specs.declared.entries.RootEntry.TheVariants as root

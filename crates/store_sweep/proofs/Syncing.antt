@@ -1,12 +1,11 @@
 -- Storage files that stay as they were or are synced, and names that are synced where a file has gone.
 use Rattle.std.proofs.Common.{inl, inr, ◌≡◌, ◌≢◌, ◌⊎◌, ℕ, true, false, not, Bool, length, Option, Some, None, refl, sym, ◌∙◌, ap, subst}
 use Rattle.std.proofs.lemmas.Bool.{cases_Bool, cases_eq, true≢false, false≢true, cond-true, cond-false, not_from_false}
-use Rattle.disk_model.specs.Disk.{FileState, DiskState, History, IfTold, IsThere, Unchanged, after, change, change_all, named, no_file, cut_to, synced}
+use Rattle.disk_model.specs.Disk.{FileState, DiskState, History, IfTold, IsThere, Unchanged, after, change, change_all, named, no_file, cut_to, synced, SameState}
 use Rattle.disk_model.specs.declared.name.FileName.{FileName}
 use Rattle.disk_model.specs.declared.name.FileName.TheVariants as file
-use Rattle.disk_model.proofs.OneFile.{change-here, change-other}
+use Rattle.disk_model.proofs.OneFileLemmas.{change-here, change-other}
 use Rattle.model_meaning.specs.MapMeaning.{MapMeaning}
-use Rattle.gate_log.specs.Log.{SameState}
 use Rattle.store_sweep.specs.Wanted.{is_wanted}
 use Rattle.store_sweep.specs.Moments.{SameWhere, SameContent, IsSynced, SyncedWhereCut, NamesSynced}
 

@@ -5,8 +5,8 @@ use Rattle.disk_model.specs.Disk.{DiskState, History, FileState, IsThere, IfTold
 use Rattle.disk_model.specs.contracts.name.FileNameOrd.TheImpl.{ghosts}
 use Rattle.disk_model.specs.contracts.name.FileNameOrd.TheImpl.Laws.{total-law}
 use Rattle.disk_model.specs.declared.name.FileName.{FileName}
-use Rattle.disk_model.proofs.Moments.{if_told-both, if_told-unchanged}
-use Rattle.store_sweep.proofs.Order.{order_cases, not_itself}
+use Rattle.disk_model.proofs.MomentLemmas.{if_told-both, if_told-unchanged}
+use Rattle.disk_model.proofs.NameOrderLemmas.{order_cases, not_itself}
 
 -- Of each file that is there and that the walk has passed, this holds.
 abbrev pub Passed : (FileName → FileState → Type 0) → Option FileName → DiskState → Type 0

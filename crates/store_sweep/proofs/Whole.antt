@@ -8,7 +8,7 @@ use Rattle.std.proofs.lemmas.Option.{same_Some}
 use Rattle.disk_model.specs.Disk.{Files, FileState, DiskState, History, IfTold, IsThere, IsImage, EachImage, reading}
 use Rattle.disk_model.specs.declared.name.FileName.{FileName}
 use Rattle.disk_model.specs.declared.name.FileName.TheVariants as file
-use Rattle.disk_model.proofs.Moments.{each_image-map}
+use Rattle.disk_model.proofs.MomentLemmas.{each_image-map}
 use Rattle.model_lists.specs.Lists.{Lists}
 use Rattle.model_store.specs.Safe.{Safe}
 use Rattle.model_meaning.specs.MapMeaning.{MapRecord, MapMeaning}
@@ -21,7 +21,8 @@ use Rattle.store_sweep.specs.Held.{IsReadStore}
 use Rattle.store_sweep.specs.Moments.{ImagesCarry, KeepsStore, LogStays}
 use Rattle.store_sweep.specs.Repaired.{IsRepaired, AreLogsOfBoxes}
 use Rattle.store_sweep.specs.Swept.{OpensWith, FilesCarry, IsOpened, EndWithRegions}
-use Rattle.store_sweep.specs.Wanted.{is_wanted, is_log, EndsByLastRegion, end_of, ends_at}
+use Rattle.disk_model.specs.Name.{is_log}
+use Rattle.store_sweep.specs.Wanted.{is_wanted, EndsByLastRegion, end_of, ends_at}
 use Rattle.store_sweep.proofs.Holding.{reads_there}
 use Rattle.store_sweep.proofs.Repairing.{IsLogAt, repair_kept, repaired_stays}
 use Rattle.store_sweep.proofs.Logs.{IsBoxLog, box_logs, box_at, box_is_log, box_is_wanted, root_at, root_is_log, root_is_wanted, map_at, map_is_log, map_is_wanted}

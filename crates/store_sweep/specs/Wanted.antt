@@ -47,11 +47,3 @@ EndBy m number end = All (λ row. row.file ≡ number → row.offset + row.size 
 abbrev pub EndsByLastRegion : MapMeaning → FileName → FileState → Type 0
 EndsByLastRegion m (file.Mail number) f = is_sealed m number ≡ false → length f.octets ≤ end_of m number
 EndsByLastRegion m other f = Unit {0}
-
--- the name of a log
-abbrev pub is_log : FileName → Bool
-is_log file.Root = true
-is_log (file.Map g) = true
-is_log (file.Box number g) = true
-is_log (file.Mail number) = false
-is_log (file.Inst hash id) = false

@@ -1,11 +1,12 @@
 // Storage files that are longer than their last region.
 ghost use Rattle.std.specs.Prelude.{◌≤◌, ℕ, length, OnOk, IsErr};
-ghost use Rattle.disk_model.specs.Disk.{IfTold, IsThere, Reaches, SameButFor, FaultsRoseIf};
+ghost use Rattle.disk_model.specs.FaultCounts.{ChangeFaultCounted, AnyFaultCounted};
+ghost use Rattle.disk_model.specs.Disk.{IfTold, IsThere, Reaches, SameButFor};
 ghost use Rattle.disk_model.specs.declared.name.FileName.{FileName};
 ghost use Rattle.disk_model.specs.declared.name.FileName.TheVariants as file;
-ghost use Rattle.gate_log.specs.Log.{OneRoseIf};
 ghost use Rattle.model_meaning.specs.MapMeaning.{MapMeaning};
-ghost use Rattle.store_sweep.specs.Wanted.{is_log, EndBy, EndsByLastRegion};
+ghost use Rattle.disk_model.specs.Name.{is_log};
+ghost use Rattle.store_sweep.specs.Wanted.{EndBy, EndsByLastRegion};
 ghost use Rattle.store_sweep.specs.Moments.{ImagesCarry, KeepsStore, SameWhere, SyncedWhereCut, NoneMade};
 
 use crate::names::is_name_in_range;
@@ -24,7 +25,7 @@ pub fn cut_files<D: Disk>(disk: &mut D, map: &MapIndex) -> Result<(), DiskFault>
     ensures synced { OnOk result (SyncedWhereCut (D.history disk.old) (D.history disk.new)) }
     ensures none_made { OnOk result (NoneMade (D.history disk.old) (D.history disk.new)) }
     ensures cut { OnOk result (IfTold (D.history disk.new) (λ now. (name : FileName) → IsThere (now name) → EndsByLastRegion map.now name (now name))) }
-    ensures fault { OneRoseIf (IsErr result) (D.faults disk.old) (D.faults disk.new) }
+    ensures fault { AnyFaultCounted (IsErr result) (D.faults disk.old) (D.faults disk.new) }
 {
     let mut last = None;
     while let Some(name) = disk.next_name(last)? {
@@ -44,7 +45,7 @@ fn fit_file<D: Disk>(disk: &mut D, name: FileName, map: &MapIndex) -> Result<(),
     ensures none_made { OnOk result (NoneMade (D.history disk.old) (D.history disk.new)) }
     ensures others { OnOk result (SameButFor name (D.history disk.old) (D.history disk.new)) }
     ensures cut { OnOk result (IfTold (D.history disk.new) (λ now. IsThere (now name) → EndsByLastRegion map.now name (now name))) }
-    ensures fault { OneRoseIf (IsErr result) (D.faults disk.old) (D.faults disk.new) }
+    ensures fault { AnyFaultCounted (IsErr result) (D.faults disk.old) (D.faults disk.new) }
 {
     let FileName::Mail(number) = name else {
         return Ok(());
@@ -64,7 +65,7 @@ fn cut_behind<D: Disk>(disk: &mut D, number: u32, end: u64) -> Result<(), DiskFa
     ensures none_made { OnOk result (NoneMade (D.history disk.old) (D.history disk.new)) }
     ensures others { OnOk result (SameButFor (file.Mail number) (D.history disk.old) (D.history disk.new)) }
     ensures cut { OnOk result (IfTold (D.history disk.new) (λ now. IsThere (now (file.Mail number)) → length (now (file.Mail number)).octets ≤ end)) }
-    ensures fault { OneRoseIf (IsErr result) (D.faults disk.old) (D.faults disk.new) }
+    ensures fault { AnyFaultCounted (IsErr result) (D.faults disk.old) (D.faults disk.new) }
 {
     match disk.length(FileName::Mail(number)) {
         Ok(length) => {
@@ -88,7 +89,7 @@ fn shorten<D: Disk>(disk: &mut D, number: u32, end: u64) -> Result<(), DiskFault
     ensures none_made { OnOk result (NoneMade (D.history disk.old) (D.history disk.new)) }
     ensures others { OnOk result (SameButFor (file.Mail number) (D.history disk.old) (D.history disk.new)) }
     ensures cut { OnOk result (IfTold (D.history disk.new) (λ now. length (now (file.Mail number)).octets ≤ end)) }
-    ensures fault { FaultsRoseIf (IsErr result) (D.faults disk.old) (D.faults disk.new) }
+    ensures fault { ChangeFaultCounted (IsErr result) (D.faults disk.old) (D.faults disk.new) }
 {
     disk.cut(FileName::Mail(number), end)?;
     disk.sync(FileName::Mail(number))?;

@@ -1,6 +1,6 @@
 // Names of files.
 ghost use Rattle.std.specs.Prelude.{◌<◌, All};
-ghost use Rattle.store_sweep.specs.Names.{IsNameInRange};
+ghost use Rattle.disk_model.specs.Name.{IsNameInRange};
 
 use disk_model::FileName;
 

@@ -1,17 +1,18 @@
 // The sweep of a store.
 ghost use Rattle.std.specs.Prelude.{◌≡◌, ◌∷◌, true, ℕ, [], length, vec_len, vec_capacity, ◌≤◌, OnOk, IfOk, IsErr, IsErrOf, All};
 ghost use Rattle.std.specs.List.{AllZip};
-ghost use Rattle.disk_model.specs.Disk.{EachImage, IfTold, IsThere, FaultsRoseIf};
+ghost use Rattle.disk_model.specs.FaultCounts.{ChangeFaultCounted, AnyFaultCounted};
+ghost use Rattle.disk_model.specs.Disk.{EachImage, IfTold, IsThere};
 ghost use Rattle.disk_model.specs.declared.name.FileName.{FileName};
 ghost use Rattle.disk_model.specs.declared.name.FileName.TheVariants as file;
-ghost use Rattle.gate_log.specs.Log.{OneRoseIf};
 ghost use Rattle.model_lists.specs.Lists.{Lists};
 ghost use Rattle.model_store.specs.Safe.{Safe};
 ghost use Rattle.model_store.specs.Settled.{IsSettled};
 ghost use Rattle.store_sweep.specs.Moments.{ImagesCarry, KeepsStore, SameWhere, LogStays, SyncedWhereCut, NamesSynced};
 ghost use Rattle.store_sweep.specs.Repaired.{StandsFound, repaired_log, IsRepaired, AreLogsOfBoxes, is_outside};
 ghost use Rattle.store_sweep.specs.Swept.{OpensWith, FilesCarry, IsOpened, EndWithRegions};
-ghost use Rattle.store_sweep.specs.Wanted.{is_wanted, is_log, EndsByLastRegion};
+ghost use Rattle.disk_model.specs.Name.{is_log};
+ghost use Rattle.store_sweep.specs.Wanted.{is_wanted, EndsByLastRegion};
 ghost use Rattle.store_sweep.specs.declared.error.SweepError.TheVariants as error;
 
 use crate::cuts::cut_files;
@@ -40,7 +41,7 @@ pub(crate) fn clear<D: Disk>(disk: &mut D, generation: u32, map: &MapIndex) -> R
     ensures names { OnOk result (NamesSynced generation map.now (D.history disk.old) (D.history disk.new)) }
     ensures gone { OnOk result (IfTold (D.history disk.new) (λ now. (name : FileName) → IsThere (now name) → is_wanted generation map.now name ≡ true)) }
     ensures cut { OnOk result (IfTold (D.history disk.new) (λ now. (name : FileName) → IsThere (now name) → EndsByLastRegion map.now name (now name))) }
-    ensures fault { OneRoseIf (IsErr result) (D.faults disk.old) (D.faults disk.new) }
+    ensures fault { AnyFaultCounted (IsErr result) (D.faults disk.old) (D.faults disk.new) }
 {
     let removed = remove_strays(disk, generation, map)?;
     cut_files(disk, map)?;
@@ -73,7 +74,7 @@ fn repair_logs<D: Disk>(
     ensures root_log { OnOk result (IsRepaired (D.history disk.old) (D.history disk.new) root_log (repaired_log root_log)) }
     ensures map_log { IfOk result (λ log. IsRepaired (D.history disk.old) (D.history disk.new) map_log log) }
     ensures box_logs { OnOk result (AllZip (IsRepaired (D.history disk.old) (D.history disk.new)) box_logs.items opened.new.items) }
-    ensures fault { FaultsRoseIf (IsErr result) (D.faults disk.old) (D.faults disk.new) }
+    ensures fault { ChangeFaultCounted (IsErr result) (D.faults disk.old) (D.faults disk.new) }
 {
     root_log.repair(alloc, disk)?;
     let map_log = map_log.repair(alloc, disk)?;
@@ -118,7 +119,7 @@ pub fn sweep<D: Disk>(
     ensures names { OnOk result (NamesSynced generation map.now (D.history disk.old) (D.history disk.new)) }
 
     ensures memory { IsErrOf result error.NoMemory → disk.new ≡ disk.old }
-    ensures fault { OneRoseIf (IsErrOf result error.DiskFault) (D.faults disk.old) (D.faults disk.new) }
+    ensures fault { AnyFaultCounted (IsErrOf result error.DiskFault) (D.faults disk.old) (D.faults disk.new) }
 {
     let mut opened = Vec::with_capacity(alloc, box_logs.as_slice().len())?;
     let map_log = repair_logs(alloc, disk, root_log, map_log, box_logs, map, &mut opened)?;

@@ -1,8 +1,8 @@
 // Files that the store doesn't need.
 ghost use Rattle.std.specs.Prelude.{◌≡◌, true, false, IfOk, OnOk, IsErr};
-ghost use Rattle.disk_model.specs.Disk.{IfTold, IsThere, SameButFor, FaultsRoseIf};
+ghost use Rattle.disk_model.specs.FaultCounts.{ChangeFaultCounted, AnyFaultCounted};
+ghost use Rattle.disk_model.specs.Disk.{IfTold, IsThere, SameButFor, SameState};
 ghost use Rattle.disk_model.specs.declared.name.FileName.{FileName};
-ghost use Rattle.gate_log.specs.Log.{SameState, OneRoseIf};
 ghost use Rattle.store_sweep.specs.Wanted.{is_wanted};
 ghost use Rattle.store_sweep.specs.Moments.{ImagesCarry, SameWhere};
 
@@ -23,7 +23,7 @@ pub fn remove_strays<D: Disk>(
     ensures same { OnOk result (SameWhere (is_wanted generation map.now) (D.history disk.old) (D.history disk.new)) }
     ensures none { IfOk result (λ removed. removed ≡ false → SameState (D.history disk.old) (D.history disk.new)) }
     ensures gone { OnOk result (IfTold (D.history disk.new) (λ now. (name : FileName) → IsThere (now name) → is_wanted generation map.now name ≡ true)) }
-    ensures fault { OneRoseIf (IsErr result) (D.faults disk.old) (D.faults disk.new) }
+    ensures fault { AnyFaultCounted (IsErr result) (D.faults disk.old) (D.faults disk.new) }
 {
     let mut last = None;
     let mut removed = false;
@@ -47,7 +47,7 @@ fn remove_stray<D: Disk>(
     ensures others { OnOk result (SameButFor name (D.history disk.old) (D.history disk.new)) }
     ensures none { IfOk result (λ removed. removed ≡ false → SameState (D.history disk.old) (D.history disk.new)) }
     ensures gone { OnOk result (IfTold (D.history disk.new) (λ now. IsThere (now name) → is_wanted generation map.now name ≡ true)) }
-    ensures fault { FaultsRoseIf (IsErr result) (D.faults disk.old) (D.faults disk.new) }
+    ensures fault { ChangeFaultCounted (IsErr result) (D.faults disk.old) (D.faults disk.new) }
 {
     if is_wanted(name, generation, map) {
         return Ok(false);

@@ -1,8 +1,8 @@
 use Rattle.std.proofs.Common.{◌≡◌, Some, slice_get, List, sym, ◌∙◌, subst, refl}
 use Rattle.std.proofs.lemmas.Option.{slice_get_read}
 use Rattle.disk_mem.specs.declared.file.File.{File}
-use Rattle.disk_mem.specs.Record.{Reads, IsPlaceOf}
-use Rattle.disk_mem.proofs.Steps.{not_for_all, slice_get-lt, on_ok, on_err, reads-stepped, reads-same}
+use Rattle.disk_mem.specs.Record.{ReadsAs, IsPlaceOf}
+use Rattle.disk_mem.proofs.StepLemmas.{not_for_all, slice_get-lt, on_ok, on_err, reads-stepped, reads-same}
 use Rattle.disk_mem.proofs.file.apply_to.Goals as goal
 
 pub returns-in-Some : goal.returns-in-Some
@@ -25,7 +25,7 @@ returns-in-Some c =
           (λ f was here reads.
           let h : Some was ≡ Some c.index_mut.result.now = sym here ∙ at in
           let e : was ≡ c.index_mut.result.now = cc in
-          let F : File → Type 0 = λ g. Reads g f in
+          let F : File → Type 0 = λ g. ReadsAs g f in
           step f (subst F e reads)))
           c.apply.ensures.reads;
       err = on_err c.apply.result

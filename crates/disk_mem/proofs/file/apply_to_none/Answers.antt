@@ -1,10 +1,10 @@
 use Rattle.std.proofs.Common.{◌≡◌, true, List, refl, sym, subst}
 use Rattle.disk_model.specs.Disk.{FileState}
-use Rattle.disk_model.proofs.Names.{same_name-refl}
+use Rattle.disk_model.proofs.NameLemmas.{same_name-refl}
 use Rattle.disk_mem.specs.declared.file.File.{File}
 use Rattle.disk_mem.specs.declared.note.Change.{Change}
-use Rattle.disk_mem.specs.Record.{Reads, ReadsAll, changed, at_file, stepped}
-use Rattle.disk_mem.proofs.Steps.{reads-push, reads-none, at_file-own, at_file-other}
+use Rattle.disk_mem.specs.Record.{ReadsAs, ReadsAll, changed, at_file, stepped}
+use Rattle.disk_mem.proofs.StepLemmas.{reads-push, reads-none, at_file-own, at_file-other}
 use Rattle.disk_mem.proofs.file.apply_to_none.Goals as goal
 
 pub returns-in_ok-push-clause-ok : goal.returns-in_ok-push-clause-ok
@@ -12,9 +12,9 @@ returns-in_ok-push-clause-ok c = λ disk reads.
     let note = c.args.note.now in
     let file : File = record { name = note.name; is_there = true; text = c.empty.result } in
     let own : at_file note.name note (disk note.name) ≡ changed note.change (disk note.name) = at_file-own note.name note (disk note.name) (same_name-refl note.name) in
-    let here : Reads file (stepped note disk note.name) =
-    let F : FileState → Type 0 = Reads file in
-    let G : Change → Type 0 = λ change. Reads file (changed change (disk note.name)) in
+    let here : ReadsAs file (stepped note disk note.name) =
+    let F : FileState → Type 0 = ReadsAs file in
+    let G : Change → Type 0 = λ change. ReadsAs file (changed change (disk note.name)) in
     subst F (sym own) (subst G (sym c.in-Made.is) (refl, λ there. sym c.empty.ensures)) in
     let F : List File → Type 0 = λ files. ReadsAll files (stepped note disk) in
     subst F (sym c.in_ok-push.ensures.items)

@@ -2,7 +2,7 @@ use Rattle.std.proofs.Common.{refl}
 use Rattle.std.proofs.lemmas.Option.{slice_get_read}
 use Rattle.disk_model.specs.contracts.name.FileNameOrd.TheImpl.{ghosts}
 use Rattle.disk_model.specs.contracts.name.FileNameOrd.TheImpl.Laws.{total-law}
-use Rattle.disk_mem.proofs.Reading.{best_none, best_more, best_all}
+use Rattle.disk_mem.proofs.ReadingLemmas.{best_none, best_more, best_all}
 use Rattle.disk_mem.proofs.file.least_past.Goals as goal
 
 pub loop-file-init : goal.loop-file-init

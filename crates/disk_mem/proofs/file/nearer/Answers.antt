@@ -1,5 +1,5 @@
 use Rattle.std.proofs.Common.{◌≡◌, refl, inl, inr, sym, ◌∙◌, Some, None}
-use Rattle.disk_mem.proofs.Reading.{there-reading, reading-there}
+use Rattle.disk_mem.proofs.ReadingLemmas.{there-reading, reading-there}
 use Rattle.disk_mem.proofs.file.nearer.Goals as goal
 
 pub returns-in-Some : goal.returns-in-Some

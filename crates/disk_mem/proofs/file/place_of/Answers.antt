@@ -1,10 +1,10 @@
 use Rattle.std.proofs.Common.{◌≡◌, ◌+◌, ◌++◌, ◌∷◌, [], take, None, List, refl, sym, ◌∙◌, subst}
 use Rattle.std.proofs.lemmas.Option.{slice_get_read}
 use Rattle.std.proofs.lemmas.List.{take_more, take_all}
-use Rattle.disk_model.proofs.Names.{same_name-true}
+use Rattle.disk_model.proofs.NameLemmas.{same_name-true}
 use Rattle.disk_mem.specs.declared.file.File.{File}
 use Rattle.disk_mem.specs.Record.{found}
-use Rattle.disk_mem.proofs.Files.{found-push-other}
+use Rattle.disk_mem.proofs.FileLemmas.{found-push-other}
 use Rattle.disk_mem.proofs.file.place_of.Goals as goal
 
 pub returns-then-is_named-clause-some : goal.returns-then-is_named-clause-some

@@ -1,7 +1,7 @@
 use Rattle.std.proofs.Common.{◌≡◌, Some, slice_get, refl, ◌∙◌, sym}
 use Rattle.std.proofs.lemmas.Option.{slice_get_read}
-use Rattle.disk_mem.proofs.Steps.{slice_get-lt}
-use Rattle.disk_mem.proofs.Reading.{if_some, read_at_place, reading-there, reading-gone}
+use Rattle.disk_mem.proofs.StepLemmas.{slice_get-lt}
+use Rattle.disk_mem.proofs.ReadingLemmas.{if_some, read_at_place, reading-there, reading-gone}
 use Rattle.disk_mem.proofs.file.text_of.Goals as goal
 
 pub returns-in-Some-clause-some : goal.returns-in-Some-clause-some

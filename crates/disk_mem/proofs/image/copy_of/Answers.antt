@@ -1,8 +1,8 @@
 use Rattle.std.proofs.Common.{◌++◌, ◌∷◌, [], List, take, refl, sym, ◌∙◌, subst}
 use Rattle.disk_mem.specs.declared.file.File.{File}
 use Rattle.disk_mem.specs.Record.{found}
-use Rattle.disk_mem.proofs.Copies.{IsCopies, copies_push}
-use Rattle.disk_mem.proofs.Following.{take-next}
+use Rattle.disk_mem.proofs.CopyLemmas.{IsCopies, copies_push}
+use Rattle.disk_mem.proofs.FollowingLemmas.{take-next}
 use Rattle.disk_mem.proofs.image.copy_of.Goals as goal
 
 pub loop-file-preserved : goal.loop-file-preserved

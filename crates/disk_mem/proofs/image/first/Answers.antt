@@ -1,10 +1,10 @@
 use Rattle.std.proofs.Common.{◌≡◌, Some, Option, slice_get, refl, sym, ◌∙◌, subst}
 use Rattle.std.proofs.lemmas.Option.{slice_get_read}
 use Rattle.disk_mem.specs.declared.file.File.{File}
-use Rattle.disk_mem.specs.Record.{Shows, found, at_rest}
-use Rattle.disk_mem.proofs.Files.{found-here}
-use Rattle.disk_mem.proofs.Steps.{slice_get-lt}
-use Rattle.disk_mem.proofs.Following.{if_ok}
+use Rattle.disk_mem.specs.Record.{HoldsAs, found, at_rest}
+use Rattle.disk_mem.proofs.FileLemmas.{found-here}
+use Rattle.disk_mem.proofs.StepLemmas.{slice_get-lt}
+use Rattle.disk_mem.proofs.FollowingLemmas.{if_ok}
 use Rattle.disk_mem.proofs.image.first.Goals as goal
 
 pub returns-in-Some-clause-shows : goal.returns-in-Some-clause-shows
@@ -16,5 +16,5 @@ returns-in-Some-clause-shows c =
     let own : found base c.args.name ≡ Some c.index-base-i.result =
     found-here base c.args.name c.in-Some.i place.file place.at place.named place.first ∙ sym place.at ∙ at in
     if_ok c.at_rest.result _ _
-    (λ file shows. let F : Option File → Type 0 = λ o. Shows file (at_rest o) in subst F (sym own) shows)
+    (λ file shows. let F : Option File → Type 0 = λ o. HoldsAs file (at_rest o) in subst F (sym own) shows)
     c.at_rest.ensures.shows

@@ -1,6 +1,6 @@
 use Rattle.std.proofs.Common.{◌<◌, length, arith}
-use Rattle.disk_mem.proofs.Copies.{left_none}
-use Rattle.disk_mem.proofs.Steps.{slice_get-lt}
+use Rattle.disk_mem.proofs.CopyLemmas.{left_none}
+use Rattle.disk_mem.proofs.StepLemmas.{slice_get-lt}
 use Rattle.disk_mem.proofs.image.left_files.Goals as goal
 
 pub returns : goal.returns

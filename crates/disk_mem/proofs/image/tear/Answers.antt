@@ -4,7 +4,7 @@ use Rattle.disk_model.specs.declared.name.FileName.{FileName}
 use Rattle.disk_mem.specs.declared.text.Text.{Text}
 use Rattle.disk_mem.specs.declared.note.Note.{Note}
 use Rattle.disk_mem.specs.Left.{touched, touched_by}
-use Rattle.disk_mem.proofs.Following.{take-next, touched-push}
+use Rattle.disk_mem.proofs.FollowingLemmas.{take-next, touched-push}
 use Rattle.disk_mem.proofs.image.tear.Goals as goal
 use Rattle.disk_mem.proofs.image.tear.Goals.{then-is_named, else-is_named}
 

@@ -1,5 +1,5 @@
 use Rattle.std.proofs.Common.{cond, slice_index, ap, sym, ◌∙◌, arith}
-use Rattle.disk_mem.proofs.Following.{covers-clip}
+use Rattle.disk_mem.proofs.FollowingLemmas.{covers-clip}
 use Rattle.disk_mem.proofs.image.tear_range.Goals as goal
 
 pub returns-clause-octets : goal.returns-clause-octets

@@ -4,7 +4,7 @@ use Rattle.disk_model.specs.Name.{same_name}
 use Rattle.disk_mem.specs.declared.note.Note.{Note}
 use Rattle.disk_mem.specs.Marking.{AreMarks}
 use Rattle.disk_mem.specs.Record.{file_after}
-use Rattle.disk_mem.proofs.Following.{marks_push, take-next, moved}
+use Rattle.disk_mem.proofs.FollowingLemmas.{marks_push, take-next, moved}
 use Rattle.disk_mem.proofs.marks.marks_of.Goals as goal
 
 marks_within : (b : Bool) (n i m : ℕ) → m ≡ cond b (i + 1) n → n ≤ i → m ≤ i + 1

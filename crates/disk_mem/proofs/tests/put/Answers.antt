@@ -1,9 +1,9 @@
 use Rattle.std.proofs.Common.{ℕ, List, length, Some, refl, arith}
 use Rattle.disk_model.specs.Disk.{FileState, Reaches, made, written}
-use Rattle.disk_model.proofs.ChangeAndSync.{changed_state}
+use Rattle.disk_model.proofs.ChangeAndSyncLemmas.{changed_state}
 use Rattle.disk_mem.specs.Mem.{told}
 use Rattle.disk_mem.specs.Sound.{length-overlaid}
-use Rattle.disk_mem.proofs.Steps.{on_ok}
+use Rattle.disk_mem.proofs.StepLemmas.{on_ok}
 use Rattle.disk_mem.proofs.tests.put.Goals as goal
 
 made_reaches : (f : FileState) → Unit {0} → Reaches (made f) 0

@@ -1,8 +1,8 @@
 use Rattle.std.proofs.Common.{length, Some}
 use Rattle.disk_model.specs.Disk.{Reaches, synced}
-use Rattle.disk_model.proofs.ChangeAndSync.{changed_state}
+use Rattle.disk_model.proofs.ChangeAndSyncLemmas.{changed_state}
 use Rattle.disk_mem.specs.Mem.{told}
-use Rattle.disk_mem.proofs.Steps.{on_ok}
+use Rattle.disk_mem.proofs.StepLemmas.{on_ok}
 use Rattle.disk_mem.proofs.tests.put_synced.Goals as goal
 
 pub returns-clause-reaches : goal.returns-clause-reaches

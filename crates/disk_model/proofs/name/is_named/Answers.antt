@@ -1,6 +1,6 @@
 use Rattle.std.proofs.Common.{◌≡◌, ◌↔◌, Bool, true, false, refl}
 use Rattle.std.proofs.lemmas.Bool.{false_from_ne_true}
-use Rattle.disk_model.proofs.Names.{same_name_iff}
+use Rattle.disk_model.proofs.NameLemmas.{same_name_iff}
 use Rattle.disk_model.proofs.name.is_named.Goals as goal
 
 same_test : {P : Type 0} (a b : Bool) → (a ≡ true) ↔ P → (b ≡ true) ↔ P → a ≡ b

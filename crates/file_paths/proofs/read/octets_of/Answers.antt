@@ -2,7 +2,7 @@ use Rattle.std.proofs.Common.{◌≡◌, Ok, sym, ◌∙◌, ap}
 use Rattle.hex.specs.Hex.{decode_sized}
 use Rattle.hex.proofs.HexLemmas.{decode_sized-encode_lower}
 use Rattle.model_storage.proofs.ReferenceLemmas.{octets_are_bytes}
-use Rattle.file_paths.proofs.HexLaws.{no_capitals, digits_back, ok_from_some}
+use Rattle.mdbox_base.proofs.LowerHexLemmas.{no_capitals, digits_back, ok_from_some}
 use Rattle.file_paths.proofs.read.octets_of.Goals as goal
 
 pub returns-in_err-octets-clause-none : goal.returns-in_err-octets-clause-none

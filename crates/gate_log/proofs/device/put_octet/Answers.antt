@@ -1,6 +1,6 @@
 use Rattle.std.proofs.Common.{arith}
-use Rattle.disk_model.proofs.ChangeAndSync.{change_fails, sync_fails, images}
-use Rattle.disk_model.proofs.Others.{apart_begins, apart_goes_on, apart_fails, apart_fails_still, apart_images}
+use Rattle.disk_model.proofs.ChangeAndSyncLemmas.{change_fails, sync_fails, images}
+use Rattle.disk_model.proofs.OtherFileLemmas.{apart_begins, apart_goes_on, apart_fails, apart_fails_still, apart_images}
 use Rattle.gate_log.proofs.Parting.{one-can, one-there, one-reads, one-keeps}
 use Rattle.gate_log.proofs.device.put_octet.Goals as goal
 

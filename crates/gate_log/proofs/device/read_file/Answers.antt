@@ -1,6 +1,7 @@
 use Rattle.std.proofs.Common.{◌≡◌, ◌≤◌, length, refl, ◌∙◌, arith}
 use Rattle.gate_log.proofs.Appending.{block_is}
-use Rattle.gate_log.proofs.Idling.{idle-begins, idle-unchanged, whole_file}
+use Rattle.disk_model.proofs.IdleLemmas.{idle-begins, idle-unchanged}
+use Rattle.gate_log.proofs.Idling.{whole_file}
 use Rattle.gate_log.proofs.device.read_file.Goals as goal
 
 pub returns-in_err-length-clause-idle : goal.returns-in_err-length-clause-idle

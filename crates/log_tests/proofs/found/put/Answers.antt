@@ -1,6 +1,6 @@
 use Rattle.std.proofs.Common.{Some, refl, arith}
 use Rattle.disk_model.specs.Disk.{FileState, Reaches, made}
-use Rattle.disk_model.proofs.ChangeAndSync.{changed_state}
+use Rattle.disk_model.proofs.ChangeAndSyncLemmas.{changed_state}
 use Rattle.disk_model.specs.declared.name.FileName.TheVariants.{Root}
 use Rattle.disk_mem.specs.Mem.{told}
 use Rattle.log_tests.proofs.found.put.Goals as goal

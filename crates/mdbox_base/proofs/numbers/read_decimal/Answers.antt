@@ -1,6 +1,6 @@
 use Rattle.std.proofs.Common.{◌≡◌, ◌≢◌, ◌≤◌, ℕ, get_or, length, subst, refl, false, true, List}
 use Rattle.std.specs.Str.Parse.{ParsesUnsigned}
-use Rattle.mdbox_base.proofs.DecimalLaws.{no_sign, no_leading_zero, is_text, read_is_decimal, unread_is_none}
+use Rattle.mdbox_base.proofs.DecimalLemmas.{no_sign, no_leading_zero, is_text, read_is_decimal, unread_is_none}
 use Rattle.mdbox_base.proofs.numbers.read_decimal.Goals as goal
 use Rattle.mdbox_base.proofs.numbers.read_decimal.Goals.{then-has_sign-via-then-has_sign, then-has_sign-via-else-has_sign+then-has_leading_zero}
 

@@ -1,5 +1,5 @@
 use Rattle.std.proofs.Common.{arith, ◌<◌}
-use Rattle.mdbox_base.proofs.DigitLaws.{next_fits}
+use Rattle.mdbox_base.proofs.DigitLemmas.{next_fits}
 use Rattle.mdbox_base.proofs.numbers.read_hex.Goals as goal
 
 pub overflow_mul-value : goal.overflow_mul-value

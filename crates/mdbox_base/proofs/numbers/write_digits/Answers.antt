@@ -2,7 +2,7 @@ use Rattle.std.proofs.Common.{arith, ap, sym, ◌∙◌, ◌≡◌, ◌≤◌, �
 use Rattle.std.proofs.Math.Nat.{div-lt_self}
 use Rattle.std.proofs.lemmas.List.{drop-set}
 use Rattle.std.specs.Fmt.{digit_glyph}
-use Rattle.mdbox_base.proofs.DigitLaws.{digits_to, digits_to-all, digits_to-more, digits_to-last, rest_shorter, place_some}
+use Rattle.mdbox_base.proofs.DigitLemmas.{digits_to, digits_to-all, digits_to-more, digits_to-last, rest_shorter, place_some}
 use Rattle.mdbox_base.proofs.numbers.write_digits.Goals as goal
 
 pub loop-rest-init : goal.loop-rest-init

@@ -1,6 +1,6 @@
 use Rattle.std.proofs.Common.{◌≡◌, ◌<◌, ◌+◌, ◌-◌, ◌^◌, false, drop}
 use Rattle.std.specs.Fmt.{digits}
-use Rattle.mdbox_base.proofs.DigitLaws.{digits_to}
+use Rattle.mdbox_base.proofs.DigitLemmas.{digits_to}
 use Rattle.mdbox_base.proofs.numbers.write_digits.Given as goal
 
 abbrev pub invariant-loop-rest : goal.invariant-loop-rest

@@ -1,5 +1,5 @@
 use Rattle.std.proofs.Common.{arith, ℕ, ◌++◌, take, refl, length-take}
-use Rattle.mdbox_base.proofs.StreamLaws.{taken_more, too_long}
+use Rattle.mdbox_base.proofs.StreamLemmas.{taken_more, too_long}
 use Rattle.mdbox_base.proofs.stream.read_all.Goals as goal
 
 pub returns-then-count-room-clause-refused : goal.returns-then-count-room-clause-refused

@@ -1,5 +1,6 @@
 use Rattle.std.proofs.Common.{inl, sym, ap, subst, ◌∙◌}
-use Rattle.store_core.specs.Running.{IsSettledFor, IsStore}
+use Rattle.model_store.specs.Settled.{IsSettledFor}
+use Rattle.store_core.specs.Running.{IsStore}
 use Rattle.mdbox_top.specs.declared.store_outcome.StoreOutcome.TheVariants as outcome
 use Rattle.mdbox_top.proofs.ListLaws.{opens_again, listed, shown_ends, lists_last, unopened, unrefused}
 use Rattle.mdbox_top.proofs.list.run_list.Goals as goal

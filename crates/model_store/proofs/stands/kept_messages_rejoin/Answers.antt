@@ -6,5 +6,5 @@ use Rattle.model_store.proofs.stands.kept_messages_rejoin.Goals as goal
 
 pub returns : goal.returns
 returns c image row octets kept fits =
-    subst (λ (size : ℕ). join_error kept.message.body size kept.meta.refs kept.instances ≡ None) kept.size
-    (whole_accepted octets kept.message.body kept.meta.refs kept.instances kept.whole fits)
+    subst (λ (size : ℕ). join_error kept.stored.message.body size kept.stored.meta.refs kept.instances ≡ None) kept.size
+    (whole_accepted octets kept.stored.message.body kept.stored.meta.refs kept.instances kept.whole fits)

@@ -1,4 +1,4 @@
-use Rattle.gate_log.proofs.Idling.{idle-begins, idle-unchanged}
+use Rattle.disk_model.proofs.IdleLemmas.{idle-begins, idle-unchanged}
 use Rattle.store_checks.proofs.lengths.length_of.Goals as goal
 
 pub returns-then-same_file-clause-idle : goal.returns-then-same_file-clause-idle

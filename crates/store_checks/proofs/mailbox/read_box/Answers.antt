@@ -2,7 +2,7 @@ use Rattle.std.proofs.Common.{All, refl, subst}
 use Rattle.std.proofs.lemmas.Result.{err_from_is_err_and}
 use Rattle.model_meaning.specs.BoxMeaning.{BoxMeaning}
 use Rattle.model_store.specs.Opening.{HasItsRecord}
-use Rattle.gate_log.proofs.Idling.{idle-begins}
+use Rattle.disk_model.proofs.IdleLemmas.{idle-begins}
 use Rattle.store_checks.specs.Boxes.{box_file, box_head}
 use Rattle.store_checks.proofs.Taking.{some_text, none_text}
 use Rattle.store_checks.proofs.Reading.{has_log, found_as, box_cause, lacks_record}

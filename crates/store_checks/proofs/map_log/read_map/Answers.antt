@@ -1,7 +1,7 @@
 use Rattle.std.proofs.Common.{◌≡◌, refl, true, false, ◌∙◌, ap}
 use Rattle.std.proofs.lemmas.Result.{err_from_is_err_and}
 use Rattle.model_meaning.specs.MapMeaning.{MapMeaning}
-use Rattle.gate_log.proofs.Idling.{idle-begins}
+use Rattle.disk_model.proofs.IdleLemmas.{idle-begins}
 use Rattle.store_checks.proofs.Rooted.{map_cause, no_number, map_read, empty_map}
 use Rattle.store_checks.proofs.map_log.read_map.Goals as goal
 

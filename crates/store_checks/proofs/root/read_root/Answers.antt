@@ -1,5 +1,5 @@
 use Rattle.std.proofs.lemmas.Result.{err_from_is_err_and}
-use Rattle.store_checks.proofs.Calls.{idle-then}
+use Rattle.disk_model.proofs.IdleLemmas.{idle-then}
 use Rattle.store_checks.proofs.Rooted.{root_cause, none_last, root_read}
 use Rattle.store_checks.proofs.root.read_root.Goals as goal
 

@@ -1,5 +1,5 @@
 use Rattle.std.proofs.Common.{◌≡◌, true, false, sym, ◌∙◌}
-use Rattle.gate_log.proofs.Idling.{idle-begins, idle-unchanged}
+use Rattle.disk_model.proofs.IdleLemmas.{idle-begins, idle-unchanged}
 use Rattle.store_checks.proofs.RootHead.{front_is, no_entry, has_id}
 use Rattle.store_checks.proofs.root.root_id.Goals as goal
 

@@ -1,4 +1,4 @@
-use Rattle.store_open.proofs.Idle.{idle-then}
+use Rattle.disk_model.proofs.IdleLemmas.{idle-then}
 use Rattle.store_open.proofs.check.check_free.Goals as goal
 
 pub returns-in_err-has_mail_file-clause-idle : goal.returns-in_err-has_mail_file-clause-idle

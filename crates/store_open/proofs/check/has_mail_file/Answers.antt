@@ -1,4 +1,4 @@
-use Rattle.gate_log.proofs.Idling.{idle-begins, idle-unchanged}
+use Rattle.disk_model.proofs.IdleLemmas.{idle-begins, idle-unchanged}
 use Rattle.store_open.proofs.check.has_mail_file.Goals as goal
 
 pub returns-in_err-next-clause-idle : goal.returns-in_err-next-clause-idle

@@ -1,4 +1,4 @@
-use Rattle.gate_log.proofs.Idling.{idle-begins, idle-unchanged}
+use Rattle.disk_model.proofs.IdleLemmas.{idle-begins, idle-unchanged}
 use Rattle.store_open.proofs.NoEntry.{front_tells}
 use Rattle.store_open.proofs.check.lacks_entry.Goals as goal
 

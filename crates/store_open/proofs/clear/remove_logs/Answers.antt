@@ -1,5 +1,5 @@
 use Rattle.std.proofs.Common.{sym, ◌∙◌}
-use Rattle.gate_log.proofs.Idling.{idle-told}
+use Rattle.disk_model.proofs.IdleLemmas.{idle-on}
 use Rattle.store_open.proofs.Counts.{counts-begin, counts-go_on}
 use Rattle.store_open.proofs.Ranks.{falls}
 use Rattle.store_open.proofs.Clearing.{Walked, walk-begins, walk-looks, walk-goes_on, walk-fails, walk-ends, walk-none, none_of}
@@ -20,7 +20,7 @@ returns-in_err-name-clause-any_moment g c = (walk-looks _ _ _ _ c.loop-name.inva
 pub returns-in_err-remove-clause-any_moment : goal.returns-in_err-remove-clause-any_moment
 returns-in_err-remove-clause-any_moment g c = λ never.
     walk-fails _ c.in-Some.name _ _ _ (looked g (goal.at.returns-in_err-remove-clause-any_moment g c).In_ok-name)
-    (idle-told _ _ _ c.in_ok-name.ensures.idle (rw c.in-Some.is at c.in_ok-name.ensures.first)) c.in_err-remove.ensures.failed never
+    (idle-on _ _ _ c.in_ok-name.ensures.idle (rw c.in-Some.is at c.in_ok-name.ensures.first)) c.in_err-remove.ensures.failed never
 
 pub loop-name-smaller : goal.loop-name-smaller
 loop-name-smaller g c = falls c.loop-name.after c.in-Some.name c.loop-name.invariant.walked.named (rw c.in-Some.is at c.in_ok-name.ensures.named) (rw c.in-Some.is at c.in_ok-name.ensures.past)
@@ -28,7 +28,7 @@ loop-name-smaller g c = falls c.loop-name.after c.in-Some.name c.loop-name.invar
 pub loop-name-preserved : goal.loop-name-preserved
 loop-name-preserved g c = record {
   walked = walk-goes_on _ c.in-Some.name _ _ _ (looked g (goal.at.loop-name-preserved g c).In_ok-name)
-      (idle-told _ _ _ c.in_ok-name.ensures.idle (rw c.in-Some.is at c.in_ok-name.ensures.first))
+      (idle-on _ _ _ c.in_ok-name.ensures.idle (rw c.in-Some.is at c.in_ok-name.ensures.first))
       (rw c.in-Some.is at c.in_ok-name.ensures.named) c.in_ok-remove.ensures.state;
   faults = counts-go_on _ _ _ _ c.loop-name.invariant.faults c.in_ok-name.ensures.fault c.in_ok-remove.ensures.cause;
 }
@@ -38,8 +38,8 @@ returns-clause-any_moment g c = (looked g (goal.at.returns-clause-any_moment g c
 
 pub returns-clause-taken : goal.returns-clause-taken
 returns-clause-taken g c =
-    walk-ends _ _ _ (looked g (goal.at.returns-clause-taken g c).In_ok-name) (idle-told _ _ _ c.in_ok-name.ensures.idle (rw c.in_default.is at c.in_ok-name.ensures.first))
+    walk-ends _ _ _ (looked g (goal.at.returns-clause-taken g c).In_ok-name) (idle-on _ _ _ c.in_ok-name.ensures.idle (rw c.in_default.is at c.in_ok-name.ensures.first))
 
 pub returns-clause-any : goal.returns-clause-any
 returns-clause-any g c = λ none.
-    walk-none _ _ _ (none_of c.loop-name.after (sym c.is_some.ensures ∙ none)) (looked g (goal.at.returns-clause-any g c).In_ok-name) (idle-told _ _ _ c.in_ok-name.ensures.idle (rw c.in_default.is at c.in_ok-name.ensures.first))
+    walk-none _ _ _ (none_of c.loop-name.after (sym c.is_some.ensures ∙ none)) (looked g (goal.at.returns-clause-any g c).In_ok-name) (idle-on _ _ _ c.in_ok-name.ensures.idle (rw c.in_default.is at c.in_ok-name.ensures.first))

@@ -1,7 +1,7 @@
 use Rattle.std.proofs.Common.{◌∷◌, [], ap, ◌∙◌}
 use Rattle.disk_model.specs.Disk.{IfTold, EachImage}
 use Rattle.disk_model.specs.declared.name.FileName.TheVariants as file
-use Rattle.disk_model.proofs.Moments.{each_image-then}
+use Rattle.disk_model.proofs.MomentLemmas.{each_image-then}
 use Rattle.model_logs.specs.Entries.{map_text}
 use Rattle.model_store.specs.Opening.{first_box}
 use Rattle.gate_log.specs.State.{LogState}

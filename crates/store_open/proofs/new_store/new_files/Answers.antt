@@ -1,5 +1,5 @@
 use Rattle.std.proofs.Common.{◌++◌, ◌∷◌, [], refl, List, ◌∙◌, ap}
-use Rattle.gate_log.proofs.Idling.{idle-begins}
+use Rattle.disk_model.proofs.IdleLemmas.{idle-begins}
 use Rattle.store_core.specs.declared.store.OpenBox.{OpenBox}
 use Rattle.store_open.specs.Making.{IsFreeForStore}
 use Rattle.store_open.proofs.Idle.{stays}

@@ -3,9 +3,10 @@ use Rattle.std.specs.Prelude.{IfSome}
 use Rattle.disk_model.specs.Disk.{IfTold, IsPast, IsNext}
 use Rattle.disk_model.specs.contracts.name.FileNameOrd.TheImpl.{ghosts}
 use Rattle.disk_model.specs.declared.name.FileName.{FileName}
-use Rattle.disk_model.proofs.Moments.{if_told-all}
-use Rattle.store_sweep.specs.Wanted.{is_log, EndsByLastRegion}
-use Rattle.store_sweep.proofs.Order.{walk_shrinks}
+use Rattle.disk_model.proofs.MomentLemmas.{if_told-all}
+use Rattle.disk_model.specs.Name.{is_log}
+use Rattle.store_sweep.specs.Wanted.{EndsByLastRegion}
+use Rattle.disk_model.proofs.NameOrderLemmas.{walk_shrinks}
 use Rattle.store_sweep.proofs.Walking.{passed_none, walk_more, walk_ends}
 use Rattle.store_sweep.proofs.Sweeping.{images_now, images_unchanged, keeps_now, keeps_then, keeps_unchanged, where_now, where_then, where_unchanged, none_now, none_then, none_unchanged, kept_images, kept_keeps, walk_same, walk_none}
 use Rattle.store_sweep.proofs.Faults.{read_fault}

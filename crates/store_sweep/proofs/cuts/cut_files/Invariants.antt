@@ -3,10 +3,10 @@ use Rattle.std.specs.Prelude.{IfSome}
 use Rattle.disk_model.specs.Disk.{IfTold, IsThere, IsPast}
 use Rattle.disk_model.specs.contracts.name.FileNameOrd.TheImpl.{ghosts}
 use Rattle.disk_model.specs.declared.name.FileName.{FileName}
-use Rattle.store_sweep.specs.Names.{IsNameInRange}
-use Rattle.store_sweep.specs.Wanted.{is_log, EndsByLastRegion}
+use Rattle.disk_model.specs.Name.{IsNameInRange, is_log}
+use Rattle.store_sweep.specs.Wanted.{EndsByLastRegion}
 use Rattle.store_sweep.specs.Moments.{ImagesCarry, KeepsStore, SameWhere, SyncedWhereCut, NoneMade}
-use Rattle.store_sweep.proofs.Order.{top, passed}
+use Rattle.disk_model.proofs.NameOrderLemmas.{top, passed}
 use Rattle.store_sweep.proofs.cuts.cut_files.Given as goal
 
 abbrev pub invariant-loop-name : goal.invariant-loop-name

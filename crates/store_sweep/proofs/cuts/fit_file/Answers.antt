@@ -1,7 +1,8 @@
 use Rattle.std.proofs.Common.{ℕ, sym, subst}
-use Rattle.disk_model.proofs.OneFile.{same-begins}
-use Rattle.disk_model.proofs.Moments.{if_told-all}
-use Rattle.store_sweep.specs.Wanted.{is_log, EndBy}
+use Rattle.disk_model.proofs.OneFileLemmas.{same-begins}
+use Rattle.disk_model.proofs.MomentLemmas.{if_told-all}
+use Rattle.disk_model.specs.Name.{is_log}
+use Rattle.store_sweep.specs.Wanted.{EndBy}
 use Rattle.store_sweep.proofs.Cutting.{end_by, fits_anyway}
 use Rattle.store_sweep.proofs.Sweeping.{images_now, keeps_now, where_now, none_now}
 use Rattle.store_sweep.proofs.Syncing.{synced_now}

@@ -1,7 +1,7 @@
 use Rattle.std.proofs.Common.{sym, ◌∙◌}
 use Rattle.disk_model.specs.Disk.{removed, half_removed}
-use Rattle.disk_model.proofs.Moments.{if_told-all}
-use Rattle.disk_model.proofs.OneFile.{same-begins, same-goes_on}
+use Rattle.disk_model.proofs.MomentLemmas.{if_told-all}
+use Rattle.disk_model.proofs.OneFileLemmas.{same-begins, same-goes_on}
 use Rattle.store_sweep.specs.Wanted.{is_wanted}
 use Rattle.store_sweep.proofs.Holding.{unwanted_holds}
 use Rattle.store_sweep.proofs.Sweeping.{images_now, images_goes_on, images_fails, where_goes_on, removed_gone}

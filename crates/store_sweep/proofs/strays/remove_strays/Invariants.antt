@@ -1,13 +1,12 @@
 use Rattle.std.proofs.Common.{◌≡◌, ◌≤◌, ◌+◌, ◌-◌, true, false}
-use Rattle.gate_log.specs.Log.{SameState}
+use Rattle.disk_model.specs.Disk.{SameState, IfTold, IsThere, IsPast}
 use Rattle.std.specs.Prelude.{IfSome}
-use Rattle.disk_model.specs.Disk.{IfTold, IsThere, IsPast}
 use Rattle.disk_model.specs.contracts.name.FileNameOrd.TheImpl.{ghosts}
 use Rattle.disk_model.specs.declared.name.FileName.{FileName}
-use Rattle.store_sweep.specs.Names.{IsNameInRange}
+use Rattle.disk_model.specs.Name.{IsNameInRange}
 use Rattle.store_sweep.specs.Wanted.{is_wanted}
 use Rattle.store_sweep.specs.Moments.{ImagesCarry, SameWhere}
-use Rattle.store_sweep.proofs.Order.{top, passed}
+use Rattle.disk_model.proofs.NameOrderLemmas.{top, passed}
 use Rattle.store_sweep.proofs.strays.remove_strays.Given as goal
 
 abbrev pub invariant-loop-name : goal.invariant-loop-name

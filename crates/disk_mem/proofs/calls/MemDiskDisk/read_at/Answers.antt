@@ -3,7 +3,7 @@ use Rattle.disk_model.specs.Disk.{reading, DiskState}
 use Rattle.disk_mem.specs.declared.file.File.{File}
 use Rattle.disk_mem.specs.Mem.{told}
 use Rattle.disk_mem.specs.Record.{ReadsAll}
-use Rattle.disk_mem.proofs.Reading.{reading_octets}
+use Rattle.disk_mem.proofs.ReadingLemmas.{reading_octets}
 use Rattle.disk_mem.proofs.calls.MemDiskDisk.read_at.Goals as goal
 
 pub returns-in-Some-clause-octets : goal.returns-in-Some-clause-octets

@@ -1,7 +1,7 @@
 use Rattle.std.proofs.Common.{◌≡◌, ◌<◌, ◌≤◌, ◌^◌, length, Some, None, Option, ap, arith}
 use Rattle.disk_mem.specs.declared.file.File.{File}
 use Rattle.disk_mem.specs.Record.{found, octets_of}
-use Rattle.disk_mem.proofs.Failing.{on_ok_all}
+use Rattle.disk_mem.proofs.FailingLemmas.{on_ok_all}
 use Rattle.disk_mem.proofs.calls.MemDiskDisk.write_at.Goals as goal
 
 short : (file : Option File) → length (octets_of file) < 2 ^ 63

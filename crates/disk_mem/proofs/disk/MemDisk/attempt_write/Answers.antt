@@ -1,8 +1,8 @@
 use Rattle.std.proofs.Common.{◌≡◌, length, Some, OnOk, OnErr, ap, subst, refl}
 use Rattle.disk_model.specs.Disk.{History, AfterFailed, after, change, written, half_written}
 use Rattle.disk_mem.specs.Mem.{told}
-use Rattle.disk_mem.proofs.Steps.{on_ok, on_err}
-use Rattle.disk_mem.proofs.Failing.{write_state, write_failed, write_starved, on_err_all}
+use Rattle.disk_mem.proofs.StepLemmas.{on_ok, on_err}
+use Rattle.disk_mem.proofs.FailingLemmas.{write_state, write_failed, write_starved, on_err_all}
 use Rattle.disk_mem.proofs.disk.MemDisk.attempt_write.Goals as goal
 
 pub returns-then-is_write_due-clause-failed : goal.returns-then-is_write_due-clause-failed

@@ -1,5 +1,5 @@
 use Rattle.std.proofs.Common.{◌-◌, ◌^◌, min, ap, sym, ◌∙◌}
-use Rattle.disk_mem.proofs.CallCounts.{told-calls}
+use Rattle.disk_mem.proofs.CallCountLemmas.{told-calls}
 use Rattle.disk_mem.proofs.disk.MemDisk.calls.Goals as goal
 
 pub returns : goal.returns

@@ -4,8 +4,8 @@ use Rattle.disk_mem.specs.declared.file.File.{File}
 use Rattle.disk_mem.specs.declared.note.Note.{Note}
 use Rattle.disk_mem.specs.Left.{noted, IsLeft, shown_of}
 use Rattle.disk_mem.specs.Record.{found}
-use Rattle.disk_mem.proofs.Following.{if_ok}
-use Rattle.disk_mem.proofs.Copies.{image_is}
+use Rattle.disk_mem.proofs.FollowingLemmas.{if_ok}
+use Rattle.disk_mem.proofs.CopyLemmas.{image_is}
 use Rattle.disk_mem.proofs.disk.MemDisk.image.Goals as goal
 
 pub returns-clause-image : goal.returns-clause-image

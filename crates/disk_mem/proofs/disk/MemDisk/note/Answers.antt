@@ -2,7 +2,7 @@ use Rattle.std.proofs.Common.{◌≡◌, ◌++◌, ◌∷◌, [], sym, ◌∙◌
 use Rattle.disk_model.specs.Disk.{DiskState, History}
 use Rattle.disk_mem.specs.declared.note.Note.{Note}
 use Rattle.disk_mem.specs.Record.{ReadsAll, told_of}
-use Rattle.disk_mem.proofs.Histories.{told-noted}
+use Rattle.disk_mem.proofs.HistoryLemmas.{told-noted}
 use Rattle.disk_mem.proofs.disk.MemDisk.note.Goals as goal
 
 pub invariant_of-self-in-Break-branch-2 : goal.invariant_of-self-in-Break-branch-2

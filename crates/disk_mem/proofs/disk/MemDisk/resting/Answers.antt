@@ -3,8 +3,8 @@ use Rattle.disk_model.specs.declared.name.FileName.{FileName}
 use Rattle.disk_mem.specs.declared.file.File.{File}
 use Rattle.disk_mem.specs.Record.{told_of, found}
 use Rattle.disk_mem.specs.Left.{IsCopy}
-use Rattle.disk_mem.proofs.Copies.{rests_read}
-use Rattle.disk_mem.proofs.Histories.{told-begun}
+use Rattle.disk_mem.proofs.CopyLemmas.{rests_read}
+use Rattle.disk_mem.proofs.HistoryLemmas.{told-begun}
 use Rattle.disk_mem.proofs.disk.MemDisk.resting.Goals as goal
 
 pub invariant_of-result : goal.invariant_of-result

@@ -2,7 +2,7 @@ use Rattle.std.proofs.Common.{◌≡◌, ℕ, ◌<◌, ◌^◌, ap, subst, Some,
 use Rattle.disk_model.specs.Disk.{DiskState, Unchanged, reading}
 use Rattle.disk_mem.specs.Record.{ReadsAll, told_of}
 use Rattle.disk_mem.specs.Numbers.{next}
-use Rattle.disk_mem.proofs.Histories.{unchanged-waits, told-now}
+use Rattle.disk_mem.proofs.HistoryLemmas.{unchanged-waits, told-now}
 use Rattle.disk_mem.proofs.disk.MemDisk.wait.Goals as goal
 
 pub invariant_of-self : goal.invariant_of-self

@@ -1,5 +1,5 @@
 use Rattle.std.proofs.Common.{◌≡◌, ◌+◌, ◌<◌, ◌≤◌, ◌^◌, length, take, sym, ap, subst, ◌∙◌, arith}
-use Rattle.disk_model.proofs.Others.{Apart, apart_begins, apart_goes_on, apart_fails, apart_fails_still, apart_images}
+use Rattle.disk_model.proofs.OtherFileLemmas.{Apart, apart_begins, apart_goes_on, apart_fails, apart_fails_still, apart_images}
 use Rattle.gate_log.specs.State.{LogState}
 use Rattle.gate_log.specs.Log.{Reads}
 use Rattle.gate_log.specs.contracts.log.GateLog.{the_view}

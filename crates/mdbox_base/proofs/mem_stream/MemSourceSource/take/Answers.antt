@@ -1,6 +1,6 @@
 use Rattle.std.proofs.Common.{◌∙◌, sym, ap}
 use Rattle.mdbox_base.specs.Streams.{MemorySource}
-use Rattle.mdbox_base.proofs.StreamLaws.{copied_slice}
+use Rattle.mdbox_base.proofs.StreamLemmas.{copied_slice}
 use Rattle.mdbox_base.proofs.mem_stream.MemSourceSource.take.Goals as goal
 
 pub returns-clause-octets : goal.returns-clause-octets

@@ -1,0 +1,12 @@
+pub mod AloneLemmas
+pub mod BrokenLemmas
+pub mod CountLemmas
+pub mod EventExampleLemmas
+pub mod ExampleLemmas
+pub mod ExpungeLemmas
+pub mod JournalLemmas
+pub mod LegalLemmas
+pub mod MakesLemmas
+pub mod OwnEventLemmas
+pub mod ReachedLemmas
+pub mod RunLemmas

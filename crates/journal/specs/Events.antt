@@ -1,0 +1,415 @@
+-- The events of each request: what stands part_behind what, and what each one does.
+use Rattle.std.specs.Prelude.{◌≡◌, ◌≢◌, ◌≤◌, ◌<◌, ◌↔◌, ◌+◌, ◌-◌, ◌/◌, ◌==◌, ◌&&◌, ◌||◌, nat_lt, nat_le, ℕ, Bool, true, false, not, List, [], ◌∷◌, ◌++◌, length, map, filter, find, flat_map, sum_by, count_by, slice_get, if◌then◌else◌, Option, Some, None, IsTrue, Contains}
+use Rattle.std.specs.List.{list_all, list_any}
+use Rattle.std.specs.Option.{option_map_or}
+use Rattle.mdbox_base.specs.declared.ids.MapUid.{MapUid}
+use Rattle.mdbox_base.specs.declared.entries.InstRow.{InstRow}
+use Rattle.mdbox_base.specs.declared.entries.MapPlace.{MapPlace}
+use Rattle.mdbox_base.specs.declared.entries.BoxEntry.{BoxEntry}
+use Rattle.mdbox_base.specs.declared.entries.BoxEntry.TheVariants as box
+use Rattle.mdbox_base.specs.declared.entries.MapEntry.{MapEntry}
+use Rattle.mdbox_base.specs.declared.entries.MapEntry.TheVariants as entry
+use Rattle.mdbox_base.specs.declared.requests.Request.{Request}
+use Rattle.mdbox_base.specs.declared.requests.Request.TheVariants as request
+use Rattle.mdbox_base.specs.declared.replies.Refusal.{Refusal}
+use Rattle.mdbox_base.specs.declared.replies.Refusal.TheVariants as refusal
+use Rattle.model_lists.specs.Lists.{ListedMessage, Mailbox, Lists, refs_of}
+use Rattle.model_meaning.specs.MapMeaning.{MapMeaning, MapRecord, record_of, no_numbers, guid_file, instance_number, number_at}
+use Rattle.model_meaning.specs.MapFits.{MapFits}
+use Rattle.list_machine.specs.Run.{EventPart, First, Compares, PlacesInstance, TakesFile, PlacesMessage, StoresRecord, Last, SecondHalf, GivesBack, StartsOver, ReadsPiece, Unpins, RemovesFile, MakesTarget, CopiesMessage, Switches, RemovesInstance, ReadsFile, BoxAppend, TakenFile, RunEvent, event_of, Run, and_then, map_of, drawn_of, own_events, reply_of, with_targets, is_copied_from, first_in, map_uid_in, is_one_of, is_pinned, is_doomed}
+use Rattle.model_mime.specs.Parts.{parts_in}
+use Rattle.list_machine.specs.Machine.{mailbox_named, message_at, is_step, first_refusal, checks_of}
+use Rattle.journal.specs.Journal.{Requests}
+
+-- What an event sees as it begins that stands in no list, in no entry and in no earlier event. Of a delivery: how many
+-- detached parts its message has, whether the next part has a candidate that wasn't compared, and whether a storage file
+-- that may be taken has room. Of a purge: whether an instance may be removed.
+pub record Around : Type 0 where
+  pub parts : ℕ
+  pub candidate_left : Bool
+  pub has_room : Bool
+  pub instance_left : Bool
+
+-- ---- the order of the parts
+
+-- A delivery: each part of the message is compared with its candidates, and placed where none is equal; then a storage
+-- file is taken, a new one only where none has room, the message placed, stored in the map, and added.
+abbrev pub instances_found : ℕ → Run → List InstRow
+instances_found request run = flat_map (λ e. e.equal ++ e.placed) (own_events request run)
+
+abbrev pub behind_delivery : Around → Run → RunEvent → EventPart → Option EventPart
+behind_delivery around run event (TakesFile new) = Some PlacesMessage
+behind_delivery around run event PlacesMessage = Some StoresRecord
+behind_delivery around run event StoresRecord = Some Last
+behind_delivery around run event Last = None
+behind_delivery around run event GivesBack = None
+behind_delivery around run event part =
+    if nat_lt (length (instances_found event.request run)) around.parts
+    then (if around.candidate_left then Some Compares else Some PlacesInstance)
+    else Some (TakesFile (not around.has_room))
+
+-- A make creates a log, and then names it, or removes it and begins again where its number was overtaken.
+abbrev pub behind_make : Bool → EventPart → Option EventPart
+behind_make overtaken First = if overtaken then Some StartsOver else Some Last
+behind_make overtaken StartsOver = Some First
+behind_make overtaken part = None
+
+-- A copy raises the count and adds the message. A move then removes it from its source, where it is still there, and
+-- lowers the count.
+abbrev pub behind_copy : EventPart → Option EventPart
+behind_copy First = Some Last
+behind_copy part = None
+
+abbrev pub behind_move : RunEvent → EventPart → Option EventPart
+behind_move event First = Some Last
+behind_move event Last = Some SecondHalf
+behind_move event SecondHalf = if nat_lt 0 (length event.box_entries) then Some GivesBack else None
+behind_move event part = None
+
+abbrev pub behind_expunge : EventPart → Option EventPart
+behind_expunge First = Some GivesBack
+behind_expunge part = None
+
+-- A fetch reads its pieces and unpins; the last to unpin a doomed file removes it.
+abbrev pub is_piece : EventPart → Bool
+is_piece ReadsPiece = true
+is_piece part = false
+
+abbrev pub piece_left : ℕ → Run → Bool
+piece_left request run =
+    nat_lt (count_by (λ e. is_piece e.part) (own_events request run)) (sum_by (λ e. sum_by (λ p. p.pieces) e.pins) (own_events request run))
+
+abbrev pub leaves_doomed : ℕ → Run → Bool
+leaves_doomed request run = list_any (λ e. list_any (λ p. is_doomed run p.file && not (is_pinned run p.file)) e.pins) (own_events request run)
+
+abbrev pub behind_fetch : Run → RunEvent → EventPart → Option EventPart
+behind_fetch run event Unpins = if leaves_doomed event.request run then Some RemovesFile else None
+behind_fetch run event RemovesFile = None
+behind_fetch run event part = if piece_left event.request run then Some ReadsPiece else Some Unpins
+
+-- A purge goes from file to file, in the order in which it took them, and then from instance to instance. It makes the
+-- target of a file that has one, copies its messages, switches it, and removes it where it isn't pinned; a file whose
+-- records all have count 0 is switched at once, and one without records removed.
+abbrev pub is_done : List RunEvent → TakenFile → Bool
+is_done own taken = list_any (λ e. is_one_of e.doomed taken.file || is_one_of e.removed taken.file) own
+
+abbrev pub next_taken : List RunEvent → Option TakenFile
+next_taken own = find (λ t. not (is_done own t)) (flat_map (λ e. e.files) own)
+
+abbrev pub purge_goes_on : Around → Run → Option TakenFile → Option EventPart
+purge_goes_on around run None = if around.instance_left then Some RemovesInstance else Some Last
+purge_goes_on around run (Some taken) =
+    if nat_lt 0 taken.target then Some MakesTarget else (if list_any (λ row. row.file == taken.file) (map_of run).records then Some Switches else Some RemovesFile)
+
+abbrev pub message_left : List RunEvent → Run → Option TakenFile → Bool
+message_left own run None = false
+message_left own run (Some taken) = list_any (λ row. is_copied_from taken.file row && not (list_any (λ e. is_one_of e.copied row.uid) own)) (map_of run).records
+
+abbrev pub purge_copies : Run → List RunEvent → Option EventPart
+purge_copies run own = if message_left own run (next_taken own) then Some CopiesMessage else Some Switches
+
+abbrev pub behind_purge : Around → Run → RunEvent → EventPart → Option EventPart
+behind_purge around run event MakesTarget = purge_copies run (own_events event.request run)
+behind_purge around run event CopiesMessage = purge_copies run (own_events event.request run)
+behind_purge around run event Switches =
+    if list_any (λ file. is_pinned run file) event.doomed then purge_goes_on around run (next_taken (own_events event.request run)) else Some RemovesFile
+behind_purge around run event Last = None
+behind_purge around run event part = purge_goes_on around run (next_taken (own_events event.request run))
+
+-- A resync reads each file that it listed.
+abbrev pub is_reading : EventPart → Bool
+is_reading ReadsFile = true
+is_reading part = false
+
+abbrev pub file_left : List RunEvent → Bool
+file_left own = nat_lt (count_by (λ e. is_reading e.part) own) (sum_by (λ e. length e.files) own)
+
+abbrev pub behind_resync : Run → RunEvent → EventPart → Option EventPart
+behind_resync run event Last = None
+behind_resync run event part = if file_left (own_events event.request run) then Some ReadsFile else Some Last
+
+-- the mailbox number that a request drew last, as far as the run went
+abbrev pub number_drawn : ℕ → ℕ → ℕ → List RunEvent → ℕ
+number_drawn request last drawn [] = last
+number_drawn request last drawn (e ∷ es) =
+    number_drawn request (if (e.request == request) && nat_lt 0 e.drew.mailbox then drawn + e.drew.mailbox else last) (drawn + e.drew.mailbox) es
+
+abbrev pub number_of : Run → ℕ → ℕ
+number_of run request = number_drawn request 0 run.opened.mailbox run.events
+
+-- a make's number is no longer above the highest
+abbrev pub is_overtaken : Run → ℕ → Bool
+is_overtaken run request = nat_le (number_of run request) (map_of run).highest.mailbox
+
+-- The part part_behind an event that did its own: none where the request is answered.
+abbrev pub part_behind : Around → Run → Request → RunEvent → Option EventPart
+part_behind around run (request.Deliver name time octets) event = behind_delivery around run event event.part
+part_behind around run (request.Make name) event = behind_make (is_overtaken run event.request) event.part
+part_behind around run (request.Copy name uid target) event = behind_copy event.part
+part_behind around run (request.Move name uid target) event = behind_move event event.part
+part_behind around run (request.Expunge name uid) event = behind_expunge event.part
+part_behind around run (request.Fetch name uid) event = behind_fetch run event event.part
+part_behind around run request.Purge event = behind_purge around run event event.part
+part_behind around run request.Resync event = behind_resync run event event.part
+part_behind around run request event = None
+
+-- The part part_behind an event that was refused: counts are given back where an addition was refused, unless the store is
+-- stopped, and a fetch unpins also where it met a read fault or damage.
+abbrev pub behind_addition : EventPart → Refusal → Option EventPart
+behind_addition Last refusal.Stopped = None
+behind_addition Last refused = Some GivesBack
+behind_addition part refused = None
+
+abbrev pub behind_piece : EventPart → Refusal → Option EventPart
+behind_piece ReadsPiece refusal.ReadFault = Some Unpins
+behind_piece ReadsPiece (refusal.Damaged file offset) = Some Unpins
+behind_piece part refused = None
+
+abbrev pub behind_refused : Request → EventPart → Refusal → Option EventPart
+behind_refused (request.Deliver name time octets) part refused = behind_addition part refused
+behind_refused (request.Copy name uid target) part refused = behind_addition part refused
+behind_refused (request.Move name uid target) part refused = behind_addition part refused
+behind_refused (request.Fetch name uid) part refused = behind_piece part refused
+behind_refused request part refused = None
+
+abbrev pub behind_event : Around → Run → Request → RunEvent → Option Refusal → Option EventPart
+behind_event around run request event None = part_behind around run request event
+behind_event around run request event (Some refused) = behind_refused request event.part refused
+
+-- The next part of a request part_behind these events of it: the first, or the one part_behind the last of them.
+abbrev pub next_part : Around → Run → Request → List RunEvent → Option EventPart
+next_part around run request [] = Some First
+next_part around run request (event ∷ []) = behind_event around run request event event.refused
+next_part around run request (event ∷ more ∷ rest) = next_part around run request (more ∷ rest)
+
+-- ---- what a part does
+
+-- an event that did nothing that is told, of the same part, with the same reply at the same moment
+abbrev pub plain : RunEvent → RunEvent
+plain event = record (event_of event.lane event.request event.part event.moment) { reply = event.reply }
+
+-- An event that was refused did nothing: a purge tells the files that it would have taken, and what was refused for want
+-- of memory or by a fault may have drawn its numbers before.
+abbrev pub DidNothing : RunEvent → Type 0
+DidNothing event = event ≡ record (plain event) { refused = event.refused; files = event.files; drew = event.drew }
+
+-- the record that a request holds: that whose count it raised, or that it stored
+abbrev pub uid_raised : MapEntry → Option ℕ
+uid_raised (entry.U uid) = Some uid.0
+uid_raised (entry.S origin count uid file offset size guid instances) = Some uid.0
+uid_raised other = None
+
+abbrev pub uid_held : ℕ → Run → Option ℕ
+uid_held request run = first_in uid_raised (flat_map (λ e. e.map_entries) (own_events request run))
+
+-- the record of a listed message
+abbrev pub IsRecord : Run → Lists → List ℕ → ℕ → MapRecord → Type 0
+IsRecord run lists name uid row = (message : ListedMessage) × (message_at name uid lists ≡ Some message) × (record_of (map_of run) message.guid ≡ Some row)
+
+-- one entry for the log of the mailbox with this name, and one for the map log
+abbrev pub adds_to : Mailbox → BoxEntry → List BoxAppend
+adds_to mailbox added = record { mailbox = mailbox.number; entry = added } ∷ []
+
+abbrev pub lowers : ℕ → List MapEntry
+lowers uid = entry.D (record { 0 = uid } ∷ []) ∷ []
+
+-- a message is removed, and its record owed
+abbrev pub Removes : Run → Lists → List ℕ → ℕ → RunEvent → Type 0
+Removes run lists name uid event =
+    (mailbox : Mailbox) × (row : MapRecord) × (mailbox_named name lists ≡ Some mailbox) × IsRecord run lists name uid row
+    × (event ≡ record (plain event) { box_entries = adds_to mailbox (box.R (record { 0 = uid })); owes = row.uid ∷ [] })
+
+abbrev pub RemovesIfThere : Run → Lists → List ℕ → ℕ → RunEvent → Option ListedMessage → Type 0
+RemovesIfThere run lists name uid event None = event ≡ plain event
+RemovesIfThere run lists name uid event (Some message) = Removes run lists name uid event
+
+-- a message is added with the next UID, of the record that the request holds
+abbrev pub Adds : Run → Lists → List ℕ → RunEvent → ListedMessage → Type 0
+Adds run lists target event message =
+    (mailbox : Mailbox) × (held : ℕ) × (mailbox_named target lists ≡ Some mailbox) × (uid_held event.request run ≡ Some held)
+    × (event ≡ record (plain event) {
+      box_entries = adds_to mailbox (box.A (record { 0 = mailbox.next_uid }) message.flags message.time (length message.octets) (record { 0 = held }) (record { 0 = message.guid }));
+    })
+
+-- the count of the record that is held, or owed, is lowered
+abbrev pub Lowers : Option ℕ → RunEvent → Type 0
+Lowers uid event = (lowered : ℕ) × (uid ≡ Some lowered) × (event ≡ record (plain event) { map_entries = lowers lowered })
+
+abbrev pub owed_by : ℕ → Run → Option ℕ
+owed_by request run = first_in (λ uid. Some uid) (flat_map (λ e. e.owes) (own_events request run))
+
+-- What the events of a copy do, or of the first half of a move.
+abbrev pub DidCopy : Run → Lists → List ℕ → ℕ → List ℕ → RunEvent → EventPart → Type 0
+DidCopy run lists name uid target event First =
+    (row : MapRecord) × IsRecord run lists name uid row × (event ≡ record (plain event) { map_entries = entry.U (record { 0 = row.uid }) ∷ [] })
+DidCopy run lists name uid target event Last = (message : ListedMessage) × (message_at name uid lists ≡ Some message) × Adds run lists target event message
+DidCopy run lists name uid target event GivesBack = Lowers (uid_held event.request run) event
+DidCopy run lists name uid target event part = ⊥
+
+-- What the events of a delivery do. Instance, file and record get the next number, the GUID is the store's id, the file
+-- taken and the place of the message, and the record names the instances that were found equal or placed.
+abbrev pub file_taken : ℕ → Run → Option ℕ
+file_taken request run = first_in (λ taken. Some taken.file) (flat_map (λ e. e.files) (own_events request run))
+
+abbrev pub guid_given : ℕ → Run → Option (List ℕ)
+guid_given request run = first_in (λ guid. Some guid) (flat_map (λ e. e.given) (own_events request run))
+
+abbrev pub DidDeliver : Run → Lists → List ℕ → ℕ → List ℕ → RunEvent → EventPart → Type 0
+DidDeliver run lists name time octets event First = event ≡ plain event
+DidDeliver run lists name time octets event Compares =
+    (candidate : InstRow) × (same : Bool) × (event ≡ record (plain event) { compared = candidate ∷ []; equal = if same then candidate ∷ [] else [] })
+DidDeliver run lists name time octets event PlacesInstance =
+    (instance : InstRow) × (instance_number run.store instance.id.0 ≡ (drawn_of run).instance + 1)
+    × (event ≡ record (plain event) { placed = instance ∷ []; drew = record no_numbers { instance = 1 } })
+DidDeliver run lists name time octets event (TakesFile new) =
+    (file : ℕ) × (new ≡ true → file ≡ (drawn_of run).file + 1)
+    × (event ≡ record (plain event) { files = record { file = file; target = 0 } ∷ []; drew = if new then record no_numbers { file = 1 } else no_numbers })
+DidDeliver run lists name time octets event PlacesMessage =
+    (guid : List ℕ) × (file_taken event.request run ≡ Some (guid_file run.store guid)) × (length guid ≡ 16) × (event ≡ record (plain event) { given = guid ∷ [] })
+DidDeliver run lists name time octets event StoresRecord =
+    (guid : List ℕ) × (size : ℕ) × (guid_given event.request run ≡ Some guid)
+    × (event ≡ record (plain event) {
+      map_entries = entry.S 0 1 (record { 0 = (drawn_of run).map + 1 }) (record { 0 = guid_file run.store guid }) (number_at 12 guid) size (record { 0 = guid }) (instances_found event.request run) ∷ [];
+      drew = record no_numbers { map = 1 };
+    })
+DidDeliver run lists name time octets event Last =
+    (guid : List ℕ) × (guid_given event.request run ≡ Some guid) × Adds run lists name event (record { uid = 0; flags = 0; time = time; guid = guid; octets = octets })
+DidDeliver run lists name time octets event GivesBack = Lowers (uid_held event.request run) event
+DidDeliver run lists name time octets event part = ⊥
+
+abbrev pub DidMake : Run → List ℕ → RunEvent → EventPart → Type 0
+DidMake run name event First = event ≡ record (plain event) { drew = record no_numbers { mailbox = 1 } }
+DidMake run name event Last = event ≡ record (plain event) { map_entries = entry.B (record { 0 = number_of run event.request }) 1 name ∷ [] }
+DidMake run name event part = event ≡ plain event
+
+-- What the events of a purge do: it takes files and draws a number for each target, one after another; it copies a record
+-- that has a count; a file is switched, by the counts at that event, and doomed; files and instances are removed.
+abbrev pub targets_of : MapMeaning → ℕ → List TakenFile → List ℕ
+targets_of m drawn [] = []
+targets_of m drawn (taken ∷ rest) =
+    if list_any (is_copied_from taken.file) m.records then (drawn + 1) ∷ targets_of m (drawn + 1) rest else 0 ∷ targets_of m drawn rest
+
+abbrev pub DidPurge : Run → RunEvent → EventPart → Type 0
+DidPurge run event First =
+    (files : List TakenFile) × (map (λ t. t.target) files ≡ targets_of (map_of run) (drawn_of run).file files)
+    × (event ≡ record (plain event) { files = files; drew = record no_numbers { file = length (with_targets (map_of run) files) } })
+DidPurge run event CopiesMessage =
+    (row : MapRecord) × Contains (map_of run).records row × (1 ≤ row.count) × (option_map_or (λ t. t.file) (next_taken (own_events event.request run)) 0 ≡ row.file) × (event ≡ record (plain event) { copied = row.uid ∷ [] })
+DidPurge run event Switches =
+    (taken : TakenFile) × (target : ℕ) × (moved : List MapPlace) × (dropped : List MapUid) × (next_taken (own_events event.request run) ≡ Some taken) × MapFits (map_of run) (entry.P (record { 0 = taken.file }) target moved dropped)
+    × (target ≢ 0 → target ≡ taken.target)
+    × (event ≡ record (plain event) { map_entries = entry.P (record { 0 = taken.file }) target moved dropped ∷ []; doomed = taken.file ∷ [] })
+DidPurge run event RemovesFile = (file : ℕ) × (event ≡ record (plain event) { removed = file ∷ [] })
+DidPurge run event RemovesInstance = (instance : InstRow) × (event ≡ record (plain event) { gone = instance ∷ [] })
+DidPurge run event part = event ≡ plain event
+
+-- What tasks hold and owe of a record: holds begin with `U` and `S` and end with `A`, debts begin with a removal, and `D`
+-- ends either.
+abbrev pub begun_in : ℕ → RunEvent → ℕ
+begun_in uid event = count_by (λ e. option_map_or (λ u. u == uid) (uid_raised e) false) event.map_entries + count_by (λ u. u == uid) event.owes
+
+abbrev pub added_in : ℕ → BoxAppend → Bool
+added_in uid x = option_map_or (λ u. u == uid) (map_uid_in x.entry) false
+
+abbrev pub lowered_in : ℕ → MapEntry → ℕ
+lowered_in uid (entry.D uids) = count_by (λ u. u.0 == uid) uids
+lowered_in uid other = 0
+
+abbrev pub ended_in : ℕ → RunEvent → ℕ
+ended_in uid event = count_by (added_in uid) event.box_entries + sum_by (lowered_in uid) event.map_entries
+
+abbrev pub due_of : Run → ℕ → ℕ
+due_of run uid = sum_by (begun_in uid) run.events - sum_by (ended_in uid) run.events
+
+-- The counts are right: of each GUID the references, and what tasks hold and owe of its record.
+abbrev pub AreRight : Run → Lists → Type 0
+AreRight run lists = (row : MapRecord) → Contains (map_of run).records row → row.count ≡ refs_of lists row.guid + due_of run row.uid
+
+abbrev pub is_correction : MapEntry → Bool
+is_correction (entry.T counts) = true
+is_correction other = false
+
+-- What the events of a resync do: files are listed and read; then every count that is wrong is put right by one entry, or none is
+-- wrong and nothing is appended.
+abbrev pub DidResync : Run → Lists → RunEvent → EventPart → Type 0
+DidResync run lists event First = (files : List TakenFile) × (event ≡ record (plain event) { files = files })
+DidResync run lists event ReadsFile = (damaged : List ℕ) × (event ≡ record (plain event) { damaged = damaged })
+DidResync run lists event Last =
+    (added : List MapEntry) × (event ≡ record (plain event) { map_entries = added }) × IsTrue (list_all is_correction added) × (length added ≤ 1) × AreRight (and_then run event) lists
+DidResync run lists event part = event ≡ plain event
+
+-- What the events of a fetch do: it pins the file of the listed message, and has as many pieces to read as its region and
+-- its instances have, of 65,536 octets each.
+abbrev pub pieces_to_read : MapRecord → ℕ
+pieces_to_read row = (row.size + 65535) / 65536 + sum_by (λ i. (i.size + 65535) / 65536) row.instances
+
+abbrev pub DidFetch : Run → Lists → List ℕ → ℕ → RunEvent → EventPart → Type 0
+DidFetch run lists name uid event First =
+    (row : MapRecord) × IsRecord run lists name uid row × (event ≡ record (plain event) { pins = record { file = row.file; pieces = pieces_to_read row } ∷ [] })
+DidFetch run lists name uid event RemovesFile = (file : ℕ) × (is_doomed run file ≡ true) × (is_pinned run file ≡ false) × (event ≡ record (plain event) { removed = file ∷ [] })
+DidFetch run lists name uid event part = event ≡ plain event
+
+-- What an event did that wasn't refused, and that it did nothing else that is told.
+abbrev pub Did : Run → Lists → Request → RunEvent → EventPart → Type 0
+Did run lists (request.Deliver name time octets) event part = DidDeliver run lists name time octets event part
+Did run lists (request.Flag name uid flags) event First =
+    (mailbox : Mailbox) × (mailbox_named name lists ≡ Some mailbox) × (event ≡ record (plain event) { box_entries = adds_to mailbox (box.F uid flags) })
+Did run lists (request.Expunge name uid) event First = Removes run lists name uid.0 event
+Did run lists (request.Expunge name uid) event GivesBack = Lowers (owed_by event.request run) event
+Did run lists (request.Move name uid target) event SecondHalf =
+    RemovesIfThere run lists name uid.0 event (message_at name uid.0 lists)
+Did run lists (request.Move name uid target) event part = DidCopy run lists name uid.0 target event part
+Did run lists (request.Copy name uid target) event part = DidCopy run lists name uid.0 target event part
+Did run lists (request.Make name) event part = DidMake run name event part
+Did run lists (request.Fetch name uid) event part = DidFetch run lists name uid.0 event part
+Did run lists request.Purge event part = DidPurge run event part
+Did run lists request.Resync event part = DidResync run lists event part
+Did run lists request event part = event ≡ plain event
+
+-- ---- an event
+
+-- the parts whose event is a step of the journal, where it isn't refused
+abbrev pub is_step_part : Request → EventPart → Bool
+is_step_part (request.List name) First = true
+is_step_part (request.Fetch name uid) First = true
+is_step_part (request.Flag name uid flags) First = true
+is_step_part (request.Expunge name uid) First = true
+is_step_part request.Counts First = true
+is_step_part (request.Deliver name time octets) Last = true
+is_step_part (request.Copy name uid target) Last = true
+is_step_part (request.Move name uid target) Last = true
+is_step_part (request.Move name uid target) SecondHalf = true
+is_step_part (request.Make name) Last = true
+is_step_part request.Purge Last = true
+is_step_part request.Resync Last = true
+is_step_part request part = false
+
+-- The event of a refusal is a step too, but for want of memory, faults and damage.
+abbrev pub makes_step : Request → EventPart → Option Refusal → Bool
+makes_step request part None = is_step_part request part
+makes_step request part (Some refusal) = is_step refusal
+
+-- The detached parts of a delivered message: as many as it has that can be detached.
+abbrev pub HasParts : Request → ℕ → Type 0
+HasParts (request.Deliver name time octets) parts = parts ≡ length (filter (λ part. part.detachable) (parts_in octets))
+HasParts request parts = Unit {0}
+
+-- An event of a request: it does the next part. It is refused where one of its checks is, and then does nothing; a part
+-- that isn't refused does its own and nothing else. The request is answered with it exactly where no part stands part_behind it.
+pub record IsEvent (around after : Around) (run : Run) (lists : Lists) (request : Request) (event : RunEvent) : Type 0 where
+  pub parts : HasParts request around.parts
+  pub part_is : next_part around run request (own_events event.request run) ≡ Some event.part
+  pub refused : (refusal : Refusal) → event.refused ≡ Some refusal → is_step refusal ≡ true → first_refusal run lists (checks_of run request event) ≡ Some refusal
+  pub undone : (refusal : Refusal) → event.refused ≡ Some refusal → DidNothing event × (is_step refusal ≡ true → event.drew ≡ no_numbers)
+  pub allowed : event.refused ≡ None → first_refusal run lists (checks_of run request event) ≡ None
+  pub did : event.refused ≡ None → Did run lists request event event.part
+  pub ends : (event.reply ≢ None) ↔ (behind_event after (and_then run event) request event event.refused ≡ None)
+
+-- An event is the next one of its lane: it is one of the first request of the lane that isn't answered.
+pub record IsNextEvent (around after : Around) (script : Requests) (run : Run) (lists : Lists) (event : RunEvent) : Type 0 where
+  pub asked : ℕ × Request
+  pub request_is : slice_get script event.request ≡ Some asked
+  pub lane_is : event.lane ≡ asked.0
+  pub earlier : (i : ℕ) (q : ℕ × Request) → i < event.request → slice_get script i ≡ Some q → q.0 ≡ asked.0 → reply_of i run ≢ None
+  pub unanswered : reply_of event.request run ≡ None
+  pub is_event : IsEvent around after run lists asked.1 event
