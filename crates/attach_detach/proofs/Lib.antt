@@ -1,2 +1,2 @@
-pub mod Cuts
-pub mod Naming
+pub mod CutLemmas
+pub mod NamingLemmas

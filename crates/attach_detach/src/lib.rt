@@ -8,5 +8,3 @@ mod cut;
 mod laws;
 mod message;
 mod size;
-#[cfg(test)]
-mod tests;

@@ -1,3 +1,3 @@
-pub mod Checks
-pub mod Joins
-pub mod Restored
+pub mod CheckLemmas
+pub mod JoinLemmas
+pub mod RestoredLemmas

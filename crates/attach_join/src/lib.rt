@@ -7,5 +7,3 @@ pub use restore::rejoin_detached;
 mod check;
 mod join;
 mod restore;
-#[cfg(test)]
-mod tests;

@@ -1,4 +1,4 @@
-pub mod Cut
-pub mod Forms
-pub mod Sizes
-pub mod Writing
+pub mod CutLemmas
+pub mod FormLemmas
+pub mod SizeLemmas
+pub mod WritingLemmas

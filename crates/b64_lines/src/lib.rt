@@ -7,6 +7,4 @@ pub use write::{push_lines, write_lines};
 
 mod read;
 mod size;
-#[cfg(test)]
-mod tests;
 mod write;

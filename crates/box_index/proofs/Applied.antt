@@ -1,5 +1,5 @@
 -- What one entry more does to the rows and the next UID, in the words of the code.
-use Rattle.std.proofs.Common.{◌≡◌, ◌<◌, ◌≤◌, ◌+◌, ◌==◌, ℕ, max, Bool, true, false, cond, Option, Some, IfSome, List, [], ◌∷◌, ◌++◌, length, map, filter, not, append-nil, refl, sym, ap, subst, ◌∙◌, arith, length-append}
+use Rattle.std.proofs.Common.{◌≡◌, ◌≤◌, ◌+◌, ◌==◌, ℕ, Bool, false, List, [], ◌∷◌, ◌++◌, length, map, filter, not, append-nil, refl, sym, ap, ◌∙◌, arith, length-append}
 use Rattle.std.proofs.lemmas.List.{length-map}
 use Rattle.mdbox_base.specs.declared.ids.Uid.{Uid}
 use Rattle.mdbox_base.specs.declared.ids.MapUid.{MapUid}
@@ -7,7 +7,7 @@ use Rattle.mdbox_base.specs.declared.ids.Guid.{Guid}
 use Rattle.mdbox_base.specs.declared.entries.BoxEntry.TheVariants as entry
 use Rattle.model_meaning.specs.BoxMeaning.{LogRow, BoxMeaning, box_applied, BoxFits, row_changed, row_removed}
 use Rattle.box_index.specs.declared.index.BoxRow.{BoxRow}
-use Rattle.box_index.specs.Row.{row_of, UidsRise, IsInOrder, flagged}
+use Rattle.box_index.specs.Row.{row_of, IsInOrder, flagged}
 use Rattle.box_index.proofs.RowLemmas.{filter-all, map-same, map-append, flagged-rows, removed-rows, rise-higher, rise-append, rise-flagged, rise-removed}
 
 abbrev made : List LogRow → ℕ → BoxMeaning

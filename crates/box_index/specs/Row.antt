@@ -1,7 +1,5 @@
 -- Rows of a mailbox as the code has them, and what they stand for.
-use Rattle.std.specs.Prelude.{◌==◌, if◌then◌else◌, ◌+◌, ◌<◌, ◌≤◌, ◌^◌, ℕ, List, [], ◌∷◌, length, map, Option, None, Some}
-use Rattle.std.specs.List.{AllByRecursion}
-use Rattle.mdbox_base.specs.declared.ids.Uid.{Uid}
+use Rattle.std.specs.Prelude.{◌==◌, if◌then◌else◌, ◌+◌, ◌≤◌, ℕ, List, [], ◌∷◌, length}
 use Rattle.model_meaning.specs.BoxMeaning.{LogRow, BoxMeaning}
 use Rattle.mdbox_base.specs.declared.entries.BoxEntry.{BoxEntry}
 use Rattle.mdbox_base.specs.declared.entries.BoxEntry.TheVariants as entry

@@ -1,7 +1,7 @@
-pub mod Fronts
-pub mod HeaderLaws
-pub mod MessageLaws
-pub mod RowLaws
-pub mod RunLaws
-pub mod ScanSteps
-pub mod SizeLaws
+pub mod PrefixLemmas
+pub mod HeaderLemmas
+pub mod MessageLemmas
+pub mod RowLemmas
+pub mod RunLemmas
+pub mod ScanLemmas
+pub mod SizeLemmas

@@ -12,6 +12,4 @@ mod image;
 mod marks;
 mod note;
 mod plan;
-#[cfg(test)]
-mod tests;
 mod text;

@@ -146,7 +146,7 @@ calls h = length h.before
 -- modelled.
 abbrev pub IsMoment : Option History → ℕ → Type 0
 IsMoment None moment = ⊤
-IsMoment (Some h) moment = (2 ^ 64 - 1 ≤ moment) ⊎ (moment ≡ calls h)
+IsMoment (Some h) moment = moment ≡ min (calls h) (2 ^ 64 - 1)
 
 -- one more call has returned, and left this state
 abbrev pub joined_by : DiskState → History → History

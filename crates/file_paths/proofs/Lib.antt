@@ -1,4 +1,3 @@
-pub mod HexLaws
-pub mod InstLaws
-pub mod OneFileLaws
-pub mod ReadLaws
+pub mod InstLemmas
+pub mod OneFileLemmas
+pub mod ReadLemmas

@@ -1,18 +1,16 @@
 // The file of a path.
 ghost use Rattle.std.specs.Prelude.{◌≡◌, ◌≢◌, ◌<◌, ◌++◌, ◌∷◌, [], ℕ, List, length, IsTrue, IfSome, IfNone, codes};
-ghost use Rattle.std.specs.List.{list_all, list_any};
-ghost use Rattle.std.specs.Char.{is_ascii_uppercase};
+ghost use Rattle.std.specs.List.{list_all};
 ghost use Rattle.disk_model.specs.declared.name.FileName.{FileName};
 ghost use Rattle.disk_model.specs.declared.name.FileName.TheVariants.{Map, Box, Mail, Inst};
 ghost use Rattle.hex.specs.Hex.{encode_lower};
 ghost use Rattle.mdbox_base.specs.Numbers.{decimal_text};
-ghost use Rattle.mdbox_base.specs.Words.{IsOctets, IsNumber, is_other_than};
+ghost use Rattle.mdbox_base.specs.Words.{IsNumber, is_other_than};
 ghost use Rattle.file_paths.specs.Paths.{path_text, IsStoreFile};
 ghost use Rattle.file_paths.specs.InstPath.{inst_path};
 
 use disk_model::FileName;
-use hex::FromHex;
-use mdbox_base::read_decimal;
+use mdbox_base::{is_number, read_decimal, read_lower_hex};
 
 /// The store's file with this path. None exactly where the path is none of a store's file.
 pub fn name_of_path(path: &[u8]) -> Option<FileName>
@@ -90,8 +88,8 @@ fn inst_in(first: u8, second: u8, text: &[u8]) -> Option<FileName>
     ensures none { IfNone result ((hash id : List ℕ) → IsStoreFile (Inst hash id) → inst_path first second text.now ≢ path_text (Inst hash id)) }
 {
     let (hash, id) = split(text, b'-')?;
-    let hash = octets_of::<20>(hash)?;
-    let id = octets_of::<16>(id)?;
+    let hash = read_lower_hex::<20>(hash)?;
+    let id = read_lower_hex::<16>(id)?;
     if hash[0] != first || hash[1] != second {
         return None;
     }
@@ -104,10 +102,7 @@ fn number_of(text: &[u8]) -> Option<u32>
     ensures none { IfNone result ((number : ℕ) → IsNumber number → text.now ≢ decimal_text number) }
 {
     let number = u32::try_from(read_decimal(text)?).ok()?;
-    if number == 0 || number == u32::MAX {
-        return None;
-    }
-    Some(number)
+    is_number(number).then_some(number)
 }
 
 /// What stands between these texts.
@@ -136,25 +131,6 @@ pub fn octet_of(text: &[u8]) -> Option<u8>
     ensures some { IfSome result (λ octet. text.now ≡ encode_lower (octet ∷ [])) }
     ensures none { IfNone result ((octet : ℕ) → octet < 256 → text.now ≢ encode_lower (octet ∷ [])) }
 {
-    let [octet] = octets_of::<1>(text)?;
+    let [octet] = read_lower_hex::<1>(text)?;
     Some(octet)
-}
-
-/// The octets that lower-case hexadecimal digits name.
-fn octets_of<const N: usize>(text: &[u8]) -> Option<[u8; N]>
-    ensures some { IfSome result (λ octets. (length octets ≡ N) × IsOctets octets × (text.now ≡ encode_lower octets)) }
-    ensures none { IfNone result ((octets : List ℕ) → length octets ≡ N → IsOctets octets → text.now ≢ encode_lower octets) }
-{
-    let octets = <[u8; N]>::from_hex(text).ok()?;
-    if has_capital(text) {
-        return None;
-    }
-    Some(octets)
-}
-
-/// Whether a capital stands in a text.
-fn has_capital(text: &[u8]) -> bool
-    ensures { result ≡ list_any is_ascii_uppercase text.now }
-{
-    text.iter().any(|octet| octet.is_ascii_uppercase())
 }

@@ -1,5 +1,5 @@
 -- What is read of a log.
-use Rattle.std.specs.Prelude.{◌≡◌, ℕ, List, Option, Some, None, ⊤}
+use Rattle.std.specs.Prelude.{◌≡◌, ◌<◌, ◌≤◌, ℕ, List, length, take, Option, Some, None, IfSome, ⊤}
 use Rattle.disk_model.specs.Disk.{History, IfTold, reading}
 use Rattle.disk_model.specs.declared.name.FileName.{FileName}
 use Rattle.model_logs.specs.declared.log_head.LogHead.{LogHead}
@@ -36,3 +36,9 @@ IsOpenError name head old NoLog = IfTold old (λ disk. reading (disk name) ≡ N
 IsOpenError name head old (LogDamaged place) = (octets : List ℕ) × IsDamagedAt (Some head) octets place × IfTold old (λ disk. reading (disk name) ≡ Some octets)
 IsOpenError name head old DiskFault = ⊤
 IsOpenError name head old NoMemory = ⊤
+
+-- The first 27 octets of a file, which are a log's head, its first gate and one octet more. None where it has fewer, or where
+-- there is no file.
+abbrev pub IsPeekedFront : Option (List ℕ) → Option (List ℕ) → Type 0
+IsPeekedFront file None = IfSome file (λ octets. length octets < 27)
+IsPeekedFront file (Some front) = (octets : List ℕ) × (file ≡ Some octets) × (27 ≤ length octets) × (front ≡ take 27 octets)

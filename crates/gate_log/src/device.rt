@@ -1,6 +1,6 @@
 // A file read whole, and one octet of it written.
-ghost use Rattle.std.specs.Prelude.{◌≡◌, ◌++◌, ◌∷◌, ℕ, List, Some, OnOk, IfOk, IfErr, IsErr, IsErrOf};
-ghost use Rattle.disk_model.specs.FaultCounts.{ChangeFaultCounted, ReadFaultCounted};
+ghost use Rattle.std.specs.Prelude.{◌≡◌, take, ◌++◌, ◌∷◌, ℕ, List, Some, OnOk, IfOk, IfErr, IsErr, IsErrOf};
+ghost use Rattle.disk_model.specs.FaultCounts.{NoFault, ChangeFaultCounted, ReadFaultCounted};
 ghost use Rattle.disk_model.specs.Disk.{EachImage, OthersStay, SameButFor, IfTold, Keeps, reading, IsIdle};
 ghost use Rattle.gate_log.specs.Log.{ReadsParts, KeepsParts, IsOneBetween};
 ghost use Rattle.gate_log.specs.Reading.{IsFileError};
@@ -15,12 +15,21 @@ pub fn read_file<D: Disk>(alloc: Global, disk: &mut D, name: FileName) -> Result
     ensures idle { IsIdle (D.history disk.old) (D.history disk.new) }
     ensures refused { IfErr result (λ error. IsFileError name (D.history disk.old) error) }
     ensures fault { ReadFaultCounted (IsErrOf result LogError.DiskFault) (D.faults disk.old) (D.faults disk.new) }
+    ensures unfailed { (IsErrOf result LogError.DiskFault → ⊥) → NoFault (D.faults disk.old) (D.faults disk.new) }
 {
     let length = disk.length(name)? as usize;
     let mut octets = vec![in alloc; 0; length]?;
     let count = disk.read_at(name, 0, &mut octets)?;
-    octets.truncate(count);
-    Ok(octets)
+    Ok(front_of(octets, count))
+}
+
+/// The first `count` octets, or all where there are fewer.
+fn front_of(octets: Vec<u8>, count: usize) -> Vec<u8>
+    ensures { result.items ≡ take count octets.items }
+{
+    let mut front = octets;
+    front.truncate(count);
+    front
 }
 
 /// Writes one octet over another, and syncs the file.
@@ -37,6 +46,8 @@ pub fn put_octet<D: Disk>(
     ensures keeps { OnOk result ((front : List ℕ) (before : ℕ) (rest : List ℕ) → IfTold (D.history disk.old) (λ now. KeepsParts size front (before ∷ rest) (now name)) → IfTold (D.history disk.new) (λ now. Keeps (now name) (front ++ octet ∷ rest))) }
     ensures others { OnOk result (SameButFor name (D.history disk.old) (D.history disk.new)) }
     ensures fault { ChangeFaultCounted (IsErr result) (D.faults disk.old) (D.faults disk.new) }
+    ensures unread { (D.faults disk.new).reads ≡ (D.faults disk.old).reads }
+    ensures unfailed { OnOk result (NoFault (D.faults disk.old) (D.faults disk.new)) }
 {
     disk.write_at(name, size, &[octet])?;
     disk.sync(name)?;

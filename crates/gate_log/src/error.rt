@@ -1,6 +1,6 @@
 // Errors of logs.
-ghost use Rattle.std.specs.Prelude.{◌≡◌};
-ghost use Rattle.gate_log.specs.Causes.{of_disk};
+ghost use Rattle.std.specs.Prelude.{◌≡◌, Some, codes};
+ghost use Rattle.gate_log.specs.Causes.{of_disk, log_error_text};
 ghost use Rattle.gate_log.specs.declared.error.LogError.TheVariants.{NoMemory, DiskFault};
 
 use disk_model::DiskError;
@@ -27,6 +27,8 @@ pub enum LogError {
 }
 
 impl fmt::Display for DiskFault {
+    ghost output = { λ _. Some (codes "disk fault") };
+
     fn fmt<W: fmt::Write>(&self, f: &mut fmt::Formatter<W>) -> fmt::Result {
         f.write_str("disk fault")
     }
@@ -35,6 +37,8 @@ impl fmt::Display for DiskFault {
 impl Error for DiskFault {}
 
 impl fmt::Display for LogError {
+    ghost output = { λ error. Some (log_error_text error) };
+
     fn fmt<W: fmt::Write>(&self, f: &mut fmt::Formatter<W>) -> fmt::Result {
         match self {
             LogError::NoLog => f.write_str("no log"),

@@ -1,6 +1,6 @@
 // Logs that were looked at, and how they are repaired.
 ghost use Rattle.std.specs.Prelude.{◌≡◌, ◌↔◌, ℕ, List, Some, IsTrue, IfOk, IfErr, OnOk, IsErr, IsErrOf, IsOk};
-ghost use Rattle.disk_model.specs.FaultCounts.{ChangeFaultCounted, ReadFaultCounted};
+ghost use Rattle.disk_model.specs.FaultCounts.{NoFault, ChangeFaultCounted, ReadFaultCounted};
 ghost use Rattle.disk_model.specs.Disk.{EachImage, OthersStay, SameButFor, IfTold, Keeps, reading, IsIdle};
 ghost use Rattle.model_logs.specs.LogFile.{IsLogFile};
 ghost use Rattle.gate_log.specs.State.{IsWholeLog};
@@ -61,6 +61,7 @@ pub fn inspect_log<D: Disk>(
     ensures idle { IsIdle (D.history disk.old) (D.history disk.new) }
     ensures refused { IfErr result (IsOpenError name head (D.history disk.old)) }
     ensures fault { ReadFaultCounted (IsErrOf result LogError.DiskFault) (D.faults disk.old) (D.faults disk.new) }
+    ensures unfailed { (IsErrOf result LogError.DiskFault → ⊥) → NoFault (D.faults disk.old) (D.faults disk.new) }
 {
     let octets = read_file(alloc, disk, name)?;
     let read = read_log_of(alloc, &octets, head)?;
@@ -103,6 +104,8 @@ impl FoundLog {
         // A whole log is left alone.
         ensures untouched { IsWholeLog self → IsOk result × (disk.new ≡ disk.old) }
         ensures fault { ChangeFaultCounted (IsErr result) (D.faults disk.old) (D.faults disk.new) }
+        ensures unread { (D.faults disk.new).reads ≡ (D.faults disk.old).reads }
+        ensures unfailed { OnOk result (NoFault (D.faults disk.old) (D.faults disk.new)) }
     {
         repair(disk, self.name, self.end, self.gate, self.behind)?;
         Ok(GateLog::at_rest(alloc, self.name, self.head, self.end))

@@ -4,6 +4,7 @@
 pub use error::{DiskFault, LogError};
 pub use found::{FoundLog, inspect_log};
 pub use log::{GateLog, create_log, open_log};
+pub use peek::{FRONT_SIZE, id_in, peek_head};
 pub use read::{LogRead, read_log};
 
 mod device;
@@ -13,8 +14,7 @@ mod gate;
 mod head;
 mod log;
 mod make;
+mod peek;
 mod read;
 mod record;
 mod repair;
-#[cfg(test)]
-mod tests;

@@ -1,6 +1,6 @@
 // Logs on a disk.
 ghost use Rattle.std.specs.Prelude.{◌≡◌, ◌≢◌, Some, IsErrOf, ◌+◌, ◌-◌, ◌<◌, ◌≤◌, ◌^◌, ◌++◌, ◌∷◌, [], ℕ, List, length, take, OnOk, OnErr, IfOk, IfErr, IsErr};
-ghost use Rattle.disk_model.specs.FaultCounts.{ChangeFaultCounted, AnyFaultCounted};
+ghost use Rattle.disk_model.specs.FaultCounts.{NoFault, ChangeFaultCounted, AnyFaultCounted};
 ghost use Rattle.disk_model.specs.Disk.{EachImage, OthersStay, SameButFor, IfTold, Keeps, reading, IsIdle};
 ghost use Rattle.model_logs.specs.LogFile.{record_octets, IsLog, IsLogFile};
 ghost use Rattle.gate_log.specs.State.{LogState, IsSameLog};
@@ -70,6 +70,7 @@ impl GateLog {
         ensures no_less { self.old.room ≤ self.new.room }
         ensures same { self.new ≡ record self.old { room = self.new.room } }
         ensures refused { OnErr result (self.new ≡ self.old) }
+        ensures long { 4294967295 < octets → IsErr result }
     {
         if octets > u32::MAX as usize {
             return Err(NoMemory);
@@ -99,6 +100,8 @@ impl GateLog {
         ensures others { OnOk result (SameButFor self.old.name (D.history disk.old) (D.history disk.new)) }
 
         ensures fault { ChangeFaultCounted (IsErr result) (D.faults disk.old) (D.faults disk.new) }
+        ensures unread { (D.faults disk.new).reads ≡ (D.faults disk.old).reads }
+        ensures unfailed { OnOk result (NoFault (D.faults disk.old) (D.faults disk.new)) }
         ensures log { IsSameLog self.old self.new }
     {
         let size = entry.len() + 5;
@@ -126,6 +129,8 @@ pub fn create_log<D: Disk>(
     ensures others { OnOk result (NamedButFor name (D.history disk.old) (D.history disk.new)) }
     ensures refused { IfErr result (λ error. error ≡ LogError.DiskFault) }
     ensures fault { ChangeFaultCounted (IsErr result) (D.faults disk.old) (D.faults disk.new) }
+    ensures unread { (D.faults disk.new).reads ≡ (D.faults disk.old).reads }
+    ensures unfailed { OnOk result (NoFault (D.faults disk.old) (D.faults disk.new)) }
 {
     make_file(disk, name, &first_text(head))?;
     Ok(GateLog::at_rest(alloc, name, head, HEAD_SIZE as u64))
@@ -156,6 +161,7 @@ pub fn open_log<D: Disk>(
     ensures refused { IfErr result (IsOpenError name head (D.history disk.old)) }
     ensures idle { IfErr result (λ error. error ≢ LogError.DiskFault → IsIdle (D.history disk.old) (D.history disk.new)) }
     ensures fault { AnyFaultCounted (IsErrOf result LogError.DiskFault) (D.faults disk.old) (D.faults disk.new) }
+    ensures unfailed { (IsErrOf result LogError.DiskFault → ⊥) → NoFault (D.faults disk.old) (D.faults disk.new) }
 {
     let (found, read) = inspect_log(alloc, disk, name, head)?;
     let log = found.repair(alloc, disk)?;

@@ -1,6 +1,6 @@
 // A file that is made anew.
-ghost use Rattle.std.specs.Prelude.{length, OnOk, IsErr};
-ghost use Rattle.disk_model.specs.FaultCounts.{ChangeFaultCounted};
+ghost use Rattle.std.specs.Prelude.{◌≡◌, length, OnOk, IsErr};
+ghost use Rattle.disk_model.specs.FaultCounts.{NoFault, ChangeFaultCounted};
 ghost use Rattle.disk_model.specs.Disk.{EachImage, OthersStay, IfTold, Keeps};
 ghost use Rattle.gate_log.specs.Log.{IsAtMostAsLong, NamedButFor};
 
@@ -13,6 +13,8 @@ pub fn make_file<D: Disk>(disk: &mut D, name: FileName, text: &[u8]) -> Result<(
     ensures made { OnOk result (IfTold (D.history disk.new) (λ now. Keeps (now name) text.now)) }
     ensures others { OnOk result (NamedButFor name (D.history disk.old) (D.history disk.new)) }
     ensures fault { ChangeFaultCounted (IsErr result) (D.faults disk.old) (D.faults disk.new) }
+    ensures unread { (D.faults disk.new).reads ≡ (D.faults disk.old).reads }
+    ensures unfailed { OnOk result (NoFault (D.faults disk.old) (D.faults disk.new)) }
 {
     disk.make(name)?;
     disk.write_at(name, 0, text)?;

@@ -1,6 +1,6 @@
 // The end of a log that was found.
 ghost use Rattle.std.specs.Prelude.{◌≡◌, ◌-◌, ◌<◌, ◌^◌, ℕ, List, [], length, Some, OnOk, IsOk, IsErr};
-ghost use Rattle.disk_model.specs.FaultCounts.{ChangeFaultCounted};
+ghost use Rattle.disk_model.specs.FaultCounts.{NoFault, ChangeFaultCounted};
 ghost use Rattle.disk_model.specs.Disk.{EachImage, OthersStay, SameButFor, IfTold, Keeps, reading};
 ghost use Rattle.model_logs.specs.declared.log_head.LogHead.{LogHead};
 ghost use Rattle.model_logs.specs.LogFile.{IsLogFile};
@@ -34,6 +34,8 @@ pub fn repair<D: Disk>(
     ensures others { OnOk result (SameButFor name (D.history disk.old) (D.history disk.new)) }
     ensures untouched { gate ≡ 0 → behind ≡ 0 → IsOk result × (disk.new ≡ disk.old) }
     ensures fault { ChangeFaultCounted (IsErr result) (D.faults disk.old) (D.faults disk.new) }
+    ensures unread { (D.faults disk.new).reads ≡ (D.faults disk.old).reads }
+    ensures unfailed { OnOk result (NoFault (D.faults disk.old) (D.faults disk.new)) }
 {
     if behind == 0 {
         return close_gate(disk, name, end, gate);
@@ -55,6 +57,8 @@ fn close_gate<D: Disk>(disk: &mut D, name: FileName, end: u64, gate: u8) -> Resu
     ensures others { OnOk result (SameButFor name (D.history disk.old) (D.history disk.new)) }
     ensures untouched { gate ≡ 0 → IsOk result × (disk.new ≡ disk.old) }
     ensures fault { ChangeFaultCounted (IsErr result) (D.faults disk.old) (D.faults disk.new) }
+    ensures unread { (D.faults disk.new).reads ≡ (D.faults disk.old).reads }
+    ensures unfailed { OnOk result (NoFault (D.faults disk.old) (D.faults disk.new)) }
 {
     if gate == CLOSED {
         return Ok(());
@@ -71,6 +75,8 @@ fn cut_file<D: Disk>(disk: &mut D, name: FileName, size: u64) -> Result<(), Disk
     ensures keeps { OnOk result ((front rest : List ℕ) → IfTold (D.history disk.old) (λ now. KeepsParts size front rest (now name)) → IfTold (D.history disk.new) (λ now. Keeps (now name) front)) }
     ensures others { OnOk result (SameButFor name (D.history disk.old) (D.history disk.new)) }
     ensures fault { ChangeFaultCounted (IsErr result) (D.faults disk.old) (D.faults disk.new) }
+    ensures unread { (D.faults disk.new).reads ≡ (D.faults disk.old).reads }
+    ensures unfailed { OnOk result (NoFault (D.faults disk.old) (D.faults disk.new)) }
 {
     disk.cut(name, size)?;
     disk.sync(name)?;

@@ -14,7 +14,8 @@ use Rattle.model_lists.specs.Lists.{Lists}
 use Rattle.list_machine.specs.Run.{RunEvent, Run, before}
 use Rattle.list_machine.specs.Machine.{Answers}
 use Rattle.list_machine.proofs.OneStepLemmas.{answers_one}
-use Rattle.journal.specs.Journal.{Requests, CopyHalf, ExpungeHalf, halves_of, JournalStep, IsStep, AreSteps, steps_of, IsFirstPart, IsReplyOf, IsLegal}
+use Rattle.journal.specs.Journal.{Requests, halves_of, JournalStep, IsStep, AreSteps, steps_of, IsFirstPart, IsReplyOf, IsLegal}
+use Rattle.mdbox_base.specs.declared.script.Half.TheVariants.{CopyHalf, ExpungeHalf}
 use Rattle.journal.specs.GoesOn.{AnswersAlone, IsOneStep}
 
 -- ---- one request

@@ -8,7 +8,8 @@ use Rattle.mdbox_base.specs.declared.replies.Reply.TheVariants as reply
 use Rattle.model_meaning.specs.MapMeaning.{count_of}
 use Rattle.model_meaning.specs.MeaningExamples.{example_guid}
 use Rattle.list_machine.specs.Run.{First, TakesFile, PlacesMessage, StoresRecord, Last, SecondHalf, GivesBack, ReadsPiece, Unpins, RemovesFile, MakesTarget, CopiesMessage, Switches, map_of, before, own_events}
-use Rattle.journal.specs.Journal.{Whole, IsStep, AreSteps, lists_at, acked, places_of, IsReplyOf}
+use Rattle.journal.specs.Journal.{IsStep, AreSteps, lists_at, acked, places_of, IsReplyOf}
+use Rattle.mdbox_base.specs.declared.script.Half.TheVariants.{Whole}
 use Rattle.journal.specs.Events.{next_part}
 use Rattle.journal.specs.JournalExamples.{inbox, hello, nothing_around, first_script, first_lists, lists_saved, first_run, step_saved, step_listed, first_journal, second_script, lists_left, second_run, step_expunged, step_refused, second_journal, a_box, b_box, third_script, third_lists, third_run, third_journal, fourth_script, fourth_run, fourth_journal, fifth_run}
 

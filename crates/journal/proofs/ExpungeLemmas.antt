@@ -1,6 +1,7 @@
 -- What the two events of an expunge make.
 use Rattle.std.specs.Prelude.{◌≡◌, ◌≤◌, ℕ, List, [], ◌∷◌, ◌++◌, flat_map, Option, Some, None, refl}
-use Rattle.std.proofs.Common.{◌∙◌, ap}
+use Rattle.std.specs.Option.{option_or}
+use Rattle.std.proofs.Common.{inl, ◌∙◌, ap}
 use Rattle.mdbox_base.specs.declared.ids.Uid.{Uid}
 use Rattle.mdbox_base.specs.declared.entries.Highest.{Highest}
 use Rattle.mdbox_base.specs.declared.requests.Request.TheVariants as request
@@ -11,7 +12,7 @@ use Rattle.model_lists.specs.Lists.{Mailbox, Lists}
 use Rattle.model_meaning.specs.MapMeaning.{MapRecord, MapMeaning, map_applied, no_numbers}
 use Rattle.list_machine.specs.Run.{EventPart, First, GivesBack, RunEvent, Run, drawn_also, own_events, first_in}
 use Rattle.list_machine.specs.Machine.{mailbox_named, expunge, first_refusal, part_checks}
-use Rattle.journal.specs.Events.{Around, IsRecord, owed_by, next_part, behind_event, behind_expunge}
+use Rattle.journal.specs.Events.{last_refusal, Around, IsRecord, owed_by, next_part, behind_event, behind_expunge}
 use Rattle.journal.specs.Makes.{HasCome, Makes}
 use Rattle.journal.proofs.RunLemmas.{comes_on, comes_on_with}
 use Rattle.mdbox_base.specs.declared.entries.MapEntry.TheVariants as entry
@@ -44,13 +45,16 @@ removal_makes around after run lane place name uid old m drawn calls later mailb
         moment_is = refl;
         ended_is = refl;
         is_event = record {
-          parts = tt;
+          finds = tt;
           part_is = ap (λ (es : List RunEvent). next_part around run (request.Expunge name uid) es) stands;
           refused = λ r e. absurd (no_refusal r e);
           undone = λ r e. absurd (no_refusal r e);
+          drew = λ h. inl refl;
+          memory = λ e. absurd (no_refusal _ e);
           allowed = λ e. allowed;
           did = λ e. (mailbox, row, there, is_record, refl);
           ends = record { 0 = λ h. absurd (h refl); 1 = λ h. absurd (some_part GivesBack h) };
+          replied = tt;
         };
         answer = Some reply.Done;
         is_told = refl;
@@ -68,6 +72,10 @@ pub next_is : (around : Around) (run : Run) (name : List ℕ) (uid : Uid) (own :
 next_is around run name uid own e one part free =
     (ap (λ (es : List RunEvent). next_part around run (request.Expunge name uid) es) one ∙ ap (λ (r : Option Refusal). behind_event around run (request.Expunge name uid) e r) free) ∙ ap (λ (p : EventPart). behind_expunge p) part
 
+pub never_refused : (own : List RunEvent) (e last : RunEvent) → own ≡ e ∷ [] → e.refused ≡ None → last_refusal (own ++ last ∷ []) ≡ option_or (option_or None last.refused) None
+never_refused own e last one free =
+    ap (λ (es : List RunEvent). last_refusal (es ++ last ∷ [])) one ∙ ap (λ (r : Option Refusal). option_or (option_or None last.refused) r) free
+
 -- The second: the count of the record that is owed is lowered, and the request is answered.
 unfoldable pub lowering_makes : (around after : Around) (run : Run) (lane place : ℕ) (name : List ℕ) (uid : Uid) (old : Lists) (m : MapMeaning) (drawn : Highest) (calls later owed : ℕ) → HasCome run m drawn calls → calls ≤ later
     → IsAtStage (ToLower owed) (own_events place run)
@@ -81,13 +89,16 @@ lowering_makes around after run lane place name uid old m drawn calls later owed
       moment_is = refl;
       ended_is = refl;
       is_event = record {
-        parts = tt;
+        finds = tt;
         part_is = next_is around run name uid (own_events place run) stands.0 stands.1 stands.2 stands.3;
         refused = λ r e. absurd (no_refusal r e);
         undone = λ r e. absurd (no_refusal r e);
+        drew = λ h. inl refl;
+        memory = λ e. absurd (no_refusal _ e);
         allowed = λ e. refl;
         did = λ e. (owed, owed_is place owed run stands.0 stands.1 stands.4, refl);
         ends = record { 0 = λ h. refl; 1 = λ h e. some_reply reply.Done e };
+        replied = never_refused (own_events place run) stands.0 event stands.1 stands.3;
       };
       answer = None;
       is_told = refl;

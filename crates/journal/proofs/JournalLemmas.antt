@@ -11,7 +11,8 @@ use Rattle.list_machine.specs.Run.{RunEvent, Run, before, and_then}
 use Rattle.list_machine.specs.Machine.{Answers}
 use Rattle.list_machine.proofs.MachineLemmas.{some_one}
 use Rattle.list_machine.proofs.OneStepLemmas.{answers_one}
-use Rattle.journal.specs.Journal.{Requests, Half, half_of, JournalStep, IsStep, AreSteps, left_by}
+use Rattle.journal.specs.Journal.{Requests, half_of, JournalStep, IsStep, AreSteps, left_by}
+use Rattle.mdbox_base.specs.declared.script.Half.{Half}
 use Rattle.journal.specs.GoesOn.{event_at}
 
 -- ---- lists that grow

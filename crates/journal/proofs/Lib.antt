@@ -4,6 +4,7 @@ pub mod CountLemmas
 pub mod EventExampleLemmas
 pub mod ExampleLemmas
 pub mod ExpungeLemmas
+pub mod FaultLemmas
 pub mod JournalLemmas
 pub mod LegalLemmas
 pub mod MakesLemmas

@@ -1,10 +1,12 @@
 -- The events of each request: what stands part_behind what, and what each one does.
-use Rattle.std.specs.Prelude.{◌≡◌, ◌≢◌, ◌≤◌, ◌<◌, ◌↔◌, ◌+◌, ◌-◌, ◌/◌, ◌==◌, ◌&&◌, ◌||◌, nat_lt, nat_le, ℕ, Bool, true, false, not, List, [], ◌∷◌, ◌++◌, length, map, filter, find, flat_map, sum_by, count_by, slice_get, if◌then◌else◌, Option, Some, None, IsTrue, Contains}
-use Rattle.std.specs.List.{list_all, list_any}
-use Rattle.std.specs.Option.{option_map_or}
+use Rattle.std.specs.Prelude.{◌≡◌, ◌≢◌, ◌≤◌, ◌<◌, ◌↔◌, ◌+◌, ◌-◌, ◌/◌, ◌==◌, ◌&&◌, ◌||◌, nat_lt, nat_le, ℕ, Bool, true, false, not, List, [], ◌∷◌, ◌++◌, length, map, filter, find, flat_map, sum_by, count_by, slice_get, if◌then◌else◌, Option, Some, None, IsTrue, Contains, ◌⊎◌, All, is_some, is_none, option_map}
+use Rattle.std.specs.List.{list_any}
+use Rattle.std.specs.Option.{option_map_or, option_or}
 use Rattle.mdbox_base.specs.declared.ids.MapUid.{MapUid}
+use Rattle.mdbox_base.specs.declared.entries.Highest.{Highest}
 use Rattle.mdbox_base.specs.declared.entries.InstRow.{InstRow}
 use Rattle.mdbox_base.specs.declared.entries.MapPlace.{MapPlace}
+use Rattle.mdbox_base.specs.declared.entries.MapCount.{MapCount}
 use Rattle.mdbox_base.specs.declared.entries.BoxEntry.{BoxEntry}
 use Rattle.mdbox_base.specs.declared.entries.BoxEntry.TheVariants as box
 use Rattle.mdbox_base.specs.declared.entries.MapEntry.{MapEntry}
@@ -13,22 +15,27 @@ use Rattle.mdbox_base.specs.declared.requests.Request.{Request}
 use Rattle.mdbox_base.specs.declared.requests.Request.TheVariants as request
 use Rattle.mdbox_base.specs.declared.replies.Refusal.{Refusal}
 use Rattle.mdbox_base.specs.declared.replies.Refusal.TheVariants as refusal
+use Rattle.mdbox_base.specs.declared.replies.Reply.{Reply}
 use Rattle.model_lists.specs.Lists.{ListedMessage, Mailbox, Lists, refs_of}
 use Rattle.model_meaning.specs.MapMeaning.{MapMeaning, MapRecord, record_of, no_numbers, guid_file, instance_number, number_at}
-use Rattle.model_meaning.specs.MapFits.{MapFits}
+use Rattle.model_meaning.specs.MapFits.{MapFits, HasRecord}
 use Rattle.list_machine.specs.Run.{EventPart, First, Compares, PlacesInstance, TakesFile, PlacesMessage, StoresRecord, Last, SecondHalf, GivesBack, StartsOver, ReadsPiece, Unpins, RemovesFile, MakesTarget, CopiesMessage, Switches, RemovesInstance, ReadsFile, BoxAppend, TakenFile, RunEvent, event_of, Run, and_then, map_of, drawn_of, own_events, reply_of, with_targets, is_copied_from, first_in, map_uid_in, is_one_of, is_pinned, is_doomed}
 use Rattle.model_mime.specs.Parts.{parts_in}
 use Rattle.list_machine.specs.Machine.{mailbox_named, message_at, is_step, first_refusal, checks_of}
-use Rattle.journal.specs.Journal.{Requests}
+use Rattle.journal.specs.Journal.{Requests, refusal_in}
 
--- What an event sees as it begins that stands in no list, in no entry and in no earlier event. Of a delivery: how many
--- detached parts its message has, whether the next part has a candidate that wasn't compared, and whether a storage file
--- that may be taken has room. Of a purge: whether an instance may be removed.
+-- What an event finds as it begins that stands in no list, in no entry and in no earlier event: in the files, and in what
+-- other tasks hold. Of a delivery: how many detached parts its message has, the next candidate that the next part is to be
+-- compared with, and the storage file that has room for the message. Of a purge: the storage files that it takes, and the
+-- next instance that may be removed. Of a resync: the storage files, and the records of the next file whose regions aren't
+-- messages of their size and GUID.
 pub record Around : Type 0 where
   pub parts : ℕ
-  pub candidate_left : Bool
-  pub has_room : Bool
-  pub instance_left : Bool
+  pub candidate : Option InstRow
+  pub room : Option ℕ
+  pub files : List ℕ
+  pub instance : Option InstRow
+  pub damaged : List ℕ
 
 -- ---- the order of the parts
 
@@ -45,8 +52,8 @@ behind_delivery around run event Last = None
 behind_delivery around run event GivesBack = None
 behind_delivery around run event part =
     if nat_lt (length (instances_found event.request run)) around.parts
-    then (if around.candidate_left then Some Compares else Some PlacesInstance)
-    else Some (TakesFile (not around.has_room))
+    then (if is_some around.candidate then Some Compares else Some PlacesInstance)
+    else Some (TakesFile (is_none around.room))
 
 -- A make creates a log, and then names it, or removes it and begins again where its number was overtaken.
 abbrev pub behind_make : Bool → EventPart → Option EventPart
@@ -97,16 +104,17 @@ abbrev pub next_taken : List RunEvent → Option TakenFile
 next_taken own = find (λ t. not (is_done own t)) (flat_map (λ e. e.files) own)
 
 abbrev pub purge_goes_on : Around → Run → Option TakenFile → Option EventPart
-purge_goes_on around run None = if around.instance_left then Some RemovesInstance else Some Last
+purge_goes_on around run None = if is_some around.instance then Some RemovesInstance else Some Last
 purge_goes_on around run (Some taken) =
     if nat_lt 0 taken.target then Some MakesTarget else (if list_any (λ row. row.file == taken.file) (map_of run).records then Some Switches else Some RemovesFile)
 
-abbrev pub message_left : List RunEvent → Run → Option TakenFile → Bool
-message_left own run None = false
-message_left own run (Some taken) = list_any (λ row. is_copied_from taken.file row && not (list_any (λ e. is_one_of e.copied row.uid) own)) (map_of run).records
+-- the messages of a file that are still to be copied
+abbrev pub copies_left : List RunEvent → Run → Option TakenFile → List MapRecord
+copies_left own run None = []
+copies_left own run (Some taken) = filter (λ row. is_copied_from taken.file row && not (list_any (λ e. is_one_of e.copied row.uid) own)) (map_of run).records
 
 abbrev pub purge_copies : Run → List RunEvent → Option EventPart
-purge_copies run own = if message_left own run (next_taken own) then Some CopiesMessage else Some Switches
+purge_copies run own = if nat_lt 0 (length (copies_left own run (next_taken own))) then Some CopiesMessage else Some Switches
 
 abbrev pub behind_purge : Around → Run → RunEvent → EventPart → Option EventPart
 behind_purge around run event MakesTarget = purge_copies run (own_events event.request run)
@@ -184,14 +192,23 @@ next_part around run request (event ∷ more ∷ rest) = next_part around run re
 
 -- ---- what a part does
 
--- an event that did nothing that is told, of the same part, with the same reply at the same moment
+-- an event that did nothing, of the same part, with the same reply at the same moment
 abbrev pub plain : RunEvent → RunEvent
 plain event = record (event_of event.lane event.request event.part event.moment) { reply = event.reply }
 
--- An event that was refused did nothing: a purge tells the files that it would have taken, and what was refused for want
--- of memory or by a fault may have drawn its numbers before.
+-- An event that was refused did nothing: a purge tells the files that it would have taken, and what was refused for lack of
+-- memory or by a fault may have drawn its numbers before.
 abbrev pub DidNothing : RunEvent → Type 0
 DidNothing event = event ≡ record (plain event) { refused = event.refused; files = event.files; drew = event.drew }
+
+-- the numbers that a part draws
+abbrev pub draws : Run → RunEvent → Request → EventPart → Highest
+draws run event (request.Make name) First = record no_numbers { mailbox = 1 }
+draws run event (request.Deliver name time octets) PlacesInstance = record no_numbers { instance = 1 }
+draws run event (request.Deliver name time octets) (TakesFile true) = record no_numbers { file = 1 }
+draws run event (request.Deliver name time octets) StoresRecord = record no_numbers { map = 1 }
+draws run event request.Purge First = record no_numbers { file = length (with_targets (map_of run) event.files) }
+draws run event request part = no_numbers
 
 -- the record that a request holds: that whose count it raised, or that it stored
 abbrev pub uid_raised : MapEntry → Option ℕ
@@ -254,28 +271,31 @@ file_taken request run = first_in (λ taken. Some taken.file) (flat_map (λ e. e
 abbrev pub guid_given : ℕ → Run → Option (List ℕ)
 guid_given request run = first_in (λ guid. Some guid) (flat_map (λ e. e.given) (own_events request run))
 
-abbrev pub DidDeliver : Run → Lists → List ℕ → ℕ → List ℕ → RunEvent → EventPart → Type 0
-DidDeliver run lists name time octets event First = event ≡ plain event
-DidDeliver run lists name time octets event Compares =
-    (candidate : InstRow) × (same : Bool) × (event ≡ record (plain event) { compared = candidate ∷ []; equal = if same then candidate ∷ [] else [] })
-DidDeliver run lists name time octets event PlacesInstance =
+abbrev pub DidDeliver : Around → Run → Lists → List ℕ → ℕ → List ℕ → RunEvent → EventPart → Type 0
+DidDeliver around run lists name time octets event First = event ≡ plain event
+DidDeliver around run lists name time octets event Compares =
+    (candidate : InstRow) × (same : Bool) × (around.candidate ≡ Some candidate)
+    × (event ≡ record (plain event) { compared = candidate ∷ []; equal = if same then candidate ∷ [] else [] })
+DidDeliver around run lists name time octets event PlacesInstance =
     (instance : InstRow) × (instance_number run.store instance.id.0 ≡ (drawn_of run).instance + 1)
     × (event ≡ record (plain event) { placed = instance ∷ []; drew = record no_numbers { instance = 1 } })
-DidDeliver run lists name time octets event (TakesFile new) =
-    (file : ℕ) × (new ≡ true → file ≡ (drawn_of run).file + 1)
-    × (event ≡ record (plain event) { files = record { file = file; target = 0 } ∷ []; drew = if new then record no_numbers { file = 1 } else no_numbers })
-DidDeliver run lists name time octets event PlacesMessage =
+DidDeliver around run lists name time octets event (TakesFile new) =
+    event ≡ record (plain event) {
+      files = record { file = option_map_or (λ file. file) around.room ((drawn_of run).file + 1); target = 0 } ∷ [];
+      drew = if new then record no_numbers { file = 1 } else no_numbers;
+    }
+DidDeliver around run lists name time octets event PlacesMessage =
     (guid : List ℕ) × (file_taken event.request run ≡ Some (guid_file run.store guid)) × (length guid ≡ 16) × (event ≡ record (plain event) { given = guid ∷ [] })
-DidDeliver run lists name time octets event StoresRecord =
+DidDeliver around run lists name time octets event StoresRecord =
     (guid : List ℕ) × (size : ℕ) × (guid_given event.request run ≡ Some guid)
     × (event ≡ record (plain event) {
       map_entries = entry.S 0 1 (record { 0 = (drawn_of run).map + 1 }) (record { 0 = guid_file run.store guid }) (number_at 12 guid) size (record { 0 = guid }) (instances_found event.request run) ∷ [];
       drew = record no_numbers { map = 1 };
     })
-DidDeliver run lists name time octets event Last =
+DidDeliver around run lists name time octets event Last =
     (guid : List ℕ) × (guid_given event.request run ≡ Some guid) × Adds run lists name event (record { uid = 0; flags = 0; time = time; guid = guid; octets = octets })
-DidDeliver run lists name time octets event GivesBack = Lowers (uid_held event.request run) event
-DidDeliver run lists name time octets event part = ⊥
+DidDeliver around run lists name time octets event GivesBack = Lowers (uid_held event.request run) event
+DidDeliver around run lists name time octets event part = ⊥
 
 abbrev pub DidMake : Run → List ℕ → RunEvent → EventPart → Type 0
 DidMake run name event First = event ≡ record (plain event) { drew = record no_numbers { mailbox = 1 } }
@@ -289,19 +309,34 @@ targets_of m drawn [] = []
 targets_of m drawn (taken ∷ rest) =
     if list_any (is_copied_from taken.file) m.records then (drawn + 1) ∷ targets_of m (drawn + 1) rest else 0 ∷ targets_of m drawn rest
 
-abbrev pub DidPurge : Run → RunEvent → EventPart → Type 0
-DidPurge run event First =
+-- the file that a purge removes: the one that its last event switched, else the next of those that it took
+abbrev pub doomed_last : List RunEvent → List ℕ
+doomed_last [] = []
+doomed_last (event ∷ []) = event.doomed
+doomed_last (event ∷ more ∷ rest) = doomed_last (more ∷ rest)
+
+abbrev pub file_to_remove : List RunEvent → Option ℕ
+file_to_remove own = option_or (first_in (λ file. Some file) (doomed_last own)) (option_map (λ taken. taken.file) (next_taken own))
+
+-- the message that is copied next: the one with the least offset
+abbrev pub IsCopiedNext : List MapRecord → MapRecord → Type 0
+IsCopiedNext left row = Contains left row × All (λ other. row.offset ≤ other.offset) left
+
+abbrev pub DidPurge : Around → Run → RunEvent → EventPart → Type 0
+DidPurge around run event First =
     (files : List TakenFile) × (map (λ t. t.target) files ≡ targets_of (map_of run) (drawn_of run).file files)
     × (event ≡ record (plain event) { files = files; drew = record no_numbers { file = length (with_targets (map_of run) files) } })
-DidPurge run event CopiesMessage =
-    (row : MapRecord) × Contains (map_of run).records row × (1 ≤ row.count) × (option_map_or (λ t. t.file) (next_taken (own_events event.request run)) 0 ≡ row.file) × (event ≡ record (plain event) { copied = row.uid ∷ [] })
-DidPurge run event Switches =
+DidPurge around run event CopiesMessage =
+    (row : MapRecord) × IsCopiedNext (copies_left (own_events event.request run) run (next_taken (own_events event.request run))) row × (event ≡ record (plain event) { copied = row.uid ∷ [] })
+DidPurge around run event Switches =
     (taken : TakenFile) × (target : ℕ) × (moved : List MapPlace) × (dropped : List MapUid) × (next_taken (own_events event.request run) ≡ Some taken) × MapFits (map_of run) (entry.P (record { 0 = taken.file }) target moved dropped)
-    × (target ≢ 0 → target ≡ taken.target)
+    × All (λ place. HasRecord (map_of run) place.uid.0 (λ row. 1 ≤ row.count)) moved × (target ≢ 0 → target ≡ taken.target)
     × (event ≡ record (plain event) { map_entries = entry.P (record { 0 = taken.file }) target moved dropped ∷ []; doomed = taken.file ∷ [] })
-DidPurge run event RemovesFile = (file : ℕ) × (event ≡ record (plain event) { removed = file ∷ [] })
-DidPurge run event RemovesInstance = (instance : InstRow) × (event ≡ record (plain event) { gone = instance ∷ [] })
-DidPurge run event part = event ≡ plain event
+DidPurge around run event RemovesFile =
+    (file : ℕ) × (file_to_remove (own_events event.request run) ≡ Some file) × (is_pinned run file ≡ false) × (list_any (λ row. row.file == file) (map_of run).records ≡ false)
+    × (event ≡ record (plain event) { removed = file ∷ [] })
+DidPurge around run event RemovesInstance = (instance : InstRow) × (around.instance ≡ Some instance) × (event ≡ record (plain event) { gone = instance ∷ [] })
+DidPurge around run event part = event ≡ plain event
 
 -- What tasks hold and owe of a record: holds begin with `U` and `S` and end with `A`, debts begin with a removal, and `D`
 -- ends either.
@@ -325,18 +360,19 @@ due_of run uid = sum_by (begun_in uid) run.events - sum_by (ended_in uid) run.ev
 abbrev pub AreRight : Run → Lists → Type 0
 AreRight run lists = (row : MapRecord) → Contains (map_of run).records row → row.count ≡ refs_of lists row.guid + due_of run row.uid
 
-abbrev pub is_correction : MapEntry → Bool
-is_correction (entry.T counts) = true
-is_correction other = false
+-- What the events of a resync do: files are listed and read; then every count that is wrong is put right by one entry, or
+-- none is wrong and nothing is appended.
+abbrev pub corrects : List MapCount → List MapEntry
+corrects [] = []
+corrects (count ∷ counts) = entry.T (count ∷ counts) ∷ []
 
--- What the events of a resync do: files are listed and read; then every count that is wrong is put right by one entry, or none is
--- wrong and nothing is appended.
-abbrev pub DidResync : Run → Lists → RunEvent → EventPart → Type 0
-DidResync run lists event First = (files : List TakenFile) × (event ≡ record (plain event) { files = files })
-DidResync run lists event ReadsFile = (damaged : List ℕ) × (event ≡ record (plain event) { damaged = damaged })
-DidResync run lists event Last =
-    (added : List MapEntry) × (event ≡ record (plain event) { map_entries = added }) × IsTrue (list_all is_correction added) × (length added ≤ 1) × AreRight (and_then run event) lists
-DidResync run lists event part = event ≡ plain event
+abbrev pub DidResync : Around → Run → Lists → RunEvent → EventPart → Type 0
+DidResync around run lists event First = event ≡ record (plain event) { files = map (λ file. record { file = file; target = 0 }) around.files }
+DidResync around run lists event ReadsFile = event ≡ record (plain event) { damaged = around.damaged }
+DidResync around run lists event Last =
+    (counts : List MapCount) × All (λ given. HasRecord (map_of run) given.uid.0 (λ row. row.count ≢ given.count)) counts × AreRight (and_then run event) lists
+    × (event ≡ record (plain event) { map_entries = corrects counts })
+DidResync around run lists event part = event ≡ plain event
 
 -- What the events of a fetch do: it pins the file of the listed message, and has as many pieces to read as its region and
 -- its instances have, of 65,536 octets each.
@@ -346,25 +382,27 @@ pieces_to_read row = (row.size + 65535) / 65536 + sum_by (λ i. (i.size + 65535)
 abbrev pub DidFetch : Run → Lists → List ℕ → ℕ → RunEvent → EventPart → Type 0
 DidFetch run lists name uid event First =
     (row : MapRecord) × IsRecord run lists name uid row × (event ≡ record (plain event) { pins = record { file = row.file; pieces = pieces_to_read row } ∷ [] })
-DidFetch run lists name uid event RemovesFile = (file : ℕ) × (is_doomed run file ≡ true) × (is_pinned run file ≡ false) × (event ≡ record (plain event) { removed = file ∷ [] })
+DidFetch run lists name uid event RemovesFile =
+    (file : ℕ) × IsTrue (list_any (λ e. list_any (λ p. p.file == file) e.pins) (own_events event.request run)) × (is_doomed run file ≡ true) × (is_pinned run file ≡ false)
+    × (event ≡ record (plain event) { removed = file ∷ [] })
 DidFetch run lists name uid event part = event ≡ plain event
 
--- What an event did that wasn't refused, and that it did nothing else that is told.
-abbrev pub Did : Run → Lists → Request → RunEvent → EventPart → Type 0
-Did run lists (request.Deliver name time octets) event part = DidDeliver run lists name time octets event part
-Did run lists (request.Flag name uid flags) event First =
+-- What an event did that wasn't refused, and that it did nothing else.
+abbrev pub DidPart : Around → Run → Lists → Request → RunEvent → EventPart → Type 0
+DidPart around run lists (request.Deliver name time octets) event part = DidDeliver around run lists name time octets event part
+DidPart around run lists (request.Flag name uid flags) event First =
     (mailbox : Mailbox) × (mailbox_named name lists ≡ Some mailbox) × (event ≡ record (plain event) { box_entries = adds_to mailbox (box.F uid flags) })
-Did run lists (request.Expunge name uid) event First = Removes run lists name uid.0 event
-Did run lists (request.Expunge name uid) event GivesBack = Lowers (owed_by event.request run) event
-Did run lists (request.Move name uid target) event SecondHalf =
+DidPart around run lists (request.Expunge name uid) event First = Removes run lists name uid.0 event
+DidPart around run lists (request.Expunge name uid) event GivesBack = Lowers (owed_by event.request run) event
+DidPart around run lists (request.Move name uid target) event SecondHalf =
     RemovesIfThere run lists name uid.0 event (message_at name uid.0 lists)
-Did run lists (request.Move name uid target) event part = DidCopy run lists name uid.0 target event part
-Did run lists (request.Copy name uid target) event part = DidCopy run lists name uid.0 target event part
-Did run lists (request.Make name) event part = DidMake run name event part
-Did run lists (request.Fetch name uid) event part = DidFetch run lists name uid.0 event part
-Did run lists request.Purge event part = DidPurge run event part
-Did run lists request.Resync event part = DidResync run lists event part
-Did run lists request event part = event ≡ plain event
+DidPart around run lists (request.Move name uid target) event part = DidCopy run lists name uid.0 target event part
+DidPart around run lists (request.Copy name uid target) event part = DidCopy run lists name uid.0 target event part
+DidPart around run lists (request.Make name) event part = DidMake run name event part
+DidPart around run lists (request.Fetch name uid) event part = DidFetch run lists name uid.0 event part
+DidPart around run lists request.Purge event part = DidPurge around run event part
+DidPart around run lists request.Resync event part = DidResync around run lists event part
+DidPart around run lists request event part = event ≡ plain event
 
 -- ---- an event
 
@@ -384,26 +422,67 @@ is_step_part request.Purge Last = true
 is_step_part request.Resync Last = true
 is_step_part request part = false
 
--- The event of a refusal is a step too, but for want of memory, faults and damage.
+-- The event of a refusal is a step too, but for lack of memory, faults and damage.
 abbrev pub makes_step : Request → EventPart → Option Refusal → Bool
 makes_step request part None = is_step_part request part
 makes_step request part (Some refusal) = is_step refusal
 
--- The detached parts of a delivered message: as many as it has that can be detached.
-abbrev pub HasParts : Request → ℕ → Type 0
-HasParts (request.Deliver name time octets) parts = parts ≡ length (filter (λ part. part.detachable) (parts_in octets))
-HasParts request parts = Unit {0}
+-- What an event finds is so: a delivered message has as many detached parts as can be detached, and the files that a purge
+-- tells as it begins, also where it is refused, are those that it finds.
+abbrev pub TellsFiles : Around → RunEvent → EventPart → Type 0
+TellsFiles around event First = map (λ t. t.file) event.files ≡ around.files
+TellsFiles around event part = Unit {0}
 
--- An event of a request: it does the next part. It is refused where one of its checks is, and then does nothing; a part
--- that isn't refused does its own and nothing else. The request is answered with it exactly where no part stands part_behind it.
+abbrev pub Finds : Around → Request → RunEvent → Type 0
+Finds around (request.Deliver name time octets) event = around.parts ≡ length (filter (λ part. part.detachable) (parts_in octets))
+Finds around request.Purge event = TellsFiles around event event.part
+Finds around request event = Unit {0}
+
+-- The parts that take no memory: what they need was taken before.
+abbrev pub has_memory : EventPart → Request → Bool
+has_memory SecondHalf request = true
+has_memory GivesBack request = true
+has_memory ReadsPiece request = true
+has_memory Unpins request = true
+has_memory RemovesFile request = true
+has_memory MakesTarget request = true
+has_memory CopiesMessage request = true
+has_memory Switches request = true
+has_memory RemovesInstance request = true
+has_memory Last request.Purge = true
+has_memory part request = false
+
+-- an event that was refused by a read fault
+abbrev pub is_fault : Option Refusal → Bool
+is_fault (Some refusal.ReadFault) = true
+is_fault refused = false
+
+abbrev pub is_faulted : RunEvent → Bool
+is_faulted event = is_fault event.refused
+
+-- A reply is a refusal if and only if an event of the request was refused, and then it is the last such refusal.
+abbrev pub last_refusal : List RunEvent → Option Refusal
+last_refusal [] = None
+last_refusal (event ∷ rest) = option_or (last_refusal rest) event.refused
+
+abbrev pub IsRepliedBy : List RunEvent → Option Reply → Type 0
+IsRepliedBy own None = Unit {0}
+IsRepliedBy own (Some given) = last_refusal own ≡ refusal_in given
+
+-- An event of a request: it does the next part. It is refused if one of its checks refuses it, and then does nothing; a
+-- part that isn't refused does its own and nothing else. The request is answered with it if and only if no part stands
+-- part_behind it.
 pub record IsEvent (around after : Around) (run : Run) (lists : Lists) (request : Request) (event : RunEvent) : Type 0 where
-  pub parts : HasParts request around.parts
+  pub finds : Finds around request event
   pub part_is : next_part around run request (own_events event.request run) ≡ Some event.part
   pub refused : (refusal : Refusal) → event.refused ≡ Some refusal → is_step refusal ≡ true → first_refusal run lists (checks_of run request event) ≡ Some refusal
   pub undone : (refusal : Refusal) → event.refused ≡ Some refusal → DidNothing event × (is_step refusal ≡ true → event.drew ≡ no_numbers)
+  pub drew : event.refused ≢ None → (event.drew ≡ no_numbers) ⊎ (event.drew ≡ draws run event request event.part)
+  pub memory : event.refused ≡ Some refusal.NoMemory → has_memory event.part request ≡ false
   pub allowed : event.refused ≡ None → first_refusal run lists (checks_of run request event) ≡ None
-  pub did : event.refused ≡ None → Did run lists request event event.part
+  pub did : event.refused ≡ None → DidPart around run lists request event event.part
   pub ends : (event.reply ≢ None) ↔ (behind_event after (and_then run event) request event event.refused ≡ None)
+  pub replied : IsRepliedBy (own_events event.request run ++ event ∷ []) event.reply
 
 -- An event is the next one of its lane: it is one of the first request of the lane that isn't answered.
 pub record IsNextEvent (around after : Around) (script : Requests) (run : Run) (lists : Lists) (event : RunEvent) : Type 0 where

@@ -30,7 +30,7 @@ pub record RepliesAlso (before after : List (Option Reply)) (i : ℕ) (given : R
   pub others : (j : ℕ) → (i == j) ≡ false → slice_get after j ≡ slice_get before j
 
 -- A reply may be given: by the steps of its request, and a fault by its count. Behind a request that a stopped store cut
--- off, nothing but want of memory or the fault is replied.
+-- off, nothing but lack of memory or the fault is replied.
 pub record MayReply (script : Requests) (run : Run) (journal : List JournalStep) (before after : List (Option Reply)) (old new : Faults) (i : ℕ) (given : Reply) : Type 0 where
   pub asked : ℕ × Request
   pub request_is : slice_get script i ≡ Some asked
@@ -42,7 +42,7 @@ pub record MayReply (script : Requests) (run : Run) (journal : List JournalStep)
   pub behind : (k : ℕ) (first : ℕ × Request) → HasReply before k (reply.Refused refusal.Stopped) → k < i → slice_get script k ≡ Some first → first.0 ≡ asked.0
       → (given ≡ reply.Refused refusal.NoMemory) ⊎ (given ≡ reply.Refused refusal.Stopped)
 
--- What the next step of a journal needs beside what the task told of it.
+-- What the next step of a journal needs beside what the task says of it.
 abbrev pub AllMayCome : Requests → List JournalStep → List (Option Reply) → List JournalStep → Type 0
 AllMayCome script journal replies [] = Unit {0}
 AllMayCome script journal replies (step ∷ steps) = MayCome script journal replies step

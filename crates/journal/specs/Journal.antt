@@ -1,8 +1,11 @@
 -- The journal of a run: which steps were made, in their order, and when it is legal.
-use Rattle.std.specs.Prelude.{◌≡◌, ◌≤◌, ◌<◌, ◌+◌, ◌-◌, ◌^◌, ◌==◌, nat_le, min, ℕ, Bool, true, false, List, [], ◌∷◌, ◌++◌, length, map, filter, take, count_by, slice_get, if◌then◌else◌, Option, Some, None, AllPairs, ◌⊎◌}
+use Rattle.std.specs.Prelude.{◌≡◌, ◌≤◌, ◌<◌, ◌+◌, ◌-◌, ◌^◌, ◌==◌, nat_le, min, ℕ, Bool, true, false, List, [], ◌∷◌, ◌++◌, length, map, filter, take, count_by, slice_get, if◌then◌else◌, Option, Some, None, AllPairs, ◌⊎◌, All, drop}
 use Rattle.std.specs.Option.{option_map_or}
 use Rattle.mdbox_base.specs.Streams.{Rose}
 use Rattle.disk_model.specs.Disk.{Faults}
+use Rattle.mdbox_base.specs.declared.script.Half.{Half}
+use Rattle.mdbox_base.specs.declared.script.JournalEntry.{JournalEntry}
+use Rattle.mdbox_base.specs.declared.script.Half.TheVariants.{Whole, CopyHalf, ExpungeHalf}
 use Rattle.mdbox_base.specs.declared.requests.Request.{Request}
 use Rattle.mdbox_base.specs.declared.requests.Request.TheVariants as request
 use Rattle.mdbox_base.specs.declared.replies.Refusal.{Refusal}
@@ -18,11 +21,6 @@ abbrev pub Requests : Type 0
 Requests = List (ℕ × Request)
 
 -- A move makes two steps, first its copy and then its expunge; every other request makes one.
-pub data Half : Type 0 where
-  Whole : Half
-  CopyHalf : Half
-  ExpungeHalf : Half
-
 abbrev pub half_of : Request → EventPart → Half
 half_of (request.Move name uid target) SecondHalf = ExpungeHalf
 half_of (request.Move name uid target) part = CopyHalf
@@ -45,6 +43,20 @@ pub record JournalStep : Type 0 where
 -- the moment of a step: the number of device calls as its event ended
 abbrev pub moment_of : Run → JournalStep → ℕ
 moment_of run step = option_map_or (λ e. e.moment) (slice_get run.events step.event) 0
+
+-- What a store keeps of a step: its moment is the number of device calls as the run began, and the calls of the entry,
+-- which stand still at the top of a u64.
+pub record IsEntryOf (run : Run) (began : ℕ) (step : JournalStep) (entry : JournalEntry) : Type 0 where
+  pub lane_is : entry.lane ≡ step.lane
+  pub request_is : entry.request ≡ step.request
+  pub half_is : entry.half ≡ step.half
+  pub calls_are : entry.calls ≡ min (moment_of run step - began) (2 ^ 64 - 1)
+
+-- each entry is that of its step
+abbrev pub AreEntriesOf : Run → ℕ → List JournalStep → List JournalEntry → Type 0
+AreEntriesOf run began [] [] = Unit {0}
+AreEntriesOf run began (step ∷ steps) (entry ∷ entries) = IsEntryOf run began step entry × AreEntriesOf run began steps entries
+AreEntriesOf run began steps entries = ⊥
 
 -- the refusal that an answer is
 abbrev pub refusal_in : Reply → Option Refusal
@@ -108,7 +120,7 @@ HasAllSteps (request.Move name uid target) steps (reply.Moved copied gone) = ste
 HasAllSteps (request.Move name uid target) steps last = ⊥
 HasAllSteps request steps last = steps ≡ last ∷ []
 
--- What a request replies, whose steps answered this: want of memory has no step, damage has that of the fetch, after a
+-- What a request replies, whose steps answered this: lack of memory has no step, damage has that of the fetch, after a
 -- fault there are the first steps, none or some; every other reply is that of the last step, and none is missing.
 abbrev pub IsReplyOf : Request → List Reply → Reply → Type 0
 IsReplyOf request steps (reply.Refused refusal.NoMemory) = steps ≡ []
@@ -147,7 +159,7 @@ LacksOrGoesOn run script journal i =
     ((asked : ℕ × Request) × (slice_get script i ≡ Some asked) × (length (steps_of i journal) < length (halves_of asked.1)))
     ⊎ ((n : ℕ) × (event : RunEvent) × (slice_get run.events n ≡ Some event) × (event.request ≡ i) × AreBefore (steps_of i journal) n)
 
--- a later request of the lane that can't go on: it has no step, and no reply but for want of memory or the fault
+-- a later request of the lane that can't go on: it has no step, and no reply but for lack of memory or the fault
 abbrev pub IsHalted : List JournalStep → List (Option Reply) → ℕ → Type 0
 IsHalted journal replies i = (steps_of i journal ≡ []) × ((given : Reply) → HasReply replies i given → (given ≡ reply.Refused refusal.NoMemory) ⊎ (given ≡ reply.Refused refusal.Stopped))
 
@@ -171,7 +183,7 @@ pub record IsLegal (start : Lists) (script : Requests) (run : Run) (journal : Li
   pub replied : AreReplied script journal replies
   pub causes : HaveCauses run script journal replies old new
 
--- ---- a stop
+-- ---- a crash
 
 -- What a failed append would have done: its events as they would have been, from this place of the run on, the number of
 -- device calls at which it began, and the steps that they would have made. Where no append failed, there are none.
@@ -192,11 +204,24 @@ as_if run broken = record run { events = take broken.place run.events ++ broken.
 abbrev pub AreBroken : Run → Requests → Lists → List JournalStep → Broken → Type 0
 AreBroken run script start journal broken = AreSteps (as_if run broken) script (left_by start journal) broken.steps
 
+-- These events would have been those that a stopped store refused: each of the same request and part.
+abbrev pub WouldHaveBeen : List RunEvent → List RunEvent → Type 0
+WouldHaveBeen failed [] = Unit {0}
+WouldHaveBeen [] (would ∷ rest) = ⊥
+WouldHaveBeen (event ∷ failed) (would ∷ rest) =
+    (event.refused ≡ Some refusal.Stopped) × (would.lane ≡ event.lane) × (would.request ≡ event.request) × (would.part ≡ event.part) × WouldHaveBeen failed rest
+
+-- The broken steps are those of the append that failed: behind the events before it, and begun no earlier than they ended.
+pub record IsOfFailure (run : Run) (broken : Broken) : Type 0 where
+  pub events : WouldHaveBeen (drop broken.place run.events) broken.events
+  pub steps : All (λ step. broken.place ≤ step.event) broken.steps
+  pub began : All (λ event. event.moment ≤ broken.began) (take broken.place run.events)
+
 -- how many entries are acknowledged at this moment
 abbrev pub acked : Run → List JournalStep → ℕ → ℕ
 acked run journal m = count_by (λ step. nat_le (moment_of run step) m) journal
 
--- A stop at this moment may leave these lists: those after the first entries, every acknowledged one among them, or those
+-- A crash at this moment may leave these lists: those after the first entries, every acknowledged one among them, or those
 -- after all entries and the broken steps, where the failed append had begun.
 abbrev pub Reached : Lists → Run → List JournalStep → Broken → ℕ → Lists → Type 0
 Reached start run journal broken m lists =

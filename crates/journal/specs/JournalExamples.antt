@@ -1,6 +1,6 @@
 -- Three runs: a delivery and a listing; a copy whose message is expunged between its two events; and two moves of one
 -- message, the second of which finds it gone.
-use Rattle.std.specs.Prelude.{ℕ, true, false, List, [], ◌∷◌, ◌++◌, codes, Some}
+use Rattle.std.specs.Prelude.{ℕ, true, false, List, [], ◌∷◌, ◌++◌, codes, Some, None}
 use Rattle.mdbox_base.specs.declared.entries.MapEntry.{MapEntry}
 use Rattle.mdbox_base.specs.declared.entries.MapEntry.TheVariants as map
 use Rattle.mdbox_base.specs.declared.entries.BoxEntry.TheVariants as box
@@ -12,7 +12,8 @@ use Rattle.model_meaning.specs.MapMeaning.{no_numbers}
 use Rattle.model_logs.specs.LogExamples.{example_store}
 use Rattle.model_meaning.specs.MeaningExamples.{example_guid, example_made}
 use Rattle.list_machine.specs.Run.{First, TakesFile, PlacesMessage, StoresRecord, Last, SecondHalf, GivesBack, ReadsPiece, Unpins, RemovesFile, MakesTarget, CopiesMessage, Switches, ReadsFile, RunEvent, event_of, Run}
-use Rattle.journal.specs.Journal.{Requests, Whole, CopyHalf, ExpungeHalf, JournalStep}
+use Rattle.journal.specs.Journal.{Requests, JournalStep}
+use Rattle.mdbox_base.specs.declared.script.Half.TheVariants.{Whole, CopyHalf, ExpungeHalf}
 use Rattle.journal.specs.Events.{Around}
 
 abbrev pub inbox : List ℕ
@@ -29,7 +30,7 @@ mailbox number name next messages = record { number = number; name = name; next_
 
 -- no part is detached, no instance may go, and no file has room
 abbrev pub nothing_around : Around
-nothing_around = record { parts = 0; candidate_left = false; has_room = false; instance_left = false }
+nothing_around = record { parts = 0; candidate = None; room = None; files = []; instance = None; damaged = [] }
 
 abbrev pub first_script : Requests
 first_script = (1, request.Deliver inbox 7 hello) ∷ (1, request.List inbox) ∷ []

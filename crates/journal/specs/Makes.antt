@@ -1,4 +1,4 @@
--- What a step of a task made, told of every run that has come to where the store stood: neither the world nor its journal is
+-- What a step of a task made, of every run that has come to where the store stood: neither the world nor its journal is
 -- named.
 use Rattle.std.specs.Prelude.{◌≡◌, ◌≤◌, ◌<◌, nat_lt, filter, slice_get, ◌∷◌, ℕ, List, [], length, Option, Some, None, All, is_some, true, Contains}
 use Rattle.disk_model.specs.Disk.{Faults}
@@ -9,7 +9,7 @@ use Rattle.model_lists.specs.Lists.{Lists}
 use Rattle.model_meaning.specs.MapMeaning.{MapMeaning, map_meaning}
 use Rattle.list_machine.specs.Run.{RunEvent, Run, before, and_then, map_of, drawn_of, reply_of}
 use Rattle.list_machine.specs.Machine.{Answers}
-use Rattle.journal.specs.Journal.{Requests, half_of, JournalStep, left_by, refusal_in, IsLegal, Broken, AreBroken}
+use Rattle.journal.specs.Journal.{Requests, half_of, JournalStep, left_by, refusal_in, IsLegal, Broken, AreBroken, IsOfFailure}
 use Rattle.journal.specs.Events.{Around, IsEvent, IsNextEvent, makes_step}
 
 -- A run has come to where a store stands: its entries mean the store's map, its numbers are those that the store has drawn,
@@ -66,7 +66,7 @@ steps_made run request event (Some answer) left = record {
 abbrev pub lists_before : Lists → List JournalStep → ℕ → Lists
 lists_before start journal n = left_by start (filter (λ step. nat_lt step.event n) journal)
 
--- Every event of the run was the next of its lane, on the lists as it began. What each saw of files and instances is told
+-- Every event of the run was the next of its lane, on the lists as it began. What each found of files and instances stands
 -- by the place of the event: before it, and as it ended.
 abbrev pub AreNextEvents : (ℕ → Around) → (ℕ → Around) → Requests → Lists → Run → List JournalStep → Type 0
 AreNextEvents around after script start run journal = (n : ℕ) (event : RunEvent) → slice_get run.events n ≡ Some event
@@ -82,7 +82,7 @@ AreTold script run journal = (n : ℕ) (event : RunEvent) (asked : ℕ × Reques
     → makes_step asked.1 event.part event.refused ≡ true → (step : JournalStep) × Contains journal step × (step.event ≡ n)
 
 -- A script was served from these lists: the run began with the numbers that its map names, each event was the next of its
--- lane and each step told, the journal and the replies are legal, the broken steps are what a failed append would have made,
+-- lane and each step has its entry, the journal and the replies are legal, the broken steps are what a failed append would have made,
 -- and the run has come to this map.
 pub record IsServed (start : Lists) (script : Requests) (run : Run) (journal : List JournalStep) (broken : Broken) (replies : List (Option Reply)) (old new : Faults) (m : MapMeaning) : Type 0 where
   pub around : ℕ → Around
@@ -93,4 +93,5 @@ pub record IsServed (start : Lists) (script : Requests) (run : Run) (journal : L
   pub given : AreReplies script run replies
   pub legal : IsLegal start script run journal replies old new
   pub broken_is : AreBroken run script start journal broken
+  pub of_failure : IsOfFailure run broken
   pub come : map_of run ≡ m

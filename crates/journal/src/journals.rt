@@ -8,7 +8,8 @@ ghost use Rattle.mdbox_base.specs.declared.replies.Reply.{Reply};
 ghost use Rattle.mdbox_base.specs.declared.replies.Reply.TheVariants as reply;
 ghost use Rattle.model_lists.specs.Lists.{Lists, refs_of};
 ghost use Rattle.list_machine.specs.Run.{Run, RunEvent, and_then};
-ghost use Rattle.journal.specs.Journal.{Requests, CopyHalf, ExpungeHalf, halves_of, JournalStep, IsStep, AreSteps, left_by, IsFirstPart, HasReply, IsReplyOf, IsLegal, is_read_fault};
+ghost use Rattle.journal.specs.Journal.{Requests, halves_of, JournalStep, IsStep, AreSteps, left_by, IsFirstPart, HasReply, IsReplyOf, IsLegal, is_read_fault};
+ghost use Rattle.mdbox_base.specs.declared.script.Half.TheVariants.{CopyHalf, ExpungeHalf};
 ghost use Rattle.journal.specs.GoesOn.{event_at, IsOneStep, AnswersAlone, all_added, all_taken, MayCome, RepliesAlso, MayReply};
 ghost use Rattle.list_machine.specs.Machine.{expunge};
 
@@ -33,7 +34,7 @@ pub fn journals_change_references()
 {}
 
 /// A request alone, but a move, is answered as the machine does on the lists at the start, at an event of the run, unless
-/// want of memory, a fault or damage stops it.
+/// lack of memory, a fault or damage ends it.
 pub fn a_request_alone()
     ensures { (start : Lists) (asked : ℕ × Request) (run : Run) (journal : List JournalStep) (given : Reply) (old new : Faults) → IsLegal start (asked ∷ []) run journal (Some given ∷ []) old new → IsOneStep asked.1 given → (left : Lists) × AnswersAlone run start asked.1 given left }
 {}

@@ -12,7 +12,7 @@ use Rattle.mdbox_base.specs.declared.replies.Refusal.TheVariants.{NoMailbox, Exi
 use Rattle.mdbox_base.specs.declared.replies.Reply.{Reply}
 use Rattle.mdbox_base.specs.declared.replies.Reply.TheVariants as reply
 use Rattle.list_machine.specs.Run.{EventPart, First, Last, SecondHalf, RunEvent, Run}
-use Rattle.list_machine.specs.Machine.{Check, HasMailbox, IsNewName, HasMessage, RoomForMailbox, RoomForMessage, NextUid, NextMapUid, NextFiles, TargetFits, NextInstance, NextMailbox, MayBeCopied, refused_where, refusal_at, is_step, Answers, Does, IsCopied, IsDelivered, IsMade, IsSecondHalf, checks_of, first_refusal, refs_added, refs_taken, without_first, has_name, is_message_of_uid, mailbox_named, message_at, set_flags, expunge, add_last, add_message, one_of_guid}
+use Rattle.list_machine.specs.Machine.{Check, HasMailbox, IsNewName, HasUid, RoomForMailbox, RoomForMessage, NextUid, NextMapUid, NextFiles, TargetFits, NextInstance, NextMailbox, MayBeCopied, refused_where, refusal_at, is_step, Answers, Does, IsCopied, IsDelivered, IsMade, IsSecondHalf, checks_of, first_refusal, refs_added, refs_taken, without_first, has_name, is_message_of_uid, mailbox_named, message_at, set_flags, expunge, add_last, add_message, one_of_guid}
 
 -- what a change of the first that passes does to a sum
 sum_change : {X : Type 0} → (f : X → ℕ) (test : X → Bool) (change : X → X) (more less : ℕ) (xs : List X) → ((x : X) → find test xs ≡ Some x → f (change x) + less ≡ f x + more) →
@@ -167,7 +167,7 @@ refused_so false x r h e = absurd (let z : None ≡ Some r = e in cc z)
 check_refusal : (run : Run) (old : Lists) (check : Check) (refusal : Refusal) → refusal_at run old check ≡ Some refusal → is_step refusal ≡ true
 check_refusal run old (HasMailbox name) r e = refused_so _ NoMailbox r refl e
 check_refusal run old (IsNewName name) r e = refused_so _ Exists r refl e
-check_refusal run old (HasMessage name uid) r e = refused_so _ NoMessage r refl e
+check_refusal run old (HasUid name uid) r e = refused_so _ NoMessage r refl e
 check_refusal run old RoomForMailbox r e = refused_so _ (TooManyMailboxes 1024) r refl e
 check_refusal run old (RoomForMessage name) r e = refused_so _ (MailboxFull 1000000) r refl e
 check_refusal run old (NextUid name) r e = refused_so _ (StoreFull 4294967294) r refl e

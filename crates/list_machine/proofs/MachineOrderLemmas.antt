@@ -15,7 +15,7 @@ use Rattle.mdbox_base.specs.declared.replies.Reply.{Reply}
 use Rattle.mdbox_base.specs.declared.replies.Reply.TheVariants as reply
 use Rattle.model_lists.specs.Lists.{ListedMessage, Mailbox, Lists, IsMessageInRange, IsMailboxInOrder, AreWellFormed, empty_mailbox, change_first}
 use Rattle.list_machine.specs.Run.{EventPart, First, Last, SecondHalf, RunEvent, Run}
-use Rattle.list_machine.specs.Machine.{HasMailbox, IsNewName, HasMessage, RoomForMailbox, RoomForMessage, NextUid, refused_where, refusal_at, first_refusal, part_checks, Answers, Does, RequestInRange, IsCopied, IsDelivered, IsMade, IsSecondHalf, without_first, has_name, is_message_of_uid, mailbox_named, message_in, message_at, set_flags, expunge, add_last, add_message}
+use Rattle.list_machine.specs.Machine.{HasMailbox, IsNewName, HasUid, RoomForMailbox, RoomForMessage, NextUid, refused_where, refusal_at, first_refusal, part_checks, Answers, Does, RequestInRange, IsCopied, IsDelivered, IsMade, IsSecondHalf, without_first, has_name, is_message_of_uid, mailbox_named, message_in, message_at, set_flags, expunge, add_last, add_message}
 use Rattle.list_machine.proofs.MachineLemmas.{some_one}
 use Rattle.model_octets.proofs.PairLemmas.{found_among, pairs_nil, pairs_head, pairs_tail, pairs_push}
 
@@ -215,12 +215,12 @@ listed_fits old name uid message w e = by_mailbox (mailbox_named name old) refl 
 content_of : (message : ListedMessage) → IsMessageInRange message → IsContentInRange message
 content_of message f = record { flags = f.flags; time = f.time; guid = f.guid; size = f.size }
 
-copied_well : (run : Run) (old new : Lists) (name : List ℕ) (uid : ℕ) (target : List ℕ) (given : ℕ) → AreWellFormed old → first_refusal run old (HasMailbox name ∷ HasMailbox target ∷ HasMessage name uid ∷ RoomForMessage target ∷ NextUid target ∷ []) ≡ None
+copied_well : (run : Run) (old new : Lists) (name : List ℕ) (uid : ℕ) (target : List ℕ) (given : ℕ) → AreWellFormed old → first_refusal run old (HasMailbox name ∷ HasMailbox target ∷ HasUid name uid ∷ RoomForMessage target ∷ NextUid target ∷ []) ≡ None
     → IsCopied old name uid target given new → AreWellFormed new
 copied_well run old new name uid target given w e c =
     let e1 = (or_none (refusal_at run old (HasMailbox name)) _ e).1 in
     let e2 = (or_none (refusal_at run old (HasMailbox target)) _ e1).1 in
-    let e3 = (or_none (refusal_at run old (HasMessage name uid)) _ e2).1 in
+    let e3 = (or_none (refusal_at run old (HasUid name uid)) _ e2).1 in
     let e4 = (or_none (refusal_at run old (RoomForMessage target)) _ e3).1 in
     let room = (or_none (refusal_at run old (NextUid target)) None e4).0 in
     subst AreWellFormed (sym c.new_is)

@@ -70,7 +70,7 @@ count_different (text ∷ texts) = if list_any (bytes_eq text) texts then count_
 pub data Check : Type 0 where
   HasMailbox : (name : List ℕ) → Check
   IsNewName : (name : List ℕ) → Check
-  HasMessage : (name : List ℕ) → (uid : ℕ) → Check
+  HasUid : (name : List ℕ) → (uid : ℕ) → Check
   RoomForMailbox : Check
   RoomForMessage : (name : List ℕ) → Check
   NextUid : (name : List ℕ) → Check
@@ -94,7 +94,7 @@ is_used_up drawn = nat_le 4294967294 drawn
 abbrev pub refusal_at : Run → Lists → Check → Option Refusal
 refusal_at run lists (HasMailbox name) = refused_where (is_none (mailbox_named name lists)) refusal.NoMailbox
 refusal_at run lists (IsNewName name) = refused_where (is_some (mailbox_named name lists)) refusal.Exists
-refusal_at run lists (HasMessage name uid) = refused_where (is_none (message_at name uid lists)) refusal.NoMessage
+refusal_at run lists (HasUid name uid) = refused_where (is_none (message_at name uid lists)) refusal.NoMessage
 refusal_at run lists RoomForMailbox = refused_where (nat_le 1024 (length lists)) (refusal.TooManyMailboxes 1024)
 refusal_at run lists (RoomForMessage name) =
     refused_where (option_map_or (λ m. nat_le 1000000 (length m.messages)) (mailbox_named name lists) false) (refusal.MailboxFull 1000000)
@@ -117,8 +117,8 @@ first_refusal run lists (check ∷ checks) = option_or (refusal_at run lists che
 -- numbers, copies.
 abbrev pub copy_checks : List ℕ → ℕ → List ℕ → EventPart → List Check
 copy_checks name uid target First =
-    HasMailbox name ∷ HasMailbox target ∷ HasMessage name uid ∷ RoomForMessage target ∷ NextUid target ∷ MayBeCopied name uid ∷ []
-copy_checks name uid target Last = HasMailbox name ∷ HasMailbox target ∷ HasMessage name uid ∷ RoomForMessage target ∷ NextUid target ∷ []
+    HasMailbox name ∷ HasMailbox target ∷ HasUid name uid ∷ RoomForMessage target ∷ NextUid target ∷ MayBeCopied name uid ∷ []
+copy_checks name uid target Last = HasMailbox name ∷ HasMailbox target ∷ HasUid name uid ∷ RoomForMessage target ∷ NextUid target ∷ []
 copy_checks name uid target part = []
 
 abbrev pub deliver_checks : List ℕ → EventPart → List Check
@@ -142,11 +142,11 @@ purge_checks m files = NextFiles (length (with_targets m files)) ∷ map (λ t. 
 abbrev pub part_checks : Run → RunEvent → Request → EventPart → List Check
 part_checks run event (request.Deliver name time octets) part = deliver_checks name part
 part_checks run event (request.List name) First = HasMailbox name ∷ []
-part_checks run event (request.Fetch name uid) First = HasMailbox name ∷ HasMessage name uid.0 ∷ []
-part_checks run event (request.Flag name uid flags) First = HasMailbox name ∷ HasMessage name uid.0 ∷ []
+part_checks run event (request.Fetch name uid) First = HasMailbox name ∷ HasUid name uid.0 ∷ []
+part_checks run event (request.Flag name uid flags) First = HasMailbox name ∷ HasUid name uid.0 ∷ []
 part_checks run event (request.Copy name uid target) part = copy_checks name uid.0 target part
 part_checks run event (request.Move name uid target) part = copy_checks name uid.0 target part
-part_checks run event (request.Expunge name uid) First = HasMailbox name ∷ HasMessage name uid.0 ∷ []
+part_checks run event (request.Expunge name uid) First = HasMailbox name ∷ HasUid name uid.0 ∷ []
 part_checks run event (request.Make name) part = make_checks name part
 part_checks run event request.Purge First = purge_checks (map_of run) event.files
 part_checks run event request part = []
@@ -241,7 +241,7 @@ PartAnswers run event old request part reply new = (first_refusal run old (part_
 abbrev pub Answers : Run → Lists → Request → RunEvent → Reply → Lists → Type 0
 Answers run old request event reply new = PartAnswers run event old request event.part reply new
 
--- the refusals that are steps; the others, want of memory, faults and damage, are none
+-- the refusals that are steps; the others, lack of memory, faults and damage, are none
 abbrev pub is_step : Refusal → Bool
 is_step refusal.NoMemory = false
 is_step refusal.ReadFault = false

@@ -80,7 +80,7 @@ pub record RunEvent : Type 0 where
   pub damaged : List ℕ
   pub moment : ℕ
 
--- an event that did nothing that is told
+-- an event that did nothing
 abbrev pub event_of : ℕ → ℕ → EventPart → ℕ → RunEvent
 event_of lane request part moment = record {
   lane = lane;

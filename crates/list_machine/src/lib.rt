@@ -2,6 +2,8 @@
 //! laws of both.
 #![tactic(auto)]
 
-pub use machine::{refusals_change_nothing, steps_are_one, steps_change_references, steps_keep_order};
+pub use machine::{
+    refusals_change_nothing, steps_are_one, steps_change_references, steps_keep_order,
+};
 
 mod machine;

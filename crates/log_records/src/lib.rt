@@ -14,5 +14,3 @@ mod map_read;
 mod map_write;
 mod root;
 mod stored;
-#[cfg(test)]
-mod tests;

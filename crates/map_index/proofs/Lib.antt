@@ -1,5 +1,4 @@
 pub mod Lists
-pub mod InPlace
 pub mod Nearest
 pub mod Pairs
 pub mod Sealed

@@ -10,5 +10,3 @@ mod index;
 mod named;
 mod numbers;
 mod rows;
-#[cfg(test)]
-mod tests;

@@ -40,5 +40,3 @@ mod script;
 mod seq;
 mod skipped;
 mod stream;
-#[cfg(test)]
-mod tests;

@@ -1,6 +1,6 @@
 pub mod LineLemmas
-pub mod Continued
-pub mod Reading
-pub mod Parameters
-pub mod Alone
-pub mod Finding
+pub mod ContinuedLemmas
+pub mod ReadingLemmas
+pub mod ParameterLemmas
+pub mod AloneLemmas
+pub mod FindingLemmas

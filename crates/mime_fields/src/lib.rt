@@ -4,8 +4,6 @@
 mod fields;
 mod held;
 mod lines;
-#[cfg(test)]
-mod tests;
 mod value;
 
 pub use fields::read_fields;

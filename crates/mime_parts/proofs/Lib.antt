@@ -1,3 +1,3 @@
 pub mod MarkLemmas
 pub mod ReaderLemmas
-pub mod Steps
+pub mod StepLemmas

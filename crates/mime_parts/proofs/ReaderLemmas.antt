@@ -23,7 +23,7 @@ use Rattle.mime_parts.specs.declared.reader.Reader.{Reader}
 use Rattle.mime_parts.specs.declared.reader.Place.{Place}
 use Rattle.mime_parts.specs.declared.reader.Place.TheVariants as places
 use Rattle.mime_parts.specs.declared.mark.Mark.TheVariants as marks
-use Rattle.mime_parts.proofs.Steps.{head_goes_on, leaf_opens, leaf_at, is_leaf, passed, opened, closed, delimited, flushed}
+use Rattle.mime_parts.proofs.StepLemmas.{head_goes_on, leaf_opens, leaf_at, is_leaf, passed, opened, closed, delimited, flushed}
 
 or_right : (x y : Bool) → y ≡ true → (x || y) ≡ true
 or_right true y e = refl

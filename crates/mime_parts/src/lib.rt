@@ -3,8 +3,6 @@
 
 mod mark;
 mod reader;
-#[cfg(test)]
-mod tests;
 
 ghost use Rattle.std.specs.Prelude.{◌≡◌, ◌≤◌, length, IfOk};
 ghost use Rattle.model_mime.specs.Parts.{parts_in};

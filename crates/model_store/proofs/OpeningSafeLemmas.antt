@@ -73,7 +73,7 @@ passed_by image m (box ∷ boxes) (es ∷ logs) (x ∷ xs) p h = (by_log image m
 
 -- ---- they pass, and show the lists
 
-have_records : (image : Files) (m : MapMeaning) (rows : List LogRow) (xs : List ListedMessage) → AreListed image m rows xs → All (HasItsRecord m) rows
+pub have_records : (image : Files) (m : MapMeaning) (rows : List LogRow) (xs : List ListedMessage) → AreListed image m rows xs → All (HasItsRecord m) rows
 have_records image m [] [] l = All-nil (HasItsRecord m)
 have_records image m [] (x ∷ xs) l = absurd l
 have_records image m (row ∷ rows) [] l = absurd l
@@ -122,7 +122,7 @@ listings image m (box ∷ boxes) (es ∷ logs) (x ∷ xs) h =
 -- ---- counts
 
 -- a record is found by its map uid, and by its GUID
-at_uid : (m : MapMeaning) (row : MapRecord) → IsSoundMap m → Contains m.records row → record_at m row.uid ≡ Some row
+pub at_uid : (m : MapMeaning) (row : MapRecord) → IsSoundMap m → Contains m.records row → record_at m row.uid ≡ Some row
 at_uid m row s c =
     found_is (λ (r : MapRecord). r.uid == row.uid) m.records row c (equal_yes row.uid row.uid refl)
     (λ i j d lt le p q. let a = equal_is _ row.uid p in let b = equal_is _ row.uid q in let h = s.rising i j d lt le in omega (arith, a, b, h))
@@ -181,7 +181,7 @@ counted image m (box ∷ boxes) (es ∷ logs) (x ∷ xs) r s c h =
     added : (a b c d : ℕ) → a ≡ b → c ≡ d → a + c ≡ b + d
     added a b c d p q = cc (p, q)
 
-count_is : (m : MapMeaning) (r : MapRecord) → IsSoundMap m → Contains m.records r → count_of m r.guid ≡ r.count
+pub count_is : (m : MapMeaning) (r : MapRecord) → IsSoundMap m → Contains m.records r → count_of m r.guid ≡ r.count
 count_is m r s c = ap (λ (o : Option MapRecord). option_map_or (λ (row : MapRecord). row.count) o 0) (of_guid m r r.guid s c refl)
 
 -- ---- safe files open
@@ -226,7 +226,7 @@ unlisted_rows image m guid (row ∷ rows) (x ∷ xs) n l =
     added : (a b : ℕ) → a ≡ 0 → b ≡ 0 → a + b ≡ 0
     added a b p q = omega (arith, p, q)
 
-unlisted : (image : Files) (m : MapMeaning) (guid : List ℕ) (boxes : List MapBox) (lists : Lists) → record_of m guid ≡ None → AreMailboxes image m boxes lists → refs_of lists guid ≡ 0
+pub unlisted : (image : Files) (m : MapMeaning) (guid : List ℕ) (boxes : List MapBox) (lists : Lists) → record_of m guid ≡ None → AreMailboxes image m boxes lists → refs_of lists guid ≡ 0
 unlisted image m guid [] [] n h = refl
 unlisted image m guid [] (x ∷ xs) n h = absurd h
 unlisted image m guid (box ∷ boxes) [] n h = absurd h
@@ -268,3 +268,10 @@ pub opens_shows : (files : Files) (store : List ℕ) (entries : List MapEntry) (
 opens_shows files store entries logs lists o stands =
     let m : MapMeaning = map_meaning store entries in
     listings files m m.boxes logs lists (passed_by files m m.boxes logs lists o.passed.boxes stands.mailboxes)
+
+-- a record has as many listed messages as its GUID has
+pub listed_are_refs : (files : Files) (store : List ℕ) (entries : List MapEntry) (logs : List (List BoxEntry)) (lists : Lists) (row : MapRecord) → Opens files store entries logs → StandsBy files store entries lists
+    → Contains (map_meaning store entries).records row → listed_of logs row.uid ≡ refs_of lists row.guid
+listed_are_refs files store entries logs lists row o stands c =
+    let m : MapMeaning = map_meaning store entries in
+    counted files m m.boxes logs lists row (map_sound store entries stands.map_log.fit stands.map_log.in_range) c (passed_by files m m.boxes logs lists o.passed.boxes stands.mailboxes)

@@ -5,7 +5,8 @@ use Rattle.std.proofs.lemmas.Grind.{common_steps}
 use Rattle.mdbox_base.specs.declared.replies.Refusal.TheVariants.{NoMailbox, Exists, NoMessage, TooManyCopies, MailboxFull, TooManyMailboxes, StoreFull}
 use Rattle.model_lists.specs.Lists.{ListedMessage, Mailbox, Lists, refs_of}
 use Rattle.model_meaning.specs.MapMeaning.{count_of, greatest}
-use Rattle.list_machine.specs.Machine.{Run, First, Last, first_refusal, make_checks, copy_checks, mailbox_named, message_at}
+use Rattle.list_machine.specs.Run.{Run, First, Last, map_of, drawn_of}
+use Rattle.list_machine.specs.Machine.{first_refusal, make_checks, copy_checks, mailbox_named, message_at}
 use Rattle.plain_lists.specs.AtOnce.{IsAlone}
 
 le_true : (m n : ℕ) → m ≤ n → nat_le m n ≡ true
@@ -21,16 +22,15 @@ make_exists run lists name h = rw h refl
 pub make_full : (run : Run) (lists : Lists) (name : List ℕ) → is_some (mailbox_named name lists) ≡ false → 1024 ≤ length lists → first_refusal run lists (make_checks name First) ≡ Some (TooManyMailboxes 1024)
 make_full run lists name h full = rw (h, le_true 1024 (length lists) full) refl
 
-pub make_used_up : (run : Run) (lists : Lists) (name : List ℕ) → is_some (mailbox_named name lists) ≡ false → length lists < 1024 → 4294967294 ≤ run.drawn.mailbox →
+pub make_used_up : (run : Run) (lists : Lists) (name : List ℕ) → is_some (mailbox_named name lists) ≡ false → length lists < 1024 → 4294967294 ≤ (drawn_of run).mailbox →
     first_refusal run lists (make_checks name First) ≡ Some (StoreFull 4294967294)
-make_used_up run lists name h room used = rw (h, le_false 1024 (length lists) room, le_true 4294967294 run.drawn.mailbox used) refl
+make_used_up run lists name h room used = rw (h, le_false 1024 (length lists) room, le_true 4294967294 (drawn_of run).mailbox used) refl
 
-pub make_passes : (run : Run) (lists : Lists) (name : List ℕ) → is_some (mailbox_named name lists) ≡ false → length lists < 1024 → run.drawn.mailbox < 4294967294 →
-    (first_refusal run lists (make_checks name First) ≡ None) × (first_refusal run lists (make_checks name Last) ≡ None)
-make_passes run lists name h room unused = (
-  rw (h, le_false 1024 (length lists) room, le_false 4294967294 run.drawn.mailbox unused) refl,
-  rw (h, le_false 1024 (length lists) room) refl,
-)
+pub make_passes : (run : Run) (lists : Lists) (name : List ℕ) → is_some (mailbox_named name lists) ≡ false → length lists < 1024 → (drawn_of run).mailbox < 4294967294 → first_refusal run lists (make_checks name First) ≡ None
+make_passes run lists name h room unused = rw (h, le_false 1024 (length lists) room, le_false 4294967294 (drawn_of run).mailbox unused) refl
+
+pub make_last : (run : Run) (lists : Lists) (name : List ℕ) → is_some (mailbox_named name lists) ≡ false → length lists < 1024 → first_refusal run lists (make_checks name Last) ≡ None
+make_last run lists name h room = rw (h, le_false 1024 (length lists) room) refl
 
 -- a copy
 pub copy_no_source : (run : Run) (lists : Lists) (name : List ℕ) (uid : ℕ) (target : List ℕ) → mailbox_named name lists ≡ None → first_refusal run lists (copy_checks name uid target First) ≡ Some NoMailbox
@@ -63,17 +63,19 @@ copy_used_up run lists name uid target source into message f room used =
 pub copy_shared : (run : Run) (lists : Lists) (name : List ℕ) (uid : ℕ) (target : List ℕ) (source into : Mailbox) (message : ListedMessage) → IsFound lists name uid target source into message →
     IsAlone run lists → length into.messages < 1000000 → into.next_uid ≤ 4294967294 → 65535 ≤ refs_of lists message.guid → first_refusal run lists (copy_checks name uid target First) ≡ Some (TooManyCopies 65535)
 copy_shared run lists name uid target source into message f alone room unused shared =
-    let kept : 65535 ≤ count_of run.map message.guid = omega (arith, alone.counts message.guid, shared) in
-    rw (f.message_is, f.source_is, f.target_is, le_false 1000000 (length into.messages) room, le_false 4294967295 into.next_uid (omega (arith, unused)), le_true 65535 (count_of run.map message.guid) kept) refl
+    let kept : 65535 ≤ count_of (map_of run) message.guid = omega (arith, alone.counts message.guid, shared) in
+    rw (f.message_is, f.source_is, f.target_is, le_false 1000000 (length into.messages) room, le_false 4294967295 into.next_uid (omega (arith, unused)), le_true 65535 (count_of (map_of run) message.guid) kept) refl
 
 pub copy_passes : (run : Run) (lists : Lists) (name : List ℕ) (uid : ℕ) (target : List ℕ) (source into : Mailbox) (message : ListedMessage) → IsFound lists name uid target source into message →
-    IsAlone run lists → length into.messages < 1000000 → into.next_uid ≤ 4294967294 → refs_of lists message.guid < 65535 →
-    (first_refusal run lists (copy_checks name uid target First) ≡ None) × (first_refusal run lists (copy_checks name uid target Last) ≡ None)
+    IsAlone run lists → length into.messages < 1000000 → into.next_uid ≤ 4294967294 → refs_of lists message.guid < 65535 → first_refusal run lists (copy_checks name uid target First) ≡ None
 copy_passes run lists name uid target source into message f alone room unused few =
-    let kept : count_of run.map message.guid < 65535 = omega (arith, alone.counts message.guid, few) in (
-      rw (f.message_is, f.source_is, f.target_is, le_false 1000000 (length into.messages) room, le_false 4294967295 into.next_uid (omega (arith, unused)), le_false 65535 (count_of run.map message.guid) kept) refl,
-      rw (f.message_is, f.source_is, f.target_is, le_false 1000000 (length into.messages) room, le_false 4294967295 into.next_uid (omega (arith, unused))) refl,
-    )
+    let kept : count_of (map_of run) message.guid < 65535 = omega (arith, alone.counts message.guid, few) in
+    rw (f.message_is, f.source_is, f.target_is, le_false 1000000 (length into.messages) room, le_false 4294967295 into.next_uid (omega (arith, unused)), le_false 65535 (count_of (map_of run) message.guid) kept) refl
+
+pub copy_last : (run : Run) (lists : Lists) (name : List ℕ) (uid : ℕ) (target : List ℕ) (source into : Mailbox) (message : ListedMessage) → IsFound lists name uid target source into message →
+    length into.messages < 1000000 → into.next_uid ≤ 4294967294 → first_refusal run lists (copy_checks name uid target Last) ≡ None
+copy_last run lists name uid target source into message f room unused =
+    rw (f.message_is, f.source_is, f.target_is, le_false 1000000 (length into.messages) room, le_false 4294967295 into.next_uid (omega (arith, unused))) refl
 
 -- the greatest of some numbers is above none of them
 most_below : (lists : Lists) (most : ℕ) → most ≤ fold (λ m x. max m x.number) most lists

@@ -4,7 +4,7 @@ use Rattle.std.specs.Prelude.{is_some, is_none, Bool, true, false, if◌then◌e
 use Rattle.std.proofs.lemmas.List.{map-append}
 use Rattle.std.specs.List.{position, remove}
 use Rattle.model_lists.specs.Lists.{ListedMessage, Mailbox, Lists, empty_mailbox, change_first}
-use Rattle.list_machine.specs.Machine.{has_name, has_uid, mailbox_named, message_at, message_in, without_first, set_flags, expunge}
+use Rattle.list_machine.specs.Machine.{has_name, is_message_of_uid, mailbox_named, message_at, message_in, without_first, set_flags, expunge}
 use Rattle.plain_lists.specs.declared.lists.PlainMessage.{PlainMessage}
 use Rattle.plain_lists.specs.declared.lists.PlainMailbox.{PlainMailbox}
 use Rattle.plain_lists.specs.View.{mailbox_of, message_of}
@@ -15,8 +15,8 @@ use Rattle.plain_lists.proofs.Positions.{IsFirstPlace, position_is_place, found_
 pub mailbox_place : (boxes : List PlainMailbox) (name : List ℕ) (i : ℕ) → Some i ≡ position (λ m. has_name name (mailbox_of m)) boxes → IsFirstPlace mailbox_of (has_name name) boxes i
 mailbox_place boxes name i e = position_is_place mailbox_of (has_name name) boxes (Some i) (sym e)
 
-pub message_place : (messages : List PlainMessage) (uid i : ℕ) → Some i ≡ position (λ m. has_uid uid (message_of m)) messages → IsFirstPlace message_of (has_uid uid) messages i
-message_place messages uid i e = position_is_place message_of (has_uid uid) messages (Some i) (sym e)
+pub message_place : (messages : List PlainMessage) (uid i : ℕ) → Some i ≡ position (λ m. is_message_of_uid uid (message_of m)) messages → IsFirstPlace message_of (is_message_of_uid uid) messages i
+message_place messages uid i e = position_is_place message_of (is_message_of_uid uid) messages (Some i) (sym e)
 
 pub no_mailbox_here : (boxes : List PlainMailbox) (name : List ℕ) → None ≡ position (λ m. has_name name (mailbox_of m)) boxes → mailbox_named name (map mailbox_of boxes) ≡ None
 no_mailbox_here boxes name e = position_is_place mailbox_of (has_name name) boxes None (sym e)
@@ -28,14 +28,14 @@ mailbox_here boxes name i b place here = found_at mailbox_of (has_name name) box
 
 -- the message at its place
 pub message_here : (boxes : List PlainMailbox) (name : List ℕ) (uid i j : ℕ) (b : PlainMailbox) (m : PlainMessage) → IsFirstPlace mailbox_of (has_name name) boxes i → b ≡ get_or boxes i b →
-    IsFirstPlace message_of (has_uid uid) b.messages.items j → m ≡ get_or b.messages.items j m → message_at name uid (map mailbox_of boxes) ≡ Some (message_of m)
+    IsFirstPlace message_of (is_message_of_uid uid) b.messages.items j → m ≡ get_or b.messages.items j m → message_at name uid (map mailbox_of boxes) ≡ Some (message_of m)
 message_here boxes name uid i j b m place here inner there =
-    let k : message_in uid (mailbox_of b) ≡ Some (message_of m) = found_at message_of (has_uid uid) b.messages.items j m inner ∙ ap (λ (x : PlainMessage). Some (message_of x)) (sym there) in
+    let k : message_in uid (mailbox_of b) ≡ Some (message_of m) = found_at message_of (is_message_of_uid uid) b.messages.items j m inner ∙ ap (λ (x : PlainMessage). Some (message_of x)) (sym there) in
     rw (mailbox_here boxes name i b place here) k
 
 pub no_message_here : (boxes : List PlainMailbox) (name : List ℕ) (uid i : ℕ) (b : PlainMailbox) → IsFirstPlace mailbox_of (has_name name) boxes i → b ≡ get_or boxes i b →
-    None ≡ position (λ m. has_uid uid (message_of m)) b.messages.items → message_at name uid (map mailbox_of boxes) ≡ None
-no_message_here boxes name uid i b place here none = rw (mailbox_here boxes name i b place here) (position_is_place message_of (has_uid uid) b.messages.items None (sym none))
+    None ≡ position (λ m. is_message_of_uid uid (message_of m)) b.messages.items → message_at name uid (map mailbox_of boxes) ≡ None
+no_message_here boxes name uid i b place here none = rw (mailbox_here boxes name i b place here) (position_is_place message_of (is_message_of_uid uid) b.messages.items None (sym none))
 
 -- a mailbox is changed at its place
 pub mailbox_changed : (change : Mailbox → Mailbox) (boxes : List PlainMailbox) (name : List ℕ) (i : ℕ) (b b' : PlainMailbox) → IsFirstPlace mailbox_of (has_name name) boxes i → b ≡ get_or boxes i b →
@@ -55,22 +55,22 @@ other_messages b b' messages e1 e2 e3 e4 =
 
 -- flags are set in place
 pub flagged : (boxes : List PlainMailbox) (name : List ℕ) (uid flags i j : ℕ) (b b' : PlainMailbox) (m m' : PlainMessage) → IsFirstPlace mailbox_of (has_name name) boxes i → b ≡ get_or boxes i b →
-    IsFirstPlace message_of (has_uid uid) b.messages.items j → m ≡ get_or b.messages.items j m → message_of m' ≡ record (message_of m) { flags = flags } →
+    IsFirstPlace message_of (is_message_of_uid uid) b.messages.items j → m ≡ get_or b.messages.items j m → message_of m' ≡ record (message_of m) { flags = flags } →
     b'.number ≡ b.number → b'.name ≡ b.name → b'.next_uid ≡ b.next_uid → b'.messages.items ≡ set b.messages.items j m' →
     map mailbox_of (set boxes i b') ≡ set_flags name uid flags (map mailbox_of boxes)
 flagged boxes name uid flags i j b b' m m' place here inner there flag e1 e2 e3 e4 =
-    let k : map message_of b'.messages.items ≡ change_first (has_uid uid) (λ message. record message { flags = flags }) (map message_of b.messages.items) =
-    ap (map message_of) e4 ∙ changed_at message_of (has_uid uid) (λ message. record message { flags = flags }) b.messages.items j m' m inner (flag ∙ ap (λ (x : PlainMessage). record (message_of x) { flags = flags }) there) in
-    mailbox_changed (λ mailbox. record mailbox { messages = change_first (has_uid uid) (λ message. record message { flags = flags }) mailbox.messages }) boxes name i b b' place here (other_messages b b' _ e1 e2 e3 k)
+    let k : map message_of b'.messages.items ≡ change_first (is_message_of_uid uid) (λ message. record message { flags = flags }) (map message_of b.messages.items) =
+    ap (map message_of) e4 ∙ changed_at message_of (is_message_of_uid uid) (λ message. record message { flags = flags }) b.messages.items j m' m inner (flag ∙ ap (λ (x : PlainMessage). record (message_of x) { flags = flags }) there) in
+    mailbox_changed (λ mailbox. record mailbox { messages = change_first (is_message_of_uid uid) (λ message. record message { flags = flags }) mailbox.messages }) boxes name i b b' place here (other_messages b b' _ e1 e2 e3 k)
 
 -- a message is removed in place
 pub expunged : (boxes : List PlainMailbox) (name : List ℕ) (uid i j : ℕ) (b b' : PlainMailbox) → IsFirstPlace mailbox_of (has_name name) boxes i → b ≡ get_or boxes i b →
-    IsFirstPlace message_of (has_uid uid) b.messages.items j →
+    IsFirstPlace message_of (is_message_of_uid uid) b.messages.items j →
     b'.number ≡ b.number → b'.name ≡ b.name → b'.next_uid ≡ b.next_uid → b'.messages.items ≡ remove b.messages.items j →
     map mailbox_of (set boxes i b') ≡ expunge name uid (map mailbox_of boxes)
 expunged boxes name uid i j b b' place here inner e1 e2 e3 e4 =
-    let k : map message_of b'.messages.items ≡ without_first (has_uid uid) (map message_of b.messages.items) = ap (map message_of) e4 ∙ removed_at message_of (has_uid uid) b.messages.items j inner in
-    mailbox_changed (λ mailbox. record mailbox { messages = without_first (has_uid uid) mailbox.messages }) boxes name i b b' place here (other_messages b b' _ e1 e2 e3 k)
+    let k : map message_of b'.messages.items ≡ without_first (is_message_of_uid uid) (map message_of b.messages.items) = ap (map message_of) e4 ∙ removed_at message_of (is_message_of_uid uid) b.messages.items j inner in
+    mailbox_changed (λ mailbox. record mailbox { messages = without_first (is_message_of_uid uid) mailbox.messages }) boxes name i b b' place here (other_messages b b' _ e1 e2 e3 k)
 
 -- an element read twice is one
 pub read_twice : {X : Type 0} → (xs : List X) (i : ℕ) (a b : X) → i < length xs → a ≡ get_or xs i a → b ≡ get_or xs i b → a ≡ b
@@ -95,7 +95,7 @@ pushed_empty boxes new lists number name b e view e1 e2 e3 e4 =
 
 -- what a copy finds
 pub copy_found : (boxes : List PlainMailbox) (lists : Lists) (name target : List ℕ) (uid i j k : ℕ) (b t : PlainMailbox) (m : PlainMessage) → map mailbox_of boxes ≡ lists →
-    Some i ≡ position (λ x. has_name name (mailbox_of x)) boxes → b ≡ get_or boxes i b → Some j ≡ position (λ x. has_uid uid (message_of x)) b.messages.items → m ≡ get_or b.messages.items j m →
+    Some i ≡ position (λ x. has_name name (mailbox_of x)) boxes → b ≡ get_or boxes i b → Some j ≡ position (λ x. is_message_of_uid uid (message_of x)) b.messages.items → m ≡ get_or b.messages.items j m →
     Some k ≡ position (λ x. has_name target (mailbox_of x)) boxes → t ≡ get_or boxes k t → IsFound lists name uid target (mailbox_of b) (mailbox_of t) (message_of m)
 copy_found boxes lists name target uid i j k b t m view ei eb ej em ek et = record {
   source_is = sym (ap (mailbox_named name) view) ∙ mailbox_here boxes name i b (mailbox_place boxes name i ei) eb;

@@ -1,7 +1,8 @@
 // The steps of the list machine.
 ghost use Rattle.std.specs.Prelude.{◌≡◌, ℕ, IfOk, OnErr};
 ghost use Rattle.mdbox_base.specs.declared.requests.Request.TheVariants as request;
-ghost use Rattle.list_machine.specs.Machine.{Run, Answers, First, Last, SecondHalf};
+ghost use Rattle.list_machine.specs.Run.{Run, RunEvent, First, SecondHalf, uid_copied};
+ghost use Rattle.list_machine.specs.Machine.{PartAnswers};
 ghost use Rattle.plain_lists.specs.AtOnce.{IsAlone, AnswersAtOnce};
 
 use crate::lists::{PlainLists, PlainMailbox};
@@ -21,7 +22,7 @@ const LAST_NUMBER: u32 = 4_294_967_294;
 impl PlainLists {
     /// The rows of a mailbox.
     pub fn list(&self, alloc: Global, name: &Name) -> Result<Reply, NoMemory>
-        ensures { IfOk result (λ reply. (run : Run) → Answers run self.now (request.List name.now) First reply self.now) }
+        ensures { IfOk result (λ reply. (run : Run) (event : RunEvent) → PartAnswers run event self.now (request.List name.now) First reply self.now) }
     {
         match place_of_mailbox(&self.mailboxes, name) {
             None => Ok(Reply::Refused(Refusal::NoMailbox)),
@@ -31,7 +32,7 @@ impl PlainLists {
 
     /// Sets a message's flags.
     pub fn flag(&mut self, name: &Name, uid: Uid, flags: Flags) -> Reply
-        ensures { (run : Run) → Answers run self.old (request.Flag name.now uid flags) First result self.new }
+        ensures { (run : Run) (event : RunEvent) → PartAnswers run event self.old (request.Flag name.now uid flags) First result self.new }
     {
         let Some(place) = place_of_mailbox(&self.mailboxes, name) else {
             return Reply::Refused(Refusal::NoMailbox);
@@ -45,7 +46,7 @@ impl PlainLists {
 
     /// Removes a message.
     pub fn expunge(&mut self, name: &Name, uid: Uid) -> Reply
-        ensures { (run : Run) → Answers run self.old (request.Expunge name.now uid) First result self.new }
+        ensures { (run : Run) (event : RunEvent) → PartAnswers run event self.old (request.Expunge name.now uid) First result self.new }
     {
         let Some(place) = place_of_mailbox(&self.mailboxes, name) else {
             return Reply::Refused(Refusal::NoMailbox);
@@ -121,7 +122,7 @@ impl PlainLists {
 
     /// Removes the message that a move has copied, where it is still there. Its copy got the UID `copied`.
     pub fn second_half(&mut self, name: &Name, uid: Uid, target: &Name, copied: Uid) -> Reply
-        ensures { (run : Run) → Answers run self.old (request.Move name.now uid target.now) (SecondHalf copied.0) result self.new }
+        ensures { (run : Run) (event : RunEvent) → uid_copied event.request run ≡ Some copied.0 → PartAnswers run event self.old (request.Move name.now uid target.now) SecondHalf result self.new }
     {
         let Some(place) = place_of_mailbox(&self.mailboxes, name) else {
             return Reply::Moved {

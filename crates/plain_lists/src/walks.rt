@@ -2,7 +2,7 @@
 ghost use Rattle.std.specs.Prelude.{◌≡◌, ◌≤◌, ◌==◌, ◌^◌, ◌-◌, ℕ, min, List, length, map, position, count_by, IfOk};
 ghost use Rattle.std.specs.Str.{bytes_eq};
 ghost use Rattle.model_lists.specs.Lists.{refs_of, listing_row};
-ghost use Rattle.list_machine.specs.Machine.{has_name, has_uid};
+ghost use Rattle.list_machine.specs.Machine.{has_name, is_message_of_uid};
 ghost use Rattle.model_meaning.specs.MapMeaning.{greatest};
 ghost use Rattle.plain_lists.specs.View.{message_of, mailbox_of};
 
@@ -20,7 +20,7 @@ pub fn place_of_mailbox(mailboxes: &[PlainMailbox], name: &Name) -> Option<usize
 
 /// The place of the message with this UID.
 pub fn place_of_message(messages: &[PlainMessage], uid: Uid) -> Option<usize>
-    ensures { result ≡ position (λ m. has_uid uid.0 (message_of m)) messages.now }
+    ensures { result ≡ position (λ m. is_message_of_uid uid.0 (message_of m)) messages.now }
 {
     messages.iter().position(|m| m.uid.0 == uid.0)
 }

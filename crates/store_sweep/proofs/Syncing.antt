@@ -7,7 +7,7 @@ use Rattle.disk_model.specs.declared.name.FileName.TheVariants as file
 use Rattle.disk_model.proofs.OneFileLemmas.{change-here, change-other}
 use Rattle.model_meaning.specs.MapMeaning.{MapMeaning}
 use Rattle.store_sweep.specs.Wanted.{is_wanted}
-use Rattle.store_sweep.specs.Moments.{SameWhere, SameContent, IsSynced, SyncedWhereCut, NamesSynced}
+use Rattle.store_sweep.specs.Moments.{SameWhere, SameContent, IsFirm, SyncedWhereCut, NamesSynced}
 
 -- ---- storage files
 
@@ -17,14 +17,14 @@ same_content f g e = record { octets = ap (λ (h : FileState). h.octets) e; leas
 content_then : (f g h : FileState) → SameContent f g → SameContent g h → SameContent f h
 content_then f g h a b = record { octets = b.octets ∙ a.octets; least = b.least ∙ a.least; greatest = b.greatest ∙ a.greatest; firm = λ i. b.firm i ∙ a.firm i }
 
-content_synced : (f g : FileState) → SameContent f g → IsSynced f → IsSynced g
+content_synced : (f g : FileState) → SameContent f g → IsFirm f → IsFirm g
 content_synced f g s k = record {
   least = s.least ∙ k.least ∙ sym (ap length s.octets);
   greatest = s.greatest ∙ k.greatest ∙ sym (ap length s.octets);
   firm = λ i. s.firm i ∙ k.firm i;
 }
 
-either_then : (f g h : FileState) → SameContent f g ⊎ IsSynced g → SameContent g h ⊎ IsSynced h → SameContent f h ⊎ IsSynced h
+either_then : (f g h : FileState) → SameContent f g ⊎ IsFirm g → SameContent g h ⊎ IsFirm h → SameContent f h ⊎ IsFirm h
 either_then f g h (inl a) (inl b) = inl (content_then f g h a b)
 either_then f g h (inr a) (inl b) = inr (content_synced g h b a)
 either_then f g h (inl a) (inr b) = inr b
@@ -65,17 +65,17 @@ shortened_other : (n end : ℕ) (disk : DiskState) (other : FileName) → other 
 unfolding both_calls
 shortened_other n end disk other apart = change-other (file.Mail n) other synced (change (file.Mail n) (cut_to end) disk) apart ∙ change-other (file.Mail n) other (cut_to end) disk apart
 
-synced_is : (f : FileState) → IsSynced (synced f)
+synced_is : (f : FileState) → IsFirm (synced f)
 synced_is f = record { least = refl; greatest = refl; firm = λ i. refl }
 
-shortened_each : (n end : ℕ) (disk : DiskState) (k : ℕ) → IsThere (both_calls n end disk (file.Mail k)) → IsThere (disk (file.Mail k)) × (SameContent (disk (file.Mail k)) (both_calls n end disk (file.Mail k)) ⊎ IsSynced (both_calls n end disk (file.Mail k)))
+shortened_each : (n end : ℕ) (disk : DiskState) (k : ℕ) → IsThere (both_calls n end disk (file.Mail k)) → IsThere (disk (file.Mail k)) × (SameContent (disk (file.Mail k)) (both_calls n end disk (file.Mail k)) ⊎ IsFirm (both_calls n end disk (file.Mail k)))
 shortened_each n end disk k there = elim (cases_eq k n) [
   | inl same ↦
       let e : both_calls n end disk (file.Mail n) ≡ synced (cut_to end (disk (file.Mail n))) = shortened_here n end disk in
       let at : IsThere (both_calls n end disk (file.Mail n)) = subst (λ (q : ℕ). IsThere (both_calls n end disk (file.Mail q))) same there in
       let was : IsThere (disk (file.Mail n)) = sym (ap (λ (f : FileState). f.is_there) e) ∙ at in
-      let is : IsSynced (both_calls n end disk (file.Mail n)) = subst IsSynced (sym e) (synced_is (cut_to end (disk (file.Mail n)))) in
-      (subst (λ (q : ℕ). IsThere (disk (file.Mail q))) (sym same) was, inr (subst (λ (q : ℕ). IsSynced (both_calls n end disk (file.Mail q))) (sym same) is))
+      let is : IsFirm (both_calls n end disk (file.Mail n)) = subst IsFirm (sym e) (synced_is (cut_to end (disk (file.Mail n)))) in
+      (subst (λ (q : ℕ). IsThere (disk (file.Mail q))) (sym same) was, inr (subst (λ (q : ℕ). IsFirm (both_calls n end disk (file.Mail q))) (sym same) is))
   | inr apart ↦
       let e : both_calls n end disk (file.Mail k) ≡ disk (file.Mail k) = shortened_other n end disk (file.Mail k) (λ s. apart (mail_number k n s)) in
       (subst IsThere e there, inl (same_content (disk (file.Mail k)) (both_calls n end disk (file.Mail k)) e))

@@ -44,7 +44,7 @@ pub record SameContent (f g : FileState) : Type 0 where
   pub firm : (place : ℕ) → g.is_loose place ≡ f.is_loose place
 
 -- a stop leaves the file's octets as they read
-pub record IsSynced (f : FileState) : Type 0 where
+pub record IsFirm (f : FileState) : Type 0 where
   pub least : f.least ≡ length f.octets
   pub greatest : f.greatest ≡ length f.octets
   pub firm : (place : ℕ) → f.is_loose place ≡ false
@@ -54,7 +54,7 @@ abbrev pub SyncedWhereCut : Option History → Option History → Type 0
 SyncedWhereCut None new = new ≡ None
 SyncedWhereCut (Some old) None = ⊥
 SyncedWhereCut (Some old) (Some new) = (number : ℕ) → IsThere (new.now (file.Mail number))
-    → IsThere (old.now (file.Mail number)) × (SameContent (old.now (file.Mail number)) (new.now (file.Mail number)) ⊎ IsSynced (new.now (file.Mail number)))
+    → IsThere (old.now (file.Mail number)) × (SameContent (old.now (file.Mail number)) (new.now (file.Mail number)) ⊎ IsFirm (new.now (file.Mail number)))
 
 -- Both told, and where a file was there that the store doesn't need, each name is synced.
 abbrev pub NamesSynced : ℕ → MapMeaning → Option History → Option History → Type 0

@@ -4,7 +4,7 @@ use Rattle.std.proofs.lemmas.Iterator.Adapters.{YieldsList-from_vec}
 use Rattle.std.proofs.lemmas.Iterator.Consumers.{YieldsList-end}
 use Rattle.attach_detach.specs.declared.message.Detached.{Detached}
 use Rattle.attach_detach.specs.Prepared.{NameParts}
-use Rattle.parts_bench.proofs.Names.{name_next}
+use Rattle.parts_bench.proofs.NamingLemmas.{name_next}
 use Rattle.parts_bench.proofs.named.Goals as goal
 
 pub loop-part-preserved : goal.loop-part-preserved

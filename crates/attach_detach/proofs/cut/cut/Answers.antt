@@ -1,5 +1,5 @@
 use Rattle.std.proofs.Common.{refl, arith, ◌∙◌, ap, ◌++◌, List, ℕ}
-use Rattle.attach_detach.proofs.Cuts.{in_order, goes, cut_end, end_of}
+use Rattle.attach_detach.proofs.CutLemmas.{in_order, goes, cut_end, end_of}
 use Rattle.attach_detach.proofs.cut.cut.Goals as goal
 
 pub between-requires : goal.between-requires

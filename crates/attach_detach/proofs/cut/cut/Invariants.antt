@@ -1,4 +1,4 @@
-use Rattle.attach_detach.proofs.Cuts.{IsCutTo}
+use Rattle.attach_detach.proofs.CutLemmas.{IsCutTo}
 use Rattle.attach_detach.proofs.cut.cut.Given as goal
 
 abbrev pub invariant-loop-leaf : goal.invariant-loop-leaf

@@ -1,4 +1,4 @@
-use Rattle.attach_detach.proofs.Naming.{are_detached}
+use Rattle.attach_detach.proofs.NamingLemmas.{are_detached}
 use Rattle.attach_detach.proofs.laws.prepared_is_detached.Goals as goal
 
 pub returns : goal.returns

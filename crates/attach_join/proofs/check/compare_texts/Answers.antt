@@ -1,5 +1,5 @@
 use Rattle.std.proofs.Common.{refl, inr}
-use Rattle.attach_join.proofs.Checks.{same_next, same_differs, same_end}
+use Rattle.attach_join.proofs.CheckLemmas.{same_next, same_differs, same_end}
 use Rattle.attach_join.proofs.check.compare_texts.Goals as goal
 
 pub returns-then-kept-found-clause-err : goal.returns-then-kept-found-clause-err

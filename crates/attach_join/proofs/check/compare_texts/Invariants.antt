@@ -1,4 +1,4 @@
-use Rattle.attach_join.proofs.Checks.{AreSame}
+use Rattle.attach_join.proofs.CheckLemmas.{AreSame}
 use Rattle.attach_join.proofs.check.compare_texts.Given as goal
 
 abbrev pub invariant-loop-i : goal.invariant-loop-i

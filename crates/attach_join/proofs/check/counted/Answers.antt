@@ -1,5 +1,5 @@
 use Rattle.std.proofs.Common.{refl}
-use Rattle.attach_join.proofs.Checks.{good_next, good_bad, good_end}
+use Rattle.attach_join.proofs.CheckLemmas.{good_next, good_bad, good_end}
 use Rattle.attach_join.proofs.check.counted.Goals as goal
 
 pub returns-then-is_out-clause-err : goal.returns-then-is_out-clause-err

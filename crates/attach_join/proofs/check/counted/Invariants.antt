@@ -1,4 +1,4 @@
-use Rattle.attach_join.proofs.Checks.{AreGood}
+use Rattle.attach_join.proofs.CheckLemmas.{AreGood}
 use Rattle.attach_join.proofs.check.counted.Given as goal
 
 abbrev pub invariant-loop-i : goal.invariant-loop-i

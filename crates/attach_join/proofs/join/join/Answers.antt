@@ -1,5 +1,5 @@
 use Rattle.std.proofs.Common.{refl}
-use Rattle.attach_join.proofs.Joins.{here, next}
+use Rattle.attach_join.proofs.JoinLemmas.{here, next}
 use Rattle.attach_join.proofs.join.join.Goals as goal
 
 pub overflow_sub-start : goal.overflow_sub-start

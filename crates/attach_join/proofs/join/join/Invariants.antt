@@ -1,4 +1,4 @@
-use Rattle.attach_join.proofs.Joins.{IsJoined}
+use Rattle.attach_join.proofs.JoinLemmas.{IsJoined}
 use Rattle.attach_join.proofs.join.join.Given as goal
 
 abbrev pub invariant-loop-i : goal.invariant-loop-i

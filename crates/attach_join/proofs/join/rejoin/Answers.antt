@@ -1,6 +1,6 @@
 use Rattle.std.proofs.Common.{refl}
 use Rattle.model_attach.specs.Rejoined.{IsWhole}
-use Rattle.attach_join.proofs.Joins.{size_is}
+use Rattle.attach_join.proofs.JoinLemmas.{size_is}
 use Rattle.attach_join.proofs.join.rejoin.Goals as goal
 
 pub returns-clause-whole : goal.returns-clause-whole

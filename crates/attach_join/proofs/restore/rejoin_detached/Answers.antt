@@ -1,5 +1,5 @@
 use Rattle.std.proofs.Common.{arith}
-use Rattle.attach_join.proofs.Restored.{few_of, forms_of, right, is_message, only_memory}
+use Rattle.attach_join.proofs.RestoredLemmas.{few_of, forms_of, right, is_message, only_memory}
 use Rattle.attach_join.proofs.restore.rejoin_detached.Goals as goal
 
 pub rejoin-requires-clause-few : goal.rejoin-requires-clause-few

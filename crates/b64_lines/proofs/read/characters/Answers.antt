@@ -1,4 +1,4 @@
-use Rattle.b64_lines.proofs.Cut.{cut_next, cut_broken, cut_empty, cut_end, cut_only, is_none, is_some}
+use Rattle.b64_lines.proofs.CutLemmas.{cut_next, cut_broken, cut_empty, cut_end, cut_only, is_none, is_some}
 use Rattle.b64_lines.proofs.read.characters.Goals as goal
 
 pub returns-in_default-clause-none : goal.returns-in_default-clause-none

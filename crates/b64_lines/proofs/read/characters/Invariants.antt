@@ -1,6 +1,6 @@
 use Rattle.std.proofs.Common.{length}
 use Rattle.model_base64.specs.Base64Text.{line_break}
-use Rattle.b64_lines.proofs.Cut.{IsCut}
+use Rattle.b64_lines.proofs.CutLemmas.{IsCut}
 use Rattle.b64_lines.proofs.read.characters.Given as goal
 
 abbrev pub invariant-loop-rest : goal.invariant-loop-rest

@@ -1,4 +1,4 @@
-use Rattle.b64_lines.proofs.Forms.{only_none, only_crlf, only_lf}
+use Rattle.b64_lines.proofs.FormLemmas.{only_none, only_crlf, only_lf}
 use Rattle.b64_lines.proofs.read.form_of.Goals as goal
 
 pub returns-in-None-clause-only : goal.returns-in-None-clause-only

@@ -1,5 +1,5 @@
 use Rattle.std.proofs.Common.{sym, ◌∙◌}
-use Rattle.b64_lines.proofs.Forms.{not_single, not_lines, is_single, is_lines}
+use Rattle.b64_lines.proofs.FormLemmas.{not_single, not_lines, is_single, is_lines}
 use Rattle.b64_lines.proofs.read.recognise.Goals as goal
 
 pub returns-in_default-2-clause-none : goal.returns-in_default-2-clause-none

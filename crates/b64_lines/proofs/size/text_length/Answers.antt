@@ -1,5 +1,5 @@
 use Rattle.std.proofs.Common.{◌*◌, ap, ◌∙◌}
-use Rattle.b64_lines.proofs.Sizes.{text_is, rounded_up}
+use Rattle.b64_lines.proofs.SizeLemmas.{text_is, rounded_up}
 use Rattle.b64_lines.proofs.size.text_length.Goals as goal
 
 pub returns : goal.returns

@@ -1,5 +1,5 @@
 use Rattle.std.proofs.Common.{refl}
-use Rattle.b64_lines.proofs.Writing.{written_next, written_end}
+use Rattle.b64_lines.proofs.WritingLemmas.{written_next, written_end}
 use Rattle.b64_lines.proofs.write.push_each.Goals as goal
 
 pub loop-rest-preserved : goal.loop-rest-preserved

@@ -1,5 +1,5 @@
 use Rattle.std.proofs.Common.{length}
-use Rattle.b64_lines.proofs.Writing.{IsWritten}
+use Rattle.b64_lines.proofs.WritingLemmas.{IsWritten}
 use Rattle.b64_lines.proofs.write.push_each.Given as goal
 
 abbrev pub invariant-loop-rest : goal.invariant-loop-rest

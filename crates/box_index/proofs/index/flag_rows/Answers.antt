@@ -1,8 +1,9 @@
-use Rattle.std.proofs.Common.{◌≡◌, ◌<◌, sym, ◌∙◌, ap, arith, add-one, length, get_or, slice_set, List}
+use Rattle.std.proofs.Common.{◌≡◌, ◌<◌, sym, ◌∙◌, ap, arith, add-one, length, slice_set, List}
 use Rattle.std.proofs.lemmas.List.{get_or_default}
 use Rattle.box_index.specs.declared.index.BoxRow.{BoxRow}
 use Rattle.box_index.specs.Row.{flagged}
-use Rattle.box_index.proofs.RowLemmas.{changed_to, changed_to-none, changed_to-all, changed_to-set, changed_to-keep, length-changed_to, flagged-same, flagged-other}
+use Rattle.box_index.proofs.RowLemmas.{flagged-same, flagged-other}
+use Rattle.model_octets.proofs.InPlaceLemmas.{changed_to-none, changed_to-full, changed_to-set, changed_to-keep, length-changed_to}
 use Rattle.box_index.proofs.index.flag_rows.Goals as goal
 use Rattle.box_index.proofs.index.flag_rows.Goals.{then-uid-index, else-uid-index}
 
@@ -28,4 +29,4 @@ loop-place-preserved c =
     ]
 
 pub returns : goal.returns
-returns c = c.loop-place.invariant ∙ changed_to-all _ _ _ (omega arith)
+returns c = c.loop-place.invariant ∙ changed_to-full _ _ _ (omega arith)

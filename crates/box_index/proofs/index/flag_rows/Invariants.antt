@@ -1,6 +1,6 @@
 use Rattle.std.proofs.Common.{◌≡◌}
 use Rattle.box_index.specs.Row.{flagged}
-use Rattle.box_index.proofs.RowLemmas.{changed_to}
+use Rattle.model_octets.proofs.InPlaceLemmas.{changed_to}
 use Rattle.box_index.proofs.index.flag_rows.Given as goal
 
 -- the rows before this place are changed

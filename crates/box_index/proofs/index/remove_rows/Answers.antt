@@ -1,7 +1,7 @@
-use Rattle.std.proofs.Common.{◌≡◌, ◌==◌, ◌∙◌, ap, sym, arith, add-one, not, true, false, eq-eqb, refl}
+use Rattle.std.proofs.Common.{◌≡◌, ◌==◌, ◌∙◌, ap, sym, arith, add-one, not, true, false, eq-eqb}
 use Rattle.std.proofs.lemmas.Bool.Decides.{nat_tests}
 use Rattle.box_index.specs.declared.index.BoxRow.{BoxRow}
-use Rattle.box_index.proofs.RowLemmas.{kept_by, kept_by-none, kept_by-all, kept_by-remove, kept_by-keep}
+use Rattle.model_octets.proofs.InPlaceLemmas.{kept_by-none, kept_by-all, kept_by-remove, kept_by-keep}
 use Rattle.box_index.proofs.index.remove_rows.Goals as goal
 
 pub loop-place-init : goal.loop-place-init

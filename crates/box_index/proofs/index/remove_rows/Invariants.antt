@@ -1,6 +1,6 @@
-use Rattle.std.proofs.Common.{◌≡◌, ◌≤◌, ◌-◌, ◌==◌, not, filter, vec_len}
+use Rattle.std.proofs.Common.{◌≡◌, ◌-◌, ◌==◌, not, filter, vec_len}
 use Rattle.box_index.specs.declared.index.BoxRow.{BoxRow}
-use Rattle.box_index.proofs.RowLemmas.{kept_by}
+use Rattle.model_octets.proofs.InPlaceLemmas.{kept_by}
 use Rattle.box_index.proofs.index.remove_rows.Given as goal
 
 -- what passes of the rows is kept so far

@@ -1,7 +1,7 @@
 use Rattle.std.proofs.Common.{sym}
 use Rattle.std.proofs.lemmas.Bool.{eqb-true}
 use Rattle.std.proofs.lemmas.List.{nil_from_length}
-use Rattle.dbox_file.proofs.HeaderLaws.{no_completion, more_completes, fewer_completes, told_none}
+use Rattle.dbox_file.proofs.HeaderLemmas.{no_completion, more_completes, fewer_completes, told_none}
 use Rattle.dbox_file.proofs.header_line.message_header_size.Goals as goal
 
 pub returns-in_err-field-clause-none : goal.returns-in_err-field-clause-none

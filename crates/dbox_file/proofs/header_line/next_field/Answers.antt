@@ -2,7 +2,7 @@ use Rattle.std.proofs.Common.{sym, ◌∙◌, ap, ◌∷◌, [], ◌≡◌}
 use Rattle.std.proofs.lemmas.Bool.Decides.{Decides-eqb}
 use Rattle.std.proofs.lemmas.List.{nil_from_length}
 use Rattle.std.proofs.lemmas.Slice.Eq.{strip_prefix_is}
-use Rattle.dbox_file.proofs.HeaderLaws.{no_space, no_key, not_letter}
+use Rattle.dbox_file.proofs.HeaderLemmas.{no_space, no_key, not_letter}
 use Rattle.dbox_file.proofs.header_line.next_field.Goals as goal
 
 pub returns-in_err-rest-clause-none : goal.returns-in_err-rest-clause-none

@@ -1,8 +1,8 @@
 use Rattle.std.proofs.Common.{sym, ◌∙◌, ap, arith, length, drop, ◌≡◌, ◌++◌, ◌∷◌, [], ◌+◌}
 use Rattle.std.proofs.lemmas.Bool.Decides.{Decides-eqb}
 use Rattle.std.proofs.lemmas.Slice.Eq.{strip_prefix_is}
-use Rattle.dbox_file.proofs.HeaderLaws.{header_cut, cut_header, first_line, line_is_cut, no_line}
-use Rattle.dbox_file.proofs.RowLaws.{none_at_all}
+use Rattle.dbox_file.proofs.HeaderLemmas.{header_cut, cut_header, first_line, line_is_cut, no_line}
+use Rattle.dbox_file.proofs.RowLemmas.{none_at_all}
 use Rattle.dbox_file.proofs.header_line.read_header_line.Goals as goal
 
 pub returns-in_err-end-clause-none : goal.returns-in_err-end-clause-none

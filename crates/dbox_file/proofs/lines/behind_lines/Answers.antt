@@ -1,6 +1,6 @@
 use Rattle.std.proofs.Common.{◌≡◌, ◌++◌, ◌+◌, ◌-◌, length, arith, sym, ap, ◌∙◌}
 use Rattle.model_storage.specs.StorageFile.{line_text}
-use Rattle.dbox_file.proofs.RowLaws.{found_more, flawed_more}
+use Rattle.dbox_file.proofs.RowLemmas.{found_more, flawed_more}
 use Rattle.dbox_file.proofs.lines.behind_lines.Goals as goal
 
 pub loop-length-preserved : goal.loop-length-preserved

@@ -1,7 +1,7 @@
 use Rattle.std.proofs.Common.{arith, ◌+◌}
 use Rattle.std.proofs.lemmas.List.{nil_from_length}
 use Rattle.dbox_file.specs.Rows.{HasLine}
-use Rattle.dbox_file.proofs.RowLaws.{nothing_yet, unended, unended_late, too_long, line_ends, none_at_all, is_key}
+use Rattle.dbox_file.proofs.RowLemmas.{nothing_yet, unended, unended_late, too_long, line_ends, none_at_all, is_key}
 use Rattle.dbox_file.proofs.lines.line_length.Goals as goal
 
 pub returns-in_default-clause-flaw : goal.returns-in_default-clause-flaw

@@ -1,5 +1,5 @@
 use Rattle.std.proofs.lemmas.Result.{err_from_is_err_and, IfOk-weaker, IfErr-weaker}
-use Rattle.dbox_file.proofs.MessageLaws.{block_flaw_trailer, block_flaw_lines, block_found}
+use Rattle.dbox_file.proofs.MessageLemmas.{block_flaw_trailer, block_flaw_lines, block_found}
 use Rattle.dbox_file.proofs.message.behind_block.Goals as goal
 
 pub returns-in_err-rest-clause-flaw : goal.returns-in_err-rest-clause-flaw

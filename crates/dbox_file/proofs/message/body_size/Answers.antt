@@ -1,5 +1,5 @@
 use Rattle.std.proofs.Common.{sym, ◌∙◌, arith, ◌≡◌, ◌++◌}
-use Rattle.dbox_file.proofs.SizeLaws.{no_size}
+use Rattle.dbox_file.proofs.SizeLemmas.{no_size}
 use Rattle.dbox_file.proofs.message.body_size.Goals as goal
 use Rattle.dbox_file.proofs.message.body_size.Goals.{in_default-via-in-Some+else-size-le-MAX_BODY, in_default-via-in_default}
 

@@ -2,7 +2,7 @@ use Rattle.std.proofs.Common.{sym, ◌∙◌, ap, take, drop}
 use Rattle.std.specs.Char.{is_ascii_hexdigit}
 use Rattle.std.specs.List.{list_all}
 use Rattle.dbox_file.specs.Sizes.{is_zero_digit}
-use Rattle.dbox_file.proofs.SizeLaws.{size_short, size_late}
+use Rattle.dbox_file.proofs.SizeLemmas.{size_short, size_late}
 use Rattle.dbox_file.proofs.message.flaw_of_size.Goals as goal
 use Rattle.dbox_file.proofs.message.flaw_of_size.Goals.{else-all_zeros-via-then-all_zeros+else-all_digits, else-all_zeros-via-else-all_zeros}
 

@@ -1,5 +1,5 @@
 use Rattle.std.proofs.lemmas.Result.{err_from_is_err_and}
-use Rattle.dbox_file.proofs.MessageLaws.{message_flaw_header, message_flaw_body, message_flaw_block, message_found}
+use Rattle.dbox_file.proofs.MessageLemmas.{message_flaw_header, message_flaw_body, message_flaw_block, message_found}
 use Rattle.dbox_file.proofs.message.message.Goals as goal
 
 pub returns-in_err-size-clause-flaw : goal.returns-in_err-size-clause-flaw

@@ -1,5 +1,5 @@
 use Rattle.std.proofs.lemmas.Result.{err_from_is_err_and}
-use Rattle.dbox_file.proofs.MessageLaws.{header_flaw_mark, header_flaw_filler, header_flaw_size, header_flaw_end, header_found}
+use Rattle.dbox_file.proofs.MessageLemmas.{header_flaw_mark, header_flaw_filler, header_flaw_size, header_flaw_end, header_found}
 use Rattle.dbox_file.proofs.message.message_header.Goals as goal
 
 pub returns-in_err-rest-clause-flaw : goal.returns-in_err-rest-clause-flaw

@@ -1,7 +1,7 @@
 use Rattle.std.proofs.Common.{inr, Ok, Err}
 use Rattle.std.proofs.lemmas.Result.{err_from_is_err_and}
 use Rattle.model_storage.proofs.ScanLemmas.{answer_same}
-use Rattle.dbox_file.proofs.ScanSteps.{scanned_header, scanned_message, scanned_all, scanned_refused}
+use Rattle.dbox_file.proofs.ScanLemmas.{scanned_header, scanned_message, scanned_all, scanned_refused}
 use Rattle.dbox_file.proofs.messages.scan.Goals as goal
 
 pub returns-in_err-offset-clause-exactly : goal.returns-in_err-offset-clause-exactly

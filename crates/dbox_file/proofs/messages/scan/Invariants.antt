@@ -1,5 +1,5 @@
 use Rattle.std.proofs.Common.{length, ◌-◌}
-use Rattle.dbox_file.proofs.ScanSteps.{IsScanned}
+use Rattle.dbox_file.proofs.ScanLemmas.{IsScanned}
 use Rattle.dbox_file.proofs.messages.scan.Given as goal
 
 -- the file up to the offset, and the places so far

@@ -1,7 +1,7 @@
 use Rattle.std.proofs.Common.{refl}
 use Rattle.std.proofs.lemmas.Bool.Decides.{Decides-eqb}
 use Rattle.std.proofs.lemmas.Slice.Eq.{strip_prefix_is, starts_is}
-use Rattle.dbox_file.proofs.RunLaws.{text_short, text_bad}
+use Rattle.dbox_file.proofs.RunLemmas.{text_short, text_bad}
 use Rattle.dbox_file.proofs.reading.behind.Goals as goal
 
 pub returns-in-Some-clause-found : goal.returns-in-Some-clause-found

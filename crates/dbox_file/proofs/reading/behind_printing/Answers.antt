@@ -1,6 +1,6 @@
 use Rattle.std.proofs.Common.{sym, ◌∙◌, refl}
 use Rattle.mdbox_base.specs.Numbers.{is_between}
-use Rattle.dbox_file.proofs.RunLaws.{run_short, run_bad}
+use Rattle.dbox_file.proofs.RunLemmas.{run_short, run_bad}
 use Rattle.dbox_file.proofs.reading.behind_printing.Goals as goal
 use Rattle.dbox_file.proofs.reading.behind_printing.Goals.{then-all_printing, else-all_printing}
 

@@ -1,7 +1,7 @@
 use Rattle.std.proofs.Common.{◌≡◌, ◌++◌}
 use Rattle.std.proofs.lemmas.Bool.Decides.{Decides-eqb}
 use Rattle.std.proofs.lemmas.Slice.Eq.{strip_prefix_is, strip_suffix_is}
-use Rattle.file_paths.proofs.ReadLaws.{stripped, not_stripped}
+use Rattle.file_paths.proofs.ReadLemmas.{stripped, not_stripped}
 use Rattle.file_paths.proofs.read.between.Goals as goal
 
 pub returns-in_err-strip_prefix-clause-none : goal.returns-in_err-strip_prefix-clause-none

@@ -1,6 +1,6 @@
 use Rattle.std.proofs.Common.{◌++◌, codes, sym, ◌∙◌}
 use Rattle.mdbox_base.specs.Numbers.{decimal_text}
-use Rattle.file_paths.proofs.ReadLaws.{middle_same, none_then, regroup}
+use Rattle.file_paths.proofs.ReadLemmas.{middle_same, none_then, regroup}
 use Rattle.file_paths.proofs.read.box_numbers.Goals as goal
 
 pub returns-in_err-between-clause-none : goal.returns-in_err-between-clause-none

@@ -1,5 +1,5 @@
 use Rattle.std.proofs.Common.{◌∷◌, [], sym, ◌∙◌, arith}
-use Rattle.file_paths.proofs.InstLaws.{cut_digits, one_octet}
+use Rattle.file_paths.proofs.InstLemmas.{cut_digits, one_octet}
 use Rattle.file_paths.proofs.read.first_folder.Goals as goal
 
 pub returns-in_err-octet_of-clause-none : goal.returns-in_err-octet_of-clause-none

@@ -1,7 +1,7 @@
 use Rattle.std.proofs.Common.{◌≡◌, List, ℕ, sym, ◌∙◌, ap, arith, slice_index}
 use Rattle.hex.specs.Hex.{encode_lower}
 use Rattle.model_storage.proofs.ReferenceLemmas.{hex_same}
-use Rattle.file_paths.proofs.InstLaws.{named, cut_digits}
+use Rattle.file_paths.proofs.InstLemmas.{named, cut_digits}
 use Rattle.file_paths.proofs.read.inst_in.Goals as goal
 use Rattle.file_paths.proofs.read.inst_in.Goals.{then-hash-first-via-then-hash-first, then-hash-first-via-else-hash-first+then-hash-second}
 

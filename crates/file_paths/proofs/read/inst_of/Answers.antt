@@ -4,7 +4,7 @@ use Rattle.std.proofs.lemmas.Slice.Eq.{strip_prefix_is}
 use Rattle.std.proofs.lemmas.Option.{IfSome_then}
 use Rattle.hex.specs.Hex.{encode_lower}
 use Rattle.model_octets.proofs.PiecesLemmas.{split_same}
-use Rattle.file_paths.proofs.InstLaws.{inst_text, behind_folder}
+use Rattle.file_paths.proofs.InstLemmas.{inst_text, behind_folder}
 use Rattle.file_paths.proofs.read.inst_of.Goals as goal
 
 pub returns-in_err-first-clause-none : goal.returns-in_err-first-clause-none

@@ -1,6 +1,6 @@
 use Rattle.std.proofs.Common.{sym, ◌∙◌}
 use Rattle.std.proofs.lemmas.Slice.Eq.{bytes_eq-Decides}
-use Rattle.file_paths.proofs.ReadLaws.{none_then, no_name}
+use Rattle.file_paths.proofs.ReadLemmas.{none_then, no_name}
 use Rattle.file_paths.proofs.read.name_of_path.Goals as goal
 
 pub returns-in_default-mail_number-clause-none : goal.returns-in_default-mail_number-clause-none

@@ -1,5 +1,5 @@
 use Rattle.std.proofs.Common.{sym, ◌∙◌, refl, arith}
-use Rattle.file_paths.proofs.ReadLaws.{cut_number}
+use Rattle.file_paths.proofs.ReadLemmas.{cut_number}
 use Rattle.file_paths.proofs.read.numbers_of.Goals as goal
 
 pub returns-in_err-number_of-clause-none : goal.returns-in_err-number_of-clause-none

@@ -1,7 +1,7 @@
 use Rattle.std.proofs.Common.{arith}
 use Rattle.disk_model.proofs.ChangeAndSyncLemmas.{change_fails, sync_fails, images}
 use Rattle.disk_model.proofs.OtherFileLemmas.{apart_begins, apart_goes_on, apart_fails, apart_fails_still, apart_images}
-use Rattle.gate_log.proofs.Parting.{one-can, one-there, one-reads, one-keeps}
+use Rattle.gate_log.proofs.FilePartLemmas.{one-can, one-there, one-reads, one-keeps}
 use Rattle.gate_log.proofs.device.put_octet.Goals as goal
 
 pub returns-in_err-write_at-clause-any_moment : goal.returns-in_err-write_at-clause-any_moment

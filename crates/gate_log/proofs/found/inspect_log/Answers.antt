@@ -1,7 +1,7 @@
 use Rattle.std.proofs.Common.{◌≡◌, ◌+◌, ℕ, length, get_or, sym, ◌∙◌, ap, arith}
 use Rattle.model_logs.specs.LogFile.{IsLog, log_end}
 use Rattle.disk_model.proofs.IdleLemmas.{idle-begins}
-use Rattle.gate_log.proofs.Opening.{read-log, long-is, gate-is, found-mid, found_kept-mid}
+use Rattle.gate_log.proofs.OpenLogLemmas.{read-log, long-is, gate-is, found-mid, found_kept-mid}
 use Rattle.gate_log.proofs.found.inspect_log.Given.{Over}
 use Rattle.gate_log.proofs.found.inspect_log.Goals.{In_ok-read}
 use Rattle.gate_log.proofs.found.inspect_log.Goals as goal

@@ -1,5 +1,5 @@
 use Rattle.std.proofs.Common.{sym, ◌∙◌}
-use Rattle.gate_log.proofs.Heads.{octets_of, other_text, short_text, same_text}
+use Rattle.gate_log.proofs.HeadLemmas.{octets_of, other_text, short_text, same_text}
 use Rattle.gate_log.proofs.head.check_head.Goals as goal
 
 pub returns-in-Some : goal.returns-in-Some

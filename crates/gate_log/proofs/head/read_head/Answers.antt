@@ -1,7 +1,7 @@
 use Rattle.std.proofs.Common.{◌≡◌, ℕ, List, take, drop, sym, ◌∙◌, ap}
 use Rattle.std.specs.Int.{w32, from_be_bytes}
 use Rattle.model_logs.specs.LogFile.{kind_letter}
-use Rattle.gate_log.proofs.Heads.{octets_of, other_name, short_name, other_kind, short_head, whole_head}
+use Rattle.gate_log.proofs.HeadLemmas.{octets_of, other_name, short_name, other_kind, short_head, whole_head}
 use Rattle.gate_log.proofs.head.read_head.Goals as goal
 
 pub returns-in-Some : goal.returns-in-Some

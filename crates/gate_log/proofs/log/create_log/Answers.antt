@@ -1,4 +1,4 @@
-use Rattle.gate_log.proofs.Making.{as_long, first_length}
+use Rattle.gate_log.proofs.MakeFileLemmas.{as_long, first_length}
 use Rattle.gate_log.proofs.log.create_log.Goals as goal
 
 pub returns-in_err-make_file-clause-any_moment : goal.returns-in_err-make_file-clause-any_moment

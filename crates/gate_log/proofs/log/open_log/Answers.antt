@@ -1,6 +1,6 @@
 use Rattle.std.proofs.Common.{refl}
 use Rattle.model_logs.specs.LogFile.{IsLog}
-use Rattle.gate_log.proofs.Opening.{read-log, idle-images, idle-others_stay, opened-images, opened-others_stay}
+use Rattle.gate_log.proofs.OpenLogLemmas.{read-log, idle-images, idle-others_stay, opened-images, opened-others_stay}
 use Rattle.gate_log.proofs.log.open_log.Given.{Over}
 use Rattle.gate_log.proofs.log.open_log.Goals.{In_ok-found}
 use Rattle.gate_log.proofs.log.open_log.Goals as goal

@@ -1,5 +1,5 @@
-use Rattle.gate_log.proofs.Heads.{octets_of}
-use Rattle.gate_log.proofs.Making.{fails_1, fails_2, fails_3, fails_4, goes_well, keeps_then, others_then, ask_2, ask_3}
+use Rattle.gate_log.proofs.HeadLemmas.{octets_of}
+use Rattle.gate_log.proofs.MakeFileLemmas.{fails_1, fails_2, fails_3, fails_4, goes_well, keeps_then, others_then, ask_2, ask_3}
 use Rattle.gate_log.proofs.make.make_file.Goals as goal
 
 pub returns-in_err-make-clause-any_moment : goal.returns-in_err-make-clause-any_moment

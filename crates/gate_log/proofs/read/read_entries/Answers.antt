@@ -1,6 +1,6 @@
 use Rattle.std.proofs.Common.{◌≡◌, ℕ, List, ◌+◌, drop, inl, inr, refl, subst, arith}
 use Rattle.model_logs.specs.LogFile.{BeginsRecord}
-use Rattle.gate_log.proofs.Passing.{rest_is, passed-none, passed-within, passed-more, passed-broken, passed-whole, passed-end}
+use Rattle.gate_log.proofs.EntryReadLemmas.{rest_is, passed-none, passed-within, passed-more, passed-broken, passed-whole, passed-end}
 use Rattle.gate_log.proofs.read.read_entries.Goals as goal
 use Rattle.gate_log.proofs.read.read_entries.Goals.{then-loop-gate-test+else-gate-octets, else-loop-gate-test}
 

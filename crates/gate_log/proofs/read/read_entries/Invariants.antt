@@ -1,5 +1,5 @@
 use Rattle.std.proofs.Common.{◌-◌, length}
-use Rattle.gate_log.proofs.Passing.{Passed}
+use Rattle.gate_log.proofs.EntryReadLemmas.{Passed}
 use Rattle.gate_log.proofs.read.read_entries.Given as goal
 
 abbrev pub invariant-loop-gate : goal.invariant-loop-gate

@@ -1,7 +1,7 @@
 use Rattle.std.proofs.Common.{◌≡◌, ◌<◌, ◌≤◌, ◌+◌, ℕ, List, length, take, drop, sym, ◌∙◌, ap, arith}
 use Rattle.std.specs.Int.{w32, from_be_bytes}
 use Rattle.model_logs.proofs.LogRecordLemmas.{said, record_there}
-use Rattle.gate_log.proofs.Heads.{octets_of}
+use Rattle.gate_log.proofs.HeadLemmas.{octets_of}
 use Rattle.gate_log.proofs.record.first_entry.Goals as goal
 
 pub returns : goal.returns

@@ -1,7 +1,7 @@
 use Rattle.std.proofs.Common.{[]}
 use Rattle.model_logs.specs.LogFile.{log_front}
 use Rattle.disk_model.proofs.OtherFileLemmas.{apart_begins, apart_images}
-use Rattle.gate_log.proofs.Ending.{last-reads, last-keeps, still-images, gate-images, gate-reads_then, gate-keeps_then}
+use Rattle.gate_log.proofs.LogEndLemmas.{last-reads, last-keeps, still-images, gate-images, gate-reads_then, gate-keeps_then}
 use Rattle.gate_log.proofs.repair.close_gate.Goals as goal
 
 pub returns-then-gate-eq-CLOSED-clause-any_moment : goal.returns-then-gate-eq-CLOSED-clause-any_moment

@@ -1,6 +1,6 @@
 use Rattle.disk_model.proofs.ChangeAndSyncLemmas.{change_fails, sync_fails, images}
 use Rattle.disk_model.proofs.OtherFileLemmas.{apart_begins, apart_goes_on, apart_fails, apart_fails_still, apart_images}
-use Rattle.gate_log.proofs.Parting.{cut-can, cut-there, cut-reads, cut-keeps}
+use Rattle.gate_log.proofs.FilePartLemmas.{cut-can, cut-there, cut-reads, cut-keeps}
 use Rattle.gate_log.proofs.repair.cut_file.Goals as goal
 
 pub returns-in_err-cut-clause-any_moment : goal.returns-in_err-cut-clause-any_moment

@@ -1,6 +1,6 @@
 use Rattle.std.proofs.Common.{[], ◌∷◌, ◌++◌, ◌∙◌}
 use Rattle.model_logs.specs.LogFile.{log_front}
-use Rattle.gate_log.proofs.Ending.{cut-reads, cut-keeps, cut-images, cut-stands, cut-kept_mid, cut-reads_then, cut-keeps_then, then-images, then-others}
+use Rattle.gate_log.proofs.LogEndLemmas.{cut-reads, cut-keeps, cut-images, cut-stands, cut-kept_mid, cut-reads_then, cut-keeps_then, then-images, then-others}
 use Rattle.gate_log.proofs.repair.repair.Goals as goal
 
 pub cut_file-requires : goal.cut_file-requires

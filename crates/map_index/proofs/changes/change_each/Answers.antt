@@ -3,7 +3,7 @@ use Rattle.std.proofs.lemmas.List.{get_or_default}
 use Rattle.model_meaning.specs.MapMeaning.{MapRecord, record_changed}
 use Rattle.map_index.specs.declared.rows.Record.{Record}
 use Rattle.map_index.specs.Shown.{meant_record, IsRisen}
-use Rattle.map_index.proofs.InPlace.{changed_to-none, changed_more, changed_all, holds_next, seen_size}
+use Rattle.model_octets.proofs.InPlaceLemmas.{changed_to-none, changed_more, changed_all, holds_next, seen_size}
 use Rattle.map_index.proofs.changes.change_each.Goals as goal
 
 pub loop-place-init : goal.loop-place-init

@@ -1,7 +1,7 @@
 use Rattle.std.proofs.Common.{◌≡◌, map}
 use Rattle.model_meaning.specs.MapMeaning.{record_changed}
 use Rattle.map_index.specs.Shown.{meant_record}
-use Rattle.map_index.proofs.InPlace.{changed_to}
+use Rattle.model_octets.proofs.InPlaceLemmas.{changed_to}
 use Rattle.map_index.proofs.changes.change_each.Given as goal
 
 -- the records before this one are changed

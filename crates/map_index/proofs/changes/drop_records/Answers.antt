@@ -1,7 +1,7 @@
 use Rattle.std.proofs.Common.{◌≡◌, ◌∙◌, ap, sym, arith, add-one, not, true, false}
 use Rattle.model_meaning.specs.MapMeaning.{has_map_uid}
 use Rattle.map_index.specs.declared.rows.Record.{Record}
-use Rattle.map_index.proofs.InPlace.{kept_by-none, kept_by-all, kept_by-remove, kept_by-keep}
+use Rattle.model_octets.proofs.InPlaceLemmas.{kept_by-none, kept_by-all, kept_by-remove, kept_by-keep}
 use Rattle.map_index.proofs.changes.drop_records.Goals as goal
 
 pub loop-place-init : goal.loop-place-init

@@ -1,7 +1,7 @@
 use Rattle.std.proofs.Common.{◌≡◌, ◌-◌, not, filter, vec_len}
 use Rattle.model_meaning.specs.MapMeaning.{has_map_uid}
 use Rattle.map_index.specs.declared.rows.Record.{Record}
-use Rattle.map_index.proofs.InPlace.{kept_by}
+use Rattle.model_octets.proofs.InPlaceLemmas.{kept_by}
 use Rattle.map_index.proofs.changes.drop_records.Given as goal
 
 -- what isn't dropped of the records is kept so far

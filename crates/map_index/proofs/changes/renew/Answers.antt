@@ -4,7 +4,7 @@ use Rattle.mdbox_base.specs.declared.entries.MapEntry.TheVariants as entry
 use Rattle.model_meaning.specs.MapMeaning.{box_changed}
 use Rattle.map_index.specs.declared.rows.Mailbox.{Mailbox}
 use Rattle.map_index.specs.Shown.{box_of}
-use Rattle.map_index.proofs.InPlace.{changed_to-none, changed_more, changed_all, seen_size}
+use Rattle.model_octets.proofs.InPlaceLemmas.{changed_to-none, changed_more, changed_all, seen_size}
 use Rattle.map_index.proofs.changes.renew.Goals as goal
 
 pub loop-place-init : goal.loop-place-init

@@ -2,7 +2,7 @@ use Rattle.std.proofs.Common.{◌≡◌, map}
 use Rattle.mdbox_base.specs.declared.entries.MapEntry.TheVariants as entry
 use Rattle.model_meaning.specs.MapMeaning.{box_changed}
 use Rattle.map_index.specs.Shown.{box_of}
-use Rattle.map_index.proofs.InPlace.{changed_to}
+use Rattle.model_octets.proofs.InPlaceLemmas.{changed_to}
 use Rattle.map_index.proofs.changes.renew.Given as goal
 
 -- the mailboxes before this one are changed

@@ -1,4 +1,4 @@
-use Rattle.mime_fields.proofs.Finding.{found_here, found_later}
+use Rattle.mime_fields.proofs.FindingLemmas.{found_here, found_later}
 use Rattle.mime_fields.proofs.fields.field.Goals as goal
 
 pub returns-in-Some-behind_name-clause-some : goal.returns-in-Some-behind_name-clause-some

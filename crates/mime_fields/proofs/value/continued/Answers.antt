@@ -1,5 +1,5 @@
 use Rattle.std.proofs.Common.{◌∙◌, sym}
-use Rattle.mime_fields.proofs.Continued.{continues}
+use Rattle.mime_fields.proofs.ContinuedLemmas.{continues}
 use Rattle.mime_fields.proofs.value.continued.Goals as goal
 
 pub returns-clause-some : goal.returns-clause-some

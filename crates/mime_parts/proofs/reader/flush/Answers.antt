@@ -1,6 +1,6 @@
 use Rattle.std.proofs.Common.{◌≡◌, ◌<◌, ◌≤◌, ◌⊎◌, inl, inr, ap}
 use Rattle.model_mime.specs.Parts.{is_other}
-use Rattle.mime_parts.proofs.Steps.{is_leaf}
+use Rattle.mime_parts.proofs.StepLemmas.{is_leaf}
 use Rattle.model_mime.specs.declared.mime.Kind.{Kind}
 use Rattle.mime_parts.proofs.ReaderLemmas.{head_multipart, head_leaf, other_kind}
 use Rattle.mime_parts.proofs.reader.flush.Goals as goal

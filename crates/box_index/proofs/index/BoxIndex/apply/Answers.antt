@@ -1,8 +1,4 @@
-use Rattle.std.proofs.Common.{◌≡◌, sym, ◌∙◌, ap, refl, map}
-use Rattle.model_meaning.specs.BoxMeaning.{BoxFits}
-use Rattle.mdbox_base.specs.declared.entries.BoxEntry.TheVariants as entry
-use Rattle.box_index.specs.Row.{row_of}
-use Rattle.box_index.proofs.RowLemmas.{map-append}
+use Rattle.std.proofs.Common.{refl}
 use Rattle.box_index.proofs.Applied.{applied-next, applied-added, applied-flagged, applied-removed, order-next, order-added, order-flagged, order-removed, pushed}
 use Rattle.box_index.proofs.index.BoxIndex.apply.Goals as goal
 

@@ -1,4 +1,4 @@
-use Rattle.gate_log.proofs.Repairing.{repairing-stands, repairing-images, repairing-others_stay, repaired-reads, repaired-holds}
+use Rattle.gate_log.proofs.RepairLemmas.{repairing-stands, repairing-images, repairing-others_stay, repaired-reads, repaired-holds}
 use Rattle.gate_log.proofs.found.FoundLog.repair.Goals as goal
 
 pub repair-requires-clause-stands : goal.repair-requires-clause-stands

@@ -3,7 +3,7 @@ use Rattle.disk_model.proofs.OtherFileLemmas.{Apart, apart_begins, apart_goes_on
 use Rattle.gate_log.specs.State.{LogState}
 use Rattle.gate_log.specs.Log.{Reads}
 use Rattle.gate_log.specs.contracts.log.GateLog.{the_view}
-use Rattle.gate_log.proofs.Appending.{IsLaidOut, laid_out, block_is, fails_1, fails_2, fails_3, fails_4, goes_well, holds_then, reads_then, read_1, read_2, read_3, ask_2, ask_3}
+use Rattle.gate_log.proofs.AppendLemmas.{IsLaidOut, laid_out, block_is, fails_1, fails_2, fails_3, fails_4, goes_well, holds_then, reads_then, read_1, read_2, read_3, ask_2, ask_3}
 use Rattle.gate_log.proofs.log.GateLog.append.Given.{Over}
 use Rattle.gate_log.proofs.log.GateLog.append.Goals.{After-deref, In_ok-write_at, In_ok-sync, In_ok-write_at-2, In_ok-sync-2}
 use Rattle.gate_log.proofs.log.GateLog.append.Goals as goal

@@ -1,5 +1,5 @@
 use Rattle.std.proofs.Common.{sym, refl}
-use Rattle.mime_fields.proofs.Parameters.{search_fails, search_ends, search_stops, search_goes_on}
+use Rattle.mime_fields.proofs.ParameterLemmas.{search_fails, search_ends, search_stops, search_goes_on}
 use Rattle.mime_fields.proofs.value.Value.boundary.Goals as goal
 
 pub returns-in_err-parameter-clause-none : goal.returns-in_err-parameter-clause-none

@@ -1,5 +1,5 @@
 use Rattle.std.proofs.Common.{true, false}
-use Rattle.mime_fields.proofs.Alone.{coding_is}
+use Rattle.mime_fields.proofs.AloneLemmas.{coding_is}
 use Rattle.mime_fields.proofs.value.Value.coding.Goals as goal
 
 pub returns-then-is_alone : goal.returns-then-is_alone

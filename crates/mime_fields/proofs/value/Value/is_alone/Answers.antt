@@ -1,6 +1,6 @@
 use Rattle.std.proofs.Common.{◌∙◌}
 use Rattle.std.proofs.lemmas.List.{nil_from_length}
-use Rattle.mime_fields.proofs.Alone.{at_end}
+use Rattle.mime_fields.proofs.AloneLemmas.{at_end}
 use Rattle.mime_fields.proofs.value.Value.is_alone.Goals as goal
 
 pub returns : goal.returns

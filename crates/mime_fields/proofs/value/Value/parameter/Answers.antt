@@ -1,5 +1,5 @@
 use Rattle.std.proofs.Common.{sym}
-use Rattle.mime_fields.proofs.Parameters.{unnamed, no_equals, no_value, no_end, is_parameter}
+use Rattle.mime_fields.proofs.ParameterLemmas.{unnamed, no_equals, no_value, no_end, is_parameter}
 use Rattle.mime_fields.proofs.value.Value.parameter.Goals as goal
 
 pub returns-in_err-name-clause-none : goal.returns-in_err-name-clause-none

@@ -1,4 +1,4 @@
-use Rattle.mime_fields.proofs.Reading.{value_as_quoted, held_as, none_as, held_token, none_token}
+use Rattle.mime_fields.proofs.ReadingLemmas.{value_as_quoted, held_as, none_as, held_token, none_token}
 use Rattle.mime_fields.proofs.value.Value.parameter_value.Goals as goal
 
 pub returns-then-accept-clause-some : goal.returns-then-accept-clause-some

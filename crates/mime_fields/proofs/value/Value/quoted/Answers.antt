@@ -1,5 +1,5 @@
 use Rattle.std.proofs.Common.{arith, length, ap, List, ℕ}
-use Rattle.mime_fields.proofs.Reading.{quoting_goes_on}
+use Rattle.mime_fields.proofs.ReadingLemmas.{quoting_goes_on}
 use Rattle.mime_fields.proofs.value.Value.quoted.Goals as goal
 
 pub loop-octet-preserved : goal.loop-octet-preserved

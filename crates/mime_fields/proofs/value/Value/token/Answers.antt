@@ -1,5 +1,5 @@
 use Rattle.model_mime.specs.Lines.{texts}
-use Rattle.mime_fields.proofs.Reading.{no_token, token_taken}
+use Rattle.mime_fields.proofs.ReadingLemmas.{no_token, token_taken}
 use Rattle.mime_fields.proofs.value.Value.token.Goals as goal
 
 pub returns-then-size-eq0-clause-none : goal.returns-then-size-eq0-clause-none

@@ -1,7 +1,7 @@
 use Rattle.std.proofs.Common.{ℕ, refl, ap, sym, ◌∙◌, List, ◌++◌, ◌∷◌, []}
 use Rattle.mime_parts.specs.declared.reader.Reader.{Reader}
 use Rattle.mime_parts.proofs.ReaderLemmas.{keeps_open, leaf_next, multipart_next, same_next, keeps_closed, full_line, other_kind, body_as}
-use Rattle.mime_parts.proofs.Steps.{is_leaf}
+use Rattle.mime_parts.proofs.StepLemmas.{is_leaf}
 use Rattle.model_mime.specs.Parts.{is_other}
 use Rattle.model_mime.specs.Lines.{line_in}
 use Rattle.model_mime.specs.declared.mime.Kind.{Kind}

@@ -5,14 +5,14 @@ use Rattle.model_lists.specs.Lists.{ListedMessage, Lists, refs_of}
 use Rattle.list_machine.specs.Machine.{add_last, add_message}
 use Rattle.plain_lists.specs.declared.lists.PlainMailbox.{PlainMailbox}
 use Rattle.plain_lists.specs.View.{mailbox_of, message_of}
-use Rattle.plain_lists.proofs.Checks.{copy_no_source, copy_no_target, copy_no_message, copy_full, copy_used_up, copy_shared, copy_passes}
+use Rattle.plain_lists.proofs.Checks.{copy_no_source, copy_no_target, copy_no_message, copy_full, copy_used_up, copy_shared, copy_passes, copy_last}
 use Rattle.plain_lists.proofs.Steps.{mailbox_place, no_mailbox_here, placed_named, no_message_here, copy_found, same_mailbox, mailbox_changed, read_twice}
 use Rattle.plain_lists.proofs.lists.PlainLists.copy.Goals as goal
 
 pub returns-in_default-clause-answers : goal.returns-in_default-clause-answers
 returns-in_default-clause-answers c =
     let none = no_mailbox_here c.self.inside.mailboxes.items c.args.name.now (rw c.deref.ensures.value at c.in_default.ensures) in
-    λ run alone. (copy_no_source run c.args.self.now c.args.name.now c.args.uid.0 c.args.target.now (rw (← c.self.view_is) none), refl)
+    λ run alone event. (copy_no_source run c.args.self.now c.args.name.now c.args.uid.0 c.args.target.now (rw (← c.self.view_is) none), refl)
 
 pub returns-in_default-place_of_mailbox-clause-answers :
     goal.returns-in_default-place_of_mailbox-clause-answers
@@ -20,7 +20,7 @@ returns-in_default-place_of_mailbox-clause-answers c =
     let boxes = c.self.inside.mailboxes.items in
     let source = placed_named boxes c.args.name.now c.in-Some.source (rw c.deref.ensures.value at c.in-Some.ensures) in
     let none = no_mailbox_here boxes c.args.target.now (rw c.deref-2.ensures.value at c.in_default-place_of_mailbox.ensures) in
-    λ run alone. (copy_no_target run c.args.self.now c.args.name.now c.args.uid.0 c.args.target.now (rw (← c.self.view_is) source) (rw (← c.self.view_is) none), refl)
+    λ run alone event. (copy_no_target run c.args.self.now c.args.name.now c.args.uid.0 c.args.target.now (rw (← c.self.view_is) source) (rw (← c.self.view_is) none), refl)
 
 pub returns-in_default-place_of_message-clause-answers :
     goal.returns-in_default-place_of_message-clause-answers
@@ -31,7 +31,7 @@ returns-in_default-place_of_message-clause-answers c =
     let target = placed_named boxes c.args.target.now c.in-Some-place_of_mailbox.place (rw c.deref-2.ensures.value at c.in-Some-place_of_mailbox.ensures) in
     let none = no_message_here boxes c.args.name.now c.args.uid.0 c.in-Some.source c.index-from.result.now (mailbox_place boxes c.args.name.now c.in-Some.source ei) c.index-from.ensures
     (rw c.deref-3.ensures.value at c.in_default-place_of_message.ensures) in
-    λ run alone. (copy_no_message run c.args.self.now c.args.name.now c.args.uid.0 c.args.target.now (rw (← c.self.view_is) source) (rw (← c.self.view_is) target) (rw (← c.self.view_is) none), refl)
+    λ run alone event. (copy_no_message run c.args.self.now c.args.name.now c.args.uid.0 c.args.target.now (rw (← c.self.view_is) source) (rw (← c.self.view_is) target) (rw (← c.self.view_is) none), refl)
 
 pub returns-then-len-ge-MESSAGES-clause-answers : goal.returns-then-len-ge-MESSAGES-clause-answers
 returns-then-len-ge-MESSAGES-clause-answers c =
@@ -40,7 +40,7 @@ returns-then-len-ge-MESSAGES-clause-answers c =
     (rw c.deref.ensures.value at c.in-Some.ensures) c.index-from.ensures (rw c.deref-3.ensures.value at c.in-Some-place_of_message.ensures) c.index-message.ensures
     (rw c.deref-2.ensures.value at c.in-Some-place_of_mailbox.ensures) c.index-into.ensures in
     let full : 1000000 ≤ length (map message_of c.index-into.result.now.messages.items) = omega (arith, c.if-len-ge-MESSAGES.true, c.len.ensures, c.index-into.result.now.messages.ok.0, length-map c.index-into.result.now.messages.items message_of) in
-    λ run alone. (copy_full run c.args.self.now c.args.name.now c.args.uid.0 c.args.target.now _ _ _ found full, refl)
+    λ run alone event. (copy_full run c.args.self.now c.args.name.now c.args.uid.0 c.args.target.now _ _ _ found full, refl)
 
 pub returns-then-into-gt-LAST_NUMBER-clause-answers :
     goal.returns-then-into-gt-LAST_NUMBER-clause-answers
@@ -50,7 +50,7 @@ returns-then-into-gt-LAST_NUMBER-clause-answers c =
     (rw c.deref.ensures.value at c.in-Some.ensures) c.index-from.ensures (rw c.deref-3.ensures.value at c.in-Some-place_of_message.ensures) c.index-message.ensures
     (rw c.deref-2.ensures.value at c.in-Some-place_of_mailbox.ensures) c.index-into.ensures in
     let room : length (map message_of c.index-into.result.now.messages.items) < 1000000 = omega (arith, c.if-len-ge-MESSAGES.false, c.len.ensures, c.index-into.result.now.messages.ok.0, length-map c.index-into.result.now.messages.items message_of) in
-    λ run alone. (rw c.from.ensures (copy_used_up run c.args.self.now c.args.name.now c.args.uid.0 c.args.target.now _ _ _ found room c.if-into-gt-LAST_NUMBER.true), refl)
+    λ run alone event. (rw c.from.ensures (copy_used_up run c.args.self.now c.args.name.now c.args.uid.0 c.args.target.now _ _ _ found room c.if-into-gt-LAST_NUMBER.true), refl)
 
 pub returns-then-references-ge-COPIES-clause-answers :
     goal.returns-then-references-ge-COPIES-clause-answers
@@ -63,7 +63,7 @@ returns-then-references-ge-COPIES-clause-answers c =
     let counted : c.references.result ≡ min (refs_of c.args.self.now c.index-message.result.now.guid.0) (2 ^ 64 - 1) =
     rw c.deref-4.ensures.value at c.references.ensures ∙ ap (λ (l : Lists). min (refs_of l c.index-message.result.now.guid.0) (2 ^ 64 - 1)) c.self.view_is in
     let shared : 65535 ≤ refs_of c.args.self.now c.index-message.result.now.guid.0 = omega (arith, counted, c.if-references-ge-COPIES.true) in
-    λ run alone. (copy_shared run c.args.self.now c.args.name.now c.args.uid.0 c.args.target.now _ _ _ found alone room c.if-into-gt-LAST_NUMBER.false shared, refl)
+    λ run alone event. (copy_shared run c.args.self.now c.args.name.now c.args.uid.0 c.args.target.now _ _ _ found alone room c.if-into-gt-LAST_NUMBER.false shared, refl)
 
 on_err : {T E : Type 0} → (r : Result T E) {P : Type 0} → P → OnErr r P
 on_err (Ok x) p = tt
@@ -90,11 +90,10 @@ returns-clause-answers c =
     let same : c.index-into.result.now ≡ c.index_mut.result.now = read_twice boxes c.in-Some-place_of_mailbox.place c.index-into.result.now c.index_mut.result.now place.within c.index-into.ensures c.index_mut.ensures.value in
     let changed = mailbox_changed (add_last (message_of c.index-message.result.now)) boxes c.args.target.now c.in-Some-place_of_mailbox.place c.index_mut.result.now _ place c.index_mut.ensures.value
     (c.in_ok-uid.ensures.added ∙ ap (λ (m : ListedMessage). add_last m (mailbox_of c.index_mut.result.now)) c.in_ok-copy.ensures) in
-    λ run alone.
-    let passes = copy_passes run c.args.self.now c.args.name.now c.args.uid.0 c.args.target.now _ _ _ found alone room c.if-into-gt-LAST_NUMBER.false few in (
-      passes.0,
+    λ run alone event last later behind. (
+      copy_passes run c.args.self.now c.args.name.now c.args.uid.0 c.args.target.now _ _ _ found alone room c.if-into-gt-LAST_NUMBER.false few,
       (
-        passes.1,
+        copy_last later c.args.self.now c.args.name.now c.args.uid.0 c.args.target.now _ _ _ found room c.if-into-gt-LAST_NUMBER.false,
         record {
           message = message_of c.index-message.result.now;
           mailbox = mailbox_of c.index-into.result.now;

@@ -5,7 +5,7 @@ use Rattle.plain_lists.proofs.lists.PlainLists.expunge.Goals as goal
 pub returns-in_default : goal.returns-in_default
 returns-in_default c =
     let none = no_mailbox_here c.self.inside.mailboxes.items c.args.name.now (rw c.deref.ensures.value at c.in_default.ensures) in
-    λ run. (rw (← c.self.view_is, none) refl, refl)
+    λ run event. (rw (← c.self.view_is, none) refl, refl)
 
 pub returns-in_default-place_of_message : goal.returns-in_default-place_of_message
 returns-in_default-place_of_message c =
@@ -13,7 +13,7 @@ returns-in_default-place_of_message c =
     let place = mailbox_place boxes c.args.name.now c.in-Some.place (rw c.deref.ensures.value at c.in-Some.ensures) in
     let here = mailbox_here boxes c.args.name.now c.in-Some.place c.index.result.now place c.index.ensures in
     let none = no_message_here boxes c.args.name.now c.args.uid.0 c.in-Some.place c.index.result.now place c.index.ensures (rw c.deref-2.ensures.value at c.in_default-place_of_message.ensures) in
-    λ run. (rw (← c.self.view_is, none, here) refl, refl)
+    λ run event. (rw (← c.self.view_is, none, here) refl, refl)
 
 pub returns : goal.returns
 returns c =
@@ -23,7 +23,7 @@ returns c =
     let inner = message_place c.index_mut.result.now.messages.items c.args.uid.0 c.in-Some-place_of_message.at (rw (c.deref-2.ensures.value, same) at c.in-Some-place_of_message.ensures) in
     let here = mailbox_here boxes c.args.name.now c.in-Some.place c.index_mut.result.now place c.index_mut.ensures.value in
     let there = message_here boxes c.args.name.now c.args.uid.0 c.in-Some.place c.in-Some-place_of_message.at c.index_mut.result.now c.remove.result place c.index_mut.ensures.value inner c.remove.ensures.value in
-    λ run. (
+    λ run event. (
       rw (← c.self.view_is, there, here) refl,
       rw (← c.self.view_is) (expunged boxes c.args.name.now c.args.uid.0 c.in-Some.place c.in-Some-place_of_message.at c.index_mut.result.now _ place c.index_mut.ensures.value inner refl refl refl c.remove.ensures.items),
     )

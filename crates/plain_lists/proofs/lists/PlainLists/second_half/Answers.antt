@@ -5,14 +5,14 @@ use Rattle.plain_lists.proofs.lists.PlainLists.second_half.Goals as goal
 pub returns-in_default : goal.returns-in_default
 returns-in_default c =
     let none = no_mailbox_here c.self.inside.mailboxes.items c.args.name.now (rw c.deref.ensures.value at c.in_default.ensures) in
-    λ run. (refl, (refl, (rw (← c.self.view_is, none) refl, refl)))
+    λ run event copied. (refl, (copied, (rw (← c.self.view_is, none) refl, refl)))
 
 pub returns-in_default-place_of_message : goal.returns-in_default-place_of_message
 returns-in_default-place_of_message c =
     let boxes = c.self.inside.mailboxes.items in
     let place = mailbox_place boxes c.args.name.now c.in-Some.place (rw c.deref.ensures.value at c.in-Some.ensures) in
     let none = no_message_here boxes c.args.name.now c.args.uid.0 c.in-Some.place c.index.result.now place c.index.ensures (rw c.deref-2.ensures.value at c.in_default-place_of_message.ensures) in
-    λ run. (refl, (refl, (rw (← c.self.view_is, none) refl, refl)))
+    λ run event copied. (refl, (copied, (rw (← c.self.view_is, none) refl, refl)))
 
 pub returns : goal.returns
 returns c =
@@ -21,10 +21,10 @@ returns c =
     let same = read_twice boxes c.in-Some.place c.index.result.now c.index_mut.result.now place.within c.index.ensures c.index_mut.ensures.value in
     let inner = message_place c.index_mut.result.now.messages.items c.args.uid.0 c.in-Some-place_of_message.left (rw (c.deref-2.ensures.value, same) at c.in-Some-place_of_message.ensures) in
     let there = message_here boxes c.args.name.now c.args.uid.0 c.in-Some.place c.in-Some-place_of_message.left c.index_mut.result.now c.remove.result place c.index_mut.ensures.value inner c.remove.ensures.value in
-    λ run. (
+    λ run event copied. (
       refl,
       (
-        refl,
+        copied,
         (
           rw (← c.self.view_is, there) refl,
           rw (← c.self.view_is) (expunged boxes c.args.name.now c.args.uid.0 c.in-Some.place c.in-Some-place_of_message.left c.index_mut.result.now _ place c.index_mut.ensures.value inner refl refl refl c.remove.ensures.items),

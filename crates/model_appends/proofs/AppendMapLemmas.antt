@@ -1,0 +1,215 @@
+-- One entry more in the map log.
+use Rattle.std.specs.Prelude.{◌≡◌, ◌==◌, ℕ, true, false, cond, Bool, List, [], ◌∷◌, ◌++◌, map, find, Option, Some, None, Contains, refl}
+use Rattle.std.proofs.Common.{sym, ◌∙◌, subst, ap, append-nil}
+use Rattle.std.proofs.lemmas.List.Elements.{All-contains, All-contains_itself}
+use Rattle.disk_model.specs.Disk.{Files}
+use Rattle.disk_model.specs.declared.name.FileName.{FileName}
+use Rattle.disk_model.specs.declared.name.FileName.TheVariants as file
+use Rattle.model_logs.specs.declared.log_head.LogKind.TheVariants as kind
+use Rattle.mdbox_base.specs.declared.entries.InstRow.{InstRow}
+use Rattle.mdbox_base.specs.declared.entries.MapEntry.{MapEntry}
+use Rattle.model_lists.specs.Lists.{ListedMessage, Mailbox, Lists, empty_mailbox}
+use Rattle.model_meaning.specs.BoxMeaning.{LogRow}
+use Rattle.model_meaning.specs.MapMeaning.{MapRecord, MapBox, MapMeaning, map_meaning, record_at}
+use Rattle.model_meaning.specs.MapFits.{MapFits, HasRecord}
+use Rattle.model_logs.specs.Entries.{map_text, box_text, MapInRange}
+use Rattle.model_meaning.proofs.FitLemmas.{each_more, map_fit_more}
+use Rattle.model_meaning.specs.Sound.{IsSoundMap}
+use Rattle.model_meaning.proofs.MapSoundLemmas.{map_sound}
+use Rattle.model_octets.proofs.PairLemmas.{all_map}
+use Rattle.model_store.specs.Stands.{head_of, HasLog, HasBox, HasMap, StoresMessage, IsListed, AreListed, IsMailbox, AreMailboxes, NamesOwn, NamesAny, StoredOnce, KeepsDetached, StandsBy}
+use Rattle.model_store.proofs.SettledLemmas.{stands_carried}
+use Rattle.model_appends.specs.Appending.{SameBut, HasOneMore, CarryMore}
+use Rattle.model_appends.specs.MapAppending.{IsMapStep}
+use Rattle.model_appends.proofs.AppendFileLemmas.{message_as, SameButCount, count_back, carry_back, log_more, log_as, mixed, mixed-here, mixed-other, SameStored, map_stored, count_itself, kept_as}
+use Rattle.model_appends.proofs.AppendBoxLemmas.{once_as, detached_as}
+
+-- ---- the mailboxes, by another meaning of the map
+
+abbrev FoundIn : Files → MapMeaning → MapMeaning → Type 0
+FoundIn a m n = (uid : ℕ) (row : MapRecord) → record_at m uid ≡ Some row → HasRecord n uid (λ other. (other.guid ≡ row.guid) × ((octets : List ℕ) → StoresMessage a row octets → StoresMessage a other octets))
+
+listed_on : (a b : Files) (m n : MapMeaning) (row : LogRow) (x : ListedMessage) → SameStored a b → FoundIn a m n → IsListed a m row x → IsListed b n row x
+listed_on a b m n row x s found h =
+    let f = found row.map_uid h.entry h.found in
+    record {
+      uid = h.uid;
+      flags = h.flags;
+      time = h.time;
+      guid = h.guid;
+      size = h.size;
+      entry = f.0;
+      found = f.1;
+      same = f.2.0 ∙ h.same;
+      octets = kept_as a b f.0 f.0 x.octets s (count_itself f.0) (f.2.1 x.octets h.octets);
+    }
+
+all_listed_on : (a b : Files) (m n : MapMeaning) (rows : List LogRow) (xs : List ListedMessage) → SameStored a b → FoundIn a m n → AreListed a m rows xs → AreListed b n rows xs
+all_listed_on a b m n [] [] s f h = tt
+all_listed_on a b m n [] (x ∷ xs) s f h = absurd h
+all_listed_on a b m n (row ∷ rows) [] s f h = absurd h
+all_listed_on a b m n (row ∷ rows) (x ∷ xs) s f h = (listed_on a b m n row x s f h.0, all_listed_on a b m n rows xs s f h.1)
+
+mailbox_on : (a b : Files) (m n : MapMeaning) (g : ℕ) (box : MapBox) (x : Mailbox) → SameBut (file.Map g) a b → n.store ≡ m.store → FoundIn a m n → IsMailbox a m box x → IsMailbox b n box x
+mailbox_on a b m n g box x s same f h = record {
+  entries = h.entries;
+  log = record {
+    log = subst (λ (store : List ℕ). HasLog b (file.Box box.number box.generation) (head_of store kind.Box box.number box.generation) (map box_text h.entries)) (sym same) (log_as a b _ _ _ (s (file.Box box.number box.generation) (λ e. absurd (cc e))) h.log.log);
+    in_range = h.log.in_range;
+    fit = h.log.fit;
+  };
+  number = h.number;
+  name = h.name;
+  next = h.next;
+  messages = all_listed_on a b m n _ x.messages (map_stored g a b s) f h.messages;
+}
+
+mailboxes_on : (a b : Files) (m n : MapMeaning) (g : ℕ) (boxes : List MapBox) (xs : Lists) → SameBut (file.Map g) a b → n.store ≡ m.store → FoundIn a m n → AreMailboxes a m boxes xs → AreMailboxes b n boxes xs
+mailboxes_on a b m n g [] [] s same f h = tt
+mailboxes_on a b m n g [] (x ∷ xs) s same f h = absurd h
+mailboxes_on a b m n g (box ∷ boxes) [] s same f h = absurd h
+mailboxes_on a b m n g (box ∷ boxes) (x ∷ xs) s same f h = (mailbox_on a b m n g box x s same f h.0, mailboxes_on a b m n g boxes xs s same f h.1)
+
+mailboxes_append : (b : Files) (n : MapMeaning) (boxes more : List MapBox) (xs ys : Lists) → AreMailboxes b n boxes xs → AreMailboxes b n more ys → AreMailboxes b n (boxes ++ more) (xs ++ ys)
+mailboxes_append b n [] more [] ys h k = k
+mailboxes_append b n [] more (x ∷ xs) ys h k = absurd h
+mailboxes_append b n (box ∷ boxes) more [] ys h k = absurd h
+mailboxes_append b n (box ∷ boxes) more (x ∷ xs) ys h k = (h.0, mailboxes_append b n boxes more xs ys h.1 k)
+
+-- a meaning finds its own records
+found_itself : (a : Files) (n : MapMeaning) → FoundIn a n n
+found_itself a n uid row h = (row, h, (refl, λ octets k. k))
+
+-- ---- the map log
+
+pub map_log_more : (a b : Files) (store : List ℕ) (entries : List MapEntry) (e : MapEntry) → (h : HasMap a store entries) → MapInRange e → MapFits (map_meaning store entries) e → SameBut (file.Map h.generation) a b
+    → HasOneMore (map_text e) (a (file.Map h.generation)) (b (file.Map h.generation)) → HasMap b store (entries ++ e ∷ [])
+map_log_more a b store entries e h in_range fits s more = record {
+  generation = h.generation;
+  root = record { before = h.root.before; log = log_as a b file.Root _ _ (s file.Root (λ e. absurd (cc e))) h.root.log; in_range = h.root.in_range };
+  generation_number = h.generation_number;
+  log = log_more map_text a b (file.Map h.generation) (head_of store kind.Map 0 h.generation) entries e more h.log;
+  in_range = each_more MapInRange entries e h.in_range in_range;
+  fit = map_fit_more store [] entries e h.fit fits;
+}
+
+-- ---- the law, in place and for files that carry over the rest
+
+in_place : (a b : Files) (store : List ℕ) (entries : List MapEntry) (lists added : Lists) (made : List MapBox) (e : MapEntry) → (s : StandsBy a store entries lists) → MapInRange e → MapFits (map_meaning store entries) e
+    → IsMapStep a (map_meaning store entries) (map_meaning store (entries ++ e ∷ [])) made added → (same : SameBut (file.Map s.map_log.generation) a b) → HasOneMore (map_text e) (a (file.Map s.map_log.generation)) (b (file.Map s.map_log.generation))
+    → StandsBy b store (entries ++ e ∷ []) (lists ++ added)
+in_place a b store entries lists added made e s in_range fits step same more =
+    let m : MapMeaning = map_meaning store entries in
+    let n : MapMeaning = map_meaning store (entries ++ e ∷ []) in
+    let g : ℕ = s.map_log.generation in
+    let has : HasMap b store (entries ++ e ∷ []) = map_log_more a b store entries e s.map_log in_range fits same more in
+    let sound : IsSoundMap n = map_sound store (entries ++ e ∷ []) has.fit has.in_range in
+    record {
+      map_log = has;
+      mailboxes = subst (λ (boxes : List MapBox). AreMailboxes b n boxes (lists ++ added)) (sym step.boxes)
+          (mailboxes_append b n m.boxes made lists added (mailboxes_on a b m n g m.boxes lists same refl step.found s.mailboxes) (mailboxes_on a b n n g made added same refl (found_itself a n) step.made_there));
+      one_record = sound.guids;
+      once = once_as a b n (map_stored g a b same) step.once;
+      detached = detached_as a b n (map_stored g a b same) step.detached;
+    }
+
+-- Files that carry over what a store reads by the new meaning, but for the map log, which has one entry more, stand for the
+-- lists that the entry gives.
+pub stands_by_map_entry : (a b : Files) (store : List ℕ) (entries : List MapEntry) (lists added : Lists) (made : List MapBox) (e : MapEntry) → (s : StandsBy a store entries lists) → MapInRange e → MapFits (map_meaning store entries) e
+    → IsMapStep a (map_meaning store entries) (map_meaning store (entries ++ e ∷ [])) made added
+    → CarryMore (file.Map s.map_log.generation) (map_text e) s.map_log.generation (map_meaning store (entries ++ e ∷ [])) a b → StandsBy b store (entries ++ e ∷ []) (lists ++ added)
+unfolding in_place map_log_more
+stands_by_map_entry a b store entries lists added made e s in_range fits step carry =
+    let g : ℕ = s.map_log.generation in
+    let name : FileName = file.Map g in
+    let n : MapMeaning = map_meaning store (entries ++ e ∷ []) in
+    let c : Files = mixed name b a in
+    let same : SameBut name a c = λ other apart. mixed-other name other b a apart in
+    let t : StandsBy c store (entries ++ e ∷ []) (lists ++ added) = in_place a c store entries lists added made e s in_range fits step same (subst (λ (o : Option (List ℕ)). HasOneMore (map_text e) (a name) o) (sym (mixed-here name b a)) carry.more) in
+    stands_carried c b store (entries ++ e ∷ []) (lists ++ added) t (carry_back g g n a b carry.others)
+
+-- ---- entries that change counts alone
+
+pub find_changed : (f : MapRecord → MapRecord) → ((row : MapRecord) → SameButCount row (f row)) → (uid : ℕ) (rows : List MapRecord) (row : MapRecord) → find (λ r. r.uid == uid) rows ≡ Some row → find (λ r. r.uid == uid) (map f rows) ≡ Some (f row)
+find_changed f same uid [] row h = absurd (cc (let k : None ≡ Some row = h in k))
+find_changed f same uid (x ∷ xs) row h =
+    ap (λ (n : ℕ). cond (n == uid) (Some (f x)) (find (λ (r : MapRecord). r.uid == uid) (map f xs))) (same x).uid ∙ by_test (x.uid == uid) (find (λ (r : MapRecord). r.uid == uid) xs) h (find_changed f same uid xs row)
+  where
+    by_test : (t : Bool) (found : Option MapRecord) → cond t (Some x) found ≡ Some row → (found ≡ Some row → find (λ (r : MapRecord). r.uid == uid) (map f xs) ≡ Some (f row)) → cond t (Some (f x)) (find (λ (r : MapRecord). r.uid == uid) (map f xs)) ≡ Some (f row)
+    by_test true found h rest = let e : Some x ≡ Some row = h in ap (λ (r : MapRecord). Some (f r)) (cc e)
+    by_test false found h rest = rest h
+
+contains_map : {X Y : Type 0} → (f : X → Y) (xs : List X) (y : Y) → Contains (map f xs) y → (x : X) × Contains xs x × (f x ≡ y)
+contains_map f xs y c = All-contains (λ y. (x : _) × Contains xs x × (f x ≡ y)) (map f xs) y (all_map (Contains xs) (λ y. (x : _) × Contains xs x × (f x ≡ y)) f (λ a h. (a, h, refl)) xs (All-contains_itself xs)) c
+
+-- a record of the new meaning is an old one but for its count
+abbrev AreOld : MapMeaning → MapMeaning → Type 0
+AreOld m n = (row : MapRecord) → Contains n.records row → (old : MapRecord) × Contains m.records old × SameButCount old row
+
+own_old : (files : Files) (m n : MapMeaning) (inst : InstRow) (octets : List ℕ) → AreOld m n → NamesOwn files n inst octets → NamesOwn files m inst octets
+own_old files m n inst octets old h =
+    let o = old h.row h.is_record in
+    record { row = o.0; is_record = o.1; own = sym o.2.origin ∙ h.own; is_named = subst (λ (rows : List InstRow). Contains rows inst) o.2.instances h.is_named; there = h.there }
+
+any_old : (files : Files) (m n : MapMeaning) (inst : InstRow) (octets : List ℕ) → AreOld m n → NamesAny files n inst octets → NamesAny files m inst octets
+any_old files m n inst octets old h =
+    let o = old h.row h.is_record in
+    record { row = o.0; is_record = o.1; is_named = subst (λ (rows : List InstRow). Contains rows inst) o.2.instances h.is_named; there = h.there }
+
+once_old : (files : Files) (m n : MapMeaning) → AreOld m n → StoredOnce files m → StoredOnce files n
+once_old files m n old h = record {
+  once = λ i j octets p q. h.once i j octets (own_old files m n i octets old p) (own_old files m n j octets old q);
+  least = λ i j octets p q same less. h.least i j octets (own_old files m n i octets old p) (any_old files m n j octets old q) same less;
+  hash = λ i octets p. h.hash i octets (own_old files m n i octets old p);
+}
+
+same_stored : (a : Files) → SameStored a a
+same_stored a = record { mails = λ n. refl; instances = λ hash id. refl }
+
+detached_old : (files : Files) (m n : MapMeaning) → AreOld m n → KeepsDetached files m → KeepsDetached files n
+unfolding kept_as message_as
+detached_old files m n old h = λ row octets r own kept.
+    let o = old row r in
+    h o.0 octets o.1 (sym o.2.origin ∙ own) (kept_as files files row o.0 octets (same_stored files) (count_back o.0 row o.2) kept)
+
+-- the records are the same but for their counts, and the mailboxes are the same
+pub counts_step : (files : Files) (m n : MapMeaning) (f : MapRecord → MapRecord) → ((row : MapRecord) → SameButCount row (f row)) → n.records ≡ map f m.records → n.boxes ≡ m.boxes → StoredOnce files m → KeepsDetached files m → IsMapStep files m n [] []
+counts_step files m n f same records boxes once detached =
+    let old : AreOld m n = λ row c. let r = contains_map f m.records row (subst (λ (rows : List MapRecord). Contains rows row) records c) in (r.0, r.1, subst (λ (o : MapRecord). SameButCount r.0 o) r.2 (same r.0)) in
+    record {
+      boxes = boxes ∙ sym (append-nil m.boxes);
+      made_there = tt;
+      found = λ uid row h. (f row, ap (find (λ (r : MapRecord). r.uid == uid)) records ∙ find_changed f same uid m.records row h, ((same row).guid, λ octets k. kept_as files files row (f row) octets (same_stored files) (same row) k));
+      once = once_old files m n old once;
+      detached = detached_old files m n old detached;
+    }
+
+-- ---- an entry that stores a message, and one that makes a mailbox
+
+pub find_first : (p : MapRecord → Bool) (rows more : List MapRecord) (row : MapRecord) → find p rows ≡ Some row → find p (rows ++ more) ≡ Some row
+find_first p [] more row h = absurd (cc (let k : None ≡ Some row = h in k))
+find_first p (x ∷ xs) more row h = by_test (p x) (find p xs) (find p (xs ++ more)) h (find_first p xs more row)
+  where
+    by_test : (t : Bool) (found later : Option MapRecord) → cond t (Some x) found ≡ Some row → (found ≡ Some row → later ≡ Some row) → cond t (Some x) later ≡ Some row
+    by_test true found later h rest = h
+    by_test false found later h rest = rest h
+
+pub stored_step : (files : Files) (m n : MapMeaning) (row : MapRecord) → n.records ≡ m.records ++ row ∷ [] → n.boxes ≡ m.boxes → StoredOnce files n → KeepsDetached files n → IsMapStep files m n [] []
+stored_step files m n row records boxes once detached = record {
+  boxes = boxes ∙ sym (append-nil m.boxes);
+  made_there = tt;
+  found = λ uid old h. (old, ap (find (λ (r : MapRecord). r.uid == uid)) records ∙ find_first (λ (r : MapRecord). r.uid == uid) m.records (row ∷ []) old h, (refl, λ octets k. k));
+  once = once;
+  detached = detached;
+}
+
+pub made_step : (files : Files) (m n : MapMeaning) (box : MapBox) → n.records ≡ m.records → n.boxes ≡ m.boxes ++ box ∷ [] → n.store ≡ m.store → HasBox files m.store box [] → StoredOnce files m → KeepsDetached files m → IsMapStep files m n (box ∷ []) (empty_mailbox box.number box.name ∷ [])
+made_step files m n box records boxes store log once detached =
+    let old : AreOld m n = λ row c. (row, subst (λ (rows : List MapRecord). Contains rows row) records c, count_itself row) in
+    record {
+      boxes = boxes;
+      made_there = (record { entries = []; log = subst (λ (id : List ℕ). HasBox files id box []) (sym store) log; number = refl; name = refl; next = refl; messages = tt }, tt);
+      found = λ uid row h. (row, ap (find (λ (r : MapRecord). r.uid == uid)) records ∙ h, (refl, λ octets k. k));
+      once = once_old files m n old once;
+      detached = detached_old files m n old detached;
+    }

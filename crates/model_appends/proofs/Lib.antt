@@ -1,0 +1,10 @@
+pub mod AmountLemmas
+pub mod AppendBoxLemmas
+pub mod AppendCountLemmas
+pub mod AppendFileLemmas
+pub mod AppendMapLemmas
+pub mod AppendMapOpenLemmas
+pub mod AppendOpenLemmas
+pub mod AppendSafeLemmas
+pub mod AppendSafeMapLemmas
+pub mod HeldLogLemmas

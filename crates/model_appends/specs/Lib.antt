@@ -1,0 +1,3 @@
+pub mod Amounts
+pub mod Appending
+pub mod MapAppending

@@ -1,0 +1,86 @@
+-- Both events of an expunge, by the one clause.
+use Rattle.std.proofs.Common.{◌≡◌, ◌≤◌, ℕ, Bool, true, false, List, [], ◌∷◌, ◌++◌, Option, Some, None, refl, sym, ◌∙◌, ap, subst, arith}
+use Rattle.std.specs.Prelude.{length, slice_get, is_some}
+use Rattle.disk_model.specs.Disk.{History, Faults}
+use Rattle.mdbox_base.specs.declared.ids.Uid.{Uid}
+use Rattle.mdbox_base.specs.declared.replies.Refusal.{Refusal}
+use Rattle.mdbox_base.specs.declared.replies.Refusal.TheVariants as refusal
+use Rattle.mdbox_base.specs.declared.replies.Reply.{Reply}
+use Rattle.mdbox_base.specs.declared.replies.Reply.TheVariants as reply
+use Rattle.mdbox_base.specs.declared.requests.Request.TheVariants as request
+use Rattle.model_lists.specs.Lists.{Mailbox, Lists}
+use Rattle.model_meaning.specs.BoxMeaning.{BoxMeaning}
+use Rattle.model_meaning.specs.MapMeaning.{MapRecord}
+use Rattle.list_machine.specs.Run.{First, GivesBack, RunEvent, Run, own_events}
+use Rattle.journal.specs.Journal.{half_of, halves_of, IsReplyOf}
+use Rattle.list_machine.specs.Machine.{mailbox_named, expunge, first_refusal, part_checks}
+use Rattle.journal.specs.Events.{Around, IsRecord}
+use Rattle.journal.specs.Stages.{ToRemove, ToLower, removal}
+use Rattle.journal.proofs.ExpungeLemmas.{removal_makes, lowering_makes}
+use Rattle.disk_model.specs.Disk.{told_calls, Grows}
+use Rattle.mdbox_base.specs.declared.script.Half.TheVariants as half
+use Rattle.mdbox_base.specs.declared.progress.Did.TheVariants as did
+use Rattle.task_steps.specs.Step.{Seen, ShowsSeen, HasComeTo, Leads, and_told, DidEvent}
+use Rattle.task_steps.specs.ExpungeStages.{StandsAtStage, behind_box, behind_lowering}
+
+fall : (b : Bool) → b ≡ true → b ≡ false → ⊥
+fall b t f = let k : true ≡ false = sym t ∙ f in cc k
+
+no_refusal : (r : Refusal) → None ≡ Some r → ⊥
+no_refusal r e = cc e
+
+no_reply : (r : Reply) → None ≡ Some r → ⊥
+no_reply r e = cc e
+
+done_is : Some reply.Done ≡ Some (reply.Refused refusal.Stopped) → ⊥
+done_is e = let k : reply.Done ≡ reply.Refused refusal.Stopped = cc e in cc k
+
+done_as : (r : Reply) → Some reply.Done ≡ Some r → reply.Done ≡ r
+done_as r e = cc e
+
+-- The message is removed: a step, and the task goes on.
+pub removing : (around after : Around) (run : Run) (lane place : ℕ) (said : List Reply) (name : List ℕ) (uid : Uid) (lists : Lists) (old : Seen) (meanings : List BoxMeaning) (history : Option History) (faults : Faults) (mailbox : Mailbox) (row : MapRecord)
+    → HasComeTo run old → StandsAtStage ToRemove (own_events place run) said → old.stopped ≡ false → first_refusal run lists (part_checks run (removal lane place mailbox uid row.uid (told_calls history)) (request.Expunge name uid) First) ≡ None
+    → mailbox_named name lists ≡ Some mailbox → IsRecord run lists name uid.0 row → ShowsSeen (behind_box old meanings history faults) (expunge name uid.0 lists) → Leads lists (expunge name uid.0 lists) old (behind_box old meanings history faults) → Grows old.history history → old.faults.reads ≤ faults.reads → old.faults.changes ≤ faults.changes
+    → (d : DidEvent around after run lane place said (request.Expunge name uid) lists old (behind_box old meanings history faults) (did.Step half.Whole) None) × StandsAtStage (ToLower row.uid) (own_events place run ++ d.makes.event ∷ []) (and_told said d.makes.answer)
+unfolding removal_makes
+removing around after run lane place said name uid lists old meanings history faults mailbox row come stage runs allowed there is_record shows leads grows reads changes =
+    let k = removal_makes around after run lane place name uid lists old.map old.drawn (told_calls old.history) (told_calls history) mailbox row come grows stage.0 allowed there is_record in (
+      record {
+        left = expunge name uid.0 lists;
+        shown = shows;
+        makes = k.0;
+        went = (refl, refl, runs, leads);
+        grows = grows;
+        ends = record {
+          in_turn = λ some. ap (λ (s : List Reply). slice_get (halves_of (request.Expunge name uid)) (length s)) stage.1;
+          replied = λ r e. absurd (no_reply r e);
+          halts = record { 0 = λ e. absurd (no_reply (reply.Refused refusal.Stopped) e); 1 = λ e. absurd (fall old.stopped e runs) };
+          still = λ e. absurd (fall old.stopped e runs);
+          reads = λ e. absurd (no_refusal refusal.ReadFault e);
+          faults = record { reads = reads; changes = changes; rose = λ x. absurd x };
+        };
+      },
+      (k.1, ap (λ (s : List Reply). s ++ reply.Done ∷ []) stage.1),
+    )
+
+-- The count is lowered: no step, and the request ends with what its step said.
+pub lowering_ends : (around after : Around) (run : Run) (lane place : ℕ) (said : List Reply) (name : List ℕ) (uid : Uid) (lists : Lists) (old : Seen) (owed : ℕ) (history : Option History) (faults : Faults)
+    → HasComeTo run old → StandsAtStage (ToLower owed) (own_events place run) said → old.stopped ≡ false → ShowsSeen (behind_lowering old owed history faults) lists → Leads lists lists old (behind_lowering old owed history faults) → Grows old.history history → old.faults.reads ≤ faults.reads → old.faults.changes ≤ faults.changes
+    → DidEvent around after run lane place said (request.Expunge name uid) lists old (behind_lowering old owed history faults) did.Quiet (Some reply.Done)
+unfolding lowering_makes
+lowering_ends around after run lane place said name uid lists old owed history faults come stage runs shows leads grows reads changes = record {
+  left = lists;
+  shown = shows;
+  makes = lowering_makes around after run lane place name uid lists old.map old.drawn (told_calls old.history) (told_calls history) owed come grows stage.0;
+  went = (refl, refl, leads);
+  grows = grows;
+  ends = record {
+    in_turn = λ some. absurd (let k : false ≡ true = some in cc k);
+    replied = λ r e. subst (λ (x : Reply). IsReplyOf (request.Expunge name uid) said x) (done_as r e) stage.1;
+    halts = record { 0 = λ e. absurd (done_is e); 1 = λ e. absurd (fall old.stopped e runs) };
+    still = λ e. absurd (fall old.stopped e runs);
+    reads = λ e. absurd (no_refusal refusal.ReadFault e);
+    faults = record { reads = reads; changes = changes; rose = λ x. absurd x };
+  };
+}

@@ -1,0 +1,412 @@
+-- One event more, whatever task it is of.
+use Rattle.std.proofs.Common.{inl, inr, ◌⊎◌, ◌≡◌, ◌<◌, ◌≤◌, ◌+◌, ◌-◌, ◌^◌, ◌==◌, ℕ, Bool, true, false, cond, List, [], ◌∷◌, ◌++◌, Option, Some, None, refl, sym, ◌∙◌, ap, subst, arith, All, map}
+use Rattle.std.specs.Prelude.{min, is_some, length, filter, take, count_by, slice_get, nat_le}
+use Rattle.std.proofs.lemmas.Grind.{common_steps}
+use Rattle.std.proofs.lemmas.List.{append-nil, length-append, map-append, take-append-le}
+use Rattle.std.proofs.lemmas.List.Elements.{All-head, All-tail, All-weaker, filter-append}
+use Rattle.std.proofs.lemmas.List.Sums.{sum_by-append, sum_by-cons}
+use Rattle.disk_model.specs.Disk.{Files, DiskState, History, IsImage, EachImage, calls, state_at, told_calls}
+use Rattle.mdbox_base.specs.Streams.{Rose}
+use Rattle.task_steps.specs.Step.{FaultsGrow, Seen, ShowsSeen, HasComeTo, Leads, Stops, Fell, Went, and_told, IsFault, EndsRequest, DidEvent}
+use Rattle.disk_model.proofs.MomentLemmas.{each_image-map, each_image-then, state_at-only}
+use Rattle.mdbox_base.specs.declared.requests.Request.{Request}
+use Rattle.mdbox_base.specs.declared.replies.Refusal.{Refusal}
+use Rattle.mdbox_base.specs.declared.replies.Refusal.TheVariants as refusal
+use Rattle.mdbox_base.specs.declared.replies.Reply.{Reply}
+use Rattle.mdbox_base.specs.declared.replies.Reply.TheVariants as reply
+use Rattle.model_lists.specs.Lists.{Lists}
+use Rattle.list_machine.specs.Run.{RunEvent, Run, and_then}
+use Rattle.journal.specs.Journal.{Requests, half_of, halves_of, JournalStep, IsStep, AreSteps, left_by, IsLegal, Broken, no_broken, as_if, AreBroken, Reached, HasReply, RoseBy, steps_of, IsFirstPart}
+use Rattle.mdbox_base.specs.declared.script.Half.{Half}
+use Rattle.journal.proofs.JournalLemmas.{steps_within}
+use Rattle.journal.specs.GoesOn.{MayCome, broken_by, AllMayCome}
+use Rattle.journal.proofs.LegalLemmas.{legal_faults}
+use Rattle.journal.proofs.ReachedLemmas.{reached_last, reached_quiet, reached_step}
+use Rattle.journal.proofs.BrokenLemmas.{broken_is, reached_fails, reached_broken}
+use Rattle.journal.specs.Events.{Around, is_faulted}
+use Rattle.journal.specs.Makes.{StepOf, WouldMake, Makes, steps_made}
+use Rattle.journal.proofs.MakesLemmas.{made_is_step, legal_by_task}
+use Rattle.model_store.specs.Safe.{Safe}
+use Rattle.model_store.proofs.SettledLemmas.{settled_safe}
+use Rattle.model_store.specs.Settled.{Leaves, IsSettledFor}
+use Rattle.mdbox_base.specs.declared.progress.Did.{Did}
+use Rattle.mdbox_base.specs.declared.progress.Did.TheVariants as did
+use Rattle.task_steps.specs.Serves.{IsReached, Serves, IsTurn}
+
+-- ---- what an event adds to the journal
+
+abbrev pub journal_by : Run → Request → List JournalStep → RunEvent → Option Reply → Lists → List JournalStep
+journal_by run request journal event answer left = journal ++ steps_made run request event answer left
+
+left_push : (start : Lists) (journal : List JournalStep) (step : JournalStep) → left_by start (journal ++ step ∷ []) ≡ step.left
+left_push start [] step = refl
+left_push start (x ∷ xs) step = left_push x.left xs step
+
+left_made : (run : Run) (request : Request) (start : Lists) (journal : List JournalStep) (event : RunEvent) (answer : Option Reply) (left : Lists) → StepOf run request (left_by start journal) event answer left → left_by start (journal_by run request journal event answer left) ≡ left
+left_made run request start journal event None left s = ap (λ (j : List JournalStep). left_by start j) (append-nil journal) ∙ sym s
+left_made run request start journal event (Some answer) left s = left_push start journal _
+
+unmade : (run : Run) (request : Request) (journal : List JournalStep) (event : RunEvent) (answer : Option Reply) (left : Lists) → answer ≡ None → journal_by run request journal event answer left ≡ journal
+unmade run request journal event answer left e = ap (λ (a : Option Reply). journal_by run request journal event a left) e ∙ append-nil journal
+
+-- ---- a step may come
+
+same_test : (a b : ℕ) → a ≡ b → (a == b) ≡ true
+same_test a b e = grind (arith, common_steps, e)
+
+one_kept : {X : Type 0} → (p : X → Bool) (x : X) → p x ≡ true → filter p (x ∷ []) ≡ x ∷ []
+one_kept p x e = ap (λ (b : Bool). cond b (x ∷ []) []) e
+
+own_steps : (place : ℕ) (journal : List JournalStep) (step : JournalStep) → step.request ≡ place → steps_of place (journal ++ step ∷ []) ≡ steps_of place journal ++ step ∷ []
+own_steps place journal step e =
+    filter-append (λ (s : JournalStep). s.request == place) journal (step ∷ []) ∙ ap (λ (l : List JournalStep). steps_of place journal ++ l) (one_kept (λ (s : JournalStep). s.request == place) step (same_test step.request place e))
+
+begins_push : (hs rest : List Half) (h : Half) → slice_get (hs ++ rest) (length hs) ≡ Some h → IsFirstPart (hs ++ h ∷ []) (hs ++ rest)
+begins_push [] [] h e = absurd (cc e)
+begins_push [] (x ∷ xs) h e = (xs, ap (λ (y : Half). y ∷ xs) (one x h e))
+  where
+    one : (a b : Half) → Some a ≡ Some b → b ≡ a
+    one a b k = cc k
+begins_push (x ∷ xs) rest h e = let r = begins_push xs rest h (next e) in (r.0, ap (λ (l : List Half). x ∷ l) r.1)
+  where
+    next : slice_get (x ∷ (xs ++ rest)) (length (x ∷ xs)) ≡ Some h → slice_get (xs ++ rest) (length xs) ≡ Some h
+    next k = k
+
+length_map : {X Y : Type 0} → (f : X → Y) (xs : List X) → length (map f xs) ≡ length xs
+length_map f [] = refl
+length_map f (x ∷ xs) = let h = length_map f xs in omega (arith, h)
+
+next_half : (journal : List JournalStep) (place : ℕ) (step : JournalStep) (request : Request) → step.request ≡ place → IsFirstPart (map (λ s. s.half) (steps_of place journal)) (halves_of request) → slice_get (halves_of request) (length (map (λ s. s.answer) (steps_of place journal))) ≡ Some step.half
+    → IsFirstPart (map (λ s. s.half) (steps_of place (journal ++ step ∷ []))) (halves_of request)
+next_half journal place step request e b turn =
+    let hs = map (λ (s : JournalStep). s.half) (steps_of place journal) in
+    let many : length (map (λ (s : JournalStep). s.answer) (steps_of place journal)) ≡ length hs = length_map (λ (s : JournalStep). s.answer) (steps_of place journal) ∙ sym (length_map (λ (s : JournalStep). s.half) (steps_of place journal)) in
+    let at : slice_get (hs ++ b.0) (length hs) ≡ Some step.half = (ap (λ (l : List Half). slice_get l (length hs)) b.1 ∙ ap (λ (n : ℕ). slice_get (halves_of request) n) (sym many)) ∙ turn in
+    let r = begins_push hs b.0 step.half at in
+    (r.0, (ap (λ (l : List JournalStep). map (λ (s : JournalStep). s.half) l ++ r.0) (own_steps place journal step e) ∙ ap (λ (l : List Half). l ++ r.0) (map-append (λ (s : JournalStep). s.half) (steps_of place journal) (step ∷ []))) ∙ (r.1 ∙ b.1))
+
+some_ask : (a b : ℕ × Request) → Some a ≡ Some b → a ≡ b
+some_ask a b e = cc e
+
+may_come : (start : Lists) (script : Requests) (run : Run) (journal : List JournalStep) (replies : List (Option Reply)) (lane place : ℕ) (request : Request) (event : RunEvent) (answer : Option Reply) (left : Lists)
+    → IsTurn script journal replies lane place request → event.lane ≡ lane → event.request ≡ place → IsFirstPart (map (λ s. s.half) (steps_of place journal)) (halves_of request)
+    → (is_some answer ≡ true → slice_get (halves_of request) (length (map (λ s. s.answer) (steps_of place journal))) ≡ Some (half_of request event.part))
+    → (is_some answer ≡ true → (i : ℕ) → HasReply replies i (reply.Refused refusal.Stopped) → ⊥) → AllMayCome script journal replies (steps_made run request event answer left)
+may_come start script run journal replies lane place request event None left turn on at begins in_turn free = tt
+may_come start script run journal replies lane place request event (Some answer) left turn on at begins in_turn free = record {
+  not_replied = ap (λ (n : ℕ). slice_get replies n) at ∙ turn.unanswered;
+  next_half = λ asked e.
+      let same : asked ≡ (lane, request) = some_ask asked (lane, request) ((sym e ∙ ap (λ (n : ℕ). slice_get script n) at) ∙ turn.asked) in
+      subst (λ (n : ℕ). IsFirstPart (map (λ s. s.half) (steps_of n (journal ++ made ∷ []))) (halves_of asked.1)) (sym at)
+      (subst (λ (q : ℕ × Request). IsFirstPart (map (λ s. s.half) (steps_of place (journal ++ made ∷ []))) (halves_of q.1)) (sym same) (next_half journal place made request at begins (in_turn refl)));
+  next_request = All-weaker (λ (s : JournalStep). s.lane ≡ lane → s.request ≤ place) (λ (s : JournalStep). s.lane ≡ event.lane → s.request ≤ event.request) (λ s h e. let k = h (e ∙ on) in omega (arith, k, at)) journal turn.first;
+  goes_on = λ i first second h lt e f same. free refl i h;
+}
+  where
+    made : JournalStep
+    made = record { lane = event.lane; request = event.request; half = half_of request event.part; event = length run.events; answer = answer; left = left }
+
+-- ---- images of an event
+
+each_from : (P : ℕ → Files → Type 0) (old new : Option History) → EachImage P old new → EachImage (λ m image. (told_calls old ≤ m) × P m image) old new
+each_from P None new each = each
+each_from P (Some old) None each = each
+each_from P (Some old) (Some new) each = record { later = each.later; same = each.same; each = λ m state image from at is. (from, each.each m state image from at is) }
+
+-- At the moment of an event's end only the lists behind are left; before it those before, or these.
+step_images : (P Q : ℕ → Files → Type 0) (old now new : Option History) (lists left : Lists) → EachImage P old now → Leaves lists left now new → IsSettledFor left new
+    → ((m : ℕ) (image : Files) → m < told_calls new → P m image → Q m image) → ((m : ℕ) (image : Files) → m < told_calls new → Safe image lists → Q m image) → ((m : ℕ) (image : Files) → Safe image left → Q m image) → EachImage Q old new
+step_images P Q old now None lists left first second settled before kept made = absurd settled
+step_images P Q old now (Some new) lists left first second settled before kept made = by_old old both
+  where
+    both : EachImage (λ m image. P m image ⊎ (Safe image lists ⊎ Safe image left)) old (Some new)
+    both = each_image-then (λ m image. P m image ⊎ (Safe image lists ⊎ Safe image left)) old now (Some new)
+        (each_image-map P (λ m image. P m image ⊎ (Safe image lists ⊎ Safe image left)) old now (λ m image h. inl h) first)
+        (each_image-map (λ _ image. Safe image lists ⊎ Safe image left) (λ m image. P m image ⊎ (Safe image lists ⊎ Safe image left)) now (Some new) (λ m image h. inr h) second)
+
+    earlier : (m : ℕ) (image : Files) → m < calls new → P m image ⊎ (Safe image lists ⊎ Safe image left) → Q m image
+    earlier m image lt (inl h) = before m image lt h
+    earlier m image lt (inr (inl h)) = kept m image lt h
+    earlier m image lt (inr (inr h)) = made m image h
+
+    by_old : (o : Option History) → EachImage (λ m image. P m image ⊎ (Safe image lists ⊎ Safe image left)) o (Some new) → EachImage Q o (Some new)
+    by_old None e = absurd (let k : Some new ≡ None = e in cc k)
+    by_old (Some h) e = record {
+      later = e.later;
+      same = e.same;
+      each = λ m state image from at is. by_test m state image from at is (nat_le (calls new) m) refl;
+    }
+      where
+        by_test : (m : ℕ) (state : DiskState) (image : Files) → calls h ≤ m → state_at new m ≡ Some state → IsImage state image → (b : Bool) → nat_le (calls new) m ≡ b → Q m image
+        by_test m state image from at is true t =
+            let only = state_at-only new m state (let k : calls new ≤ m = grind (arith, common_steps, t) in k) at in
+            made m image (settled_safe new.now left image settled (subst (λ (d : DiskState). IsImage d image) only.1 is))
+        by_test m state image from at is false t = earlier m image (let k : m < calls new = grind (arith, common_steps, t) in k) (e.each m state image from at is)
+
+-- ---- numbers
+
+fall : (b : Bool) → b ≡ true → b ≡ false → ⊥
+fall b t f = let k : true ≡ false = sym t ∙ f in cc k
+
+rose_later : (a b c : ℕ) → Rose a b → b ≤ c → Rose a c
+rose_later a b c p q = omega (arith, p, q)
+
+rose_now : (a b c : ℕ) → a ≤ b → Rose b c → Rose a c
+rose_now a b c p q = omega (arith, p, q)
+
+rose_by_more : (n many a b c : ℕ) → many ≤ n → min (a + n) (2 ^ 64 - 1) ≤ b → b ≤ c → min (a + many) (2 ^ 64 - 1) ≤ c
+rose_by_more n many a b c k p q = omega (arith, k, p, q)
+
+rose_by_one : (n many a b c : ℕ) → many ≤ n + 1 → min (a + n) (2 ^ 64 - 1) ≤ b → Rose b c → min (a + many) (2 ^ 64 - 1) ≤ c
+rose_by_one n many a b c k p q = omega (arith, k, p, q)
+
+abbrev one_or_none : RunEvent → ℕ
+one_or_none e = cond (is_faulted e) 1 0
+
+-- reads that failed, with those of one event more
+reads_more : (events : List RunEvent) (event : RunEvent) (a b c : ℕ) → RoseBy (count_by is_faulted events) a b → b ≤ c → (event.refused ≡ Some refusal.ReadFault → Rose b c) → RoseBy (count_by is_faulted (events ++ event ∷ [])) a c
+reads_more events event a b c p q r = by_refused event.refused refl
+  where
+    many : count_by is_faulted (events ++ event ∷ []) ≡ count_by is_faulted events + one_or_none event
+    many = let h = sum_by-append one_or_none events (event ∷ []) in let k = sum_by-cons one_or_none event [] in omega (arith, h, k)
+
+    none : one_or_none event ≡ 0 → RoseBy (count_by is_faulted (events ++ event ∷ [])) a c
+    none e = rose_by_more (count_by is_faulted events) (count_by is_faulted (events ++ event ∷ [])) a b c (let m = many in omega (arith, m, e)) p q
+
+    one : Rose b c → one_or_none event ≡ 1 → RoseBy (count_by is_faulted (events ++ event ∷ [])) a c
+    one h e = rose_by_one (count_by is_faulted events) (count_by is_faulted (events ++ event ∷ [])) a b c (let m = many in omega (arith, m, e)) p h
+
+    by_refused : (o : Option Refusal) → event.refused ≡ o → RoseBy (count_by is_faulted (events ++ event ∷ [])) a c
+    by_refused None e = none (rw e refl)
+    by_refused (Some refusal.ReadFault) e = one (r e) (rw e refl)
+    by_refused (Some why) e = none (rw e refl)
+
+-- ---- a broken step that stays
+
+broken_stays : (run : Run) (script : Requests) (start : Lists) (journal : List JournalStep) (broken : Broken) (event : RunEvent) → broken.place ≤ length run.events → AreBroken run script start journal broken → AreBroken (and_then run event) script start journal broken
+broken_stays run script start journal broken event le b =
+    subst (λ (es : List RunEvent). AreSteps (record run { events = es ++ broken.events }) script (left_by start journal) broken.steps) (sym (take-append-le broken.place run.events (event ∷ []) le)) b
+
+more_events : (run : Run) (event : RunEvent) (n : ℕ) → n ≤ length run.events → n ≤ length (run.events ++ event ∷ [])
+more_events run event n le = let h = length-append run.events (event ∷ []) in omega (arith, h, le)
+
+-- ---- one event more
+
+-- What all ways have in common: but for the images, the broken step, and what the disk is settled for.
+record Kept (start : Lists) (script : Requests) (run : Run) (journal : List JournalStep) (replies : List (Option Reply)) (began now : Seen) : Type 0 where
+  pub legal : IsLegal start script run journal replies began.faults now.faults
+  pub come : HasComeTo run now
+  pub shown : ShowsSeen now (left_by start journal)
+  pub reads : RoseBy (count_by is_faulted run.events) began.faults.reads now.faults.reads
+  pub changes : began.faults.changes ≤ now.faults.changes
+  pub halted : (i : ℕ) → HasReply replies i (reply.Refused refusal.Stopped) → now.stopped ≡ true
+
+-- the event and what it did, told apart
+record Told (start : Lists) (script : Requests) (run : Run) (journal : List JournalStep) (replies : List (Option Reply)) (began now new : Seen) (request : Request) (event : RunEvent) (answer : Option Reply) (left : Lists) (did : Did) : Type 0 where
+  pub kept : Kept start script (and_then run event) (journal_by run request journal event answer left) replies began new
+  pub moment_is : event.moment ≡ told_calls new.history
+  pub made : StepOf run request (left_by start journal) event answer left
+  pub within : All (λ s. s.event < length run.events) journal
+  pub still : now.stopped ≡ true → new ≡ now
+  pub faults : FaultsGrow (IsFault did) now.faults new.faults
+
+abbrev Going : Lists → Requests → Run → List JournalStep → List (Option Reply) → Seen → Seen → Type 0
+Going start script run journal replies began new = (broken : Broken) × Serves start script run journal broken replies began new
+
+-- no step: the images are safe for the lists that stay
+quiet_images : (start : Lists) (run : Run) (journal : List JournalStep) (broken : Broken) (began now new : Seen) (event : RunEvent) → All (λ s. s.event < length run.events) journal
+    → EachImage (IsReached start run journal broken) began.history now.history → Leaves (left_by start journal) (left_by start journal) now.history new.history → EachImage (IsReached start (and_then run event) journal broken) began.history new.history
+quiet_images start run journal broken began now new event within first second =
+    each_image-then (IsReached start (and_then run event) journal broken) began.history now.history new.history
+    (each_image-map (IsReached start run journal broken) (IsReached start (and_then run event) journal broken) began.history now.history (λ m image h. (h.0, reached_quiet start run event journal broken m h.0 within h.1, h.2)) first)
+    (each_image-map (λ _ image. Safe image (left_by start journal) ⊎ Safe image (left_by start journal)) (IsReached start (and_then run event) journal broken) now.history new.history (λ m image h. elim h [
+      | inl safe ↦ (left_by start journal, reached_last start (and_then run event) journal broken m, safe)
+      | inr safe ↦ (left_by start journal, reached_last start (and_then run event) journal broken m, safe)
+    ]) second)
+
+still_images : (start : Lists) (run : Run) (journal : List JournalStep) (broken : Broken) (began now new : Seen) (event : RunEvent) → All (λ s. s.event < length run.events) journal → new ≡ now
+    → EachImage (IsReached start run journal broken) began.history now.history → EachImage (IsReached start (and_then run event) journal broken) began.history new.history
+still_images start run journal broken began now new event within same first =
+    subst (λ (s : Seen). EachImage (IsReached start (and_then run event) journal broken) began.history s.history) (sym same)
+    (each_image-map (IsReached start run journal broken) (IsReached start (and_then run event) journal broken) began.history now.history (λ m image h. (h.0, reached_quiet start run event journal broken m h.0 within h.1, h.2)) first)
+
+step_reached : (start : Lists) (run : Run) (request : Request) (journal : List JournalStep) (began now new : Seen) (event : RunEvent) (answer : Option Reply) (left : Lists) → is_some answer ≡ true → All (λ s. s.event < length run.events) journal
+    → event.moment ≡ told_calls new.history → EachImage (IsReached start run journal no_broken) began.history now.history → Leaves (left_by start journal) left now.history new.history → IsSettledFor left new.history
+    → EachImage (IsReached start (and_then run event) (journal_by run request journal event answer left) no_broken) began.history new.history
+step_reached start run request journal began now new event None left some within moment first second settled = absurd (cc some)
+step_reached start run request journal began now new event (Some answer) left some within moment first second settled =
+    step_images (IsReached start run journal no_broken) (IsReached start (and_then run event) (journal ++ made ∷ []) no_broken) began.history now.history new.history (left_by start journal) left first second settled
+    (λ m image lt h. (h.0, reached_step start run event journal made m h.0 within refl (omega (arith, lt, moment)) h.1, h.2))
+    (λ m image lt safe. (left_by start journal, reached_step start run event journal made m (left_by start journal) within refl (omega (arith, lt, moment)) (reached_last start run journal no_broken m), safe))
+    (λ m image safe. (left, subst (λ (ls : Lists). Reached start (and_then run event) (journal ++ made ∷ []) no_broken m ls) (left_push start journal made) (reached_last start (and_then run event) (journal ++ made ∷ []) no_broken m), safe))
+  where
+    made : JournalStep
+    made = record { lane = event.lane; request = event.request; half = half_of request event.part; event = length run.events; answer = answer; left = left }
+
+quiet_on : (start : Lists) (script : Requests) (run : Run) (journal : List JournalStep) (broken : Broken) (replies : List (Option Reply)) (began now new : Seen) (request : Request) (event : RunEvent) (answer : Option Reply) (left : Lists) → Serves start script run journal broken replies began now
+    → Told start script run journal replies began now new request event answer left did.Quiet → answer ≡ None → new.stopped ≡ now.stopped → Leads (left_by start journal) (left_by start journal) now new → Going start script (and_then run event) (journal_by run request journal event answer left) replies began new
+quiet_on start script run journal broken replies began now new request event answer left s t none same leads =
+    (broken, subst (λ (j : List JournalStep). Kept start script (and_then run event) j replies began new → Serves start script (and_then run event) j broken replies began new) (sym (unmade run request journal event answer left none)) all t.kept)
+  where
+    crash : IsSettledFor start began.history → (b : Bool) → now.stopped ≡ b → EachImage (IsReached start (and_then run event) journal broken) began.history new.history
+    crash at true e = still_images start run journal broken began now new event t.within (t.still e) (s.crash at)
+    crash at false e = quiet_images start run journal broken began now new event t.within (s.crash at) (leads.stops (s.settled e at))
+
+    all : Kept start script (and_then run event) journal replies began new → Serves start script (and_then run event) journal broken replies began new
+    all k = record {
+      legal = k.legal;
+      come = k.come;
+      shown = k.shown;
+      within = more_events run event broken.place s.within;
+      broken_is = broken_stays run script start journal broken event s.within s.broken_is;
+      crash = λ at. crash at now.stopped refl;
+      unbroken = λ e. s.unbroken (sym same ∙ e);
+      settled = λ e at. leads.settled (s.settled (sym same ∙ e) at);
+      reads = k.reads;
+      changes = k.changes;
+      fell = λ e. rose_later began.faults.changes now.faults.changes new.faults.changes (s.fell (sym same ∙ e)) t.faults.changes;
+      halted = k.halted;
+    }
+
+step_on : (start : Lists) (script : Requests) (run : Run) (journal : List JournalStep) (broken : Broken) (replies : List (Option Reply)) (began now new : Seen) (request : Request) (event : RunEvent) (answer : Option Reply) (left : Lists) (how : Did) → Serves start script run journal broken replies began now
+    → Told start script run journal replies began now new request event answer left how → is_some answer ≡ true → new.stopped ≡ false → now.stopped ≡ false → Leads (left_by start journal) left now new → Going start script (and_then run event) (journal_by run request journal event answer left) replies began new
+step_on start script run journal broken replies began now new request event answer left how s t some runs ran leads = (
+  no_broken,
+  record {
+    legal = t.kept.legal;
+    come = t.kept.come;
+    shown = t.kept.shown;
+    within = omega arith;
+    broken_is = tt;
+    crash = λ at. step_reached start run request journal began now new event answer left some t.within t.moment_is
+        (subst (λ (b : Broken). EachImage (IsReached start run journal b) began.history now.history) (s.unbroken ran) (s.crash at)) (leads.stops (s.settled ran at)) (leads.settled (s.settled ran at));
+    unbroken = λ e. refl;
+    settled = λ e at. subst (λ (ls : Lists). IsSettledFor ls new.history) (sym (left_made run request start journal event answer left t.made)) (leads.settled (s.settled ran at));
+    reads = t.kept.reads;
+    changes = t.kept.changes;
+    fell = λ e. absurd (fall new.stopped e runs);
+    halted = t.kept.halted;
+  },
+)
+
+failed_on : (start : Lists) (script : Requests) (run : Run) (journal : List JournalStep) (broken : Broken) (replies : List (Option Reply)) (began now new : Seen) (request : Request) (event : RunEvent) (answer : Option Reply) (left : Lists) → Serves start script run journal broken replies began now
+    → Told start script run journal replies began now new request event answer left did.Failed → Fell event answer now new → Stops (left_by start journal) (left_by start journal) now new → Going start script (and_then run event) (journal_by run request journal event answer left) replies began new
+failed_on start script run journal broken replies began now new request event answer left s t f stops =
+    (broken, subst (λ (j : List JournalStep). Kept start script (and_then run event) j replies began new → Serves start script (and_then run event) j broken replies began new) (sym (unmade run request journal event answer left f.unanswered)) all t.kept)
+  where
+    all : Kept start script (and_then run event) journal replies began new → Serves start script (and_then run event) journal broken replies began new
+    all k = record {
+      legal = k.legal;
+      come = k.come;
+      shown = k.shown;
+      within = more_events run event broken.place s.within;
+      broken_is = broken_stays run script start journal broken event s.within s.broken_is;
+      crash = λ at. quiet_images start run journal broken began now new event t.within (s.crash at) (stops (s.settled f.ran at));
+      unbroken = λ e. absurd (fall new.stopped f.stopped e);
+      settled = λ e at. absurd (fall new.stopped f.stopped e);
+      reads = k.reads;
+      changes = k.changes;
+      fell = λ e. rose_now began.faults.changes now.faults.changes new.faults.changes s.changes (t.faults.rose tt);
+      halted = k.halted;
+    }
+
+broken_on : (start : Lists) (script : Requests) (run : Run) (journal : List JournalStep) (broken : Broken) (replies : List (Option Reply)) (began now new : Seen) (lane place : ℕ) (request : Request) (event : RunEvent) (answer : Option Reply) (left : Lists) (how : Did)
+    → slice_get script place ≡ Some (lane, request) → event.lane ≡ lane → event.request ≡ place → IsFault how → Serves start script run journal broken replies began now
+    → Told start script run journal replies began now new request event answer left how → Fell event answer now new → (w : WouldMake run request (left_by start journal) event) → Stops (left_by start journal) w.left now new → Going start script (and_then run event) (journal_by run request journal event answer left) replies began new
+broken_on start script run journal broken replies began now new lane place request event answer left how asked on at fault s t f w stops =
+    (next, subst (λ (j : List JournalStep). Kept start script (and_then run event) j replies began new → Serves start script (and_then run event) j next replies began new) (sym (unmade run request journal event answer left f.unanswered)) all t.kept)
+  where
+    step : JournalStep
+    step = record { lane = w.would.lane; request = w.would.request; half = half_of request w.would.part; event = length run.events; answer = w.answer; left = w.left }
+
+    next : Broken
+    next = broken_by run w.would (told_calls now.history) step
+
+    is_step : IsStep (and_then run w.would) script (left_by start journal) step
+    is_step = made_is_step run script (lane, request) (left_by start journal) w.would w.answer w.left (ap (λ (n : ℕ). slice_get script n) (w.request_is ∙ at) ∙ asked) (w.lane_is ∙ on) w.made
+
+    crash : IsSettledFor start began.history → EachImage (IsReached start (and_then run event) journal next) began.history new.history
+    crash settled =
+        each_image-then (IsReached start (and_then run event) journal next) began.history now.history new.history
+        (each_image-map (IsReached start run journal no_broken) (IsReached start (and_then run event) journal next) began.history now.history
+        (λ m image h. (h.0, reached_fails start (and_then run event) journal next m h.0 (reached_quiet start run event journal no_broken m h.0 t.within h.1), h.2))
+        (subst (λ (b : Broken). EachImage (IsReached start run journal b) began.history now.history) (s.unbroken f.ran) (s.crash settled)))
+        (each_image-map (λ m image. (told_calls now.history ≤ m) × (Safe image (left_by start journal) ⊎ Safe image w.left)) (IsReached start (and_then run event) journal next) now.history new.history (λ m image h. elim h.1 [
+          | inl safe ↦ (left_by start journal, reached_last start (and_then run event) journal next m, safe)
+          | inr safe ↦ (w.left, reached_broken start (and_then run event) journal next m h.0, safe)
+        ]) (each_from (λ _ image. Safe image (left_by start journal) ⊎ Safe image w.left) now.history new.history (stops (s.settled f.ran settled))))
+
+    all : Kept start script (and_then run event) journal replies began new → Serves start script (and_then run event) journal next replies began new
+    all k = record {
+      legal = k.legal;
+      come = k.come;
+      shown = k.shown;
+      within = more_events run event (length run.events) (omega arith);
+      broken_is = broken_is run script start journal event w.would (told_calls now.history) step is_step;
+      crash = crash;
+      unbroken = λ e. absurd (fall new.stopped f.stopped e);
+      settled = λ e at. absurd (fall new.stopped f.stopped e);
+      reads = k.reads;
+      changes = k.changes;
+      fell = λ e. rose_now began.faults.changes now.faults.changes new.faults.changes s.changes (t.faults.rose fault);
+      halted = k.halted;
+    }
+
+ran_on : (now new : Seen) → new.stopped ≡ false → (now.stopped ≡ true → new ≡ now) → now.stopped ≡ false
+ran_on now new runs still = by_test now.stopped refl
+  where
+    by_test : (b : Bool) → now.stopped ≡ b → now.stopped ≡ false
+    by_test true e = absurd (fall now.stopped e (sym (ap (λ (x : Seen). x.stopped) (still e)) ∙ runs))
+    by_test false e = e
+
+by_way : (start : Lists) (script : Requests) (run : Run) (journal : List JournalStep) (broken : Broken) (replies : List (Option Reply)) (began now new : Seen) (lane place : ℕ) (request : Request) (event : RunEvent) (answer : Option Reply) (left : Lists) (how : Did)
+    → slice_get script place ≡ Some (lane, request) → event.lane ≡ lane → event.request ≡ place → Serves start script run journal broken replies began now
+    → Told start script run journal replies began now new request event answer left how → Went how request run (left_by start journal) left event answer now new → Going start script (and_then run event) (journal_by run request journal event answer left) replies began new
+by_way start script run journal broken replies began now new lane place request event answer left did.Quiet asked on at s t w = quiet_on start script run journal broken replies began now new request event answer left s t w.0 w.1 w.2
+by_way start script run journal broken replies began now new lane place request event answer left (did.Step half) asked on at s t w =
+    step_on start script run journal broken replies began now new request event answer left (did.Step half) s t w.0 w.2 (ran_on now new w.2 t.still) w.3
+by_way start script run journal broken replies began now new lane place request event answer left did.Failed asked on at s t w = failed_on start script run journal broken replies began now new request event answer left s t w.0 w.1
+by_way start script run journal broken replies began now new lane place request event answer left (did.Broken half) asked on at s t w =
+    broken_on start script run journal broken replies began now new lane place request event answer left (did.Broken half) asked on at tt s t w.0 w.2.0 w.2.1
+
+-- a step is made only by a store that runs
+makes_running : (request : Request) (run : Run) (lists left : Lists) (event : RunEvent) (answer : Option Reply) (now new : Seen) (how : Did) → Went how request run lists left event answer now new → is_some answer ≡ true → new.stopped ≡ false
+makes_running request run lists left event answer now new did.Quiet w some = absurd (fall (is_some answer) some (ap (λ (a : Option Reply). is_some a) w.0))
+makes_running request run lists left event answer now new (did.Step half) w some = w.2
+makes_running request run lists left event answer now new did.Failed w some = absurd (fall (is_some answer) some (ap (λ (a : Option Reply). is_some a) w.0.unanswered))
+makes_running request run lists left event answer now new (did.Broken half) w some = absurd (fall (is_some answer) some (ap (λ (a : Option Reply). is_some a) w.0.unanswered))
+
+-- A run of events goes on with one more, of any task that does as its clause says, in its turn.
+pub serves_on : (start : Lists) (script : Requests) (run : Run) (journal : List JournalStep) (broken : Broken) (replies : List (Option Reply)) (began now new : Seen) (around after : Around) (lane place : ℕ) (request : Request) (how : Did) (ended : Option Reply) → Serves start script run journal broken replies began now
+    → IsTurn script journal replies lane place request → (d : DidEvent around after run lane place (map (λ s. s.answer) (steps_of place journal)) request (left_by start journal) now new how ended)
+    → (next : Broken) × Serves start script (and_then run d.makes.event) (journal ++ steps_made run request d.makes.event d.makes.answer d.left) next replies began new
+serves_on start script run journal broken replies began now new around after lane place request how ended s turn d =
+    by_way start script run journal broken replies began now new lane place request d.makes.event d.makes.answer d.left how turn.asked d.makes.lane_is d.makes.request_is s told d.went
+  where
+    halted : (i : ℕ) → HasReply replies i (reply.Refused refusal.Stopped) → new.stopped ≡ true
+    halted i h = let e = s.halted i h in ap (λ (x : Seen). x.stopped) (d.ends.still e) ∙ e
+
+    free : is_some d.makes.answer ≡ true → (i : ℕ) → HasReply replies i (reply.Refused refusal.Stopped) → ⊥
+    free some i h = fall new.stopped (halted i h) (makes_running request run (left_by start journal) d.left d.makes.event d.makes.answer now new how d.went some)
+
+    may : AllMayCome script journal replies (steps_made run request d.makes.event d.makes.answer d.left)
+    may = may_come start script run journal replies lane place request d.makes.event d.makes.answer d.left turn d.makes.lane_is d.makes.request_is (s.legal.order.halves place (lane, request) turn.asked) d.ends.in_turn free
+
+    told : Told start script run journal replies began now new request d.makes.event d.makes.answer d.left how
+    told = record {
+      kept = record {
+        legal = legal_faults start script (and_then run d.makes.event) (journal ++ steps_made run request d.makes.event d.makes.answer d.left) replies began.faults now.faults new.faults
+            (legal_by_task start script run journal replies began.faults now.faults around after lane place request d.left now.map new.map now.drawn new.drawn (told_calls now.history) (told_calls new.history) ended s.legal s.come d.grows turn.asked d.makes may)
+            d.ends.faults.reads d.ends.faults.changes;
+        come = d.makes.come;
+        shown = subst (λ (ls : Lists). ShowsSeen new ls) (sym (left_made run request start journal d.makes.event d.makes.answer d.left d.makes.made)) d.shown;
+        reads = reads_more run.events d.makes.event began.faults.reads now.faults.reads new.faults.reads s.reads d.ends.faults.reads d.ends.reads;
+        changes = (let a = s.changes in let b = d.ends.faults.changes in omega (arith, a, b));
+        halted = halted;
+      };
+      moment_is = d.makes.moment_is;
+      made = d.makes.made;
+      within = steps_within run script start journal s.legal.steps;
+      still = d.ends.still;
+      faults = d.ends.faults;
+    }

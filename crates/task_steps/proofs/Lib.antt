@@ -1,0 +1,5 @@
+pub mod ExpungingLemmas
+pub mod FollowingLemmas
+pub mod GoingLemmas
+pub mod OneEventLemmas
+pub mod ReplyingLemmas

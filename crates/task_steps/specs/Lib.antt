@@ -1,0 +1,3 @@
+pub mod ExpungeStages
+pub mod Serves
+pub mod Step

@@ -1,0 +1,53 @@
+-- What the events since the beginning have made of a store.
+use Rattle.journal.specs.Events.{is_faulted, Around}
+use Rattle.std.specs.Prelude.{◌≡◌, ◌≤◌, ◌<◌, ℕ, Bool, count_by, true, false, List, [], All, Option, Some, None, length, slice_get}
+use Rattle.disk_model.specs.Disk.{Files, EachImage}
+use Rattle.mdbox_base.specs.Streams.{Rose}
+use Rattle.mdbox_base.specs.declared.requests.Request.{Request}
+use Rattle.mdbox_base.specs.declared.replies.Refusal.{Refusal}
+use Rattle.mdbox_base.specs.declared.replies.Refusal.TheVariants as refusal
+use Rattle.mdbox_base.specs.declared.replies.Reply.{Reply}
+use Rattle.mdbox_base.specs.declared.replies.Reply.TheVariants as reply
+use Rattle.model_lists.specs.Lists.{Lists}
+use Rattle.list_machine.specs.Run.{RunEvent, Run}
+use Rattle.journal.specs.Journal.{Requests, JournalStep, left_by, IsLegal, Broken, no_broken, AreBroken, Reached, HasReply, RoseBy, steps_of}
+use Rattle.journal.specs.Makes.{AreNextEvents}
+use Rattle.model_store.specs.Safe.{Safe}
+use Rattle.model_store.specs.Settled.{IsSettledFor}
+use Rattle.task_steps.specs.Step.{Seen, ShowsSeen, HasComeTo}
+
+-- At this moment the image is safe for lists that a stop may leave.
+abbrev pub IsReached : Lists → Run → List JournalStep → Broken → ℕ → Files → Type 0
+IsReached start run journal broken m image = (lists : Lists) × Reached start run journal broken m lists × Safe image lists
+
+-- A run of events, from these lists and from a store as it was seen then: the journal and the replies are legal, the run has
+-- come to the store, which shows what the journal left; a store that is stopped replied so, and no other. Of a disk that was
+-- settled at the start each image since is safe for lists that are reached; unless the store is stopped, no step is broken
+-- and the disk is settled for the present lists.
+pub record Serves (start : Lists) (script : Requests) (run : Run) (journal : List JournalStep) (broken : Broken) (replies : List (Option Reply)) (began now : Seen) : Type 0 where
+  pub legal : IsLegal start script run journal replies began.faults now.faults
+  pub come : HasComeTo run now
+  pub shown : ShowsSeen now (left_by start journal)
+  pub within : broken.place ≤ length run.events
+  pub broken_is : AreBroken run script start journal broken
+  pub crash : IsSettledFor start began.history → EachImage (IsReached start run journal broken) began.history now.history
+  pub unbroken : now.stopped ≡ false → broken ≡ no_broken
+  pub settled : now.stopped ≡ false → IsSettledFor start began.history → IsSettledFor (left_by start journal) now.history
+  pub reads : RoseBy (count_by is_faulted run.events) began.faults.reads now.faults.reads
+  pub changes : began.faults.changes ≤ now.faults.changes
+  pub fell : now.stopped ≡ true → Rose began.faults.changes now.faults.changes
+  pub halted : (i : ℕ) → HasReply replies i (reply.Refused refusal.Stopped) → now.stopped ≡ true
+
+-- It is a request's turn: the request is the script's at this place, of this lane, and isn't answered; no step of the lane is
+-- of a later request, and those have no reply.
+pub record IsTurn (script : Requests) (journal : List JournalStep) (replies : List (Option Reply)) (lane place : ℕ) (request : Request) : Type 0 where
+  pub asked : slice_get script place ≡ Some (lane, request)
+  pub unanswered : slice_get replies place ≡ Some None
+  pub first : All (λ s. s.lane ≡ lane → s.request ≤ place) journal
+  pub later : (j : ℕ) (q : ℕ × Request) → place < j → slice_get script j ≡ Some q → q.0 ≡ lane → (steps_of j journal ≡ []) × (slice_get replies j ≡ Some None)
+
+-- Each event was the next of its lane, whatever it saw of files and instances.
+pub record Follows (start : Lists) (script : Requests) (run : Run) (journal : List JournalStep) : Type 0 where
+  pub around : ℕ → Around
+  pub after : ℕ → Around
+  pub next : AreNextEvents around after script start run journal

@@ -1,0 +1,128 @@
+-- What an event of a task did: to the journal, to the disk, and by what its request ended.
+use Rattle.std.specs.Prelude.{◌≡◌, ◌≤◌, ◌⊎◌, ◌↔◌, ◌++◌, ◌∷◌, ℕ, Bool, true, false, List, [], length, slice_get, Option, Some, None, is_some}
+use Rattle.disk_model.specs.Disk.{History, Faults}
+use Rattle.mdbox_base.specs.Streams.{Rose}
+use Rattle.mdbox_base.specs.declared.entries.Highest.{Highest}
+use Rattle.mdbox_base.specs.declared.replies.Refusal.TheVariants as refusal
+use Rattle.mdbox_base.specs.declared.replies.Reply.{Reply}
+use Rattle.mdbox_base.specs.declared.replies.Reply.TheVariants as reply
+use Rattle.mdbox_base.specs.declared.requests.Request.{Request}
+use Rattle.model_lists.specs.Lists.{Lists, AreWellFormed}
+use Rattle.model_meaning.specs.BoxMeaning.{BoxMeaning}
+use Rattle.model_meaning.specs.MapMeaning.{MapMeaning}
+use Rattle.model_store.specs.Listing.{ShowLists}
+use Rattle.list_machine.specs.Run.{RunEvent, Run, own_events}
+use Rattle.journal.specs.Journal.{half_of, halves_of, IsReplyOf}
+use Rattle.journal.specs.Events.{Around}
+use Rattle.journal.specs.Makes.{HasCome, WouldMake, Makes}
+use Rattle.disk_model.specs.Disk.{told_calls, Grows}
+use Rattle.model_store.specs.Settled.{Leaves}
+use Rattle.model_store.specs.Settled.{IsSettledFor}
+use Rattle.mdbox_base.specs.declared.script.Half.{Half}
+use Rattle.mdbox_base.specs.declared.script.Half.TheVariants as half
+use Rattle.mdbox_base.specs.declared.progress.Did.{Did}
+use Rattle.mdbox_base.specs.declared.progress.Did.TheVariants as did
+use Rattle.mdbox_base.specs.declared.progress.Progress.{Progress}
+use Rattle.mdbox_base.specs.declared.progress.Progress.TheVariants as progress
+
+-- ---- a store as an event begins or ends
+
+-- What is seen of a store: what its map and the logs of its mailboxes mean, the numbers drawn, what its disk tells, the
+-- faults counted, and whether it is stopped.
+pub record Seen : Type 0 where
+  pub map : MapMeaning
+  pub meanings : List BoxMeaning
+  pub drawn : Highest
+  pub history : Option History
+  pub faults : Faults
+  pub stopped : Bool
+
+-- it shows the lists, which are well formed
+abbrev pub ShowsSeen : Seen → Lists → Type 0
+ShowsSeen seen lists = AreWellFormed lists × ShowLists seen.map.boxes seen.meanings lists
+
+-- the run has come to where it stands
+abbrev pub HasComeTo : Run → Seen → Type 0
+HasComeTo run seen = HasCome run seen.map seen.drawn (told_calls seen.history)
+
+-- ---- the disk
+
+-- Of a settled disk each image at every moment is safe for the lists before or for those behind.
+abbrev pub Stops : Lists → Lists → Seen → Seen → Type 0
+Stops lists left old new = IsSettledFor lists old.history → Leaves lists left old.history new.history
+
+-- It is so, and afterwards the disk is settled for the lists behind.
+pub record Leads (lists left : Lists) (old new : Seen) : Type 0 where
+  pub stops : Stops lists left old new
+  pub settled : IsSettledFor lists old.history → IsSettledFor left new.history
+
+-- A change of the disk failed in this event, which stopped the store.
+pub record Fell (event : RunEvent) (answer : Option Reply) (old new : Seen) : Type 0 where
+  pub refused : event.refused ≡ Some refusal.Stopped
+  pub unanswered : answer ≡ None
+  pub ran : old.stopped ≡ false
+  pub stopped : new.stopped ≡ true
+
+-- By the way that its task tells, an event was a step of the journal, none, a failed change that would have made none, or a
+-- failed append that would have made a step.
+abbrev pub Went : Did → Request → Run → Lists → Lists → RunEvent → Option Reply → Seen → Seen → Type 0
+Went did.Quiet request run lists left event answer old new = (answer ≡ None) × (new.stopped ≡ old.stopped) × Leads lists lists old new
+Went (did.Step half) request run lists left event answer old new = (is_some answer ≡ true) × (half_of request event.part ≡ half) × (new.stopped ≡ false) × Leads lists left old new
+Went did.Failed request run lists left event answer old new = Fell event answer old new × Stops lists lists old new
+Went (did.Broken half) request run lists left event answer old new =
+    Fell event answer old new × (half_of request event.part ≡ half) × ((w : WouldMake run request lists event) × Stops lists w.left old new)
+
+-- ---- the end of a request
+
+-- the answers of a request's steps, with one that was made or none
+abbrev pub and_told : List Reply → Option Reply → List Reply
+and_told said None = said
+and_told said (Some answer) = said ++ answer ∷ []
+
+abbrev pub IsFault : Did → Type 0
+IsFault did.Quiet = ⊥
+IsFault (did.Step half) = ⊥
+IsFault other = Unit {0}
+
+-- The counts of faults never fall, and that of failed changes rose where this holds.
+pub record FaultsGrow (failed : Type 0) (old new : Faults) : Type 0 where
+  pub reads : old.reads ≤ new.reads
+  pub changes : old.changes ≤ new.changes
+  pub rose : failed → Rose old.changes new.changes
+
+-- A step is the next of its request. What a request is replied follows from the answers of its steps; exactly a stopped store
+-- replies so, and in one that was stopped nothing happens; an event is refused by a read fault where a read failed.
+pub record EndsRequest (request : Request) (said : List Reply) (event : RunEvent) (answer ended : Option Reply) (did : Did) (old new : Seen) : Type 0 where
+  pub in_turn : is_some answer ≡ true → slice_get (halves_of request) (length said) ≡ Some (half_of request event.part)
+  pub replied : (given : Reply) → ended ≡ Some given → IsReplyOf request (and_told said answer) given
+  pub halts : (ended ≡ Some (reply.Refused refusal.Stopped)) ↔ (new.stopped ≡ true)
+  pub still : old.stopped ≡ true → new ≡ old
+  pub reads : event.refused ≡ Some refusal.ReadFault → Rose old.faults.reads new.faults.reads
+  pub faults : FaultsGrow (IsFault did) old.faults new.faults
+
+-- ---- an event
+
+-- What an event did, of a run and of lists: which event of the run it was and what it answered, the lists that the store shows
+-- now, what a stop within it leaves, and how its request ended, if it did.
+pub record DidEvent (around after : Around) (run : Run) (lane place : ℕ) (said : List Reply) (request : Request) (lists : Lists) (old new : Seen) (did : Did) (ended : Option Reply) : Type 0 where
+  pub left : Lists
+  pub shown : ShowsSeen new left
+  pub makes : Makes around after run lane place request lists left new.map new.drawn (told_calls new.history) ended
+  pub went : Went did request run lists left makes.event makes.answer old new
+  pub grows : Grows old.history new.history
+  pub ends : EndsRequest request said makes.event makes.answer ended did old new
+
+-- The clause of a task's step: of every run that has come to the store, of any lists that it shows, and where the request's
+-- own events and the answers of its steps are as the task's stage says. Where it goes on, they are as the new stage says.
+abbrev pub Steps : (List RunEvent → List Reply → Type 0) → (List RunEvent → List Reply → Type 0) → Around → Around → Request → Seen → Seen → Did → Option Reply → Type 0
+Steps Stood Stands around after request old new did ended =
+    (run : Run) (lane place : ℕ) (said : List Reply) (lists : Lists) → HasComeTo run old → ShowsSeen old lists → Stood (own_events place run) said
+    → (d : DidEvent around after run lane place said request lists old new did ended) × (ended ≡ None → Stands (own_events place run ++ d.makes.event ∷ []) (and_told said d.makes.answer))
+
+abbrev pub ended_by : Progress → Option Reply
+ended_by progress.More = None
+ended_by (progress.Done given) = Some given
+
+-- the stage of a task of one event
+abbrev pub HasNotBegun : List RunEvent → List Reply → Type 0
+HasNotBegun own said = (own ≡ []) × (said ≡ [])

@@ -1,0 +1,15 @@
+//! Tests of logs: their octets and entries, appends that fail or crash, repairs, what entries mean, and large logs.
+#![tactic(auto)]
+
+#[cfg(test)]
+mod appends;
+#[cfg(test)]
+mod indexes;
+#[cfg(test)]
+mod large;
+#[cfg(test)]
+mod octets;
+#[cfg(test)]
+mod reading;
+#[cfg(test)]
+mod repairs;
