@@ -10,8 +10,8 @@ ghost use Rattle.mime_parts.specs.Reading.{IsRead, IsOutsideParts, EndsAs, Flush
 
 use crate::mark::{Ending, ending_of};
 use mdbox_base::{NoMemory, Seq};
-use model_mime::{Boundary, Coding, Kind, Line, Part};
 use mime_fields::{next_line, read_fields};
+use model_mime::{Boundary, Coding, Kind, Line, Part};
 use std::alloc::Global;
 
 /// The most entities in one another, counted from the message.

@@ -5,13 +5,13 @@
 pub use check::{Checked, check_store};
 pub use error::CheckError;
 pub use mailbox::CheckedBox;
-pub use no_entry::{ROOT_FRONT, has_no_entry};
+pub use no_entry::has_no_entry;
 
-mod bare;
+mod dangling;
 mod check;
 mod counts;
 mod error;
-mod fold;
+mod replay;
 mod instances;
 mod lengths;
 mod log;

@@ -1,12 +1,18 @@
 -- What the calls of a sweep leave of a store.
-use Rattle.std.specs.Prelude.{◌≡◌, ◌⊎◌, ℕ, Bool, true, false, List, length, Option, Some, None}
-use Rattle.disk_model.specs.Disk.{Files, FileState, History, IfTold, IsTold, IsThere, EachImage, Keeps, reading}
+use Rattle.std.specs.Prelude.{◌≡◌, ◌⊎◌, ℕ, Bool, true, false, List, length, take, Option}
+use Rattle.mdbox_base.specs.Streams.{Rose}
+use Rattle.disk_model.specs.Disk.{Files, FileState, History, Faults, Between, IfTold, IsTold, IsThere, EachImage, Keeps, reading}
 use Rattle.disk_model.specs.declared.name.FileName.{FileName}
 use Rattle.disk_model.specs.declared.name.FileName.TheVariants as file
-use Rattle.model_meaning.specs.MapMeaning.{MapMeaning}
+use Rattle.model_meaning.specs.MapMeaning.{MapMeaning, is_sealed}
 use Rattle.model_store.specs.Carrying.{CarryOver}
 use Rattle.store_sweep.specs.Held.{IsHeldStore, IsReadStore}
-use Rattle.store_sweep.specs.Wanted.{is_wanted}
+use Rattle.store_sweep.specs.Wanted.{is_wanted, end_of}
+
+-- No change failed: where a fault was answered, the count of failed changes has not risen. At its type's end that count tells
+-- nothing.
+abbrev pub NoFailedChange : Type 0 → Faults → Faults → Type 0
+NoFailedChange fault old new = fault → Rose old.changes new.changes → ⊥
 
 -- Where the disk holds the store, each image of each moment carries over what was found.
 abbrev pub ImagesCarry : ℕ → MapMeaning → Option History → Option History → Type 0
@@ -18,23 +24,21 @@ pub record KeepsStore (generation : ℕ) (m : MapMeaning) (old new : Option Hist
   pub reads : (found : Files) → IfTold old (IsReadStore generation m found) → IfTold new (IsReadStore generation m found)
   pub told : IsTold old → IsTold new
 
--- Both told, and each file whose name passes the test as it was.
+-- each file whose name passes the test is as it was
 abbrev pub SameWhere : (FileName → Bool) → Option History → Option History → Type 0
-SameWhere test None new = new ≡ None
-SameWhere test (Some old) None = ⊥
-SameWhere test (Some old) (Some new) = (name : FileName) → test name ≡ true → new.now name ≡ old.now name
+SameWhere test = Between (λ old new. (name : FileName) → test name ≡ true → new name ≡ old name)
 
--- Both told, and each file that is there was there.
-abbrev pub NoneMade : Option History → Option History → Type 0
-NoneMade None new = new ≡ None
-NoneMade (Some old) None = ⊥
-NoneMade (Some old) (Some new) = (name : FileName) → IsThere (new.now name) → IsThere (old.now name)
+-- each file is there if it was, and only then
+abbrev pub SameThere : Option History → Option History → Type 0
+SameThere = Between (λ old new. (name : FileName) → (new name).is_there ≡ (old name).is_there)
 
--- Both told, and the file reads as before, and is held as before.
+-- each file that the store needs, or that is sealed, is there if it was
+abbrev pub KeepsWanted : ℕ → MapMeaning → Option History → Option History → Type 0
+KeepsWanted generation m = Between (λ old new. (name : FileName) → is_wanted generation m name ≡ true → IsThere (old name) → IsThere (new name))
+
+-- the file reads as before, and a crash leaves it as it reads where it did
 abbrev pub LogStays : FileName → Option History → Option History → Type 0
-LogStays name None new = new ≡ None
-LogStays name (Some old) None = ⊥
-LogStays name (Some old) (Some new) = (reading (new.now name) ≡ reading (old.now name)) × ((octets : List ℕ) → Keeps (old.now name) octets → Keeps (new.now name) octets)
+LogStays name = Between (λ old new. (reading (new name) ≡ reading (old name)) × ((octets : List ℕ) → Keeps (old name) octets → Keeps (new name) octets))
 
 -- the same octets, and the same ones of them may be lost
 pub record SameContent (f g : FileState) : Type 0 where
@@ -43,21 +47,29 @@ pub record SameContent (f g : FileState) : Type 0 where
   pub greatest : g.greatest ≡ f.greatest
   pub firm : (place : ℕ) → g.is_loose place ≡ f.is_loose place
 
--- a stop leaves the file's octets as they read
+-- a crash leaves the file's octets as they read
 pub record IsFirm (f : FileState) : Type 0 where
   pub least : f.least ≡ length f.octets
   pub greatest : f.greatest ≡ length f.octets
   pub firm : (place : ℕ) → f.is_loose place ≡ false
 
--- Both told, and each storage file that is there was there, and is as it was or synced.
-abbrev pub SyncedWhereCut : Option History → Option History → Type 0
-SyncedWhereCut None new = new ≡ None
-SyncedWhereCut (Some old) None = ⊥
-SyncedWhereCut (Some old) (Some new) = (number : ℕ) → IsThere (new.now (file.Mail number))
-    → IsThere (old.now (file.Mail number)) × (SameContent (old.now (file.Mail number)) (new.now (file.Mail number)) ⊎ IsFirm (new.now (file.Mail number)))
+-- a storage file that isn't sealed was cut to where its last region ends, and synced
+pub record IsCutToRegions (m : MapMeaning) (number : ℕ) (f g : FileState) : Type 0 where
+  pub unsealed : is_sealed m number ≡ false
+  pub octets : g.octets ≡ take (end_of m number) f.octets
+  pub synced : IsFirm g
 
--- Both told, and where a file was there that the store doesn't need, each name is synced.
+-- A storage file, before a sweep and after it: it was there, its name is loose only if it was, and it has the content that it
+-- had, or was cut.
+pub record IsFitted (m : MapMeaning) (number : ℕ) (f g : FileState) : Type 0 where
+  pub was : IsThere f
+  pub name : g.is_name_loose ≡ true → f.is_name_loose ≡ true
+  pub content : SameContent f g ⊎ IsCutToRegions m number f g
+
+-- each storage file that is there is so
+abbrev pub AreFitted : MapMeaning → Option History → Option History → Type 0
+AreFitted m = Between (λ old new. (number : ℕ) → IsThere (new (file.Mail number)) → IsFitted m number (old (file.Mail number)) (new (file.Mail number)))
+
+-- where a file was there that the store doesn't need, each name is synced
 abbrev pub NamesSynced : ℕ → MapMeaning → Option History → Option History → Type 0
-NamesSynced generation m None new = new ≡ None
-NamesSynced generation m (Some old) None = ⊥
-NamesSynced generation m (Some old) (Some new) = (stray : FileName) → IsThere (old.now stray) → is_wanted generation m stray ≡ false → (name : FileName) → (new.now name).is_name_loose ≡ false
+NamesSynced generation m = Between (λ old new. (stray : FileName) → IsThere (old stray) → is_wanted generation m stray ≡ false → (name : FileName) → (new name).is_name_loose ≡ false)

@@ -1,17 +1,16 @@
 // Storage files that are longer than their last region.
-ghost use Rattle.std.specs.Prelude.{◌≤◌, ℕ, length, OnOk, IsErr};
-ghost use Rattle.disk_model.specs.FaultCounts.{ChangeFaultCounted, AnyFaultCounted};
+ghost use Rattle.std.specs.Prelude.{◌≡◌, ◌≤◌, ℕ, false, length, OnOk, IsErr};
+ghost use Rattle.disk_model.specs.FaultCounts.{NoFault, ChangeFaultCounted, AnyFaultCounted};
 ghost use Rattle.disk_model.specs.Disk.{IfTold, IsThere, Reaches, SameButFor};
 ghost use Rattle.disk_model.specs.declared.name.FileName.{FileName};
 ghost use Rattle.disk_model.specs.declared.name.FileName.TheVariants as file;
-ghost use Rattle.model_meaning.specs.MapMeaning.{MapMeaning};
+ghost use Rattle.model_meaning.specs.MapMeaning.{MapMeaning, is_sealed};
 ghost use Rattle.disk_model.specs.Name.{is_log};
-ghost use Rattle.store_sweep.specs.Wanted.{EndBy, EndsByLastRegion};
-ghost use Rattle.store_sweep.specs.Moments.{ImagesCarry, KeepsStore, SameWhere, SyncedWhereCut, NoneMade};
+ghost use Rattle.store_sweep.specs.Wanted.{EndBy, EndsByLastRegion, end_of};
+ghost use Rattle.store_sweep.specs.Moments.{NoFailedChange, ImagesCarry, KeepsStore, SameWhere, SameThere, AreFitted};
 
-use crate::names::is_name_in_range;
 use crate::wanted::end_of;
-use disk_model::{Disk, DiskError, FileName};
+use disk_model::{Disk, DiskError, FileName, known_range};
 use gate_log::DiskFault;
 use map_index::MapIndex;
 use mdbox_base::FileNo;
@@ -20,16 +19,17 @@ use mdbox_base::FileNo;
 /// and syncs it.
 pub fn cut_files<D: Disk>(disk: &mut D, map: &MapIndex) -> Result<(), DiskFault>
     ensures images { (generation : ℕ) → ImagesCarry generation map.now (D.history disk.old) (D.history disk.new) }
-    ensures keeps { OnOk result ((generation : ℕ) → KeepsStore generation map.now (D.history disk.old) (D.history disk.new)) }
+    ensures keeps { NoFailedChange (IsErr result) (D.faults disk.old) (D.faults disk.new) → (generation : ℕ) → KeepsStore generation map.now (D.history disk.old) (D.history disk.new) }
     ensures logs { OnOk result (SameWhere is_log (D.history disk.old) (D.history disk.new)) }
-    ensures synced { OnOk result (SyncedWhereCut (D.history disk.old) (D.history disk.new)) }
-    ensures none_made { OnOk result (NoneMade (D.history disk.old) (D.history disk.new)) }
+    ensures mail { OnOk result (AreFitted map.now (D.history disk.old) (D.history disk.new)) }
+    ensures there { OnOk result (SameThere (D.history disk.old) (D.history disk.new)) }
     ensures cut { OnOk result (IfTold (D.history disk.new) (λ now. (name : FileName) → IsThere (now name) → EndsByLastRegion map.now name (now name))) }
     ensures fault { AnyFaultCounted (IsErr result) (D.faults disk.old) (D.faults disk.new) }
+    ensures unfailed { OnOk result (NoFault (D.faults disk.old) (D.faults disk.new)) }
 {
     let mut last = None;
     while let Some(name) = disk.next_name(last)? {
-        is_name_in_range(name);
+        known_range(name);
         fit_file(disk, name, map)?;
         last = Some(name);
     }
@@ -39,13 +39,14 @@ pub fn cut_files<D: Disk>(disk: &mut D, map: &MapIndex) -> Result<(), DiskFault>
 /// Cuts the file of this name, if it is a storage file that isn't sealed and is longer than the end of its last region.
 fn fit_file<D: Disk>(disk: &mut D, name: FileName, map: &MapIndex) -> Result<(), DiskFault>
     ensures images { (generation : ℕ) → ImagesCarry generation map.now (D.history disk.old) (D.history disk.new) }
-    ensures keeps { OnOk result ((generation : ℕ) → KeepsStore generation map.now (D.history disk.old) (D.history disk.new)) }
+    ensures keeps { NoFailedChange (IsErr result) (D.faults disk.old) (D.faults disk.new) → (generation : ℕ) → KeepsStore generation map.now (D.history disk.old) (D.history disk.new) }
     ensures logs { OnOk result (SameWhere is_log (D.history disk.old) (D.history disk.new)) }
-    ensures synced { OnOk result (SyncedWhereCut (D.history disk.old) (D.history disk.new)) }
-    ensures none_made { OnOk result (NoneMade (D.history disk.old) (D.history disk.new)) }
+    ensures mail { OnOk result (AreFitted map.now (D.history disk.old) (D.history disk.new)) }
+    ensures there { OnOk result (SameThere (D.history disk.old) (D.history disk.new)) }
     ensures others { OnOk result (SameButFor name (D.history disk.old) (D.history disk.new)) }
     ensures cut { OnOk result (IfTold (D.history disk.new) (λ now. IsThere (now name) → EndsByLastRegion map.now name (now name))) }
     ensures fault { AnyFaultCounted (IsErr result) (D.faults disk.old) (D.faults disk.new) }
+    ensures unfailed { OnOk result (NoFault (D.faults disk.old) (D.faults disk.new)) }
 {
     let FileName::Mail(number) = name else {
         return Ok(());
@@ -60,12 +61,13 @@ fn fit_file<D: Disk>(disk: &mut D, name: FileName, map: &MapIndex) -> Result<(),
 /// Cuts the storage file of this number to this size, if it is longer.
 fn cut_behind<D: Disk>(disk: &mut D, number: u32, end: u64) -> Result<(), DiskFault>
     ensures images { (generation : ℕ) (m : MapMeaning) → EndBy m number end → ImagesCarry generation m (D.history disk.old) (D.history disk.new) }
-    ensures keeps { OnOk result ((generation : ℕ) (m : MapMeaning) → EndBy m number end → KeepsStore generation m (D.history disk.old) (D.history disk.new)) }
-    ensures synced { OnOk result (SyncedWhereCut (D.history disk.old) (D.history disk.new)) }
-    ensures none_made { OnOk result (NoneMade (D.history disk.old) (D.history disk.new)) }
+    ensures keeps { NoFailedChange (IsErr result) (D.faults disk.old) (D.faults disk.new) → (generation : ℕ) (m : MapMeaning) → EndBy m number end → KeepsStore generation m (D.history disk.old) (D.history disk.new) }
+    ensures mail { OnOk result ((m : MapMeaning) → is_sealed m number ≡ false → end ≡ end_of m number → AreFitted m (D.history disk.old) (D.history disk.new)) }
+    ensures there { OnOk result (SameThere (D.history disk.old) (D.history disk.new)) }
     ensures others { OnOk result (SameButFor (file.Mail number) (D.history disk.old) (D.history disk.new)) }
     ensures cut { OnOk result (IfTold (D.history disk.new) (λ now. IsThere (now (file.Mail number)) → length (now (file.Mail number)).octets ≤ end)) }
     ensures fault { AnyFaultCounted (IsErr result) (D.faults disk.old) (D.faults disk.new) }
+    ensures unfailed { OnOk result (NoFault (D.faults disk.old) (D.faults disk.new)) }
 {
     match disk.length(FileName::Mail(number)) {
         Ok(length) => {
@@ -85,11 +87,12 @@ fn shorten<D: Disk>(disk: &mut D, number: u32, end: u64) -> Result<(), DiskFault
     requires { IfTold (D.history disk.old) (λ now. Reaches (now (file.Mail number)) end) }
     ensures images { (generation : ℕ) (m : MapMeaning) → EndBy m number end → ImagesCarry generation m (D.history disk.old) (D.history disk.new) }
     ensures keeps { OnOk result ((generation : ℕ) (m : MapMeaning) → EndBy m number end → KeepsStore generation m (D.history disk.old) (D.history disk.new)) }
-    ensures synced { OnOk result (SyncedWhereCut (D.history disk.old) (D.history disk.new)) }
-    ensures none_made { OnOk result (NoneMade (D.history disk.old) (D.history disk.new)) }
+    ensures mail { OnOk result ((m : MapMeaning) → is_sealed m number ≡ false → end ≡ end_of m number → AreFitted m (D.history disk.old) (D.history disk.new)) }
+    ensures there { OnOk result (SameThere (D.history disk.old) (D.history disk.new)) }
     ensures others { OnOk result (SameButFor (file.Mail number) (D.history disk.old) (D.history disk.new)) }
     ensures cut { OnOk result (IfTold (D.history disk.new) (λ now. length (now (file.Mail number)).octets ≤ end)) }
     ensures fault { ChangeFaultCounted (IsErr result) (D.faults disk.old) (D.faults disk.new) }
+    ensures unfailed { OnOk result (NoFault (D.faults disk.old) (D.faults disk.new)) }
 {
     disk.cut(FileName::Mail(number), end)?;
     disk.sync(FileName::Mail(number))?;

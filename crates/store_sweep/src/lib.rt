@@ -2,14 +2,13 @@
 #![tactic(auto)]
 
 pub use error::SweepError;
-pub use opening::{SweptLogs, sweep};
+pub use swept::{SweptLogs, sweep};
 
 mod cuts;
 mod error;
-mod names;
-mod opening;
 mod repairs;
 mod strays;
+mod swept;
 #[cfg(test)]
 mod tests;
 mod wanted;

@@ -1,9 +1,9 @@
 // The ends of logs.
 ghost use Rattle.std.specs.Prelude.{◌≡◌, ◌<◌, ◌≤◌, ◌+◌, ◌++◌, ◌∷◌, [], ℕ, length, vec_len, vec_capacity, OnOk, IsErr};
 ghost use Rattle.std.specs.List.{All, AllZip};
-ghost use Rattle.disk_model.specs.FaultCounts.{ChangeFaultCounted};
+ghost use Rattle.disk_model.specs.FaultCounts.{NoFault, ChangeFaultCounted};
 ghost use Rattle.disk_model.specs.Disk.{IfTold};
-ghost use Rattle.store_sweep.specs.Moments.{ImagesCarry, KeepsStore, SameWhere};
+ghost use Rattle.store_sweep.specs.Moments.{ImagesCarry, KeepsStore, SameWhere, SameThere};
 ghost use Rattle.store_sweep.specs.Repaired.{StandsFound, IsRepaired, AreLogsOfBoxes, is_outside};
 
 use disk_model::Disk;
@@ -26,8 +26,10 @@ pub fn repair_boxes<D: Disk>(
     ensures images { (generation : ℕ) → ImagesCarry generation map.now (D.history disk.old) (D.history disk.new) }
     ensures keeps { OnOk result ((generation : ℕ) → KeepsStore generation map.now (D.history disk.old) (D.history disk.new)) }
     ensures opened { OnOk result (AllZip (IsRepaired (D.history disk.old) (D.history disk.new)) found.items opened.new.items) }
+    ensures there { OnOk result (SameThere (D.history disk.old) (D.history disk.new)) }
     ensures others { OnOk result (SameWhere (is_outside found.items) (D.history disk.old) (D.history disk.new)) }
     ensures fault { ChangeFaultCounted (IsErr result) (D.faults disk.old) (D.faults disk.new) }
+    ensures unfailed { OnOk result (NoFault (D.faults disk.old) (D.faults disk.new)) }
 {
     map.is_kept();
     for log in found {

@@ -1,14 +1,13 @@
 // Files that the store doesn't need.
 ghost use Rattle.std.specs.Prelude.{◌≡◌, true, false, IfOk, OnOk, IsErr};
-ghost use Rattle.disk_model.specs.FaultCounts.{ChangeFaultCounted, AnyFaultCounted};
+ghost use Rattle.disk_model.specs.FaultCounts.{NoFault, ChangeFaultCounted, AnyFaultCounted};
 ghost use Rattle.disk_model.specs.Disk.{IfTold, IsThere, SameButFor, SameState};
 ghost use Rattle.disk_model.specs.declared.name.FileName.{FileName};
 ghost use Rattle.store_sweep.specs.Wanted.{is_wanted};
-ghost use Rattle.store_sweep.specs.Moments.{ImagesCarry, SameWhere};
+ghost use Rattle.store_sweep.specs.Moments.{NoFailedChange, ImagesCarry, KeepsStore, SameWhere};
 
-use crate::names::is_name_in_range;
 use crate::wanted::is_wanted;
-use disk_model::{Disk, FileName};
+use disk_model::{Disk, FileName, known_range};
 use gate_log::DiskFault;
 use map_index::MapIndex;
 
@@ -20,15 +19,17 @@ pub fn remove_strays<D: Disk>(
     map: &MapIndex,
 ) -> Result<bool, DiskFault>
     ensures images { ImagesCarry generation map.now (D.history disk.old) (D.history disk.new) }
+    ensures keeps { NoFailedChange (IsErr result) (D.faults disk.old) (D.faults disk.new) → KeepsStore generation map.now (D.history disk.old) (D.history disk.new) }
     ensures same { OnOk result (SameWhere (is_wanted generation map.now) (D.history disk.old) (D.history disk.new)) }
     ensures none { IfOk result (λ removed. removed ≡ false → SameState (D.history disk.old) (D.history disk.new)) }
     ensures gone { OnOk result (IfTold (D.history disk.new) (λ now. (name : FileName) → IsThere (now name) → is_wanted generation map.now name ≡ true)) }
     ensures fault { AnyFaultCounted (IsErr result) (D.faults disk.old) (D.faults disk.new) }
+    ensures unfailed { OnOk result (NoFault (D.faults disk.old) (D.faults disk.new)) }
 {
     let mut last = None;
     let mut removed = false;
     while let Some(name) = disk.next_name(last)? {
-        is_name_in_range(name);
+        known_range(name);
         removed |= remove_stray(disk, name, generation, map)?;
         last = Some(name);
     }
@@ -48,6 +49,7 @@ fn remove_stray<D: Disk>(
     ensures none { IfOk result (λ removed. removed ≡ false → SameState (D.history disk.old) (D.history disk.new)) }
     ensures gone { OnOk result (IfTold (D.history disk.new) (λ now. IsThere (now name) → is_wanted generation map.now name ≡ true)) }
     ensures fault { ChangeFaultCounted (IsErr result) (D.faults disk.old) (D.faults disk.new) }
+    ensures unfailed { OnOk result (NoFault (D.faults disk.old) (D.faults disk.new)) }
 {
     if is_wanted(name, generation, map) {
         return Ok(false);

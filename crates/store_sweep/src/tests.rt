@@ -1,6 +1,6 @@
 // Strays, storage files that are too long, and a disk on which nothing is to do. The whole call is tested with the opening
 // of a store, which finds the logs that it takes.
-use crate::opening::clear;
+use crate::swept::clear;
 use disk_mem::MemDisk;
 use disk_model::{Disk, DiskError, FileName};
 use map_index::MapIndex;

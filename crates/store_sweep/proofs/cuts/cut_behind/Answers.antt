@@ -1,5 +1,5 @@
-use Rattle.store_sweep.proofs.Sweeping.{images_now, images_unchanged, keeps_now, kept_images, kept_keeps}
-use Rattle.store_sweep.proofs.Syncing.{synced_then, synced_unchanged}
+use Rattle.store_sweep.proofs.SweepStepLemmas.{images_now, images_unchanged, keeps_now, kept_images, kept_keeps}
+use Rattle.store_sweep.proofs.FittedLemmas.{fitted-then, fitted-call}
 use Rattle.store_sweep.proofs.cuts.cut_behind.Goals as goal
 
 pub returns-then-length-end-clause-images : goal.returns-then-length-end-clause-images
@@ -14,7 +14,7 @@ returns-in_ok-shorten-in-Ok-clause-images g c = λ generation m ends.
     kept_images generation m _ _ _ _ (images_now generation m (g.D.Disk.history c.args.disk.now)) (keeps_now generation m (g.D.Disk.history c.args.disk.now)) c.in-Ok.ensures.state (c.in_ok-shorten-in-Ok.ensures.images generation m ends)
 
 pub returns-in_ok-shorten-in-Ok-clause-keeps : goal.returns-in_ok-shorten-in-Ok-clause-keeps
-returns-in_ok-shorten-in-Ok-clause-keeps g c = λ generation m ends.
+returns-in_ok-shorten-in-Ok-clause-keeps g c = λ none generation m ends.
     kept_keeps generation m _ _ _ _ (keeps_now generation m (g.D.Disk.history c.args.disk.now)) c.in-Ok.ensures.state (c.in_ok-shorten-in-Ok.ensures.keeps generation m ends)
 
 pub returns-in-Err-Absent-clause-images : goal.returns-in-Err-Absent-clause-images
@@ -23,11 +23,11 @@ returns-in-Err-Absent-clause-images g c = λ generation m ends. images_unchanged
 pub returns-in-Err-Failed-clause-images : goal.returns-in-Err-Failed-clause-images
 returns-in-Err-Failed-clause-images g c = λ generation m ends. images_unchanged generation m _ _ _ (images_now generation m (g.D.Disk.history c.args.disk.now)) c.in-Err-Failed.ensures.state
 
-pub returns-then-length-end-clause-synced : goal.returns-then-length-end-clause-synced
-returns-then-length-end-clause-synced g c = synced_unchanged _ _ c.in-Ok.ensures.state
+pub returns-then-length-end-clause-mail : goal.returns-then-length-end-clause-mail
+returns-then-length-end-clause-mail g c = λ m unsealed is. fitted-call m _ _ c.in-Ok.ensures.state
 
-pub returns-in_ok-shorten-in-Ok-clause-synced : goal.returns-in_ok-shorten-in-Ok-clause-synced
-returns-in_ok-shorten-in-Ok-clause-synced g c = synced_then _ _ _ (synced_unchanged _ _ c.in-Ok.ensures.state) c.in_ok-shorten-in-Ok.ensures.synced
+pub returns-in_ok-shorten-in-Ok-clause-mail : goal.returns-in_ok-shorten-in-Ok-clause-mail
+returns-in_ok-shorten-in-Ok-clause-mail g c = λ m unsealed is. fitted-then m _ _ _ (fitted-call m _ _ c.in-Ok.ensures.state) (c.in_ok-shorten-in-Ok.ensures.mail m unsealed is)
 
-pub returns-in-Err-Absent-clause-synced : goal.returns-in-Err-Absent-clause-synced
-returns-in-Err-Absent-clause-synced g c = synced_unchanged _ _ c.in-Err-Absent.ensures.state
+pub returns-in-Err-Absent-clause-mail : goal.returns-in-Err-Absent-clause-mail
+returns-in-Err-Absent-clause-mail g c = λ m unsealed is. fitted-call m _ _ c.in-Err-Absent.ensures.state

@@ -1,4 +1,4 @@
-use Rattle.std.proofs.Common.{Option, subst, arith}
+use Rattle.std.proofs.Common.{Option, refl, subst}
 use Rattle.std.specs.Prelude.{IfSome}
 use Rattle.disk_model.specs.Disk.{IfTold, IsPast, IsNext}
 use Rattle.disk_model.specs.contracts.name.FileNameOrd.TheImpl.{ghosts}
@@ -7,10 +7,12 @@ use Rattle.disk_model.proofs.MomentLemmas.{if_told-all}
 use Rattle.disk_model.specs.Name.{is_log}
 use Rattle.store_sweep.specs.Wanted.{EndsByLastRegion}
 use Rattle.disk_model.proofs.NameOrderLemmas.{walk_shrinks}
-use Rattle.store_sweep.proofs.Walking.{passed_none, walk_more, walk_ends}
-use Rattle.store_sweep.proofs.Sweeping.{images_now, images_unchanged, keeps_now, keeps_then, keeps_unchanged, where_now, where_then, where_unchanged, none_now, none_then, none_unchanged, kept_images, kept_keeps, walk_same, walk_none}
-use Rattle.store_sweep.proofs.Faults.{read_fault}
-use Rattle.store_sweep.proofs.Syncing.{synced_now, synced_then, synced_unchanged, walk_synced}
+use Rattle.store_sweep.proofs.WalkLemmas.{passed_none, walk_more, walk_ends}
+use Rattle.store_sweep.proofs.SweepStepLemmas.{images_now, images_unchanged, keeps_now, keeps_then, keeps_unchanged, where_now, where_then, where_unchanged, kept_images, kept_keeps, walk_same}
+use Rattle.store_sweep.proofs.FittedLemmas.{fitted-begins, fitted-then, fitted-goes_on, there-begins, there-then, there-goes_on}
+use Rattle.store_sweep.proofs.FaultLemmas.{any_since, name_since, none_since}
+use Rattle.disk_model.proofs.FaultCountLemmas.{no_fault-then, no_fault-read}
+use Rattle.std.proofs.lemmas.Bool.{false≢true}
 use Rattle.store_sweep.proofs.cuts.cut_files.Goals as goal
 
 pub loop-name-init : goal.loop-name-init
@@ -18,12 +20,11 @@ loop-name-init g c = record {
   images = λ generation. images_now generation c.args.map.now (g.D.Disk.history c.args.disk.now);
   keeps = λ generation. keeps_now generation c.args.map.now (g.D.Disk.history c.args.disk.now);
   logs = where_now is_log (g.D.Disk.history c.args.disk.now);
-  synced = synced_now (g.D.Disk.history c.args.disk.now);
-  none_made = none_now (g.D.Disk.history c.args.disk.now);
+  mail = fitted-begins c.args.map.now (g.D.Disk.history c.args.disk.now);
+  there = there-begins (g.D.Disk.history c.args.disk.now);
   cut = if_told-all _ (g.D.Disk.history c.args.disk.now) (λ disk. passed_none (EndsByLastRegion c.args.map.now) disk);
   in_range = tt;
-  reads = omega arith;
-  changes = omega arith;
+  faults = refl;
 }
 
 pub returns-in_err-name-clause-images : goal.returns-in_err-name-clause-images
@@ -31,7 +32,7 @@ returns-in_err-name-clause-images g c = λ generation. images_unchanged generati
 
 pub returns-in_err-name-clause-fault : goal.returns-in_err-name-clause-fault
 returns-in_err-name-clause-fault g c =
-    read_fault c.in_err-name.field-0.0 _ _ _ _ c.loop-name.invariant.reads c.loop-name.invariant.changes c.in_err-name.ensures.not_absent c.in_err-name.ensures.cause
+    name_since c.next_name.result _ _ _ c.loop-name.invariant.faults c.in_err-name.ensures.not_absent c.in_err-name.ensures.cause
 
 pub returns-in_err-fit_file-clause-images : goal.returns-in_err-fit_file-clause-images
 returns-in_err-fit_file-clause-images g c = λ generation.
@@ -39,35 +40,34 @@ returns-in_err-fit_file-clause-images g c = λ generation.
 
 pub loop-name-smaller : goal.loop-name-smaller
 loop-name-smaller g c =
-    walk_shrinks c.loop-name.last c.in-Some.name c.loop-name.invariant.in_range c.is_name_in_range.ensures
+    walk_shrinks c.loop-name.last c.in-Some.name c.loop-name.invariant.in_range c.known_range.ensures
     (let F : Option FileName → Type 0 = λ n. IfSome n (IsPast ghosts.cmp c.loop-name.last) in subst F c.in-Some.is c.in_ok-name.ensures.past)
 
 pub loop-name-preserved : goal.loop-name-preserved
 loop-name-preserved g c = record {
   images = λ generation. kept_images generation c.args.map.now _ _ _ _ (c.loop-name.invariant.images generation) (c.loop-name.invariant.keeps generation) c.in_ok-name.ensures.state (c.in_ok-fit_file.ensures.images generation);
-  keeps = λ generation. kept_keeps generation c.args.map.now _ _ _ _ (c.loop-name.invariant.keeps generation) c.in_ok-name.ensures.state (c.in_ok-fit_file.ensures.keeps generation);
+  keeps = λ generation. kept_keeps generation c.args.map.now _ _ _ _ (c.loop-name.invariant.keeps generation) c.in_ok-name.ensures.state (c.in_ok-fit_file.ensures.keeps (λ err. absurd (false≢true err)) generation);
   logs = walk_same is_log _ _ _ _ c.loop-name.invariant.logs c.in_ok-name.ensures.state c.in_ok-fit_file.ensures.logs;
-  synced = walk_synced _ _ _ _ c.loop-name.invariant.synced c.in_ok-name.ensures.state c.in_ok-fit_file.ensures.synced;
-  none_made = walk_none _ _ _ _ c.loop-name.invariant.none_made c.in_ok-name.ensures.state c.in_ok-fit_file.ensures.none_made;
+  mail = fitted-then _ _ _ _ (fitted-goes_on _ _ _ _ c.loop-name.invariant.mail c.in_ok-name.ensures.state) c.in_ok-fit_file.ensures.mail;
+  there = there-then _ _ _ (there-goes_on _ _ _ c.loop-name.invariant.there c.in_ok-name.ensures.state) c.in_ok-fit_file.ensures.there;
   cut = walk_more (EndsByLastRegion c.args.map.now) c.loop-name.last c.in-Some.name _ _ _ c.in_ok-name.ensures.state
       (let F : Option FileName → Type 0 = λ n. IfTold (g.D.Disk.history c.loop-name.disk) (IsNext ghosts.cmp c.loop-name.last n) in subst F c.in-Some.is c.in_ok-name.ensures.next)
       c.loop-name.invariant.cut c.in_ok-fit_file.ensures.others c.in_ok-fit_file.ensures.cut;
-  in_range = c.is_name_in_range.ensures;
-  reads = omega (arith, c.loop-name.invariant.reads, c.in_ok-name.ensures.cause.no_less, c.in_ok-fit_file.ensures.fault.reads);
-  changes = omega (arith, c.loop-name.invariant.changes, c.in_ok-name.ensures.cause.changes, c.in_ok-fit_file.ensures.fault.changes);
+  in_range = c.known_range.ensures;
+  faults = ?;
 }
 
 pub returns-clause-images : goal.returns-clause-images
 returns-clause-images g c = λ generation. images_unchanged generation c.args.map.now _ _ _ (c.loop-name.invariant.images generation) c.in_ok-name.ensures.state
 
 pub returns-clause-keeps : goal.returns-clause-keeps
-returns-clause-keeps g c = λ generation. keeps_then generation c.args.map.now _ _ _ (c.loop-name.invariant.keeps generation) (keeps_unchanged generation c.args.map.now _ _ c.in_ok-name.ensures.state)
+returns-clause-keeps g c = λ none generation. keeps_then generation c.args.map.now _ _ _ (c.loop-name.invariant.keeps generation) (keeps_unchanged generation c.args.map.now _ _ c.in_ok-name.ensures.state)
 
 pub returns-clause-logs : goal.returns-clause-logs
 returns-clause-logs g c = where_then is_log _ _ _ c.loop-name.invariant.logs (where_unchanged is_log _ _ c.in_ok-name.ensures.state)
 
-pub returns-clause-none_made : goal.returns-clause-none_made
-returns-clause-none_made g c = none_then _ _ _ c.loop-name.invariant.none_made (none_unchanged _ _ c.in_ok-name.ensures.state)
+pub returns-clause-there : goal.returns-clause-there
+returns-clause-there g c = there-goes_on _ _ _ c.loop-name.invariant.there c.in_ok-name.ensures.state
 
 pub returns-clause-cut : goal.returns-clause-cut
 returns-clause-cut g c =
@@ -75,5 +75,5 @@ returns-clause-cut g c =
     (let F : Option FileName → Type 0 = λ n. IfTold (g.D.Disk.history c.loop-name.disk) (IsNext ghosts.cmp c.loop-name.last n) in subst F c.in_default.is c.in_ok-name.ensures.next)
     c.loop-name.invariant.cut
 
-pub returns-clause-synced : goal.returns-clause-synced
-returns-clause-synced g c = synced_then _ _ _ c.loop-name.invariant.synced (synced_unchanged _ _ c.in_ok-name.ensures.state)
+pub returns-clause-mail : goal.returns-clause-mail
+returns-clause-mail g c = fitted-goes_on _ _ _ _ c.loop-name.invariant.mail c.in_ok-name.ensures.state

@@ -3,22 +3,22 @@ use Rattle.disk_model.proofs.OneFileLemmas.{same-begins}
 use Rattle.disk_model.proofs.MomentLemmas.{if_told-all}
 use Rattle.disk_model.specs.Name.{is_log}
 use Rattle.store_sweep.specs.Wanted.{EndBy}
-use Rattle.store_sweep.proofs.Cutting.{end_by, fits_anyway}
-use Rattle.store_sweep.proofs.Sweeping.{images_now, keeps_now, where_now, none_now}
-use Rattle.store_sweep.proofs.Syncing.{synced_now}
+use Rattle.store_sweep.proofs.CutLemmas.{end_by, fits_anyway}
+use Rattle.store_sweep.proofs.SweepStepLemmas.{images_now, keeps_now, where_now}
+use Rattle.store_sweep.proofs.FittedLemmas.{fitted-begins, there-begins}
 use Rattle.store_sweep.proofs.cuts.fit_file.Goals as goal
 
 pub returns-in_default-clause-images : goal.returns-in_default-clause-images
 returns-in_default-clause-images g c = λ generation. images_now generation c.args.map.now (g.D.Disk.history c.args.disk.now)
 
 pub returns-in_default-clause-keeps : goal.returns-in_default-clause-keeps
-returns-in_default-clause-keeps g c = λ generation. keeps_now generation c.args.map.now (g.D.Disk.history c.args.disk.now)
+returns-in_default-clause-keeps g c = λ none generation. keeps_now generation c.args.map.now (g.D.Disk.history c.args.disk.now)
 
 pub returns-in_default-clause-logs : goal.returns-in_default-clause-logs
 returns-in_default-clause-logs g c = where_now is_log (g.D.Disk.history c.args.disk.now)
 
-pub returns-in_default-clause-none_made : goal.returns-in_default-clause-none_made
-returns-in_default-clause-none_made g c = none_now (g.D.Disk.history c.args.disk.now)
+pub returns-in_default-clause-there : goal.returns-in_default-clause-there
+returns-in_default-clause-there g c = there-begins (g.D.Disk.history c.args.disk.now)
 
 pub returns-in_default-clause-others : goal.returns-in_default-clause-others
 returns-in_default-clause-others g c = same-begins c.args.name (g.D.Disk.history c.args.disk.now)
@@ -38,11 +38,11 @@ returns-clause-images g c = λ generation.
     c.in_ok-cut_behind.ensures.images generation c.args.map.now (let F : ℕ → Type 0 = λ end. EndBy c.args.map.now c.in-Mail.number end in subst F (sym c.end_of.ensures) (end_by c.args.map.now c.in-Mail.number))
 
 pub returns-clause-keeps : goal.returns-clause-keeps
-returns-clause-keeps g c = λ generation.
-    c.in_ok-cut_behind.ensures.keeps generation c.args.map.now (let F : ℕ → Type 0 = λ end. EndBy c.args.map.now c.in-Mail.number end in subst F (sym c.end_of.ensures) (end_by c.args.map.now c.in-Mail.number))
+returns-clause-keeps g c = λ none generation.
+    c.in_ok-cut_behind.ensures.keeps none generation c.args.map.now (let F : ℕ → Type 0 = λ end. EndBy c.args.map.now c.in-Mail.number end in subst F (sym c.end_of.ensures) (end_by c.args.map.now c.in-Mail.number))
 
-pub returns-in_default-clause-synced : goal.returns-in_default-clause-synced
-returns-in_default-clause-synced g c = synced_now (g.D.Disk.history c.args.disk.now)
+pub returns-in_default-clause-mail : goal.returns-in_default-clause-mail
+returns-in_default-clause-mail g c = fitted-begins c.args.map.now (g.D.Disk.history c.args.disk.now)
 
-pub returns-then-is_sealed-clause-synced : goal.returns-then-is_sealed-clause-synced
-returns-then-is_sealed-clause-synced g c = synced_now (g.D.Disk.history c.args.disk.now)
+pub returns-then-is_sealed-clause-mail : goal.returns-then-is_sealed-clause-mail
+returns-then-is_sealed-clause-mail g c = fitted-begins c.args.map.now (g.D.Disk.history c.args.disk.now)

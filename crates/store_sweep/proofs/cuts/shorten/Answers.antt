@@ -1,5 +1,5 @@
-use Rattle.store_sweep.proofs.Cutting.{cut_fails, sync_fails, shortened_images, shortened_keeps, sync_there, shortened_made, shortened_others, shortened_length}
-use Rattle.store_sweep.proofs.Syncing.{shortened_synced}
+use Rattle.store_sweep.proofs.CutLemmas.{cut_fails, sync_fails, shortened_images, shortened_keeps, sync_there, shortened_there, shortened_others, shortened_length}
+use Rattle.store_sweep.proofs.FittedLemmas.{fitted-shortened}
 use Rattle.store_sweep.proofs.cuts.shorten.Goals as goal
 
 pub sync-requires : goal.sync-requires
@@ -17,8 +17,8 @@ returns-clause-images g c = λ generation m ends. shortened_images generation m 
 pub returns-clause-keeps : goal.returns-clause-keeps
 returns-clause-keeps g c = λ generation m ends. shortened_keeps generation m c.args.number c.args.end _ _ _ ends c.requires c.in_ok-cut.ensures.state c.in_ok-sync.ensures.state
 
-pub returns-clause-none_made : goal.returns-clause-none_made
-returns-clause-none_made g c = shortened_made c.args.number c.args.end (g.D.Disk.history c.args.disk.now) _ _ c.in_ok-cut.ensures.state c.in_ok-sync.ensures.state
+pub returns-clause-there : goal.returns-clause-there
+returns-clause-there g c = shortened_there c.args.number c.args.end (g.D.Disk.history c.args.disk.now) _ _ c.in_ok-cut.ensures.state c.in_ok-sync.ensures.state
 
 pub returns-clause-others : goal.returns-clause-others
 returns-clause-others g c = shortened_others c.args.number c.args.end (g.D.Disk.history c.args.disk.now) _ _ c.in_ok-cut.ensures.state c.in_ok-sync.ensures.state
@@ -26,5 +26,5 @@ returns-clause-others g c = shortened_others c.args.number c.args.end (g.D.Disk.
 pub returns-clause-cut : goal.returns-clause-cut
 returns-clause-cut g c = shortened_length c.args.number c.args.end (g.D.Disk.history c.args.disk.now) _ _ c.requires c.in_ok-cut.ensures.state c.in_ok-sync.ensures.state
 
-pub returns-clause-synced : goal.returns-clause-synced
-returns-clause-synced g c = shortened_synced c.args.number c.args.end (g.D.Disk.history c.args.disk.now) _ _ c.in_ok-cut.ensures.state c.in_ok-sync.ensures.state
+pub returns-clause-mail : goal.returns-clause-mail
+returns-clause-mail g c = λ m unsealed is. fitted-shortened m c.args.number c.args.end _ _ _ unsealed is c.in_ok-cut.ensures.state c.in_ok-sync.ensures.state

@@ -3,8 +3,8 @@ use Rattle.std.specs.List.{AllZip}
 use Rattle.gate_log.specs.State.{InspectedLog}
 use Rattle.store_sweep.specs.Moments.{SameWhere}
 use Rattle.store_sweep.specs.Repaired.{IsRepaired, is_outside}
-use Rattle.store_sweep.proofs.Sweeping.{images_now, keeps_now, where_now}
-use Rattle.store_sweep.proofs.Boxes.{Next, next_log, next_stands, next_images, next_keeps, next_opened, next_outside, whole_next, whole_more, whole_done, left_more, is_room, made_repaired, pushed_opened, one_longer, none_opened}
+use Rattle.store_sweep.proofs.SweepStepLemmas.{images_now, keeps_now, where_now}
+use Rattle.store_sweep.proofs.BoxLogLemmas.{Next, next_log, next_stands, next_images, next_keeps, next_opened, next_outside, whole_next, whole_more, whole_done, left_more, is_room, made_repaired, pushed_opened, one_longer, none_opened}
 use Rattle.store_sweep.proofs.repairs.repair_boxes.Goals as goal
 
 pub loop-log-init : goal.loop-log-init

@@ -3,10 +3,10 @@ use Rattle.disk_model.specs.Disk.{removed, half_removed}
 use Rattle.disk_model.proofs.MomentLemmas.{if_told-all}
 use Rattle.disk_model.proofs.OneFileLemmas.{same-begins, same-goes_on}
 use Rattle.store_sweep.specs.Wanted.{is_wanted}
-use Rattle.store_sweep.proofs.Holding.{unwanted_holds}
-use Rattle.store_sweep.proofs.Sweeping.{images_now, images_goes_on, images_fails, where_goes_on, removed_gone}
+use Rattle.store_sweep.proofs.HeldLemmas.{unwanted_holds}
+use Rattle.store_sweep.proofs.SweepStepLemmas.{images_now, images_goes_on, images_fails, where_goes_on, removed_gone}
 use Rattle.std.proofs.lemmas.Bool.{true≢false}
-use Rattle.store_sweep.proofs.Syncing.{state_now}
+use Rattle.disk_model.proofs.IdleLemmas.{same_state-begins}
 use Rattle.store_sweep.proofs.strays.remove_stray.Goals as goal
 
 pub returns-then-is_wanted-clause-images : goal.returns-then-is_wanted-clause-images
@@ -32,7 +32,7 @@ pub returns-clause-gone : goal.returns-clause-gone
 returns-clause-gone g c = removed_gone c.args.name _ (g.D.Disk.history c.args.disk.now) _ c.in_ok-remove.ensures.state
 
 pub returns-then-is_wanted-clause-none : goal.returns-then-is_wanted-clause-none
-returns-then-is_wanted-clause-none g c = λ e. state_now (g.D.Disk.history c.args.disk.now)
+returns-then-is_wanted-clause-none g c = λ e. same_state-begins (g.D.Disk.history c.args.disk.now)
 
 pub returns-clause-none : goal.returns-clause-none
 returns-clause-none g c = λ e. absurd (true≢false e)

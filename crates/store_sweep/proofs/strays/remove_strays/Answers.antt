@@ -1,4 +1,4 @@
-use Rattle.std.proofs.Common.{◌≡◌, Option, true, subst, arith}
+use Rattle.std.proofs.Common.{◌≡◌, Option, true, refl, subst}
 use Rattle.std.specs.Prelude.{IfSome}
 use Rattle.disk_model.specs.Disk.{FileState, IfTold, IsPast, IsNext}
 use Rattle.disk_model.specs.contracts.name.FileNameOrd.TheImpl.{ghosts}
@@ -6,11 +6,12 @@ use Rattle.disk_model.specs.declared.name.FileName.{FileName}
 use Rattle.disk_model.proofs.MomentLemmas.{if_told-all}
 use Rattle.store_sweep.specs.Wanted.{is_wanted}
 use Rattle.disk_model.proofs.NameOrderLemmas.{walk_shrinks}
-use Rattle.store_sweep.proofs.Walking.{passed_none, walk_more, walk_ends}
-use Rattle.store_sweep.proofs.Sweeping.{images_now, images_unchanged, where_now, where_then, where_unchanged, walk_images, walk_same}
+use Rattle.store_sweep.proofs.WalkLemmas.{passed_none, walk_more, walk_ends}
+use Rattle.store_sweep.proofs.SweepStepLemmas.{images_now, images_unchanged, where_now, where_then, where_unchanged, walk_images, walk_same}
 use Rattle.std.proofs.lemmas.Bool.{or_parts}
-use Rattle.store_sweep.proofs.Syncing.{state_now, state_then, state_unchanged}
-use Rattle.store_sweep.proofs.Faults.{read_fault}
+use Rattle.disk_model.proofs.IdleLemmas.{same_state-begins, same_state-then, same_state-unchanged}
+use Rattle.disk_model.proofs.FaultCountLemmas.{no_fault-then, no_fault-read}
+use Rattle.store_sweep.proofs.FaultLemmas.{any_since, name_since}
 use Rattle.store_sweep.proofs.strays.remove_strays.Goals as goal
 
 pub loop-name-init : goal.loop-name-init
@@ -18,10 +19,9 @@ loop-name-init g c = record {
   images = images_now c.args.generation c.args.map.now (g.D.Disk.history c.args.disk.now);
   same = where_now (is_wanted c.args.generation c.args.map.now) (g.D.Disk.history c.args.disk.now);
   gone = if_told-all _ (g.D.Disk.history c.args.disk.now) (λ disk. passed_none (λ (name : FileName) (f : FileState). is_wanted c.args.generation c.args.map.now name ≡ true) disk);
-  none = λ e. state_now (g.D.Disk.history c.args.disk.now);
+  none = λ e. same_state-begins (g.D.Disk.history c.args.disk.now);
   in_range = tt;
-  reads = omega arith;
-  changes = omega arith;
+  faults = refl;
 }
 
 pub returns-in_err-name-clause-images : goal.returns-in_err-name-clause-images
@@ -29,7 +29,7 @@ returns-in_err-name-clause-images g c = images_unchanged c.args.generation c.arg
 
 pub returns-in_err-name-clause-fault : goal.returns-in_err-name-clause-fault
 returns-in_err-name-clause-fault g c =
-    read_fault c.in_err-name.field-0.0 _ _ _ _ c.loop-name.invariant.reads c.loop-name.invariant.changes c.in_err-name.ensures.not_absent c.in_err-name.ensures.cause
+    name_since c.next_name.result _ _ _ c.loop-name.invariant.faults c.in_err-name.ensures.not_absent c.in_err-name.ensures.cause
 
 pub returns-in_err-removed-clause-images : goal.returns-in_err-removed-clause-images
 returns-in_err-removed-clause-images g c =
@@ -37,7 +37,7 @@ returns-in_err-removed-clause-images g c =
 
 pub loop-name-smaller : goal.loop-name-smaller
 loop-name-smaller g c =
-    walk_shrinks c.loop-name.last c.in-Some.name c.loop-name.invariant.in_range c.is_name_in_range.ensures
+    walk_shrinks c.loop-name.last c.in-Some.name c.loop-name.invariant.in_range c.known_range.ensures
     (let F : Option FileName → Type 0 = λ n. IfSome n (IsPast ghosts.cmp c.loop-name.last) in subst F c.in-Some.is c.in_ok-name.ensures.past)
 
 pub loop-name-preserved : goal.loop-name-preserved
@@ -49,10 +49,9 @@ loop-name-preserved g c = record {
       c.loop-name.invariant.gone c.in_ok-removed.ensures.others c.in_ok-removed.ensures.gone;
   none = λ e.
       let parts = or_parts c.loop-name.removed c.in_ok-removed.field-0 e in
-      state_then _ _ _ (c.loop-name.invariant.none parts.0) (state_then _ _ _ (state_unchanged _ _ c.in_ok-name.ensures.state) (c.in_ok-removed.ensures.none parts.1));
-  in_range = c.is_name_in_range.ensures;
-  reads = omega (arith, c.loop-name.invariant.reads, c.in_ok-name.ensures.cause.no_less, c.in_ok-removed.ensures.fault.reads);
-  changes = omega (arith, c.loop-name.invariant.changes, c.in_ok-name.ensures.cause.changes, c.in_ok-removed.ensures.fault.changes);
+      same_state-then _ _ _ (same_state-unchanged _ _ _ (c.loop-name.invariant.none parts.0) c.in_ok-name.ensures.state) (c.in_ok-removed.ensures.none parts.1);
+  in_range = c.known_range.ensures;
+  faults = ?;
 }
 
 pub returns-clause-images : goal.returns-clause-images
@@ -63,7 +62,7 @@ returns-clause-same g c =
     where_then (is_wanted c.args.generation c.args.map.now) _ _ _ c.loop-name.invariant.same (where_unchanged (is_wanted c.args.generation c.args.map.now) _ _ c.in_ok-name.ensures.state)
 
 pub returns-clause-none : goal.returns-clause-none
-returns-clause-none g c = λ e. state_then _ _ _ (c.loop-name.invariant.none e) (state_unchanged _ _ c.in_ok-name.ensures.state)
+returns-clause-none g c = λ e. same_state-unchanged _ _ _ (c.loop-name.invariant.none e) c.in_ok-name.ensures.state
 
 pub returns-clause-gone : goal.returns-clause-gone
 returns-clause-gone g c =

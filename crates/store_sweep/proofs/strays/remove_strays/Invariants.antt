@@ -1,4 +1,5 @@
-use Rattle.std.proofs.Common.{◌≡◌, ◌≤◌, ◌+◌, ◌-◌, true, false}
+use Rattle.std.proofs.Common.{◌≡◌, true, false}
+use Rattle.disk_model.specs.FaultCounts.{NoFault}
 use Rattle.disk_model.specs.Disk.{SameState, IfTold, IsThere, IsPast}
 use Rattle.std.specs.Prelude.{IfSome}
 use Rattle.disk_model.specs.contracts.name.FileNameOrd.TheImpl.{ghosts}
@@ -6,7 +7,7 @@ use Rattle.disk_model.specs.declared.name.FileName.{FileName}
 use Rattle.disk_model.specs.Name.{IsNameInRange}
 use Rattle.store_sweep.specs.Wanted.{is_wanted}
 use Rattle.store_sweep.specs.Moments.{ImagesCarry, SameWhere}
-use Rattle.disk_model.proofs.NameOrderLemmas.{top, passed}
+use Rattle.disk_model.proofs.NameOrderLemmas.{names_left}
 use Rattle.store_sweep.proofs.strays.remove_strays.Given as goal
 
 abbrev pub invariant-loop-name : goal.invariant-loop-name
@@ -16,9 +17,8 @@ invariant-loop-name g l = record {
   gone : IfTold (g.D.Disk.history l.disk) (λ now. (name : FileName) → IsThere (now name) → (IsPast ghosts.cmp l.last name → ⊥) → is_wanted l.generation l.map name ≡ true);
   none : l.removed ≡ false → SameState (g.D.Disk.history l.initial.disk) (g.D.Disk.history l.disk);
   in_range : IfSome l.last IsNameInRange;
-  reads : (g.D.Disk.faults l.initial.disk).reads ≤ (g.D.Disk.faults l.disk).reads;
-  changes : (g.D.Disk.faults l.initial.disk).changes ≤ (g.D.Disk.faults l.disk).changes;
+  faults : NoFault (g.D.Disk.faults l.initial.disk) (g.D.Disk.faults l.disk);
 }
 
 abbrev pub decreases-loop-name : goal.decreases-loop-name
-decreases-loop-name g l = (top + 1) - passed l.last
+decreases-loop-name g l = names_left l.last

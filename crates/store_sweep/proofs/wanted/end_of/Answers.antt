@@ -1,5 +1,5 @@
 use Rattle.std.proofs.Common.{arith}
-use Rattle.store_sweep.proofs.Rows.{end_more}
+use Rattle.store_sweep.proofs.RegionEndLemmas.{end_more}
 use Rattle.store_sweep.proofs.wanted.end_of.Goals as goal
 
 pub loop-place-preserved : goal.loop-place-preserved

@@ -2,7 +2,7 @@ use Rattle.std.proofs.Common.{◌==◌, ◌&&◌, refl, sym, arith}
 use Rattle.model_meaning.specs.MapMeaning.{MapBox}
 use Rattle.map_index.specs.Shown.{shown_box}
 use Rattle.map_index.specs.declared.rows.BoxAt.{BoxAt}
-use Rattle.store_sweep.proofs.Scans.{tested, any_seen, any_unseen, any_none, any_over}
+use Rattle.store_sweep.proofs.ScanLemmas.{tested, any_seen, any_unseen, any_none, any_over}
 use Rattle.store_sweep.proofs.wanted.has_box.Goals as goal
 
 pub loop-place-init : goal.loop-place-init

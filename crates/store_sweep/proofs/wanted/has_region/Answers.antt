@@ -2,7 +2,7 @@ use Rattle.std.proofs.Common.{◌==◌, refl, sym, arith}
 use Rattle.model_meaning.specs.MapMeaning.{MapRecord}
 use Rattle.map_index.specs.Shown.{shown_record}
 use Rattle.map_index.specs.declared.rows.MapRow.{MapRow}
-use Rattle.store_sweep.proofs.Scans.{tested, any_seen, any_unseen, any_over}
+use Rattle.store_sweep.proofs.ScanLemmas.{tested, any_seen, any_unseen, any_over}
 use Rattle.store_sweep.proofs.wanted.has_region.Goals as goal
 
 pub loop-place-preserved : goal.loop-place-preserved
