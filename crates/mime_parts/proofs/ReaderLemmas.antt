@@ -18,7 +18,7 @@ use Rattle.model_mime.specs.Parts.{part_found, Found, found_in, whole_entity, is
 use Rattle.model_mime.specs.Parts.Found.{APart}
 use Rattle.mime_parts.specs.ToCome.{open_found, own_end, end_here, to_come}
 use Rattle.mime_parts.specs.Marks.{Says, EndsAt}
-use Rattle.mime_parts.specs.Reading.{found_parts, IsOpen, HasLevel, IsRead, IsOutsideParts, EndsAs, Ended}
+use Rattle.mime_parts.specs.Reading.{found_parts, boundary_in, after_head, IsOpen, HasLevel, IsRead, IsOutsideParts, EndsAs, Ended}
 use Rattle.mime_parts.specs.declared.reader.Reader.{Reader}
 use Rattle.mime_parts.specs.declared.reader.Place.{Place}
 use Rattle.mime_parts.specs.declared.reader.Place.TheVariants as places
@@ -282,6 +282,23 @@ multipart_next message s new line r h none start fields b was empty said multi s
       all = rw (stack_is, before, parts, now) (ap (λ (x : List Found). found_parts s.parts.items ++ x) (sym here) ∙ r.all);
     }
 
+a_kind : (k : Kind) → (is_leaf k ≡ true) ⊎ ((b : List ℕ) × (k ≡ kinds.Multipart b))
+a_kind kinds.Missing = inl refl
+a_kind kinds.Unreadable = inl refl
+a_kind kinds.Text = inl refl
+a_kind kinds.Message = inl refl
+a_kind (kinds.Multipart b) = inr (b, refl)
+a_kind kinds.Other = inl refl
+
+-- the header block of a leaf opens no boundary, and its body follows
+pub leaf_after : (k : Kind) (start body : ℕ) (coding : Coding) → is_leaf k ≡ true → (boundary_in k ≡ []) × (after_head start body coding k ≡ places.Body start body coding (is_other k))
+leaf_after kinds.Missing start body coding h = (refl, refl)
+leaf_after kinds.Unreadable start body coding h = (refl, refl)
+leaf_after kinds.Text start body coding h = (refl, refl)
+leaf_after kinds.Message start body coding h = (refl, refl)
+leaf_after (kinds.Multipart b) start body coding h = cc h
+leaf_after kinds.Other start body coding h = (refl, refl)
+
 pub other_kind : (k : Kind) → ((b : List ℕ) → k ≢ kinds.Multipart b) → k ≢ kinds.Other → (is_leaf k ≡ true) × (is_other k ≡ false)
 other_kind kinds.Missing h o = (refl, refl)
 other_kind kinds.Unreadable h o = (refl, refl)
@@ -290,8 +307,21 @@ other_kind kinds.Message h o = (refl, refl)
 other_kind (kinds.Multipart b) h o = absurd (h b refl)
 other_kind kinds.Other h o = absurd (o refl)
 
-pub body_as : (p : Place) (start body : ℕ) (coding : Coding) (x y : Bool) → p ≡ places.Body start body coding x → x ≡ y → p ≡ places.Body start body coding y
-body_as p start body coding x y e f = rw (← f) e
+-- the empty line at the end of a header block
+pub head_ended : (message : List ℕ) (s new : Reader) (line : Line) (r : IsRead message s line.start) → IsLineAt message line.start line
+    → list_any (λ b. ends_part b (range message line.start line.end)) s.stack.items ≡ false
+    → (start : ℕ) (fields : Fields) → s.place ≡ places.Head start → line.start ≡ line.end
+    → fields ≡ fields_of (range message start line.start)
+    → new.stack.items ≡ s.stack.items ++ boundary_in fields.kind
+    → new.place ≡ after_head start line.next fields.coding fields.kind → new.before ≡ line.end → new.parts.items ≡ s.parts.items
+    → IsRead message new line.next
+head_ended message s new line r h none start fields was empty said stack now before parts = elim (a_kind fields.kind) [
+  | inl leaf ↦ let after = leaf_after fields.kind start line.next fields.coding leaf in
+      leaf_next message s new line r h none start fields was empty said leaf (now ∙ after.1)
+      (stack ∙ ap (λ (x : List (List ℕ)). s.stack.items ++ x) after.0 ∙ append-nil s.stack.items) before parts
+  | inr multi ↦ multipart_next message s new line r h none start fields multi.0 was empty said multi.1
+      (stack ∙ ap (λ (k : Kind). s.stack.items ++ boundary_in k) multi.1) (now ∙ ap (λ (k : Kind). after_head start line.next fields.coding k) multi.1) before parts
+]
 
 pub keeps_closed : (message : List ℕ) (p : Place) (l : TextLine) → ((s : ℕ) → p ≢ places.Head s) → (lv : ℕ) (xs : List TextLine) (f : ℕ) → open_found message lv p (l ∷ xs) f ≡ open_found message lv p xs f
 keeps_closed message places.Between l h lv xs f = refl

@@ -10,7 +10,7 @@ use Rattle.model_logs.specs.LogFile.{head_octets}
 use Rattle.model_logs.proofs.LogFileLemmas.{head_length}
 use Rattle.model_store.specs.Settled.{files_of}
 use Rattle.model_store.specs.Opening.{HasClosedHead, HasNoEntry}
-use Rattle.gate_log.specs.Reading.{IsFrontOf}
+use Rattle.gate_log.specs.Reading.{IsPeekedFront}
 use Rattle.store_checks.specs.Roots.{HasId}
 
 -- 27 octets tell whether there is an entry
@@ -46,15 +46,15 @@ none_in_all octets (inl short) = let l = length-take 27 octets in inl (omega (ar
 none_in_all octets (inr h) = inr (front_closed octets h)
 
 -- what the first octets tell, where the file has so many
-pub no_entry : (found : Option (List ℕ)) (front : List ℕ) (old : Option History) → found ≡ Some front → HasNoEntry (Some front) → IfTold old (λ disk. IsFrontOf (reading (disk file.Root)) found) → IfTold old (λ disk. HasNoEntry (reading (disk file.Root)))
+pub no_entry : (found : Option (List ℕ)) (front : List ℕ) (old : Option History) → found ≡ Some front → HasNoEntry (Some front) → IfTold old (λ disk. IsPeekedFront (reading (disk file.Root)) found) → IfTold old (λ disk. HasNoEntry (reading (disk file.Root)))
 no_entry found front old is none told =
-    let F : Option (List ℕ) → Type 0 = λ o. IfTold old (λ disk. IsFrontOf (reading (disk file.Root)) o) in
+    let F : Option (List ℕ) → Type 0 = λ o. IfTold old (λ disk. IsPeekedFront (reading (disk file.Root)) o) in
     if_told-map _ _ old (λ disk f. subst HasNoEntry (sym f.1) (none_in_front f.0 (subst (λ (o : List ℕ). HasNoEntry (Some o)) f.3 none))) (subst F is told)
 
 -- the id in front
-pub has_id : (found : Option (List ℕ)) (front : List ℕ) (store : List ℕ) (old : Option History) → found ≡ Some front → (HasNoEntry (Some front) → ⊥) → store ≡ take 8 (drop 8 front) → IfTold old (λ disk. IsFrontOf (reading (disk file.Root)) found) → IfTold old (λ disk. HasId store (files_of disk))
+pub has_id : (found : Option (List ℕ)) (front : List ℕ) (store : List ℕ) (old : Option History) → found ≡ Some front → (HasNoEntry (Some front) → ⊥) → store ≡ take 8 (drop 8 front) → IfTold old (λ disk. IsPeekedFront (reading (disk file.Root)) found) → IfTold old (λ disk. HasId store (files_of disk))
 has_id found front store old here some is told =
-    let F : Option (List ℕ) → Type 0 = λ o. IfTold old (λ disk. IsFrontOf (reading (disk file.Root)) o) in
+    let F : Option (List ℕ) → Type 0 = λ o. IfTold old (λ disk. IsPeekedFront (reading (disk file.Root)) o) in
     if_told-map _ _ old
     (λ disk f.
     record {

@@ -1,3 +1,3 @@
-mod Lookups
-mod Counting
-mod Shown
+pub mod CountingLemmas
+pub mod LookupLemmas
+pub mod ShownLemmas

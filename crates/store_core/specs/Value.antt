@@ -1,22 +1,61 @@
 -- What a caller sees of an open store.
-use Rattle.std.specs.Prelude.{ℕ, Bool, List, map}
+use Rattle.std.specs.Prelude.{ℕ, Bool, false, List, map, Option}
 use Rattle.std.specs.declared.alloc.Global.{Global}
 use Rattle.gate_log.specs.State.{LogState}
+use Rattle.mdbox_base.specs.declared.entries.Highest.{Highest}
 use Rattle.model_meaning.specs.BoxMeaning.{BoxMeaning}
-use Rattle.model_meaning.specs.MapMeaning.{MapMeaning}
+use Rattle.model_meaning.specs.MapMeaning.{MapRecord, MapMeaning}
+use Rattle.model_store.specs.Listing.{meaning_named, meaning_numbered, refs_in}
 use Rattle.store_core.specs.declared.store.OpenBox.{OpenBox}
+use Rattle.store_core.specs.declared.store.OpenLogs.{OpenLogs}
 
--- The allocator that it keeps, its disk, what its map means, the map's log, its mailboxes in order of number, for how many
--- lanes it was opened, and whether it is stopped, since a change of the disk failed.
+-- The allocator that it keeps; its disk; the root log; the map's log, and what it means; its mailboxes in order of number; the
+-- highest numbers drawn; what is due of each record, in the order of the map's records; for how many lanes it was opened; and
+-- whether it is stopped, since a change of the disk failed.
 pub record StoreValue (D : Type 0) : Type 0 where
   pub alloc : Global
   pub disk : D
-  pub map : MapMeaning
+  pub root_log : LogState
   pub map_log : LogState
+  pub map : MapMeaning
   pub boxes : List OpenBox
+  pub drawn : Highest
+  pub dues : List ℕ
   pub lanes : ℕ
   pub stopped : Bool
+
+-- nothing is due of any record
+abbrev pub none_due : List MapRecord → List ℕ
+none_due records = map (λ row. 0) records
+
+-- A store as it is opened: the numbers drawn are the map's highest, no task holds or owes anything, and it isn't stopped.
+abbrev pub newly_open : {D : Type 0} → Global → D → OpenLogs → ℕ → StoreValue D
+newly_open alloc disk logs lanes = record {
+  alloc = alloc;
+  disk = disk;
+  root_log = logs.root_log;
+  map_log = logs.map_log;
+  map = logs.map;
+  boxes = logs.boxes.items;
+  drawn = logs.map.highest;
+  dues = none_due logs.map.records;
+  lanes = lanes;
+  stopped = false;
+}
+
+-- ---- look-ups
 
 -- what the logs of the mailboxes mean
 abbrev pub indexes_of : List OpenBox → List BoxMeaning
 indexes_of boxes = map (λ b. b.index) boxes
+
+-- what the log of the mailbox with this name means, or of the one with this number
+abbrev pub list_named : {D : Type 0} → StoreValue D → List ℕ → Option BoxMeaning
+list_named store name = meaning_named name store.map.boxes (indexes_of store.boxes)
+
+abbrev pub list_numbered : {D : Type 0} → StoreValue D → ℕ → Option BoxMeaning
+list_numbered store number = meaning_numbered number store.map.boxes (indexes_of store.boxes)
+
+-- how many listed messages have this GUID
+abbrev pub references_to : {D : Type 0} → StoreValue D → List ℕ → ℕ
+references_to store guid = refs_in (indexes_of store.boxes) guid

@@ -3,15 +3,14 @@ ghost use Rattle.std.specs.Prelude.{◌≡◌, ◌<◌, ◌≤◌, ◌^◌, ◌=
 ghost use Rattle.std.specs.Option.{option_copied, option_map, option_map_or};
 ghost use Rattle.std.specs.Str.{bytes_eq};
 ghost use Rattle.model_meaning.specs.MapMeaning.{count_of};
-ghost use Rattle.model_store.specs.Listing.{meaning_named, meaning_numbered, refs_in};
-ghost use Rattle.store_core.specs.Value.{indexes_of};
+ghost use Rattle.store_core.specs.Value.{newly_open, list_named, list_numbered, references_to};
 ghost use Rattle.store_core.specs.Running.{IsStore};
 
 use box_index::{BoxIndex, BoxRow};
 use disk_model::Disk;
 use gate_log::GateLog;
 use map_index::MapIndex;
-use mdbox_base::{BoxNo, Guid, Name, StoreId};
+use mdbox_base::{BoxNo, Guid, Highest, Name, StoreId};
 use std::alloc::Global;
 use std::marker::Model;
 
@@ -23,53 +22,69 @@ pub struct OpenBox {
     pub index: BoxIndex,
 }
 
+/// The logs of a store that were opened, and what they mean.
+#[derive(Drop)]
+pub struct OpenLogs {
+    /// The id in their heads.
+    pub id: StoreId,
+    pub root_log: GateLog,
+    pub map_log: GateLog,
+    pub map: MapIndex,
+    /// The mailboxes of the map, in order of number.
+    pub boxes: Vec<OpenBox>,
+}
+
 /// A store that is open. It has its disk until that is asked back.
 pub struct Store<D: Disk> {
     alloc: Global,
     disk: D,
     id: StoreId,
+    root_log: GateLog,
     map_log: GateLog,
     map: MapIndex,
     boxes: Vec<OpenBox>,
+    drawn: Highest,
     lanes: u32,
     stopped: bool,
 }
 
 impl<D: Disk> Model for Store<D> {
     ghost use Rattle.std.specs.Prelude.{◌≡◌};
-    ghost use Rattle.store_core.specs.Value.{StoreValue};
+    ghost use Rattle.store_core.specs.Value.{StoreValue, none_due};
     ghost use Rattle.store_core.specs.Running.{IsStore};
 
     ghost Value = { StoreValue D };
 
-    ghost view = { λ s. record { alloc = s.alloc; disk = s.disk; map = s.map; map_log = s.map_log; boxes = s.boxes.items; lanes = s.lanes; stopped = s.stopped } };
+    // No task holds or owes anything yet.
+    ghost view = { λ s. record { alloc = s.alloc; disk = s.disk; root_log = s.root_log; map_log = s.map_log; map = s.map; boxes = s.boxes.items; drawn = s.drawn; dues = none_due s.map.records; lanes = s.lanes; stopped = s.stopped } };
 
-    ghost invariant = { λ s. (s.id.0 ≡ s.map.store) × IsStore (D.history s.disk) s.map s.map_log s.boxes.items s.lanes s.stopped };
+    ghost invariant = { λ s. (s.id.0 ≡ s.map.store) × IsStore (D.history s.disk) (record { alloc = s.alloc; disk = s.disk; root_log = s.root_log; map_log = s.map_log; map = s.map; boxes = s.boxes.items; drawn = s.drawn; dues = none_due s.map.records; lanes = s.lanes; stopped = s.stopped }) };
 }
 
 impl<D: Disk> Store<D> {
-    /// A store whose logs were opened, for so many lanes: the map's log and what it means, and the mailboxes of the map in
-    /// order of number.
-    pub fn of(
-        alloc: Global,
-        disk: D,
-        id: StoreId,
-        map_log: GateLog,
-        map: MapIndex,
-        boxes: Vec<OpenBox>,
-        lanes: u32,
-    ) -> Store<D>
-        requires id { map.store ≡ id.0 }
-        requires store { IsStore (D.history disk) map map_log boxes.items lanes false }
-        ensures { result ≡ record { alloc = alloc; disk = disk; map = map; map_log = map_log; boxes = boxes.items; lanes = lanes; stopped = false } }
+    /// A store whose logs were opened, for so many lanes.
+    pub fn of(alloc: Global, disk: D, logs: OpenLogs, lanes: u32) -> Store<D>
+        requires id { logs.map.store ≡ logs.id.0 }
+        requires store { IsStore (D.history disk) (newly_open alloc disk logs lanes) }
+        ensures { result ≡ newly_open alloc disk logs lanes }
     {
+        let OpenLogs {
+            id,
+            root_log,
+            map_log,
+            map,
+            boxes,
+        } = logs;
+        let drawn = map.highest();
         Store {
             alloc,
             disk,
             id,
+            root_log,
             map_log,
             map,
             boxes,
+            drawn,
             lanes,
             stopped: false,
         }
@@ -77,7 +92,7 @@ impl<D: Disk> Store<D> {
 
     /// What is true of every open store.
     pub fn facts(&self)
-        ensures { IsStore (D.history self.now.disk) self.now.map self.now.map_log self.now.boxes self.now.lanes self.now.stopped }
+        ensures { IsStore (D.history self.now.disk) self.now }
     {
         let _ = &self.id;
     }
@@ -105,14 +120,14 @@ impl<D: Disk> Store<D> {
 
     /// What the log of the mailbox with this number means. None exactly where the map has no such mailbox.
     pub fn mailbox(&self, number: BoxNo) -> Option<&BoxIndex>
-        ensures { option_copied result ≡ meaning_numbered number.0 self.now.map.boxes (indexes_of self.now.boxes) }
+        ensures { option_copied result ≡ list_numbered self.now number.0 }
     {
         index_of(&self.boxes, number)
     }
 
     /// What the log of the mailbox with this name means. None exactly where no mailbox has the name.
     pub fn list_of(&self, name: &Name) -> Option<&BoxIndex>
-        ensures { option_copied result ≡ meaning_named name.now self.now.map.boxes (indexes_of self.now.boxes) }
+        ensures { option_copied result ≡ list_named self.now name.now }
     {
         self.map.is_kept();
         let number = self.map.box_named(name)?;
@@ -121,7 +136,7 @@ impl<D: Disk> Store<D> {
 
     /// How many listed messages have this GUID.
     pub fn refs_of(&self, guid: Guid) -> u64
-        ensures { result ≡ refs_in (indexes_of self.now.boxes) guid.0 }
+        ensures { result ≡ references_to self.now guid.0 }
     {
         self.map.is_kept();
         listed_in_all(&self.boxes, guid)
@@ -156,9 +171,11 @@ impl<D: Disk> Store<D> {
             alloc: _,
             disk,
             id: _,
+            root_log: _root_log,
             map_log: _map_log,
             map: _map,
             boxes: _boxes,
+            drawn: _,
             lanes: _,
             stopped: _,
         } = self;

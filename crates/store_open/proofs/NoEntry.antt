@@ -4,7 +4,7 @@ use Rattle.disk_model.specs.Disk.{History, IfTold, reading}
 use Rattle.disk_model.specs.declared.name.FileName.TheVariants as file
 use Rattle.disk_model.proofs.MomentLemmas.{if_told-map}
 use Rattle.model_store.specs.Opening.{HasNoEntry}
-use Rattle.store_checks.proofs.RootHead.{none_in_front, none_in_all}
+use Rattle.store_checks.proofs.RootHeadLemmas.{none_in_front, none_in_all}
 
 -- what was read of a root log's front tells whether it has an entry
 pub front_tells : (old : Option History) (lacks : Bool) (front : List ℕ) → IsTrue lacks ↔ HasNoEntry (Some front)

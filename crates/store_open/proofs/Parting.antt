@@ -5,7 +5,7 @@ use Rattle.std.proofs.lemmas.List.{map-append}
 use Rattle.model_meaning.specs.MapMeaning.{MapBox}
 use Rattle.map_index.specs.Shown.{shown_box}
 use Rattle.map_index.specs.declared.rows.BoxAt.{BoxAt}
-use Rattle.store_checks.proofs.Walks.{behind, map_next}
+use Rattle.store_checks.proofs.WalkLemmas.{behind, map_next}
 use Rattle.store_open.specs.declared.parts.BoxRest.{BoxRest}
 
 -- one more of a list has come

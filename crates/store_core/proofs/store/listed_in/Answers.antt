@@ -1,5 +1,5 @@
 use Rattle.std.proofs.Common.{◌∙◌, sym, ap, arith, ◌+◌, ℕ}
-use Rattle.store_core.proofs.Counting.{count_more}
+use Rattle.store_core.proofs.CountingLemmas.{count_more}
 use Rattle.store_core.proofs.store.listed_in.Goals as goal
 
 pub loop-place-preserved : goal.loop-place-preserved

@@ -1,6 +1,8 @@
 use Rattle.store_sweep.proofs.SweepStepLemmas.{images_then, keeps_then}
 use Rattle.store_sweep.proofs.BoxLogLemmas.{made_repaired}
 use Rattle.store_sweep.proofs.LogsInForceLemmas.{found_of, log_images, log_keeps, root_at, map_at, stands_still, log_since, map_apart, boxes_still, boxes_since, no_box_root, no_box_map, map_stays, root_stays, three_stay}
+use Rattle.store_sweep.proofs.FittedLemmas.{there-then}
+use Rattle.store_sweep.proofs.RepairLemmas.{repaired_there}
 use Rattle.store_sweep.proofs.swept.repair_logs.Goals as goal
 
 pub repair-requires : goal.repair-requires
@@ -90,3 +92,13 @@ pub returns-clause-root_log : goal.returns-clause-root_log
 returns-clause-root_log g c =
     let r = made_repaired _ _ c.args.root_log _ c.in_ok-repair.ensures.log c.in_ok-repair.ensures.reads c.in_ok-repair.ensures.holds in
     root_stays c.requires.map_log.0.0 c.args.map.now c.args.box_logs.items c.args.root_log c.args.map_log _ _ _ _ _ c.requires.root.0 c.requires.map_log.0.1 c.requires.box_logs c.in_ok-map_log.ensures.others c.in_ok-repair_boxes.ensures.others r
+
+pub returns-clause-there : goal.returns-clause-there
+returns-clause-there g c =
+    let r = made_repaired _ _ c.args.root_log _ c.in_ok-repair.ensures.log c.in_ok-repair.ensures.reads c.in_ok-repair.ensures.holds in
+    let s = made_repaired _ _ c.args.map_log _ c.in_ok-map_log.ensures.log c.in_ok-map_log.ensures.reads c.in_ok-map_log.ensures.holds in
+    let root = found_of c.args.root_log (g.D.Disk.history c.args.disk.now) c.requires.root.1 in
+    let map = found_of c.args.map_log _ (stands_still c.args.map_log c.args.root_log.name _ _ (map_apart c.requires.map_log.0.0 c.args.map_log c.args.root_log c.requires.map_log.0.1 c.requires.root.0) c.in_ok-repair.ensures.others c.requires.map_log.1) in
+    there-then _ _ _
+    (there-then _ _ _ (repaired_there c.args.root_log _ root.0 _ _ root.1 c.in_ok-repair.ensures.others r) (repaired_there c.args.map_log _ map.0 _ _ map.1 c.in_ok-map_log.ensures.others s))
+    c.in_ok-repair_boxes.ensures.there

@@ -1,6 +1,6 @@
 use Rattle.std.proofs.Common.{ap}
 use Rattle.std.specs.Option.{option_copied}
-use Rattle.store_core.proofs.Lookups.{named_in, unnamed_in}
+use Rattle.store_core.proofs.LookupLemmas.{named_in, unnamed_in}
 use Rattle.store_core.proofs.store.Store.list_of.Goals as goal
 
 pub returns : goal.returns

@@ -1,5 +1,5 @@
 use Rattle.std.proofs.Common.{ap}
-use Rattle.store_core.proofs.Lookups.{numbered_in}
+use Rattle.store_core.proofs.LookupLemmas.{numbered_in}
 use Rattle.store_core.proofs.store.Store.mailbox.Goals as goal
 
 pub returns : goal.returns

@@ -1,5 +1,5 @@
 use Rattle.std.proofs.Common.{ap}
-use Rattle.store_core.proofs.Counting.{summed_in}
+use Rattle.store_core.proofs.CountingLemmas.{summed_in}
 use Rattle.store_core.proofs.store.Store.refs_of.Goals as goal
 
 pub returns : goal.returns

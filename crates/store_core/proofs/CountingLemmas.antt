@@ -1,5 +1,5 @@
 -- References that are counted, row by row and mailbox by mailbox.
-use Rattle.std.proofs.Common.{◌≡◌, ◌<◌, ◌+◌, ℕ, suc, Bool, true, false, List, [], ◌∷◌, length, take, get_or, slice_get, if◌then◌else◌, Option, Some, None, refl, sym, ◌∙◌, ap, arith}
+use Rattle.std.proofs.Common.{◌≡◌, ◌<◌, ◌≤◌, ◌+◌, ℕ, suc, All, Bool, true, false, List, [], ◌∷◌, length, take, get_or, slice_get, if◌then◌else◌, Option, Some, None, refl, sym, ◌∙◌, ap, arith}
 use Rattle.std.specs.Prelude.{count_by, sum_by}
 use Rattle.std.specs.Option.{option_map, option_map_or}
 use Rattle.std.specs.Str.{bytes_eq}
@@ -8,11 +8,14 @@ use Rattle.std.proofs.lemmas.Option.{slice_get-get_or, get_or_from_slice_get}
 use Rattle.std.proofs.Math.Seq.{take-length}
 use Rattle.model_meaning.specs.BoxMeaning.{LogRow, BoxMeaning}
 use Rattle.model_store.specs.Listing.{refs_in}
-use Rattle.store_core.specs.Value.{indexes_of}
-use Rattle.model_meaning.specs.MapMeaning.{MapBox}
+use Rattle.std.proofs.lemmas.List.Elements.{All-head, All-tail}
+use Rattle.mdbox_base.specs.declared.entries.BoxEntry.{BoxEntry}
+use Rattle.model_store.specs.Opening.{listed_of, IsCounted}
+use Rattle.store_core.specs.Value.{indexes_of, none_due}
+use Rattle.model_meaning.specs.MapMeaning.{MapBox, MapRecord}
 use Rattle.box_index.specs.Row.{row_of}
 use Rattle.box_index.specs.declared.index.BoxRow.{BoxRow}
-use Rattle.store_core.specs.Running.{AreBoxLogs}
+use Rattle.store_core.specs.Running.{AreBoxLogs, CoverDues}
 use Rattle.store_core.specs.declared.store.OpenBox.{OpenBox}
 
 -- as many mailboxes are open as the map has
@@ -54,3 +57,8 @@ summed guid (b ∷ bs) =
 
 pub summed_in : (guid : List ℕ) (bs cs ds : List OpenBox) (n : ℕ) → bs ≡ cs → ds ≡ bs → n ≡ sum_by (λ b. count_by (λ row. bytes_eq row.guid guid) b.index.rows) ds → n ≡ refs_in (indexes_of cs) guid
 summed_in guid bs cs ds n same held e = e ∙ summed guid ds ∙ ap (λ (xs : List OpenBox). refs_in (indexes_of xs) guid) (held ∙ same)
+
+-- counts cover what is listed, where nothing is due
+pub nothing_due : (logs : List (List BoxEntry)) (rows : List MapRecord) → All (IsCounted logs) rows → CoverDues logs rows (none_due rows)
+nothing_due logs [] h = tt
+nothing_due logs (r ∷ rs) h = (let c : listed_of logs r.uid ≤ r.count = All-head (IsCounted logs) r rs h in omega (arith, c), nothing_due logs rs (All-tail (IsCounted logs) r rs h))

@@ -8,8 +8,8 @@ use Rattle.list_machine.specs.Machine.{has_name, is_message_of_uid, mailbox_name
 use Rattle.plain_lists.specs.declared.lists.PlainMessage.{PlainMessage}
 use Rattle.plain_lists.specs.declared.lists.PlainMailbox.{PlainMailbox}
 use Rattle.plain_lists.specs.View.{mailbox_of, message_of}
-use Rattle.plain_lists.proofs.Checks.{IsFound}
-use Rattle.plain_lists.proofs.Positions.{IsFirstPlace, position_is_place, found_at, changed_at, removed_at}
+use Rattle.plain_lists.proofs.CheckLemmas.{IsFound}
+use Rattle.plain_lists.proofs.PositionLemmas.{IsFirstPlace, position_is_place, found_at, changed_at, removed_at}
 
 -- the places that walks answer
 pub mailbox_place : (boxes : List PlainMailbox) (name : List ℕ) (i : ℕ) → Some i ≡ position (λ m. has_name name (mailbox_of m)) boxes → IsFirstPlace mailbox_of (has_name name) boxes i

@@ -1,9 +1,9 @@
-// Logs of which one octet is another.
-use crate::checks::ROOT;
-use crate::logs::{MAILBOX, MAP, listed};
+// Stores of which a log has one octet changed, or is cut.
+use crate::checks::listed;
 use disk_model::FileName;
 use std::test::Fail;
 use store_checks::CheckError;
+use test_stores::StoreFiles;
 
 /// What an octet is changed by: its last bit, or all of them.
 const MASKS: [u8; 2] = [1, 255];
@@ -145,45 +145,111 @@ fn of_mailbox(place: u64, mask: u8) -> Result<u32, CheckError> {
     }
 }
 
+/// What is wrong with a store whose root log is cut. Of up to 26 octets it has no entry.
+fn of_cut_root(size: u64) -> Result<u32, CheckError> {
+    match size {
+        0..=26 => Err(CheckError::NoStore),
+        27..=35 => Err(CheckError::Damaged(FileName::Root, 26)),
+        _ => Ok(3),
+    }
+}
+
+/// What is wrong with a store whose map log is cut. A whole map log without records has no mailbox, or leaves messages
+/// without their records, or one with too low a count.
+fn of_cut_map(size: u64) -> Result<u32, CheckError> {
+    match size {
+        0..=25 => map(size),
+        26 => Ok(0),
+        27..=45 => map(26),
+        46 => mailbox(26),
+        47..=88 => map(46),
+        89 => mailbox(69),
+        90..=131 => map(89),
+        132 => map(0),
+        133..=141 => map(132),
+        _ => Ok(3),
+    }
+}
+
+/// What is wrong with a store whose mailbox log is cut, or how many messages are left.
+fn of_cut_mailbox(size: u64) -> Result<u32, CheckError> {
+    match size {
+        0..=25 => mailbox(size),
+        26 => Ok(0),
+        27..=68 => mailbox(26),
+        69 => Ok(1),
+        70..=111 => mailbox(69),
+        112 | 123 => Ok(2),
+        113..=122 => mailbox(112),
+        124..=165 => mailbox(123),
+        _ => Ok(3),
+    }
+}
+
+/// Changes an octet of a log.
+fn flip(log: &mut Vec<u8>, place: usize, mask: u8) {
+    if let Some(octet) = log.get_mut(place) {
+        *octet ^= mask;
+    }
+}
+
 #[test]
-fn a_root_log_with_another_octet(rt: HostRuntime) -> Result<(), Fail> {
+fn a_damaged_root_log(rt: HostRuntime) -> Result<(), Fail> {
     for place in 0..36 {
         for mask in MASKS {
-            let mut root = ROOT;
-            root[place] ^= mask;
-            let found = listed(rt.alloc(), &root, &MAP, &MAILBOX, &rt)?;
+            let mut files = StoreFiles::three_messages(rt.alloc())?;
+            flip(&mut files.root, place, mask);
+            let found = listed(rt.alloc(), &files)?;
             assert_eq!(rt; found, of_root(place as u64, mask), "octet {place}, {mask}");
         }
     }
-    Ok(())
-}
-
-#[test]
-fn a_map_log_with_another_octet(rt: HostRuntime) -> Result<(), Fail> {
-    for place in 0..142 {
-        for mask in MASKS {
-            let mut map = MAP;
-            map[place] ^= mask;
-            let found = listed(rt.alloc(), &ROOT, &map, &MAILBOX, &rt)?;
-            assert_eq!(rt; found, of_map(place as u64, mask), "octet {place}, {mask}");
-        }
+    for size in 0..37 {
+        let mut files = StoreFiles::three_messages(rt.alloc())?;
+        files.root.truncate(size);
+        let found = listed(rt.alloc(), &files)?;
+        assert_eq!(rt; found, of_cut_root(size as u64), "{size} octets");
     }
     Ok(())
 }
 
 #[test]
-fn a_mailbox_log_with_another_octet(rt: HostRuntime) -> Result<(), Fail> {
+fn a_damaged_map_log(rt: HostRuntime) -> Result<(), Fail> {
+    for place in 0..142 {
+        for mask in MASKS {
+            let mut files = StoreFiles::three_messages(rt.alloc())?;
+            flip(&mut files.map, place, mask);
+            let found = listed(rt.alloc(), &files)?;
+            assert_eq!(rt; found, of_map(place as u64, mask), "octet {place}, {mask}");
+        }
+    }
+    for size in 0..143 {
+        let mut files = StoreFiles::three_messages(rt.alloc())?;
+        files.map.truncate(size);
+        let found = listed(rt.alloc(), &files)?;
+        assert_eq!(rt; found, of_cut_map(size as u64), "{size} octets");
+    }
+    Ok(())
+}
+
+#[test]
+fn a_damaged_mailbox_log(rt: HostRuntime) -> Result<(), Fail> {
     for place in 0..166 {
         for mask in MASKS {
-            let mut mailbox = MAILBOX;
-            mailbox[place] ^= mask;
-            let found = listed(rt.alloc(), &ROOT, &MAP, &mailbox, &rt)?;
+            let mut files = StoreFiles::three_messages(rt.alloc())?;
+            flip(&mut files.inbox, place, mask);
+            let found = listed(rt.alloc(), &files)?;
             assert_eq!(rt;
                 found,
                 of_mailbox(place as u64, mask),
                 "octet {place}, {mask}"
             );
         }
+    }
+    for size in 0..167 {
+        let mut files = StoreFiles::three_messages(rt.alloc())?;
+        files.inbox.truncate(size);
+        let found = listed(rt.alloc(), &files)?;
+        assert_eq!(rt; found, of_cut_mailbox(size as u64), "{size} octets");
     }
     Ok(())
 }
