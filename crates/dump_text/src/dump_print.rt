@@ -30,6 +30,7 @@ fn put_line<O: Sink>(
 ) -> Result<(), PrintError>
     ensures ok { OnOk result (Gathers (O.held output.old) writer.old.piece (32 ∷ 32 ∷ line.now) (O.held output.new) writer.new.piece) }
     ensures err { OnErr result (WritesPrefix (O.held output.old) writer.old.piece (32 ∷ 32 ∷ line.now) (O.held output.new)) }
+    ensures quiet { OnOk result (O.faults output.new ≡ O.faults output.old) }
     ensures cause { IfErr result (IsPrintError (O.faults output.old) (O.faults output.new)) }
     ensures counted { O.faults output.old ≤ O.faults output.new }
 {
@@ -57,6 +58,7 @@ fn print_lines<O: Sink>(
 ) -> Result<(), PrintError>
     ensures ok { OnOk result ((lines : List Line) → AreLines text.now lines → Gathers (O.held output.old) writer.old.piece (flat_map shown_line lines) (O.held output.new) writer.new.piece) }
     ensures err { OnErr result ((lines : List Line) → AreLines text.now lines → WritesPrefix (O.held output.old) writer.old.piece (flat_map shown_line lines) (O.held output.new)) }
+    ensures quiet { OnOk result (O.faults output.new ≡ O.faults output.old) }
     ensures cause { IfErr result (IsPrintError (O.faults output.old) (O.faults output.new)) }
     ensures counted { O.faults output.old ≤ O.faults output.new }
 {
@@ -79,6 +81,7 @@ fn print_message<O: Sink>(
     requires { (text : List ℕ) × ShowsMessage file.now place text }
     ensures ok { OnOk result ((text : List ℕ) → ShowsMessage file.now place text → Gathers (O.held output.old) writer.old.piece text (O.held output.new) writer.new.piece) }
     ensures err { OnErr result ((text : List ℕ) → ShowsMessage file.now place text → WritesPrefix (O.held output.old) writer.old.piece text (O.held output.new)) }
+    ensures quiet { OnOk result (O.faults output.new ≡ O.faults output.old) }
     ensures cause { IfErr result (IsPrintError (O.faults output.old) (O.faults output.new)) }
     ensures counted { O.faults output.old ≤ O.faults output.new }
 {
@@ -98,6 +101,7 @@ fn print_places<O: Sink>(
     requires { (text : List ℕ) × ShowsMessages file.now messages.now text }
     ensures ok { OnOk result ((text : List ℕ) → ShowsMessages file.now messages.now text → Appended (O.held output.old) text (O.held output.new)) }
     ensures err { OnErr result ((text : List ℕ) → ShowsMessages file.now messages.now text → WritesPrefix (O.held output.old) [] text (O.held output.new)) }
+    ensures quiet { OnOk result (O.faults output.new ≡ O.faults output.old) }
     ensures cause { IfErr result (IsPrintError (O.faults output.old) (O.faults output.new)) }
     ensures counted { O.faults output.old ≤ O.faults output.new }
 {
@@ -118,6 +122,7 @@ pub fn print_messages<O: Sink>(
     requires { HasPlaces file.now messages.now }
     ensures ok { OnOk result ((text : List ℕ) × IsDumpOf file.now text × Appended (O.held output.old) text (O.held output.new)) }
     ensures err { OnErr result ((text : List ℕ) × IsDumpOf file.now text × WritesPrefix (O.held output.old) [] text (O.held output.new)) }
+    ensures quiet { OnOk result (O.faults output.new ≡ O.faults output.old) }
     ensures cause { IfErr result (IsPrintError (O.faults output.old) (O.faults output.new)) }
     ensures counted { O.faults output.old ≤ O.faults output.new }
 {

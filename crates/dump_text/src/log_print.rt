@@ -71,6 +71,7 @@ fn put_entry<O: Sink>(
 ) -> Result<(), PrintError>
     ensures ok { OnOk result (Gathers (O.held output.old) writer.old.piece (entry_line place entry.now) (O.held output.new) writer.new.piece) }
     ensures err { OnErr result (WritesPrefix (O.held output.old) writer.old.piece (entry_line place entry.now) (O.held output.new)) }
+    ensures quiet { OnOk result (O.faults output.new ≡ O.faults output.old) }
     ensures cause { IfErr result (IsPrintError (O.faults output.old) (O.faults output.new)) }
     ensures counted { O.faults output.old ≤ O.faults output.new }
 {
@@ -84,6 +85,7 @@ pub fn print_log<O: Sink>(alloc: Global, output: &mut O, read: &LogRead) -> Resu
     requires end { read.now.end ≡ log_end read.now.entries }
     ensures ok { OnOk result (Appended (O.held output.old) (log_dump_text read.now.head read.now.entries) (O.held output.new)) }
     ensures err { OnErr result (WritesPrefix (O.held output.old) [] (log_dump_text read.now.head read.now.entries) (O.held output.new)) }
+    ensures quiet { OnOk result (O.faults output.new ≡ O.faults output.old) }
     ensures cause { IfErr result (IsPrintError (O.faults output.old) (O.faults output.new)) }
     ensures counted { O.faults output.old ≤ O.faults output.new }
 {

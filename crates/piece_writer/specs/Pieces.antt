@@ -16,7 +16,7 @@ WritesPrefix held piece text later = (given : List ℕ) × (rest : List ℕ) × 
 abbrev pub WritesOrFaults : Option (List ℕ) → ℕ → List ℕ → Option (List ℕ) → ℕ → Type 0
 WritesOrFaults held faults text later later_faults = Appended held text later ⊎ (WritesPrefix held [] text later × Rose faults later_faults)
 
--- a write fault comes only if the output's count of faults rose
+-- A write fault comes only if the output's count of faults rose, and out of memory only if it stayed.
 abbrev pub IsPrintError : ℕ → ℕ → PrintError → Type 0
-IsPrintError faults later print.NoMemory = Unit {0}
+IsPrintError faults later print.NoMemory = later ≡ faults
 IsPrintError faults later print.WriteFault = Rose faults later

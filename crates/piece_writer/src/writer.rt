@@ -32,6 +32,7 @@ impl PieceWriter {
     pub fn put<O: Sink>(&mut self, output: &mut O, text: &[u8]) -> Result<(), PrintError>
         ensures ok { OnOk result (Gathers (O.held output.old) self.old.piece text.now (O.held output.new) self.new.piece) }
         ensures err { OnErr result (WritesPrefix (O.held output.old) self.old.piece text.now (O.held output.new)) }
+        ensures quiet { OnOk result (O.faults output.new ≡ O.faults output.old) }
         ensures cause { IfErr result (IsPrintError (O.faults output.old) (O.faults output.new)) }
         ensures counted { O.faults output.old ≤ O.faults output.new }
     {
@@ -49,6 +50,7 @@ impl PieceWriter {
     pub fn finish<O: Sink>(self, output: &mut O) -> Result<(), PrintError>
         ensures ok { OnOk result (Appended (O.held output.old) self.piece (O.held output.new)) }
         ensures err { OnErr result (WritesPrefix (O.held output.old) [] self.piece (O.held output.new)) }
+        ensures quiet { OnOk result (O.faults output.new ≡ O.faults output.old) }
         ensures cause { IfErr result (IsPrintError (O.faults output.old) (O.faults output.new)) }
         ensures counted { O.faults output.old ≤ O.faults output.new }
     {

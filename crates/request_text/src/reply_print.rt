@@ -141,6 +141,7 @@ fn moved_line(alloc: Global, uid: Uid, gone: bool) -> Result<Octets, NoMemory>
 fn print_line<O: Sink>(output: &mut O, line: &Octets) -> Result<(), PrintError>
     ensures ok { OnOk result (Appended (O.held output.old) line.now (O.held output.new)) }
     ensures err { OnErr result (WritesPrefix (O.held output.old) [] line.now (O.held output.new)) }
+    ensures quiet { OnOk result (O.faults output.new ≡ O.faults output.old) }
     ensures cause { IfErr result (IsPrintError (O.faults output.old) (O.faults output.new)) }
     ensures counted { O.faults output.old ≤ O.faults output.new }
 {
@@ -156,6 +157,7 @@ fn put_row<O: Sink>(
 ) -> Result<(), PrintError>
     ensures ok { OnOk result (Gathers (O.held output.old) writer.old.piece (row_text row) (O.held output.new) writer.new.piece) }
     ensures err { OnErr result (WritesPrefix (O.held output.old) writer.old.piece (row_text row) (O.held output.new)) }
+    ensures quiet { OnOk result (O.faults output.new ≡ O.faults output.old) }
     ensures cause { IfErr result (IsPrintError (O.faults output.old) (O.faults output.new)) }
     ensures counted { O.faults output.old ≤ O.faults output.new }
 {
@@ -167,6 +169,7 @@ fn put_row<O: Sink>(
 fn print_listing<O: Sink>(alloc: Global, output: &mut O, rows: &[ListRow]) -> Result<(), PrintError>
     ensures ok { OnOk result (Appended (O.held output.old) (listing_text rows.now) (O.held output.new)) }
     ensures err { OnErr result (WritesPrefix (O.held output.old) [] (listing_text rows.now) (O.held output.new)) }
+    ensures quiet { OnOk result (O.faults output.new ≡ O.faults output.old) }
     ensures cause { IfErr result (IsPrintError (O.faults output.old) (O.faults output.new)) }
     ensures counted { O.faults output.old ≤ O.faults output.new }
 {
@@ -183,6 +186,7 @@ fn print_listing<O: Sink>(alloc: Global, output: &mut O, rows: &[ListRow]) -> Re
 fn print_fetched<O: Sink>(alloc: Global, output: &mut O, message: &Octets) -> Result<(), PrintError>
     ensures ok { OnOk result (Appended (O.held output.old) (reply_text (reply.Fetched message.now)) (O.held output.new)) }
     ensures err { OnErr result (WritesPrefix (O.held output.old) [] (reply_text (reply.Fetched message.now)) (O.held output.new)) }
+    ensures quiet { OnOk result (O.faults output.new ≡ O.faults output.old) }
     ensures cause { IfErr result (IsPrintError (O.faults output.old) (O.faults output.new)) }
     ensures counted { O.faults output.old ≤ O.faults output.new }
 {
@@ -198,6 +202,7 @@ fn print_fetched<O: Sink>(alloc: Global, output: &mut O, message: &Octets) -> Re
 pub fn print_reply<O: Sink>(alloc: Global, output: &mut O, reply: &Reply) -> Result<(), PrintError>
     ensures ok { OnOk result (Appended (O.held output.old) (reply_text reply.now) (O.held output.new)) }
     ensures err { OnErr result (WritesPrefix (O.held output.old) [] (reply_text reply.now) (O.held output.new)) }
+    ensures quiet { OnOk result (O.faults output.new ≡ O.faults output.old) }
     ensures cause { IfErr result (IsPrintError (O.faults output.old) (O.faults output.new)) }
     ensures counted { O.faults output.old ≤ O.faults output.new }
 {

@@ -1,4 +1,4 @@
-use Rattle.std.proofs.Common.{◌<◌, sym, ◌∙◌, length, arith}
+use Rattle.std.proofs.Common.{refl, ◌∙◌, ◌<◌, sym, length, arith}
 use Rattle.std.proofs.lemmas.Bool.{eqb-true, eqb-false}
 use Rattle.std.proofs.lemmas.List.{nil_from_length}
 use Rattle.std.proofs.lemmas.Result.{err_from_is_err_and}
@@ -7,7 +7,7 @@ use Rattle.dump_text.proofs.DumpLemmas.{line_cut, line_left, no_rows}
 use Rattle.dump_text.proofs.dump_print.print_lines.Goals as goal
 
 pub loop-rest-init : goal.loop-rest-init
-loop-rest-init g c = (λ lines rows. record { lines = lines; rows = rows; pass = λ held piece b. b; cut = λ held b. b }, omega arith)
+loop-rest-init g c = (λ lines rows. record { lines = lines; rows = rows; pass = λ held piece b. b; cut = λ held b. b }, refl)
 
 pub returns-in_err-put_line-clause-err : goal.returns-in_err-put_line-clause-err
 returns-in_err-put_line-clause-err g c =
@@ -31,7 +31,7 @@ loop-rest-preserved g c = (
         pass = λ held piece b. left.pass held piece (next.pass held piece b);
         cut = λ held b. left.cut held (next.cut held b);
       },
-  omega (arith, c.loop-rest.invariant.1, c.in_ok-put_line.ensures.counted),
+  c.in_ok-put_line.ensures.quiet ∙ c.loop-rest.invariant.1,
 )
 
 pub returns-clause-ok : goal.returns-clause-ok

@@ -1,4 +1,4 @@
-use Rattle.std.proofs.Common.{◌<◌, length, get_or, arith, []}
+use Rattle.std.proofs.Common.{refl, ◌∙◌, ◌<◌, length, get_or, arith, []}
 use Rattle.std.proofs.lemmas.List.{get_or_default}
 use Rattle.std.proofs.lemmas.Result.{err_from_is_err_and, on_ok_weaker, on_err_weaker}
 use Rattle.model_storage.specs.declared.places.MessageAt.{MessageAt}
@@ -7,7 +7,7 @@ use Rattle.dump_text.proofs.DumpLemmas.{shows_first, rest_next, rest_cut, rest_e
 use Rattle.dump_text.proofs.dump_print.print_places.Goals as goal
 
 pub loop-place-init : goal.loop-place-init
-loop-place-init g c = (λ text s. record { text = text; shows = s; pass = λ held piece b. rw c.empty-writer.ensures at b; cut = λ held b. rw c.empty-writer.ensures at b }, omega arith)
+loop-place-init g c = (λ text s. record { text = text; shows = s; pass = λ held piece b. rw c.empty-writer.ensures at b; cut = λ held b. rw c.empty-writer.ensures at b }, refl)
 
 pub print_message-requires : goal.print_message-requires
 print_message-requires g c =
@@ -29,7 +29,7 @@ loop-place-preserved g c =
     let place : MessageAt = get_or c.args.messages.now c.loop-place.place-index (record { offset = 0; body = 0; size = 0; lines = 0; end = 0 }) in
     let less : c.loop-place.place-index < length c.args.messages.now = omega arith in (
       λ text s. rest_next c.args.file.now text c.args.messages.now place c.loop-place.place-index [] _ _ _ _ _ less (get_or_default c.args.messages.now c.loop-place.place-index _ place less) (c.loop-place.invariant.0 text s) c.in_ok-print_message.ensures.ok,
-      omega (arith, c.loop-place.invariant.1, c.in_ok-print_message.ensures.counted),
+      c.in_ok-print_message.ensures.quiet ∙ c.loop-place.invariant.1,
     )
 
 pub returns-clause-ok : goal.returns-clause-ok

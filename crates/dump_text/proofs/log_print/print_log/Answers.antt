@@ -34,7 +34,7 @@ loop-i-preserved g c =
     let more = rw c.as_slice.ensures at c.in_ok-put_entry.ensures.ok in
     record {
       passed = rw c.as_slice-entries.ensures (goes_on _ _ _ c.args.read.now.head c.args.read.now.entries c.index-entries-i.result _ _ c.loop-i.i _ within entry (ap (λ (t : List ℕ). get_or t c.loop-i.i 0) places) passed more);
-      counted = omega (arith, c.loop-i.invariant.counted, c.in_ok-put_entry.ensures.counted);
+      quiet = c.in_ok-put_entry.ensures.quiet ∙ c.loop-i.invariant.quiet;
     }
 
 pub returns-in_err-end-clause-err : goal.returns-in_err-end-clause-err

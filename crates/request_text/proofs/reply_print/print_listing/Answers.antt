@@ -1,4 +1,4 @@
-use Rattle.std.proofs.Common.{◌<◌, length, arith}
+use Rattle.std.proofs.Common.{refl, ◌∙◌, ◌<◌, length, arith}
 use Rattle.std.proofs.lemmas.Result.{err_from_is_err_and, on_ok_weaker, on_err_weaker}
 use Rattle.request_text.specs.ReplyText.{listing_text}
 use Rattle.piece_writer.proofs.PieceLemmas.{cut_end, passed_end}
@@ -8,7 +8,7 @@ use Rattle.request_text.proofs.reply_print.print_listing.Goals as goal
 pub loop-row-init : goal.loop-row-init
 loop-row-init g c = record {
   passed = listing_begins _ c.args.rows.now c.in_ok-numbers_line.field-0 c.in_ok-numbers_line.ensures;
-  counted = omega arith;
+  quiet = refl;
 }
 
 pub returns-in_err-put_row-clause-err : goal.returns-in_err-put_row-clause-err
@@ -22,7 +22,7 @@ loop-row-preserved g c =
     let less : c.loop-row.row-index < length c.args.rows.now = omega arith in
     record {
       passed = listing_goes_on _ _ _ c.args.rows.now c.row-item.result c.loop-row.writer.piece _ c.loop-row.row-index less c.row-item.is c.loop-row.invariant.passed c.in_ok-put_row.ensures.ok;
-      counted = omega (arith, c.loop-row.invariant.counted, c.in_ok-put_row.ensures.counted);
+      quiet = c.in_ok-put_row.ensures.quiet ∙ c.loop-row.invariant.quiet;
     }
 
 pub returns-clause-ok : goal.returns-clause-ok

@@ -1,4 +1,4 @@
-use Rattle.std.proofs.Common.{[], ◌≤◌}
+use Rattle.std.proofs.Common.{[], ◌≡◌}
 use Rattle.piece_writer.specs.Pieces.{Gathers}
 use Rattle.request_text.proofs.ReplyPrintLemmas.{rows_to}
 use Rattle.request_text.proofs.reply_print.print_listing.Given as goal
@@ -7,5 +7,5 @@ use Rattle.request_text.proofs.reply_print.print_listing.Given as goal
 abbrev pub invariant-loop-row : goal.invariant-loop-row
 invariant-loop-row g l = record {
   passed : Gathers (g.O.Sink.held l.fn.output) [] (rows_to l.rows l.row-index) (g.O.Sink.held l.output) l.writer.piece;
-  counted : g.O.Sink.faults l.fn.output ≤ g.O.Sink.faults l.output;
+  quiet : g.O.Sink.faults l.output ≡ g.O.Sink.faults l.fn.output;
 }
