@@ -15,12 +15,7 @@ use std::alloc::Global;
 use store_open::{OpenRefused, init_store};
 
 /// Makes an empty store, prints `OK`, and hands the disk back.
-pub fn init<D: Disk, O: Sink>(
-    alloc: Global,
-    id: StoreId,
-    disk: D,
-    output: &mut O,
-) -> (Outcome, D)
+pub fn init<D: Disk, O: Sink>(alloc: Global, id: StoreId, disk: D, output: &mut O) -> (Outcome, D)
     requires id { (length id.0 ≡ 8) × IsOctets id.0 }
     ensures ends { InitOutcome id.0 (O.held output.old) (O.held output.new) (D.history disk) (D.history result.1) result.0 }
     ensures moments { InitMoments (D.history disk) (D.history result.1) }

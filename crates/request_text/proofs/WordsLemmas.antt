@@ -38,13 +38,6 @@ hex_same xs ys p q e =
     let k : Ok xs ≡ Ok ys = sym (decode_of-encode_lower xs (octets_are_bytes xs p)) ∙ ap decode_of e ∙ decode_of-encode_lower ys (octets_are_bytes ys q) in
     cc k
 
--- what decodes the digits of an id
-pub decoded : (text id : List ℕ) (r : Result (Unit {0}) FromHexError) (new : List ℕ) → length id ≡ 8 → IsOctets id → text ≡ encode_lower id
-    → MatchResult (decode_sized text 8) (λ bytes. (r ≡ Ok tt) × (new ≡ bytes)) (λ e. r ≡ Err e) → (r ≡ Ok tt) × (new ≡ id)
-decoded text id r new l o e m =
-    let F : Result (List ℕ) FromHexError → Type 0 = λ d. MatchResult d (λ bytes. (r ≡ Ok tt) × (new ≡ bytes)) (λ e. r ≡ Err e) in
-    subst F (ap (λ (t : List ℕ). decode_sized t 8) e ∙ decode_sized-encode_lower id 8 l (octets_are_bytes id o)) m
-
 -- a number of the first word, which tells the commands' words apart
 abbrev tag : List (List ℕ) → ℕ
 tag [] = 0

@@ -1,13 +1,12 @@
 // The command that words say.
-ghost use Rattle.std.specs.Prelude.{◌≡◌, ◌↔◌, ◌∷◌, [], List, ℕ, length, map, codes, string_bytes, IsTrue, IsErr, IsErrOf, MatchOption, IfOk};
-ghost use Rattle.hex.specs.Hex.{encode_lower};
-ghost use Rattle.mdbox_base.specs.Words.{IsOctets, IsName};
+ghost use Rattle.std.specs.Prelude.{◌∷◌, [], List, ℕ, map, codes, string_bytes, IsErr, IsErrOf, IfOk};
+ghost use Rattle.mdbox_base.specs.Words.{IsName};
 ghost use Rattle.request_text.specs.Commands.{Says, SaysOnly, SayNothing};
 ghost use Rattle.request_text.specs.declared.command.Command.TheVariants as command;
 ghost use Rattle.request_text.specs.declared.words.WordsError.TheVariants as words_error;
 
 use crate::command::Command;
-use mdbox_base::{NoMemory, StoreId, name_of};
+use mdbox_base::{NoMemory, StoreId, name_of, read_lower_hex};
 use std::alloc::Global;
 
 /// Why no command was read.
@@ -65,8 +64,8 @@ fn read_init(word: &[u8]) -> Result<Command, WordsError>
     ensures usage { IsErr result → SayNothing (codes "init" ∷ word.now ∷ []) }
     ensures memory { IsErrOf result words_error.NoMemory → ⊥ }
 {
-    match read_id(word) {
-        Some(id) => Ok(Command::Init { id }),
+    match read_lower_hex(word) {
+        Some(id) => Ok(Command::Init { id: StoreId(id) }),
         None => Err(WordsError::Usage),
     }
 }
@@ -81,32 +80,5 @@ fn read_list(alloc: Global, word: &[u8]) -> Result<Command, WordsError>
         Ok(Some(name)) => Ok(Command::List { name }),
         Ok(None) => Err(WordsError::Usage),
         Err(NoMemory) => Err(WordsError::NoMemory),
-    }
-}
-
-/// The id that 16 lower-case hexadecimal digits name.
-fn read_id(text: &[u8]) -> Option<StoreId>
-    ensures { MatchOption result ((id : List ℕ) → length id ≡ 8 → IsOctets id → text.now ≡ encode_lower id → ⊥) (λ id. (length id.0 ≡ 8) × IsOctets id.0 × (text.now ≡ encode_lower id.0)) }
-{
-    let mut id = [0u8; 8];
-    if let Err(_) = hex::decode_to_slice(text, &mut id) {
-        return None;
-    }
-    if are_digits(text, &id) {
-        Some(StoreId(id))
-    } else {
-        None
-    }
-}
-
-/// Whether a text is the lower-case digits of an id.
-fn are_digits(text: &[u8], id: &[u8; 8]) -> bool
-    ensures are { IsTrue result ↔ (text.now ≡ encode_lower id.now) }
-    ensures octets { IsOctets id.now }
-{
-    let mut digits = [0u8; 16];
-    match hex::encode_to_slice(id.as_slice(), &mut digits) {
-        Ok(()) => digits.as_slice() == text,
-        Err(_) => false,
     }
 }

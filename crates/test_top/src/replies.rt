@@ -1,5 +1,7 @@
 // What is printed of replies.
-use mdbox_base::{FileNo, Flags, Guid, ListRow, MemSink, Octets, Refusal, Reply, Seq, Uid, flags_of};
+use mdbox_base::{
+    FileNo, Flags, Guid, ListRow, MemSink, Octets, Refusal, Reply, Seq, Uid, flags_of,
+};
 use piece_writer::PrintError;
 use request_text::print_reply;
 use std::alloc::Global;

@@ -36,10 +36,7 @@ fn run(
     let words = vec![in alloc; String::from_str(alloc, word)?]?;
     let octets = Octets::of(Vec::from_slice(alloc, octets)?);
     let mut input = MemSource::of(octets, Seq::of(vec![in alloc; fails.input]?));
-    let mut output = MemSink::of(
-        Octets::empty(alloc),
-        Seq::of(vec![in alloc; fails.output]?),
-    );
+    let mut output = MemSink::of(Octets::empty(alloc), Seq::of(vec![in alloc; fails.output]?));
     let mut errors = MemSink::of(Octets::empty(alloc), Seq::empty(alloc));
     let (Status(status), _) = mdbox_run(
         alloc,
@@ -95,13 +92,21 @@ fn help_and_version_read_nothing(rt: HostRuntime) -> Result<(), Fail> {
             input: 1,
             output: 0,
         };
-        assert_eq!(rt; run(rt.alloc(), word, &ROOT_LOG, fails, text, "")?, (0, true), "{word}");
+        assert_eq!(rt;
+            run(rt.alloc(), word, &ROOT_LOG, fails, text, "")?,
+            (0, true),
+            "{word}"
+        );
         let fails = Failing {
             input: 1,
             output: 1,
         };
         let said = "mdbox: write fault\n";
-        assert_eq!(rt; run(rt.alloc(), word, &ROOT_LOG, fails, "", said)?, (8, true), "{word}");
+        assert_eq!(rt;
+            run(rt.alloc(), word, &ROOT_LOG, fails, "", said)?,
+            (8, true),
+            "{word}"
+        );
     }
     Ok(())
 }
