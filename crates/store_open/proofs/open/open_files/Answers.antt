@@ -7,10 +7,10 @@ use Rattle.store_sweep.specs.Repaired.{StandsFound}
 use Rattle.store_open.specs.Parts.{AreParted}
 use Rattle.store_open.specs.declared.parts.Parts.{Parts}
 use Rattle.store_open.specs.Opened.{Opening}
-use Rattle.store_open.proofs.Idle.{stays, has_it, opening}
-use Rattle.store_open.proofs.Checked.{one_each, names_are, all_stand, opens_at, opens_with}
-use Rattle.store_open.proofs.Running.{as_many, indexes_are, opened_store}
-use Rattle.store_open.proofs.Settled.{idle_safe, swept_safe, settled_swept, reads_since, synced_since, names_since, shown}
+use Rattle.store_open.proofs.IdleUnlessLemmas.{stays, has_it, opening}
+use Rattle.store_open.proofs.CheckedLemmas.{one_each, names_are, all_stand, opens_at, opens_with}
+use Rattle.store_open.proofs.OpenStoreLemmas.{as_many, indexes_are, opened_store}
+use Rattle.store_open.proofs.SweptStoreLemmas.{idle_safe, swept_safe, settled_swept, reads_since, synced_since, names_since, shown}
 use Rattle.store_open.proofs.open.open_files.Goals as goal
 
 pub part-requires : goal.part-requires
