@@ -1,2 +1,2 @@
-pub mod Applied
+pub mod BoxAppliedLemmas
 pub mod RowLemmas

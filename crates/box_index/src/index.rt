@@ -63,7 +63,7 @@ impl BoxIndex {
     }
 
     /// UIDs rise and lie below the next one.
-    pub fn in_order(&self)
+    pub fn known_facts(&self)
         ensures { IsInOrder self.now }
     {
         let _ = &self.rows;

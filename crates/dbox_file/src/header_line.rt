@@ -7,8 +7,8 @@ ghost use Rattle.model_storage.specs.StorageFile.{Line, IsField, field_text, IsH
 ghost use Rattle.dbox_file.specs.HeaderFields.{CanEnd, Completes, HasHeaderLine, line_of, IsNextField, IsRunLength};
 
 use mdbox_base::read_hex;
-use model_storage::ScanError;
 use memchr::memchr;
+use model_storage::ScanError;
 
 /// How many octets a header line may have, its LF included.
 const LONGEST: usize = 512;

@@ -28,7 +28,7 @@ pub fn head_text(head: LogHead) -> [u8; 25]
     let mut text = [0; HEAD_SIZE];
     text[..8].copy_from_slice(&MAGIC);
     text[8..16].copy_from_slice(&head.store.0);
-    text[16] = letter_of(head.kind);
+    text[16] = head.kind.letter();
     text[17..21].copy_from_slice(&head.number.to_be_bytes());
     text[21..].copy_from_slice(&head.generation.to_be_bytes());
     text
@@ -59,16 +59,6 @@ fn ranges(store: [u8; 8], number: u32, generation: u32)
     ensures generation { generation < 2 ^ 32 }
 {
     let _octets = store.as_slice();
-}
-
-fn letter_of(kind: LogKind) -> u8
-    ensures { result ≡ kind_letter kind }
-{
-    match kind {
-        LogKind::Root => b'R',
-        LogKind::Map => b'M',
-        LogKind::Box => b'B',
-    }
 }
 
 /// The kind with this letter.

@@ -24,7 +24,7 @@ by_reply : (own : List RunEvent) (ended : Option Reply) (given : Reply) → ende
 by_reply own ended given e h = subst (λ (o : Option Reply). IsRepliedBy own o) (sym e) h
 
 -- an event that isn't refused, and after which the request goes on or is answered
-went_on : (around after : Around) (run : Run) (lists : Lists) (q : Request) (event : RunEvent) (part : EventPart) → Finds around q event → event.refused ≡ None → event.reply ≡ None → next_part around run q (own_events event.request run) ≡ Some event.part
+pub went_on : (around after : Around) (run : Run) (lists : Lists) (q : Request) (event : RunEvent) (part : EventPart) → Finds around q event → event.refused ≡ None → event.reply ≡ None → next_part around run q (own_events event.request run) ≡ Some event.part
     → first_refusal run lists (checks_of run q event) ≡ None → DidPart around run lists q event event.part → behind_event after (and_then run event) q event event.refused ≡ Some part → IsEvent around after run lists q event
 went_on around after run lists q event part parts free unanswered next allowed did behind = record {
   finds = parts;
@@ -45,7 +45,7 @@ went_on around after run lists q event part parts free unanswered next allowed d
     some : (p : EventPart) → Some p ≡ behind_event after (and_then run event) q event event.refused → behind_event after (and_then run event) q event event.refused ≡ None → ⊥
     some p a b = let z : Some p ≡ None = a ∙ b in cc z
 
-answered : (around after : Around) (run : Run) (lists : Lists) (q : Request) (event : RunEvent) (given : Reply) → Finds around q event → event.refused ≡ None → event.reply ≡ Some given → next_part around run q (own_events event.request run) ≡ Some event.part
+pub answered : (around after : Around) (run : Run) (lists : Lists) (q : Request) (event : RunEvent) (given : Reply) → Finds around q event → event.refused ≡ None → event.reply ≡ Some given → next_part around run q (own_events event.request run) ≡ Some event.part
     → first_refusal run lists (checks_of run q event) ≡ None → DidPart around run lists q event event.part → behind_event after (and_then run event) q event event.refused ≡ None → last_refusal (own_events event.request run ++ event ∷ []) ≡ refusal_in given
     → IsEvent around after run lists q event
 answered around after run lists q event given parts free reply_is next allowed did behind by = record {
@@ -114,10 +114,10 @@ refused_on around after run lists q event r part parts is_refused unanswered nex
     some_part : Some part ≡ None → ⊥
     some_part e = cc e
 
-abbrev copying : Request
+abbrev pub copying : Request
 copying = request.Copy inbox (record { 0 = 1 }) inbox
 
-abbrev expunging : Request
+abbrev pub expunging : Request
 expunging = request.Expunge inbox (record { 0 = 1 })
 
 -- a copy whose message is expunged between its two events

@@ -9,5 +9,7 @@ pub mod JournalLemmas
 pub mod LegalLemmas
 pub mod MakesLemmas
 pub mod OwnEventLemmas
+pub mod PurgeExampleLemmas
 pub mod ReachedLemmas
 pub mod RunLemmas
+pub mod ServedExampleLemmas

@@ -1,6 +1,6 @@
 -- Three runs: a delivery and a listing; a copy whose message is expunged between its two events; and two moves of one
 -- message, the second of which finds it gone.
-use Rattle.std.specs.Prelude.{ℕ, true, false, List, [], ◌∷◌, ◌++◌, codes, Some, None}
+use Rattle.std.specs.Prelude.{ℕ, true, false, List, [], ◌∷◌, ◌++◌, codes, Some, None, ◌==◌, if◌then◌else◌}
 use Rattle.mdbox_base.specs.declared.entries.MapEntry.{MapEntry}
 use Rattle.mdbox_base.specs.declared.entries.MapEntry.TheVariants as map
 use Rattle.mdbox_base.specs.declared.entries.BoxEntry.TheVariants as box
@@ -176,22 +176,44 @@ fourth_script = (1, request.Fetch inbox (record { 0 = 1 })) ∷ (2, request.Purg
 abbrev pub switched : MapEntry
 switched = map.P (record { 0 = 1 }) 2 (record { uid = record { 0 = 1 }; offset = 9 } ∷ []) (record { 0 = 2 } ∷ [])
 
+abbrev pub pins_event : RunEvent
+pins_event = record (event_of 1 0 First 0) { pins = record { file = 1; pieces = 1 } ∷ [] }
+
+abbrev pub takes_files_event : RunEvent
+takes_files_event = record (event_of 2 1 First 1) { files = record { file = 1; target = 2 } ∷ []; drew = record no_numbers { file = 1 } }
+
+abbrev pub target_event : RunEvent
+target_event = event_of 2 1 MakesTarget 4
+
+abbrev pub copies_event : RunEvent
+copies_event = record (event_of 2 1 CopiesMessage 6) { copied = 1 ∷ [] }
+
+abbrev pub switches_event : RunEvent
+switches_event = record (event_of 2 1 Switches 10) { map_entries = switched ∷ []; doomed = 1 ∷ [] }
+
+abbrev pub purged_event : RunEvent
+purged_event = record (event_of 2 1 Last 10) { reply = Some (reply.Purged 1 1 0) }
+
+abbrev pub reads_event : RunEvent
+reads_event = event_of 1 0 ReadsPiece 11
+
+abbrev pub unpins_event : RunEvent
+unpins_event = event_of 1 0 Unpins 11
+
+abbrev pub removes_event : RunEvent
+removes_event = record (event_of 1 0 RemovesFile 12) { reply = Some (reply.Fetched hello); removed = 1 ∷ [] }
+
 abbrev pub fourth_run : Run
 fourth_run = record {
   store = example_store;
   start = example_made ∷ stored ∷ stored_two ∷ [];
   opened = record { file = 1; map = 2; instance = 0; mailbox = 1 };
-  events = record (event_of 1 0 First 0) { pins = record { file = 1; pieces = 1 } ∷ [] }
-      ∷ record (event_of 2 1 First 1) { files = record { file = 1; target = 2 } ∷ []; drew = record no_numbers { file = 1 } }
-      ∷ event_of 2 1 MakesTarget 4
-      ∷ record (event_of 2 1 CopiesMessage 6) { copied = 1 ∷ [] }
-      ∷ record (event_of 2 1 Switches 10) { map_entries = switched ∷ []; doomed = 1 ∷ [] }
-      ∷ record (event_of 2 1 Last 10) { reply = Some (reply.Purged 1 1 0) }
-      ∷ event_of 1 0 ReadsPiece 11
-      ∷ event_of 1 0 Unpins 11
-      ∷ record (event_of 1 0 RemovesFile 12) { reply = Some (reply.Fetched hello); removed = 1 ∷ [] }
-      ∷ [];
+  events = pins_event ∷ takes_files_event ∷ target_event ∷ copies_event ∷ switches_event ∷ purged_event ∷ reads_event ∷ unpins_event ∷ removes_event ∷ [];
 }
+
+-- what its events find: the purge takes the one file
+abbrev pub fourth_around : ℕ → Around
+fourth_around n = if n == 1 then record nothing_around { files = 1 ∷ [] } else nothing_around
 
 abbrev pub fourth_journal : List JournalStep
 fourth_journal = record { lane = 1; request = 0; half = Whole; event = 0; answer = reply.Fetched hello; left = lists_saved }

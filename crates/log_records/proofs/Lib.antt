@@ -1,5 +1,5 @@
-pub mod EntrySizes
-pub mod ListItems
-pub mod Numbers
-pub mod Placed
-pub mod StoredEntries
+pub mod EntrySizeLemmas
+pub mod ListItemLemmas
+pub mod NumberTextLemmas
+pub mod PlacedLemmas
+pub mod StoredEntryLemmas

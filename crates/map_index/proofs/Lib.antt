@@ -1,7 +1,7 @@
-pub mod Lists
-pub mod Nearest
-pub mod Pairs
-pub mod Sealed
-pub mod Target
-pub mod Kept
-pub mod Applied
+pub mod DerivedListLemmas
+pub mod MapAppliedLemmas
+pub mod MapOrderLemmas
+pub mod NearestLemmas
+pub mod RisingLemmas
+pub mod SealedFileLemmas
+pub mod TargetLemmas

@@ -5,10 +5,7 @@ ghost use Rattle.mdbox_base.specs.Words.{IsNumber};
 ghost use Rattle.map_index.specs.Shown.{meant_record};
 
 use crate::rows::{Mailbox, MapRow, Record};
-use mdbox_base::{Guid, InstRow};
-
-/// The greatest number of a storage file, a mailbox, a record or a generation.
-const LAST_NUMBER: u32 = 4_294_967_294;
+use mdbox_base::{Guid, InstRow, LAST_NUMBER};
 
 /// Where a region ends at the latest.
 const LAST_END: u64 = 4_294_967_295;

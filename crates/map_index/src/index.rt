@@ -69,7 +69,7 @@ impl MapIndex {
 
     /// Records stand in order of map uid up to the highest, mailboxes in order of number up to the highest, sealed files
     /// in order of number. GUIDs of records and names of mailboxes differ, and there are at most 1,024 mailboxes.
-    pub fn is_kept(&self)
+    pub fn known_facts(&self)
         ensures { IsMapInOrder self.now }
     {
         let _ = &self.records;

@@ -2,8 +2,8 @@
 ghost use Rattle.std.specs.Prelude.{◌≡◌, ◌≤◌, ◌<◌, ◌↔◌, ℕ, length, take, slice_index, ◌+◌, IsNone, IfSome};
 ghost use Rattle.model_mime.specs.Lines.{content, IsLineAt};
 
-use model_mime::Line;
 use memchr::memchr;
+use model_mime::Line;
 
 /// The line that starts at a place, where the text goes on there.
 pub fn next_line(text: &[u8], from: usize) -> Option<Line>

@@ -2,7 +2,10 @@
 use Rattle.std.specs.Prelude.{◌≡◌, ◌≢◌, ◌<◌, ◌≤◌, ◌+◌, ℕ, List, [], ◌∷◌, ◌++◌, length, map, drop, Bool, true, false, Option, Some, None}
 use Rattle.model_mime.specs.declared.mime.Part.{Part}
 use Rattle.model_mime.specs.Lines.{lines_from}
-use Rattle.model_mime.specs.Parts.{Found, found_in, whole_entity}
+use Rattle.model_mime.specs.declared.mime.Coding.{Coding}
+use Rattle.model_mime.specs.declared.mime.Kind.{Kind}
+use Rattle.model_mime.specs.declared.mime.Kind.TheVariants as kinds
+use Rattle.model_mime.specs.Parts.{Found, found_in, whole_entity, is_other}
 use Rattle.model_mime.specs.Parts.Found.{APart}
 use Rattle.mime_parts.specs.ToCome.{to_come, open_found}
 use Rattle.mime_parts.specs.declared.reader.Place.{Place}
@@ -28,14 +31,24 @@ pub record IsRead (message : List ℕ) (s : Reader) (at : ℕ) : Type 0 where
   pub within : at ≤ length message
   pub all : found_parts s.parts.items ++ to_come message 64 s.stack.items s.place s.before (lines_from at (drop at message)) (length message) ≡ found_in message 64 (whole_entity message)
 
+-- the boundary that an entity of this kind opens
+abbrev pub boundary_in : Kind → List (List ℕ)
+boundary_in (kinds.Multipart b) = b ∷ []
+boundary_in _ = []
+
+-- Where the reader stands after a header block that says this: between parts, or in a leaf's body.
+abbrev pub after_head : ℕ → ℕ → Coding → Kind → Place
+after_head start body coding (kinds.Multipart b) = places.Between
+after_head start body coding kind = places.Body start body coding (is_other kind)
+
 -- no multipart and no header block is open
 pub record IsOutsideParts (s : Reader) : Type 0 where
   pub alone : s.stack.items ≡ []
   pub body : (start : ℕ) → s.place ≢ places.Head start
 
 -- From a place on no line changes what is found: it is what would be if the message ended there.
-abbrev pub EndsAs : List ℕ → Reader → ℕ → Type 0
-EndsAs message s at =
+abbrev pub ReadingEndsAs : List ℕ → Reader → ℕ → Type 0
+ReadingEndsAs message s at =
     (levels : ℕ) → levels + length s.stack.items ≡ 64
     → to_come message 64 s.stack.items s.place s.before (lines_from at (drop at message)) (length message) ≡ open_found message levels s.place [] (length message)
 

@@ -1,17 +1,17 @@
 // The reader of a message, line by line, with a stack of boundaries.
-ghost use Rattle.std.specs.Prelude.{◌≡◌, ◌≤◌, ◌<◌, ◌+◌, ◌-◌, ◌==◌, if◌then◌else◌, ℕ, List, [], length, take, Some, None, IfOk, IfSome, IfNone, MatchBool, true, false};
+ghost use Rattle.std.specs.Prelude.{◌≡◌, ◌≤◌, ◌<◌, ◌+◌, ◌-◌, ◌==◌, ◌++◌, if◌then◌else◌, ℕ, List, [], length, take, Some, None, IfOk, OnOk, IfSome, IfNone, MatchBool, true, false};
 ghost use Rattle.std.specs.List.{list_any};
 ghost use Rattle.model_mime.specs.Lines.{range, IsLineAt};
 ghost use Rattle.model_mime.specs.Parts.{ends_part, part_of, trimmed_size, parts_in};
-ghost use Rattle.mime_parts.specs.Marks.{Says, EndsAt};
+ghost use Rattle.mime_parts.specs.Marks.{MarkSays, EndsAt};
 ghost use Rattle.mime_parts.specs.ToCome.{own_end};
 ghost use Rattle.mime_parts.specs.declared.mark.Mark.{Mark};
-ghost use Rattle.mime_parts.specs.Reading.{IsRead, IsOutsideParts, EndsAs, Flushes, Ended};
+ghost use Rattle.mime_parts.specs.Reading.{IsRead, boundary_in, after_head, IsOutsideParts, ReadingEndsAs, Flushes, Ended};
 
 use crate::mark::{Ending, ending_of};
 use mdbox_base::{NoMemory, Seq};
-use model_mime::{Boundary, Coding, Kind, Line, Part};
 use mime_fields::{next_line, read_fields};
+use model_mime::{Boundary, Coding, Fields, Kind, Line, Part};
 use std::alloc::Global;
 
 /// The most entities in one another, counted from the message.
@@ -74,7 +74,7 @@ impl Reader {
     pub fn next_line(&self, message: &[u8], at: usize) -> Option<Line>
         requires read { IsRead message.now self.now at }
         ensures line { IfSome result (λ line. IsLineAt message.now at line) }
-        ensures end { IfNone result (EndsAs message.now self.now at) }
+        ensures end { IfNone result (ReadingEndsAs message.now self.now at) }
     {
         if self.is_settled() {
             return None;
@@ -113,33 +113,32 @@ impl Reader {
     {
         if let Place::Head { start } = self.place {
             if line.start == line.end {
-                let fields = read_fields(&message[start..line.start]);
-                match fields.kind {
-                    Kind::Multipart(boundary) => {
-                        self.stack.push(boundary)?;
-                        self.place = Place::Between;
-                    }
-                    Kind::Other => {
-                        self.place = Place::Body {
-                            start,
-                            body: line.next,
-                            coding: fields.coding,
-                            other: true,
-                        };
-                    }
-                    _ => {
-                        self.place = Place::Body {
-                            start,
-                            body: line.next,
-                            coding: fields.coding,
-                            other: false,
-                        };
-                    }
-                }
+                self.end_head(start, line.next, read_fields(&message[start..line.start]))?;
             }
         }
         self.before = line.end;
         Ok(true)
+    }
+
+    /// Ends the header block that started there and has these fields. Parts follow it, or the body of a leaf.
+    fn end_head(&mut self, start: usize, body: usize, fields: Fields) -> Result<(), NoMemory>
+        ensures stack { OnOk result (self.new.stack.items ≡ self.old.stack.items ++ boundary_in fields.kind) }
+        ensures place { OnOk result (self.new.place ≡ after_head start body fields.coding fields.kind) }
+        ensures parts { self.new.parts.items ≡ self.old.parts.items }
+    {
+        let other = matches!(fields.kind, Kind::Other);
+        if let Kind::Multipart(boundary) = fields.kind {
+            self.stack.push(boundary)?;
+            self.place = Place::Between;
+        } else {
+            self.place = Place::Body {
+                start,
+                body,
+                coding: fields.coding,
+                other,
+            };
+        }
+        Ok(())
     }
 
     /// Takes a delimiter line of the multipart at this place of the stack.
@@ -147,7 +146,7 @@ impl Reader {
         requires small { length message.now ≤ 67108864 }
         requires read { IsRead message.now self.old line.start }
         requires line { IsLineAt message.now line.start line }
-        requires ends { EndsAt self.old.stack.items (range message.now line.start line.end) k (Says Mark.Delimiter) }
+        requires ends { EndsAt self.old.stack.items (range message.now line.start line.end) k (MarkSays Mark.Delimiter) }
         ensures { IfOk result (λ going. MatchBool going (IsRead message.now self.new line.next) (parts_in message.now ≡ [])) }
     {
         let end = self.end_at(k);
@@ -165,7 +164,7 @@ impl Reader {
         requires small { length message.now ≤ 67108864 }
         requires read { IsRead message.now self.old line.start }
         requires line { IsLineAt message.now line.start line }
-        requires ends { EndsAt self.old.stack.items (range message.now line.start line.end) k (Says Mark.Closing) }
+        requires ends { EndsAt self.old.stack.items (range message.now line.start line.end) k (MarkSays Mark.Closing) }
         ensures { IfOk result (λ going. MatchBool going (IsRead message.now self.new line.next) (parts_in message.now ≡ [])) }
     {
         let end = self.end_at(k);

@@ -1,6 +1,10 @@
 -- One entry more in the map log.
-use Rattle.std.specs.Prelude.{◌≡◌, ◌==◌, ℕ, true, false, cond, Bool, List, [], ◌∷◌, ◌++◌, map, find, Option, Some, None, Contains, refl}
-use Rattle.std.proofs.Common.{sym, ◌∙◌, subst, ap, append-nil}
+use Rattle.std.specs.Prelude.{◌≡◌, ◌≤◌, ◌==◌, ℕ, count_by, true, false, cond, Bool, List, [], ◌∷◌, ◌++◌, map, find, Option, Some, None, Contains, refl}
+use Rattle.std.proofs.Common.{sym, ◌∙◌, subst, ap, arith, append-nil}
+use Rattle.std.specs.Str.{bytes_eq}
+use Rattle.std.proofs.lemmas.List.Sums.{sum_by-cons, sum_by-append}
+use Rattle.model_octets.proofs.SearchLemmas.{found_one, text_yes}
+use Rattle.model_store.proofs.OpeningSafeLemmas.{count_is}
 use Rattle.std.proofs.lemmas.List.Elements.{All-contains, All-contains_itself}
 use Rattle.disk_model.specs.Disk.{Files}
 use Rattle.disk_model.specs.declared.name.FileName.{FileName}
@@ -8,9 +12,9 @@ use Rattle.disk_model.specs.declared.name.FileName.TheVariants as file
 use Rattle.model_logs.specs.declared.log_head.LogKind.TheVariants as kind
 use Rattle.mdbox_base.specs.declared.entries.InstRow.{InstRow}
 use Rattle.mdbox_base.specs.declared.entries.MapEntry.{MapEntry}
-use Rattle.model_lists.specs.Lists.{ListedMessage, Mailbox, Lists, empty_mailbox}
+use Rattle.model_lists.specs.Lists.{ListedMessage, Mailbox, Lists, refs_of, empty_mailbox}
 use Rattle.model_meaning.specs.BoxMeaning.{LogRow}
-use Rattle.model_meaning.specs.MapMeaning.{MapRecord, MapBox, MapMeaning, map_meaning, record_at}
+use Rattle.model_meaning.specs.MapMeaning.{MapRecord, MapBox, MapMeaning, map_meaning, record_at, count_of}
 use Rattle.model_meaning.specs.MapFits.{MapFits, HasRecord}
 use Rattle.model_logs.specs.Entries.{map_text, box_text, MapInRange}
 use Rattle.model_meaning.proofs.FitLemmas.{each_more, map_fit_more}
@@ -19,6 +23,7 @@ use Rattle.model_meaning.proofs.MapSoundLemmas.{map_sound}
 use Rattle.model_octets.proofs.PairLemmas.{all_map}
 use Rattle.model_store.specs.Stands.{head_of, HasLog, HasBox, HasMap, StoresMessage, IsListed, AreListed, IsMailbox, AreMailboxes, NamesOwn, NamesAny, StoredOnce, KeepsDetached, StandsBy}
 use Rattle.model_store.proofs.SettledLemmas.{stands_carried}
+use Rattle.model_appends.specs.Amounts.{bit}
 use Rattle.model_appends.specs.Appending.{SameBut, HasOneMore, CarryMore}
 use Rattle.model_appends.specs.MapAppending.{IsMapStep}
 use Rattle.model_appends.proofs.AppendFileLemmas.{message_as, SameButCount, count_back, carry_back, log_more, log_as, mixed, mixed-here, mixed-other, SameStored, map_stored, count_itself, kept_as}
@@ -27,11 +32,17 @@ use Rattle.model_appends.proofs.AppendBoxLemmas.{once_as, detached_as}
 -- ---- the mailboxes, by another meaning of the map
 
 abbrev FoundIn : Files → MapMeaning → MapMeaning → Type 0
-FoundIn a m n = (uid : ℕ) (row : MapRecord) → record_at m uid ≡ Some row → HasRecord n uid (λ other. (other.guid ≡ row.guid) × ((octets : List ℕ) → StoresMessage a row octets → StoresMessage a other octets))
+FoundIn a m n = (uid : ℕ) (row : MapRecord) → record_at m uid ≡ Some row → 1 ≤ row.count → HasRecord n uid (λ other. (other.guid ≡ row.guid) × ((octets : List ℕ) → StoresMessage a row octets → StoresMessage a other octets))
 
-listed_on : (a b : Files) (m n : MapMeaning) (row : LogRow) (x : ListedMessage) → SameStored a b → FoundIn a m n → IsListed a m row x → IsListed b n row x
-listed_on a b m n row x s found h =
-    let f = found row.map_uid h.entry h.found in
+-- a GUID of listed messages is counted
+abbrev AreCovered : MapMeaning → List ListedMessage → Type 0
+AreCovered m xs = (guid : List ℕ) → 1 ≤ count_by (λ y. bytes_eq y.guid guid) xs → 1 ≤ count_of m guid
+
+listed_on : (a b : Files) (m n : MapMeaning) (row : LogRow) (x : ListedMessage) → IsSoundMap m → SameStored a b → FoundIn a m n → 1 ≤ count_of m x.guid → IsListed a m row x → IsListed b n row x
+listed_on a b m n row x sound s found some h =
+    let one = found_one (λ (r : MapRecord). r.uid == row.map_uid) m.records h.entry h.found in
+    let count : count_of m x.guid ≡ h.entry.count = ap (count_of m) (h.guid ∙ sym h.same) ∙ count_is m h.entry sound one.0 in
+    let f = found row.map_uid h.entry h.found (omega (arith, some, count)) in
     record {
       uid = h.uid;
       flags = h.flags;
@@ -44,14 +55,23 @@ listed_on a b m n row x s found h =
       octets = kept_as a b f.0 f.0 x.octets s (count_itself f.0) (f.2.1 x.octets h.octets);
     }
 
-all_listed_on : (a b : Files) (m n : MapMeaning) (rows : List LogRow) (xs : List ListedMessage) → SameStored a b → FoundIn a m n → AreListed a m rows xs → AreListed b n rows xs
-all_listed_on a b m n [] [] s f h = tt
-all_listed_on a b m n [] (x ∷ xs) s f h = absurd h
-all_listed_on a b m n (row ∷ rows) [] s f h = absurd h
-all_listed_on a b m n (row ∷ rows) (x ∷ xs) s f h = (listed_on a b m n row x s f h.0, all_listed_on a b m n rows xs s f h.1)
+covers_first : (m : MapMeaning) (x : ListedMessage) (xs : List ListedMessage) → AreCovered m (x ∷ xs) → 1 ≤ count_of m x.guid
+covers_first m x xs covered =
+    let a = sum_by-cons (λ (y : ListedMessage). cond (bytes_eq y.guid x.guid) 1 0) x xs in
+    let b : bit (bytes_eq x.guid x.guid) ≡ 1 = ap bit (text_yes x.guid x.guid refl) in
+    covered x.guid (omega (arith, a, b))
 
-mailbox_on : (a b : Files) (m n : MapMeaning) (g : ℕ) (box : MapBox) (x : Mailbox) → SameBut (file.Map g) a b → n.store ≡ m.store → FoundIn a m n → IsMailbox a m box x → IsMailbox b n box x
-mailbox_on a b m n g box x s same f h = record {
+covers_rest : (m : MapMeaning) (x : ListedMessage) (xs : List ListedMessage) → AreCovered m (x ∷ xs) → AreCovered m xs
+covers_rest m x xs covered = λ guid some. let a = sum_by-cons (λ (y : ListedMessage). cond (bytes_eq y.guid guid) 1 0) x xs in covered guid (omega (arith, a, some))
+
+all_listed_on : (a b : Files) (m n : MapMeaning) (rows : List LogRow) (xs : List ListedMessage) → IsSoundMap m → SameStored a b → FoundIn a m n → AreCovered m xs → AreListed a m rows xs → AreListed b n rows xs
+all_listed_on a b m n [] [] sound s f c h = tt
+all_listed_on a b m n [] (x ∷ xs) sound s f c h = absurd h
+all_listed_on a b m n (row ∷ rows) [] sound s f c h = absurd h
+all_listed_on a b m n (row ∷ rows) (x ∷ xs) sound s f c h = (listed_on a b m n row x sound s f (covers_first m x xs c) h.0, all_listed_on a b m n rows xs sound s f (covers_rest m x xs c) h.1)
+
+mailbox_on : (a b : Files) (m n : MapMeaning) (g : ℕ) (box : MapBox) (x : Mailbox) → IsSoundMap m → SameBut (file.Map g) a b → n.store ≡ m.store → FoundIn a m n → AreCovered m x.messages → IsMailbox a m box x → IsMailbox b n box x
+mailbox_on a b m n g box x sound s same f c h = record {
   entries = h.entries;
   log = record {
     log = subst (λ (store : List ℕ). HasLog b (file.Box box.number box.generation) (head_of store kind.Box box.number box.generation) (map box_text h.entries)) (sym same) (log_as a b _ _ _ (s (file.Box box.number box.generation) (λ e. absurd (cc e))) h.log.log);
@@ -61,14 +81,34 @@ mailbox_on a b m n g box x s same f h = record {
   number = h.number;
   name = h.name;
   next = h.next;
-  messages = all_listed_on a b m n _ x.messages (map_stored g a b s) f h.messages;
+  messages = all_listed_on a b m n _ x.messages sound (map_stored g a b s) f c h.messages;
 }
 
-mailboxes_on : (a b : Files) (m n : MapMeaning) (g : ℕ) (boxes : List MapBox) (xs : Lists) → SameBut (file.Map g) a b → n.store ≡ m.store → FoundIn a m n → AreMailboxes a m boxes xs → AreMailboxes b n boxes xs
-mailboxes_on a b m n g [] [] s same f h = tt
-mailboxes_on a b m n g [] (x ∷ xs) s same f h = absurd h
-mailboxes_on a b m n g (box ∷ boxes) [] s same f h = absurd h
-mailboxes_on a b m n g (box ∷ boxes) (x ∷ xs) s same f h = (mailbox_on a b m n g box x s same f h.0, mailboxes_on a b m n g boxes xs s same f h.1)
+abbrev RefsCovered : MapMeaning → Lists → Type 0
+RefsCovered m xs = (guid : List ℕ) → 1 ≤ refs_of xs guid → 1 ≤ count_of m guid
+
+covers_box : (m : MapMeaning) (x : Mailbox) (xs : Lists) → RefsCovered m (x ∷ xs) → AreCovered m x.messages
+covers_box m x xs covered = λ guid some. let a = sum_by-cons (λ (o : Mailbox). count_by (λ (y : ListedMessage). bytes_eq y.guid guid) o.messages) x xs in covered guid (omega (arith, a, some))
+
+covers_boxes : (m : MapMeaning) (x : Mailbox) (xs : Lists) → RefsCovered m (x ∷ xs) → RefsCovered m xs
+covers_boxes m x xs covered = λ guid some. let a = sum_by-cons (λ (o : Mailbox). count_by (λ (y : ListedMessage). bytes_eq y.guid guid) o.messages) x xs in covered guid (omega (arith, a, some))
+
+mailboxes_on : (a b : Files) (m n : MapMeaning) (g : ℕ) (boxes : List MapBox) (xs : Lists) → IsSoundMap m → SameBut (file.Map g) a b → n.store ≡ m.store → FoundIn a m n → RefsCovered m xs → AreMailboxes a m boxes xs → AreMailboxes b n boxes xs
+mailboxes_on a b m n g [] [] sound s same f c h = tt
+mailboxes_on a b m n g [] (x ∷ xs) sound s same f c h = absurd h
+mailboxes_on a b m n g (box ∷ boxes) [] sound s same f c h = absurd h
+mailboxes_on a b m n g (box ∷ boxes) (x ∷ xs) sound s same f c h =
+    (mailbox_on a b m n g box x sound s same f (covers_box m x xs c) h.0, mailboxes_on a b m n g boxes xs sound s same f (covers_boxes m x xs c) h.1)
+
+-- references that counts reach
+all_covered : (m : MapMeaning) (xs : Lists) → ((guid : List ℕ) → refs_of xs guid ≤ count_of m guid) → RefsCovered m xs
+all_covered m xs counts = λ guid some. let h = counts guid in omega (arith, h, some)
+
+last_covered : (m : MapMeaning) (xs ys : Lists) → ((guid : List ℕ) → refs_of (xs ++ ys) guid ≤ count_of m guid) → RefsCovered m ys
+last_covered m xs ys counts = λ guid some.
+    let h = counts guid in
+    let a = sum_by-append (λ (o : Mailbox). count_by (λ (y : ListedMessage). bytes_eq y.guid guid) o.messages) xs ys in
+    omega (arith, h, some, a)
 
 mailboxes_append : (b : Files) (n : MapMeaning) (boxes more : List MapBox) (xs ys : Lists) → AreMailboxes b n boxes xs → AreMailboxes b n more ys → AreMailboxes b n (boxes ++ more) (xs ++ ys)
 mailboxes_append b n [] more [] ys h k = k
@@ -78,7 +118,7 @@ mailboxes_append b n (box ∷ boxes) more (x ∷ xs) ys h k = (h.0, mailboxes_ap
 
 -- a meaning finds its own records
 found_itself : (a : Files) (n : MapMeaning) → FoundIn a n n
-found_itself a n uid row h = (row, h, (refl, λ octets k. k))
+found_itself a n uid row h some = (row, h, (refl, λ octets k. k))
 
 -- ---- the map log
 
@@ -96,18 +136,21 @@ map_log_more a b store entries e h in_range fits s more = record {
 -- ---- the law, in place and for files that carry over the rest
 
 in_place : (a b : Files) (store : List ℕ) (entries : List MapEntry) (lists added : Lists) (made : List MapBox) (e : MapEntry) → (s : StandsBy a store entries lists) → MapInRange e → MapFits (map_meaning store entries) e
-    → IsMapStep a (map_meaning store entries) (map_meaning store (entries ++ e ∷ [])) made added → (same : SameBut (file.Map s.map_log.generation) a b) → HasOneMore (map_text e) (a (file.Map s.map_log.generation)) (b (file.Map s.map_log.generation))
+    → IsMapStep a (map_meaning store entries) (map_meaning store (entries ++ e ∷ [])) made added
+    → ((guid : List ℕ) → refs_of lists guid ≤ count_of (map_meaning store entries) guid) → ((guid : List ℕ) → refs_of (lists ++ added) guid ≤ count_of (map_meaning store (entries ++ e ∷ [])) guid)
+    → (same : SameBut (file.Map s.map_log.generation) a b) → HasOneMore (map_text e) (a (file.Map s.map_log.generation)) (b (file.Map s.map_log.generation))
     → StandsBy b store (entries ++ e ∷ []) (lists ++ added)
-in_place a b store entries lists added made e s in_range fits step same more =
+in_place a b store entries lists added made e s in_range fits step before later same more =
     let m : MapMeaning = map_meaning store entries in
     let n : MapMeaning = map_meaning store (entries ++ e ∷ []) in
     let g : ℕ = s.map_log.generation in
     let has : HasMap b store (entries ++ e ∷ []) = map_log_more a b store entries e s.map_log in_range fits same more in
+    let old : IsSoundMap m = map_sound store entries s.map_log.fit s.map_log.in_range in
     let sound : IsSoundMap n = map_sound store (entries ++ e ∷ []) has.fit has.in_range in
     record {
       map_log = has;
       mailboxes = subst (λ (boxes : List MapBox). AreMailboxes b n boxes (lists ++ added)) (sym step.boxes)
-          (mailboxes_append b n m.boxes made lists added (mailboxes_on a b m n g m.boxes lists same refl step.found s.mailboxes) (mailboxes_on a b n n g made added same refl (found_itself a n) step.made_there));
+          (mailboxes_append b n m.boxes made lists added (mailboxes_on a b m n g m.boxes lists old same refl step.found (all_covered m lists before) s.mailboxes) (mailboxes_on a b n n g made added sound same refl (found_itself a n) (last_covered n lists added later) step.made_there));
       one_record = sound.guids;
       once = once_as a b n (map_stored g a b same) step.once;
       detached = detached_as a b n (map_stored g a b same) step.detached;
@@ -117,15 +160,16 @@ in_place a b store entries lists added made e s in_range fits step same more =
 -- lists that the entry gives.
 pub stands_by_map_entry : (a b : Files) (store : List ℕ) (entries : List MapEntry) (lists added : Lists) (made : List MapBox) (e : MapEntry) → (s : StandsBy a store entries lists) → MapInRange e → MapFits (map_meaning store entries) e
     → IsMapStep a (map_meaning store entries) (map_meaning store (entries ++ e ∷ [])) made added
+    → ((guid : List ℕ) → refs_of lists guid ≤ count_of (map_meaning store entries) guid) → ((guid : List ℕ) → refs_of (lists ++ added) guid ≤ count_of (map_meaning store (entries ++ e ∷ [])) guid)
     → CarryMore (file.Map s.map_log.generation) (map_text e) s.map_log.generation (map_meaning store (entries ++ e ∷ [])) a b → StandsBy b store (entries ++ e ∷ []) (lists ++ added)
 unfolding in_place map_log_more
-stands_by_map_entry a b store entries lists added made e s in_range fits step carry =
+stands_by_map_entry a b store entries lists added made e s in_range fits step before later carry =
     let g : ℕ = s.map_log.generation in
     let name : FileName = file.Map g in
     let n : MapMeaning = map_meaning store (entries ++ e ∷ []) in
     let c : Files = mixed name b a in
     let same : SameBut name a c = λ other apart. mixed-other name other b a apart in
-    let t : StandsBy c store (entries ++ e ∷ []) (lists ++ added) = in_place a c store entries lists added made e s in_range fits step same (subst (λ (o : Option (List ℕ)). HasOneMore (map_text e) (a name) o) (sym (mixed-here name b a)) carry.more) in
+    let t : StandsBy c store (entries ++ e ∷ []) (lists ++ added) = in_place a c store entries lists added made e s in_range fits step before later same (subst (λ (o : Option (List ℕ)). HasOneMore (map_text e) (a name) o) (sym (mixed-here name b a)) carry.more) in
     stands_carried c b store (entries ++ e ∷ []) (lists ++ added) t (carry_back g g n a b carry.others)
 
 -- ---- entries that change counts alone
@@ -139,7 +183,7 @@ find_changed f same uid (x ∷ xs) row h =
     by_test true found h rest = let e : Some x ≡ Some row = h in ap (λ (r : MapRecord). Some (f r)) (cc e)
     by_test false found h rest = rest h
 
-contains_map : {X Y : Type 0} → (f : X → Y) (xs : List X) (y : Y) → Contains (map f xs) y → (x : X) × Contains xs x × (f x ≡ y)
+pub contains_map : {X Y : Type 0} → (f : X → Y) (xs : List X) (y : Y) → Contains (map f xs) y → (x : X) × Contains xs x × (f x ≡ y)
 contains_map f xs y c = All-contains (λ y. (x : _) × Contains xs x × (f x ≡ y)) (map f xs) y (all_map (Contains xs) (λ y. (x : _) × Contains xs x × (f x ≡ y)) f (λ a h. (a, h, refl)) xs (All-contains_itself xs)) c
 
 -- a record of the new meaning is an old one but for its count
@@ -179,7 +223,7 @@ counts_step files m n f same records boxes once detached =
     record {
       boxes = boxes ∙ sym (append-nil m.boxes);
       made_there = tt;
-      found = λ uid row h. (f row, ap (find (λ (r : MapRecord). r.uid == uid)) records ∙ find_changed f same uid m.records row h, ((same row).guid, λ octets k. kept_as files files row (f row) octets (same_stored files) (same row) k));
+      found = λ uid row h some. (f row, ap (find (λ (r : MapRecord). r.uid == uid)) records ∙ find_changed f same uid m.records row h, ((same row).guid, λ octets k. kept_as files files row (f row) octets (same_stored files) (same row) k));
       once = once_old files m n old once;
       detached = detached_old files m n old detached;
     }
@@ -198,7 +242,7 @@ pub stored_step : (files : Files) (m n : MapMeaning) (row : MapRecord) → n.rec
 stored_step files m n row records boxes once detached = record {
   boxes = boxes ∙ sym (append-nil m.boxes);
   made_there = tt;
-  found = λ uid old h. (old, ap (find (λ (r : MapRecord). r.uid == uid)) records ∙ find_first (λ (r : MapRecord). r.uid == uid) m.records (row ∷ []) old h, (refl, λ octets k. k));
+  found = λ uid old h some. (old, ap (find (λ (r : MapRecord). r.uid == uid)) records ∙ find_first (λ (r : MapRecord). r.uid == uid) m.records (row ∷ []) old h, (refl, λ octets k. k));
   once = once;
   detached = detached;
 }
@@ -209,7 +253,7 @@ made_step files m n box records boxes store log once detached =
     record {
       boxes = boxes;
       made_there = (record { entries = []; log = subst (λ (id : List ℕ). HasBox files id box []) (sym store) log; number = refl; name = refl; next = refl; messages = tt }, tt);
-      found = λ uid row h. (row, ap (find (λ (r : MapRecord). r.uid == uid)) records ∙ h, (refl, λ octets k. k));
+      found = λ uid row h some. (row, ap (find (λ (r : MapRecord). r.uid == uid)) records ∙ h, (refl, λ octets k. k));
       once = once_old files m n old once;
       detached = detached_old files m n old detached;
     }

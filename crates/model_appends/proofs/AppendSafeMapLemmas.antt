@@ -46,7 +46,7 @@ safe_by_map_entry a b store entries lists added made e s in_range fits step all 
     let c : Files = mixed (file.Map g) b a in
     let same : SameBut (file.Map g) a c = λ other apart. mixed-other (file.Map g) other b a apart in
     record {
-      stands = stands_by_map_entry a b store entries lists added made e s.stands in_range fits step carry;
+      stands = stands_by_map_entry a b store entries lists added made e s.stands in_range fits step s.has_all.counts all.counts carry;
       has_all = has_all_carried g n c b (lists ++ added) (carry_back g g n a b carry.others) (has_all_as a c n (lists ++ added) (lists ++ added) (map_stored g a c same) all.counts all);
     }
 

@@ -5,6 +5,8 @@ pub mod AppendFileLemmas
 pub mod AppendMapLemmas
 pub mod AppendMapOpenLemmas
 pub mod AppendOpenLemmas
+pub mod AppendPurgeLemmas
+pub mod AppendPurgeOpenLemmas
 pub mod AppendSafeLemmas
 pub mod AppendSafeMapLemmas
 pub mod HeldLogLemmas

@@ -1,5 +1,5 @@
 -- What an entry more in the map log leads to.
-use Rattle.std.specs.Prelude.{◌≡◌, ℕ, List, [], ◌∷◌, ◌++◌, map, Some, All}
+use Rattle.std.specs.Prelude.{◌≡◌, ◌≤◌, ◌+◌, ℕ, List, [], ◌∷◌, ◌++◌, length, take, drop, map, Some, All}
 use Rattle.disk_model.specs.Disk.{Files, DiskState, IsImage}
 use Rattle.disk_model.specs.declared.name.FileName.TheVariants as file
 use Rattle.mdbox_base.specs.declared.ids.FileNo.{FileNo}
@@ -8,6 +8,7 @@ use Rattle.mdbox_base.specs.declared.ids.MapUid.{MapUid}
 use Rattle.mdbox_base.specs.declared.entries.BoxEntry.{BoxEntry}
 use Rattle.mdbox_base.specs.declared.entries.InstRow.{InstRow}
 use Rattle.mdbox_base.specs.declared.entries.MapEntry.{MapEntry}
+use Rattle.mdbox_base.specs.declared.entries.MapPlace.{MapPlace}
 use Rattle.mdbox_base.specs.declared.entries.MapEntry.TheVariants as map_entry
 use Rattle.model_lists.specs.Lists.{Lists, empty_mailbox}
 use Rattle.model_logs.specs.Entries.{MapInRange}
@@ -57,12 +58,12 @@ logs_made e logs = logs ++ map (λ box. []) (box_made e)
 -- ---- what an entry needs
 
 -- An entry of the map log changes its meaning from m to n in these files: no mailbox goes, those that it makes are there and
--- stand for these lists; each record that was found is still there, with its GUID, and stores what it stored; each attachment
--- is stored once, and own saves keep detached forms.
+-- stand for these lists; each record that is referred to is still there, with its GUID, and stores what it stored; each
+-- attachment is stored once, and own saves keep detached forms.
 pub record IsMapStep (files : Files) (m n : MapMeaning) (made : List MapBox) (added : Lists) : Type 0 where
   pub boxes : n.boxes ≡ m.boxes ++ made
   pub made_there : AreMailboxes files n made added
-  pub found : (uid : ℕ) (row : MapRecord) → record_at m uid ≡ Some row → HasRecord n uid (λ other. (other.guid ≡ row.guid) × ((octets : List ℕ) → StoresMessage files row octets → StoresMessage files other octets))
+  pub found : (uid : ℕ) (row : MapRecord) → record_at m uid ≡ Some row → 1 ≤ row.count → HasRecord n uid (λ other. (other.guid ≡ row.guid) × ((octets : List ℕ) → StoresMessage files row octets → StoresMessage files other octets))
   pub once : StoredOnce files n
   pub detached : KeepsDetached files n
 
@@ -88,3 +89,24 @@ pub record AddsSynced (disk : DiskState) (e : MapEntry) : Type 0 where
 -- Whatever a crash leaves agrees with what the disk reads on all that a store reads by this meaning.
 abbrev pub LeavesAlike : ℕ → MapMeaning → DiskState → Type 0
 LeavesAlike generation m disk = (image : Files) → IsImage disk image → AreAlike generation m (files_of disk) image
+
+-- ---- the purge
+
+-- A record's region lies in its file, and its octets stand also in this file, from this offset on.
+pub record IsCopiedTo (files : Files) (target offset : ℕ) (row : MapRecord) : Type 0 where
+  pub first : List ℕ
+  pub second : List ℕ
+  pub in_first : files (file.Mail row.file) ≡ Some first
+  pub in_second : files (file.Mail target) ≡ Some second
+  pub first_holds : row.offset + row.size ≤ length first
+  pub second_holds : offset + row.size ≤ length second
+  pub same : take row.size (drop offset second) ≡ take row.size (drop row.offset first)
+
+-- what a purge moves stands in its target, octet for octet
+abbrev pub AreCopied : Files → MapMeaning → ℕ → List MapPlace → Type 0
+AreCopied files m target moved = All (λ place. HasRecord m place.uid.0 (IsCopiedTo files target place.offset)) moved
+
+-- a crash leaves it there as the disk reads it
+abbrev pub AreCopiesSynced : DiskState → MapMeaning → ℕ → List MapPlace → Type 0
+AreCopiesSynced disk m target moved =
+    (image : Files) → IsImage disk image → All (λ place. HasRecord m place.uid.0 (λ row. HasSameRegion (files_of disk) image (record row { file = target; offset = place.offset }))) moved

@@ -1,6 +1,6 @@
-//! Appends to the logs of a store. For each kind of entry but the purge and the new generation: the lists that it gives,
-//! that files with this entry more are safe for them and open, that a crash within the append leaves files that are safe for
-//! the lists before it or behind it, and what it makes of the counts of records.
+//! Appends to the logs of a store. For each kind of entry but the new generation: the lists that it gives, that files with
+//! this entry more are safe for them and open, that a crash within the append leaves files that are safe for the lists before
+//! it or behind it, and what it makes of the counts of records.
 #![tactic(auto)]
 
 pub use appended::{appends_are_safe, appends_settle, crash_within_append};
@@ -10,9 +10,11 @@ pub use kinds::{
 };
 pub use logs::{logs_compare, settled_disks_hold_logs};
 pub use opened::{appends_keep_logs_good, appends_open};
+pub use purged::{purges_can_be_appended, purges_keep_stores_open};
 
 mod appended;
 mod counts;
 mod kinds;
 mod logs;
 mod opened;
+mod purged;

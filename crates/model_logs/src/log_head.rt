@@ -1,4 +1,7 @@
 // The head of a log.
+ghost use Rattle.std.specs.Prelude.{◌≡◌};
+ghost use Rattle.model_logs.specs.LogFile.{kind_letter};
+
 use mdbox_base::StoreId;
 
 /// Which of the store's logs it is.
@@ -7,6 +10,19 @@ pub enum LogKind {
     Root,
     Map,
     Box,
+}
+
+impl LogKind {
+    /// The letter that stands for the kind in a log's head, and in what is printed of a log: R, M or B.
+    pub fn letter(self) -> u8
+        ensures { result ≡ kind_letter self }
+    {
+        match self {
+            LogKind::Root => b'R',
+            LogKind::Map => b'M',
+            LogKind::Box => b'B',
+        }
+    }
 }
 
 /// What a log's head says: its store, its kind, its mailbox number (else 0) and its generation (0 for the root log).

@@ -7,7 +7,7 @@ ghost use Rattle.plain_lists.specs.AtOnce.{IsAlone, AnswersAtOnce};
 
 use crate::lists::{PlainLists, PlainMailbox};
 use crate::walks::{highest_number, place_of_mailbox, place_of_message, references, rows_of};
-use mdbox_base::{BoxNo, Flags, Name, NoMemory, Refusal, Reply, Uid};
+use mdbox_base::{BoxNo, Flags, LAST_NUMBER, Name, NoMemory, Refusal, Reply, Uid};
 use std::alloc::Global;
 
 /// The most mailboxes.
@@ -16,8 +16,6 @@ const MAILBOXES: usize = 1024;
 const MESSAGES: usize = 1_000_000;
 /// The most references to one message.
 const COPIES: usize = 65535;
-/// The greatest number of a mailbox or a message.
-const LAST_NUMBER: u32 = 4_294_967_294;
 
 impl PlainLists {
     /// The rows of a mailbox.

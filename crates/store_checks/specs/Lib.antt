@@ -1,9 +1,9 @@
-pub mod Bare
 pub mod Boxes
 pub mod Checked
-pub mod Folds
+pub mod Dangling
 pub mod Lengths
 pub mod Logs
+pub mod Replays
 pub mod RootId
 pub mod Roots
 pub mod Store

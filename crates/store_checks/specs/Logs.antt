@@ -17,23 +17,23 @@ of_log name log.DiskFault = check.DiskFault
 of_log name log.NoMemory = check.NoMemory
 
 -- The octets are a log of this head, and the text of the record at this place is refused by the value of those before it.
-pub record IsRefusedAt {V : Type 0} (IsFold : V → List (List ℕ) → Type 0) (Refuses : V → List ℕ → Type 0) (value : V) (head : LogHead) (octets : List ℕ) (place : ℕ) : Type 0 where
+pub record IsRefusedAt {V : Type 0} (IsReplay : V → List (List ℕ) → Type 0) (Refuses : V → List ℕ → Type 0) (value : V) (head : LogHead) (octets : List ℕ) (place : ℕ) : Type 0 where
   pub before : List (List ℕ)
   pub bad : List ℕ
   pub behind : List (List ℕ)
   pub whole : IsLog octets head (before ++ bad ∷ behind)
-  pub folded : IsFold value before
+  pub replayed : IsReplay value before
   pub refused : Refuses value bad
   pub is : place ≡ log_end before + 1
 
--- a file is no log of this head whose entries are all taken in
-abbrev pub IsBadFold : {V : Type 0} → (V → List (List ℕ) → Type 0) → (V → List ℕ → Type 0) → V → LogHead → Option (List ℕ) → ℕ → Type 0
-IsBadFold IsFold Refuses value head None place = place ≡ 0
-IsBadFold IsFold Refuses value head (Some octets) place = IsDamagedAt (Some head) octets place ⊎ IsRefusedAt IsFold Refuses value head octets place
+-- a file is no log of this head whose entries can all be replayed
+abbrev pub IsBadReplay : {V : Type 0} → (V → List (List ℕ) → Type 0) → (V → List ℕ → Type 0) → V → LogHead → Option (List ℕ) → ℕ → Type 0
+IsBadReplay IsReplay Refuses value head None place = place ≡ 0
+IsBadReplay IsReplay Refuses value head (Some octets) place = IsDamagedAt (Some head) octets place ⊎ IsRefusedAt IsReplay Refuses value head octets place
 
 -- why a log was not read
 abbrev pub IsLogCause : {V : Type 0} → (V → List (List ℕ) → Type 0) → (V → List ℕ → Type 0) → V → FileName → LogHead → Option History → CheckError → Type 0
-IsLogCause IsFold Refuses value name head old (check.Damaged file place) = (file ≡ name) × IfTold old (λ disk. IsBadFold IsFold Refuses value head (reading (disk name)) place)
-IsLogCause IsFold Refuses value name head old check.NoStore = ⊥
-IsLogCause IsFold Refuses value name head old check.DiskFault = ⊤
-IsLogCause IsFold Refuses value name head old check.NoMemory = ⊤
+IsLogCause IsReplay Refuses value name head old (check.Damaged file place) = (file ≡ name) × IfTold old (λ disk. IsBadReplay IsReplay Refuses value head (reading (disk name)) place)
+IsLogCause IsReplay Refuses value name head old check.NoStore = ⊥
+IsLogCause IsReplay Refuses value name head old check.DiskFault = ⊤
+IsLogCause IsReplay Refuses value name head old check.NoMemory = ⊤

@@ -4,7 +4,7 @@ ghost use Rattle.mdbox_base.specs.declared.entries.BoxEntry.{BoxEntry};
 ghost use Rattle.mdbox_base.specs.declared.entries.MapEntry.{MapEntry};
 ghost use Rattle.mdbox_base.specs.declared.entries.RootEntry.{RootEntry};
 ghost use Rattle.disk_model.specs.Disk.{IsIdle};
-ghost use Rattle.disk_model.specs.FaultCounts.{ReadFaultCounted};
+ghost use Rattle.disk_model.specs.FaultCounts.{NoFault, ReadFaultCounted};
 ghost use Rattle.store_checks.specs.Store.{IsChecked, IsCheckCause};
 
 use crate::counts::are_counted;
@@ -40,6 +40,8 @@ pub fn check_store<D: Disk>(alloc: Global, disk: &mut D) -> Result<Checked, Chec
     ensures refused { IfErr result (IsCheckCause (D.history disk.old)) }
     ensures idle { IsIdle (D.history disk.old) (D.history disk.new) }
     ensures fault { ReadFaultCounted (IsErrOf result CheckError.DiskFault) (D.faults disk.old) (D.faults disk.new) }
+    // A failed read ends the checks.
+    ensures unfailed { (IsErrOf result CheckError.DiskFault → ⊥) → NoFault (D.faults disk.old) (D.faults disk.new) }
 {
     let root = read_root(alloc, disk)?;
     let (map_log, map) = read_map(alloc, disk, root.id, root.generation)?;

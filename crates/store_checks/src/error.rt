@@ -4,6 +4,7 @@ ghost use Rattle.store_checks.specs.Store.{check_error_text};
 ghost use Rattle.store_checks.specs.declared.error.CheckError.TheVariants.{DiskFault, NoMemory};
 
 use disk_model::FileName;
+use gate_log::DiskFault;
 use mdbox_base::NoMemory;
 use std::alloc::AllocError;
 use std::error::Error;
@@ -36,6 +37,14 @@ impl fmt::Display for CheckError {
 }
 
 impl Error for CheckError {}
+
+impl From<DiskFault> for CheckError {
+    ghost from_gives = { λ _ error. error ≡ DiskFault };
+
+    fn from(_error: DiskFault) -> CheckError {
+        CheckError::DiskFault
+    }
+}
 
 impl From<NoMemory> for CheckError {
     ghost from_gives = { λ _ error. error ≡ NoMemory };

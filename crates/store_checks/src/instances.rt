@@ -4,7 +4,7 @@ ghost use Rattle.disk_model.specs.Disk.{IfTold, IsIdle};
 ghost use Rattle.model_store.specs.Settled.{files_of};
 ghost use Rattle.model_store.specs.Safe.{IsThereWhole};
 ghost use Rattle.model_meaning.specs.MapMeaning.{named_instances};
-ghost use Rattle.disk_model.specs.FaultCounts.{ReadFaultCounted};
+ghost use Rattle.disk_model.specs.FaultCounts.{NoFault, ReadFaultCounted};
 ghost use Rattle.store_checks.specs.Lengths.{instance_of, instances_in, IsNamedNoLater, IsInstanceCause};
 
 use crate::error::CheckError;
@@ -45,6 +45,7 @@ pub fn check_instances<D: Disk>(
     ensures refused { IfErr result (IsInstanceCause map.now (D.history disk.old)) }
     ensures idle { IsIdle (D.history disk.old) (D.history disk.new) }
     ensures fault { ReadFaultCounted (IsErrOf result CheckError.DiskFault) (D.faults disk.old) (D.faults disk.new) }
+    ensures unfailed { (IsErrOf result CheckError.DiskFault → ⊥) → NoFault (D.faults disk.old) (D.faults disk.new) }
 {
     let instances = instances_of(alloc, map)?;
     let mut asked = None;
@@ -63,7 +64,7 @@ fn instances_of(alloc: Global, map: &MapIndex) -> Result<Vec<Instance>, NoMemory
     ensures same { IfOk result (λ instances. IsPermutation (instances_in map.now) instances.items) }
     ensures order { IfOk result (λ instances. AllPairs IsNamedNoLater instances.items) }
 {
-    map.is_kept();
+    map.known_facts();
     let mut instances = Vec::new(alloc);
     for place in 0..map.rows() {
         let row = map.row_at(place).unwrap();

@@ -1,8 +1,8 @@
 // Lengths of files.
-ghost use Rattle.std.specs.Prelude.{◌≡◌, length, Some, IfOk, IfErr, IsErr};
+ghost use Rattle.std.specs.Prelude.{◌≡◌, length, Some, IfOk, IfErr, OnOk, IsErr};
 ghost use Rattle.std.specs.Option.{option_map};
 ghost use Rattle.disk_model.specs.Disk.{IfTold, reading, IsIdle};
-ghost use Rattle.disk_model.specs.FaultCounts.{ReadFaultCounted};
+ghost use Rattle.disk_model.specs.FaultCounts.{NoFault, ReadFaultCounted};
 ghost use Rattle.store_checks.specs.Lengths.{IsAsked};
 
 use crate::error::CheckError;
@@ -27,6 +27,7 @@ pub fn length_of<D: Disk>(
     ensures refused { IfErr result (λ error. error ≡ CheckError.DiskFault) }
     ensures idle { IsIdle (D.history disk.old) (D.history disk.new) }
     ensures fault { ReadFaultCounted (IsErr result) (D.faults disk.old) (D.faults disk.new) }
+    ensures unfailed { OnOk result (NoFault (D.faults disk.old) (D.faults disk.new)) }
 {
     if let Some(asked) = last {
         if same_file(asked.name, name) {

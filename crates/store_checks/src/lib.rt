@@ -5,13 +5,12 @@
 pub use check::{Checked, check_store};
 pub use error::CheckError;
 pub use mailbox::CheckedBox;
-pub use no_entry::{ROOT_FRONT, has_no_entry};
+pub use no_entry::has_no_entry;
 
-mod bare;
 mod check;
 mod counts;
+mod dangling;
 mod error;
-mod fold;
 mod instances;
 mod lengths;
 mod log;
@@ -19,4 +18,5 @@ mod mailbox;
 mod map_log;
 mod no_entry;
 mod regions;
+mod replay;
 mod root;

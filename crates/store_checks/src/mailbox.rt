@@ -2,10 +2,10 @@
 ghost use Rattle.std.specs.Prelude.{◌≡◌, List, IfOk, IfErr, IsErrOf};
 ghost use Rattle.mdbox_base.specs.declared.entries.BoxEntry.{BoxEntry};
 ghost use Rattle.disk_model.specs.Disk.{IsIdle};
-ghost use Rattle.disk_model.specs.FaultCounts.{ReadFaultCounted};
+ghost use Rattle.disk_model.specs.FaultCounts.{NoFault, ReadFaultCounted};
 ghost use Rattle.store_checks.specs.Boxes.{IsBoxRead, IsBoxCause, AreRead, IsBoxesCause};
 
-use crate::bare::first_bare;
+use crate::dangling::first_dangling;
 use crate::error::CheckError;
 use crate::log::read_log;
 use box_index::BoxIndex;
@@ -35,6 +35,7 @@ pub fn read_boxes<D: Disk>(
     ensures refused { IfErr result (IsBoxesCause map.now (D.history disk.old)) }
     ensures idle { IsIdle (D.history disk.old) (D.history disk.new) }
     ensures fault { ReadFaultCounted (IsErrOf result CheckError.DiskFault) (D.faults disk.old) (D.faults disk.new) }
+    ensures unfailed { (IsErrOf result CheckError.DiskFault → ⊥) → NoFault (D.faults disk.old) (D.faults disk.new) }
 {
     let mut boxes = Seq::empty(alloc);
     for place in 0..map.boxes() {
@@ -57,6 +58,7 @@ fn read_box<D: Disk>(
     ensures refused { IfErr result (IsBoxCause map.now at (D.history disk.old)) }
     ensures idle { IsIdle (D.history disk.old) (D.history disk.new) }
     ensures fault { ReadFaultCounted (IsErrOf result CheckError.DiskFault) (D.faults disk.old) (D.faults disk.new) }
+    ensures unfailed { (IsErrOf result CheckError.DiskFault → ⊥) → NoFault (D.faults disk.old) (D.faults disk.new) }
 {
     let name = FileName::Box(at.number.0, at.generation);
     let head = LogHead {
@@ -67,7 +69,7 @@ fn read_box<D: Disk>(
     };
     let mut index = BoxIndex::empty(alloc)?;
     let (log, read) = read_log(alloc, disk, name, head, &mut index)?;
-    if let Some(place) = first_bare(map, &index, &read)? {
+    if let Some(place) = first_dangling(map, &index, &read)? {
         return Err(CheckError::Damaged(name, place));
     }
     Ok(CheckedBox { log, index })

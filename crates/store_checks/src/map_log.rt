@@ -3,7 +3,7 @@ ghost use Rattle.std.specs.Prelude.{◌↔◌, List, IsTrue, IfOk, IfErr, IsErrO
 ghost use Rattle.mdbox_base.specs.declared.entries.MapEntry.{MapEntry};
 ghost use Rattle.mdbox_base.specs.Words.{IsNumber};
 ghost use Rattle.disk_model.specs.Disk.{IsIdle};
-ghost use Rattle.disk_model.specs.FaultCounts.{ReadFaultCounted};
+ghost use Rattle.disk_model.specs.FaultCounts.{NoFault, ReadFaultCounted};
 ghost use Rattle.store_checks.specs.Roots.{IsMapRead, IsMapCause};
 
 use crate::error::CheckError;
@@ -26,6 +26,7 @@ pub fn read_map<D: Disk>(
     ensures refused { IfErr result (IsMapCause id.0 generation (D.history disk.old)) }
     ensures idle { IsIdle (D.history disk.old) (D.history disk.new) }
     ensures fault { ReadFaultCounted (IsErrOf result CheckError.DiskFault) (D.faults disk.old) (D.faults disk.new) }
+    ensures unfailed { (IsErrOf result CheckError.DiskFault → ⊥) → NoFault (D.faults disk.old) (D.faults disk.new) }
 {
     let name = FileName::Map(generation);
     if !is_number(generation) {

@@ -3,7 +3,7 @@ ghost use Rattle.std.specs.Prelude.{◌≡◌, ◌↔◌, All, AllPairs, IsPermu
 ghost use Rattle.disk_model.specs.Disk.{IfTold, IsIdle};
 ghost use Rattle.model_store.specs.Settled.{files_of};
 ghost use Rattle.model_store.specs.Safe.{LiesInFile};
-ghost use Rattle.disk_model.specs.FaultCounts.{ReadFaultCounted};
+ghost use Rattle.disk_model.specs.FaultCounts.{NoFault, ReadFaultCounted};
 ghost use Rattle.store_checks.specs.Lengths.{regions_in, EndsWithin, IsNoLater, IsRegionCause};
 
 use crate::error::CheckError;
@@ -40,6 +40,7 @@ pub fn check_regions<D: Disk>(alloc: Global, disk: &mut D, map: &MapIndex) -> Re
     ensures refused { IfErr result (IsRegionCause map.now (D.history disk.old)) }
     ensures idle { IsIdle (D.history disk.old) (D.history disk.new) }
     ensures fault { ReadFaultCounted (IsErrOf result CheckError.DiskFault) (D.faults disk.old) (D.faults disk.new) }
+    ensures unfailed { (IsErrOf result CheckError.DiskFault → ⊥) → NoFault (D.faults disk.old) (D.faults disk.new) }
 {
     let regions = regions_of(alloc, map)?;
     let mut asked = None;

@@ -3,16 +3,16 @@ ghost use Rattle.std.specs.Prelude.{◌≡◌, List, IfOk, IfErr, IsErrOf};
 ghost use Rattle.disk_model.specs.Disk.{IfTold, IsIdle};
 ghost use Rattle.mdbox_base.specs.declared.entries.RootEntry.{RootEntry};
 ghost use Rattle.model_store.specs.Settled.{files_of};
-ghost use Rattle.disk_model.specs.FaultCounts.{ReadFaultCounted};
+ghost use Rattle.disk_model.specs.FaultCounts.{NoFault, ReadFaultCounted};
 ghost use Rattle.store_checks.specs.Roots.{HasId, IsRootRead, IsRootCause};
 ghost use Rattle.store_checks.specs.RootId.{IsIdCause};
 
 use crate::error::CheckError;
-use crate::fold::RootFold;
 use crate::log::read_log;
-use crate::no_entry::{ROOT_FRONT, has_no_entry};
-use disk_model::{Disk, DiskError, FileName};
-use gate_log::FoundLog;
+use crate::no_entry::has_no_entry;
+use crate::replay::RootReplay;
+use disk_model::{Disk, FileName};
+use gate_log::{FoundLog, id_in, peek_head};
 use mdbox_base::StoreId;
 use model_logs::{LogHead, LogKind};
 use std::alloc::Global;
@@ -31,6 +31,7 @@ pub fn read_root<D: Disk>(alloc: Global, disk: &mut D) -> Result<Root, CheckErro
     ensures refused { IfErr result (IsRootCause (D.history disk.old)) }
     ensures idle { IsIdle (D.history disk.old) (D.history disk.new) }
     ensures fault { ReadFaultCounted (IsErrOf result CheckError.DiskFault) (D.faults disk.old) (D.faults disk.new) }
+    ensures unfailed { (IsErrOf result CheckError.DiskFault → ⊥) → NoFault (D.faults disk.old) (D.faults disk.new) }
 {
     let id = root_id(alloc, disk)?;
     let head = LogHead {
@@ -39,7 +40,7 @@ pub fn read_root<D: Disk>(alloc: Global, disk: &mut D) -> Result<Root, CheckErro
         number: 0,
         generation: 0,
     };
-    let mut root = RootFold { last: None };
+    let mut root = RootReplay { last: None };
     let (log, _) = read_log(alloc, disk, FileName::Root, head, &mut root)?;
     match root.last {
         Some(generation) => Ok(Root {
@@ -57,17 +58,13 @@ fn root_id<D: Disk>(alloc: Global, disk: &mut D) -> Result<StoreId, CheckError>
     ensures refused { IfErr result (IsIdCause (D.history disk.old)) }
     ensures idle { IsIdle (D.history disk.old) (D.history disk.new) }
     ensures fault { ReadFaultCounted (IsErrOf result CheckError.DiskFault) (D.faults disk.old) (D.faults disk.new) }
+    ensures unfailed { (IsErrOf result CheckError.DiskFault → ⊥) → NoFault (D.faults disk.old) (D.faults disk.new) }
 {
-    let mut front = [0; ROOT_FRONT];
-    let count = match disk.read_at(FileName::Root, 0, &mut front) {
-        Ok(count) => count,
-        Err(DiskError::Absent) => return Err(CheckError::NoStore),
-        Err(DiskError::Failed) => return Err(CheckError::DiskFault),
+    let Some(front) = peek_head(disk, FileName::Root)? else {
+        return Err(CheckError::NoStore);
     };
-    if has_no_entry(alloc, &front[..count])? {
+    if has_no_entry(alloc, &front)? {
         return Err(CheckError::NoStore);
     }
-    let mut id = [0; 8];
-    id.copy_from_slice(&front[8..16]);
-    Ok(StoreId(id))
+    Ok(id_in(&front))
 }

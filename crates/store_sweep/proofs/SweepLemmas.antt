@@ -12,7 +12,7 @@ use Rattle.disk_model.proofs.MomentLemmas.{each_image-map}
 use Rattle.model_lists.specs.Lists.{Lists}
 use Rattle.model_store.specs.Safe.{Safe}
 use Rattle.model_meaning.specs.MapMeaning.{MapRecord, MapMeaning}
-use Rattle.model_store.specs.Settled.{files_of, IsSameRegion, IsSettled}
+use Rattle.model_store.specs.Settled.{files_of, IsSameRegion, IsSettled, IsSettledFor}
 use Rattle.model_store.specs.Carrying.{CarryOver}
 use Rattle.model_store.proofs.CarryingLemmas.{each_name}
 use Rattle.gate_log.specs.State.{LogState, InspectedLog}
@@ -33,8 +33,8 @@ ReadsImage disk = IsImage disk (λ name. reading (disk name))
 
 -- ---- at every moment
 
-pub safe_images : (g : ℕ) (m : MapMeaning) (lists : Lists) (old new : Option History) → IfTold old ReadsImage → IfTold old (OpensWith g m) → ImagesCarry g m old new → IfTold old (λ disk. IsSettled disk lists) → EachImage (λ _ image. Safe image lists) old new
-safe_images g m lists None new image opens images s = images (λ name. None) tt
+pub safe_images : (g : ℕ) (m : MapMeaning) (lists : Lists) (old new : Option History) → IfTold old ReadsImage → IfTold old (OpensWith g m) → ImagesCarry g m old new → IsSettledFor lists old → EachImage (λ _ image. Safe image lists) old new
+safe_images g m lists None new image opens images s = absurd s
 safe_images g m lists (Some old) new image opens images s =
     each_image-map (λ _ left. CarryOver g m (files_of old.now) left) (λ _ left. Safe left lists) (Some old) new
     (λ moment left carry. carried_safe g m old.now lists left opens s carry) (images (files_of old.now) (held_opened g m old.now lists opens image s))
@@ -45,9 +45,9 @@ untold : (g : ℕ) (m : MapMeaning) (new : Option History) → ImagesCarry g m N
 untold g m new images = images (λ name. None) tt
 
 pub settled_after : (g : ℕ) (m : MapMeaning) (lists : Lists) (old new : Option History) → IfTold old ReadsImage → IfTold old (OpensWith g m) → ImagesCarry g m old new → KeepsStore g m old new
-    → IfTold old (λ disk. IsSettled disk lists) → IfTold new (λ disk. IsSettled disk lists)
-settled_after g m lists None new image opens images keeps s = subst (λ (h : Option History). IfTold h (λ disk. IsSettled disk lists)) (sym (untold g m new images)) tt
-settled_after g m lists (Some old) None image opens images keeps s = tt
+    → IsSettledFor lists old → IsSettledFor lists new
+settled_after g m lists None new image opens images keeps s = absurd s
+settled_after g m lists (Some old) None image opens images keeps s = absurd (keeps.told tt)
 settled_after g m lists (Some old) (Some new) image opens images keeps s =
     still_settled g m old.now new.now lists opens s (keeps.holds (files_of old.now) (held_opened g m old.now lists opens image s)) (keeps.reads (files_of old.now) (reads_opened g m old.now opens))
 

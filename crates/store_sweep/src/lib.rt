@@ -9,6 +9,4 @@ mod error;
 mod repairs;
 mod strays;
 mod swept;
-#[cfg(test)]
-mod tests;
 mod wanted;

@@ -31,7 +31,7 @@ pub fn repair_boxes<D: Disk>(
     ensures fault { ChangeFaultCounted (IsErr result) (D.faults disk.old) (D.faults disk.new) }
     ensures unfailed { OnOk result (NoFault (D.faults disk.old) (D.faults disk.new)) }
 {
-    map.is_kept();
+    map.known_facts();
     for log in found {
         let log = log.repair(alloc, disk)?;
         push_log(opened, log);

@@ -22,10 +22,16 @@ fn each_call_once(rt: HostRuntime) -> Result<(), Fail> {
     let mut disk = MemDisk::fresh(rt.alloc())?;
     put_file(&mut disk, FileName::Mail(7), b"abc")?;
     disk.cut(FileName::Mail(7), 2)?;
-    assert_eq!(rt; file_octets(rt.alloc(), &mut disk, FileName::Mail(7))?.as_slice(), b"ab".as_slice());
+    assert_eq!(rt;
+        file_octets(rt.alloc(), &mut disk, FileName::Mail(7))?.as_slice(),
+        b"ab".as_slice()
+    );
     disk.make(FileName::Box(1, 2))?;
     disk.sync_names()?;
-    assert_eq!(rt; disk.next_name(Some(FileName::Box(1, 2))), Ok(Some(FileName::Mail(7))));
+    assert_eq!(rt;
+        disk.next_name(Some(FileName::Box(1, 2))),
+        Ok(Some(FileName::Mail(7)))
+    );
     disk.remove(FileName::Mail(7))?;
     assert_eq!(rt; disk.length(FileName::Mail(7)), Err(DiskError::Absent));
     assert_eq!(rt; disk.starved(), 0);
@@ -65,7 +71,10 @@ fn listed_calls_fail(rt: HostRuntime) -> Result<(), Fail> {
         } else {
             fresh.failing(numbers)
         };
-        assert_eq!(rt; put_unsynced(&mut disk, FileName::Root, b"abc").is_ok(), is_put);
+        assert_eq!(rt;
+            put_unsynced(&mut disk, FileName::Root, b"abc").is_ok(),
+            is_put
+        );
         assert_eq!(rt; disk.sync_names().is_err(), !is_write && number == 3);
         assert_eq!(rt; disk.length(FileName::Root), length);
         assert_eq!(rt; disk.starved(), 0);

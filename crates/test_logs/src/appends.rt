@@ -9,8 +9,8 @@ use gate_log::{DiskFault, GateLog, create_log, open_log};
 use mdbox_base::Seq;
 use std::alloc::Global;
 use std::test::Fail;
-use test_stores::{ROOT_HEAD, each_crash, file_octets, log_octets};
 use test_stores::entries::NAMES_MAP_LOG;
+use test_stores::{ROOT_HEAD, each_crash, file_octets, log_octets};
 
 const NAME: FileName = FileName::Root;
 

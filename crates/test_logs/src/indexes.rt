@@ -35,7 +35,10 @@ fn a_mailbox_follows_its_log(rt: HostRuntime) -> Result<(), Fail> {
     for entry in [
         added(1),
         added(4),
-        BoxEntry::F { uid: Uid(4), flags: 8 },
+        BoxEntry::F {
+            uid: Uid(4),
+            flags: 8,
+        },
         BoxEntry::R { uid: Uid(1) },
     ] {
         take_in(&mut index, &entry, &rt);
@@ -99,13 +102,23 @@ fn one_message(alloc: Global, rt: &impl Abort) -> Result<MapIndex, Fail> {
 fn a_map_finds_what_was_stored(rt: HostRuntime) -> Result<(), Fail> {
     let index = one_message(rt.alloc(), &rt)?;
     let row = index.row(MapUid(1)).ok_or("no record")?;
-    assert_eq!(rt; (row.uid, row.count, row.offset, row.size), (MapUid(1), 1, 16, 89));
-    for found in [index.row_of(GUID), index.row_at(0), index.in_file(FileNo(1), 16)] {
+    assert_eq!(rt;
+        (row.uid, row.count, row.offset, row.size),
+        (MapUid(1), 1, 16, 89)
+    );
+    for found in [
+        index.row_of(GUID),
+        index.row_at(0),
+        index.in_file(FileNo(1), 16),
+    ] {
         assert_eq!(rt; found, Some(row));
     }
     assert_eq!(rt; index.in_file(FileNo(1), 17), None);
     assert_eq!(rt; (index.rows(), index.count_of(GUID)), (1, 1));
-    assert_eq!(rt; index.instances(MapUid(1)).map(|named| named.length()), Some(1));
+    assert_eq!(rt;
+        index.instances(MapUid(1)).map(|named| named.length()),
+        Some(1)
+    );
     assert!(rt; index.is_instance_named(InstId([7; 16])));
     assert!(rt; index.names_file(Hash([5; 20]), InstId([7; 16])));
     assert!(rt; !index.names_file(Hash([6; 20]), InstId([7; 16])));

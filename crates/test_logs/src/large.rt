@@ -3,8 +3,8 @@ use disk_mem::MemDisk;
 use disk_model::{Disk, FileName};
 use gate_log::{create_log, open_log, read_log};
 use std::test::Fail;
-use test_stores::{BOX_HEAD, MAP_HEAD, log_octets, put_file};
 use test_stores::entries::RAISES_FIRST;
+use test_stores::{BOX_HEAD, MAP_HEAD, log_octets, put_file};
 
 #[test]
 fn an_append_of_a_million_octets(rt: HostRuntime) -> Result<(), Fail> {

@@ -26,8 +26,19 @@ const OF_MAILBOX: [(BoxEntry, &[u8]); 4] = [
         ADDS_FIRST,
     ),
     (BoxEntry::N { next: 2 }, b"N\0\0\0\x02"),
-    (BoxEntry::F { uid: Uid(1), flags: 8 }, FLAGS_FIRST),
-    (BoxEntry::R { uid: Uid(0x0102_0304) }, b"R\x01\x02\x03\x04"),
+    (
+        BoxEntry::F {
+            uid: Uid(1),
+            flags: 8,
+        },
+        FLAGS_FIRST,
+    ),
+    (
+        BoxEntry::R {
+            uid: Uid(0x0102_0304),
+        },
+        b"R\x01\x02\x03\x04",
+    ),
 ];
 
 /// Entries of a map log, of each form.

@@ -2,8 +2,8 @@
 use gate_log::{LogError, read_log};
 use std::alloc::Global;
 use std::test::Fail;
-use test_stores::{BOX_HEAD, ROOT_HEAD, log_octets};
 use test_stores::entries::NAMES_MAP_LOG;
+use test_stores::{BOX_HEAD, ROOT_HEAD, log_octets};
 
 /// A root log with one entry of 5 octets.
 const ROOT_LOG: [u8; 36] = [
@@ -25,7 +25,10 @@ fn a_log_with_one_entry(rt: HostRuntime) -> Result<(), Fail> {
     assert_eq!(rt; read.head, ROOT_HEAD);
     assert_eq!(rt; read.places.as_slice(), [26].as_slice());
     assert_eq!(rt; read.end, 35);
-    assert_eq!(rt; read.entries.at(0).map(|entry| entry.as_slice()), Some(NAMES_MAP_LOG));
+    assert_eq!(rt;
+        read.entries.at(0).map(|entry| entry.as_slice()),
+        Some(NAMES_MAP_LOG)
+    );
     Ok(())
 }
 

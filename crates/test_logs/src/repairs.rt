@@ -3,8 +3,8 @@ use disk_mem::MemDisk;
 use disk_model::{Disk, FileName};
 use gate_log::inspect_log;
 use std::test::Fail;
-use test_stores::{ROOT_HEAD, file_octets, log_octets, put_unsynced};
 use test_stores::entries::NAMES_MAP_LOG;
+use test_stores::{ROOT_HEAD, file_octets, log_octets, put_unsynced};
 
 const NAME: FileName = FileName::Root;
 

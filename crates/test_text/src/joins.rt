@@ -48,20 +48,70 @@ fn with_one(
 }
 
 /// A body, the size of its whole, a reference with the text of its instance, and the whole or what is wrong.
-type Row = (&'static [u8], u64, ExtRef, &'static [u8], Result<&'static [u8], JoinError>);
+type Row = (
+    &'static [u8],
+    u64,
+    ExtRef,
+    &'static [u8],
+    Result<&'static [u8], JoinError>,
+);
 
 #[test]
 fn bodies_with_one_reference(rt: HostRuntime) -> Result<(), Fail> {
     let good = reference(1, 3, None);
     let rows: [Row; 8] = [
         (b"ab", 5, good, b"xyz", Ok(b"axyzb")),
-        (b"ab", 11, reference(2, 9, Some(FORM)), b"foob", Ok(b"abZm9v\nYg==")),
-        (b"ab", 6, good, b"xyz", Err(JoinError::SizeDiffers { kept: 6, found: 5 })),
-        (b"ab", 9, reference(3, 3, None), b"xyz", Err(JoinError::RangeBad(0))),
-        (b"ab", 6, reference(3, u32::MAX, None), b"xyz", Err(JoinError::RangeBad(0))),
+        (
+            b"ab",
+            11,
+            reference(2, 9, Some(FORM)),
+            b"foob",
+            Ok(b"abZm9v\nYg=="),
+        ),
+        (
+            b"ab",
+            6,
+            good,
+            b"xyz",
+            Err(JoinError::SizeDiffers { kept: 6, found: 5 }),
+        ),
+        (
+            b"ab",
+            9,
+            reference(3, 3, None),
+            b"xyz",
+            Err(JoinError::RangeBad(0)),
+        ),
+        (
+            b"ab",
+            6,
+            reference(3, u32::MAX, None),
+            b"xyz",
+            Err(JoinError::RangeBad(0)),
+        ),
         (b"\x1f\x8b", 9, good, b"xyz", Err(JoinError::Compressed)),
-        (b"ab", 5, good, b"xy", Err(JoinError::InstanceDiffers { index: 0, kept: 3, found: 2 })),
-        (b"ab", 5, reference(1, 3, Some(FORM)), b"xyz", Err(JoinError::InstanceDiffers { index: 0, kept: 3, found: 4 })),
+        (
+            b"ab",
+            5,
+            good,
+            b"xy",
+            Err(JoinError::InstanceDiffers {
+                index: 0,
+                kept: 3,
+                found: 2,
+            }),
+        ),
+        (
+            b"ab",
+            5,
+            reference(1, 3, Some(FORM)),
+            b"xyz",
+            Err(JoinError::InstanceDiffers {
+                index: 0,
+                kept: 3,
+                found: 4,
+            }),
+        ),
     ];
     for (body, whole, reference, text, expected) in rows {
         match with_one(rt.alloc(), body, whole, reference, text) {
@@ -78,9 +128,8 @@ fn ranges_that_overlap(rt: HostRuntime) -> Result<(), Fail> {
     refs.push(reference(0, 3, None))?;
     refs.push(reference(2, 3, None))?;
     let mut instances = Seq::empty(rt.alloc());
-    for _ in 0..2 {
-        instances.push(octets(rt.alloc(), b"xyz")?)?;
-    }
+    instances.push(octets(rt.alloc(), b"xyz")?)?;
+    instances.push(octets(rt.alloc(), b"xyz")?)?;
     let outcome = rejoin(rt.alloc(), b"ab", 8, &refs, &instances);
     assert!(rt; outcome.err() == Some(JoinError::RangeBad(1)));
     Ok(())

@@ -19,5 +19,5 @@ laid (a ∷ b ∷ c ∷ d ∷ e' ∷ f ∷ g ∷ h ∷ i ∷ rest) kind n0 n1 n2
 
 pub returns : goal.returns
 unfolding head_octets
-returns c = rw (c.copy_from_slice.ensures.after, c.copy_from_slice-2.ensures.after, c.letter_of.ensures, c.copy_from_slice-3.ensures.after, c.copy_from_slice-4.ensures.after, c.to_be_bytes.ensures, c.to_be_bytes-2.ensures)
+returns c = rw (c.copy_from_slice.ensures.after, c.copy_from_slice-2.ensures.after, c.letter.ensures, c.copy_from_slice-3.ensures.after, c.copy_from_slice-4.ensures.after, c.to_be_bytes.ensures, c.to_be_bytes-2.ensures)
     (laid c.args.head.store.0 _ _ _ _ _ _ _ _ _ c.fits.ensures.store)

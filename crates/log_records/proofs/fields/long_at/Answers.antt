@@ -1,5 +1,5 @@
 use Rattle.std.proofs.Common.{arith}
-use Rattle.log_records.proofs.Numbers.{long_front}
+use Rattle.log_records.proofs.NumberTextLemmas.{long_front}
 use Rattle.log_records.proofs.fields.long_at.Goals as goal
 
 pub returns : goal.returns

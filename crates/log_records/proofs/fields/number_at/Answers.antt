@@ -1,5 +1,5 @@
 use Rattle.std.proofs.Common.{arith}
-use Rattle.log_records.proofs.Numbers.{number_front}
+use Rattle.log_records.proofs.NumberTextLemmas.{number_front}
 use Rattle.log_records.proofs.fields.number_at.Goals as goal
 
 pub returns : goal.returns

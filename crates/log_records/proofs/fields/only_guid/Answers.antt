@@ -1,6 +1,6 @@
 use Rattle.std.proofs.Common.{sym}
 use Rattle.std.proofs.lemmas.Bool.{eqb-true}
-use Rattle.log_records.proofs.Numbers.{whole}
+use Rattle.log_records.proofs.NumberTextLemmas.{whole}
 use Rattle.log_records.proofs.fields.only_guid.Goals as goal
 
 pub returns-then-is_empty : goal.returns-then-is_empty

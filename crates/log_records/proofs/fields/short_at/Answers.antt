@@ -1,5 +1,5 @@
 use Rattle.std.proofs.Common.{arith}
-use Rattle.log_records.proofs.Numbers.{short_front}
+use Rattle.log_records.proofs.NumberTextLemmas.{short_front}
 use Rattle.log_records.proofs.fields.short_at.Goals as goal
 
 pub returns : goal.returns

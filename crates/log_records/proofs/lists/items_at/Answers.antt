@@ -1,4 +1,4 @@
-use Rattle.log_records.proofs.ListItems.{too_short}
+use Rattle.log_records.proofs.ListItemLemmas.{too_short}
 use Rattle.std.proofs.Common.{◌<◌, length, arith}
 use Rattle.log_records.proofs.lists.items_at.Goals as goal
 

@@ -1,6 +1,6 @@
 use Rattle.std.proofs.Common.{◌<◌, ◌^◌, arith, rules}
 use Rattle.std.proofs.lemmas.Result.{IfOk-weaker}
-use Rattle.log_records.proofs.ListItems.{match_weaker, list_short, list_whole}
+use Rattle.log_records.proofs.ListItemLemmas.{match_weaker, list_short, list_whole}
 use Rattle.log_records.proofs.lists.list_at.Goals as goal
 
 pub returns : goal.returns

@@ -1,6 +1,6 @@
 use Rattle.std.proofs.Common.{◌<◌, ◌≤◌, ◌^◌, length, rules}
 use Rattle.model_logs.specs.Entries.{instance_row_text, RowInRange}
-use Rattle.log_records.proofs.ListItems.{none_of, some_of, items_short, items_over, row_sized}
+use Rattle.log_records.proofs.ListItemLemmas.{none_of, some_of, items_short, items_over, row_sized}
 use Rattle.log_records.proofs.lists.only_instances.Goals as goal
 
 pub returns-in_default-2 : goal.returns-in_default-2

@@ -1,5 +1,5 @@
 use Rattle.std.proofs.Common.{◌≡◌, ◌≤◌, [], length, sym, ◌∙◌, append-nil, rules}
-use Rattle.log_records.proofs.ListItems.{none_of, some_of, list_over, ends}
+use Rattle.log_records.proofs.ListItemLemmas.{none_of, some_of, list_over, ends}
 use Rattle.log_records.proofs.lists.only_list.Goals as goal
 
 pub returns-in_default : goal.returns-in_default

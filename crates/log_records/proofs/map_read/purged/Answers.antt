@@ -2,7 +2,7 @@ use Rattle.std.proofs.Common.{◌<◌, ◌^◌, ◌++◌, sym, ◌∙◌, refl, 
 use Rattle.mdbox_base.specs.declared.entries.MapPlace.{MapPlace}
 use Rattle.model_logs.specs.Entries.{four}
 use Rattle.model_octets.proofs.NumberLemmas.{next_four}
-use Rattle.log_records.proofs.ListItems.{none_of, some_of, list_rest}
+use Rattle.log_records.proofs.ListItemLemmas.{none_of, some_of, list_rest}
 use Rattle.log_records.proofs.map_read.purged.Goals as goal
 
 pub returns-in_default-3 : goal.returns-in_default-3

@@ -1,6 +1,6 @@
 use Rattle.std.proofs.Common.{rules}
 use Rattle.std.proofs.lemmas.Result.{IfOk-weaker}
-use Rattle.log_records.proofs.StoredEntries.{letter_front, stored_or_not}
+use Rattle.log_records.proofs.StoredEntryLemmas.{letter_front, stored_or_not}
 use Rattle.log_records.proofs.map_read.read_map_entry.Goals as goal
 
 pub returns-in-83 : goal.returns-in-83

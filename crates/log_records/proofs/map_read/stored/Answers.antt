@@ -3,7 +3,7 @@ use Rattle.std.specs.Int.{w16, to_be_bytes}
 use Rattle.model_logs.specs.Entries.{four}
 use Rattle.model_octets.proofs.PiecesLemmas.{split_same}
 use Rattle.log_records.specs.Stored.{stored_text}
-use Rattle.log_records.proofs.ListItems.{none_of, some_of}
+use Rattle.log_records.proofs.ListItemLemmas.{none_of, some_of}
 use Rattle.log_records.proofs.map_read.stored.Goals as goal
 
 pub returns-in_default-2 : goal.returns-in_default-2

@@ -1,5 +1,5 @@
 use Rattle.std.proofs.Common.{arith}
-use Rattle.log_records.proofs.EntrySizes.{stored_size, lowered_size, counted_size, purged_size}
+use Rattle.log_records.proofs.EntrySizeLemmas.{stored_size, lowered_size, counted_size, purged_size}
 use Rattle.log_records.proofs.map_write.map_entry_size.Goals as goal
 
 pub returns-in-S : goal.returns-in-S

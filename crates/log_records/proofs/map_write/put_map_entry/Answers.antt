@@ -1,5 +1,5 @@
 use Rattle.std.proofs.Common.{length, ap, arith}
-use Rattle.log_records.proofs.EntrySizes.{lowered_size, counted_size, purged_size}
+use Rattle.log_records.proofs.EntrySizeLemmas.{lowered_size, counted_size, purged_size}
 use Rattle.log_records.proofs.map_write.put_map_entry.Goals as goal
 
 pub put_list_entry-requires-clause-size : goal.put_list_entry-requires-clause-size

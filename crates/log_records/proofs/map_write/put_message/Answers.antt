@@ -1,6 +1,6 @@
 use Rattle.std.proofs.Common.{◌∙◌, ◌≤◌, length, ap, sym, arith}
 use Rattle.model_logs.specs.Entries.{map_text}
-use Rattle.log_records.proofs.EntrySizes.{stored_size, stored_filled}
+use Rattle.log_records.proofs.EntrySizeLemmas.{stored_size, stored_filled}
 use Rattle.log_records.proofs.map_write.put_message.Goals as goal
 
 pub put_instances-requires-clause-room : goal.put_instances-requires-clause-room

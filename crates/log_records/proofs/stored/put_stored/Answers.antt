@@ -1,5 +1,5 @@
 use Rattle.std.proofs.Common.{refl, ◌∷◌, []}
-use Rattle.log_records.proofs.Placed.{seven}
+use Rattle.log_records.proofs.PlacedLemmas.{seven}
 use Rattle.log_records.proofs.stored.put_stored.Goals as goal
 
 pub returns-clause-front : goal.returns-clause-front

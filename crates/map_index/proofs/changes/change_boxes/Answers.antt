@@ -2,7 +2,7 @@ use Rattle.std.proofs.Common.{◌≡◌, ◌∙◌, sym, ap, map, ◌++◌, ◌�
 use Rattle.std.proofs.lemmas.List.{map_push}
 use Rattle.model_meaning.proofs.AppliedLemmas.{boxes_by_mailbox, boxes_by_generation}
 use Rattle.map_index.specs.Shown.{box_of}
-use Rattle.map_index.proofs.Applied.{boxes_stay}
+use Rattle.map_index.proofs.MapAppliedLemmas.{boxes_stay}
 use Rattle.map_index.proofs.changes.change_boxes.Goals as goal
 
 pub returns-in_ok-push-in-B-clause-ok : goal.returns-in_ok-push-in-B-clause-ok

@@ -5,7 +5,7 @@ use Rattle.mdbox_base.specs.declared.entries.MapEntry.TheVariants as entry
 use Rattle.model_meaning.specs.MapMeaning.{MapRecord, record_changed, has_map_uid}
 use Rattle.model_meaning.proofs.AppliedLemmas.{records_by_stored, records_by_purged}
 use Rattle.map_index.specs.Shown.{meant_record}
-use Rattle.map_index.proofs.Applied.{filter-map, records_change}
+use Rattle.map_index.proofs.MapAppliedLemmas.{filter-map, records_change}
 use Rattle.map_index.proofs.changes.change_records.Goals as goal
 
 pub returns-in_ok-push-in-S-clause-ok : goal.returns-in_ok-push-in-S-clause-ok

@@ -7,14 +7,14 @@ use Rattle.map_index.proofs.changes.drop_records.Goals as goal
 pub loop-place-init : goal.loop-place-init
 loop-place-init c = kept_by-none (λ (r : Record). not (has_map_uid r.row.uid.0 c.args.dropped.now)) c.args.records.now.items
 
-pub loop-place-preserved-then-has_uid : goal.loop-place-preserved-then-has_uid
-loop-place-preserved-then-has_uid c =
-    let fails : not (has_map_uid c.index.result.now.row.uid.0 c.args.dropped.now) ≡ false = ap not (sym c.has_uid.ensures ∙ c.if-has_uid.true) in
+pub loop-place-preserved-then-has_map_uid : goal.loop-place-preserved-then-has_map_uid
+loop-place-preserved-then-has_map_uid c =
+    let fails : not (has_map_uid c.index.result.now.row.uid.0 c.args.dropped.now) ≡ false = ap not (sym c.has_map_uid.ensures ∙ c.if-has_map_uid.true) in
     rw c.remove.ensures.items (kept_by-remove (λ (r : Record). not (has_map_uid r.row.uid.0 c.args.dropped.now)) c.loop-place.place c.loop-place.records.items c.index.result.now (omega arith) c.index.ensures fails ∙ c.loop-place.invariant)
 
 pub loop-place-preserved : goal.loop-place-preserved
 loop-place-preserved c =
-    let passes : not (has_map_uid c.index.result.now.row.uid.0 c.args.dropped.now) ≡ true = ap not (sym c.has_uid.ensures ∙ c.if-has_uid.false) in
+    let passes : not (has_map_uid c.index.result.now.row.uid.0 c.args.dropped.now) ≡ true = ap not (sym c.has_map_uid.ensures ∙ c.if-has_map_uid.false) in
     rw add-one (kept_by-keep (λ (r : Record). not (has_map_uid r.row.uid.0 c.args.dropped.now)) c.loop-place.place c.loop-place.records.items c.index.result.now (omega arith) c.index.ensures passes ∙ c.loop-place.invariant)
 
 pub returns : goal.returns

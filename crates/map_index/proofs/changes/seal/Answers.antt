@@ -2,7 +2,7 @@ use Rattle.std.proofs.Common.{◌∙◌, sym, arith, not}
 use Rattle.std.specs.Prelude.{nat_le}
 use Rattle.std.proofs.lemmas.List.Sums.{prefix_len-le-length}
 use Rattle.mdbox_base.specs.declared.ids.FileNo.{FileNo}
-use Rattle.map_index.proofs.Sealed.{added, there}
+use Rattle.map_index.proofs.SealedFileLemmas.{added, there}
 use Rattle.map_index.proofs.changes.seal.Goals as goal
 
 pub returns-then-is_at-clause-ok : goal.returns-then-is_at-clause-ok

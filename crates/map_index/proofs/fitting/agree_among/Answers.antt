@@ -1,6 +1,6 @@
 use Rattle.std.proofs.Common.{◌≡◌, ◌∙◌, sym, true, false}
 use Rattle.model_meaning.specs.MapFits.{AgreesOn}
-use Rattle.map_index.proofs.Pairs.{pairs_split, pairs_joined}
+use Rattle.map_index.proofs.RisingLemmas.{pairs_split, pairs_joined}
 use Rattle.map_index.proofs.fitting.agree_among.Goals as goal
 
 pub returns-then-not-agrees : goal.returns-then-not-agrees

@@ -1,6 +1,6 @@
 use Rattle.std.proofs.Common.{◌≡◌, ◌<◌, ◌≤◌, ◌+◌, ◌-◌, ℕ, subst, arith, length, map, get_or}
 use Rattle.std.proofs.lemmas.List.{length-map}
-use Rattle.map_index.proofs.Pairs.{number_of, rises_more}
+use Rattle.map_index.proofs.RisingLemmas.{number_of, rises_more}
 use Rattle.map_index.proofs.named.rise.Goals as goal
 
 pub returns-then-high-low : goal.returns-then-high-low

@@ -1,5 +1,5 @@
 use Rattle.std.proofs.Common.{map}
-use Rattle.map_index.proofs.Pairs.{RisesBelow}
+use Rattle.map_index.proofs.RisingLemmas.{RisesBelow}
 use Rattle.map_index.proofs.named.rise.Given as goal
 
 -- the map uids so far rise

@@ -3,8 +3,8 @@ use Rattle.std.proofs.lemmas.Result.{err_from_is_err_and}
 use Rattle.store_checks.specs.Checked.{IsCountedIn, IsMiscountedIn}
 use Rattle.store_checks.specs.declared.mailbox.CheckedBox.{CheckedBox}
 use Rattle.disk_model.proofs.IdleLemmas.{idle-then}
-use Rattle.store_checks.proofs.Mailboxes.{found-then, are_found-then}
-use Rattle.store_checks.proofs.Checking.{root_fails, map_fails, has_map, boxes_fail, logs_pass, counted, counts_fail, regions_fail, instances_fail, opens, good_logs}
+use Rattle.store_checks.proofs.MailboxLemmas.{found-then, are_found-then}
+use Rattle.store_checks.proofs.CheckOrderLemmas.{root_fails, map_fails, has_map, boxes_fail, logs_pass, counted, counts_fail, regions_fail, instances_fail, opens, good_logs}
 use Rattle.store_checks.proofs.check.check_store.Goals as goal
 
 pub returns-in_err-root-clause-refused : goal.returns-in_err-root-clause-refused

@@ -1,6 +1,6 @@
 use Rattle.store_checks.specs.Checked.{IsCountedIn}
-use Rattle.store_checks.proofs.Walks.{all_next}
-use Rattle.store_checks.proofs.Counting.{counted_record, miscounted_record}
+use Rattle.store_checks.proofs.WalkLemmas.{all_next}
+use Rattle.store_checks.proofs.CountLemmas.{counted_record, miscounted_record}
 use Rattle.store_checks.proofs.counts.are_counted.Goals as goal
 
 pub loop-place-preserved : goal.loop-place-preserved

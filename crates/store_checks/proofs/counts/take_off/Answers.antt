@@ -2,8 +2,8 @@ use Rattle.std.proofs.Common.{◌≡◌, ◌==◌, slice_get, Some, eq-eqb, arit
 use Rattle.std.proofs.lemmas.Bool.{ne_eqb}
 use Rattle.model_meaning.specs.BoxMeaning.{LogRow}
 use Rattle.box_index.specs.Row.{row_of}
-use Rattle.store_checks.proofs.Walks.{seen}
-use Rattle.store_checks.proofs.Counting.{counts_one, counts_none, one_too_many}
+use Rattle.store_checks.proofs.WalkLemmas.{seen}
+use Rattle.store_checks.proofs.CountLemmas.{counts_one, counts_none, one_too_many}
 use Rattle.store_checks.proofs.counts.take_off.Goals as goal
 use Rattle.store_checks.proofs.counts.take_off.Goals.{then-unwrap-uid+else-left-eq0, else-unwrap-uid}
 

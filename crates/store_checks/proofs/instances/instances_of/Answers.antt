@@ -6,13 +6,13 @@ use Rattle.store_checks.specs.Lengths.{instance_of, IsNamedNoLater}
 use Rattle.std.specs.List.{flat_map}
 use Rattle.model_meaning.specs.MapMeaning.{MapRecord}
 use Rattle.mdbox_base.specs.declared.entries.InstRow.{InstRow}
-use Rattle.store_checks.proofs.Walks.{grown}
-use Rattle.store_checks.proofs.Sorting.{names_next, named_next, copied_some, chained, named_no_later, named_trans}
+use Rattle.store_checks.proofs.WalkLemmas.{grown}
+use Rattle.store_checks.proofs.SortLemmas.{names_next, named_next, copied_some, chained, named_no_later, named_trans}
 use Rattle.store_checks.proofs.instances.instances_of.Goals as goal
 
 pub unwrap-requires : goal.unwrap-requires
 unwrap-requires c =
-    let n = names_next c.args.map.now c.loop-place.place c.row_at.result c.unwrap-row.result c.is_kept.ensures.records.rising c.row_at.ensures c.unwrap-row.ensures in
+    let n = names_next c.args.map.now c.loop-place.place c.row_at.result c.unwrap-row.result c.known_facts.ensures.records.rising c.row_at.ensures c.unwrap-row.ensures in
     copied_some c.instances.result _ n.items c.instances.ensures n.found
 
 pub loop-inst-init : goal.loop-inst-init
@@ -26,7 +26,7 @@ loop-inst-preserved c = record {
 
 pub loop-place-preserved : goal.loop-place-preserved
 loop-place-preserved c =
-    let n = names_next c.args.map.now c.loop-place.place c.row_at.result c.unwrap-row.result c.is_kept.ensures.records.rising c.row_at.ensures c.unwrap-row.ensures in
+    let n = names_next c.args.map.now c.loop-place.place c.row_at.result c.unwrap-row.result c.known_facts.ensures.records.rising c.row_at.ensures c.unwrap-row.ensures in
     record {
       same = named_next c.args.map.now c.loop-place.place c.unwrap-row.result.uid.0 n c.instances.result c.unwrap.result _ c.as_slice-inst-items.result.now c.loop-place.instances.items c.loop-inst.instances.items
           c.instances.ensures c.unwrap.ensures refl c.as_slice-inst-items.ensures c.loop-place.invariant.same

@@ -4,8 +4,8 @@ use Rattle.model_meaning.specs.BoxMeaning.{BoxMeaning}
 use Rattle.model_store.specs.Opening.{HasItsRecord}
 use Rattle.disk_model.proofs.IdleLemmas.{idle-begins}
 use Rattle.store_checks.specs.Boxes.{box_file, box_head}
-use Rattle.store_checks.proofs.Taking.{some_text, none_text}
-use Rattle.store_checks.proofs.Reading.{has_log, found_as, box_cause, lacks_record}
+use Rattle.store_checks.proofs.ReplayLemmas.{some_text, none_text}
+use Rattle.store_checks.proofs.LogReadLemmas.{has_log, found_as, box_cause, lacks_record}
 use Rattle.store_checks.proofs.mailbox.read_box.Goals as goal
 
 pub returns-in_err-index-clause-idle : goal.returns-in_err-index-clause-idle
@@ -14,18 +14,18 @@ returns-in_err-index-clause-idle g c = idle-begins _
 pub returns-in_err-log-clause-refused : goal.returns-in_err-log-clause-refused
 returns-in_err-log-clause-refused g c =
     let p = err_from_is_err_and c.from_residual-in_err-log.result c.from_residual-in_err-log.ensures.1 in
-    rw (p.1, p.2) (box_cause c.args.map.now c.args.id.0 c.args.at c.read_log.new.fold _ c.in_err-log.field-0.0 c.requires c.in_err-log.ensures.refused)
+    rw (p.1, p.2) (box_cause c.args.map.now c.args.id.0 c.args.at c.read_log.new.replay _ c.in_err-log.field-0.0 c.requires c.in_err-log.ensures.refused)
 
 pub returns-in-Some-clause-refused : goal.returns-in-Some-clause-refused
 returns-in-Some-clause-refused g c = (
   refl,
-  lacks_record c.args.map.now c.args.id.0 c.args.at c.read_log.new.fold c.in_ok-log.read.entries c.in-Some.place _ c.requires c.in_ok-log.ensures.folded (some_text _ _ _ _ c.in-Some.is c.in_ok-place.ensures)
+  lacks_record c.args.map.now c.args.id.0 c.args.at c.read_log.new.replay c.in_ok-log.read.entries c.in-Some.place _ c.requires c.in_ok-log.ensures.replayed (some_text _ _ _ _ c.in-Some.is c.in_ok-place.ensures)
       (has_log (box_file c.args.at) (box_head c.args.id.0 c.args.at) c.in_ok-log.ensures.octets.0 c.in_ok-log.read c.in_ok-log.read.entries _ c.in_ok-log.ensures.octets.1 c.in_ok-log.ensures.octets.2 refl c.in_ok-log.ensures.octets.3),
 )
 
 pub returns-clause-read : goal.returns-clause-read
 returns-clause-read g c =
-    let f = c.in_ok-log.ensures.folded in (
+    let f = c.in_ok-log.ensures.replayed in (
       f.entries,
       record {
         good = f.good;

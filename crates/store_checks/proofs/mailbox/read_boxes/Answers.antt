@@ -1,14 +1,14 @@
-use Rattle.std.proofs.Common.{◌++◌, ◌∷◌, [], List, subst, take_all, arith}
+use Rattle.std.proofs.Common.{refl, ◌++◌, ◌∷◌, [], List, subst, take_all, arith}
 use Rattle.std.proofs.lemmas.Result.{err_from_is_err_and}
 use Rattle.disk_model.proofs.IdleLemmas.{idle-begins, idle-then}
 use Rattle.model_meaning.specs.MapMeaning.{MapBox}
 use Rattle.store_checks.specs.Boxes.{AreRead}
-use Rattle.disk_model.proofs.FaultCountLemmas.{read_fault-then, read_fault-map, read_fault-begins}
-use Rattle.store_checks.proofs.Mailboxes.{none_read, one_read, boxes_cause}
+use Rattle.disk_model.proofs.FaultCountLemmas.{no_fault-then}
+use Rattle.store_checks.proofs.MailboxLemmas.{none_read, one_read, boxes_cause}
 use Rattle.store_checks.proofs.mailbox.read_boxes.Goals as goal
 
 pub loop-place-init : goal.loop-place-init
-loop-place-init g c = record { idle = idle-begins _; faults = read_fault-begins _ (λ none. none); read = ([], rw c.empty-boxes.ensures (none_read c.args.id.0 c.args.map.now _)) }
+loop-place-init g c = record { idle = idle-begins _; unfailed = refl; read = ([], rw c.empty-boxes.ensures (none_read c.args.id.0 c.args.map.now _)) }
 
 pub returns-in_err-read_box-clause-refused : goal.returns-in_err-read_box-clause-refused
 returns-in_err-read_box-clause-refused g c =
@@ -24,7 +24,7 @@ returns-in_err-push-clause-idle g c = idle-then _ _ _ c.loop-place.invariant.idl
 pub loop-place-preserved : goal.loop-place-preserved
 loop-place-preserved g c = record {
   idle = idle-then _ _ _ c.loop-place.invariant.idle c.in_ok-read_box.ensures.idle;
-  faults = read_fault-then _ _ _ c.loop-place.invariant.faults (read_fault-map _ _ (λ none. absurd none) c.in_ok-read_box.ensures.fault);
+  unfailed = no_fault-then _ _ _ c.loop-place.invariant.unfailed (c.in_ok-read_box.ensures.unfailed (λ e. cc e));
   read = (
     c.loop-place.invariant.read.0 ++ c.in_ok-read_box.ensures.read.0 ∷ [],
     one_read c.args.id.0 c.args.map.now c.loop-place.place c.box_at.result c.unwrap-at.result c.loop-place.boxes c.push.new.self c.loop-place.invariant.read.0 c.in_ok-read_box.field-0 c.in_ok-read_box.ensures.read.0 _ _ _

@@ -1,15 +1,15 @@
 use Rattle.std.proofs.Common.{◌≡◌, refl, true, false}
 use Rattle.disk_model.proofs.IdleLemmas.{idle-begins, idle-then}
 use Rattle.store_checks.specs.Lengths.{LiesIn}
-use Rattle.disk_model.proofs.FaultCountLemmas.{read_fault-then, read_fault-map, read_fault-begins}
-use Rattle.store_checks.proofs.Lying.{region_next, region_fails, regions_done, none_yet}
+use Rattle.disk_model.proofs.FaultCountLemmas.{no_fault-then}
+use Rattle.store_checks.proofs.RegionLengthLemmas.{region_next, region_fails, regions_done, none_yet}
 use Rattle.store_checks.proofs.regions.check_regions.Goals as goal
 
 pub returns-in_err-regions-clause-idle : goal.returns-in_err-regions-clause-idle
 returns-in_err-regions-clause-idle g c = idle-begins _
 
 pub loop-region-init : goal.loop-region-init
-loop-region-init g c = record { asked = tt; idle = idle-begins _; faults = read_fault-begins _ (λ none. none); lie = none_yet LiesIn _ }
+loop-region-init g c = record { asked = tt; idle = idle-begins _; unfailed = refl; lie = none_yet LiesIn _ }
 
 pub returns-in_err-length-clause-idle : goal.returns-in_err-length-clause-idle
 returns-in_err-length-clause-idle g c = idle-then _ _ _ c.loop-region.invariant.idle c.length_of.ensures.idle
@@ -26,7 +26,7 @@ pub loop-region-preserved : goal.loop-region-preserved
 loop-region-preserved g c = record {
   asked = c.in_ok-length.ensures.asked;
   idle = idle-then _ _ _ c.loop-region.invariant.idle c.in_ok-length.ensures.idle;
-  faults = read_fault-then _ _ _ c.loop-region.invariant.faults (read_fault-map _ _ (λ none. absurd none) c.in_ok-length.ensures.fault);
+  unfailed = no_fault-then _ _ _ c.loop-region.invariant.unfailed (c.in_ok-length.ensures.unfailed);
   lie = region_next c.deref-region-items.result.now c.loop-region.region-index _ _ _ c.in_ok-length.length c.loop-region-test.true c.loop-region.invariant.idle c.in_ok-length.ensures.length (c.if-not-ends_within.ensures.0 refl) c.loop-region.invariant.lie;
 }
 

@@ -1,7 +1,7 @@
 use Rattle.std.proofs.Common.{map, ◌∙◌, ap, subst, List, IsPermutation, take_all, arith, get_or, ◌+◌}
 use Rattle.store_checks.specs.declared.regions.Region.{Region}
 use Rattle.store_checks.specs.Lengths.{region_of, IsNoLater}
-use Rattle.store_checks.proofs.Sorting.{region_next, chained, no_later, no_later_trans}
+use Rattle.store_checks.proofs.SortLemmas.{region_next, chained, no_later, no_later_trans}
 use Rattle.store_checks.proofs.regions.regions_of.Goals as goal
 
 pub loop-place-preserved : goal.loop-place-preserved

@@ -10,8 +10,8 @@ use Rattle.disk_model.proofs.NameOrderLemmas.{walk_shrinks}
 use Rattle.store_sweep.proofs.WalkLemmas.{passed_none, walk_more, walk_ends}
 use Rattle.store_sweep.proofs.SweepStepLemmas.{images_now, images_unchanged, keeps_now, keeps_then, keeps_unchanged, where_now, where_then, where_unchanged, kept_images, kept_keeps, walk_same}
 use Rattle.store_sweep.proofs.FittedLemmas.{fitted-begins, fitted-then, fitted-goes_on, there-begins, there-then, there-goes_on}
-use Rattle.store_sweep.proofs.FaultLemmas.{any_since, name_since, none_since}
-use Rattle.disk_model.proofs.FaultCountLemmas.{no_fault-then, no_fault-read}
+use Rattle.store_sweep.proofs.FaultLemmas.{name_since, none_since, read_ok}
+use Rattle.disk_model.proofs.FaultCountLemmas.{no_fault-then}
 use Rattle.std.proofs.lemmas.Bool.{false≢true}
 use Rattle.store_sweep.proofs.cuts.cut_files.Goals as goal
 
@@ -32,7 +32,7 @@ returns-in_err-name-clause-images g c = λ generation. images_unchanged generati
 
 pub returns-in_err-name-clause-fault : goal.returns-in_err-name-clause-fault
 returns-in_err-name-clause-fault g c =
-    name_since c.next_name.result _ _ _ c.loop-name.invariant.faults c.in_err-name.ensures.not_absent c.in_err-name.ensures.cause
+    name_since c.in_err-name.field-0.0 _ _ _ c.loop-name.invariant.faults c.in_err-name.ensures.not_absent c.in_err-name.ensures.cause
 
 pub returns-in_err-fit_file-clause-images : goal.returns-in_err-fit_file-clause-images
 returns-in_err-fit_file-clause-images g c = λ generation.
@@ -54,7 +54,7 @@ loop-name-preserved g c = record {
       (let F : Option FileName → Type 0 = λ n. IfTold (g.D.Disk.history c.loop-name.disk) (IsNext ghosts.cmp c.loop-name.last n) in subst F c.in-Some.is c.in_ok-name.ensures.next)
       c.loop-name.invariant.cut c.in_ok-fit_file.ensures.others c.in_ok-fit_file.ensures.cut;
   in_range = c.known_range.ensures;
-  faults = ?;
+  faults = no_fault-then _ _ _ c.loop-name.invariant.faults (no_fault-then _ _ _ (read_ok c.in_ok-name.field-0 _ _ c.in_ok-name.ensures.cause) c.in_ok-fit_file.ensures.unfailed);
 }
 
 pub returns-clause-images : goal.returns-clause-images
@@ -77,3 +77,11 @@ returns-clause-cut g c =
 
 pub returns-clause-mail : goal.returns-clause-mail
 returns-clause-mail g c = fitted-goes_on _ _ _ _ c.loop-name.invariant.mail c.in_ok-name.ensures.state
+
+pub returns-in_err-name-clause-keeps : goal.returns-in_err-name-clause-keeps
+returns-in_err-name-clause-keeps g c = λ none generation.
+    keeps_then generation c.args.map.now _ _ _ (c.loop-name.invariant.keeps generation) (keeps_unchanged generation c.args.map.now _ _ c.in_err-name.ensures.state)
+
+pub returns-in_err-fit_file-clause-keeps : goal.returns-in_err-fit_file-clause-keeps
+returns-in_err-fit_file-clause-keeps g c = λ none generation.
+    kept_keeps generation c.args.map.now _ _ _ _ (c.loop-name.invariant.keeps generation) c.in_ok-name.ensures.state (c.in_err-fit_file.ensures.keeps (none_since (g.D.Disk.faults c.args.disk.now) (g.D.Disk.faults c.next_name.new.self) (g.D.Disk.faults c.fit_file.new.disk) (no_fault-then _ _ _ c.loop-name.invariant.faults (read_ok c.in_ok-name.field-0 _ _ c.in_ok-name.ensures.cause)) c.from_residual-in_err-fit_file.ensures.0 none) generation)

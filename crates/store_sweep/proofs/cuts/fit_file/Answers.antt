@@ -46,3 +46,7 @@ returns-in_default-clause-mail g c = fitted-begins c.args.map.now (g.D.Disk.hist
 
 pub returns-then-is_sealed-clause-mail : goal.returns-then-is_sealed-clause-mail
 returns-then-is_sealed-clause-mail g c = fitted-begins c.args.map.now (g.D.Disk.history c.args.disk.now)
+
+pub returns-in_err-cut_behind-clause-keeps : goal.returns-in_err-cut_behind-clause-keeps
+returns-in_err-cut_behind-clause-keeps g c = λ none generation.
+    c.in_err-cut_behind.ensures.keeps (λ err. none c.from_residual.ensures.0) generation c.args.map.now (let F : ℕ → Type 0 = λ end. EndBy c.args.map.now c.in-Mail.number end in subst F (sym c.end_of.ensures) (end_by c.args.map.now c.in-Mail.number))

@@ -1,6 +1,7 @@
 use Rattle.std.proofs.Common.{◌≡◌, ◌≤◌, ◌++◌, ℕ, length, vec_len, vec_capacity}
 use Rattle.std.specs.List.{AllZip}
-use Rattle.store_sweep.specs.Moments.{ImagesCarry, KeepsStore, SameWhere}
+use Rattle.disk_model.specs.FaultCounts.{NoFault}
+use Rattle.store_sweep.specs.Moments.{ImagesCarry, KeepsStore, SameWhere, SameThere}
 use Rattle.store_sweep.specs.Repaired.{IsRepaired, is_outside}
 use Rattle.store_sweep.proofs.repairs.repair_boxes.Given as goal
 
@@ -14,6 +15,6 @@ invariant-loop-log g l = record {
   opened : AllZip (IsRepaired (g.D.Disk.history l.initial.disk) (g.D.Disk.history l.disk)) l.yielded l.opened.items;
   len : vec_len l.opened ≡ length l.yielded;
   capacity : vec_capacity l.initial.opened ≤ vec_capacity l.opened;
-  reads : (g.D.Disk.faults l.initial.disk).reads ≤ (g.D.Disk.faults l.disk).reads;
-  changes : (g.D.Disk.faults l.initial.disk).changes ≤ (g.D.Disk.faults l.disk).changes;
+  there : SameThere (g.D.Disk.history l.initial.disk) (g.D.Disk.history l.disk);
+  faults : NoFault (g.D.Disk.faults l.initial.disk) (g.D.Disk.faults l.disk);
 }

@@ -7,11 +7,11 @@ use Rattle.disk_model.proofs.MomentLemmas.{if_told-all}
 use Rattle.store_sweep.specs.Wanted.{is_wanted}
 use Rattle.disk_model.proofs.NameOrderLemmas.{walk_shrinks}
 use Rattle.store_sweep.proofs.WalkLemmas.{passed_none, walk_more, walk_ends}
-use Rattle.store_sweep.proofs.SweepStepLemmas.{images_now, images_unchanged, where_now, where_then, where_unchanged, walk_images, walk_same}
+use Rattle.store_sweep.proofs.SweepStepLemmas.{images_now, images_unchanged, where_now, where_then, where_unchanged, keeps_where, walk_images, walk_same}
 use Rattle.std.proofs.lemmas.Bool.{or_parts}
 use Rattle.disk_model.proofs.IdleLemmas.{same_state-begins, same_state-then, same_state-unchanged}
-use Rattle.disk_model.proofs.FaultCountLemmas.{no_fault-then, no_fault-read}
-use Rattle.store_sweep.proofs.FaultLemmas.{any_since, name_since}
+use Rattle.disk_model.proofs.FaultCountLemmas.{no_fault-then}
+use Rattle.store_sweep.proofs.FaultLemmas.{name_since, read_ok}
 use Rattle.store_sweep.proofs.strays.remove_strays.Goals as goal
 
 pub loop-name-init : goal.loop-name-init
@@ -29,7 +29,7 @@ returns-in_err-name-clause-images g c = images_unchanged c.args.generation c.arg
 
 pub returns-in_err-name-clause-fault : goal.returns-in_err-name-clause-fault
 returns-in_err-name-clause-fault g c =
-    name_since c.next_name.result _ _ _ c.loop-name.invariant.faults c.in_err-name.ensures.not_absent c.in_err-name.ensures.cause
+    name_since c.in_err-name.field-0.0 _ _ _ c.loop-name.invariant.faults c.in_err-name.ensures.not_absent c.in_err-name.ensures.cause
 
 pub returns-in_err-removed-clause-images : goal.returns-in_err-removed-clause-images
 returns-in_err-removed-clause-images g c =
@@ -51,7 +51,7 @@ loop-name-preserved g c = record {
       let parts = or_parts c.loop-name.removed c.in_ok-removed.field-0 e in
       same_state-then _ _ _ (same_state-unchanged _ _ _ (c.loop-name.invariant.none parts.0) c.in_ok-name.ensures.state) (c.in_ok-removed.ensures.none parts.1);
   in_range = c.known_range.ensures;
-  faults = ?;
+  faults = no_fault-then _ _ _ c.loop-name.invariant.faults (no_fault-then _ _ _ (read_ok c.in_ok-name.field-0 _ _ c.in_ok-name.ensures.cause) c.in_ok-removed.ensures.unfailed);
 }
 
 pub returns-clause-images : goal.returns-clause-images
@@ -69,3 +69,11 @@ returns-clause-gone g c =
     walk_ends (λ (name : FileName) (f : FileState). is_wanted c.args.generation c.args.map.now name ≡ true) c.loop-name.last _ _ c.in_ok-name.ensures.state
     (let F : Option FileName → Type 0 = λ n. IfTold (g.D.Disk.history c.loop-name.disk) (IsNext ghosts.cmp c.loop-name.last n) in subst F c.in_default.is c.in_ok-name.ensures.next)
     c.loop-name.invariant.gone
+
+pub returns-in_err-name-clause-keeps : goal.returns-in_err-name-clause-keeps
+returns-in_err-name-clause-keeps g c = λ none.
+    keeps_where c.args.generation c.args.map.now _ _ (where_then (is_wanted c.args.generation c.args.map.now) _ _ _ c.loop-name.invariant.same (where_unchanged (is_wanted c.args.generation c.args.map.now) _ _ c.in_err-name.ensures.state))
+
+pub returns-clause-keeps : goal.returns-clause-keeps
+returns-clause-keeps g c = λ none.
+    keeps_where c.args.generation c.args.map.now _ _ (where_then (is_wanted c.args.generation c.args.map.now) _ _ _ c.loop-name.invariant.same (where_unchanged (is_wanted c.args.generation c.args.map.now) _ _ c.in_ok-name.ensures.state))

@@ -1,5 +1,5 @@
 use Rattle.std.proofs.Common.{refl}
-use Rattle.box_index.proofs.Applied.{applied-next, applied-added, applied-flagged, applied-removed, order-next, order-added, order-flagged, order-removed, pushed}
+use Rattle.box_index.proofs.BoxAppliedLemmas.{applied-next, applied-added, applied-flagged, applied-removed, order-next, order-added, order-flagged, order-removed, pushed}
 use Rattle.box_index.proofs.index.BoxIndex.apply.Goals as goal
 
 pub invariant_of-self : goal.invariant_of-self

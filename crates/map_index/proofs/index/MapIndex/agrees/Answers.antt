@@ -3,7 +3,7 @@ use Rattle.std.specs.Prelude.{All}
 use Rattle.model_meaning.specs.MapMeaning.{MapRecord, MapMeaning}
 use Rattle.model_meaning.specs.MapFits.{AgreesOn}
 use Rattle.map_index.specs.Shown.{meant_record}
-use Rattle.map_index.proofs.Lists.{all_in}
+use Rattle.map_index.proofs.DerivedListLemmas.{all_in}
 use Rattle.map_index.proofs.index.MapIndex.agrees.Goals as goal
 
 pub returns : goal.returns

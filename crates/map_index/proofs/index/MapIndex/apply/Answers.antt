@@ -4,8 +4,8 @@ use Rattle.mdbox_base.specs.declared.ids.FileNo.{FileNo}
 use Rattle.model_meaning.specs.MapMeaning.{higher}
 use Rattle.map_index.specs.Kept.{IsMapInOrder}
 use Rattle.map_index.specs.Shown.{box_of}
-use Rattle.map_index.proofs.Kept.{kept_more, can_rise}
-use Rattle.map_index.proofs.Applied.{on_err, made_leaves, sealing_leaves, same_parts}
+use Rattle.map_index.proofs.MapOrderLemmas.{kept_more, can_rise}
+use Rattle.map_index.proofs.MapAppliedLemmas.{on_err, made_leaves, sealing_leaves, same_parts}
 use Rattle.map_index.proofs.index.MapIndex.apply.Goals as goal
 
 pub change_records-requires : goal.change_records-requires

@@ -1,6 +1,6 @@
 use Rattle.std.proofs.Common.{◌≡◌, ◌∙◌, sym, true, false, refl, arith}
 use Rattle.model_meaning.specs.MapFits.{ArePlacedApart}
-use Rattle.map_index.proofs.Pairs.{pairs_split, pairs_joined}
+use Rattle.map_index.proofs.RisingLemmas.{pairs_split, pairs_joined}
 use Rattle.map_index.proofs.index.MapIndex.are_apart.Goals as goal
 
 pub returns-then-not-lies_apart : goal.returns-then-not-lies_apart

@@ -1,7 +1,7 @@
 use Rattle.std.proofs.Common.{◌==◌, ap}
 use Rattle.model_meaning.specs.MapMeaning.{MapRecord, MapMeaning}
 use Rattle.map_index.specs.Shown.{meant_record}
-use Rattle.map_index.proofs.Lists.{found_in}
+use Rattle.map_index.proofs.DerivedListLemmas.{found_in}
 use Rattle.map_index.proofs.index.MapIndex.find.Goals as goal
 
 pub returns : goal.returns

@@ -2,7 +2,7 @@ use Rattle.std.proofs.Common.{ap}
 use Rattle.std.specs.Str.{bytes_eq}
 use Rattle.model_meaning.specs.MapMeaning.{MapBox, MapMeaning}
 use Rattle.map_index.specs.Shown.{box_of}
-use Rattle.map_index.proofs.Lists.{found_in}
+use Rattle.map_index.proofs.DerivedListLemmas.{found_in}
 use Rattle.map_index.proofs.index.MapIndex.find_name.Goals as goal
 
 pub returns : goal.returns

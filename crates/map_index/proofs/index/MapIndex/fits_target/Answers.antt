@@ -1,5 +1,5 @@
 use Rattle.std.proofs.Common.{◌≡◌, ◌==◌, true, length, eq-eqb, IsTrue}
-use Rattle.map_index.proofs.Target.{some_target}
+use Rattle.map_index.proofs.TargetLemmas.{some_target}
 use Rattle.map_index.proofs.index.MapIndex.fits_target.Goals as goal
 
 pub returns-else-is_empty : goal.returns-else-is_empty

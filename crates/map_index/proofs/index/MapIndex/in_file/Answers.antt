@@ -3,7 +3,7 @@ use Rattle.std.specs.Option.{option_map}
 use Rattle.model_meaning.specs.MapMeaning.{MapMeaning}
 use Rattle.map_index.specs.declared.rows.Record.{Record}
 use Rattle.map_index.specs.Shown.{shown_record, meant_record, least, is_from, record_from}
-use Rattle.map_index.proofs.Nearest.{nearest_shown}
+use Rattle.map_index.proofs.NearestLemmas.{nearest_shown}
 use Rattle.map_index.proofs.index.MapIndex.in_file.Goals as goal
 
 pub returns : goal.returns

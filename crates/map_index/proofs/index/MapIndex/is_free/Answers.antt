@@ -2,7 +2,7 @@ use Rattle.std.proofs.Common.{◌≡◌, ap}
 use Rattle.model_meaning.specs.MapMeaning.{MapRecord, MapMeaning}
 use Rattle.model_meaning.specs.MapFits.{IsApart}
 use Rattle.map_index.specs.Shown.{meant_record}
-use Rattle.map_index.proofs.Lists.{all_in}
+use Rattle.map_index.proofs.DerivedListLemmas.{all_in}
 use Rattle.map_index.proofs.index.MapIndex.is_free.Goals as goal
 
 pub returns : goal.returns

@@ -1,7 +1,7 @@
 use Rattle.std.proofs.Common.{◌≢◌, ap}
 use Rattle.model_meaning.specs.MapMeaning.{MapRecord, MapMeaning}
 use Rattle.map_index.specs.Shown.{meant_record}
-use Rattle.map_index.proofs.Lists.{all_in}
+use Rattle.map_index.proofs.DerivedListLemmas.{all_in}
 use Rattle.map_index.proofs.index.MapIndex.is_new_guid.Goals as goal
 
 pub returns : goal.returns

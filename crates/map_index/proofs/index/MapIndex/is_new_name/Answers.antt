@@ -1,7 +1,7 @@
 use Rattle.std.proofs.Common.{◌≢◌, ap}
 use Rattle.model_meaning.specs.MapMeaning.{MapBox, MapMeaning}
 use Rattle.map_index.specs.Shown.{box_of}
-use Rattle.map_index.proofs.Lists.{all_in}
+use Rattle.map_index.proofs.DerivedListLemmas.{all_in}
 use Rattle.map_index.proofs.index.MapIndex.is_new_name.Goals as goal
 
 pub returns : goal.returns

@@ -1,7 +1,7 @@
 use Rattle.std.proofs.Common.{◌==◌, ap, ℕ}
 use Rattle.mdbox_base.specs.declared.ids.FileNo.{FileNo}
 use Rattle.model_meaning.specs.MapMeaning.{MapMeaning}
-use Rattle.map_index.proofs.Lists.{any_in}
+use Rattle.map_index.proofs.DerivedListLemmas.{any_in}
 use Rattle.map_index.proofs.index.MapIndex.is_sealed.Goals as goal
 
 pub returns : goal.returns

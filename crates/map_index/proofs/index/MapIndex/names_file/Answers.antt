@@ -4,7 +4,7 @@ use Rattle.std.specs.List.{list_any}
 use Rattle.mdbox_base.specs.declared.entries.InstRow.{InstRow}
 use Rattle.model_meaning.specs.MapMeaning.{MapRecord, MapMeaning}
 use Rattle.map_index.specs.Shown.{meant_record}
-use Rattle.map_index.proofs.Lists.{any_in}
+use Rattle.map_index.proofs.DerivedListLemmas.{any_in}
 use Rattle.map_index.proofs.index.MapIndex.names_file.Goals as goal
 
 pub returns : goal.returns

@@ -1,6 +1,0 @@
-use Rattle.std.proofs.Common.{All, take}
-use Rattle.model_store.specs.Opening.{HasItsRecord}
-use Rattle.store_checks.proofs.bare.each_has_record.Given as goal
-
-abbrev pub invariant-loop-place : goal.invariant-loop-place
-invariant-loop-place l = All (HasItsRecord l.map) (take l.place l.index.rows)

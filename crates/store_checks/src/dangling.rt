@@ -1,0 +1,93 @@
+// Listed messages without a record of their GUID.
+ghost use Rattle.std.specs.Prelude.{◌≡◌, ◌↔◌, All, IsTrue, IfOk, MatchOption, MatchBool};
+ghost use Rattle.std.specs.Option.{option_map};
+ghost use Rattle.model_logs.specs.LogFile.{record_places};
+ghost use Rattle.model_store.specs.Opening.{HasItsRecord};
+ghost use Rattle.box_index.specs.Row.{row_of};
+ghost use Rattle.store_checks.specs.Replays.{IsBoxReplay};
+ghost use Rattle.store_checks.specs.Dangling.{added_uid, LacksRecordAt, HasRecordAt, AddsDangling, AddsNoDangling, IsFirstDangling};
+
+use box_index::{BoxIndex, BoxRow};
+use gate_log::LogRead;
+use log_records::read_box_entry;
+use map_index::MapIndex;
+use mdbox_base::{BoxEntry, NoMemory, Uid};
+
+/// Where the record stands that adds the first listed message without a record of its GUID. None where each has one.
+pub fn first_dangling(
+    map: &MapIndex,
+    index: &BoxIndex,
+    read: &LogRead,
+) -> Result<Option<u64>, NoMemory>
+    requires replayed { IsBoxReplay index.now read.now.entries }
+    requires places { read.now.places ≡ record_places read.now.entries }
+    ensures { IfOk result (λ dangling. MatchOption dangling
+        (All (HasItsRecord map.now) index.now.rows)
+        (IsFirstDangling map.now index.now read.now.entries)) }
+{
+    if each_has_record(map, index) {
+        return Ok(None);
+    }
+    for place in 0..read.entries.length() {
+        if adds_dangling(map, index, read.entries.as_slice()[place].as_slice())? {
+            return Ok(Some(read.places.as_slice()[place]));
+        }
+    }
+    Ok(None)
+}
+
+/// Whether each listed message has a record of its GUID.
+fn each_has_record(map: &MapIndex, index: &BoxIndex) -> bool
+    ensures { IsTrue result ↔ All (HasItsRecord map.now) index.now.rows }
+{
+    for place in 0..index.length() {
+        let row = index.row_at(place).unwrap();
+        if !has_record(map, &row) {
+            return false;
+        }
+    }
+    true
+}
+
+/// Whether a row has a record of its GUID.
+fn has_record(map: &MapIndex, row: &BoxRow) -> bool
+    ensures { IsTrue result ↔ HasItsRecord map.now (row_of row.now) }
+{
+    match map.row(row.map_uid) {
+        Some(record) => record.guid == row.guid,
+        None => false,
+    }
+}
+
+/// Whether the text adds a listed message without a record of its GUID.
+fn adds_dangling(map: &MapIndex, index: &BoxIndex, text: &[u8]) -> Result<bool, NoMemory>
+    ensures { IfOk result (λ dangling. MatchBool dangling (AddsDangling map.now index.now text.now) (AddsNoDangling map.now index.now text.now)) }
+{
+    let Some(entry) = read_box_entry(text)? else {
+        return Ok(false);
+    };
+    let Some(uid) = added_uid(&entry) else {
+        return Ok(false);
+    };
+    Ok(lacks_record(map, index, uid))
+}
+
+/// Whether a message with this UID is listed and has no record of its GUID.
+fn lacks_record(map: &MapIndex, index: &BoxIndex, uid: Uid) -> bool
+    ensures { MatchBool result (LacksRecordAt map.now index.now uid.0) (HasRecordAt map.now index.now uid.0) }
+{
+    match index.find(uid) {
+        Some(row) => !has_record(map, &row),
+        None => false,
+    }
+}
+
+/// The UID of the message that the entry adds.
+fn added_uid(entry: &BoxEntry) -> Option<Uid>
+    ensures { option_map (λ uid. uid.0) result ≡ added_uid entry.now }
+{
+    match *entry {
+        BoxEntry::A { uid, .. } => Some(uid),
+        _ => None,
+    }
+}

@@ -1,0 +1,16 @@
+//! Tests of whole stores on a disk in memory: what an opening checks, sweeps and lists, how a store is made, and runs of the
+//! program.
+#![tactic(auto)]
+
+#[cfg(test)]
+mod checks;
+#[cfg(test)]
+mod damage;
+#[cfg(test)]
+mod making;
+#[cfg(test)]
+mod opening;
+#[cfg(test)]
+mod runs;
+#[cfg(test)]
+mod sweeping;

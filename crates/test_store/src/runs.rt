@@ -1,0 +1,76 @@
+// Runs of the whole program, one behind another on a disk in memory.
+use crate::sweeping::put_unclean;
+use disk_mem::MemDisk;
+use disk_model::{Disk, FileName};
+use mdbox_base::{MemSink, MemSource, Octets, Seq};
+use mdbox_top::{Status, mdbox_run};
+use std::alloc::Global;
+use std::test::Fail;
+
+/// The words of runs on a disk that is empty at first, with the status, the output and the errors of each.
+const RUNS: [(&[&str], u8, &str, &str); 4] = [
+    (&["list", "INBOX"], 3, "", "mdbox: no store\n"),
+    (&["init", "0011223344556677"], 0, "OK\n", ""),
+    (&["list", "INBOX"], 0, "OK 0\n", ""),
+    (&["init", "0011223344556677"], 3, "", "mdbox: store whole\n"),
+];
+
+/// The disk after a run with these words, its status, and whether this is what it printed and said.
+fn run(
+    alloc: Global,
+    disk: MemDisk,
+    words: &[&str],
+    printed: &str,
+    said: &str,
+) -> Result<(MemDisk, u8, bool), Fail> {
+    let mut owned = Vec::new(alloc);
+    for word in words {
+        owned.push(String::from_str(alloc, word)?)?;
+    }
+    let mut input = MemSource::of(Octets::empty(alloc), Seq::empty(alloc));
+    let mut output = MemSink::of(Octets::empty(alloc), Seq::empty(alloc));
+    let mut errors = MemSink::of(Octets::empty(alloc), Seq::empty(alloc));
+    let (Status(status), disk) = mdbox_run(
+        alloc,
+        owned.as_slice(),
+        disk,
+        &mut input,
+        &mut output,
+        &mut errors,
+    );
+    let same = output.held().as_slice() == printed.as_bytes()
+        && errors.held().as_slice() == said.as_bytes();
+    Ok((disk, status, same))
+}
+
+#[test]
+fn a_store_is_made_and_listed(rt: HostRuntime) -> Result<(), Fail> {
+    let mut disk = MemDisk::fresh(rt.alloc())?;
+    for (words, status, printed, said) in RUNS {
+        let (left, ran, same) = run(rt.alloc(), disk, words, printed, said)?;
+        assert_eq!(rt; (ran, same), (status, true), "{words:?}");
+        disk = left;
+    }
+    Ok(())
+}
+
+#[test]
+fn a_message_is_listed(rt: HostRuntime) -> Result<(), Fail> {
+    let mut disk = MemDisk::fresh(rt.alloc())?;
+    put_unclean(rt.alloc(), &mut disk)?;
+    let printed = "OK 1\n1 0 0 1694498816 00112233445566770000000100000010\n";
+    let (_disk, status, same) = run(rt.alloc(), disk, &["list", "INBOX"], printed, "")?;
+    assert_eq!(rt; (status, same), (0, true));
+    Ok(())
+}
+
+#[test]
+fn no_store_is_made_beside_mail_files(rt: HostRuntime) -> Result<(), Fail> {
+    let mut disk = MemDisk::fresh(rt.alloc())?;
+    disk.make(FileName::Mail(1))?;
+    let words = ["init", "0011223344556677"];
+    let said = "mdbox: mail files without a store\n";
+    let (_disk, status, same) = run(rt.alloc(), disk, &words, "", said)?;
+    assert_eq!(rt; (status, same), (3, true));
+    Ok(())
+}
