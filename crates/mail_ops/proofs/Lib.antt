@@ -1,1 +1,4 @@
-mod Rows
+pub mod ListEventLemmas
+pub mod NamedListLemmas
+pub mod RowLemmas
+pub mod StageLemmas

@@ -5,8 +5,8 @@ use Rattle.mdbox_base.specs.declared.replies.Reply.{Reply}
 use Rattle.mdbox_base.specs.declared.replies.Reply.TheVariants as reply
 use Rattle.mdbox_base.specs.declared.requests.Request.{Request}
 use Rattle.mdbox_base.specs.declared.requests.Request.TheVariants as request
-use Rattle.model_store.specs.Listing.{meaning_named, listing_of}
-use Rattle.store_core.specs.Value.{StoreValue, indexes_of}
+use Rattle.model_store.specs.Listing.{listing_of}
+use Rattle.store_core.specs.Value.{StoreValue, list_named}
 
 abbrev pub IsListing : Request → Type 0
 IsListing (request.List name) = Unit {0}
@@ -14,7 +14,7 @@ IsListing other = ⊥
 
 -- the reply to a listing: a store that is stopped replies so, any other what its indexes mean
 abbrev pub listing_reply : {D : Type 0} → List ℕ → StoreValue D → Reply
-listing_reply name store = if store.stopped then reply.Refused refusal.Stopped else listing_of (meaning_named name store.map.boxes (indexes_of store.boxes))
+listing_reply name store = if store.stopped then reply.Refused refusal.Stopped else listing_of (list_named store name)
 
 -- A listing of a store has that reply, or that of want of memory.
 abbrev pub Replies : {D : Type 0} → Request → StoreValue D → Reply → Type 0

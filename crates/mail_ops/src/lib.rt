@@ -1,8 +1,9 @@
 //! Requests on a store's mailboxes, done event by event.
 #![tactic(auto)]
 
-pub use progress::Progress;
-pub use task::OpsTask;
+pub use laws::listings_are_answered;
+pub use task::{OpsTask, TaskStage};
 
-mod progress;
+mod laws;
+mod listing;
 mod task;

@@ -1,37 +1,42 @@
 // The task of a request.
-ghost use Rattle.std.specs.Prelude.{◌≡◌, ◌⊎◌, false, map, IfOk};
-ghost use Rattle.mdbox_base.specs.declared.replies.Refusal.TheVariants as refusal;
+ghost use Rattle.std.specs.Prelude.{◌≡◌};
+ghost use Rattle.journal.specs.Events.{Around};
+ghost use Rattle.mdbox_base.specs.declared.progress.Did.TheVariants as did;
+ghost use Rattle.mdbox_base.specs.declared.progress.Progress.TheVariants as progress;
 ghost use Rattle.mdbox_base.specs.declared.replies.Reply.{Reply};
-ghost use Rattle.mdbox_base.specs.declared.replies.Reply.TheVariants as reply;
-ghost use Rattle.model_lists.specs.Lists.{Lists};
-ghost use Rattle.list_machine.specs.Machine.{Run, First, Answers};
-ghost use Rattle.model_store.specs.Listing.{listed_row, ShowLists, meaning_named, listing_of};
-ghost use Rattle.store_core.specs.Value.{indexes_of};
-ghost use Rattle.box_index.specs.Row.{row_of as shown};
-ghost use Rattle.mail_ops.specs.Listing.{IsListing, Replies, listing_reply};
-ghost use Rattle.mail_ops.specs.declared.progress.Progress.TheVariants as progress;
+ghost use Rattle.task_steps.specs.Step.{Steps, ended_by};
+ghost use Rattle.mail_ops.specs.Listing.{IsListing, Replies};
+ghost use Rattle.mail_ops.specs.Task.{IsAt, seen_of};
+ghost use Rattle.mail_ops.specs.declared.task.TaskStage.TheVariants as stage;
 
-use crate::progress::Progress;
-use box_index::{BoxIndex, BoxRow};
+use crate::listing::list;
 use disk_model::Disk;
-use mdbox_base::{ListRow, Name, NoMemory, Refusal, Reply, Request, Seq};
-use std::alloc::Global;
+use mdbox_base::{Did, Progress, Request};
 use std::marker::Model;
 use store_core::Store;
+
+/// Which event of a task is the next.
+#[derive(Clone, Copy, Debug, PartialEq, Eq)]
+pub enum TaskStage {
+    /// The first. A task that has ended stays where its last event began.
+    First,
+}
 
 /// The task of a request: its events, one at a step.
 #[derive(Drop)]
 pub struct OpsTask {
     request: Request,
+    stage: TaskStage,
+    did: Did,
 }
 
 impl Model for OpsTask {
-    ghost use Rattle.mdbox_base.specs.declared.requests.Request.{Request};
     ghost use Rattle.mail_ops.specs.Listing.{IsListing};
+    ghost use Rattle.mail_ops.specs.Task.{TaskValue};
 
-    ghost Value = { Request };
+    ghost Value = { TaskValue };
 
-    ghost view = { λ task. task.request };
+    ghost view = { λ task. record { request = task.request; stage = task.stage; did = task.did } };
 
     ghost invariant = { λ task. IsListing task.request };
 }
@@ -40,64 +45,36 @@ impl OpsTask {
     /// The task of a listing.
     pub fn of(request: Request) -> OpsTask
         requires { IsListing request }
-        ensures { result ≡ request }
+        ensures { result ≡ record { request = request; stage = stage.First; did = did.Quiet } }
     {
-        OpsTask { request }
+        OpsTask {
+            request,
+            stage: TaskStage::First,
+            did: Did::Quiet,
+        }
+    }
+
+    /// What the last event did.
+    pub fn did(&self) -> Did
+        ensures { result ≡ self.now.did }
+    {
+        self.did
     }
 
     /// Does the next event. A listing has one, and is answered by it.
     pub fn step<D: Disk>(&mut self, store: &mut Store<D>) -> Progress
-        ensures replies { (reply : Reply) × (result ≡ progress.Done reply) × Replies self.old store.old reply }
-
-        // Of the lists that the store shows, where it isn't stopped, it is the reply of the list machine.
-        ensures answers { store.old.stopped ≡ false → (run : Run) (lists : Lists) (given : Reply) → result ≡ progress.Done given → ShowLists store.old.map.boxes (indexes_of store.old.boxes) lists
-            → (given ≡ reply.Refused refusal.NoMemory) ⊎ Answers run lists self.old First given lists }
+        // Of every run that has come to the store: which event it was, what it answered, and what a crash may leave.
+        ensures does { (around after : Around) → Steps (IsAt self.old.stage) (IsAt self.new.stage) around after self.old.request (seen_of store.old (D.history store.old.disk) (D.faults store.old.disk)) (seen_of store.new (D.history store.new.disk) (D.faults store.new.disk)) self.new.did (ended_by result) }
+        ensures replies { (reply : Reply) × (result ≡ progress.Done reply) × Replies self.old.request store.old reply }
         ensures same { store.new ≡ store.old }
-        ensures task { self.new ≡ self.old }
+        ensures request { self.new.request ≡ self.old.request }
     {
-        store_core::listings_are_shown();
+        let TaskStage::First = self.stage;
         let Request::List { name } = &self.request else {
             unreachable!()
         };
-        Progress::Done(listing(store, name))
-    }
-}
-
-/// The listing of a mailbox.
-fn listing<D: Disk>(store: &Store<D>, name: &Name) -> Reply
-    ensures { (result ≡ listing_reply name.now store.now) ⊎ (result ≡ reply.Refused refusal.NoMemory) }
-{
-    if store.stopped() {
-        return Reply::Refused(Refusal::Stopped);
-    }
-    let Some(index) = store.list_of(name) else {
-        return Reply::Refused(Refusal::NoMailbox);
-    };
-    match rows_of(store.alloc(), index) {
-        Ok(rows) => Reply::Listed(rows),
-        Err(NoMemory) => Reply::Refused(Refusal::NoMemory),
-    }
-}
-
-/// The rows of a listing, in UID order.
-fn rows_of(alloc: Global, index: &BoxIndex) -> Result<Seq<ListRow>, NoMemory>
-    ensures { IfOk result (λ rows. rows ≡ map listed_row index.now.rows) }
-{
-    let mut rows = Vec::with_capacity(alloc, index.length() as usize)?;
-    for place in 0..index.length() {
-        rows.push(row_of(index.row_at(place).unwrap()))?;
-    }
-    Ok(Seq::of(rows))
-}
-
-fn row_of(row: BoxRow) -> ListRow
-    ensures { result ≡ listed_row (shown row) }
-{
-    ListRow {
-        uid: row.uid,
-        flags: row.flags,
-        size: row.size,
-        time: row.time,
-        guid: row.guid,
+        let (reply, did) = list(store, name);
+        self.did = did;
+        Progress::Done(reply)
     }
 }

@@ -1,3 +1,3 @@
-pub mod Checks
-pub mod Positions
-pub mod Steps
+pub mod CheckLemmas
+pub mod PositionLemmas
+pub mod PlainStepLemmas

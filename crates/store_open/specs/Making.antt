@@ -42,6 +42,10 @@ pub record IsFreeForStore (disk : DiskState) : Type 0 where
 abbrev pub NeverHasEntry : FileState → Type 0
 NeverHasEntry f = (left : Option (List ℕ)) → MayLeave f left → HasNoEntry left
 
+-- whatever a crash leaves of the disk, there is no store
+abbrev pub NeverHasStore : Option History → Type 0
+NeverHasStore history = IfTold history (λ now. NeverHasEntry (now file.Root))
+
 -- a log that was there is gone, and its name was synced; any other file is as it was, or its name was synced too
 pub record IsCleared (name : FileName) (f g : FileState) : Type 0 where
   pub gone : IsLogName name → IsThere f → g ≡ no_file

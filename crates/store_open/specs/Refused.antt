@@ -1,5 +1,5 @@
 -- Why a store was not made.
-use Rattle.std.specs.Prelude.{◌≡◌, ◌⊎◌, Option, ⊤}
+use Rattle.std.specs.Prelude.{◌≡◌, ◌⊎◌, ℕ, List, Option, codes, ⊤}
 use Rattle.disk_model.specs.Disk.{History, IfTold, reading}
 use Rattle.disk_model.specs.declared.name.FileName.TheVariants as file
 use Rattle.model_store.specs.Opening.{HasNoEntry}
@@ -24,3 +24,12 @@ IsFaultOrMemory error = (error ≡ DiskFault) ⊎ (error ≡ NoMemory)
 -- a refusal because of what the disk has
 abbrev pub IsOfFiles : OpenError → Type 0
 IsOfFiles error = (error ≡ StoreWhole) ⊎ (error ≡ MailFiles)
+
+-- what an error says when it is printed
+abbrev pub open_error_text : OpenError → List ℕ
+open_error_text NoStore = codes "no store"
+open_error_text StoreWhole = codes "there is a store already"
+open_error_text MailFiles = codes "mail files without a store"
+open_error_text (Damaged name place) = codes "store damaged"
+open_error_text DiskFault = codes "disk fault"
+open_error_text NoMemory = codes "out of memory"

@@ -1,5 +1,6 @@
 // Errors of making and opening a store.
-ghost use Rattle.std.specs.Prelude.{◌≡◌};
+ghost use Rattle.std.specs.Prelude.{◌≡◌, Some};
+ghost use Rattle.store_open.specs.Refused.{open_error_text};
 ghost use Rattle.store_open.specs.Causes.{of_check, of_sweep};
 ghost use Rattle.store_open.specs.declared.error.OpenError.TheVariants.{DiskFault as Fault, NoMemory as Memory};
 
@@ -30,15 +31,17 @@ pub enum OpenError {
 }
 
 impl fmt::Display for OpenError {
+    ghost output = { λ error. Some (open_error_text error) };
+
     fn fmt<W: fmt::Write>(&self, f: &mut fmt::Formatter<W>) -> fmt::Result {
-        match self {
-            OpenError::NoStore => f.write_str("no store"),
-            OpenError::StoreWhole => f.write_str("there is a store already"),
-            OpenError::MailFiles => f.write_str("mail files without a store"),
-            OpenError::Damaged(name, offset) => write!(f, "{name:?} damaged at {offset}"),
-            OpenError::DiskFault => f.write_str("disk fault"),
-            OpenError::NoMemory => f.write_str("out of memory"),
-        }
+        f.write_str(match self {
+            OpenError::NoStore => "no store",
+            OpenError::StoreWhole => "there is a store already",
+            OpenError::MailFiles => "mail files without a store",
+            OpenError::Damaged(..) => "store damaged",
+            OpenError::DiskFault => "disk fault",
+            OpenError::NoMemory => "out of memory",
+        })
     }
 }
 

@@ -1,52 +1,104 @@
-// Making a new store's files.
-ghost use Rattle.std.specs.Prelude.{◌≡◌, ◌∷◌, [], IfOk, IfErr, IsErrOf, OnOk};
+// Making a store and opening it.
+ghost use Rattle.std.specs.Prelude.{◌≡◌, ◌∷◌, [], false, IfOk, IfErr, IsErrOf, OnOk};
 ghost use Rattle.disk_model.specs.Disk.{IfTold, EachImage, IsIdle};
-ghost use Rattle.disk_model.specs.declared.name.FileName.TheVariants as file;
-ghost use Rattle.model_logs.specs.Entries.{map_text};
-ghost use Rattle.model_store.specs.Settled.{IsSettled};
+ghost use Rattle.disk_model.specs.FaultCounts.{NoFault, AnyFaultCounted};
+ghost use Rattle.model_meaning.specs.BoxMeaning.{box_meaning};
+ghost use Rattle.model_meaning.specs.MapMeaning.{map_meaning};
 ghost use Rattle.model_store.specs.Opening.{first_box, empty_inbox};
-ghost use Rattle.disk_model.specs.FaultCounts.{AnyFaultCounted};
-ghost use Rattle.gate_log.specs.Log.{Holds};
-ghost use Rattle.store_open.specs.Making.{IdleUnless, IsFreeForStore, IsMadeStore, NeverHasEntry, HasNothingOrInbox, new_map_head, inbox_head};
+ghost use Rattle.model_store.specs.Settled.{IsSettled};
+ghost use Rattle.store_core.specs.Value.{indexes_of, newly_open};
+ghost use Rattle.store_core.specs.Running.{IsStore};
+ghost use Rattle.store_open.specs.Making.{IdleUnless, IsFreeForStore, IsMadeStore, NeverHasStore, HasNothingOrInbox};
+ghost use Rattle.store_open.specs.Opened.{IsFaulted, disk_of};
 ghost use Rattle.store_open.specs.Refused.{IsMakingError, IsOfFiles};
 
-use crate::check::check_free;
-use crate::clear::remove_old_logs;
-use crate::entries::{inbox_entry, map_log_entry};
-use crate::error::OpenError;
-use crate::make::{MadeLogs, make_logs};
+use crate::entries::inbox;
+use crate::error::{OpenError, OpenRefused};
+use crate::first_logs::make_files;
+use crate::parts::push_box;
+use box_index::BoxIndex;
 use disk_model::Disk;
-use mdbox_base::StoreId;
+use map_index::MapIndex;
+use mdbox_base::{BoxNo, NoMemory, StoreId};
 use std::alloc::Global;
+use store_core::{OpenBox, OpenLogs, Store};
 
-/// Makes the files of a new store with this id: takes away the logs that a stopped making left, and makes the log of
-/// mailbox 1 (INBOX), the map log of generation 1, and last the root log.
+/// Makes an empty store with INBOX, as opened for one lane.
 ///
 /// `StoreWhole` exactly where the root log has an entry, `MailFiles` exactly where it has none and a storage file or an
 /// attachment instance is there.
-pub fn make_files<D: Disk>(alloc: Global, disk: &mut D, id: StoreId) -> Result<MadeLogs, OpenError>
-    ensures refused { IfErr result (IsMakingError (D.history disk.old)) }
-    ensures free { OnOk result (IfTold (D.history disk.old) IsFreeForStore) }
-    ensures idle { IfErr result (λ error. IsOfFiles error → IsIdle (D.history disk.old) (D.history disk.new)) }
+pub fn init_store<D: Disk>(alloc: Global, disk: D, id: StoreId) -> Result<Store<D>, OpenRefused<D>>
+    ensures refused { IfErr result (λ refused. IsMakingError (D.history disk) refused.error) }
+    ensures free { OnOk result (IfTold (D.history disk) IsFreeForStore) }
+    ensures idle { IfErr result (λ refused. IsOfFiles refused.error → IsIdle (D.history disk) (D.history refused.disk)) }
 
     // Whatever is answered, nothing changes where a store may not be made.
-    ensures untouched { IdleUnless IsFreeForStore (D.history disk.old) (D.history disk.new) }
+    ensures untouched { IdleUnless IsFreeForStore (D.history disk) (D.history (disk_of result)) }
 
     // Where at the beginning each image's root log has no entry, at every moment of the call each image has no entry there,
     // or is safe for the lists with an empty INBOX.
-    ensures any_moment { IfTold (D.history disk.old) (λ now. NeverHasEntry (now file.Root)) → EachImage (λ _ image. HasNothingOrInbox image) (D.history disk.old) (D.history disk.new) }
+    ensures any_moment { NeverHasStore (D.history disk) → EachImage (λ _ image. HasNothingOrInbox image) (D.history disk) (D.history (disk_of result)) }
 
-    // After Ok the disk has the new store and no other file.
-    ensures settled { OnOk result (IfTold (D.history disk.new) (λ now. IsSettled now empty_inbox)) }
-    ensures store { OnOk result (IfTold (D.history disk.new) (IsMadeStore id.0)) }
-    ensures map_log { IfOk result (λ made. Holds made.map_log (map_text first_box ∷ []) (D.history disk.new) × (made.map_log.name ≡ file.Map 1) × (made.map_log.head ≡ new_map_head id.0)) }
-    ensures box_log { IfOk result (λ made. Holds made.box_log [] (D.history disk.new) × (made.box_log ≡ record { name = file.Box 1 1; head = inbox_head id.0; end = 25; room = 0 })) }
+    // After Ok the disk has the new store and no other file, and the store is that, for one lane.
+    ensures settled { IfOk result (λ store. IfTold (D.history store.disk) (λ now. IsSettled now empty_inbox)) }
+    ensures store { IfOk result (λ store. IfTold (D.history store.disk) (IsMadeStore id.0)) }
+    ensures made { IfOk result (λ store. (store.map ≡ map_meaning id.0 (first_box ∷ [])) × (indexes_of store.boxes ≡ box_meaning [] ∷ []) × (store.lanes ≡ 1) × (store.stopped ≡ false) × (store.alloc ≡ alloc)) }
 
-    ensures fault { AnyFaultCounted (IsErrOf result OpenError.DiskFault) (D.faults disk.old) (D.faults disk.new) }
+    // Out of memory means that no store was made.
+    ensures unmade { IfErr result (λ refused. refused.error ≡ OpenError.NoMemory → NeverHasStore (D.history disk) → NeverHasStore (D.history refused.disk)) }
+    ensures fault { AnyFaultCounted (IsFaulted result) (D.faults disk) (D.faults (disk_of result)) }
+    ensures unfailed { (IsFaulted result → ⊥) → NoFault (D.faults disk) (D.faults (disk_of result)) }
 {
-    check_free(alloc, disk)?;
-    let inbox = inbox_entry(alloc)?;
-    let first = map_log_entry(alloc)?;
-    remove_old_logs(disk)?;
-    make_logs(alloc, disk, id, inbox.as_slice(), first.as_slice())
+    let mut disk = disk;
+    match new_logs(alloc, &mut disk, id) {
+        Ok(logs) => Ok(Store::of(alloc, disk, logs, 1)),
+        Err(error) => Err(OpenRefused { error, disk }),
+    }
+}
+
+/// Makes the logs of a new store, with what they mean. Nothing wants memory once they are made.
+fn new_logs<D: Disk>(alloc: Global, disk: &mut D, id: StoreId) -> Result<OpenLogs, OpenError>
+    ensures id { IfOk result (λ logs. logs.map.store ≡ logs.id.0) }
+    ensures store { IfOk result (λ logs. IsStore (D.history disk.new) (newly_open alloc disk.new logs 1)) }
+    ensures made { IfOk result (λ logs. (logs.map ≡ map_meaning id.0 (first_box ∷ [])) × (indexes_of logs.boxes.items ≡ box_meaning [] ∷ [])) }
+    ensures settled { OnOk result (IfTold (D.history disk.new) (λ now. IsSettled now empty_inbox)) }
+    ensures there { OnOk result (IfTold (D.history disk.new) (IsMadeStore id.0)) }
+    ensures any_moment { NeverHasStore (D.history disk.old) → EachImage (λ _ image. HasNothingOrInbox image) (D.history disk.old) (D.history disk.new) }
+    ensures refused { IfErr result (IsMakingError (D.history disk.old)) }
+    ensures free { OnOk result (IfTold (D.history disk.old) IsFreeForStore) }
+    ensures idle { IfErr result (λ error. IsOfFiles error → IsIdle (D.history disk.old) (D.history disk.new)) }
+    ensures untouched { IdleUnless IsFreeForStore (D.history disk.old) (D.history disk.new) }
+    ensures unmade { IsErrOf result OpenError.NoMemory → NeverHasStore (D.history disk.old) → NeverHasStore (D.history disk.new) }
+    ensures fault { AnyFaultCounted (IsErrOf result OpenError.DiskFault) (D.faults disk.old) (D.faults disk.new) }
+    ensures unfailed { (IsErrOf result OpenError.DiskFault → ⊥) → NoFault (D.faults disk.old) (D.faults disk.new) }
+{
+    let map = new_map(alloc, id)?;
+    let index = BoxIndex::empty(alloc)?;
+    let mut boxes = Vec::with_capacity(alloc, 1)?;
+    let made = make_files(alloc, disk, id)?;
+    push_box(
+        &mut boxes,
+        OpenBox {
+            number: BoxNo(1),
+            log: made.box_log,
+            index,
+        },
+    );
+    Ok(OpenLogs {
+        id,
+        root_log: made.root_log,
+        map_log: made.map_log,
+        map,
+        boxes,
+    })
+}
+
+/// What the map log of a new store means.
+fn new_map(alloc: Global, id: StoreId) -> Result<MapIndex, NoMemory>
+    ensures { IfOk result (λ map. map ≡ map_meaning id.0 (first_box ∷ [])) }
+{
+    let inbox = inbox(alloc)?;
+    let mut map = MapIndex::empty(alloc, id)?;
+    map.apply(&inbox)?;
+    Ok(map)
 }

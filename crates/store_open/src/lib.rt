@@ -2,18 +2,15 @@
 #![tactic(auto)]
 
 pub use error::{OpenError, OpenRefused};
-pub use init::make_files;
-pub use make::MadeLogs;
-pub use new_store::init_store;
+pub use init::init_store;
 pub use open::open_store;
 
-mod check;
-mod clear;
 mod entries;
 mod error;
+mod first_logs;
+mod free;
 mod init;
-mod make;
-mod new_store;
+mod old_logs;
 mod open;
 mod parts;
 #[cfg(test)]

@@ -29,7 +29,7 @@ pub fn part(alloc: Global, map: &MapIndex, boxes: Vec<CheckedBox>) -> Result<Par
     requires { length boxes.items ≡ length map.now.boxes }
     ensures { IfOk result (AreParted map.now.boxes boxes.items) }
 {
-    map.is_kept();
+    map.known_facts();
     let mut logs = Vec::new(alloc);
     let mut rest = Vec::new(alloc);
     for (place, checked) in boxes.into_iter().enumerate() {

@@ -1,5 +1,6 @@
 // A new store on a disk in memory.
-use crate::{OpenError, OpenRefused, init_store, make_files, open_store};
+use crate::first_logs::make_files;
+use crate::{OpenError, OpenRefused, init_store, open_store};
 use disk_mem::{Choice, MemDisk};
 use disk_model::{Disk, DiskError, FileName};
 use mdbox_base::{BoxNo, Seq, StoreId};

@@ -144,12 +144,11 @@ map_is_wanted g m log is = ap (is_wanted g m) is ∙ eq-eqb g g refl
 -- ---- the root log, and what is no log in force
 
 pub root_stays : (g : ℕ) (m : MapMeaning) (logs : List InspectedLog) (log map : InspectedLog) (gate : LogState) (old d e new : Option History) → log.name ≡ file.Root → map.name ≡ file.Map g → AreLogsOfBoxes m logs
-    → SameButFor map.name d e → SameWhere (is_outside logs) e new → IsRepaired old d log gate → IsRepaired old new log (repaired_log log)
+    → SameButFor map.name d e → SameWhere (is_outside logs) e new → IsRepaired old d log gate → IsRepaired old new log gate
 root_stays g m logs log map gate old d e new is map_is names second third r =
     let apart : log.name ≢ map.name = λ same. map_apart g map log map_is is (sym same) in
     let a : IsRepaired old e log gate = repaired_stays log gate old d e (stays_but_for log.name map.name d e apart second) r in
-    let b : IsRepaired old new log gate = repaired_stays log gate old e new (stays_where is_no_box log.name e new (no_box_root log is) (others_stay m logs e new names third)) a in
-    subst (λ (l : LogState). IsRepaired old new log l) b.is b
+    repaired_stays log gate old e new (stays_where is_no_box log.name e new (no_box_root log is) (others_stay m logs e new names third)) a
 
 three_names : (name : FileName) (root map : InspectedLog) (logs : List InspectedLog) → is_outside (root ∷ map ∷ logs) name ≡ true → (name ≢ root.name) × (name ≢ map.name) × (is_outside logs name ≡ true)
 three_names name root map logs passes =

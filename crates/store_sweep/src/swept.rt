@@ -9,7 +9,7 @@ ghost use Rattle.model_lists.specs.Lists.{Lists};
 ghost use Rattle.model_store.specs.Safe.{Safe};
 ghost use Rattle.model_store.specs.Settled.{IsSettledFor};
 ghost use Rattle.store_sweep.specs.Moments.{NoFailedChange, ImagesCarry, KeepsStore, SameWhere, SameThere, KeepsWanted, LogStays, AreFitted, NamesSynced};
-ghost use Rattle.store_sweep.specs.Repaired.{StandsFound, repaired_log, IsRepaired, AreLogsOfBoxes, is_outside};
+ghost use Rattle.store_sweep.specs.Repaired.{StandsFound, IsRepaired, AreLogsOfBoxes, is_outside};
 ghost use Rattle.store_sweep.specs.Swept.{OpensWith, FilesCarry, IsOpened, IsSwept};
 ghost use Rattle.disk_model.specs.Name.{is_log};
 ghost use Rattle.store_sweep.specs.Wanted.{is_wanted, EndsByLastRegion};
@@ -24,9 +24,10 @@ use gate_log::{DiskFault, FoundLog, GateLog};
 use map_index::MapIndex;
 use std::alloc::Global;
 
-/// The logs of a store whose disk was swept: the map log, and those of the mailboxes of the map, in order.
+/// The logs of a store whose disk was swept: the root log, the map log, and those of the mailboxes of the map, in order.
 #[derive(Drop)]
 pub struct SweptLogs {
+    pub root_log: GateLog,
     pub map_log: GateLog,
     pub box_logs: Vec<GateLog>,
 }
@@ -63,7 +64,7 @@ fn repair_logs<D: Disk>(
     box_logs: Vec<FoundLog>,
     map: &MapIndex,
     opened: &mut Vec<GateLog>,
-) -> Result<GateLog, DiskFault>
+) -> Result<(GateLog, GateLog), DiskFault>
     requires root { (root_log.name ≡ file.Root) × IfTold (D.history disk.old) (λ now. StandsFound now root_log) }
     requires map_log { ((generation : ℕ) × (map_log.name ≡ file.Map generation)) × IfTold (D.history disk.old) (λ now. StandsFound now map_log) }
     requires box_logs { AreLogsOfBoxes map.now box_logs.items }
@@ -74,16 +75,16 @@ fn repair_logs<D: Disk>(
     ensures keeps { OnOk result ((generation : ℕ) → map_log.name ≡ file.Map generation → KeepsStore generation map.now (D.history disk.old) (D.history disk.new)) }
     ensures there { OnOk result (SameThere (D.history disk.old) (D.history disk.new)) }
     ensures others { OnOk result (SameWhere (is_outside (root_log ∷ map_log ∷ box_logs.items)) (D.history disk.old) (D.history disk.new)) }
-    ensures root_log { OnOk result (IsRepaired (D.history disk.old) (D.history disk.new) root_log (repaired_log root_log)) }
-    ensures map_log { IfOk result (λ log. IsRepaired (D.history disk.old) (D.history disk.new) map_log log) }
+    ensures root_log { IfOk result (λ logs. IsRepaired (D.history disk.old) (D.history disk.new) root_log logs.0) }
+    ensures map_log { IfOk result (λ logs. IsRepaired (D.history disk.old) (D.history disk.new) map_log logs.1) }
     ensures box_logs { OnOk result (AllZip (IsRepaired (D.history disk.old) (D.history disk.new)) box_logs.items opened.new.items) }
     ensures fault { ChangeFaultCounted (IsErr result) (D.faults disk.old) (D.faults disk.new) }
     ensures unfailed { OnOk result (NoFault (D.faults disk.old) (D.faults disk.new)) }
 {
-    root_log.repair(alloc, disk)?;
+    let root_log = root_log.repair(alloc, disk)?;
     let map_log = map_log.repair(alloc, disk)?;
     repair_boxes(alloc, disk, box_logs, map, opened)?;
-    Ok(map_log)
+    Ok((root_log, map_log))
 }
 
 /// Sweeps a disk whose store has passed the checks of an opening, with its logs as they were found and the map. The ends
@@ -114,7 +115,7 @@ pub fn sweep<D: Disk>(
 
     // After Ok the disk is swept, and each log is the one that was found, with its end repaired.
     ensures swept { OnOk result (IsSwept generation map.now (D.history disk.old) (D.history disk.new)) }
-    ensures root_log { OnOk result (IsOpened (D.history disk.old) (D.history disk.new) root_log (repaired_log root_log)) }
+    ensures root_log { IfOk result (λ swept. IsOpened (D.history disk.old) (D.history disk.new) root_log swept.root_log) }
     ensures map_log { IfOk result (λ swept. IsOpened (D.history disk.old) (D.history disk.new) map_log swept.map_log) }
     ensures box_logs { IfOk result (λ swept. AllZip (IsOpened (D.history disk.old) (D.history disk.new)) box_logs.items swept.box_logs.items) }
 
@@ -123,9 +124,18 @@ pub fn sweep<D: Disk>(
     ensures unfailed { (IsErrOf result error.DiskFault → ⊥) → NoFault (D.faults disk.old) (D.faults disk.new) }
 {
     let mut opened = Vec::with_capacity(alloc, box_logs.as_slice().len())?;
-    let map_log = repair_logs(alloc, disk, root_log, map_log, box_logs, map, &mut opened)?;
+    let (root_log, map_log) = repair_logs(
+        alloc,
+        disk,
+        root_log,
+        map_log,
+        box_logs,
+        map,
+        &mut opened,
+    )?;
     clear(disk, generation, map)?;
     Ok(SweptLogs {
+        root_log,
         map_log,
         box_logs: opened,
     })

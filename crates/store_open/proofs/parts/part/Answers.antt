@@ -3,7 +3,7 @@ use Rattle.std.specs.Option.{option_map}
 use Rattle.map_index.specs.Shown.{shown_box}
 use Rattle.store_checks.specs.declared.mailbox.CheckedBox.{CheckedBox}
 use Rattle.store_open.specs.declared.parts.BoxRest.{BoxRest}
-use Rattle.store_open.proofs.Parting.{moved, pushed, numbered, left_more, count_more}
+use Rattle.store_open.proofs.PartLemmas.{moved, pushed, numbered, left_more, count_more}
 use Rattle.store_open.proofs.parts.part.Goals as goal
 
 pub loop-place-preserved : goal.loop-place-preserved

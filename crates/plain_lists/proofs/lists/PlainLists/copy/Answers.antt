@@ -5,8 +5,8 @@ use Rattle.model_lists.specs.Lists.{ListedMessage, Lists, refs_of}
 use Rattle.list_machine.specs.Machine.{add_last, add_message}
 use Rattle.plain_lists.specs.declared.lists.PlainMailbox.{PlainMailbox}
 use Rattle.plain_lists.specs.View.{mailbox_of, message_of}
-use Rattle.plain_lists.proofs.Checks.{copy_no_source, copy_no_target, copy_no_message, copy_full, copy_used_up, copy_shared, copy_passes, copy_last}
-use Rattle.plain_lists.proofs.Steps.{mailbox_place, no_mailbox_here, placed_named, no_message_here, copy_found, same_mailbox, mailbox_changed, read_twice}
+use Rattle.plain_lists.proofs.CheckLemmas.{copy_no_source, copy_no_target, copy_no_message, copy_full, copy_used_up, copy_shared, copy_passes, copy_last}
+use Rattle.plain_lists.proofs.PlainStepLemmas.{mailbox_place, no_mailbox_here, placed_named, no_message_here, copy_found, same_mailbox, mailbox_changed, read_twice}
 use Rattle.plain_lists.proofs.lists.PlainLists.copy.Goals as goal
 
 pub returns-in_default-clause-answers : goal.returns-in_default-clause-answers

@@ -1,5 +1,5 @@
 use Rattle.std.proofs.Common.{refl}
-use Rattle.plain_lists.proofs.Steps.{mailbox_place, message_place, mailbox_here, message_here, no_mailbox_here, no_message_here, read_twice, expunged}
+use Rattle.plain_lists.proofs.PlainStepLemmas.{mailbox_place, message_place, mailbox_here, message_here, no_mailbox_here, no_message_here, read_twice, expunged}
 use Rattle.plain_lists.proofs.lists.PlainLists.expunge.Goals as goal
 
 pub returns-in_default : goal.returns-in_default

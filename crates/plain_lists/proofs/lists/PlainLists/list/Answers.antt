@@ -1,7 +1,7 @@
 use Rattle.std.proofs.Common.{refl, arith}
 use Rattle.std.proofs.lemmas.Grind.{common_steps}
 use Rattle.plain_lists.specs.View.{mailbox_of}
-use Rattle.plain_lists.proofs.Steps.{mailbox_place, mailbox_here, no_mailbox_here}
+use Rattle.plain_lists.proofs.PlainStepLemmas.{mailbox_place, mailbox_here, no_mailbox_here}
 use Rattle.plain_lists.proofs.lists.PlainLists.list.Goals as goal
 
 pub returns-in-None : goal.returns-in-None

@@ -2,8 +2,8 @@ use Rattle.std.proofs.Common.{Some, ◌≡◌, ◌≤◌, ◌<◌, ◌+◌, leng
 use Rattle.std.proofs.lemmas.List.{length-map}
 use Rattle.model_meaning.specs.MapMeaning.{greatest, MapMeaning}
 use Rattle.plain_lists.specs.View.{mailbox_of}
-use Rattle.plain_lists.proofs.Checks.{make_exists, make_full, make_used_up, make_passes, make_last, all_below}
-use Rattle.plain_lists.proofs.Steps.{named_as_placed, pushed_empty}
+use Rattle.plain_lists.proofs.CheckLemmas.{make_exists, make_full, make_used_up, make_passes, make_last, all_below}
+use Rattle.plain_lists.proofs.PlainStepLemmas.{named_as_placed, pushed_empty}
 use Rattle.plain_lists.proofs.lists.PlainLists.make.Goals as goal
 
 pub returns-then-is_some-clause-answers : goal.returns-then-is_some-clause-answers

@@ -1,0 +1,17 @@
+-- A step, by the stage of its task.
+use Rattle.std.proofs.Common.{◌≡◌, Some, subst}
+use Rattle.journal.specs.Events.{Around}
+use Rattle.mdbox_base.specs.declared.progress.Did.{Did}
+use Rattle.mdbox_base.specs.declared.replies.Reply.{Reply}
+use Rattle.mdbox_base.specs.declared.requests.Request.{Request}
+use Rattle.task_steps.specs.Step.{Seen, HasNotBegun, Steps}
+use Rattle.task_steps.proofs.OneEventLemmas.{never_more}
+use Rattle.mail_ops.specs.Task.{IsAt}
+use Rattle.mail_ops.specs.declared.task.TaskStage.{TaskStage}
+use Rattle.mail_ops.specs.declared.task.TaskStage.TheVariants as stage
+
+-- an only event, which ends its request
+pub only_event : (old new : TaskStage) (around after : Around) (q asked : Request) (before behind : Seen) (did : Did) (given : Reply) → asked ≡ q → Steps HasNotBegun HasNotBegun around after asked before behind did (Some given)
+    → Steps (IsAt old) (IsAt new) around after q before behind did (Some given)
+only_event stage.First new around after q asked before behind did given same h = λ run lane place said lists come shows stood.
+    let r = subst (λ (k : Request). Steps HasNotBegun HasNotBegun around after k before behind did (Some given)) same h run lane place said lists come shows stood in (r.0, λ e. absurd (never_more given e))

@@ -1,0 +1,25 @@
+-- What a caller sees of a task, and of the store that it works on.
+use Rattle.std.specs.Prelude.{List, Option}
+use Rattle.disk_model.specs.Disk.{History, Faults}
+use Rattle.list_machine.specs.Run.{RunEvent}
+use Rattle.mdbox_base.specs.declared.progress.Did.{Did}
+use Rattle.mdbox_base.specs.declared.replies.Reply.{Reply}
+use Rattle.mdbox_base.specs.declared.requests.Request.{Request}
+use Rattle.store_core.specs.Value.{StoreValue, indexes_of}
+use Rattle.task_steps.specs.Step.{Seen, HasNotBegun}
+use Rattle.mail_ops.specs.declared.task.TaskStage.{TaskStage}
+use Rattle.mail_ops.specs.declared.task.TaskStage.TheVariants as stage
+
+-- Its request, which event is next, and what the last one did: nothing before the first.
+pub record TaskValue : Type 0 where
+  pub request : Request
+  pub stage : TaskStage
+  pub did : Did
+
+-- what is true of the request's own events so far, and of the answers of its steps
+abbrev pub IsAt : TaskStage → List RunEvent → List Reply → Type 0
+IsAt stage.First own said = HasNotBegun own said
+
+-- a store as an event sees it, with what its disk tells and the faults that it has counted
+abbrev pub seen_of : {D : Type 0} → StoreValue D → Option History → Faults → Seen
+seen_of store history faults = record { map = store.map; meanings = indexes_of store.boxes; drawn = store.drawn; history = history; faults = faults; stopped = store.stopped }

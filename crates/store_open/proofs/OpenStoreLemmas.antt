@@ -1,0 +1,156 @@
+-- The store that was opened.
+use Rattle.std.proofs.Common.{◌≡◌, ◌≤◌, ◌-◌, ℕ, false, List, [], ◌∷◌, length, map, All, Option, refl, sym, ◌∙◌, ap, subst, arith}
+use Rattle.std.specs.List.{AllZip}
+use Rattle.std.proofs.lemmas.List.{length-map}
+use Rattle.std.proofs.lemmas.List.Elements.{All-weaker}
+use Rattle.disk_model.specs.Disk.{History, IfTold, IsIdle}
+use Rattle.disk_model.specs.declared.name.FileName.TheVariants as file
+use Rattle.disk_model.proofs.MomentLemmas.{if_told-map}
+use Rattle.mdbox_base.specs.declared.entries.BoxEntry.{BoxEntry}
+use Rattle.mdbox_base.specs.declared.entries.MapEntry.{MapEntry}
+use Rattle.mdbox_base.specs.declared.entries.RootEntry.{RootEntry}
+use Rattle.model_meaning.specs.BoxMeaning.{box_meaning}
+use Rattle.model_logs.specs.Entries.{map_text}
+use Rattle.model_store.specs.GoodLogs.{AreGoodLogs}
+use Rattle.model_meaning.specs.MapMeaning.{MapRecord, MapBox, MapMeaning, map_meaning}
+use Rattle.model_store.specs.Opening.{listed_of, IsCounted}
+use Rattle.gate_log.specs.State.{LogState, InspectedLog}
+use Rattle.store_checks.specs.Boxes.{IsFoundAs, AreFound}
+use Rattle.store_checks.specs.Roots.{root_log_head, root_texts, map_log_head}
+use Rattle.store_checks.specs.Store.{IsChecked}
+use Rattle.store_checks.specs.declared.check.Checked.{Checked}
+use Rattle.store_checks.specs.declared.mailbox.CheckedBox.{CheckedBox}
+use Rattle.store_core.specs.Value.{indexes_of, none_due, newly_open}
+use Rattle.store_core.specs.Running.{AreBoxLogs, ReadBoxLogs, CoverDues, IsStore}
+use Rattle.store_core.specs.declared.store.OpenBox.{OpenBox}
+use Rattle.store_core.specs.declared.store.OpenLogs.{OpenLogs}
+use Rattle.std.specs.declared.alloc.Global.{Global}
+use Rattle.store_sweep.specs.Swept.{FilesCarry, IsOpened}
+use Rattle.store_open.specs.Parts.{AreParted}
+use Rattle.store_open.specs.declared.parts.BoxRest.{BoxRest}
+use Rattle.store_open.specs.declared.parts.Parts.{Parts}
+use Rattle.store_open.proofs.CheckedLemmas.{OpensAt, opens_at}
+use Rattle.store_open.proofs.StillOpensLemmas.{still_opens, has_root}
+
+-- the logs of these mailboxes were opened as these
+abbrev pub Opened : Option History → Option History → List CheckedBox → List OpenBox → Type 0
+Opened now new boxes opened = AllZip (IsOpened now new) (map (λ b. b.log) boxes) (map (λ o. o.log) opened)
+
+box_logs : (store : List ℕ) (mailboxes : List MapBox) (boxes : List CheckedBox) (logs : List (List BoxEntry)) (opened : List OpenBox) (now new : Option History) → AreFound store mailboxes boxes logs now → Opened now new boxes opened
+    → map (λ o. o.number.0) opened ≡ map (λ b. b.number) mailboxes → AreBoxLogs store mailboxes opened
+box_logs store [] [] [] [] now new f z n = tt
+box_logs store [] [] [] (o ∷ os) now new f z n = absurd z
+box_logs store (x ∷ xs) (b ∷ bs) (l ∷ ls) [] now new f z n = absurd z
+box_logs store (x ∷ xs) (b ∷ bs) (l ∷ ls) (o ∷ os) now new f z n =
+    let e : o.number.0 ∷ map (λ (p : OpenBox). p.number.0) os ≡ x.number ∷ map (λ (y : MapBox). y.number) xs = n in
+    let first : o.number.0 ≡ x.number = cc e in
+    let later : map (λ (p : OpenBox). p.number.0) os ≡ map (λ (y : MapBox). y.number) xs = cc e in
+    (first, ap (λ (s : LogState). s.name) z.0.is ∙ f.0.name_is, ap (λ (s : LogState). s.head) z.0.is ∙ f.0.head_is, box_logs store xs bs ls os now new f.1 z.1 later)
+box_logs store [] [] (l ∷ ls) os now new f z n = absurd f
+box_logs store [] (b ∷ bs) ls os now new f z n = absurd f
+box_logs store (x ∷ xs) [] ls os now new f z n = absurd f
+box_logs store (x ∷ xs) (b ∷ bs) [] os now new f z n = absurd f
+
+read_logs : (store : List ℕ) (mailboxes : List MapBox) (boxes : List CheckedBox) (logs : List (List BoxEntry)) (opened : List OpenBox) (now new : Option History) → AreFound store mailboxes boxes logs now → Opened now new boxes opened → ReadBoxLogs new opened logs
+read_logs store [] [] [] [] now new f z = tt
+read_logs store [] [] [] (o ∷ os) now new f z = absurd z
+read_logs store (x ∷ xs) (b ∷ bs) (l ∷ ls) [] now new f z = absurd z
+read_logs store (x ∷ xs) (b ∷ bs) (l ∷ ls) (o ∷ os) now new f z = (z.0.reads _ f.0.stands, read_logs store xs bs ls os now new f.1 z.1)
+read_logs store [] [] (l ∷ ls) os now new f z = absurd f
+read_logs store [] (b ∷ bs) ls os now new f z = absurd f
+read_logs store (x ∷ xs) [] ls os now new f z = absurd f
+read_logs store (x ∷ xs) (b ∷ bs) [] os now new f z = absurd f
+
+-- ---- the mailboxes, apart and together again
+
+zip_length : {X Y : Type 0} → (R : X → Y → Type 0) (xs : List X) (ys : List Y) → AllZip R xs ys → length xs ≡ length ys
+zip_length R [] [] z = refl
+zip_length R [] (y ∷ ys) z = absurd z
+zip_length R (x ∷ xs) [] z = absurd z
+zip_length R (x ∷ xs) (y ∷ ys) z = let e = zip_length R xs ys z.1 in omega (arith, e)
+
+same_lengths : {X Y Z : Type 0} → (f : X → Z) (g : Y → Z) (xs : List X) (ys : List Y) → map f xs ≡ map g ys → length xs ≡ length ys
+same_lengths f g xs ys e = sym (length-map xs f) ∙ ap length e ∙ length-map ys g
+
+pub as_many : (mailboxes : List MapBox) (boxes : List CheckedBox) (parts : Parts) (gates : List LogState) (now new : Option History) → AreParted mailboxes boxes parts → AllZip (IsOpened now new) parts.logs.items gates
+    → (length gates ≡ length parts.rest.items) × (length gates ≡ length boxes)
+as_many mailboxes boxes parts gates now new p z =
+    let e : length gates ≡ length boxes = sym (zip_length (IsOpened now new) parts.logs.items gates z) ∙ ap length p.logs ∙ length-map boxes (λ (b : CheckedBox). b.log) in
+    (e ∙ sym (same_lengths (λ (r : BoxRest). r.index) (λ (b : CheckedBox). b.index) parts.rest.items boxes p.indexes), e)
+
+-- together again they are these
+pub record AreJoined (gates : List LogState) (rest : List BoxRest) (opened : List OpenBox) : Type 0 where
+  pub logs : map (λ b. b.log) opened ≡ gates
+  pub numbers : map (λ b. b.number.0) opened ≡ map (λ r. r.number.0) rest
+  pub indexes : map (λ b. b.index) opened ≡ map (λ r. r.index) rest
+
+-- ---- the store
+
+store_is : (m : MapMeaning) (store : List ℕ) (entries : List MapEntry) → m ≡ map_meaning store entries → store ≡ m.store
+store_is m store entries e = sym (ap (λ (k : MapMeaning). k.store) e)
+
+-- the law of counts
+abbrev pub CountsCover : Type 0
+CountsCover = (logs : List (List BoxEntry)) (rows : List MapRecord) → All (IsCounted logs) rows → CoverDues logs rows (none_due rows)
+
+-- what is known of a store with this id that was swept
+record IsKnown (store : List ℕ) (generation : ℕ) (entries : List MapEntry) (logs : List (List BoxEntry)) (m : MapMeaning) (root log : InspectedLog) (texts : List (List ℕ)) (boxes : List CheckedBox) (now new : Option History) : Type 0 where
+  good : AreGoodLogs store entries logs
+  map_is : m ≡ map_meaning store entries
+  root_found : IsFoundAs root file.Root (root_log_head store) texts now
+  map_found : IsFoundAs log (file.Map generation) (map_log_head store generation) (map map_text entries) now
+  found : AreFound store m.boxes boxes logs now
+  opens : IfTold new (OpensAt store generation entries logs)
+
+is_store : {D : Type 0} (alloc : Global) (disk : D) (generation : ℕ) (entries : List MapEntry) (logs : List (List BoxEntry)) (root log : InspectedLog) (texts : List (List ℕ)) (boxes : List CheckedBox) (o : OpenLogs) (lanes : ℕ) (now new : Option History)
+    → CountsCover → IsKnown o.map.store generation entries logs o.map root log texts boxes now new → IsOpened now new root o.root_log → IsOpened now new log o.map_log → Opened now new boxes o.boxes.items → map (λ b. b.number.0) o.boxes.items ≡ map (λ b. b.number) o.map.boxes → indexes_of o.boxes.items ≡ map box_meaning logs
+    → 1 ≤ lanes → lanes ≤ 64 → IsStore new (newly_open alloc disk o lanes)
+is_store alloc disk generation entries logs root log texts boxes o lanes now new cover k root_opened map_opened zip numbers indexes some few = record {
+  entries = entries;
+  logs = logs;
+  generation = generation;
+  good = k.good;
+  map_is = k.map_is;
+  boxes_are = indexes;
+  counts = cover logs o.map.records (subst (λ (n : MapMeaning). All (IsCounted logs) n.records) (sym k.map_is) k.good.counts);
+  drawn = record { file = omega arith; map = omega arith; instance = omega arith; mailbox = omega arith };
+  root_name = ap (λ (l : LogState). l.name) root_opened.is ∙ k.root_found.name_is;
+  root_head = ap (λ (l : LogState). l.head) root_opened.is ∙ k.root_found.head_is;
+  map_name = ap (λ (l : LogState). l.name) map_opened.is ∙ k.map_found.name_is;
+  map_head = ap (λ (l : LogState). l.head) map_opened.is ∙ k.map_found.head_is;
+  box_logs = box_logs o.map.store o.map.boxes boxes logs o.boxes.items now new k.found zip numbers;
+  some_lanes = some;
+  few_lanes = few;
+  running = λ _. record {
+    opens = if_told-map _ _ new (λ disk o. o.0) k.opens;
+    root = if_told-map _ _ new (λ disk q. has_root o.map.store generation entries logs disk q) k.opens;
+    root_entries = texts;
+    root_log_reads = root_opened.reads texts k.root_found.stands;
+    map_log_reads = map_opened.reads (map map_text entries) k.map_found.stands;
+    box_logs_read = read_logs o.map.store o.map.boxes boxes logs o.boxes.items now new k.found zip;
+  };
+}
+
+-- the indexes are what the logs mean
+pub indexes_are : (c : Checked) (before : List RootEntry) (entries : List MapEntry) (logs : List (List BoxEntry)) (parts : Parts) (gates : List LogState) (opened : List OpenBox) (old now : Option History) → IsChecked c before entries logs old now
+    → AreParted c.map.boxes c.boxes parts → AreJoined gates parts.rest.items opened → indexes_of opened ≡ map box_meaning logs
+indexes_are c before entries logs parts gates opened old now k p j = j.indexes ∙ p.indexes ∙ k.boxes_are
+
+pub opened_store : {D : Type 0} (alloc : Global) (disk : D) (c : Checked) (before : List RootEntry) (entries : List MapEntry) (logs : List (List BoxEntry)) (parts : Parts) (gates : List LogState) (o : OpenLogs) (lanes : ℕ) (old now new : Option History) → CountsCover → IsIdle old now
+    → IsChecked c before entries logs old now → AreParted c.map.boxes c.boxes parts → FilesCarry c.generation c.map now new → o.map ≡ c.map → IsOpened now new c.root_log o.root_log → IsOpened now new c.map_log o.map_log → AllZip (IsOpened now new) parts.logs.items gates → AreJoined gates parts.rest.items o.boxes.items
+    → 1 ≤ lanes → lanes ≤ 64 → IsStore new (newly_open alloc disk o lanes)
+opened_store alloc disk c before entries logs parts gates o lanes old now new cover idle k p carry same root_opened map_opened zip j some few =
+    let known : IsKnown c.map.store c.generation entries logs c.map c.root_log c.map_log (root_texts before c.generation) c.boxes now new =
+    subst (λ (s : List ℕ). IsKnown s c.generation entries logs c.map c.root_log c.map_log (root_texts before c.generation) c.boxes now new) (store_is c.map c.id.0 entries k.map_is) (record {
+      good = k.good;
+      map_is = k.map_is;
+      root_found = k.root_log;
+      map_found = k.map_log;
+      found = k.box_logs;
+      opens = still_opens c.id.0 c.generation entries logs c.map now new k.map_is (opens_at c before entries logs old now idle k) carry;
+    }) in
+    is_store alloc disk c.generation entries logs c.root_log c.map_log (root_texts before c.generation) c.boxes o lanes now new cover
+    (subst (λ (m : MapMeaning). IsKnown m.store c.generation entries logs m c.root_log c.map_log (root_texts before c.generation) c.boxes now new) (sym same) known)
+    root_opened map_opened
+    (subst (λ (ls : List LogState). AllZip (IsOpened now new) (map (λ (b : CheckedBox). b.log) c.boxes) ls) (sym j.logs) (subst (λ (ls : List InspectedLog). AllZip (IsOpened now new) ls gates) p.logs zip))
+    (j.numbers ∙ p.numbers ∙ ap (λ (m : MapMeaning). map (λ (b : MapBox). b.number) m.boxes) (sym same)) (indexes_are c before entries logs parts gates o.boxes.items old now k p j) some few

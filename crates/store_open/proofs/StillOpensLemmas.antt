@@ -1,0 +1,63 @@
+-- Files that carry over what a store reads open as they did.
+use Rattle.std.proofs.Common.{◌≡◌, ℕ, List, [], ◌∷◌, Option, Some, None, All, refl, sym, ◌∙◌, subst, arith}
+use Rattle.std.proofs.lemmas.List.Elements.{All-head, All-tail}
+use Rattle.disk_model.specs.Disk.{Files, DiskState, History, IfTold}
+use Rattle.disk_model.specs.declared.name.FileName.{FileName}
+use Rattle.disk_model.specs.declared.name.FileName.TheVariants as file
+use Rattle.mdbox_base.specs.declared.entries.BoxEntry.{BoxEntry}
+use Rattle.mdbox_base.specs.declared.entries.MapEntry.{MapEntry}
+use Rattle.model_meaning.specs.MapMeaning.{MapBox, MapMeaning, map_meaning}
+use Rattle.model_store.specs.Settled.{files_of}
+use Rattle.model_store.proofs.SettledLemmas.{has_all_carried, log_along, map_along}
+use Rattle.model_store.specs.Stands.{HasLog, HasRoot, HasMap}
+use Rattle.model_store.specs.Safe.{HasAll}
+use Rattle.model_store.specs.Carrying.{HasSameEntries, CarryOver}
+use Rattle.model_store.specs.Opening.{PassBoxes, Opens}
+use Rattle.store_sweep.specs.Swept.{FilesCarry}
+use Rattle.store_open.proofs.CheckedLemmas.{OpensAt}
+
+abbrev SameLog : Files → Files → MapBox → Type 0
+SameLog a b box = HasSameEntries (a (file.Box box.number box.generation)) (b (file.Box box.number box.generation))
+
+boxes_along : (m : MapMeaning) (a b : Files) (boxes : List MapBox) (logs : List (List BoxEntry)) → All (SameLog a b) boxes → PassBoxes a m boxes logs → PassBoxes b m boxes logs
+boxes_along m a b [] [] s h = tt
+boxes_along m a b [] (l ∷ ls) s h = absurd h
+boxes_along m a b (x ∷ xs) [] s h = absurd h
+boxes_along m a b (x ∷ xs) (l ∷ ls) s h =
+    let one = h.0 in (
+      record { log = record { log = log_along a b _ _ _ (All-head (SameLog a b) x xs s) one.log.log; in_range = one.log.in_range; fit = one.log.fit }; records = one.records },
+      boxes_along m a b xs ls (All-tail (SameLog a b) x xs s) h.1,
+    )
+
+-- the regions and the instances of records, which no list needs
+all_there : (store : List ℕ) (entries : List MapEntry) (logs : List (List BoxEntry)) (a : Files) → Opens a store entries logs → HasAll a (map_meaning store entries) []
+all_there store entries logs a o = record { counts = λ guid. omega arith; regions = o.regions; instances = o.instances }
+
+opens_along : (store : List ℕ) (entries : List MapEntry) (logs : List (List BoxEntry)) (a b : Files) → (o : Opens a store entries logs) → CarryOver o.passed.map_log.generation (map_meaning store entries) a b
+    → (p : Opens b store entries logs) × (p.passed.map_log.generation ≡ o.passed.map_log.generation)
+unfolding map_along
+opens_along store entries logs a b o e =
+    let all = has_all_carried o.passed.map_log.generation (map_meaning store entries) a b [] e (all_there store entries logs a o) in (
+      record {
+        passed = record { map_log = map_along store entries a b o.passed.map_log e; boxes = boxes_along (map_meaning store entries) a b (map_meaning store entries).boxes logs e.boxes o.passed.boxes };
+        counts = o.counts;
+        regions = all.regions;
+        instances = all.instances;
+      },
+      refl,
+    )
+
+-- What opened opens, under the same generation.
+pub still_opens : (store : List ℕ) (generation : ℕ) (entries : List MapEntry) (logs : List (List BoxEntry)) (m : MapMeaning) (now new : Option History) → m ≡ map_meaning store entries → IfTold now (OpensAt store generation entries logs) → FilesCarry generation m now new
+    → IfTold new (OpensAt store generation entries logs)
+still_opens store generation entries logs m None None is opens carry = tt
+still_opens store generation entries logs m None (Some new) is opens carry = absurd (let e : Some new ≡ None = carry in cc e)
+still_opens store generation entries logs m (Some now) None is opens carry = absurd carry
+still_opens store generation entries logs m (Some now) (Some new) is opens carry =
+    let e : CarryOver opens.0.passed.map_log.generation (map_meaning store entries) (files_of now.now) (files_of new.now) =
+    subst (λ (g : ℕ). CarryOver g (map_meaning store entries) (files_of now.now) (files_of new.now)) (sym opens.1) (subst (λ (k : MapMeaning). CarryOver generation k (files_of now.now) (files_of new.now)) is carry) in
+    let r = opens_along store entries logs (files_of now.now) (files_of new.now) opens.0 e in
+    (r.0, r.1 ∙ opens.1)
+
+pub has_root : (store : List ℕ) (generation : ℕ) (entries : List MapEntry) (logs : List (List BoxEntry)) (disk : DiskState) → OpensAt store generation entries logs disk → HasRoot (files_of disk) store generation
+has_root store generation entries logs disk o = subst (λ (g : ℕ). HasRoot (files_of disk) store g) o.1 o.0.passed.map_log.root

@@ -1,0 +1,5 @@
+use Rattle.store_open.proofs.NewStoreLemmas.{first_fits}
+use Rattle.store_open.proofs.init.new_map.Goals as goal
+
+pub apply-requires : goal.apply-requires
+apply-requires c = first_fits c.args.id.0 c.in_ok-map.map c.in_ok-inbox.inbox c.in_ok-map.ensures c.in_ok-inbox.ensures
