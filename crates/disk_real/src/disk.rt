@@ -1,18 +1,19 @@
 // A disk over the files of the current folder.
-ghost use Rattle.std.specs.Prelude.{None, ◌≡◌, ◌≤◌, OnOk, IsOk, find};
-ghost use Rattle.mdbox_base.specs.Streams.{Rose};
-ghost use Rattle.disk_model.specs.Disk.{ReadCause, ChangeCause};
-ghost use Rattle.disk_model.specs.declared.error.DiskError.TheVariants.{Failed};
+ghost use Rattle.std.specs.Prelude.{None, Some, Ok, ◌≡◌, ◌↔◌, IfOk, IfSome, IsOk, IsErrOf};
+ghost use Rattle.mdbox_base.specs.Streams.{next_count};
+ghost use Rattle.disk_model.specs.Disk.{ReadCause, ChangeCause, IsPast};
+ghost use Rattle.disk_model.specs.declared.error.DiskError.TheVariants.{Absent};
 ghost use Rattle.disk_real.specs.Counts.{real_faults_of};
-ghost use Rattle.disk_real.specs.Past.{is_past};
 
 use crate::files::{
-    cut_in, length_of, lock_store, make_in, open_at, read_all, remove_in, sync_in, write_in,
+    cut_in, if_there, length_of, lock_store, make_in, read_in, remove_in, sync_in, write_in,
 };
 use crate::folders::{sorted_names, sync_folders};
 use disk_model::{Disk, DiskError, FileName, order};
+use std::cmp::Ordering;
 use std::fs::File;
-use std::io::{self, ErrorKind};
+use std::io;
+use std::io::ErrorKind;
 
 /// The store's files in the current folder. Trusted: it tells no content, and no clause says what the system keeps.
 ///
@@ -27,6 +28,8 @@ pub struct RealDisk {
     names: Option<Vec<FileName>>,
     /// Whether names may have changed in any folder, as an earlier run may have left them.
     is_all_loose: bool,
+    /// How many calls have returned.
+    calls: u64,
     failed_reads: u64,
     failed_changes: u64,
 }
@@ -42,6 +45,7 @@ impl RealDisk {
             lock: None,
             names: None,
             is_all_loose: true,
+            calls: 0,
             failed_reads: 0,
             failed_changes: 0,
         }
@@ -57,35 +61,32 @@ impl RealDisk {
         Ok(self.rt)
     }
 
-    /// Counts a read that failed.
-    fn fail_read(&mut self) -> DiskError
-        ensures failed { result ≡ Failed }
-        ensures faults { (real_faults_of self.new).changes ≡ self.old.failed_changes }
-        ensures rose { Rose self.old.failed_reads self.new.failed_reads × (self.old.failed_reads ≤ self.new.failed_reads) }
-    {
-        self.failed_reads = self.failed_reads.saturating_add(1);
-        DiskError::Failed
-    }
-
-    /// What an answer of the system to a read means. Other errors than a missing file are counted.
-    fn read<T: Drop>(&mut self, answer: io::Result<T>) -> Result<T, DiskError>
+    /// What an answer of the system to a read means, none being that there is no such file. Errors are counted, and so is the
+    /// call.
+    fn read<T: Drop>(&mut self, answer: io::Result<Option<T>>) -> Result<T, DiskError>
+        ensures value { IfOk result (λ value. answer ≡ Ok (Some value)) }
+        ensures absent { IsErrOf result Absent ↔ (answer ≡ Ok None) }
+        ensures calls { self.new.calls ≡ next_count self.old.calls }
         ensures cause { ReadCause result (real_faults_of self.old) (real_faults_of self.new) }
-        ensures ok { OnOk result (real_faults_of self.new ≡ real_faults_of self.old) }
     {
-        let _count = self.failed_reads;
+        self.calls = self.calls.saturating_add(1);
         match answer {
-            Ok(value) => Ok(value),
-            Err(error) if error.kind() == ErrorKind::NotFound => Err(DiskError::Absent),
-            Err(_) => Err(self.fail_read()),
+            Ok(Some(value)) => Ok(value),
+            Ok(None) => Err(DiskError::Absent),
+            Err(_) => {
+                self.failed_reads = self.failed_reads.saturating_add(1);
+                Err(DiskError::Failed)
+            }
         }
     }
 
-    /// What an answer of the system to a change means. Errors are counted.
+    /// What an answer of the system to a change means. Errors are counted, and so is the call.
     fn change(&mut self, answer: io::Result<()>) -> Result<(), DiskError>
+        ensures ok { IsOk result ↔ IsOk answer }
+        ensures calls { self.new.calls ≡ next_count self.old.calls }
         ensures cause { ChangeCause result (real_faults_of self.old) (real_faults_of self.new) }
-        ensures ok { OnOk result (IsOk answer) }
     {
-        let _count = self.failed_changes;
+        self.calls = self.calls.saturating_add(1);
         if answer.is_ok() {
             return Ok(());
         }
@@ -99,8 +100,14 @@ impl Disk for RealDisk {
 
     ghost faults = { real_faults_of };
 
+    fn moment(&self) -> u64
+        ensures { result ≡ self.now.calls }
+    {
+        self.calls
+    }
+
     fn length(&mut self, name: FileName) -> Result<u64, DiskError> {
-        let answer = self.locked().and_then(|rt| length_of(&rt, name));
+        let answer = self.locked().and_then(|rt| if_there(length_of(&rt, name)));
         self.read(answer)
     }
 
@@ -110,25 +117,26 @@ impl Disk for RealDisk {
         offset: u64,
         into: &mut [u8],
     ) -> Result<usize, DiskError> {
-        let opened = self.locked().and_then(|rt| open_at(&rt, name, offset));
-        let mut file = self.read(opened)?;
-        match read_all(&mut file, into) {
-            Ok(count) => Ok(count),
-            Err(_) => Err(self.fail_read()),
-        }
+        let answer = match self.locked() {
+            Ok(rt) => read_in(&rt, name, offset, into),
+            Err(error) => Err(error),
+        };
+        self.read(answer)
     }
 
     fn next_name(&mut self, after: Option<FileName>) -> Result<Option<FileName>, DiskError> {
         let names = match self.names.take() {
-            Some(names) => names,
-            None => match self.locked().and_then(|rt| sorted_names(&rt)) {
-                Ok(names) => names,
-                Err(_) => return Err(self.fail_read()),
-            },
+            Some(names) => Ok(names),
+            None => self.locked().and_then(|rt| sorted_names(&rt)),
         };
-        let next = first_past(&names, after);
-        self.names = Some(names);
-        Ok(next)
+        match names {
+            Ok(names) => {
+                let next = first_past(&names, after);
+                self.names = Some(names);
+                self.read(Ok(Some(next)))
+            }
+            Err(error) => self.read(Err(error)),
+        }
     }
 
     fn write_at(&mut self, name: FileName, offset: u64, from: &[u8]) -> Result<(), DiskError> {
@@ -172,9 +180,20 @@ impl Disk for RealDisk {
     ghost reads_image = { λ _. tt };
 }
 
-/// The first of these names that is greater than one.
+/// The first of these names, which are in order, that is greater than one.
 fn first_past(names: &[FileName], after: Option<FileName>) -> Option<FileName>
-    ensures { result ≡ find (is_past ⟦<FileName as Ord>⟧.cmp after) names.now }
+    ensures { IfSome result (IsPast ⟦<FileName as Ord>⟧.cmp after) }
 {
-    names.iter().copied().find(|name| after.is_none_or(|after| order(after, *name).is_lt()))
+    let Some(after) = after else {
+        return names.first().copied();
+    };
+    let at = match names.binary_search(&after) {
+        Ok(at) => at + 1,
+        Err(at) => at,
+    };
+    let next = *names.get(at)?;
+    match order(after, next) {
+        Ordering::Less => Some(next),
+        _ => None,
+    }
 }

@@ -1,5 +1,5 @@
 // Files in the current folder.
-ghost use Rattle.std.specs.Prelude.{◌≡◌, ◌≤◌, ◌<◌, ◌^◌, ◌+◌, length, drop, IfOk, OnOk, string_bytes};
+ghost use Rattle.std.specs.Prelude.{◌≡◌, ◌≤◌, ◌<◌, ◌^◌, ◌+◌, length, drop, Ok, Some, IfOk, IfSome, IfNone, OnOk, string_bytes};
 ghost use Rattle.file_paths.specs.Paths.{path_text};
 
 use crate::folders::sync_inst;
@@ -41,10 +41,34 @@ pub(crate) fn length_of(rt: &HostRuntime, name: FileName) -> io::Result<u64> {
     Ok(fs::metadata(rt, path_of(rt, name)?)?.len())
 }
 
-pub(crate) fn open_at(rt: &HostRuntime, name: FileName, offset: u64) -> io::Result<File> {
-    let mut file = File::open(rt, path_of(rt, name)?)?;
+/// An answer where there may be no such file: None where the system finds none.
+pub(crate) fn if_there<T: Drop>(answer: io::Result<T>) -> io::Result<Option<T>>
+    ensures found { IfOk result (λ found. IfSome found (λ value. answer ≡ Ok value)) }
+    ensures some { IfOk answer (λ value. result ≡ Ok (Some value)) }
+{
+    match answer {
+        Ok(value) => Ok(Some(value)),
+        Err(error) if error.kind() == ErrorKind::NotFound => Ok(None),
+        Err(error) => Err(error),
+    }
+}
+
+/// Reads from an offset on, None where there is no such file.
+pub(crate) fn read_in(
+    rt: &HostRuntime,
+    name: FileName,
+    offset: u64,
+    into: &mut [u8],
+) -> io::Result<Option<usize>>
+    ensures count { IfOk result (λ found. IfSome found (λ n. n ≤ length into.new)) }
+    ensures rest { IfOk result (λ found. IfSome found (λ n. drop n into.new ≡ drop n into.old)) }
+    ensures none { IfOk result (λ found. IfNone found (into.new ≡ into.old)) }
+{
+    let Some(mut file) = if_there(File::open(rt, path_of(rt, name)?))? else {
+        return Ok(None);
+    };
     file.seek(SeekFrom::Start(offset))?;
-    Ok(file)
+    Ok(Some(read_all(&mut file, into)?))
 }
 
 /// Reads to the end of the file or of `into`, and tells how many octets. Each piece comes through a buffer, since the system

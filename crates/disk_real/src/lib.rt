@@ -2,9 +2,11 @@
 //! system gives or takes.
 #![tactic(auto)]
 
+pub use clock::StdClock;
 pub use disk::RealDisk;
 pub use streams::{StdSink, StdSource};
 
+mod clock;
 mod disk;
 mod files;
 mod folders;
