@@ -9,7 +9,7 @@ pub use streams::{StdSink, StdSource};
 mod clock;
 mod disk;
 mod files;
+mod folder;
 mod folders;
+mod names;
 mod streams;
-#[cfg(test)]
-mod tests;
