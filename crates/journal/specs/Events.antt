@@ -1,4 +1,4 @@
--- The events of each request: what stands part_behind what, and what each one does.
+-- The events of each request: what stands behind what, and what each one does.
 use Rattle.std.specs.Prelude.{◌≡◌, ◌≢◌, ◌≤◌, ◌<◌, ◌↔◌, ◌+◌, ◌-◌, ◌/◌, ◌==◌, ◌&&◌, ◌||◌, nat_lt, nat_le, ℕ, Bool, true, false, not, List, [], ◌∷◌, ◌++◌, length, map, filter, find, flat_map, sum_by, count_by, slice_get, if◌then◌else◌, Option, Some, None, IsTrue, Contains, ◌⊎◌, All, is_some, is_none, option_map}
 use Rattle.std.specs.List.{list_any}
 use Rattle.std.specs.Option.{option_map_or, option_or}
@@ -116,11 +116,20 @@ copies_left own run (Some taken) = filter (λ row. is_copied_from taken.file row
 abbrev pub purge_copies : Run → List RunEvent → Option EventPart
 purge_copies run own = if nat_lt 0 (length (copies_left own run (next_taken own))) then Some CopiesMessage else Some Switches
 
+-- The events up to that which doomed a file; and whether the file was pinned then. If it was, the fetch that unpins it last
+-- removes it, and the purge goes on, however long that takes.
+abbrev pub until_doomed : ℕ → List RunEvent → List RunEvent
+until_doomed file [] = []
+until_doomed file (event ∷ events) = if is_one_of event.doomed file then event ∷ [] else event ∷ until_doomed file events
+
+abbrev pub was_pinned : Run → ℕ → Bool
+was_pinned run file = is_pinned (record run { events = until_doomed file run.events }) file
+
 abbrev pub behind_purge : Around → Run → RunEvent → EventPart → Option EventPart
 behind_purge around run event MakesTarget = purge_copies run (own_events event.request run)
 behind_purge around run event CopiesMessage = purge_copies run (own_events event.request run)
 behind_purge around run event Switches =
-    if list_any (λ file. is_pinned run file) event.doomed then purge_goes_on around run (next_taken (own_events event.request run)) else Some RemovesFile
+    if list_any (λ file. was_pinned run file) event.doomed then purge_goes_on around run (next_taken (own_events event.request run)) else Some RemovesFile
 behind_purge around run event Last = None
 behind_purge around run event part = purge_goes_on around run (next_taken (own_events event.request run))
 
@@ -149,7 +158,7 @@ number_of run request = number_drawn request 0 run.opened.mailbox run.events
 abbrev pub is_overtaken : Run → ℕ → Bool
 is_overtaken run request = nat_le (number_of run request) (map_of run).highest.mailbox
 
--- The part part_behind an event that did its own: none where the request is answered.
+-- The part behind an event that did its own: none where the request is answered.
 abbrev pub part_behind : Around → Run → Request → RunEvent → Option EventPart
 part_behind around run (request.Deliver name time octets) event = behind_delivery around run event event.part
 part_behind around run (request.Make name) event = behind_make (is_overtaken run event.request) event.part
@@ -161,7 +170,7 @@ part_behind around run request.Purge event = behind_purge around run event event
 part_behind around run request.Resync event = behind_resync run event event.part
 part_behind around run request event = None
 
--- The part part_behind an event that was refused: counts are given back where an addition was refused, unless the store is
+-- The part behind an event that was refused: counts are given back where an addition was refused, unless the store is
 -- stopped, and a fetch unpins also where it met a read fault or damage.
 abbrev pub behind_addition : EventPart → Refusal → Option EventPart
 behind_addition Last refusal.Stopped = None
@@ -184,7 +193,7 @@ abbrev pub behind_event : Around → Run → Request → RunEvent → Option Ref
 behind_event around run request event None = part_behind around run request event
 behind_event around run request event (Some refused) = behind_refused request event.part refused
 
--- The next part of a request part_behind these events of it: the first, or the one part_behind the last of them.
+-- The next part of a request behind these events of it: the first, or the one behind the last of them.
 abbrev pub next_part : Around → Run → Request → List RunEvent → Option EventPart
 next_part around run request [] = Some First
 next_part around run request (event ∷ []) = behind_event around run request event event.refused
@@ -442,6 +451,7 @@ Finds around request event = Unit {0}
 abbrev pub has_memory : EventPart → Request → Bool
 has_memory SecondHalf request = true
 has_memory GivesBack request = true
+has_memory StartsOver request = true
 has_memory ReadsPiece request = true
 has_memory Unpins request = true
 has_memory RemovesFile request = true
@@ -471,7 +481,7 @@ IsRepliedBy own (Some given) = last_refusal own ≡ refusal_in given
 
 -- An event of a request: it does the next part. It is refused if one of its checks refuses it, and then does nothing; a
 -- part that isn't refused does its own and nothing else. The request is answered with it if and only if no part stands
--- part_behind it.
+-- behind it.
 pub record IsEvent (around after : Around) (run : Run) (lists : Lists) (request : Request) (event : RunEvent) : Type 0 where
   pub finds : Finds around request event
   pub part_is : next_part around run request (own_events event.request run) ≡ Some event.part

@@ -3,7 +3,7 @@ use Rattle.std.proofs.Common.{inl, inr, ◌⊎◌, ◌≡◌, ◌<◌, ◌≤◌
 use Rattle.std.specs.Prelude.{◌≢◌, min, is_some, length, filter, count_by, slice_get}
 use Rattle.std.proofs.lemmas.Grind.{common_steps}
 use Rattle.std.proofs.lemmas.List.{append-nil, map-append}
-use Rattle.std.proofs.lemmas.List.Elements.{All-head, All-tail, All-weaker, All-push, filter-append}
+use Rattle.std.proofs.lemmas.List.Elements.{All-nil, All-head, All-tail, All-weaker, All-push, filter-append}
 use Rattle.disk_model.specs.Disk.{History, EachImage, told_calls}
 use Rattle.mdbox_base.specs.Streams.{Rose}
 use Rattle.disk_model.proofs.MomentLemmas.{each_image-begins}
@@ -18,6 +18,7 @@ use Rattle.model_octets.proofs.PairLemmas.{pairs_nil}
 use Rattle.list_machine.specs.Run.{RunEvent, Run, and_then, own_events}
 use Rattle.journal.specs.Journal.{Requests, half_of, JournalStep, left_by, IsReplyOf, IsLegal, Broken, no_broken, HasReply, RoseBy, is_read_fault, AreBefore, LacksOrGoesOn, steps_of}
 use Rattle.model_store.specs.Opening.{IsCutOff}
+use Rattle.journal.proofs.BrokenLemmas.{none_failed}
 use Rattle.journal.proofs.JournalLemmas.{steps_within}
 use Rattle.journal.specs.GoesOn.{RepliesAlso, MayReply}
 use Rattle.journal.proofs.LegalLemmas.{legal_reply}
@@ -159,8 +160,10 @@ reply_on start script run journal broken next replies given_also began now new a
   shown = t.shown;
   within = t.within;
   broken_is = t.broken_is;
+  of_failure = t.of_failure;
   crash = t.crash;
   unbroken = t.unbroken;
+  unrefused = t.unrefused;
   settled = t.settled;
   reads = t.reads;
   changes = t.changes;
@@ -218,8 +221,10 @@ serves_start start script run replies now empty come shows runs none zero = reco
   shown = shows;
   within = omega arith;
   broken_is = tt;
+  of_failure = none_failed run;
   crash = λ at. begins now.history at;
   unbroken = λ e. refl;
+  unrefused = λ e. subst (λ (es : List RunEvent). All (λ event. event.refused ≢ Some refusal.Stopped) es) (sym empty) (All-nil _);
   settled = λ e at. at;
   reads = subst (λ (es : List RunEvent). RoseBy (count_by is_faulted es) now.faults.reads now.faults.reads) (sym empty) (omega arith);
   changes = omega arith;
