@@ -17,21 +17,21 @@ use Rattle.mdbox_top.specs.InputRun.{DumpPrints, DumpRefuses, LogDumpPrints, Log
 use Rattle.mdbox_top.specs.Run.{Ends, RunOutcome, HasStatus}
 use Rattle.mdbox_top.proofs.InputLemmas.{dumps_apart, log_dumps_apart, input_status, shows_status}
 use Rattle.mdbox_top.proofs.InitLemmas.{init_status}
-use Rattle.mdbox_top.proofs.ListLemmas.{list_status, damage_unopened}
+use Rattle.mdbox_top.proofs.ListLemmas.{list_status, list_used, list_input, list_damage}
 
 -- a refused input whose text finds no memory
 input_memory : (c : Command) (left h k : Option (List ℕ)) (old new : Option History) (why : InputRefusal) → Ends c left h k old new (outcome.InputRefused why) → Ends c left h k old new outcome.NoMemory
 input_memory command.Dump left h k old new why e = inl e.1
 input_memory command.LogDump left h k old new why e = inl e.1
 input_memory (command.Init id) left h k old new why e = absurd e
-input_memory (command.List name) left h k old new why e = absurd e
+input_memory (command.List name) left h k old new why e = absurd (list_input name h k old new why e)
 input_memory command.Help left h k old new why e = absurd e
 input_memory command.Version left h k old new why e = absurd e
 
 -- damage whose text finds no memory
 damage_memory : (c : Command) (left h k : Option (List ℕ)) (old new : Option History) (s : StoreRefusal) → Ends c left h k old new (outcome.StoreRefused s) → Ends c left h k old new outcome.NoMemory
 damage_memory (command.Init id) left h k old new s e = e.0
-damage_memory (command.List name) left h k old new s e = inl (damage_unopened h k old new s e)
+damage_memory (command.List name) left h k old new s e = list_damage name h k old new s e
 damage_memory command.Dump left h k old new s e = absurd e
 damage_memory command.LogDump left h k old new s e = absurd e
 damage_memory command.Help left h k old new s e = absurd e
@@ -69,7 +69,7 @@ has_status command.Version left h k old new o e = shows_status _ h k o e
 -- no command ends as unknown words
 used : (c : Command) (left h k : Option (List ℕ)) (old new : Option History) → Ends c left h k old new outcome.Usage → ⊥
 used (command.Init id) left h k old new e = e
-used (command.List name) left h k old new e = e
+used (command.List name) left h k old new e = list_used name h k old new e
 used command.Dump left h k old new e = e
 used command.LogDump left h k old new e = e
 used command.Help left h k old new e = e
