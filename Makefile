@@ -14,9 +14,9 @@ demo: all
 	folder=$$(mktemp -d) && cd $$folder && $(CURDIR)/mdbox init 0011223344556677 && $(CURDIR)/mdbox list INBOX && \
 	$(CURDIR)/mdbox logdump < storage/root.log && $(CURDIR)/mdbox logdump < storage/map.1.log && rm -r $$folder
 
-# The gate: every proof, every edit that must fail, every test and program.
+# The gate: every proof, every edit that must fail, every test and program, and the names and the levels of crates.
 check:
-	rt ci
+	.ci/run
 
 # Times the program on a storage file of 200 MB, a log of 100 MB and a store of 10,000 messages, and taking messages apart.
 bench: all

@@ -1,14 +1,13 @@
 -- A file that is read from its beginning, whole or its first octets.
 use Rattle.disk_model.proofs.IdleLemmas.{idle-back}
 use Rattle.std.specs.Option.{option_map}
-use Rattle.std.proofs.Common.{◌≡◌, ◌<◌, ◌≤◌, inl, inr, ℕ, List, length, take, Option, Some, None, refl, sym, ◌∙◌, subst, ap, arith}
+use Rattle.std.proofs.Common.{◌≡◌, ◌<◌, ◌≤◌, ℕ, List, length, take, Option, Some, None, sym, ◌∙◌, subst, ap, arith}
 use Rattle.std.proofs.lemmas.List.{take_all, length-take}
 use Rattle.std.proofs.lemmas.Option.{same_Some}
-use Rattle.disk_model.specs.Disk.{Files, DiskState, History, MayLeave, IsImage, IfTold, Unchanged, EachImage, SameButFor, reading, SameState, IsIdle}
+use Rattle.disk_model.specs.Disk.{History, IfTold, reading, IsIdle}
 use Rattle.disk_model.specs.declared.name.FileName.{FileName}
-use Rattle.disk_model.proofs.MomentLemmas.{if_told-both, if_told-map, each_image-begins, each_image-unchanged, each_image-map}
+use Rattle.disk_model.proofs.MomentLemmas.{if_told-both, if_told-map}
 use Rattle.gate_log.specs.Reading.{IsPeekedFront}
-use Rattle.disk_model.proofs.OneFileLemmas.{IsAlong, Along}
 
 -- a file that was read from its beginning to its end
 pub whole_file : (name : FileName) (old mid : Option History) (count : ℕ) (n : ℕ) (buffer result : List ℕ) → IsIdle old mid

@@ -1,7 +1,6 @@
 -- Logs on a disk.
 use Rattle.std.specs.Prelude.{◌≡◌, ◌≢◌, ◌⊎◌, ◌≤◌, ℕ, List, [], ◌∷◌, ◌++◌, length, max, All, Option, Some, None, IfSome}
-use Rattle.mdbox_base.specs.Streams.{Rose}
-use Rattle.disk_model.specs.Disk.{FileState, DiskState, History, IfTold, IsImage, EachImage, Keeps, named, reading, Faults}
+use Rattle.disk_model.specs.Disk.{FileState, DiskState, History, IfTold, Keeps, named, reading}
 use Rattle.disk_model.specs.declared.name.FileName.{FileName}
 use Rattle.model_logs.specs.declared.log_head.LogHead.{LogHead}
 use Rattle.model_logs.specs.LogFile.{HeadFits, EntryFits, log_front, EndsLog, IsLogFile}

@@ -1,9 +1,8 @@
 -- The head of a root log that has an entry.
-use Rattle.std.proofs.Common.{◌≡◌, ◌+◌, ℕ, List, ◌∷◌, ◌++◌, length, take, drop, Option, Some, None, inl, inr, sym, ◌∙◌, ap, subst, arith, append_assoc, take-take}
-use Rattle.std.proofs.lemmas.List.{take-append-drop, length-take, take_all, drop-take}
-use Rattle.std.proofs.lemmas.Bool.{cases_lt}
+use Rattle.std.proofs.Common.{◌≡◌, ◌+◌, ℕ, List, ◌∷◌, ◌++◌, length, take, drop, Option, Some, inl, inr, sym, ◌∙◌, ap, subst, arith, append_assoc, take-take}
+use Rattle.std.proofs.lemmas.List.{take-append-drop, length-take, drop-take}
 use Rattle.std.proofs.Math.Seq.{take-append-add}
-use Rattle.disk_model.specs.Disk.{DiskState, History, IfTold, reading}
+use Rattle.disk_model.specs.Disk.{History, IfTold, reading}
 use Rattle.disk_model.specs.declared.name.FileName.TheVariants as file
 use Rattle.disk_model.proofs.MomentLemmas.{if_told-map}
 use Rattle.model_logs.specs.LogFile.{head_octets}

@@ -14,7 +14,11 @@ use map_index::MapIndex;
 use mdbox_base::{BoxEntry, NoMemory, Uid};
 
 /// Where the record stands that adds the first listed message without a record of its GUID. None where each has one.
-pub fn first_dangling(map: &MapIndex, index: &BoxIndex, read: &LogRead) -> Result<Option<u64>, NoMemory>
+pub fn first_dangling(
+    map: &MapIndex,
+    index: &BoxIndex,
+    read: &LogRead,
+) -> Result<Option<u64>, NoMemory>
     requires replayed { IsBoxReplay index.now read.now.entries }
     requires places { read.now.places ≡ record_places read.now.entries }
     ensures { IfOk result (λ dangling. MatchOption dangling

@@ -7,11 +7,10 @@ pub use error::CheckError;
 pub use mailbox::CheckedBox;
 pub use no_entry::has_no_entry;
 
-mod dangling;
 mod check;
 mod counts;
+mod dangling;
 mod error;
-mod replay;
 mod instances;
 mod lengths;
 mod log;
@@ -19,4 +18,5 @@ mod mailbox;
 mod map_log;
 mod no_entry;
 mod regions;
+mod replay;
 mod root;

@@ -8,9 +8,9 @@ ghost use Rattle.store_checks.specs.Roots.{HasId, IsRootRead, IsRootCause};
 ghost use Rattle.store_checks.specs.RootId.{IsIdCause};
 
 use crate::error::CheckError;
-use crate::replay::RootReplay;
 use crate::log::read_log;
 use crate::no_entry::has_no_entry;
+use crate::replay::RootReplay;
 use disk_model::{Disk, FileName};
 use gate_log::{FoundLog, id_in, peek_head};
 use mdbox_base::StoreId;

@@ -1,25 +1,28 @@
 -- A new store, as it is opened.
-use Rattle.std.proofs.Common.{◌≡◌, ℕ, false, List, [], ◌∷◌, Option, refl, sym, ap, subst, lit≤, lit<}
+use Rattle.std.proofs.Common.{◌≡◌, ℕ, false, List, [], ◌∷◌, Option, refl, sym, ap, subst, arith, lit≤, lit<}
 use Rattle.std.proofs.lemmas.List.Elements.{All-nil}
 use Rattle.disk_model.specs.Disk.{DiskState, History, IfTold}
 use Rattle.disk_model.specs.declared.name.FileName.TheVariants as file
 use Rattle.disk_model.proofs.MomentLemmas.{if_told-map, if_told-both}
 use Rattle.mdbox_base.specs.declared.entries.MapEntry.{MapEntry}
 use Rattle.model_meaning.specs.BoxMeaning.{box_meaning}
-use Rattle.model_logs.specs.Entries.{map_text}
+use Rattle.model_logs.specs.Entries.{root_text, map_text}
 use Rattle.model_store.specs.GoodLogs.{AreGoodLogs}
 use Rattle.model_logs.specs.LogFile.{HeadFits}
 use Rattle.model_meaning.specs.MapFits.{MapFits}
 use Rattle.model_meaning.specs.MapMeaning.{MapMeaning, map_meaning}
 use Rattle.model_store.proofs.NewStoreLemmas.{new_safe_by}
-use Rattle.model_store.specs.Opening.{Opens, IsNewStore, first_box}
+use Rattle.model_store.specs.Opening.{Opens, IsNewStore, first_root, first_box}
 use Rattle.model_store.specs.Settled.{files_of}
 use Rattle.model_store.proofs.StoreExampleLemmas.{inbox_is_name}
 use Rattle.gate_log.specs.State.{LogState}
 use Rattle.gate_log.specs.Log.{Holds}
 use Rattle.store_core.specs.Running.{IsStore}
+use Rattle.store_core.specs.Value.{StoreValue, none_due, newly_open}
 use Rattle.store_core.specs.declared.store.OpenBox.{OpenBox}
-use Rattle.store_open.specs.Making.{IsMadeStore, new_map_head, inbox_head}
+use Rattle.store_core.specs.declared.store.OpenLogs.{OpenLogs}
+use Rattle.std.specs.declared.alloc.Global.{Global}
+use Rattle.store_open.specs.Making.{IsMadeStore, new_root_head, new_map_head, inbox_head}
 use Rattle.store_open.proofs.FirstFilesLemmas.{made-new}
 
 -- ---- the map
@@ -53,20 +56,27 @@ is_new : (store : List ℕ) (box_log : LogState) (new : Option History) → box_
 is_new store box_log new e made held = if_told-both _ _ _ new (λ disk m h. made-new store disk m (subst HeadFits e h.reads.head_fits)) made held
 
 -- what is known of a new store's logs
-pub record HasNewLogs (store : List ℕ) (map_log box_log : LogState) (new : Option History) : Type 0 where
+pub record HasNewLogs (store : List ℕ) (root_log map_log box_log : LogState) (new : Option History) : Type 0 where
   pub made : IfTold new (IsMadeStore store)
+  pub root_held : Holds root_log (root_text first_root ∷ []) new
+  pub root_name : root_log.name ≡ file.Root
+  pub root_head_is : root_log.head ≡ new_root_head store
   pub map_held : Holds map_log (map_text first_box ∷ []) new
   pub map_name : map_log.name ≡ file.Map 1
   pub map_head_is : map_log.head ≡ new_map_head store
   pub box_held : Holds box_log [] new
   pub box_is : box_log ≡ record { name = file.Box 1 1; head = inbox_head store; end = 25; room = 0 }
 
-pub new_store : (store : List ℕ) (m : MapMeaning) (map_log : LogState) (box : OpenBox) (boxes : List OpenBox) (new : Option History) → m ≡ map_meaning store (first_box ∷ []) → HasNewLogs store map_log box.log new
-    → box.number.0 ≡ 1 → box.index ≡ box_meaning [] → boxes ≡ box ∷ [] → IsStore new m map_log boxes 1 false
-new_store store m map_log box boxes new is l number index one =
-    let F : List OpenBox → Type 0 = λ bs. IsStore new m map_log bs 1 false in
-    let G : MapMeaning → Type 0 = λ k. IsStore new k map_log (box ∷ []) 1 false in
+-- logs that are opened, with this meaning and these mailboxes
+abbrev opened_with : {D : Type 0} → Global → D → OpenLogs → MapMeaning → List OpenBox → StoreValue D
+opened_with alloc disk o m boxes = record { alloc = alloc; disk = disk; root_log = o.root_log; map_log = o.map_log; map = m; boxes = boxes; drawn = m.highest; dues = none_due m.records; lanes = 1; stopped = false }
+
+pub new_store : {D : Type 0} (alloc : Global) (disk : D) (store : List ℕ) (box : OpenBox) (o : OpenLogs) (new : Option History) → o.map ≡ map_meaning store (first_box ∷ []) → HasNewLogs store o.root_log o.map_log box.log new
+    → box.number.0 ≡ 1 → box.index ≡ box_meaning [] → o.boxes.items ≡ box ∷ [] → IsStore new (newly_open alloc disk o 1)
+new_store alloc disk store box o new is l number index one =
     let n = is_new store box.log new (ap (λ (s : LogState). s.head) l.box_is) l.made l.box_held in
+    let F : List OpenBox → Type 0 = λ bs. IsStore new (opened_with alloc disk o o.map bs) in
+    let G : MapMeaning → Type 0 = λ k. IsStore new (opened_with alloc disk o k (box ∷ [])) in
     subst F (sym one) (subst G (sym is) (record {
       entries = first_box ∷ [];
       logs = [] ∷ [];
@@ -74,7 +84,10 @@ new_store store m map_log box boxes new is l number index one =
       good = new_good store;
       map_is = refl;
       boxes_are = ap (λ (i : _). i ∷ []) index;
-      counts = All-nil _;
+      counts = tt;
+      drawn = record { file = omega arith; map = omega arith; instance = omega arith; mailbox = omega arith };
+      root_name = l.root_name;
+      root_head = l.root_head_is;
       map_name = l.map_name;
       map_head = l.map_head_is;
       box_logs = (number, ap (λ (s : LogState). s.name) l.box_is, ap (λ (s : LogState). s.head) l.box_is, tt);
@@ -83,6 +96,8 @@ new_store store m map_log box boxes new is l number index one =
       running = λ _. record {
         opens = if_told-map _ _ new (new_opens store) n;
         root = if_told-map _ _ new (λ disk s. record { before = []; log = s.root_log; in_range = (lit< tt, tt) }) n;
+        root_entries = root_text first_root ∷ [];
+        root_log_reads = if_told-map _ _ new (λ disk h. h.reads) l.root_held;
         map_log_reads = if_told-map _ _ new (λ disk h. h.reads) l.map_held;
         box_logs_read = (if_told-map _ _ new (λ disk h. h.reads) l.box_held, tt);
       };

@@ -16,13 +16,15 @@ use Rattle.model_meaning.specs.MapMeaning.{MapRecord, MapBox, MapMeaning, map_me
 use Rattle.model_store.specs.Opening.{listed_of, IsCounted}
 use Rattle.gate_log.specs.State.{LogState, InspectedLog}
 use Rattle.store_checks.specs.Boxes.{IsFoundAs, AreFound}
-use Rattle.store_checks.specs.Roots.{map_log_head}
+use Rattle.store_checks.specs.Roots.{root_log_head, root_texts, map_log_head}
 use Rattle.store_checks.specs.Store.{IsChecked}
 use Rattle.store_checks.specs.declared.check.Checked.{Checked}
 use Rattle.store_checks.specs.declared.mailbox.CheckedBox.{CheckedBox}
-use Rattle.store_core.specs.Value.{indexes_of}
-use Rattle.store_core.specs.Running.{AreBoxLogs, ReadBoxLogs, AddsUp, nothing_due, IsStore}
+use Rattle.store_core.specs.Value.{indexes_of, none_due, newly_open}
+use Rattle.store_core.specs.Running.{AreBoxLogs, ReadBoxLogs, CoverDues, IsStore}
 use Rattle.store_core.specs.declared.store.OpenBox.{OpenBox}
+use Rattle.store_core.specs.declared.store.OpenLogs.{OpenLogs}
+use Rattle.std.specs.declared.alloc.Global.{Global}
 use Rattle.store_sweep.specs.Swept.{FilesCarry, IsOpened}
 use Rattle.store_open.specs.Parts.{AreParted}
 use Rattle.store_open.specs.declared.parts.BoxRest.{BoxRest}
@@ -59,9 +61,6 @@ read_logs store [] (b ∷ bs) ls os now new f z = absurd f
 read_logs store (x ∷ xs) [] ls os now new f z = absurd f
 read_logs store (x ∷ xs) (b ∷ bs) [] os now new f z = absurd f
 
-adds_up : (logs : List (List BoxEntry)) (row : MapRecord) → IsCounted logs row → AddsUp nothing_due logs row
-adds_up logs row counted = record { surplus = row.count - listed_of logs row.uid; count_is = omega (arith, counted) }
-
 -- ---- the mailboxes, apart and together again
 
 zip_length : {X Y : Type 0} → (R : X → Y → Type 0) (xs : List X) (ys : List Y) → AllZip R xs ys → length xs ≡ length ys
@@ -90,35 +89,45 @@ pub record AreJoined (gates : List LogState) (rest : List BoxRest) (opened : Lis
 store_is : (m : MapMeaning) (store : List ℕ) (entries : List MapEntry) → m ≡ map_meaning store entries → store ≡ m.store
 store_is m store entries e = sym (ap (λ (k : MapMeaning). k.store) e)
 
+-- the law of counts
+abbrev pub CountsCover : Type 0
+CountsCover = (logs : List (List BoxEntry)) (rows : List MapRecord) → All (IsCounted logs) rows → CoverDues logs rows (none_due rows)
+
 -- what is known of a store with this id that was swept
-record IsKnown (store : List ℕ) (generation : ℕ) (entries : List MapEntry) (logs : List (List BoxEntry)) (m : MapMeaning) (log : InspectedLog) (boxes : List CheckedBox) (now new : Option History) : Type 0 where
+record IsKnown (store : List ℕ) (generation : ℕ) (entries : List MapEntry) (logs : List (List BoxEntry)) (m : MapMeaning) (root log : InspectedLog) (texts : List (List ℕ)) (boxes : List CheckedBox) (now new : Option History) : Type 0 where
   good : AreGoodLogs store entries logs
   map_is : m ≡ map_meaning store entries
+  root_found : IsFoundAs root file.Root (root_log_head store) texts now
   map_found : IsFoundAs log (file.Map generation) (map_log_head store generation) (map map_text entries) now
   found : AreFound store m.boxes boxes logs now
   opens : IfTold new (OpensAt store generation entries logs)
 
-is_store : (generation : ℕ) (entries : List MapEntry) (logs : List (List BoxEntry)) (m : MapMeaning) (found : InspectedLog) (map_log : LogState) (boxes : List CheckedBox) (opened : List OpenBox) (lanes : ℕ) (now new : Option History)
-    → IsKnown m.store generation entries logs m found boxes now new → IsOpened now new found map_log → Opened now new boxes opened → map (λ o. o.number.0) opened ≡ map (λ b. b.number) m.boxes → indexes_of opened ≡ map box_meaning logs
-    → 1 ≤ lanes → lanes ≤ 64 → IsStore new m map_log opened lanes false
-is_store generation entries logs m found map_log boxes opened lanes now new k map_opened zip numbers indexes some few = record {
+is_store : {D : Type 0} (alloc : Global) (disk : D) (generation : ℕ) (entries : List MapEntry) (logs : List (List BoxEntry)) (root log : InspectedLog) (texts : List (List ℕ)) (boxes : List CheckedBox) (o : OpenLogs) (lanes : ℕ) (now new : Option History)
+    → CountsCover → IsKnown o.map.store generation entries logs o.map root log texts boxes now new → IsOpened now new root o.root_log → IsOpened now new log o.map_log → Opened now new boxes o.boxes.items → map (λ b. b.number.0) o.boxes.items ≡ map (λ b. b.number) o.map.boxes → indexes_of o.boxes.items ≡ map box_meaning logs
+    → 1 ≤ lanes → lanes ≤ 64 → IsStore new (newly_open alloc disk o lanes)
+is_store alloc disk generation entries logs root log texts boxes o lanes now new cover k root_opened map_opened zip numbers indexes some few = record {
   entries = entries;
   logs = logs;
   generation = generation;
   good = k.good;
   map_is = k.map_is;
   boxes_are = indexes;
-  counts = All-weaker (IsCounted logs) (AddsUp nothing_due logs) (adds_up logs) m.records (subst (λ (n : MapMeaning). All (IsCounted logs) n.records) (sym k.map_is) k.good.counts);
+  counts = cover logs o.map.records (subst (λ (n : MapMeaning). All (IsCounted logs) n.records) (sym k.map_is) k.good.counts);
+  drawn = record { file = omega arith; map = omega arith; instance = omega arith; mailbox = omega arith };
+  root_name = ap (λ (l : LogState). l.name) root_opened.is ∙ k.root_found.name_is;
+  root_head = ap (λ (l : LogState). l.head) root_opened.is ∙ k.root_found.head_is;
   map_name = ap (λ (l : LogState). l.name) map_opened.is ∙ k.map_found.name_is;
   map_head = ap (λ (l : LogState). l.head) map_opened.is ∙ k.map_found.head_is;
-  box_logs = box_logs m.store m.boxes boxes logs opened now new k.found zip numbers;
+  box_logs = box_logs o.map.store o.map.boxes boxes logs o.boxes.items now new k.found zip numbers;
   some_lanes = some;
   few_lanes = few;
   running = λ _. record {
     opens = if_told-map _ _ new (λ disk o. o.0) k.opens;
-    root = if_told-map _ _ new (λ disk o. has_root m.store generation entries logs disk o) k.opens;
+    root = if_told-map _ _ new (λ disk q. has_root o.map.store generation entries logs disk q) k.opens;
+    root_entries = texts;
+    root_log_reads = root_opened.reads texts k.root_found.stands;
     map_log_reads = map_opened.reads (map map_text entries) k.map_found.stands;
-    box_logs_read = read_logs m.store m.boxes boxes logs opened now new k.found zip;
+    box_logs_read = read_logs o.map.store o.map.boxes boxes logs o.boxes.items now new k.found zip;
   };
 }
 
@@ -127,18 +136,21 @@ pub indexes_are : (c : Checked) (before : List RootEntry) (entries : List MapEnt
     → AreParted c.map.boxes c.boxes parts → AreJoined gates parts.rest.items opened → indexes_of opened ≡ map box_meaning logs
 indexes_are c before entries logs parts gates opened old now k p j = j.indexes ∙ p.indexes ∙ k.boxes_are
 
-pub opened_store : (c : Checked) (before : List RootEntry) (entries : List MapEntry) (logs : List (List BoxEntry)) (parts : Parts) (map_log : LogState) (gates : List LogState) (opened : List OpenBox) (lanes : ℕ) (old now new : Option History) → IsIdle old now
-    → IsChecked c before entries logs old now → AreParted c.map.boxes c.boxes parts → FilesCarry c.generation c.map now new → IsOpened now new c.map_log map_log → AllZip (IsOpened now new) parts.logs.items gates → AreJoined gates parts.rest.items opened
-    → 1 ≤ lanes → lanes ≤ 64 → IsStore new c.map map_log opened lanes false
-opened_store c before entries logs parts map_log gates opened lanes old now new idle k p carry map_opened zip j some few =
-    is_store c.generation entries logs c.map c.map_log map_log c.boxes opened lanes now new
-    (subst (λ (s : List ℕ). IsKnown s c.generation entries logs c.map c.map_log c.boxes now new) (store_is c.map c.id.0 entries k.map_is) (record {
+pub opened_store : {D : Type 0} (alloc : Global) (disk : D) (c : Checked) (before : List RootEntry) (entries : List MapEntry) (logs : List (List BoxEntry)) (parts : Parts) (gates : List LogState) (o : OpenLogs) (lanes : ℕ) (old now new : Option History) → CountsCover → IsIdle old now
+    → IsChecked c before entries logs old now → AreParted c.map.boxes c.boxes parts → FilesCarry c.generation c.map now new → o.map ≡ c.map → IsOpened now new c.root_log o.root_log → IsOpened now new c.map_log o.map_log → AllZip (IsOpened now new) parts.logs.items gates → AreJoined gates parts.rest.items o.boxes.items
+    → 1 ≤ lanes → lanes ≤ 64 → IsStore new (newly_open alloc disk o lanes)
+opened_store alloc disk c before entries logs parts gates o lanes old now new cover idle k p carry same root_opened map_opened zip j some few =
+    let known : IsKnown c.map.store c.generation entries logs c.map c.root_log c.map_log (root_texts before c.generation) c.boxes now new =
+    subst (λ (s : List ℕ). IsKnown s c.generation entries logs c.map c.root_log c.map_log (root_texts before c.generation) c.boxes now new) (store_is c.map c.id.0 entries k.map_is) (record {
       good = k.good;
       map_is = k.map_is;
+      root_found = k.root_log;
       map_found = k.map_log;
       found = k.box_logs;
       opens = still_opens c.id.0 c.generation entries logs c.map now new k.map_is (opens_at c before entries logs old now idle k) carry;
-    }))
-    map_opened
+    }) in
+    is_store alloc disk c.generation entries logs c.root_log c.map_log (root_texts before c.generation) c.boxes o lanes now new cover
+    (subst (λ (m : MapMeaning). IsKnown m.store c.generation entries logs m c.root_log c.map_log (root_texts before c.generation) c.boxes now new) (sym same) known)
+    root_opened map_opened
     (subst (λ (ls : List LogState). AllZip (IsOpened now new) (map (λ (b : CheckedBox). b.log) c.boxes) ls) (sym j.logs) (subst (λ (ls : List InspectedLog). AllZip (IsOpened now new) ls gates) p.logs zip))
-    (j.numbers ∙ p.numbers) (indexes_are c before entries logs parts gates opened old now k p j) some few
+    (j.numbers ∙ p.numbers ∙ ap (λ (m : MapMeaning). map (λ (b : MapBox). b.number) m.boxes) (sym same)) (indexes_are c before entries logs parts gates o.boxes.items old now k p j) some few

@@ -1,7 +1,7 @@
 -- What an opening leaves of a disk, and what it shows.
 use Rattle.std.proofs.Common.{◌≡◌, ℕ, List, map, Option, Some, None, refl, sym, ◌∙◌, subst}
-use Rattle.disk_model.specs.Disk.{DiskState, History, IfTold, EachImage, SameState, IsIdle, reading}
-use Rattle.disk_model.proofs.MomentLemmas.{if_told-map, each_image-then}
+use Rattle.disk_model.specs.Disk.{DiskState, History, IfTold, EachImage, SameState, IsIdle}
+use Rattle.disk_model.proofs.MomentLemmas.{each_image-then}
 use Rattle.mdbox_base.specs.declared.entries.BoxEntry.{BoxEntry}
 use Rattle.mdbox_base.specs.declared.entries.MapEntry.{MapEntry}
 use Rattle.model_meaning.specs.BoxMeaning.{BoxMeaning, box_meaning}
@@ -16,19 +16,12 @@ use Rattle.model_store.specs.Settled.{files_of, IsSettled, IsSettledFor}
 use Rattle.model_store.proofs.SettledLemmas.{settled_safe}
 use Rattle.disk_model.proofs.IdleLemmas.{same_state-back, idle-images, idle-between}
 use Rattle.disk_model.proofs.BetweenLemmas.{same-between, between-if}
-use Rattle.disk_model.specs.declared.name.FileName.{FileName}
-use Rattle.disk_model.specs.declared.name.FileName.TheVariants as file
-use Rattle.model_logs.specs.declared.log_head.LogHead.{LogHead}
 use Rattle.model_store.specs.Carrying.{CarryOver}
 use Rattle.model_store.proofs.CarryingLemmas.{each_name}
 use Rattle.model_store.proofs.StandsLemmas.{root_same}
-use Rattle.gate_log.specs.State.{InspectedLog}
-use Rattle.gate_log.specs.Log.{IsFound, log_text}
-use Rattle.store_checks.specs.Roots.{root_log_head}
-use Rattle.store_sweep.specs.Repaired.{repaired_log}
-use Rattle.store_sweep.specs.Swept.{FilesCarry, IsOpened, IsSwept}
+use Rattle.store_sweep.specs.Swept.{FilesCarry, IsSwept}
 use Rattle.store_sweep.proofs.HeldStoreLemmas.{reads_opened}
-use Rattle.store_open.specs.Opened.{StoreCarries, HasWholeRootLog}
+use Rattle.store_open.specs.Opened.{StoreCarries}
 use Rattle.store_open.proofs.CheckedLemmas.{OpensAt}
 
 -- ---- at every moment
@@ -87,11 +80,6 @@ pub carries-swept : (generation : ℕ) (m : MapMeaning) (store : List ℕ) (entr
 carries-swept generation m store entries logs old now new same is opens carry =
     between-if (λ a b. CarryOver generation m (files_of a) (files_of b)) _ (OpensAt store generation entries logs) old new (λ a b c at. carry_one generation m store entries logs a b is c at)
     (reads_since generation m old now new same carry) (same_state-back (OpensAt store generation entries logs) old now same opens)
-
--- the end of the root log
-pub root_whole : (store : List ℕ) (found : InspectedLog) (entries : List (List ℕ)) (old new : Option History) → found.name ≡ file.Root → found.head ≡ root_log_head store → IfTold old (IsFound found entries) → IsOpened old new found (repaired_log found) → IfTold new (HasWholeRootLog store)
-root_whole store found entries old new name head stands opened =
-    if_told-map _ _ new (λ disk r. (entries, subst (λ (h : LogHead). reading (disk file.Root) ≡ Some (log_text h entries)) head (subst (λ (n : FileName). reading (disk n) ≡ Some (log_text found.head entries)) name r.file))) (opened.reads entries stands)
 
 -- ---- what is shown
 

@@ -1,5 +1,5 @@
 -- What the opening of a store answers, and what it leaves.
-use Rattle.std.specs.Prelude.{◌≡◌, ℕ, List, map, Option, Some, Result, Ok, Err, ⊤}
+use Rattle.std.specs.Prelude.{◌≡◌, ℕ, List, map, Option, Result, Ok, Err, ⊤}
 use Rattle.disk_model.specs.Disk.{DiskState, History, Between, IfTold, reading}
 use Rattle.disk_model.specs.declared.name.FileName.TheVariants as file
 use Rattle.mdbox_base.specs.declared.entries.BoxEntry.{BoxEntry}
@@ -7,13 +7,11 @@ use Rattle.mdbox_base.specs.declared.entries.MapEntry.{MapEntry}
 use Rattle.model_meaning.specs.BoxMeaning.{BoxMeaning, box_meaning}
 use Rattle.model_meaning.specs.MapMeaning.{MapMeaning, map_meaning}
 use Rattle.model_meaning.specs.SameMeaning.{MeansSame}
-use Rattle.gate_log.specs.Log.{log_text}
 use Rattle.model_store.specs.Carrying.{CarryOver}
 use Rattle.model_store.specs.Settled.{files_of}
 use Rattle.model_store.specs.GoodLogs.{AreGoodLogs}
 use Rattle.model_store.specs.Opening.{HasNoEntry, Opens, IsDamaged}
 use Rattle.store_core.specs.Value.{StoreValue}
-use Rattle.store_open.specs.Making.{new_root_head}
 use Rattle.store_open.specs.declared.error.OpenError.{OpenError}
 use Rattle.store_open.specs.declared.error.OpenError.TheVariants.{NoStore, StoreWhole, MailFiles, Damaged, DiskFault, NoMemory}
 use Rattle.store_open.specs.declared.error.OpenRefused.{OpenRefused}
@@ -35,10 +33,6 @@ pub record IsOpenedAs (old : Option History) (m : MapMeaning) (meanings : List B
 -- Whatever store the files open with, its files carry over all that it reads.
 abbrev pub StoreCarries : Option History → Option History → Type 0
 StoreCarries = Between (λ old new. (store : List ℕ) (entries : List MapEntry) (logs : List (List BoxEntry)) (o : Opens (files_of old) store entries logs) → CarryOver o.passed.map_log.generation (map_meaning store entries) (files_of old) (files_of new))
-
--- the root log of the store reads some entries and a closed gate, with nothing behind it
-abbrev pub HasWholeRootLog : List ℕ → DiskState → Type 0
-HasWholeRootLog store disk = (texts : List (List ℕ)) × (reading (disk file.Root) ≡ Some (log_text (new_root_head store) texts))
 
 -- Why a store was not opened: its root log has no entry; or its files are damaged, and this is the place; or the device
 -- failed, or there was no memory.

@@ -9,7 +9,7 @@ ghost use Rattle.model_store.specs.Stands.{head_of};
 ghost use Rattle.model_store.specs.Opening.{first_root, first_box, empty_inbox};
 ghost use Rattle.model_store.specs.Settled.{IsSettled};
 ghost use Rattle.gate_log.specs.Log.{Holds, IsAtMostAsLong, NamedButFor};
-ghost use Rattle.store_open.specs.Making.{IdleUnless, IsFreeForStore, IsBeingMade, NeverHasStore, IsEmptyDisk, IsMadeStore, HasNothingOrInbox, new_map_head, inbox_head};
+ghost use Rattle.store_open.specs.Making.{IdleUnless, IsFreeForStore, IsBeingMade, NeverHasStore, IsEmptyDisk, IsMadeStore, HasNothingOrInbox, new_root_head, new_map_head, inbox_head};
 ghost use Rattle.store_open.specs.Refused.{IsMakingError, IsOfFiles, IsFaultOrMemory};
 
 use crate::entries::{inbox_entry, map_log_entry};
@@ -24,7 +24,9 @@ use std::alloc::Global;
 
 /// The logs of a store that was just made, with an empty INBOX.
 #[derive(Drop)]
-pub struct MadeLogs {
+pub struct FirstLogs {
+    /// The root log, which names the map log.
+    pub root_log: GateLog,
     /// The map log, which has INBOX.
     pub map_log: GateLog,
     /// The log of INBOX, without entries.
@@ -36,7 +38,7 @@ pub struct MadeLogs {
 ///
 /// `StoreWhole` exactly where the root log has an entry, `MailFiles` exactly where it has none and a storage file or an
 /// attachment instance is there.
-pub fn make_files<D: Disk>(alloc: Global, disk: &mut D, id: StoreId) -> Result<MadeLogs, OpenError>
+pub fn make_files<D: Disk>(alloc: Global, disk: &mut D, id: StoreId) -> Result<FirstLogs, OpenError>
     ensures refused { IfErr result (IsMakingError (D.history disk.old)) }
     ensures free { OnOk result (IfTold (D.history disk.old) IsFreeForStore) }
     ensures idle { IfErr result (λ error. IsOfFiles error → IsIdle (D.history disk.old) (D.history disk.new)) }
@@ -51,6 +53,7 @@ pub fn make_files<D: Disk>(alloc: Global, disk: &mut D, id: StoreId) -> Result<M
     // After Ok the disk has the new store and no other file.
     ensures settled { OnOk result (IfTold (D.history disk.new) (λ now. IsSettled now empty_inbox)) }
     ensures store { OnOk result (IfTold (D.history disk.new) (IsMadeStore id.0)) }
+    ensures root_log { IfOk result (λ made. Holds made.root_log (root_text first_root ∷ []) (D.history disk.new) × (made.root_log.name ≡ file.Root) × (made.root_log.head ≡ new_root_head id.0)) }
     ensures map_log { IfOk result (λ made. Holds made.map_log (map_text first_box ∷ []) (D.history disk.new) × (made.map_log.name ≡ file.Map 1) × (made.map_log.head ≡ new_map_head id.0)) }
     ensures box_log { IfOk result (λ made. Holds made.box_log [] (D.history disk.new) × (made.box_log ≡ record { name = file.Box 1 1; head = inbox_head id.0; end = 25; room = 0 })) }
 
@@ -73,13 +76,14 @@ fn make_logs<D: Disk>(
     id: StoreId,
     inbox: &[u8],
     first: &[u8],
-) -> Result<MadeLogs, OpenError>
+) -> Result<FirstLogs, OpenError>
     requires bare { IfTold (D.history disk.old) IsEmptyDisk }
     requires inbox { inbox.now ≡ map_text first_box }
     requires first { first.now ≡ root_text first_root }
     ensures any_moment { NeverHasStore (D.history disk.old) → EachImage (λ _ image. HasNothingOrInbox image) (D.history disk.old) (D.history disk.new) }
     ensures store { OnOk result (IfTold (D.history disk.new) (IsMadeStore id.0)) }
     ensures settled { OnOk result (IfTold (D.history disk.new) (λ now. IsSettled now empty_inbox)) }
+    ensures root_log { IfOk result (λ made. Holds made.root_log (root_text first_root ∷ []) (D.history disk.new) × (made.root_log.name ≡ file.Root) × (made.root_log.head ≡ new_root_head id.0)) }
     ensures map_log { IfOk result (λ made. Holds made.map_log (map_text first_box ∷ []) (D.history disk.new) × (made.map_log.name ≡ file.Map 1) × (made.map_log.head ≡ new_map_head id.0)) }
     ensures box_log { IfOk result (λ made. Holds made.box_log [] (D.history disk.new) × (made.box_log ≡ record { name = file.Box 1 1; head = inbox_head id.0; end = 25; room = 0 })) }
     ensures refused { IfErr result IsFaultOrMemory }
@@ -93,8 +97,12 @@ fn make_logs<D: Disk>(
     let head = head_of(id, LogKind::Map, 0, 1);
     let map_log = make_log(alloc, disk, FileName::Map(1), head, inbox)?;
     let head = head_of(id, LogKind::Root, 0, 0);
-    let _root_log = make_log(alloc, disk, FileName::Root, head, first)?;
-    Ok(MadeLogs { map_log, box_log })
+    let root_log = make_log(alloc, disk, FileName::Root, head, first)?;
+    Ok(FirstLogs {
+        root_log,
+        map_log,
+        box_log,
+    })
 }
 
 fn head_of(store: StoreId, kind: LogKind, number: u32, generation: u32) -> LogHead

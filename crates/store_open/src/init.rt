@@ -6,23 +6,22 @@ ghost use Rattle.model_meaning.specs.BoxMeaning.{box_meaning};
 ghost use Rattle.model_meaning.specs.MapMeaning.{map_meaning};
 ghost use Rattle.model_store.specs.Opening.{first_box, empty_inbox};
 ghost use Rattle.model_store.specs.Settled.{IsSettled};
-ghost use Rattle.store_core.specs.Value.{indexes_of};
+ghost use Rattle.store_core.specs.Value.{indexes_of, newly_open};
 ghost use Rattle.store_core.specs.Running.{IsStore};
 ghost use Rattle.store_open.specs.Making.{IdleUnless, IsFreeForStore, IsMadeStore, NeverHasStore, HasNothingOrInbox};
-ghost use Rattle.store_open.specs.Opened.{HasWholeRootLog, IsFaulted, disk_of};
+ghost use Rattle.store_open.specs.Opened.{IsFaulted, disk_of};
 ghost use Rattle.store_open.specs.Refused.{IsMakingError, IsOfFiles};
 
 use crate::entries::inbox;
 use crate::error::{OpenError, OpenRefused};
 use crate::first_logs::make_files;
-use crate::open::OpenFiles;
 use crate::parts::push_box;
 use box_index::BoxIndex;
 use disk_model::Disk;
 use map_index::MapIndex;
 use mdbox_base::{BoxNo, NoMemory, StoreId};
 use std::alloc::Global;
-use store_core::{OpenBox, Store};
+use store_core::{OpenBox, OpenLogs, Store};
 
 /// Makes an empty store with INBOX, as opened for one lane.
 ///
@@ -44,7 +43,6 @@ pub fn init_store<D: Disk>(alloc: Global, disk: D, id: StoreId) -> Result<Store<
     ensures settled { IfOk result (λ store. IfTold (D.history store.disk) (λ now. IsSettled now empty_inbox)) }
     ensures store { IfOk result (λ store. IfTold (D.history store.disk) (IsMadeStore id.0)) }
     ensures made { IfOk result (λ store. (store.map ≡ map_meaning id.0 (first_box ∷ [])) × (indexes_of store.boxes ≡ box_meaning [] ∷ []) × (store.lanes ≡ 1) × (store.stopped ≡ false) × (store.alloc ≡ alloc)) }
-    ensures root_log { IfOk result (λ store. IfTold (D.history store.disk) (HasWholeRootLog store.map.store)) }
 
     // Out of memory means that no store was made.
     ensures unmade { IfErr result (λ refused. refused.error ≡ OpenError.NoMemory → NeverHasStore (D.history disk) → NeverHasStore (D.history refused.disk)) }
@@ -52,24 +50,17 @@ pub fn init_store<D: Disk>(alloc: Global, disk: D, id: StoreId) -> Result<Store<
     ensures unfailed { (IsFaulted result → ⊥) → NoFault (D.faults disk) (D.faults (disk_of result)) }
 {
     let mut disk = disk;
-    match new_files(alloc, &mut disk, id) {
-        Ok(
-            OpenFiles {
-                id,
-                map_log,
-                map,
-                boxes,
-            },
-        ) => Ok(Store::of(alloc, disk, id, map_log, map, boxes, 1)),
+    match new_logs(alloc, &mut disk, id) {
+        Ok(logs) => Ok(Store::of(alloc, disk, logs, 1)),
         Err(error) => Err(OpenRefused { error, disk }),
     }
 }
 
-/// Makes the files of a new store, with what its logs mean. Nothing wants memory once they are made.
-fn new_files<D: Disk>(alloc: Global, disk: &mut D, id: StoreId) -> Result<OpenFiles, OpenError>
-    ensures id { IfOk result (λ files. files.map.store ≡ files.id.0) }
-    ensures store { IfOk result (λ files. IsStore (D.history disk.new) files.map files.map_log files.boxes.items 1 false) }
-    ensures made { IfOk result (λ files. (files.map ≡ map_meaning id.0 (first_box ∷ [])) × (indexes_of files.boxes.items ≡ box_meaning [] ∷ [])) }
+/// Makes the logs of a new store, with what they mean. Nothing wants memory once they are made.
+fn new_logs<D: Disk>(alloc: Global, disk: &mut D, id: StoreId) -> Result<OpenLogs, OpenError>
+    ensures id { IfOk result (λ logs. logs.map.store ≡ logs.id.0) }
+    ensures store { IfOk result (λ logs. IsStore (D.history disk.new) (newly_open alloc disk.new logs 1)) }
+    ensures made { IfOk result (λ logs. (logs.map ≡ map_meaning id.0 (first_box ∷ [])) × (indexes_of logs.boxes.items ≡ box_meaning [] ∷ [])) }
     ensures settled { OnOk result (IfTold (D.history disk.new) (λ now. IsSettled now empty_inbox)) }
     ensures there { OnOk result (IfTold (D.history disk.new) (IsMadeStore id.0)) }
     ensures any_moment { NeverHasStore (D.history disk.old) → EachImage (λ _ image. HasNothingOrInbox image) (D.history disk.old) (D.history disk.new) }
@@ -93,8 +84,9 @@ fn new_files<D: Disk>(alloc: Global, disk: &mut D, id: StoreId) -> Result<OpenFi
             index,
         },
     );
-    Ok(OpenFiles {
+    Ok(OpenLogs {
         id,
+        root_log: made.root_log,
         map_log: made.map_log,
         map,
         boxes,

@@ -6,23 +6,20 @@ ghost use Rattle.disk_model.specs.FaultCounts.{NoFault, AnyFaultCounted};
 ghost use Rattle.model_lists.specs.Lists.{Lists};
 ghost use Rattle.model_store.specs.Listing.{ShowLists};
 ghost use Rattle.model_store.specs.Safe.{Safe};
-ghost use Rattle.store_core.specs.Value.{indexes_of};
+ghost use Rattle.store_core.specs.Value.{indexes_of, newly_open};
 ghost use Rattle.model_store.specs.Settled.{IsSettledFor};
 ghost use Rattle.store_core.specs.Running.{IsStore};
 ghost use Rattle.store_open.specs.Making.{IdleUnless};
-ghost use Rattle.store_open.specs.Opened.{Opening, IsOpenedAs, StoreCarries, HasWholeRootLog, IsOpeningError, IsFaulted, disk_of};
+ghost use Rattle.store_open.specs.Opened.{Opening, IsOpenedAs, StoreCarries, IsOpeningError, IsFaulted, disk_of};
 ghost use Rattle.store_sweep.specs.Moments.{NoFailedChange};
 ghost use Rattle.store_sweep.specs.Swept.{IsSwept};
 
 use crate::error::{OpenError, OpenRefused};
 use crate::parts::{join, part};
 use disk_model::Disk;
-use gate_log::GateLog;
-use map_index::MapIndex;
-use mdbox_base::StoreId;
 use std::alloc::Global;
 use store_checks::{Checked, check_store};
-use store_core::{OpenBox, Store, listings_are_shown};
+use store_core::{OpenLogs, Store, counts_cover_listings, listings_are_shown};
 use store_sweep::sweep;
 
 /// Opens the store: makes the checks, and then sweeps the disk.
@@ -41,10 +38,8 @@ pub fn open_store<D: Disk>(alloc: Global, disk: D, lanes: u32) -> Result<Store<D
     ensures settled_again { NoFailedChange (IsFaulted result) (D.faults disk) (D.faults (disk_of result)) → (lists : Lists) → IsSettledFor lists (D.history disk) → IsSettledFor lists (D.history (disk_of result)) }
     ensures carried { NoFailedChange (IsFaulted result) (D.faults disk) (D.faults (disk_of result)) → StoreCarries (D.history disk) (D.history (disk_of result)) }
 
-    // After Ok the disk is swept, and the ends of its logs are repaired.
+    // After Ok the disk is swept.
     ensures swept { IfOk result (λ store. (generation : ℕ) × (store.map_log.name ≡ file.Map generation) × IsSwept generation store.map (D.history disk) (D.history store.disk)) }
-
-    ensures root_log { IfOk result (λ store. IfTold (D.history store.disk) (HasWholeRootLog store.map.store)) }
 
     // At every moment, whatever fails, each image of a settled disk is safe for the same lists.
     ensures any_moment { (lists : Lists) → IsSettledFor lists (D.history disk) → EachImage (λ _ image. Safe image lists) (D.history disk) (D.history (disk_of result)) }
@@ -58,39 +53,21 @@ pub fn open_store<D: Disk>(alloc: Global, disk: D, lanes: u32) -> Result<Store<D
     ensures unfailed { (IsFaulted result → ⊥) → NoFault (D.faults disk) (D.faults (disk_of result)) }
 {
     let mut disk = disk;
-    match open_files(alloc, &mut disk) {
-        Ok(
-            OpenFiles {
-                id,
-                map_log,
-                map,
-                boxes,
-            },
-        ) => Ok(Store::of(alloc, disk, id, map_log, map, boxes, lanes)),
+    match open_logs(alloc, &mut disk) {
+        Ok(logs) => Ok(Store::of(alloc, disk, logs, lanes)),
         Err(error) => Err(OpenRefused { error, disk }),
     }
 }
 
-/// The files of a store that were opened: its logs, and what they mean.
-#[derive(Drop)]
-pub(crate) struct OpenFiles {
-    pub id: StoreId,
-    pub map_log: GateLog,
-    pub map: MapIndex,
-    /// The mailboxes, in order of number.
-    pub boxes: Vec<OpenBox>,
-}
-
 /// Makes the checks and sweeps the disk. Behind the checks nothing wants memory once the disk changes.
-fn open_files<D: Disk>(alloc: Global, disk: &mut D) -> Result<OpenFiles, OpenError>
-    ensures id { IfOk result (λ files. files.map.store ≡ files.id.0) }
-    ensures store { IfOk result (λ files. (lanes : ℕ) → 1 ≤ lanes → lanes ≤ 64 → IsStore (D.history disk.new) files.map files.map_log files.boxes.items lanes false) }
-    ensures opened { IfOk result (λ files. IsOpenedAs (D.history disk.old) files.map (indexes_of files.boxes.items)) }
-    ensures shows { IfOk result (λ files. (lists : Lists) → IsSettledFor lists (D.history disk.old) → ShowLists files.map.boxes (indexes_of files.boxes.items) lists) }
+fn open_logs<D: Disk>(alloc: Global, disk: &mut D) -> Result<OpenLogs, OpenError>
+    ensures id { IfOk result (λ logs. logs.map.store ≡ logs.id.0) }
+    ensures store { IfOk result (λ logs. (lanes : ℕ) → 1 ≤ lanes → lanes ≤ 64 → IsStore (D.history disk.new) (newly_open alloc disk.new logs lanes)) }
+    ensures opened { IfOk result (λ logs. IsOpenedAs (D.history disk.old) logs.map (indexes_of logs.boxes.items)) }
+    ensures shows { IfOk result (λ logs. (lists : Lists) → IsSettledFor lists (D.history disk.old) → ShowLists logs.map.boxes (indexes_of logs.boxes.items) lists) }
     ensures settled_again { NoFailedChange (IsErrOf result OpenError.DiskFault) (D.faults disk.old) (D.faults disk.new) → (lists : Lists) → IsSettledFor lists (D.history disk.old) → IsSettledFor lists (D.history disk.new) }
     ensures carried { NoFailedChange (IsErrOf result OpenError.DiskFault) (D.faults disk.old) (D.faults disk.new) → StoreCarries (D.history disk.old) (D.history disk.new) }
-    ensures swept { IfOk result (λ files. (generation : ℕ) × (files.map_log.name ≡ file.Map generation) × IsSwept generation files.map (D.history disk.old) (D.history disk.new)) }
-    ensures root_log { IfOk result (λ files. IfTold (D.history disk.new) (HasWholeRootLog files.map.store)) }
+    ensures swept { IfOk result (λ logs. (generation : ℕ) × (logs.map_log.name ≡ file.Map generation) × IsSwept generation logs.map (D.history disk.old) (D.history disk.new)) }
     ensures any_moment { (lists : Lists) → IsSettledFor lists (D.history disk.old) → EachImage (λ _ image. Safe image lists) (D.history disk.old) (D.history disk.new) }
     ensures refused { IfErr result (IsOpeningError (D.history disk.old)) }
     ensures idle { IfErr result (λ error. (error ≡ OpenError.DiskFault → ⊥) → IsIdle (D.history disk.old) (D.history disk.new)) }
@@ -112,8 +89,10 @@ fn open_files<D: Disk>(alloc: Global, disk: &mut D) -> Result<OpenFiles, OpenErr
     let swept = sweep(alloc, disk, generation, root_log, map_log, parts.logs, &map)?;
     join(swept.box_logs, parts.rest, &mut opened);
     listings_are_shown();
-    Ok(OpenFiles {
+    counts_cover_listings();
+    Ok(OpenLogs {
         id,
+        root_log: swept.root_log,
         map_log: swept.map_log,
         map,
         boxes: opened,

@@ -38,37 +38,37 @@ returns-in_err-map_log-clause-any_moment g c = λ never.
     let b = (goal.at.returns-in_err-map_log-clause-any_moment g c).In_ok-box_log in
     each_image-then _ _ _ _ (boxed-images g b never) (without-root _ (file.Map 1) _ _ map-is-no-root (inbox-nevers c.args.id.0 _ (boxed g b)) c.in_err-map_log.ensures.any_moment)
 
-pub returns-in_err-_root_log-clause-any_moment : goal.returns-in_err-_root_log-clause-any_moment
-returns-in_err-_root_log-clause-any_moment g c = λ never.
-    let at = goal.at.returns-in_err-_root_log-clause-any_moment g c in
+pub returns-in_err-root_log-clause-any_moment : goal.returns-in_err-root_log-clause-any_moment
+returns-in_err-root_log-clause-any_moment g c = λ never.
+    let at = goal.at.returns-in_err-root_log-clause-any_moment g c in
     each_image-then _ _ _ _ (mapped-images g at.In_ok-map_log (boxed g at.In_ok-box_log) (boxed-images g at.In_ok-box_log never))
-    (with-root c.args.id.0 c.head_of-head-3.result c.args.first.now _ _ c.head_of-head-3.ensures c.requires.first (mapped g at.In_ok-map_log (boxed g at.In_ok-box_log)) c.in_err-_root_log.ensures.any_moment)
+    (with-root c.args.id.0 c.head_of-head-3.result c.args.first.now _ _ c.head_of-head-3.ensures c.requires.first (mapped g at.In_ok-map_log (boxed g at.In_ok-box_log)) c.in_err-root_log.ensures.any_moment)
 
 pub returns-clause-any_moment : goal.returns-clause-any_moment
 returns-clause-any_moment g c = λ never.
     let at = goal.at.returns-clause-any_moment g c in
     each_image-then _ _ _ _ (mapped-images g at.In_ok-map_log (boxed g at.In_ok-box_log) (boxed-images g at.In_ok-box_log never))
-    (with-root c.args.id.0 c.head_of-head-3.result c.args.first.now _ _ c.head_of-head-3.ensures c.requires.first (mapped g at.In_ok-map_log (boxed g at.In_ok-box_log)) c.in_ok-_root_log.ensures.any_moment)
+    (with-root c.args.id.0 c.head_of-head-3.result c.args.first.now _ _ c.head_of-head-3.ensures c.requires.first (mapped g at.In_ok-map_log (boxed g at.In_ok-box_log)) c.in_ok-root_log.ensures.any_moment)
 
 pub returns-clause-store : goal.returns-clause-store
 returns-clause-store g c =
     let at = goal.at.returns-clause-store g c in
-    is-made c.args.id.0 c.in_ok-_root_log._root_log _ _ c.in_ok-_root_log.ensures.log.0 (c.in_ok-_root_log.ensures.log.1 ∙ c.head_of-head-3.ensures)
-    c.in_ok-_root_log.ensures.others (mapped g at.In_ok-map_log (boxed g at.In_ok-box_log)) (rw c.requires.first at c.in_ok-_root_log.ensures.made)
+    is-made c.args.id.0 c.in_ok-root_log.root_log _ _ c.in_ok-root_log.ensures.log.0 (c.in_ok-root_log.ensures.log.1 ∙ c.head_of-head-3.ensures)
+    c.in_ok-root_log.ensures.others (mapped g at.In_ok-map_log (boxed g at.In_ok-box_log)) (rw c.requires.first at c.in_ok-root_log.ensures.made)
 
 pub returns-clause-settled : goal.returns-clause-settled
 returns-clause-settled g c =
     let at = goal.at.returns-clause-settled g c in
     let n = ap (λ (l : LogState). l.name) c.in_ok-box_log.ensures.log in
     is-settled c.args.id.0 c.in_ok-box_log.box_log [] _ (ap (λ (l : LogState). l.head) c.in_ok-box_log.ensures.log ∙ c.head_of-head.ensures)
-    (is-made c.args.id.0 c.in_ok-_root_log._root_log _ _ c.in_ok-_root_log.ensures.log.0 (c.in_ok-_root_log.ensures.log.1 ∙ c.head_of-head-3.ensures)
-    c.in_ok-_root_log.ensures.others (mapped g at.In_ok-map_log (boxed g at.In_ok-box_log)) (rw c.requires.first at c.in_ok-_root_log.ensures.made))
-    (holds-named c.in_ok-box_log.box_log [] (file.Box 1 1) file.Root _ _ n box-is-no-root c.in_ok-_root_log.ensures.others
+    (is-made c.args.id.0 c.in_ok-root_log.root_log _ _ c.in_ok-root_log.ensures.log.0 (c.in_ok-root_log.ensures.log.1 ∙ c.head_of-head-3.ensures)
+    c.in_ok-root_log.ensures.others (mapped g at.In_ok-map_log (boxed g at.In_ok-box_log)) (rw c.requires.first at c.in_ok-root_log.ensures.made))
+    (holds-named c.in_ok-box_log.box_log [] (file.Box 1 1) file.Root _ _ n box-is-no-root c.in_ok-root_log.ensures.others
     (holds-named c.in_ok-box_log.box_log [] (file.Box 1 1) (file.Map 1) _ _ n box-is-no-map c.in_ok-map_log.ensures.others c.in_ok-box_log.ensures.made))
 
 pub returns-clause-map_log : goal.returns-clause-map_log
 returns-clause-map_log g c = (
-  holds-named c.in_ok-map_log.map_log (map_text first_box ∷ []) (file.Map 1) file.Root _ _ c.in_ok-map_log.ensures.log.0 map-is-no-root c.in_ok-_root_log.ensures.others (rw c.requires.inbox at c.in_ok-map_log.ensures.made),
+  holds-named c.in_ok-map_log.map_log (map_text first_box ∷ []) (file.Map 1) file.Root _ _ c.in_ok-map_log.ensures.log.0 map-is-no-root c.in_ok-root_log.ensures.others (rw c.requires.inbox at c.in_ok-map_log.ensures.made),
   c.in_ok-map_log.ensures.log.0,
   c.in_ok-map_log.ensures.log.1 ∙ c.head_of-head-2.ensures,
 )
@@ -76,7 +76,10 @@ returns-clause-map_log g c = (
 pub returns-clause-box_log : goal.returns-clause-box_log
 returns-clause-box_log g c =
     let n = ap (λ (l : LogState). l.name) c.in_ok-box_log.ensures.log in (
-      holds-named c.in_ok-box_log.box_log [] (file.Box 1 1) file.Root _ _ n box-is-no-root c.in_ok-_root_log.ensures.others
+      holds-named c.in_ok-box_log.box_log [] (file.Box 1 1) file.Root _ _ n box-is-no-root c.in_ok-root_log.ensures.others
           (holds-named c.in_ok-box_log.box_log [] (file.Box 1 1) (file.Map 1) _ _ n box-is-no-map c.in_ok-map_log.ensures.others c.in_ok-box_log.ensures.made),
       rw c.head_of-head.ensures at c.in_ok-box_log.ensures.log,
     )
+
+pub returns-clause-root_log : goal.returns-clause-root_log
+returns-clause-root_log g c = (rw c.requires.first at c.in_ok-root_log.ensures.made, c.in_ok-root_log.ensures.log.0, c.in_ok-root_log.ensures.log.1 ∙ c.head_of-head-3.ensures)

@@ -1,8 +1,5 @@
 use Rattle.store_open.proofs.open.open_store.Goals as goal
 
-pub returns-in-Ok-clause-settled : goal.returns-in-Ok-clause-settled
-returns-in-Ok-clause-settled g c = rw c.of.ensures c.in-Ok.ensures.settled
-
 pub returns-in-Ok-clause-swept : goal.returns-in-Ok-clause-swept
 returns-in-Ok-clause-swept g c = rw c.of.ensures c.in-Ok.ensures.swept
 

@@ -1,0 +1,44 @@
+use Rattle.std.proofs.Common.{◌++◌, ◌∷◌, [], refl, List, ◌∙◌, ap}
+use Rattle.disk_model.proofs.IdleLemmas.{idle-begins}
+use Rattle.store_core.specs.declared.store.OpenBox.{OpenBox}
+use Rattle.store_open.specs.Making.{IsFreeForStore}
+use Rattle.store_open.proofs.IdleUnlessLemmas.{stays}
+use Rattle.store_open.proofs.FirstLogsLemmas.{checked-images}
+use Rattle.store_open.proofs.NewStoreLemmas.{new_store}
+use Rattle.store_open.proofs.init.new_logs.Goals as goal
+
+pub returns-in_err-map-clause-any_moment : goal.returns-in_err-map-clause-any_moment
+returns-in_err-map-clause-any_moment g c = checked-images _ _ (idle-begins _)
+
+pub returns-in_err-index-clause-any_moment : goal.returns-in_err-index-clause-any_moment
+returns-in_err-index-clause-any_moment g c = checked-images _ _ (idle-begins _)
+
+pub returns-in_err-boxes-clause-any_moment : goal.returns-in_err-boxes-clause-any_moment
+returns-in_err-boxes-clause-any_moment g c = checked-images _ _ (idle-begins _)
+
+pub returns-clause-store : goal.returns-clause-store
+returns-clause-store g c =
+    let e = c.in_ok-made.ensures in
+    let box : OpenBox = record { number = record { 0 = 1 }; log = c.in_ok-made.made.box_log; index = c.in_ok-index.index } in
+    new_store c.args.alloc _ c.args.id.0 box _ _ c.in_ok-map.ensures
+    (record {
+      made = e.store;
+      root_held = e.root_log.0;
+      root_name = e.root_log.1;
+      root_head_is = e.root_log.2;
+      map_held = e.map_log.0;
+      map_name = e.map_log.1;
+      map_head_is = e.map_log.2;
+      box_held = e.box_log.0;
+      box_is = e.box_log.1;
+    }) refl c.in_ok-index.ensures
+    (c.push_box.ensures.items ∙ ap (λ (bs : List OpenBox). bs ++ box ∷ []) c.in_ok-boxes.ensures.items)
+
+pub returns-in_err-map-clause-untouched : goal.returns-in_err-map-clause-untouched
+returns-in_err-map-clause-untouched g c = stays IsFreeForStore _ _ (idle-begins _)
+
+pub returns-in_err-index-clause-untouched : goal.returns-in_err-index-clause-untouched
+returns-in_err-index-clause-untouched g c = stays IsFreeForStore _ _ (idle-begins _)
+
+pub returns-in_err-boxes-clause-untouched : goal.returns-in_err-boxes-clause-untouched
+returns-in_err-boxes-clause-untouched g c = stays IsFreeForStore _ _ (idle-begins _)
