@@ -15,10 +15,10 @@ use Rattle.request_text.specs.declared.outcome.Outcome.{Outcome}
 use Rattle.request_text.specs.declared.outcome.Outcome.TheVariants as outcome
 use Rattle.mdbox_top.specs.InputRun.{ShowsText, IsOneOf}
 use Rattle.mdbox_top.specs.OpeningOutcome.{opening_outcome, opening_error}
-use Rattle.mdbox_top.specs.InitRun.{IsNewStore, InitOutcome, MayMakeStore}
+use Rattle.mdbox_top.specs.InitRun.{IsMadeBy, InitOutcome, MayMakeStore}
 
 -- a store was made, and `OK` was printed
-pub made_ends : (id : List ℕ) (h k : Option (List ℕ)) (old new : Option History) (o : Outcome) → IsNewStore id old new → ShowsText (ok_line []) h k o → InitOutcome id h k old new o
+pub made_ends : (id : List ℕ) (h k : Option (List ℕ)) (old new : Option History) (o : Outcome) → IsMadeBy id old new → ShowsText (ok_line []) h k o → InitOutcome id h k old new o
 made_ends id h k old new outcome.Done made s = (made, s)
 made_ends id h k old new outcome.WriteFault made s = (made, s)
 made_ends id h k old new outcome.NoMemory made s = absurd s

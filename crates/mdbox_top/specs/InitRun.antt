@@ -13,7 +13,7 @@ use Rattle.request_text.specs.declared.outcome.Outcome.TheVariants as outcome
 use Rattle.mdbox_top.specs.OpeningOutcome.{opening_error}
 
 -- A store was made: there was none, and no mail files; now the disk is settled for an empty INBOX, in logs of this id.
-pub record IsNewStore (id : List ℕ) (old new : Option History) : Type 0 where
+pub record IsMadeBy (id : List ℕ) (old new : Option History) : Type 0 where
   pub free : IfTold old IsFreeForStore
   pub settled : IfTold new (λ disk. IsSettled disk empty_inbox)
   pub made : IfTold new (IsMadeStore id)
@@ -21,8 +21,8 @@ pub record IsNewStore (id : List ℕ) (old new : Option History) : Type 0 where
 -- How `init` ends: the store is made and `OK` is printed, or a prefix of it; or nothing is printed, for a cause in the files,
 -- which then stay as they were, for a fault, or out of memory, when no store was made.
 abbrev pub InitOutcome : List ℕ → Option (List ℕ) → Option (List ℕ) → Option History → Option History → Outcome → Type 0
-InitOutcome id held later old new outcome.Done = IsNewStore id old new × Appended held (ok_line []) later
-InitOutcome id held later old new outcome.WriteFault = IsNewStore id old new × WritesPrefix held [] (ok_line []) later
+InitOutcome id held later old new outcome.Done = IsMadeBy id old new × Appended held (ok_line []) later
+InitOutcome id held later old new outcome.WriteFault = IsMadeBy id old new × WritesPrefix held [] (ok_line []) later
 InitOutcome id held later old new (outcome.StoreRefused why) = (later ≡ held) × IsMakingError old (opening_error why) × IsIdle old new
 InitOutcome id held later old new outcome.NoMemory = (later ≡ held) × (NeverHasStore old → NeverHasStore new)
 InitOutcome id held later old new outcome.DiskFault = later ≡ held
