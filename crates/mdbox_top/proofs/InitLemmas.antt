@@ -1,7 +1,9 @@
 -- How `init` ends.
 use Rattle.std.specs.Prelude.{◌≡◌, ℕ, List, [], ◌∷◌, codes, ◌++◌, refl, Option, Some, None}
 use Rattle.std.proofs.Common.{inl, inr}
-use Rattle.disk_model.specs.Disk.{History, IsIdle}
+use Rattle.disk_model.specs.Disk.{History, Faults, IsIdle}
+use Rattle.disk_model.specs.FaultCounts.{AnyFaultCounted}
+use Rattle.store_open.specs.Making.{NeverHasStore}
 use Rattle.store_open.specs.Refused.{IsMakingError, IsOfFiles}
 use Rattle.store_open.specs.declared.error.OpenError.{OpenError}
 use Rattle.store_open.specs.declared.error.OpenError.TheVariants as error
@@ -27,13 +29,14 @@ made_ends id h k old new outcome.DiskFault made s = absurd s
 made_ends id h k old new (outcome.StoreRefused why) made s = absurd s
 made_ends id h k old new (outcome.InputRefused why) made s = absurd s
 
-pub unmade_ends : (id : List ℕ) (h : Option (List ℕ)) (old new : Option History) (e : OpenError) → IsMakingError old e → (IsOfFiles e → IsIdle old new) → InitOutcome id h h old new (opening_outcome e)
-unmade_ends id h old new error.StoreWhole cause idle = (refl, cause, idle (inl refl))
-unmade_ends id h old new error.MailFiles cause idle = (refl, cause, idle (inr refl))
-unmade_ends id h old new error.NoStore cause idle = absurd cause
-unmade_ends id h old new (error.Damaged name place) cause idle = absurd cause
-unmade_ends id h old new error.DiskFault cause idle = refl
-unmade_ends id h old new error.NoMemory cause idle = refl
+-- no store was made
+pub unmade_ends : (id : List ℕ) (h : Option (List ℕ)) (old new : Option History) (e : OpenError) → IsMakingError old e → (IsOfFiles e → IsIdle old new) → (e ≡ error.NoMemory → NeverHasStore old → NeverHasStore new) → InitOutcome id h h old new (opening_outcome e)
+unmade_ends id h old new error.StoreWhole cause idle unmade = (refl, cause, idle (inl refl))
+unmade_ends id h old new error.MailFiles cause idle unmade = (refl, cause, idle (inr refl))
+unmade_ends id h old new error.NoStore cause idle unmade = absurd cause
+unmade_ends id h old new (error.Damaged name place) cause idle unmade = absurd cause
+unmade_ends id h old new error.DiskFault cause idle unmade = refl
+unmade_ends id h old new error.NoMemory cause idle unmade = (refl, unmade refl)
 
 unmade_refused : (old : Option History) (why : StoreRefusal) → MayMakeStore old → IsMakingError old (opening_error why) → ⊥
 unmade_refused None why free cause = free
@@ -69,3 +72,7 @@ opening_writes error.StoreWhole e = cc e
 opening_writes error.MailFiles e = cc e
 opening_writes (error.Damaged name place) e = cc e
 opening_writes error.NoMemory e = cc e
+
+-- the counts of a fault that is told by another name
+pub counted_as : (P Q : Type 0) (f g : Faults) → (Q → P) → AnyFaultCounted P f g → AnyFaultCounted Q f g
+counted_as P Q f g to c = record { reads = c.reads; changes = c.changes; rose = λ q. c.rose (to q) }

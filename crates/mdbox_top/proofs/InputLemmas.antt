@@ -101,6 +101,12 @@ shows_status text h k outcome.DiskFault e = absurd e
 shows_status text h k (outcome.StoreRefused why) e = absurd e
 shows_status text h k (outcome.InputRefused why) e = absurd e
 
+pub shows_no_fault : (text : List ℕ) (h k : Option (List ℕ)) (o : Outcome) → ShowsText text h k o → o ≡ outcome.DiskFault → ⊥
+shows_no_fault text h k o s e = subst (ShowsText text h k) e s
+
+pub input_no_fault : (P : List ℕ → List ℕ → Type 0) (R : List ℕ → InputRefusal → Type 0) (left h k : Option (List ℕ)) (o : Outcome) → InputOutcome P R left h k o → o ≡ outcome.DiskFault → ⊥
+input_no_fault P R left h k o s e = subst (InputOutcome P R left h k) e s
+
 -- a scan that gave no places
 abbrev pub no_places : ScanError → Result (List MessageAt) ScanError
 no_places error = Err error
@@ -142,3 +148,9 @@ pub printed_cause : (r : Result (Unit {0}) PrintError) (f g : ℕ) → IfErr r (
 printed_cause (Ok done) f g c e = absurd (cc e)
 printed_cause (Err print.NoMemory) f g c e = absurd (cc e)
 printed_cause (Err print.WriteFault) f g c e = c
+
+-- unless it is a write fault, no fault was counted
+pub printed_quiet : (r : Result (Unit {0}) PrintError) (f g : ℕ) → OnOk r (g ≡ f) → IfErr r (IsPrintError f g) → (printed_outcome r ≡ outcome.WriteFault → ⊥) → g ≡ f
+printed_quiet (Ok done) f g ok c no = ok
+printed_quiet (Err print.NoMemory) f g ok c no = c
+printed_quiet (Err print.WriteFault) f g ok c no = absurd (no refl)

@@ -17,25 +17,25 @@ use Rattle.mdbox_top.specs.InputRun.{DumpPrints, DumpRefuses, LogDumpPrints, Log
 use Rattle.mdbox_top.specs.Run.{Ends, RunOutcome, HasStatus}
 use Rattle.mdbox_top.proofs.InputLemmas.{dumps_apart, log_dumps_apart, input_status, shows_status}
 use Rattle.mdbox_top.proofs.InitLemmas.{init_status}
-use Rattle.mdbox_top.proofs.ListLemmas.{list_status, damage_unopened}
+use Rattle.mdbox_top.proofs.ListLemmas.{list_status, list_used, list_input, list_damage}
 
 -- a refused input whose text finds no memory
 input_memory : (c : Command) (left h k : Option (List ℕ)) (old new : Option History) (why : InputRefusal) → Ends c left h k old new (outcome.InputRefused why) → Ends c left h k old new outcome.NoMemory
 input_memory command.Dump left h k old new why e = inl e.1
 input_memory command.LogDump left h k old new why e = inl e.1
 input_memory (command.Init id) left h k old new why e = absurd e
-input_memory (command.List name) left h k old new why e = absurd e
+input_memory (command.List name) left h k old new why e = absurd (list_input name h k old new why e)
 input_memory command.Help left h k old new why e = absurd e
 input_memory command.Version left h k old new why e = absurd e
 
 -- damage whose text finds no memory
-damage_memory : (c : Command) (left h k : Option (List ℕ)) (old new : Option History) (s : StoreRefusal) → Ends c left h k old new (outcome.StoreRefused s) → Ends c left h k old new outcome.NoMemory
-damage_memory (command.Init id) left h k old new s e = e.0
-damage_memory (command.List name) left h k old new s e = inl (damage_unopened h k old new s e)
-damage_memory command.Dump left h k old new s e = absurd e
-damage_memory command.LogDump left h k old new s e = absurd e
-damage_memory command.Help left h k old new s e = absurd e
-damage_memory command.Version left h k old new s e = absurd e
+damage_memory : (c : Command) (left h k : Option (List ℕ)) (old new : Option History) (name : FileName) (place : ℕ) → Ends c left h k old new (outcome.StoreRefused (store.Damaged name place)) → Ends c left h k old new outcome.NoMemory
+damage_memory (command.Init id) left h k old new name place e = absurd e.1
+damage_memory (command.List box) left h k old new name place e = list_damage box h k old new (store.Damaged name place) e
+damage_memory command.Dump left h k old new name place e = absurd e
+damage_memory command.LogDump left h k old new name place e = absurd e
+damage_memory command.Help left h k old new name place e = absurd e
+damage_memory command.Version left h k old new name place e = absurd e
 
 -- the last end is one that the command may have
 pub last_ends : (c : Command) (left h k : Option (List ℕ)) (old new : Option History) (o last : Outcome) → EndsAs o last → Ends c left h k old new o → Ends c left h k old new last
@@ -45,7 +45,7 @@ last_ends c left h k old new (outcome.InputRefused why) last y e = elim y [
 ]
 last_ends c left h k old new (outcome.StoreRefused (store.Damaged name place)) last y e = elim y [
   | inl same ↦ subst (Ends c left h k old new) (sym same) e
-  | inr none ↦ subst (Ends c left h k old new) (sym none) (damage_memory c left h k old new (store.Damaged name place) e)
+  | inr none ↦ subst (Ends c left h k old new) (sym none) (damage_memory c left h k old new name place e)
 ]
 last_ends c left h k old new (outcome.StoreRefused store.NoStore) last y e = subst (Ends c left h k old new) (sym y) e
 last_ends c left h k old new (outcome.StoreRefused store.StoreWhole) last y e = subst (Ends c left h k old new) (sym y) e
@@ -69,7 +69,7 @@ has_status command.Version left h k old new o e = shows_status _ h k o e
 -- no command ends as unknown words
 used : (c : Command) (left h k : Option (List ℕ)) (old new : Option History) → Ends c left h k old new outcome.Usage → ⊥
 used (command.Init id) left h k old new e = e
-used (command.List name) left h k old new e = e
+used (command.List name) left h k old new e = list_used name h k old new e
 used command.Dump left h k old new e = e
 used command.LogDump left h k old new e = e
 used command.Help left h k old new e = e
@@ -153,7 +153,3 @@ unwritten o last n y s e =
 -- a run of a command doesn't end with status 2
 pub known_words : (c : Command) (left h k : Option (List ℕ)) (old new : Option History) (n : ℕ) (eh : Option (List ℕ)) (ef : ℕ) (ek : Option (List ℕ)) (eg : ℕ) → RunOutcome (Ends c left h k old new) n eh ef ek eg → n ≡ 2 → ⊥
 known_words c left h k old new n eh ef ek eg r e = used c left h k old new (subst (Ends c left h k old new) (two r.outcome (sym r.status_is ∙ e)) r.ended)
-
--- the counts of a fault that is told by another name
-pub counted_as : (P Q : Type 0) (f g : Faults) → (Q → P) → AnyFaultCounted P f g → AnyFaultCounted Q f g
-counted_as P Q f g to c = record { reads = c.reads; changes = c.changes; rose = λ q. c.rose (to q) }

@@ -1,6 +1,6 @@
 -- What a run of the program may do, by its command.
 use Rattle.std.specs.Prelude.{◌≡◌, ℕ, Bool, true, false, List, [], ◌∷◌, Option}
-use Rattle.disk_model.specs.Disk.{History}
+use Rattle.disk_model.specs.Disk.{History, Faults}
 use Rattle.model_lists.specs.Lists.{Lists}
 use Rattle.model_store.specs.Settled.{IsSettledFor}
 use Rattle.piece_writer.specs.Pieces.{WritesOrFaults}
@@ -11,7 +11,7 @@ use Rattle.request_text.specs.declared.command.TheConstants.{HELP, VERSION}
 use Rattle.request_text.specs.declared.outcome.Outcome.{Outcome}
 use Rattle.mdbox_top.specs.InputRun.{DumpPrints, DumpRefuses, LogDumpPrints, LogDumpRefuses, InputOutcome, InputStatus, ShowsText, IsOneOf}
 use Rattle.mdbox_top.specs.InitRun.{InitOutcome, InitMoments, MayMakeStore}
-use Rattle.mdbox_top.specs.ListRun.{ListOutcome, ListMoments}
+use Rattle.mdbox_top.specs.ListRun.{ListOutcome, ListMoments, ListRests}
 
 -- How a command ends: this was left of the input, the output held this before and holds that later, and the disk was this and
 -- is that now.
@@ -35,6 +35,11 @@ abbrev pub Moments : Command → Option History → Option History → Type 0
 Moments (command.Init id) old new = InitMoments old new
 Moments (command.List name) old new = ListMoments old new
 Moments other old new = new ≡ old
+
+-- What the command leaves of the disk when it ends, by whether it failed and the counts of the disk's faults.
+abbrev pub Rests : Command → Type 0 → Faults → Faults → Option History → Option History → Type 0
+Rests (command.List name) failed began now old new = ListRests failed began now old new
+Rests other failed began now old new = Unit {0}
 
 -- The statuses that may come, by what was left of the input and what the disk was: no file refuses a store that can be made,
 -- or a listing of a settled disk, and `--help` and `--version` fail with the output alone.

@@ -20,7 +20,9 @@ const INPUT_LIMIT: u64 = 268_435_456;
 pub fn dump<I: Source, O: Sink>(alloc: Global, input: &mut I, output: &mut O) -> Outcome
     ensures ends { InputOutcome DumpPrints DumpRefuses (I.left input.old) (O.held output.old) (O.held output.new) result }
     ensures read_fault { result ≡ outcome.ReadFault → Rose (I.faults input.old) (I.faults input.new) }
+    ensures read_quiet { result ≢ outcome.ReadFault → I.faults input.new ≡ I.faults input.old }
     ensures write_fault { result ≡ outcome.WriteFault → Rose (O.faults output.old) (O.faults output.new) }
+    ensures write_quiet { result ≢ outcome.WriteFault → O.faults output.new ≡ O.faults output.old }
     ensures counted { (I.faults input.old ≤ I.faults input.new) × (O.faults output.old ≤ O.faults output.new) }
 {
     match read_all(alloc, input, INPUT_LIMIT) {
@@ -37,6 +39,7 @@ fn dump_file<O: Sink>(alloc: Global, file: &[u8], output: &mut O) -> Outcome
     ensures ends { InputOutcome DumpPrints DumpRefuses (Some file.now) (O.held output.old) (O.held output.new) result }
     ensures read { result ≢ outcome.ReadFault }
     ensures write_fault { result ≡ outcome.WriteFault → Rose (O.faults output.old) (O.faults output.new) }
+    ensures write_quiet { result ≢ outcome.WriteFault → O.faults output.new ≡ O.faults output.old }
     ensures counted { O.faults output.old ≤ O.faults output.new }
 {
     match scan(alloc, file) {
@@ -68,7 +71,9 @@ fn refused(why: FileRefusal) -> Outcome
 pub fn logdump<I: Source, O: Sink>(alloc: Global, input: &mut I, output: &mut O) -> Outcome
     ensures ends { InputOutcome LogDumpPrints LogDumpRefuses (I.left input.old) (O.held output.old) (O.held output.new) result }
     ensures read_fault { result ≡ outcome.ReadFault → Rose (I.faults input.old) (I.faults input.new) }
+    ensures read_quiet { result ≢ outcome.ReadFault → I.faults input.new ≡ I.faults input.old }
     ensures write_fault { result ≡ outcome.WriteFault → Rose (O.faults output.old) (O.faults output.new) }
+    ensures write_quiet { result ≢ outcome.WriteFault → O.faults output.new ≡ O.faults output.old }
     ensures counted { (I.faults input.old ≤ I.faults input.new) × (O.faults output.old ≤ O.faults output.new) }
 {
     match read_all(alloc, input, INPUT_LIMIT) {
@@ -85,6 +90,7 @@ fn dump_log<O: Sink>(alloc: Global, log: &[u8], output: &mut O) -> Outcome
     ensures ends { InputOutcome LogDumpPrints LogDumpRefuses (Some log.now) (O.held output.old) (O.held output.new) result }
     ensures read { result ≢ outcome.ReadFault }
     ensures write_fault { result ≡ outcome.WriteFault → Rose (O.faults output.old) (O.faults output.new) }
+    ensures write_quiet { result ≢ outcome.WriteFault → O.faults output.new ≡ O.faults output.old }
     ensures counted { O.faults output.old ≤ O.faults output.new }
 {
     match read_log(alloc, log) {

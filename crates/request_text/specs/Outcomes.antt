@@ -1,6 +1,9 @@
 -- What is told of how a run ended: the exit status, and the text on the errors' sink.
 use Rattle.std.specs.Prelude.{◌≡◌, ℕ, List, [], ◌∷◌, ◌++◌, codes, ◌⊎◌}
 use Rattle.mdbox_base.specs.Numbers.{decimal_text}
+use Rattle.mdbox_base.specs.declared.replies.Refusal.TheVariants as refused
+use Rattle.mdbox_base.specs.declared.replies.Reply.{Reply}
+use Rattle.mdbox_base.specs.declared.replies.Reply.TheVariants as reply
 use Rattle.file_paths.specs.Paths.{path_text}
 use Rattle.request_text.specs.declared.outcome.FileRefusal.TheVariants as file
 use Rattle.request_text.specs.declared.outcome.InputRefusal.{InputRefusal}
@@ -21,6 +24,14 @@ status_of outcome.NoMemory = 5
 status_of outcome.DiskFault = 6
 status_of outcome.ReadFault = 7
 status_of outcome.WriteFault = 8
+
+-- The end of a run that printed this reply: out of memory for 17, a disk fault for 18 and 19, and a refusal for any other NO.
+abbrev pub reply_outcome : Reply → Outcome
+reply_outcome (reply.Refused refused.NoMemory) = outcome.NoMemory
+reply_outcome (reply.Refused refused.ReadFault) = outcome.DiskFault
+reply_outcome (reply.Refused refused.Stopped) = outcome.DiskFault
+reply_outcome (reply.Refused other) = outcome.No
+reply_outcome other = outcome.Done
 
 -- why the input is refused, and a number
 abbrev pub reason_text : InputRefusal → List ℕ

@@ -8,6 +8,8 @@ use Rattle.mdbox_base.specs.declared.replies.Refusal.{Refusal}
 use Rattle.mdbox_base.specs.declared.replies.Refusal.TheVariants as refusal
 use Rattle.mdbox_base.specs.declared.replies.Reply.{Reply}
 use Rattle.mdbox_base.specs.declared.replies.Reply.TheVariants as reply
+use Rattle.mdbox_base.specs.declared.requests.Request.{Request}
+use Rattle.mdbox_base.specs.declared.requests.Request.TheVariants as request
 use Rattle.disk_model.specs.declared.name.FileName.TheVariants as file_name
 use Rattle.file_paths.specs.Paths.{path_text}
 
@@ -62,3 +64,12 @@ reply_text (reply.Counted records references counts instances) = ok_line (number
 reply_text (reply.Purged dropped files instances) = ok_line (numbers_text (dropped ∷ files ∷ instances ∷ []))
 reply_text (reply.Resynced corrected damaged) = ok_line (numbers_text (corrected ∷ damaged ∷ []))
 reply_text (reply.Refused refusal) = codes "NO " ++ (refusal_text refusal ++ 10 ∷ [])
+
+-- The text of the reply to a single request: of a fetch the octets alone.
+abbrev pub fetched_text : Reply → List ℕ
+fetched_text (reply.Fetched octets) = octets
+fetched_text other = reply_text other
+
+abbrev pub single_text : Request → Reply → List ℕ
+single_text (request.Fetch name uid) given = fetched_text given
+single_text other given = reply_text given

@@ -1,5 +1,9 @@
 // How a run ends.
+ghost use Rattle.std.specs.Prelude.{◌≡◌};
+ghost use Rattle.request_text.specs.Outcomes.{reply_outcome};
+
 use disk_model::FileName;
+use mdbox_base::{Refusal, Reply};
 
 /// Why octets are no storage file. Offsets are those of the first place where no whole message stands.
 #[derive(Clone, Copy, Debug, PartialEq, Eq)]
@@ -43,7 +47,7 @@ pub enum StoreRefusal {
 pub enum Outcome {
     /// All was done and printed.
     Done,
-    /// A reply was printed that begins with `NO`.
+    /// A reply was printed that refuses the request: one that begins with `NO` and another number than 17 to 19.
     No,
     /// The words say no command.
     Usage,
@@ -58,4 +62,16 @@ pub enum Outcome {
     ReadFault,
     /// The output failed.
     WriteFault,
+}
+
+/// The end of a run that printed this reply.
+pub fn outcome_of_reply(given: &Reply) -> Outcome
+    ensures { result ≡ reply_outcome given.now }
+{
+    match given {
+        Reply::Refused(Refusal::NoMemory) => Outcome::NoMemory,
+        Reply::Refused(Refusal::ReadFault | Refusal::Stopped) => Outcome::DiskFault,
+        Reply::Refused(_) => Outcome::No,
+        _ => Outcome::Done,
+    }
 }
