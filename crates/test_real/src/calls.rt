@@ -40,7 +40,10 @@ fn pass(rt: &impl Abort, disk: &mut RealDisk, name: FileName) -> Result<(), Fail
     assert_eq!(rt; disk.next_name(None), Ok(None));
     assert_eq!(rt; disk.length(name), Err(DiskError::Absent));
     assert_eq!(rt; disk.read_at(name, 0, &mut into), Err(DiskError::Absent));
-    assert_eq!(rt; disk.read_at(name, 1 << 63, &mut into), Err(DiskError::Absent));
+    assert_eq!(rt;
+        disk.read_at(name, 1 << 63, &mut into),
+        Err(DiskError::Absent)
+    );
     Ok(())
 }
 

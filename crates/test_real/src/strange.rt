@@ -17,11 +17,19 @@ enum Other {
 
 /// What lies at a path, and the name of a store's file that has this path, or else of one that isn't there.
 const OTHERS: [(Other, &str, FileName); 8] = [
-    (Other::Octets, "attachments/ab", FileName::Inst([171; 20], [9; 16])),
+    (
+        Other::Octets,
+        "attachments/ab",
+        FileName::Inst([171; 20], [9; 16]),
+    ),
     (Other::Octets, "attachments/readme", FileName::Map(1)),
     (Other::Octets, "storage/m.01", FileName::Mail(1)),
     (Other::Octets, "storage/map.0.log", FileName::Map(0)),
-    (Other::Octets, "storage/m.4294967295", FileName::Mail(4_294_967_295)),
+    (
+        Other::Octets,
+        "storage/m.4294967295",
+        FileName::Mail(4_294_967_295),
+    ),
     (Other::Folder, "storage/m.5", FileName::Mail(5)),
     (Other::Link("nowhere"), "storage/m.6", FileName::Mail(6)),
     (Other::Link("m.7"), "storage/m.7", FileName::Mail(7)),

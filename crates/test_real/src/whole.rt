@@ -1,6 +1,5 @@
 // One test runs the cases one after the other, since they share a folder and its lock.
-use crate::calls;
-use crate::strange;
+use crate::{calls, strange};
 use disk_model::FileName;
 use disk_real::StdClock;
 use mdbox_base::Clock;
