@@ -66,7 +66,7 @@ pub returns-clause-store : goal.returns-clause-store
 returns-clause-store g c = λ lanes some few.
     let k = c.in_ok-id.ensures.checked in
     opened_store c.args.alloc c.sweep.new.disk c.in_ok-id.field-0 k.0 k.1 k.2 c.in_ok-parts.parts c.in_ok-swept.swept.box_logs.items
-    (record { id = c.in_ok-id.field-0.id; root_log = c.in_ok-swept.swept.root_log; map_log = c.in_ok-swept.swept.map_log; map = c.in_ok-id.field-0.map; boxes = c.join.new.opened }) lanes _ _ _ c.counts_cover_listings.ensures c.in_ok-id.ensures.idle k.3
+    (record { id = c.in_ok-id.field-0.id; root_log = c.in_ok-swept.swept.root_log; map_log = c.in_ok-swept.swept.map_log; map = c.in_ok-id.field-0.map; boxes = c.join.new.opened }) lanes _ _ _ c.counts_cover_listings.ensures.nothing_due c.in_ok-id.ensures.idle k.3
     (parted c.in_ok-id.field-0 _ c.in_ok-parts.parts c.into_vec-boxes.ensures c.in_ok-parts.ensures) c.in_ok-swept.ensures.swept.reads refl c.in_ok-swept.ensures.root_log c.in_ok-swept.ensures.map_log c.in_ok-swept.ensures.box_logs
     (record { logs = c.join.ensures.logs; numbers = c.join.ensures.numbers; indexes = c.join.ensures.indexes }) some few
 
