@@ -1,7 +1,7 @@
 -- What a disk over the system's files counts, and when it refuses to change them.
-use Rattle.std.specs.Prelude.{◌≡◌, ℕ, true, Result, Ok, Err}
+use Rattle.std.specs.Prelude.{◌≡◌, ℕ, true, Result, Ok, Err, IsErr}
 use Rattle.mdbox_base.specs.Streams.{next_count}
-use Rattle.disk_model.specs.Disk.{Faults}
+use Rattle.disk_model.specs.Disk.{Faults, ReadCause, ChangeCause}
 use Rattle.disk_model.specs.declared.error.DiskError.{DiskError}
 use Rattle.disk_model.specs.declared.error.DiskError.TheVariants.{Failed, Absent}
 use Rattle.disk_real.specs.declared.disk.RealDisk.{RealDisk}
@@ -32,3 +32,16 @@ after_change (Err error) counts = record counts { calls = next_count counts.call
 -- a change has failed, or a sync before a first read
 abbrev pub IsSpoiled : RealDisk → Type 0
 IsSpoiled disk = disk.folder.is_spoiled ≡ true
+
+-- A read that answered this. It is counted, and a disk that refuses changes still does.
+pub record IsRealRead {T : Type 0} (result : Result T DiskError) (old new : RealDisk) : Type 0 where
+  pub counts : real_counts_of new ≡ after_read result (real_counts_of old)
+  pub cause : ReadCause result (real_faults_of old) (real_faults_of new)
+  pub stays : IsSpoiled old → IsSpoiled new
+
+-- A change that answered this. It is counted; after one that failed each later one fails.
+pub record IsRealChange {T : Type 0} (result : Result T DiskError) (old new : RealDisk) : Type 0 where
+  pub counts : real_counts_of new ≡ after_change result (real_counts_of old)
+  pub cause : ChangeCause result (real_faults_of old) (real_faults_of new)
+  pub refused : IsSpoiled old → IsErr result
+  pub spoils : IsErr result → IsSpoiled new

@@ -1,8 +1,8 @@
 // A disk over the files of the current folder.
-ghost use Rattle.std.specs.Prelude.{None, Some, Ok, ◌≡◌, ◌↔◌, IfOk, IsOk, IsErr, IsErrOf};
-ghost use Rattle.disk_model.specs.Disk.{ReadCause, ChangeCause};
+ghost use Rattle.std.specs.Prelude.{None, Some, Ok, ◌≡◌, ◌↔◌, ◌≤◌, ◌<◌, ◌^◌, ◌+◌, length, drop, IfOk, IfSome, OnOk, IsOk, IsErr, IsErrOf};
+ghost use Rattle.disk_model.specs.Disk.{ReadCause, ChangeCause, IsPast};
 ghost use Rattle.disk_model.specs.declared.error.DiskError.TheVariants.{Absent};
-ghost use Rattle.disk_real.specs.Counts.{real_counts_of, real_faults_of, after_read, after_change, IsSpoiled};
+ghost use Rattle.disk_real.specs.Counts.{real_counts_of, real_faults_of, after_read, after_change, IsSpoiled, IsRealRead, IsRealChange};
 
 use crate::folder::StoreFolder;
 use disk_model::{Disk, DiskError, FileName};
@@ -87,54 +87,73 @@ impl Disk for RealDisk {
         self.calls
     }
 
-    fn length(&mut self, name: FileName) -> Result<u64, DiskError> {
+    fn length(&mut self, name: FileName) -> Result<u64, DiskError>
+        ensures read { IsRealRead result self.old self.new }
+    {
         let answer = self.folder.length(name);
         self.read(answer)
     }
 
-    fn read_at(
-        &mut self,
-        name: FileName,
-        offset: u64,
-        into: &mut [u8],
-    ) -> Result<usize, DiskError> {
+    fn read_at(&mut self, name: FileName, offset: u64, into: &mut [u8]) -> Result<usize, DiskError>
+        ensures count { IfOk result (λ n. n ≤ length into.new) }
+        ensures rest { IfOk result (λ n. drop n into.new ≡ drop n into.old) }
+        ensures untouched { IsErrOf result Absent → into.new ≡ into.old }
+        ensures read { IsRealRead result self.old self.new }
+    {
         let answer = self.folder.read_at(name, offset, into);
         self.read(answer)
     }
 
-    fn next_name(&mut self, after: Option<FileName>) -> Result<Option<FileName>, DiskError> {
+    fn next_name(&mut self, after: Option<FileName>) -> Result<Option<FileName>, DiskError>
+        ensures past { IfOk result (λ next. IfSome next (IsPast ⟦<FileName as Ord>⟧.cmp after)) }
+        ensures not_absent { IsErrOf result Absent → ⊥ }
+        ensures read { IsRealRead result self.old self.new }
+    {
         match self.folder.next_name(after) {
             Ok(next) => self.read(Ok(Some(next))),
             Err(error) => self.read(Err(error)),
         }
     }
 
-    fn write_at(&mut self, name: FileName, offset: u64, from: &[u8]) -> Result<(), DiskError> {
+    fn write_at(&mut self, name: FileName, offset: u64, from: &[u8]) -> Result<(), DiskError>
+        ensures fits { OnOk result (offset + length from.now < 2 ^ 64) }
+        ensures change { IsRealChange result self.old self.new }
+    {
         let answer = self.folder.write_at(name, offset, from);
         self.change(answer)
     }
 
-    fn cut(&mut self, name: FileName, length: u64) -> Result<(), DiskError> {
+    fn cut(&mut self, name: FileName, length: u64) -> Result<(), DiskError>
+        ensures change { IsRealChange result self.old self.new }
+    {
         let answer = self.folder.cut(name, length);
         self.change(answer)
     }
 
-    fn sync(&mut self, name: FileName) -> Result<(), DiskError> {
+    fn sync(&mut self, name: FileName) -> Result<(), DiskError>
+        ensures change { IsRealChange result self.old self.new }
+    {
         let answer = self.folder.sync(name);
         self.change(answer)
     }
 
-    fn make(&mut self, name: FileName) -> Result<(), DiskError> {
+    fn make(&mut self, name: FileName) -> Result<(), DiskError>
+        ensures change { IsRealChange result self.old self.new }
+    {
         let answer = self.folder.make(name);
         self.change(answer)
     }
 
-    fn remove(&mut self, name: FileName) -> Result<(), DiskError> {
+    fn remove(&mut self, name: FileName) -> Result<(), DiskError>
+        ensures change { IsRealChange result self.old self.new }
+    {
         let answer = self.folder.remove(name);
         self.change(answer)
     }
 
-    fn sync_names(&mut self) -> Result<(), DiskError> {
+    fn sync_names(&mut self) -> Result<(), DiskError>
+        ensures change { IsRealChange result self.old self.new }
+    {
         let answer = self.folder.sync_names();
         self.change(answer)
     }

@@ -7,13 +7,13 @@ use std::os::unix::fs::PermissionsExt;
 use std::process::Abort;
 use std::test::Fail;
 
-pub(crate) fn each_call_on_each_kind(rt: HostRuntime) -> Result<(), Fail> {
-    let mut disk = RealDisk::of(rt);
+pub(crate) fn each_call_on_each_kind(rt: &impl Abort, host: HostRuntime) -> Result<(), Fail> {
+    let mut disk = RealDisk::of(host);
     for name in NAMES {
-        pass(&rt, &mut disk, name)?;
+        pass(rt, &mut disk, name)?;
     }
     disk.make(FileName::Root)?;
-    let permissions = fs::metadata(&rt, "storage/root.log")?.permissions();
+    let permissions = fs::metadata(&host, "storage/root.log")?.permissions();
     assert_eq!(rt; permissions.mode() & 0o777, 0o600);
     disk.remove(FileName::Root)?;
     Ok(())
@@ -49,23 +49,23 @@ fn pass(rt: &impl Abort, disk: &mut RealDisk, name: FileName) -> Result<(), Fail
 
 /// Names that are made and removed after the first look at the folders are in order too, and so are those that a second disk
 /// finds.
-pub(crate) fn names_stay_in_order(rt: HostRuntime) -> Result<(), Fail> {
+pub(crate) fn names_stay_in_order(rt: &impl Abort, host: HostRuntime) -> Result<(), Fail> {
     {
-        let mut disk = RealDisk::of(rt);
+        let mut disk = RealDisk::of(host);
         assert_eq!(rt; disk.next_name(None), Ok(None));
         for at in [3, 0, 4, 2, 1] {
             disk.make(NAMES[at])?;
         }
         disk.make(FileName::Mail(5))?;
         disk.remove(FileName::Mail(5))?;
-        are_listed(&rt, &mut disk, &NAMES)?;
+        are_listed(rt, &mut disk, &NAMES)?;
     }
-    let mut disk = RealDisk::of(rt);
-    are_listed(&rt, &mut disk, &NAMES)?;
+    let mut disk = RealDisk::of(host);
+    are_listed(rt, &mut disk, &NAMES)?;
     for name in NAMES {
         disk.remove(name)?;
     }
-    are_listed(&rt, &mut disk, &[])
+    are_listed(rt, &mut disk, &[])
 }
 
 /// Walks the names.
@@ -83,19 +83,22 @@ pub(crate) fn are_listed(
     Ok(())
 }
 
-pub(crate) fn one_process_has_the_store(rt: HostRuntime) -> Result<(), Fail> {
-    let mut disk = RealDisk::of(rt);
+pub(crate) fn one_process_has_the_store(rt: &impl Abort, host: HostRuntime) -> Result<(), Fail> {
+    let mut disk = RealDisk::of(host);
     assert_eq!(rt; disk.length(FileName::Root), Err(DiskError::Absent));
-    let mut second = RealDisk::of(rt);
+    let mut second = RealDisk::of(host);
     assert_eq!(rt; second.length(FileName::Root), Err(DiskError::Failed));
     assert_eq!(rt; second.make(FileName::Root), Err(DiskError::Failed));
     Ok(())
 }
 
 /// A write past a file's end fails, and with it each later change. Reads go on.
-pub(crate) fn nothing_changes_after_a_failure(rt: HostRuntime) -> Result<(), Fail> {
+pub(crate) fn nothing_changes_after_a_failure(
+    rt: &impl Abort,
+    host: HostRuntime,
+) -> Result<(), Fail> {
     {
-        let mut disk = RealDisk::of(rt);
+        let mut disk = RealDisk::of(host);
         disk.make(FileName::Root)?;
         disk.write_at(FileName::Root, 0, b"ab")?;
         let failed = Err(DiskError::Failed);
@@ -108,14 +111,14 @@ pub(crate) fn nothing_changes_after_a_failure(rt: HostRuntime) -> Result<(), Fai
         assert_eq!(rt; disk.sync_names(), failed);
         assert_eq!(rt; disk.length(FileName::Root), Ok(2));
     }
-    let mut disk = RealDisk::of(rt);
+    let mut disk = RealDisk::of(host);
     assert_eq!(rt; disk.length(FileName::Root), Ok(2));
     disk.remove(FileName::Root)?;
     Ok(())
 }
 
-pub(crate) fn each_call_is_counted(rt: HostRuntime) -> Result<(), Fail> {
-    let mut disk = RealDisk::of(rt);
+pub(crate) fn each_call_is_counted(rt: &impl Abort, host: HostRuntime) -> Result<(), Fail> {
+    let mut disk = RealDisk::of(host);
     assert_eq!(rt; disk.moment(), 0);
     let _ = disk.length(FileName::Root);
     let _ = disk.next_name(None);

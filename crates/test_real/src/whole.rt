@@ -16,14 +16,14 @@ pub(crate) const NAMES: [FileName; 5] = [
 
 #[test]
 fn real_files(rt: HostRuntime) -> Result<(), Fail> {
-    calls::each_call_on_each_kind(rt)?;
-    calls::names_stay_in_order(rt)?;
-    calls::one_process_has_the_store(rt)?;
-    calls::nothing_changes_after_a_failure(rt)?;
-    calls::each_call_is_counted(rt)?;
-    strange::others_are_no_files(rt)?;
-    strange::files_in_place_of_folders(rt)?;
-    strange::names_of_no_store(rt)
+    calls::each_call_on_each_kind(&rt, rt)?;
+    calls::names_stay_in_order(&rt, rt)?;
+    calls::one_process_has_the_store(&rt, rt)?;
+    calls::nothing_changes_after_a_failure(&rt, rt)?;
+    calls::each_call_is_counted(&rt, rt)?;
+    strange::others_are_no_files(&rt, rt)?;
+    strange::files_in_place_of_folders(&rt, rt)?;
+    strange::names_of_no_store(&rt, rt)
 }
 
 #[test]
