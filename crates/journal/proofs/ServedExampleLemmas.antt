@@ -185,11 +185,11 @@ never_stopped =
         all_behind [] = All-nil _
         all_behind (x ∷ xs) = All-cons (StopsBehind e) x xs (λ s. absurd (never s)) (all_behind xs)
 
-pub second_is_served : (now : Faults) → IsServed lists_saved second_script second_run second_journal no_broken (Some (reply.Refused refusal.NoMessage) ∷ Some reply.Done ∷ []) now now (map_of second_run) (drawn_of second_run) 16
+pub second_is_served : (now : Faults) → IsServed lists_saved second_script second_run second_journal no_broken (Some (reply.Refused refusal.NoMessage) ∷ Some reply.Done ∷ []) now now (map_of (before 0 second_run)) (map_of second_run) (drawn_of second_run) 16
 second_is_served now = record {
   around = λ n. nothing_around;
   after = λ n. nothing_around;
-  opened = refl;
+  begins = record { map_is = refl; drawn_is = refl; moments = All-nil _ };
   next = all_next;
   found = all_found;
   told = λ n event asked e. all_told n event e asked;

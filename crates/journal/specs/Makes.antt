@@ -7,7 +7,7 @@ use Rattle.mdbox_base.specs.declared.requests.Request.{Request}
 use Rattle.mdbox_base.specs.declared.replies.Refusal.TheVariants as refusal
 use Rattle.mdbox_base.specs.declared.replies.Reply.{Reply}
 use Rattle.model_lists.specs.Lists.{Lists}
-use Rattle.model_meaning.specs.MapMeaning.{MapMeaning, map_meaning}
+use Rattle.model_meaning.specs.MapMeaning.{MapMeaning}
 use Rattle.list_machine.specs.Run.{RunEvent, Run, before, and_then, map_of, drawn_of, reply_of}
 use Rattle.list_machine.specs.Machine.{Answers}
 use Rattle.journal.specs.Journal.{Requests, half_of, JournalStep, left_by, refusal_in, IsLegal, Broken, AreBroken, IsOfFailure}
@@ -88,13 +88,13 @@ AreTold script run journal = (n : ℕ) (event : RunEvent) (asked : ℕ × Reques
 abbrev pub StaysStopped : List RunEvent → Type 0
 StaysStopped events = AllPairs (λ a b. a.refused ≡ Some refusal.Stopped → (b.refused ≡ Some refusal.Stopped) ⊎ (b.refused ≡ Some refusal.NoMemory)) events
 
--- A script was served from these lists: the run began with the numbers that its map names, each event was the next of its
+-- A script was served from these lists: the run began with the first map and the numbers that it names, each event was the next of its
 -- lane, what it found agrees with the run, and each step has its entry, the journal and the replies are legal, the broken steps are what a failed append would have
 -- made, a store that is stopped stays so, and the run has come to this map, these numbers drawn and so many device calls.
-pub record IsServed (start : Lists) (script : Requests) (run : Run) (journal : List JournalStep) (broken : Broken) (replies : List (Option Reply)) (old new : Faults) (m : MapMeaning) (drawn : Highest) (calls : ℕ) : Type 0 where
+pub record IsServed (start : Lists) (script : Requests) (run : Run) (journal : List JournalStep) (broken : Broken) (replies : List (Option Reply)) (old new : Faults) (first m : MapMeaning) (drawn : Highest) (calls : ℕ) : Type 0 where
   pub around : ℕ → Around
   pub after : ℕ → Around
-  pub opened : run.opened ≡ (map_meaning run.store run.start).highest
+  pub begins : HasCome (before 0 run) first first.highest 0
   pub next : AreNextEvents around after script start run journal
   pub found : AgreeWithRun around script run
   pub told : AreTold script run journal

@@ -16,7 +16,7 @@ pub fn example_journals()
     ensures first { AreSteps first_run first_script first_lists first_journal }
     ensures second { AreSteps second_run second_script lists_saved second_journal }
     ensures third { AreSteps third_run third_script third_lists third_journal }
-    ensures served { (now : Faults) → IsServed lists_saved second_script second_run second_journal no_broken (Some (reply.Refused refusal.NoMessage) ∷ Some reply.Done ∷ []) now now (map_of second_run) (drawn_of second_run) 16 }
+    ensures served { (now : Faults) → IsServed lists_saved second_script second_run second_journal no_broken (Some (reply.Refused refusal.NoMessage) ∷ Some reply.Done ∷ []) now now (map_of (before 0 second_run)) (map_of second_run) (drawn_of second_run) 16 }
     ensures purge { AreSteps fourth_run fourth_script lists_saved fourth_journal }
     ensures purge_events { AreNextEvents fourth_around (λ _. nothing_around) fourth_script lists_saved fourth_run fourth_journal }
     ensures purge_found { FindsFiles (before 1 fourth_run) (1 ∷ []) }

@@ -257,6 +257,7 @@ quiet_on start script run journal broken replies began now new request event ans
     all : Kept start script (and_then run event) journal replies began new → Serves start script (and_then run event) journal broken replies began new
     all k = record {
       legal = k.legal;
+      begins = s.begins;
       come = k.come;
       shown = k.shown;
       within = more_events run event broken.place s.within;
@@ -278,6 +279,7 @@ step_on start script run journal broken replies began now new request event answ
   no_broken,
   record {
     legal = t.kept.legal;
+    begins = s.begins;
     come = t.kept.come;
     shown = t.kept.shown;
     within = omega arith;
@@ -303,6 +305,7 @@ failed_on start script run journal broken replies began now new request event an
     all : Kept start script (and_then run event) journal replies began new → Serves start script (and_then run event) journal broken replies began new
     all k = record {
       legal = k.legal;
+      begins = s.begins;
       come = k.come;
       shown = k.shown;
       within = more_events run event broken.place s.within;
@@ -347,6 +350,7 @@ broken_on start script run journal broken replies began now new lane place reque
     all : Kept start script (and_then run event) journal replies began new → Serves start script (and_then run event) journal next replies began new
     all k = record {
       legal = k.legal;
+      begins = s.begins;
       come = k.come;
       shown = k.shown;
       within = more_events run event (length run.events) (omega arith);

@@ -25,7 +25,7 @@ use Rattle.journal.proofs.LegalLemmas.{legal_reply}
 use Rattle.journal.proofs.ReachedLemmas.{get_last, legal_start, reached_last}
 use Rattle.journal.proofs.OwnEventLemmas.{own_more, own_other}
 use Rattle.journal.specs.Events.{Around, is_faulted}
-use Rattle.journal.specs.Makes.{steps_made}
+use Rattle.journal.specs.Makes.{HasCome, steps_made}
 use Rattle.mdbox_base.specs.declared.progress.Did.{Did}
 use Rattle.mdbox_base.specs.declared.progress.Did.TheVariants as did
 use Rattle.task_steps.specs.Step.{Seen, ShowsSeen, HasComeTo, Went, and_told, DidEvent}
@@ -156,6 +156,7 @@ pub reply_on : (start : Lists) (script : Requests) (run : Run) (journal : List J
     → Serves start script (and_then run d.makes.event) (journal ++ steps_made run request d.makes.event d.makes.answer d.left) next given_also began new
 reply_on start script run journal broken next replies given_also began now new around after lane place request how given s turn d also few t = record {
   legal = legal_reply start script (and_then run d.makes.event) all replies given_also began.faults new.faults place given t.legal also may;
+  begins = t.begins;
   come = t.come;
   shown = t.shown;
   within = t.within;
@@ -217,6 +218,7 @@ pub serves_start : (start : Lists) (script : Requests) (run : Run) (replies : Li
     → ((i : ℕ) (given : Reply) → HasReply replies i given → ⊥) → count_by is_read_fault replies ≡ 0 → Serves start script run [] no_broken replies now now
 serves_start start script run replies now empty come shows runs none zero = record {
   legal = legal_start start script run replies now.faults empty none zero;
+  begins = record { map_is = at_start.map_is; drawn_is = at_start.drawn_is; moments = All-nil _ };
   come = come;
   shown = shows;
   within = omega arith;
@@ -232,6 +234,9 @@ serves_start start script run replies now empty come shows runs none zero = reco
   halted = λ i h. absurd (none i _ h);
 }
   where
+    at_start : HasCome (record run { events = [] }) now.map now.drawn (told_calls now.history)
+    at_start = subst (λ (es : List RunEvent). HasCome (record run { events = es }) now.map now.drawn (told_calls now.history)) empty come
+
     begins : (h : Option History) → IsSettledFor start h → EachImage (IsReached start run [] no_broken) h h
     begins None at = absurd at
     begins (Some h) at = each_image-begins (IsReached start run [] no_broken) (Some h) (λ m image is. (start, reached_last start run [] no_broken m, settled_safe h.now start image at is))

@@ -9,9 +9,9 @@ use Rattle.mdbox_base.specs.declared.replies.Refusal.TheVariants as refusal
 use Rattle.mdbox_base.specs.declared.replies.Reply.{Reply}
 use Rattle.mdbox_base.specs.declared.replies.Reply.TheVariants as reply
 use Rattle.model_lists.specs.Lists.{Lists}
-use Rattle.list_machine.specs.Run.{RunEvent, Run}
+use Rattle.list_machine.specs.Run.{RunEvent, Run, before}
 use Rattle.journal.specs.Journal.{Requests, JournalStep, left_by, IsLegal, Broken, no_broken, AreBroken, IsOfFailure, Reached, HasReply, RoseBy, steps_of}
-use Rattle.journal.specs.Makes.{AreNextEvents}
+use Rattle.journal.specs.Makes.{HasCome, AreNextEvents}
 use Rattle.model_store.specs.Safe.{Safe}
 use Rattle.model_store.specs.Settled.{IsSettledFor}
 use Rattle.task_steps.specs.Step.{Seen, ShowsSeen, HasComeTo}
@@ -20,13 +20,15 @@ use Rattle.task_steps.specs.Step.{Seen, ShowsSeen, HasComeTo}
 abbrev pub IsReached : Lists → Run → List JournalStep → Broken → ℕ → Files → Type 0
 IsReached start run journal broken m image = (lists : Lists) × Reached start run journal broken m lists × Safe image lists
 
--- A run of events, from these lists and from a store as it was seen then: the journal and the replies are legal, the run has
+-- A run of events, from these lists and from a store as it was seen then: the run began with the
+-- map and the numbers drawn of that store, the journal and the replies are legal, the run has
 -- come to the store, which shows what the journal left; a store that is stopped replied so, and no other. Of a disk that was
 -- settled at the start each image since is safe for lists that are reached; unless the store is stopped, no step is broken,
 -- no event was refused as by one that is, and the disk is settled for the present lists. Broken steps are those of the append
 -- that stopped the store.
 pub record Serves (start : Lists) (script : Requests) (run : Run) (journal : List JournalStep) (broken : Broken) (replies : List (Option Reply)) (began now : Seen) : Type 0 where
   pub legal : IsLegal start script run journal replies began.faults now.faults
+  pub begins : HasCome (before 0 run) began.map began.drawn 0
   pub come : HasComeTo run now
   pub shown : ShowsSeen now (left_by start journal)
   pub within : broken.place ≤ length run.events
