@@ -27,6 +27,10 @@ same_some x y e = cc e
 none_some : {X : Type 0} → (x : X) → None ≡ Some x → ⊥
 none_some x e = cc e
 
+none_at : {X : Type 0} → (n : ℕ) (x : X) → slice_get [] n ≡ Some x → ⊥
+none_at zero x e = cc e
+none_at (suc n) x e = cc e
+
 -- ---- events
 
 -- the n-th event is the next of its lane
@@ -197,6 +201,7 @@ second_is_served now = record {
   legal = second_legal now;
   broken_is = tt;
   of_failure = none_failed second_run;
+  would = λ n event asked around e. absurd (none_at n event e);
   stays_stopped = never_stopped;
   come = record { map_is = refl; drawn_is = refl; moments = All-from_recursion (λ (e : RunEvent). e.moment ≤ 16) second_run.events (lit≤ tt, (lit≤ tt, (lit≤ tt, (lit≤ tt, (lit≤ tt, tt))))) };
 }

@@ -1,4 +1,5 @@
--- What a run tells of what its events found: which storage files and instances it knows, and which of them are in use.
+-- What a run tells of what its events found: which storage files and instances it knows, and which of them are in use. It is
+-- of a store that was opened: opening removes what no record names, so what is there at the start is named or sealed.
 use Rattle.std.specs.Prelude.{◌≡◌, ◌≢◌, ◌≤◌, ◌==◌, ◌&&◌, ◌||◌, ℕ, Bool, true, false, not, List, All, AllPairs, Contains, count_by, flat_map, is_none, slice_get, Option, Some}
 use Rattle.std.specs.List.{list_any}
 use Rattle.std.specs.Option.{IfSome}

@@ -1,13 +1,13 @@
 -- One event more, whatever task it is of.
 use Rattle.std.proofs.Common.{inl, inr, ◌⊎◌, ◌≡◌, ◌<◌, ◌≤◌, ◌+◌, ◌-◌, ◌^◌, ◌==◌, ℕ, Bool, true, false, cond, List, [], ◌∷◌, ◌++◌, Option, Some, None, refl, sym, ◌∙◌, ap, subst, arith, All, map}
-use Rattle.std.specs.Prelude.{◌≢◌, min, is_some, length, filter, take, count_by, slice_get, nat_le}
+use Rattle.std.specs.Prelude.{◌≢◌, min, is_some, length, filter, count_by, slice_get, nat_le}
 use Rattle.std.proofs.lemmas.Grind.{common_steps}
 use Rattle.std.proofs.lemmas.List.{append-nil, length-append, map-append, take-append-le}
-use Rattle.std.proofs.lemmas.List.Elements.{All-nil, All-cons, All-append, All-head, All-tail, All-weaker, filter-append}
+use Rattle.std.proofs.lemmas.List.Elements.{All-nil, All-cons, All-append, All-weaker, filter-append}
 use Rattle.std.proofs.lemmas.List.Sums.{sum_by-append, sum_by-cons}
 use Rattle.disk_model.specs.Disk.{Files, DiskState, History, IsImage, EachImage, calls, state_at, told_calls}
 use Rattle.mdbox_base.specs.Streams.{Rose}
-use Rattle.task_steps.specs.Step.{FaultsGrow, Seen, ShowsSeen, HasComeTo, Leads, Stops, Fell, Went, and_told, IsFault, EndsRequest, DidEvent}
+use Rattle.task_steps.specs.Step.{FaultsGrow, Seen, ShowsSeen, HasComeTo, Leads, Stops, Fell, Went, IsFault, DidEvent}
 use Rattle.disk_model.proofs.MomentLemmas.{each_image-map, each_image-then, state_at-only}
 use Rattle.mdbox_base.specs.declared.requests.Request.{Request}
 use Rattle.mdbox_base.specs.declared.replies.Refusal.{Refusal}
@@ -16,16 +16,16 @@ use Rattle.mdbox_base.specs.declared.replies.Reply.{Reply}
 use Rattle.mdbox_base.specs.declared.replies.Reply.TheVariants as reply
 use Rattle.model_lists.specs.Lists.{Lists}
 use Rattle.list_machine.specs.Run.{RunEvent, Run, and_then}
-use Rattle.journal.specs.Journal.{Requests, half_of, halves_of, JournalStep, IsStep, AreSteps, left_by, IsLegal, Broken, no_broken, as_if, AreBroken, Reached, HasReply, RoseBy, steps_of, IsFirstPart}
+use Rattle.journal.specs.Journal.{Requests, half_of, halves_of, JournalStep, IsStep, AreSteps, left_by, IsLegal, Broken, no_broken, AreBroken, Reached, HasReply, RoseBy, steps_of, IsFirstPart}
 use Rattle.mdbox_base.specs.declared.script.Half.{Half}
 use Rattle.journal.proofs.JournalLemmas.{steps_within}
-use Rattle.journal.specs.GoesOn.{MayCome, broken_by, AllMayCome}
+use Rattle.journal.specs.GoesOn.{broken_by, AllMayCome}
 use Rattle.journal.proofs.LegalLemmas.{legal_faults}
 use Rattle.journal.proofs.ReachedLemmas.{reached_last, reached_quiet, reached_step}
 use Rattle.journal.proofs.BrokenLemmas.{broken_is, none_failed, failure_is, failure_still, reached_fails, reached_broken}
 use Rattle.journal.proofs.StoppedLemmas.{stopped_is_replied}
 use Rattle.journal.specs.Events.{Around, is_faulted}
-use Rattle.journal.specs.Makes.{StepOf, WouldMake, Makes, steps_made}
+use Rattle.journal.specs.Makes.{StepOf, WouldMake, steps_made}
 use Rattle.journal.proofs.MakesLemmas.{made_is_step, legal_by_task}
 use Rattle.model_store.specs.Safe.{Safe}
 use Rattle.model_store.proofs.SettledLemmas.{settled_safe}

@@ -1,11 +1,10 @@
 -- An event that ends its request; turns and stages as events go on.
-use Rattle.std.proofs.Common.{inl, inr, ◌⊎◌, ◌≡◌, ◌<◌, ◌≤◌, ◌+◌, ◌-◌, ◌^◌, ◌==◌, ℕ, Bool, true, false, cond, List, [], ◌∷◌, ◌++◌, Option, Some, None, refl, sym, ◌∙◌, ap, subst, arith, All, map}
-use Rattle.std.specs.Prelude.{◌≢◌, min, is_some, length, filter, count_by, slice_get}
+use Rattle.std.proofs.Common.{inr, ◌≡◌, ◌<◌, ◌≤◌, ◌==◌, ℕ, Bool, true, false, cond, List, [], ◌∷◌, ◌++◌, Option, Some, None, refl, sym, ◌∙◌, ap, subst, arith, All, map}
+use Rattle.std.specs.Prelude.{◌≢◌, length, filter, count_by, slice_get}
 use Rattle.std.proofs.lemmas.Grind.{common_steps}
 use Rattle.std.proofs.lemmas.List.{append-nil, map-append}
-use Rattle.std.proofs.lemmas.List.Elements.{All-nil, All-head, All-tail, All-weaker, All-push, filter-append}
+use Rattle.std.proofs.lemmas.List.Elements.{All-nil, All-head, All-tail, All-push, filter-append}
 use Rattle.disk_model.specs.Disk.{History, EachImage, told_calls}
-use Rattle.mdbox_base.specs.Streams.{Rose}
 use Rattle.disk_model.proofs.MomentLemmas.{each_image-begins}
 use Rattle.model_store.proofs.SettledLemmas.{settled_safe}
 use Rattle.model_store.specs.Settled.{IsSettledFor}
@@ -14,10 +13,8 @@ use Rattle.mdbox_base.specs.declared.replies.Refusal.TheVariants as refusal
 use Rattle.mdbox_base.specs.declared.replies.Reply.{Reply}
 use Rattle.mdbox_base.specs.declared.replies.Reply.TheVariants as reply
 use Rattle.model_lists.specs.Lists.{Lists}
-use Rattle.model_octets.proofs.PairLemmas.{pairs_nil}
 use Rattle.list_machine.specs.Run.{RunEvent, Run, and_then, own_events}
-use Rattle.journal.specs.Journal.{Requests, half_of, JournalStep, left_by, IsReplyOf, IsLegal, Broken, no_broken, HasReply, RoseBy, is_read_fault, AreBefore, LacksOrGoesOn, steps_of}
-use Rattle.model_store.specs.Opening.{IsCutOff}
+use Rattle.journal.specs.Journal.{Requests, JournalStep, left_by, IsReplyOf, Broken, no_broken, HasReply, RoseBy, is_read_fault, AreBefore, steps_of}
 use Rattle.journal.proofs.BrokenLemmas.{none_failed}
 use Rattle.journal.proofs.JournalLemmas.{steps_within}
 use Rattle.journal.specs.GoesOn.{RepliesAlso, MayReply}
@@ -30,7 +27,6 @@ use Rattle.mdbox_base.specs.declared.progress.Did.{Did}
 use Rattle.mdbox_base.specs.declared.progress.Did.TheVariants as did
 use Rattle.task_steps.specs.Step.{Seen, ShowsSeen, HasComeTo, Went, and_told, DidEvent}
 use Rattle.task_steps.specs.Serves.{IsReached, Serves, IsTurn}
-use Rattle.task_steps.proofs.GoingLemmas.{journal_by, serves_on}
 
 one_test : {X : Type 0} → (p : X → Bool) (x : X) (b : Bool) → p x ≡ b → filter p (x ∷ []) ≡ cond b (x ∷ []) []
 one_test p x b e = ap (λ (c : Bool). cond c (x ∷ []) []) e

@@ -1,16 +1,16 @@
 -- What the events since the beginning have made of a store.
 use Rattle.journal.specs.Events.{is_faulted, Around}
-use Rattle.std.specs.Prelude.{◌≡◌, ◌≢◌, ◌≤◌, ◌<◌, ℕ, Bool, count_by, true, false, List, [], All, Option, Some, None, length, slice_get}
+use Rattle.std.specs.Prelude.{◌≡◌, ◌≢◌, ◌≤◌, ◌<◌, ℕ, count_by, true, false, List, [], All, Option, Some, None, length, slice_get}
 use Rattle.disk_model.specs.Disk.{Files, EachImage}
 use Rattle.mdbox_base.specs.Streams.{Rose}
 use Rattle.mdbox_base.specs.declared.requests.Request.{Request}
-use Rattle.mdbox_base.specs.declared.replies.Refusal.{Refusal}
 use Rattle.mdbox_base.specs.declared.replies.Refusal.TheVariants as refusal
 use Rattle.mdbox_base.specs.declared.replies.Reply.{Reply}
 use Rattle.mdbox_base.specs.declared.replies.Reply.TheVariants as reply
 use Rattle.model_lists.specs.Lists.{Lists}
-use Rattle.list_machine.specs.Run.{RunEvent, Run, before}
+use Rattle.list_machine.specs.Run.{Run, before}
 use Rattle.journal.specs.Journal.{Requests, JournalStep, left_by, IsLegal, Broken, no_broken, AreBroken, IsOfFailure, Reached, HasReply, RoseBy, steps_of}
+use Rattle.journal.specs.Found.{AgreeWithRun}
 use Rattle.journal.specs.Makes.{HasCome, AreNextEvents}
 use Rattle.model_store.specs.Safe.{Safe}
 use Rattle.model_store.specs.Settled.{IsSettledFor}
@@ -51,8 +51,9 @@ pub record IsTurn (script : Requests) (journal : List JournalStep) (replies : Li
   pub first : All (λ s. s.lane ≡ lane → s.request ≤ place) journal
   pub later : (j : ℕ) (q : ℕ × Request) → place < j → slice_get script j ≡ Some q → q.0 ≡ lane → (steps_of j journal ≡ []) × (slice_get replies j ≡ Some None)
 
--- Each event was the next of its lane, whatever it saw of files and instances.
+-- Each event was the next of its lane, and what it saw of files and instances agrees with the run.
 pub record Follows (start : Lists) (script : Requests) (run : Run) (journal : List JournalStep) : Type 0 where
   pub around : ℕ → Around
   pub after : ℕ → Around
   pub next : AreNextEvents around after script start run journal
+  pub found : AgreeWithRun around script run
