@@ -151,6 +151,6 @@ printed_cause (Err print.WriteFault) f g c e = c
 
 -- unless it is a write fault, no fault was counted
 pub printed_quiet : (r : Result (Unit {0}) PrintError) (f g : ℕ) → OnOk r (g ≡ f) → IfErr r (IsPrintError f g) → (printed_outcome r ≡ outcome.WriteFault → ⊥) → g ≡ f
-printed_quiet (Ok done) f g ok c no = ok
-printed_quiet (Err print.NoMemory) f g ok c no = c
-printed_quiet (Err print.WriteFault) f g ok c no = absurd (no refl)
+printed_quiet (Ok done) f g ok c other = ok
+printed_quiet (Err print.NoMemory) f g ok c other = c
+printed_quiet (Err print.WriteFault) f g ok c other = absurd (other refl)

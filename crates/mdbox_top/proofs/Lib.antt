@@ -2,3 +2,4 @@ pub mod InitLemmas
 pub mod InputLemmas
 pub mod ListLemmas
 pub mod RunLemmas
+pub mod ServedLemmas

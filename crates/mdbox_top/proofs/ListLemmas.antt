@@ -68,7 +68,7 @@ ListsAnswer = (run : Run) (event : RunEvent) (boxes : List MapBox) (meanings : L
     → PartAnswers run event lists (request.List name) First (listing_of (meaning_named name boxes meanings)) lists
 
 -- the logs of safe files that open show the lists
-shown_safe : (lists : Lists) (old : Option History) (store : List ℕ) (entries : List MapEntry) (logs : List (List BoxEntry)) → LogsShow → AreSafeFor lists old → IfTold old (λ now. Opens (files_of now) store entries logs)
+pub shown_safe : (lists : Lists) (old : Option History) (store : List ℕ) (entries : List MapEntry) (logs : List (List BoxEntry)) → LogsShow → AreSafeFor lists old → IfTold old (λ now. Opens (files_of now) store entries logs)
     → ShowLists (map_meaning store entries).boxes (map box_meaning logs) lists
 shown_safe lists None store entries logs show safe opens = absurd safe
 shown_safe lists (Some h) store entries logs show safe opens =

@@ -3,3 +3,4 @@ pub mod InputRun
 pub mod ListRun
 pub mod OpeningOutcome
 pub mod Run
+pub mod Served

@@ -39,9 +39,9 @@ returns-in-Ok-clause-rests g c = λ unfailed.
 
 pub returns-in-Ok-clause-disk_fault : goal.returns-in-Ok-clause-disk_fault
 returns-in-Ok-clause-disk_fault g c =
-    let back = sym (c.into_disk.ensures ∙ ap (λ s. s.disk) c.print_list-outcome.ensures.same) in
+    let back = c.into_disk.ensures ∙ ap (λ s. s.disk) c.print_list-outcome.ensures.same in
     let shown = c.print_list-outcome.ensures.shown in
-    subst (λ d. AnyFaultCounted _ (g.D.Disk.faults c.args.disk) (g.D.Disk.faults d)) back (counted_as _ _ _ _ (λ e. listed_no_fault _ shown.0 _ _ _ c.print_list-outcome.result shown.1 shown.2 e) c.in-Ok.ensures.fault)
+    rw back (counted_as _ _ _ _ (λ e. listed_no_fault _ shown.0 _ _ _ c.print_list-outcome.result shown.1 shown.2 e) c.in-Ok.ensures.fault)
 
 pub returns-in-Ok-clause-disk_quiet : goal.returns-in-Ok-clause-disk_quiet
 returns-in-Ok-clause-disk_quiet g c = λ no.
@@ -52,11 +52,10 @@ pub returns-in-Err-clause-ends : goal.returns-in-Err-clause-ends
 returns-in-Err-clause-ends g c = rw c.outcome_of.ensures (unopened _ _ _ _ c.in-Err.field-0.error c.in-Err.ensures.refused c.in-Err.ensures.idle c.in-Err.ensures.untouched)
 
 pub returns-in-Err-clause-rests : goal.returns-in-Err-clause-rests
-returns-in-Err-clause-rests g c = λ unfailed.
-    let none = λ f rose. unfailed (c.outcome_of.ensures ∙ ap opening_outcome f) rose in (
-      λ lists s. c.in-Err.ensures.settled_again none lists s,
-      c.in-Err.ensures.carried none,
-    )
+returns-in-Err-clause-rests g c = λ unfailed. (
+  λ lists s. c.in-Err.ensures.settled_again (λ f rose. unfailed (c.outcome_of.ensures ∙ ap opening_outcome f) rose) lists s,
+  c.in-Err.ensures.carried (λ f rose. unfailed (c.outcome_of.ensures ∙ ap opening_outcome f) rose),
+)
 
 pub returns-in-Err-clause-disk_fault : goal.returns-in-Err-clause-disk_fault
 returns-in-Err-clause-disk_fault g c = counted_as _ _ _ _ (λ e. opening_fault c.in-Err.field-0.error (sym c.outcome_of.ensures ∙ e)) c.in-Err.ensures.fault
