@@ -2,7 +2,7 @@
 use Rattle.std.specs.Prelude.{◌≡◌, ◌⊎◌, ℕ, Bool, false, List, [], ◌∷◌, ◌++◌, map, Option, Some, None, if◌then◌else◌}
 use Rattle.std.specs.Str.{bytes_eq}
 use Rattle.std.proofs.Common.{refl, sym, ◌∙◌, ap, subst, inl, inr, append-nil, arith}
-use Rattle.disk_model.specs.Disk.{History, EachImage, IfTold, IsIdle}
+use Rattle.disk_model.specs.Disk.{History, Faults, EachImage, IfTold, IsIdle}
 use Rattle.disk_model.proofs.MomentLemmas.{since-begins}
 use Rattle.disk_model.proofs.IdleLemmas.{idle-begins}
 use Rattle.mdbox_base.specs.Streams.{Appended}
@@ -171,21 +171,21 @@ shown_by n (inr (inr (inr (inr (inl a))))) (inr (inl b)) = omega (arith, a, b)
 shown_by n (inr (inr (inr (inr (inl a))))) (inr (inr b)) = omega (arith, a, b)
 shown_by n (inr (inr (inr (inr (inr a))))) b = a
 
-pub list_used : (name : List ℕ) (h k : Option (List ℕ)) (old new : Option History) → ListOutcome name h k old new outcome.Usage → ⊥
-list_used name h k old new (inl n) = refused_by 2 _ (opening_number n.why) (ap status_of n.ended_is) (inl refl)
-list_used name h k old new (inr l) = shown_by 2 (shown_number _ l.given h k outcome.Usage l.printed) (inl refl)
+pub list_used : (name : List ℕ) (h k : Option (List ℕ)) (old new : Option History) (f g : Faults) → ListOutcome name h k old new f g outcome.Usage → ⊥
+list_used name h k old new f g (inl n) = refused_by 2 _ (opening_number n.why) (ap status_of n.ended_is) (inl refl)
+list_used name h k old new f g (inr l) = shown_by 2 (shown_number _ l.given h k outcome.Usage l.printed) (inl refl)
 
-pub list_input : (name : List ℕ) (h k : Option (List ℕ)) (old new : Option History) (why : InputRefusal) → ListOutcome name h k old new (outcome.InputRefused why) → ⊥
-list_input name h k old new why (inl n) = refused_by 4 _ (opening_number n.why) (ap status_of n.ended_is) (inr refl)
-list_input name h k old new why (inr l) = shown_by 4 (shown_number _ l.given h k (outcome.InputRefused why) l.printed) (inr (inr refl))
+pub list_input : (name : List ℕ) (h k : Option (List ℕ)) (old new : Option History) (f g : Faults) (why : InputRefusal) → ListOutcome name h k old new f g (outcome.InputRefused why) → ⊥
+list_input name h k old new f g why (inl n) = refused_by 4 _ (opening_number n.why) (ap status_of n.ended_is) (inr refl)
+list_input name h k old new f g why (inr l) = shown_by 4 (shown_number _ l.given h k (outcome.InputRefused why) l.printed) (inr (inr refl))
 
 -- damage that finds no memory for its text
 fault_number : (s : StoreRefusal) (why : OpenError) → outcome.StoreRefused s ≡ opening_outcome why → why ≡ error.DiskFault → ⊥
 fault_number s why e d = let f : 3 ≡ 6 = ap status_of e ∙ ap (λ (w : OpenError). status_of (opening_outcome w)) d in omega (arith, f)
 
-pub list_damage : (name : List ℕ) (h k : Option (List ℕ)) (old new : Option History) (s : StoreRefusal) → ListOutcome name h k old new (outcome.StoreRefused s) → ListOutcome name h k old new outcome.NoMemory
-list_damage name h k old new s (inl n) = inl (record { why = error.NoMemory; ended_is = refl; unprinted = n.unprinted; cause = tt; idle = λ other. n.idle (fault_number s n.why n.ended_is); untouched = n.untouched })
-list_damage name h k old new s (inr l) = absurd (shown_by 3 (shown_number _ l.given h k (outcome.StoreRefused s) l.printed) (inr (inl refl)))
+pub list_damage : (name : List ℕ) (h k : Option (List ℕ)) (old new : Option History) (f g : Faults) (s : StoreRefusal) → ListOutcome name h k old new f g (outcome.StoreRefused s) → ListOutcome name h k old new f g outcome.NoMemory
+list_damage name h k old new f g s (inl n) = inl (record { why = error.NoMemory; ended_is = refl; unprinted = n.unprinted; cause = tt; idle = λ other. n.idle (fault_number s n.why n.ended_is); untouched = n.untouched })
+list_damage name h k old new f g s (inr l) = absurd (shown_by 3 (shown_number _ l.given h k (outcome.StoreRefused s) l.printed) (inr (inl refl)))
 
 -- a settled disk has a store, which is damaged nowhere
 settled_opens : (lists : Lists) (old : Option History) (why : OpenError) → IsSettledFor lists old → IsOpeningError old why → (why ≡ error.DiskFault) ⊎ (why ≡ error.NoMemory)
@@ -200,16 +200,16 @@ settled_opens lists (Some h) error.StoreWhole s cause = absurd cause
 settled_opens lists (Some h) error.MailFiles s cause = absurd cause
 
 -- so no file of it refuses a listing
-pub list_status : (name : List ℕ) (h k : Option (List ℕ)) (old new : Option History) (o : Outcome) → ListOutcome name h k old new o → (lists : Lists) → IsSettledFor lists old → IsOneOf (0 ∷ 1 ∷ 5 ∷ 6 ∷ 8 ∷ []) (status_of o)
-list_status name h k old new o (inl n) lists s = elim (settled_opens lists old n.why s n.cause) [
+pub list_status : (name : List ℕ) (h k : Option (List ℕ)) (old new : Option History) (f g : Faults) (o : Outcome) → ListOutcome name h k old new f g o → (lists : Lists) → IsSettledFor lists old → IsOneOf (0 ∷ 1 ∷ 5 ∷ 6 ∷ 8 ∷ []) (status_of o)
+list_status name h k old new f g o (inl n) lists s = elim (settled_opens lists old n.why s n.cause) [
   | inl fault ↦ inr (inr (inr (inl (ap status_of n.ended_is ∙ ap (λ (w : OpenError). status_of (opening_outcome w)) fault))))
   | inr memory ↦ inr (inr (inl (ap status_of n.ended_is ∙ ap (λ (w : OpenError). status_of (opening_outcome w)) memory)))
 ]
-list_status name h k old new o (inr l) lists s = shown_number _ l.given h k o l.printed
+list_status name h k old new f g o (inr l) lists s = shown_number _ l.given h k o l.printed
 
 -- a store that was not opened
-pub unopened : (name : List ℕ) (h : Option (List ℕ)) (old new : Option History) (why : OpenError) → IsOpeningError old why → ((why ≡ error.DiskFault → ⊥) → IsIdle old new) → IdleUnless Opening old new → ListOutcome name h h old new (opening_outcome why)
-unopened name h old new why cause idle untouched = inl (record { why = why; ended_is = refl; unprinted = refl; cause = cause; idle = idle; untouched = untouched })
+pub unopened : (name : List ℕ) (h : Option (List ℕ)) (old new : Option History) (f g : Faults) (why : OpenError) → IsOpeningError old why → ((why ≡ error.DiskFault → ⊥) → IsIdle old new) → IdleUnless Opening old new → ListOutcome name h h old new f g (opening_outcome why)
+unopened name h old new f g why cause idle untouched = inl (record { why = why; ended_is = refl; unprinted = refl; cause = cause; idle = idle; untouched = untouched })
 
 -- no reply to a listing is a fault of the disk
 listing_fault : (found : Option BoxMeaning) (given : Reply) → (given ≡ listing_of found) ⊎ (given ≡ reply.Refused refusal.NoMemory) → outcome.DiskFault ≡ reply_outcome given → ⊥
@@ -233,5 +233,5 @@ unchanged : (old : Option History) → IdleUnless Opening old old
 unchanged None = tt
 unchanged (Some now) = λ lacks. idle-begins (Some now)
 
-pub unasked : (name : List ℕ) (h : Option (List ℕ)) (old : Option History) → ListOutcome name h h old old outcome.NoMemory
-unasked name h old = unopened name h old old error.NoMemory tt (λ other. idle-begins old) (unchanged old)
+pub unasked : (name : List ℕ) (h : Option (List ℕ)) (old : Option History) (f g : Faults) → ListOutcome name h h old old f g outcome.NoMemory
+unasked name h old f g = unopened name h old old f g error.NoMemory tt (λ other. idle-begins old) (unchanged old)

@@ -20,60 +20,60 @@ use Rattle.mdbox_top.proofs.InitLemmas.{init_status}
 use Rattle.mdbox_top.proofs.ListLemmas.{list_status, list_used, list_input, list_damage}
 
 -- a refused input whose text finds no memory
-input_memory : (c : Command) (left h k : Option (List ℕ)) (old new : Option History) (why : InputRefusal) → Ends c left h k old new (outcome.InputRefused why) → Ends c left h k old new outcome.NoMemory
-input_memory command.Dump left h k old new why e = inl e.1
-input_memory command.LogDump left h k old new why e = inl e.1
-input_memory (command.Init id) left h k old new why e = absurd e
-input_memory (command.List name) left h k old new why e = absurd (list_input name h k old new why e)
-input_memory command.Help left h k old new why e = absurd e
-input_memory command.Version left h k old new why e = absurd e
+input_memory : (c : Command) (left h k : Option (List ℕ)) (old new : Option History) (f g : Faults) (why : InputRefusal) → Ends c left h k old new f g (outcome.InputRefused why) → Ends c left h k old new f g outcome.NoMemory
+input_memory command.Dump left h k old new f g why e = inl e.1
+input_memory command.LogDump left h k old new f g why e = inl e.1
+input_memory (command.Init id) left h k old new f g why e = absurd e
+input_memory (command.List name) left h k old new f g why e = absurd (list_input name h k old new f g why e)
+input_memory command.Help left h k old new f g why e = absurd e
+input_memory command.Version left h k old new f g why e = absurd e
 
 -- damage whose text finds no memory
-damage_memory : (c : Command) (left h k : Option (List ℕ)) (old new : Option History) (name : FileName) (place : ℕ) → Ends c left h k old new (outcome.StoreRefused (store.Damaged name place)) → Ends c left h k old new outcome.NoMemory
-damage_memory (command.Init id) left h k old new name place e = absurd e.1
-damage_memory (command.List box) left h k old new name place e = list_damage box h k old new (store.Damaged name place) e
-damage_memory command.Dump left h k old new name place e = absurd e
-damage_memory command.LogDump left h k old new name place e = absurd e
-damage_memory command.Help left h k old new name place e = absurd e
-damage_memory command.Version left h k old new name place e = absurd e
+damage_memory : (c : Command) (left h k : Option (List ℕ)) (old new : Option History) (f g : Faults) (name : FileName) (place : ℕ) → Ends c left h k old new f g (outcome.StoreRefused (store.Damaged name place)) → Ends c left h k old new f g outcome.NoMemory
+damage_memory (command.Init id) left h k old new f g name place e = absurd e.1
+damage_memory (command.List box) left h k old new f g name place e = list_damage box h k old new f g (store.Damaged name place) e
+damage_memory command.Dump left h k old new f g name place e = absurd e
+damage_memory command.LogDump left h k old new f g name place e = absurd e
+damage_memory command.Help left h k old new f g name place e = absurd e
+damage_memory command.Version left h k old new f g name place e = absurd e
 
 -- the last end is one that the command may have
-pub last_ends : (c : Command) (left h k : Option (List ℕ)) (old new : Option History) (o last : Outcome) → EndsAs o last → Ends c left h k old new o → Ends c left h k old new last
-last_ends c left h k old new (outcome.InputRefused why) last y e = elim y [
-  | inl same ↦ subst (Ends c left h k old new) (sym same) e
-  | inr none ↦ subst (Ends c left h k old new) (sym none) (input_memory c left h k old new why e)
+pub last_ends : (c : Command) (left h k : Option (List ℕ)) (old new : Option History) (f g : Faults) (o last : Outcome) → EndsAs o last → Ends c left h k old new f g o → Ends c left h k old new f g last
+last_ends c left h k old new f g (outcome.InputRefused why) last y e = elim y [
+  | inl same ↦ subst (Ends c left h k old new f g) (sym same) e
+  | inr none ↦ subst (Ends c left h k old new f g) (sym none) (input_memory c left h k old new f g why e)
 ]
-last_ends c left h k old new (outcome.StoreRefused (store.Damaged name place)) last y e = elim y [
-  | inl same ↦ subst (Ends c left h k old new) (sym same) e
-  | inr none ↦ subst (Ends c left h k old new) (sym none) (damage_memory c left h k old new name place e)
+last_ends c left h k old new f g (outcome.StoreRefused (store.Damaged name place)) last y e = elim y [
+  | inl same ↦ subst (Ends c left h k old new f g) (sym same) e
+  | inr none ↦ subst (Ends c left h k old new f g) (sym none) (damage_memory c left h k old new f g name place e)
 ]
-last_ends c left h k old new (outcome.StoreRefused store.NoStore) last y e = subst (Ends c left h k old new) (sym y) e
-last_ends c left h k old new (outcome.StoreRefused store.StoreWhole) last y e = subst (Ends c left h k old new) (sym y) e
-last_ends c left h k old new (outcome.StoreRefused store.MailFiles) last y e = subst (Ends c left h k old new) (sym y) e
-last_ends c left h k old new outcome.Done last y e = subst (Ends c left h k old new) (sym y) e
-last_ends c left h k old new outcome.No last y e = subst (Ends c left h k old new) (sym y) e
-last_ends c left h k old new outcome.Usage last y e = subst (Ends c left h k old new) (sym y) e
-last_ends c left h k old new outcome.NoMemory last y e = subst (Ends c left h k old new) (sym y) e
-last_ends c left h k old new outcome.DiskFault last y e = subst (Ends c left h k old new) (sym y) e
-last_ends c left h k old new outcome.ReadFault last y e = subst (Ends c left h k old new) (sym y) e
-last_ends c left h k old new outcome.WriteFault last y e = subst (Ends c left h k old new) (sym y) e
+last_ends c left h k old new f g (outcome.StoreRefused store.NoStore) last y e = subst (Ends c left h k old new f g) (sym y) e
+last_ends c left h k old new f g (outcome.StoreRefused store.StoreWhole) last y e = subst (Ends c left h k old new f g) (sym y) e
+last_ends c left h k old new f g (outcome.StoreRefused store.MailFiles) last y e = subst (Ends c left h k old new f g) (sym y) e
+last_ends c left h k old new f g outcome.Done last y e = subst (Ends c left h k old new f g) (sym y) e
+last_ends c left h k old new f g outcome.No last y e = subst (Ends c left h k old new f g) (sym y) e
+last_ends c left h k old new f g outcome.Usage last y e = subst (Ends c left h k old new f g) (sym y) e
+last_ends c left h k old new f g outcome.NoMemory last y e = subst (Ends c left h k old new f g) (sym y) e
+last_ends c left h k old new f g outcome.DiskFault last y e = subst (Ends c left h k old new f g) (sym y) e
+last_ends c left h k old new f g outcome.ReadFault last y e = subst (Ends c left h k old new f g) (sym y) e
+last_ends c left h k old new f g outcome.WriteFault last y e = subst (Ends c left h k old new f g) (sym y) e
 
-pub has_status : (c : Command) (left h k : Option (List ℕ)) (old new : Option History) (o : Outcome) → Ends c left h k old new o → HasStatus c left old (status_of o)
-has_status (command.Init id) left h k old new o e = λ free. init_status id.0 h k old new o e free
-has_status (command.List name) left h k old new o e = λ lists s. list_status name h k old new o e lists s
-has_status command.Dump left h k old new o e = input_status DumpPrints DumpRefuses left h k o dumps_apart e
-has_status command.LogDump left h k old new o e = input_status LogDumpPrints LogDumpRefuses left h k o log_dumps_apart e
-has_status command.Help left h k old new o e = shows_status _ h k o e
-has_status command.Version left h k old new o e = shows_status _ h k o e
+pub has_status : (c : Command) (left h k : Option (List ℕ)) (old new : Option History) (f g : Faults) (o : Outcome) → Ends c left h k old new f g o → HasStatus c left old (status_of o)
+has_status (command.Init id) left h k old new f g o e = λ free. init_status id.0 h k old new o e free
+has_status (command.List name) left h k old new f g o e = λ lists s. list_status name h k old new f g o e lists s
+has_status command.Dump left h k old new f g o e = input_status DumpPrints DumpRefuses left h k o dumps_apart e
+has_status command.LogDump left h k old new f g o e = input_status LogDumpPrints LogDumpRefuses left h k o log_dumps_apart e
+has_status command.Help left h k old new f g o e = shows_status _ h k o e
+has_status command.Version left h k old new f g o e = shows_status _ h k o e
 
 -- no command ends as unknown words
-used : (c : Command) (left h k : Option (List ℕ)) (old new : Option History) → Ends c left h k old new outcome.Usage → ⊥
-used (command.Init id) left h k old new e = e
-used (command.List name) left h k old new e = list_used name h k old new e
-used command.Dump left h k old new e = e
-used command.LogDump left h k old new e = e
-used command.Help left h k old new e = e
-used command.Version left h k old new e = e
+used : (c : Command) (left h k : Option (List ℕ)) (old new : Option History) (f g : Faults) → Ends c left h k old new f g outcome.Usage → ⊥
+used (command.Init id) left h k old new f g e = e
+used (command.List name) left h k old new f g e = list_used name h k old new f g e
+used command.Dump left h k old new f g e = e
+used command.LogDump left h k old new f g e = e
+used command.Help left h k old new f g e = e
+used command.Version left h k old new f g e = e
 
 -- what a status says of the end
 two : (o : Outcome) → status_of o ≡ 2 → o ≡ outcome.Usage
@@ -151,5 +151,5 @@ unwritten o last n y s e =
     elim (kept o last y) [ inl same ↦ sym same ∙ l | inr none ↦ absurd (cc (sym none ∙ l)) ]
 
 -- a run of a command doesn't end with status 2
-pub known_words : (c : Command) (left h k : Option (List ℕ)) (old new : Option History) (n : ℕ) (eh : Option (List ℕ)) (ef : ℕ) (ek : Option (List ℕ)) (eg : ℕ) → RunOutcome (Ends c left h k old new) n eh ef ek eg → n ≡ 2 → ⊥
-known_words c left h k old new n eh ef ek eg r e = used c left h k old new (subst (Ends c left h k old new) (two r.outcome (sym r.status_is ∙ e)) r.ended)
+pub known_words : (c : Command) (left h k : Option (List ℕ)) (old new : Option History) (f g : Faults) (n : ℕ) (eh : Option (List ℕ)) (ef : ℕ) (ek : Option (List ℕ)) (eg : ℕ) → RunOutcome (Ends c left h k old new f g) n eh ef ek eg → n ≡ 2 → ⊥
+known_words c left h k old new f g n eh ef ek eg r e = used c left h k old new f g (subst (Ends c left h k old new f g) (two r.outcome (sym r.status_is ∙ e)) r.ended)

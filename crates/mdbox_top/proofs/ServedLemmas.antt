@@ -1,5 +1,5 @@
 -- A listing alone, as a request of a script.
-use Rattle.std.specs.Prelude.{◌≡◌, ◌≢◌, ◌⊎◌, ◌≤◌, ◌<◌, ◌==◌, ℕ, zero, suc, Bool, true, false, List, [], ◌∷◌, ◌++◌, map, flat_map, count_by, length, slice_get, Option, Some, None}
+use Rattle.std.specs.Prelude.{◌≡◌, ◌≢◌, ◌⊎◌, ◌≤◌, ◌<◌, ◌==◌, ℕ, zero, suc, Bool, true, false, List, [], ◌∷◌, ◌++◌, map, flat_map, count_by, length, slice_get, Option, Some, None, if◌then◌else◌}
 use Rattle.std.proofs.Common.{refl, sym, ◌∙◌, ap, subst, inl, inr, append-nil, arith}
 use Rattle.disk_model.specs.Disk.{Files, History, Faults, EachImage, IfTold, told_calls}
 use Rattle.std.proofs.lemmas.List.Elements.{All-nil}
@@ -7,6 +7,9 @@ use Rattle.disk_model.proofs.MomentLemmas.{since-map}
 use Rattle.mdbox_base.specs.declared.entries.BoxEntry.{BoxEntry}
 use Rattle.mdbox_base.specs.declared.entries.MapEntry.{MapEntry}
 use Rattle.mdbox_base.specs.declared.progress.Did.{Did}
+use Rattle.mdbox_base.specs.declared.progress.Did.TheVariants as did
+use Rattle.mdbox_base.specs.declared.progress.Progress.{Progress}
+use Rattle.mdbox_base.specs.declared.progress.Progress.TheVariants as progress
 use Rattle.mdbox_base.specs.declared.replies.Refusal.TheVariants as refusal
 use Rattle.mdbox_base.specs.declared.replies.Reply.{Reply}
 use Rattle.mdbox_base.specs.declared.replies.Reply.TheVariants as reply
@@ -21,7 +24,7 @@ use Rattle.model_store.specs.Opening.{Opens}
 use Rattle.model_store.specs.Safe.{Safe}
 use Rattle.model_store.specs.Settled.{files_of, IsSettledFor}
 use Rattle.model_store.proofs.WellFormedLemmas.{well_formed}
-use Rattle.list_machine.specs.Machine.{PartAnswers}
+use Rattle.list_machine.specs.Machine.{Does, PartAnswers}
 use Rattle.list_machine.specs.Run.{EventPart, First, RunEvent, Run, and_then, own_events, reply_of}
 use Rattle.journal.specs.Events.{Around, is_faulted}
 use Rattle.journal.specs.GoesOn.{RepliesAlso}
@@ -30,24 +33,41 @@ use Rattle.journal.specs.Makes.{StepOf, HasCome, steps_made, AreReplies, AreTold
 use Rattle.journal.proofs.BrokenLemmas.{none_failed}
 use Rattle.journal.proofs.ReachedLemmas.{reached_last}
 use Rattle.task_steps.specs.Serves.{IsReached, Serves, IsTurn, Follows}
-use Rattle.task_steps.specs.Step.{Seen, ShowsSeen, HasComeTo, HasNotBegun, DidEvent}
+use Rattle.task_steps.specs.Step.{Seen, ShowsSeen, HasComeTo, HasNotBegun, DidEvent, Steps, ended_by}
 use Rattle.task_steps.proofs.FollowingLemmas.{follows_on, replies_on, told_on}
 use Rattle.task_steps.proofs.GoingLemmas.{serves_on}
 use Rattle.task_steps.proofs.ReplyingLemmas.{reply_on, serves_start}
 use Rattle.store_core.specs.Running.{IsStore}
-use Rattle.store_core.specs.Value.{StoreValue, indexes_of}
+use Rattle.store_core.specs.Value.{StoreValue, indexes_of, list_named}
 use Rattle.store_open.specs.Opened.{IsOpenedAs}
-use Rattle.mail_ops.specs.Task.{seen_of}
+use Rattle.mail_ops.specs.Listing.{Replies}
+use Rattle.mail_ops.specs.Task.{TaskValue, IsAt, seen_of}
+use Rattle.mail_ops.specs.declared.task.TaskStage.TheVariants as stage
 use Rattle.mdbox_top.specs.ListRun.{AreSafeFor, ListMoments}
 use Rattle.mdbox_top.specs.Served.{BeginsWith, ServesRequest, DoesAlone}
 use Rattle.mdbox_top.proofs.ListLemmas.{LogsShow, shown_safe}
 
 -- ---- a listing leaves the lists
 
+first_leaves : (run : Run) (event : RunEvent) (old : Lists) (name : List ℕ) (given : Reply) (new : Lists) → Does run event old (request.List name) First given new → new ≡ old
+first_leaves run event old name (reply.Listed rows) new a = a.3
+first_leaves run event old name given new a = absurd a
+
+does_leaves : (run : Run) (event : RunEvent) (old : Lists) (name : List ℕ) (part : EventPart) (given : Reply) (new : Lists) → Does run event old (request.List name) part given new → new ≡ old
+does_leaves run event old name First given new a = first_leaves run event old name given new a
+does_leaves run event old name part given new a = absurd a
+
 list_leaves : (run : Run) (event : RunEvent) (old : Lists) (name : List ℕ) (part : EventPart) (given : Reply) (new : Lists) → PartAnswers run event old (request.List name) part given new → new ≡ old
 list_leaves run event old name part (reply.Refused refused) new a = a.1
-list_leaves run event old name First (reply.Listed rows) new a = a.1.3
-list_leaves run event old name part given new a = absurd a.1
+list_leaves run event old name part (reply.Saved uid guid) new a = does_leaves run event old name part (reply.Saved uid guid) new a.1
+list_leaves run event old name part (reply.Listed rows) new a = does_leaves run event old name part (reply.Listed rows) new a.1
+list_leaves run event old name part (reply.Fetched octets) new a = does_leaves run event old name part (reply.Fetched octets) new a.1
+list_leaves run event old name part reply.Done new a = does_leaves run event old name part reply.Done new a.1
+list_leaves run event old name part (reply.Copied uid) new a = does_leaves run event old name part (reply.Copied uid) new a.1
+list_leaves run event old name part (reply.Moved uid gone) new a = does_leaves run event old name part (reply.Moved uid gone) new a.1
+list_leaves run event old name part (reply.Counted k l m n) new a = does_leaves run event old name part (reply.Counted k l m n) new a.1
+list_leaves run event old name part (reply.Purged k l m) new a = does_leaves run event old name part (reply.Purged k l m) new a.1
+list_leaves run event old name part (reply.Resynced k l) new a = does_leaves run event old name part (reply.Resynced k l) new a.1
 
 step_leaves : (run : Run) (event : RunEvent) (old : Lists) (name : List ℕ) (answer : Option Reply) (new : Lists) → StepOf run (request.List name) old event answer new → new ≡ old
 step_leaves run event old name None new s = s
@@ -203,3 +223,29 @@ list_served name lists given old mid faults s how o k drawn running show safe un
           (moments lists sure);
       settled = λ other sure. subst (λ (ls : Lists). IsSettledFor ls mid) (sym stays) (settled sure);
     }
+
+-- ---- the step of a listing
+
+-- the task of a listing that has not begun
+abbrev pub list_task : List ℕ → TaskValue
+list_task name = record { request = request.List name; stage = stage.First; did = did.Quiet }
+
+pub step_alone : {D : Type 0} → (history : D → Option History) (faults : D → Faults) (name : List ℕ) (given : Reply) (old new : StoreValue D) (task next : TaskValue) (answer : Progress) → task ≡ list_task name → new ≡ old → answer ≡ progress.Done given
+    → ((around after : Around) → Steps (IsAt task.stage) (IsAt next.stage) around after task.request (seen_of old (history old.disk) (faults old.disk)) (seen_of new (history new.disk) (faults new.disk)) next.did (ended_by answer))
+    → DoesAlone (request.List name) given (seen_of old (history old.disk) (faults old.disk)) next.did
+step_alone history faults name given old new task next answer is same done does =
+    let first = subst (λ (t : TaskValue). (around after : Around) → Steps (IsAt t.stage) (IsAt next.stage) around after t.request (seen_of old (history old.disk) (faults old.disk)) (seen_of new (history new.disk) (faults new.disk)) next.did (ended_by answer)) is does in
+    let second = subst (λ (n : StoreValue _). (around after : Around) → Steps (IsAt stage.First) (IsAt next.stage) around after (request.List name) (seen_of old (history old.disk) (faults old.disk)) (seen_of n (history n.disk) (faults n.disk)) next.did (ended_by answer)) same first in
+    let third = subst (λ (a : Progress). (around after : Around) → Steps (IsAt stage.First) (IsAt next.stage) around after (request.List name) (seen_of old (history old.disk) (faults old.disk)) (seen_of old (history old.disk) (faults old.disk)) next.did (ended_by a)) done second in
+    λ around after run lists come shows begun. (third around after run 1 0 [] lists come shows begun).0
+
+pub replies_alone : {D : Type 0} → (name : List ℕ) (given : Reply) (old : StoreValue D) (task : TaskValue) (answer : Progress) → task ≡ list_task name → old.stopped ≡ false → answer ≡ progress.Done given
+    → (x : Reply) × (answer ≡ progress.Done x) × Replies task.request old x → (given ≡ listing_of (list_named old name)) ⊎ (given ≡ reply.Refused refusal.NoMemory)
+replies_alone name given old task answer is running done r =
+    let same : progress.Done r.0 ≡ progress.Done given = sym r.1 ∙ done in
+    let x : r.0 ≡ given = cc same in
+    let replies = subst (λ (t : TaskValue). Replies t.request old r.0) is r.2 in
+    elim replies [
+      | inl e ↦ inl (sym x ∙ e ∙ ap (λ (b : Bool). if b then reply.Refused refusal.Stopped else listing_of (list_named old name)) running)
+      | inr e ↦ inr (sym x ∙ e)
+    ]

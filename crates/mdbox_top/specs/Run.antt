@@ -13,15 +13,15 @@ use Rattle.mdbox_top.specs.InputRun.{DumpPrints, DumpRefuses, LogDumpPrints, Log
 use Rattle.mdbox_top.specs.InitRun.{InitOutcome, InitMoments, MayMakeStore}
 use Rattle.mdbox_top.specs.ListRun.{ListOutcome, ListMoments, ListRests}
 
--- How a command ends: this was left of the input, the output held this before and holds that later, and the disk was this and
--- is that now.
-abbrev pub Ends : Command → Option (List ℕ) → Option (List ℕ) → Option (List ℕ) → Option History → Option History → Outcome → Type 0
-Ends (command.Init id) left held later old new outcome = InitOutcome id.0 held later old new outcome
-Ends (command.List name) left held later old new outcome = ListOutcome name held later old new outcome
-Ends command.Dump left held later old new outcome = InputOutcome DumpPrints DumpRefuses left held later outcome
-Ends command.LogDump left held later old new outcome = InputOutcome LogDumpPrints LogDumpRefuses left held later outcome
-Ends command.Help left held later old new outcome = ShowsText HELP.now held later outcome
-Ends command.Version left held later old new outcome = ShowsText VERSION.now held later outcome
+-- How a command ends: this was left of the input, the output held this before and holds that later, the disk was this and is
+-- that now, and so were its counts of faults.
+abbrev pub Ends : Command → Option (List ℕ) → Option (List ℕ) → Option (List ℕ) → Option History → Option History → Faults → Faults → Outcome → Type 0
+Ends (command.Init id) left held later old new began now outcome = InitOutcome id.0 held later old new outcome
+Ends (command.List name) left held later old new began now outcome = ListOutcome name held later old new began now outcome
+Ends command.Dump left held later old new began now outcome = InputOutcome DumpPrints DumpRefuses left held later outcome
+Ends command.LogDump left held later old new began now outcome = InputOutcome LogDumpPrints LogDumpRefuses left held later outcome
+Ends command.Help left held later old new began now outcome = ShowsText HELP.now held later outcome
+Ends command.Version left held later old new began now outcome = ShowsText VERSION.now held later outcome
 
 -- The run ends as it may: so it ended, with its status, and its text was told on the errors' sink.
 pub record RunOutcome (May : Outcome → Type 0) (status : ℕ) (held : Option (List ℕ)) (faults : ℕ) (later : Option (List ℕ)) (later_faults : ℕ) : Type 0 where

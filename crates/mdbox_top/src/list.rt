@@ -7,6 +7,10 @@ ghost use Rattle.mdbox_base.specs.declared.replies.Reply.{Reply};
 ghost use Rattle.mdbox_base.specs.declared.replies.Reply.TheVariants as reply;
 ghost use Rattle.model_store.specs.Listing.{listing_of};
 ghost use Rattle.store_core.specs.Value.{list_named};
+ghost use Rattle.mdbox_base.specs.declared.progress.Did.{Did};
+ghost use Rattle.mdbox_base.specs.declared.requests.Request.TheVariants as request;
+ghost use Rattle.mail_ops.specs.Task.{seen_of};
+ghost use Rattle.mdbox_top.specs.Served.{DoesAlone};
 ghost use Rattle.mdbox_top.specs.ListRun.{ListOutcome, ListMoments, ListRests, ShowsReply};
 ghost use Rattle.request_text.specs.ReplyText.{reply_text};
 ghost use Rattle.request_text.specs.declared.outcome.Outcome.TheVariants as outcome;
@@ -22,8 +26,13 @@ use store_core::{Store, listings_are_shown};
 use store_open::{OpenRefused, open_store};
 
 /// Opens the store, prints the listing of a mailbox, and hands the disk back.
-pub fn list<D: Disk, O: Sink>(alloc: Global, name: Name, disk: D, output: &mut O) -> (Outcome, D)
-    ensures ends { ListOutcome name (O.held output.old) (O.held output.new) (D.history disk) (D.history result.1) result.0 }
+pub fn list<D: Disk, O: Sink>(
+    alloc: Global,
+    name: Name,
+    disk: D,
+    output: &mut O,
+) -> (Outcome, D)
+    ensures ends { ListOutcome name (O.held output.old) (O.held output.new) (D.history disk) (D.history result.1) (D.faults disk) (D.faults result.1) result.0 }
     ensures moments { ListMoments (D.history disk) (D.history result.1) }
     ensures rests { ListRests (result.0 ≡ outcome.DiskFault) (D.faults disk) (D.faults result.1) (D.history disk) (D.history result.1) }
     ensures disk_fault { AnyFaultCounted (result.0 ≡ outcome.DiskFault) (D.faults disk) (D.faults result.1) }
@@ -53,7 +62,8 @@ fn print_list<D: Disk, O: Sink>(
     output: &mut O,
 ) -> Outcome
     requires running { store.old.stopped ≡ false }
-    ensures shown { (given : Reply) × ((given ≡ listing_of (list_named store.old name)) ⊎ (given ≡ reply.Refused refusal.NoMemory)) × ShowsReply (reply_text given) given (O.held output.old) (O.held output.new) result }
+    ensures shown { (given : Reply) × (how : Did) × ((given ≡ listing_of (list_named store.old name)) ⊎ (given ≡ reply.Refused refusal.NoMemory))
+        × DoesAlone (request.List name) given (seen_of store.old (D.history store.old.disk) (D.faults store.old.disk)) how × ShowsReply (reply_text given) given (O.held output.old) (O.held output.new) result }
     ensures same { store.new ≡ store.old }
     ensures write_fault { result ≡ outcome.WriteFault → Rose (O.faults output.old) (O.faults output.new) }
     ensures write_quiet { result ≢ outcome.WriteFault → O.faults output.new ≡ O.faults output.old }

@@ -29,7 +29,7 @@ pub fn mdbox_run<D: Disk, I: Source, O: Sink, E: Sink>(
 ) -> (Status, D)
     // What was read and printed, what the disk holds, what was told, and the status.
     ensures run { (command : Command) → Says (map string_bytes words.now) command
-        → RunOutcome (Ends command (I.left input.old) (O.held output.old) (O.held output.new) (D.history disk) (D.history result.1)) result.0.0 (E.held errors.old) (E.faults errors.old) (E.held errors.new) (E.faults errors.new) }
+        → RunOutcome (Ends command (I.left input.old) (O.held output.old) (O.held output.new) (D.history disk) (D.history result.1) (D.faults disk) (D.faults result.1)) result.0.0 (E.held errors.old) (E.faults errors.old) (E.held errors.new) (E.faults errors.new) }
 
     // What a crash at any moment of the run leaves, whatever the result.
     ensures moments { (command : Command) → Says (map string_bytes words.now) command → Moments command (D.history disk) (D.history result.1) }
@@ -76,7 +76,7 @@ pub fn mdbox_alone<D: Disk, I: Source, O: Sink, E: Sink>(
     errors: &mut E,
 ) -> (Status, D)
     requires range { IsInRange command }
-    ensures run { RunOutcome (Ends command (I.left input.old) (O.held output.old) (O.held output.new) (D.history disk) (D.history result.1)) result.0.0 (E.held errors.old) (E.faults errors.old) (E.held errors.new) (E.faults errors.new) }
+    ensures run { RunOutcome (Ends command (I.left input.old) (O.held output.old) (O.held output.new) (D.history disk) (D.history result.1) (D.faults disk) (D.faults result.1)) result.0.0 (E.held errors.old) (E.faults errors.old) (E.held errors.new) (E.faults errors.new) }
     ensures moments { Moments command (D.history disk) (D.history result.1) }
     ensures rests { Rests command (result.0.0 ≡ 6) (D.faults disk) (D.faults result.1) (D.history disk) (D.history result.1) }
     ensures status { HasStatus command (I.left input.old) (D.history disk) result.0.0 }
@@ -103,7 +103,7 @@ fn perform<D: Disk, I: Source, O: Sink>(
     output: &mut O,
 ) -> (Outcome, D)
     requires range { IsInRange command }
-    ensures ends { Ends command (I.left input.old) (O.held output.old) (O.held output.new) (D.history disk) (D.history result.1) result.0 }
+    ensures ends { Ends command (I.left input.old) (O.held output.old) (O.held output.new) (D.history disk) (D.history result.1) (D.faults disk) (D.faults result.1) result.0 }
     ensures moments { Moments command (D.history disk) (D.history result.1) }
     ensures unread { reads_input command ≡ false → input.new ≡ input.old }
     ensures untouched { uses_disk command ≡ false → result.1 ≡ disk }

@@ -9,7 +9,7 @@ pub returns-in-Err-NoMemory-clause-run : goal.returns-in-Err-NoMemory-clause-run
 returns-in-Err-NoMemory-clause-run g c = λ said says.
     let list = (rw c.in-Err-NoMemory.field-0-is at c.in-Err-NoMemory.ensures.memory) refl in
     let told = c.report-in-Err-NoMemory.ensures.told in
-    rw (list.1.only said says) (record { outcome = told.0; status_is = told.2; ended = rw told.1 (unasked list.0 _ _); told = told.3 })
+    rw (list.1.only said says) (record { outcome = told.0; status_is = told.2; ended = rw told.1 (unasked list.0 _ _ _ _); told = told.3 })
 
 pub returns-in-Err-NoMemory-clause-moments : goal.returns-in-Err-NoMemory-clause-moments
 returns-in-Err-NoMemory-clause-moments g c = λ said says.
