@@ -1,5 +1,5 @@
 -- Numbers that stand at records, and counts that are made up of what is listed, what is due, and a leak.
-use Rattle.std.proofs.Common.{◌≡◌, ◌==◌, ◌<◌, ◌≤◌, ◌+◌, ◌-◌, ℕ, List, [], ◌∷◌, map, All, Option, refl, sym, ◌∙◌, ap, subst, arith}
+use Rattle.std.proofs.Common.{◌≡◌, ◌==◌, ◌<◌, ◌≤◌, ◌+◌, ◌-◌, ℕ, List, [], ◌∷◌, map, All, Option, Some, None, refl, sym, ◌∙◌, ap, subst, arith}
 use Rattle.std.specs.Prelude.{AllPairs, count_by, sum_by}
 use Rattle.std.proofs.lemmas.Bool.{cond-true, cond-false, ne_eqb, eq-eqb}
 use Rattle.std.proofs.lemmas.List.Elements.{All-head, All-tail, All-cons, All-nil}
@@ -10,8 +10,10 @@ use Rattle.model_meaning.specs.BoxMeaning.{BoxMeaning, box_meaning, rows_after}
 use Rattle.model_meaning.specs.MapMeaning.{MapRecord}
 use Rattle.model_store.specs.Opening.{listed_of}
 use Rattle.model_appends.specs.Amounts.{IsAccounted}
-use Rattle.disk_model.specs.Disk.{History}
-use Rattle.store_core.specs.Dues.{number_beside, due_at, listed_at, leak_at}
+use Rattle.disk_model.specs.Disk.{History, Between}
+use Rattle.model_store.specs.Settled.{files_of}
+use Rattle.model_store.specs.Stands.{StoresMessage}
+use Rattle.store_core.specs.Dues.{number_beside, due_at, listed_at, leak_at, Amounts, Moves, Spares}
 use Rattle.store_core.specs.Running.{CoverDues, IsStore}
 use Rattle.store_core.specs.Value.{StoreValue, indexes_of}
 
@@ -100,3 +102,15 @@ pub counts_seen : {D : Type 0} → (history : Option History) (inside seen : Sto
     → All (IsAccounted (λ uid. due_at uid seen) (λ uid. leak_at uid seen) logs) seen.map.records
 counts_seen history inside seen logs is s rising same =
     store_counts history seen logs (subst (λ (v : StoreValue _). IsStore history v) is s) (subst (λ (v : StoreValue _). AllPairs RecordsRise v.map.records) is rising) same
+
+-- ---- a store that stays
+
+pub moves_nothing : (mine all : Amounts) → Moves mine mine all all
+moves_nothing mine all = record { due = λ uid. refl }
+
+pub spares_all : {D : Type 0} → (mine : Amounts) (store : StoreValue D) (history : Option History) → Spares mine store store history history
+spares_all mine store history = record { records = λ uid row more found. record { now = row; there = found; guid = refl; stores = λ octets. as_it_was history row octets } }
+  where
+    as_it_was : (h : Option History) (row : MapRecord) (octets : List ℕ) → Between (λ a b. StoresMessage (files_of a) row octets → StoresMessage (files_of b) row octets) h h
+    as_it_was None row octets = refl
+    as_it_was (Some h) row octets = λ x. x

@@ -44,12 +44,12 @@ pub record Moves (mine mine_now all all_now : Amounts) : Type 0 where
   pub due : (uid : ℕ) → all_now.due uid + mine.due uid ≡ all.due uid + mine_now.due uid
 
 -- A record is still there, maybe elsewhere, with its GUID, and stores the text that it stored.
-pub record IsSpared {D : Type 0} (row : MapRecord) (new : StoreValue D) (before after : Option History) : Type 0 where
+pub record IsSpared {D : Type 0} (uid : ℕ) (row : MapRecord) (new : StoreValue D) (before after : Option History) : Type 0 where
   pub now : MapRecord
-  pub there : record_at new.map row.uid ≡ Some now
+  pub there : record_at new.map uid ≡ Some now
   pub guid : now.guid ≡ row.guid
   pub stores : (octets : List ℕ) → Between (λ a b. StoresMessage (files_of a) row octets → StoresMessage (files_of b) now octets) before after
 
 -- A task with these amounts leaves to the others what is theirs: each record of which more is due than its own.
 pub record Spares {D : Type 0} (mine : Amounts) (old new : StoreValue D) (before after : Option History) : Type 0 where
-  pub records : (uid : ℕ) (row : MapRecord) → mine.due uid < due_at uid old → record_at old.map uid ≡ Some row → IsSpared row new before after
+  pub records : (uid : ℕ) (row : MapRecord) → mine.due uid < due_at uid old → record_at old.map uid ≡ Some row → IsSpared uid row new before after

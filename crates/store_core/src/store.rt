@@ -105,7 +105,7 @@ impl<D: Disk> Store<D> {
     pub fn counts(&self)
         ensures { (logs : List (List BoxEntry)) → indexes_of self.now.boxes ≡ map box_meaning logs → All (IsAccounted (λ uid. due_at uid self.now) (λ uid. leak_at uid self.now) logs) self.now.map.records }
     {
-        self.map.is_kept();
+        self.map.known_facts();
     }
 
     /// The allocator that the store keeps.
@@ -140,7 +140,7 @@ impl<D: Disk> Store<D> {
     pub fn list_of(&self, name: &Name) -> Option<&BoxIndex>
         ensures { option_copied result ≡ list_named self.now name.now }
     {
-        self.map.is_kept();
+        self.map.known_facts();
         let number = self.map.box_named(name)?;
         self.mailbox(number)
     }
@@ -149,7 +149,7 @@ impl<D: Disk> Store<D> {
     pub fn refs_of(&self, guid: Guid) -> u64
         ensures { result ≡ references_to self.now guid.0 }
     {
-        self.map.is_kept();
+        self.map.known_facts();
         listed_in_all(&self.boxes, guid)
     }
 

@@ -1,5 +1,5 @@
 -- The making of a store's files, step after step.
-use Rattle.std.proofs.Common.{◌≡◌, ◌⊎◌, inl, inr, false, Option, sym, ◌∙◌, subst}
+use Rattle.std.proofs.Common.{◌≡◌, ◌⊎◌, inl, inr, false, Option, refl, sym, ◌∙◌, subst}
 use Rattle.std.proofs.lemmas.Bool.{cases_Bool, cond-false, false≢true, true≢false}
 use Rattle.disk_model.specs.Disk.{FileState, DiskState, History, IsThere, IfTold, EachImage, named, no_file, IsIdle, Between}
 use Rattle.disk_model.specs.declared.name.FileName.{FileName}

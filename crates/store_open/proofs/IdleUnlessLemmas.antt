@@ -1,5 +1,5 @@
 -- Nothing has changed, unless the disk has this.
-use Rattle.std.proofs.Common.{List, Option, Some, None}
+use Rattle.std.proofs.Common.{ℕ, List, Option, Some, None}
 use Rattle.disk_model.specs.Disk.{DiskState, History, IfTold, IsIdle}
 use Rattle.mdbox_base.specs.declared.entries.BoxEntry.{BoxEntry}
 use Rattle.mdbox_base.specs.declared.entries.MapEntry.{MapEntry}

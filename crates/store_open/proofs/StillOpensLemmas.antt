@@ -8,7 +8,7 @@ use Rattle.mdbox_base.specs.declared.entries.BoxEntry.{BoxEntry}
 use Rattle.mdbox_base.specs.declared.entries.MapEntry.{MapEntry}
 use Rattle.model_meaning.specs.MapMeaning.{MapBox, MapMeaning, map_meaning}
 use Rattle.model_store.specs.Settled.{files_of}
-use Rattle.model_store.proofs.SettledLemmas.{has_all_carried, log_along, map_along}
+use Rattle.model_store.proofs.SettledLemmas.{has_all_carried, log_along}
 use Rattle.model_store.specs.Stands.{HasLog, HasRoot, HasMap}
 use Rattle.model_store.specs.Safe.{HasAll}
 use Rattle.model_store.specs.Carrying.{HasSameEntries, CarryOver}
@@ -29,17 +29,28 @@ boxes_along m a b (x ∷ xs) (l ∷ ls) s h =
       boxes_along m a b xs ls (All-tail (SameLog a b) x xs s) h.1,
     )
 
+-- under the same generation
+same_map : (store : List ℕ) (entries : List MapEntry) (a b : Files) → (h : HasMap a store entries) → CarryOver h.generation (map_meaning store entries) a b → HasMap b store entries
+same_map store entries a b h e = record {
+  generation = h.generation;
+  generation_number = h.generation_number;
+  root = record { before = h.root.before; log = log_along a b file.Root _ _ e.root h.root.log; in_range = h.root.in_range };
+  log = log_along a b (file.Map h.generation) _ _ e.map h.log;
+  in_range = h.in_range;
+  fit = h.fit;
+}
+
 -- the regions and the instances of records, which no list needs
 all_there : (store : List ℕ) (entries : List MapEntry) (logs : List (List BoxEntry)) (a : Files) → Opens a store entries logs → HasAll a (map_meaning store entries) []
 all_there store entries logs a o = record { counts = λ guid. omega arith; regions = o.regions; instances = o.instances }
 
 opens_along : (store : List ℕ) (entries : List MapEntry) (logs : List (List BoxEntry)) (a b : Files) → (o : Opens a store entries logs) → CarryOver o.passed.map_log.generation (map_meaning store entries) a b
     → (p : Opens b store entries logs) × (p.passed.map_log.generation ≡ o.passed.map_log.generation)
-unfolding map_along
+unfolding same_map
 opens_along store entries logs a b o e =
     let all = has_all_carried o.passed.map_log.generation (map_meaning store entries) a b [] e (all_there store entries logs a o) in (
       record {
-        passed = record { map_log = map_along store entries a b o.passed.map_log e; boxes = boxes_along (map_meaning store entries) a b (map_meaning store entries).boxes logs e.boxes o.passed.boxes };
+        passed = record { map_log = same_map store entries a b o.passed.map_log e; boxes = boxes_along (map_meaning store entries) a b (map_meaning store entries).boxes logs e.boxes o.passed.boxes };
         counts = o.counts;
         regions = all.regions;
         instances = all.instances;

@@ -13,5 +13,3 @@ mod init;
 mod old_logs;
 mod open;
 mod parts;
-#[cfg(test)]
-mod tests;

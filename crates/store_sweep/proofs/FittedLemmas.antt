@@ -102,10 +102,10 @@ shortened_file m n end f g unsealed is e there = record {
   was = sym (ap (λ (h : FileState). h.is_there) e) ∙ there;
   name = λ loose. sym (ap (λ (h : FileState). h.is_name_loose) e) ∙ loose;
   content = inr (record {
-      unsealed = unsealed;
-      octets = ap (λ (h : FileState). h.octets) e ∙ ap (λ (k : ℕ). take k f.octets) is;
-      synced = subst IsFirm (sym e) (record { least = refl; greatest = refl; firm = λ i. refl });
-    });
+    unsealed = unsealed;
+    octets = ap (λ (h : FileState). h.octets) e ∙ ap (λ (k : ℕ). take k f.octets) is;
+    synced = subst IsFirm (sym e) (record { least = refl; greatest = refl; firm = λ i. refl });
+  });
 }
 
 mail_number : (a b : ℕ) → file.Mail a ≡ file.Mail b → a ≡ b

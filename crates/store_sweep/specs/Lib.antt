@@ -1,3 +1,4 @@
+pub mod Error
 pub mod Held
 pub mod Wanted
 pub mod Moments

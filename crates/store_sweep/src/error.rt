@@ -1,5 +1,6 @@
 // Why a store was not swept.
-ghost use Rattle.std.specs.Prelude.{◌≡◌};
+ghost use Rattle.std.specs.Prelude.{◌≡◌, Some};
+ghost use Rattle.store_sweep.specs.Error.{sweep_error_text};
 ghost use Rattle.store_sweep.specs.declared.error.SweepError.TheVariants as error;
 
 use gate_log::DiskFault;
@@ -17,11 +18,13 @@ pub enum SweepError {
 }
 
 impl fmt::Display for SweepError {
+    ghost output = { λ error. Some (sweep_error_text error) };
+
     fn fmt<W: fmt::Write>(&self, f: &mut fmt::Formatter<W>) -> fmt::Result {
-        match self {
-            SweepError::DiskFault => f.write_str("disk fault"),
-            SweepError::NoMemory => f.write_str("out of memory"),
-        }
+        f.write_str(match self {
+            SweepError::DiskFault => "disk fault",
+            SweepError::NoMemory => "out of memory",
+        })
     }
 }
 

@@ -1,6 +1,6 @@
 -- Both events of an expunge, by the one clause.
-use Rattle.std.proofs.Common.{◌≡◌, ◌≤◌, ℕ, Bool, true, false, List, [], ◌∷◌, ◌++◌, Option, Some, None, refl, sym, ◌∙◌, ap, subst, arith}
-use Rattle.std.specs.Prelude.{length, slice_get, is_some}
+use Rattle.std.proofs.Common.{◌≡◌, ◌≤◌, ℕ, Bool, true, false, List, [], ◌∷◌, ◌++◌, Option, Some, None, refl, sym, ◌∙◌, ap, subst}
+use Rattle.std.specs.Prelude.{length, slice_get}
 use Rattle.disk_model.specs.Disk.{History, Faults}
 use Rattle.mdbox_base.specs.declared.ids.Uid.{Uid}
 use Rattle.mdbox_base.specs.declared.replies.Refusal.{Refusal}
@@ -11,8 +11,8 @@ use Rattle.mdbox_base.specs.declared.requests.Request.TheVariants as request
 use Rattle.model_lists.specs.Lists.{Mailbox, Lists}
 use Rattle.model_meaning.specs.BoxMeaning.{BoxMeaning}
 use Rattle.model_meaning.specs.MapMeaning.{MapRecord}
-use Rattle.list_machine.specs.Run.{First, GivesBack, RunEvent, Run, own_events}
-use Rattle.journal.specs.Journal.{half_of, halves_of, IsReplyOf}
+use Rattle.list_machine.specs.Run.{First, Run, own_events}
+use Rattle.journal.specs.Journal.{halves_of, IsReplyOf}
 use Rattle.list_machine.specs.Machine.{mailbox_named, expunge, first_refusal, part_checks}
 use Rattle.journal.specs.Events.{Around, IsRecord}
 use Rattle.journal.specs.Stages.{ToRemove, ToLower, removal}

@@ -1,6 +1,6 @@
 -- Requests of one event: what is refused, and what is done.
 use Rattle.std.proofs.Common.{◌≡◌, ◌≤◌, Ok, Err, ℕ, Bool, true, false, List, [], ◌∷◌, Option, Some, None, refl, sym, ap, ◌∙◌, subst, arith}
-use Rattle.std.specs.Prelude.{is_some, length, slice_get, ◌↔◌, ◌++◌, ◌⊎◌}
+use Rattle.std.specs.Prelude.{length, slice_get, ◌↔◌, ◌++◌, ◌⊎◌}
 use Rattle.std.specs.Option.{option_or}
 use Rattle.disk_model.specs.Disk.{History, Faults}
 use Rattle.task_steps.specs.Step.{FaultsGrow}
@@ -21,15 +21,13 @@ use Rattle.journal.specs.Makes.{HasCome, Makes}
 use Rattle.journal.proofs.RunLemmas.{comes_on}
 use Rattle.disk_model.specs.Disk.{told_calls}
 use Rattle.std.proofs.Common.{inl}
-use Rattle.disk_model.specs.Disk.{EachImage}
 use Rattle.disk_model.proofs.MomentLemmas.{each_image-begins}
 use Rattle.model_store.specs.Safe.{Safe}
 use Rattle.model_store.specs.Settled.{IsSettledFor, Leaves}
 use Rattle.model_store.proofs.SettledLemmas.{settled_safe}
 use Rattle.mdbox_base.specs.declared.script.Half.TheVariants as half
-use Rattle.mdbox_base.specs.declared.progress.Did.{Did}
 use Rattle.mdbox_base.specs.declared.progress.Did.TheVariants as did
-use Rattle.task_steps.specs.Step.{Seen, ShowsSeen, HasComeTo, Leads, IsFault, and_told, EndsRequest, DidEvent, HasNotBegun}
+use Rattle.task_steps.specs.Step.{Seen, ShowsSeen, HasComeTo, Leads, IsFault, and_told, DidEvent, HasNotBegun}
 
 -- a request whose first event is its step and its end
 pub record IsPlain (q : Request) : Type 0 where

@@ -1,5 +1,5 @@
 -- What an event of a task did: to the journal, to the disk, and by what its request ended.
-use Rattle.std.specs.Prelude.{◌≡◌, ◌≤◌, ◌⊎◌, ◌↔◌, ◌++◌, ◌∷◌, ℕ, Bool, true, false, List, [], length, slice_get, Option, Some, None, is_some}
+use Rattle.std.specs.Prelude.{◌≡◌, ◌≤◌, ◌↔◌, ◌++◌, ◌∷◌, ℕ, Bool, true, false, List, [], length, slice_get, Option, Some, None, is_some}
 use Rattle.disk_model.specs.Disk.{History, Faults}
 use Rattle.mdbox_base.specs.Streams.{Rose}
 use Rattle.mdbox_base.specs.declared.entries.Highest.{Highest}
@@ -18,8 +18,6 @@ use Rattle.journal.specs.Makes.{HasCome, WouldMake, Makes}
 use Rattle.disk_model.specs.Disk.{told_calls, Grows}
 use Rattle.model_store.specs.Settled.{Leaves}
 use Rattle.model_store.specs.Settled.{IsSettledFor}
-use Rattle.mdbox_base.specs.declared.script.Half.{Half}
-use Rattle.mdbox_base.specs.declared.script.Half.TheVariants as half
 use Rattle.mdbox_base.specs.declared.progress.Did.{Did}
 use Rattle.mdbox_base.specs.declared.progress.Did.TheVariants as did
 use Rattle.mdbox_base.specs.declared.progress.Progress.{Progress}

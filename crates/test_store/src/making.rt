@@ -31,12 +31,14 @@ fn taken(
 /// Whether the disk has just the logs of a new store.
 fn is_new_store(alloc: Global, disk: &mut MemDisk) -> Result<bool, Fail> {
     let files = StoreFiles::with(alloc, &[MAKES_INBOX], &[], 0)?;
-    Ok(file_octets(alloc, disk, FileName::Root)? == files.root
-        && file_octets(alloc, disk, FileName::Map(1))? == files.map
-        && file_octets(alloc, disk, FileName::Box(1, 1))? == files.inbox
-        && disk.next_name(Some(FileName::Root)) == Ok(Some(FileName::Map(1)))
-        && disk.next_name(Some(FileName::Map(1))) == Ok(Some(FileName::Box(1, 1)))
-        && disk.next_name(Some(FileName::Box(1, 1))) == Ok(None))
+    Ok(
+        file_octets(alloc, disk, FileName::Root)? == files.root
+            && file_octets(alloc, disk, FileName::Map(1))? == files.map
+            && file_octets(alloc, disk, FileName::Box(1, 1))? == files.inbox
+            && disk.next_name(Some(FileName::Root)) == Ok(Some(FileName::Map(1)))
+            && disk.next_name(Some(FileName::Map(1))) == Ok(Some(FileName::Box(1, 1)))
+            && disk.next_name(Some(FileName::Box(1, 1))) == Ok(None),
+    )
 }
 
 /// Whether a crash leaves the store, when so many of the calls had run. The last call but one opens the root log's gate.

@@ -20,7 +20,7 @@ pub returns-clause-store : goal.returns-clause-store
 returns-clause-store g c =
     let e = c.in_ok-made.ensures in
     let box : OpenBox = record { number = record { 0 = 1 }; log = c.in_ok-made.made.box_log; index = c.in_ok-index.index } in
-    new_store c.args.alloc _ c.args.id.0 box _ _ c.in_ok-map.ensures
+    new_store c.args.alloc c.make_files.new.disk c.args.id.0 box (record { id = c.args.id; root_log = c.in_ok-made.made.root_log; map_log = c.in_ok-made.made.map_log; map = c.in_ok-map.map; boxes = c.push_box.new.boxes }) _ c.in_ok-map.ensures
     (record {
       made = e.store;
       root_held = e.root_log.0;

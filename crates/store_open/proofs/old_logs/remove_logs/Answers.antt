@@ -1,7 +1,7 @@
-use Rattle.std.proofs.Common.{Ok, refl, sym, ◌∙◌}
+use Rattle.std.proofs.Common.{refl, sym, ◌∙◌}
 use Rattle.disk_model.proofs.IdleLemmas.{idle-on}
 use Rattle.disk_model.proofs.NameOrderLemmas.{walk_shrinks}
-use Rattle.disk_model.proofs.FaultCountLemmas.{no_fault-then, no_fault-change}
+use Rattle.disk_model.proofs.FaultCountLemmas.{no_fault-then, no_fault-of_counts}
 use Rattle.store_open.proofs.OldLogLemmas.{in_range}
 use Rattle.store_open.proofs.OldLogLemmas.{Walked, walk-begins, walk-looks, walk-goes_on, walk-fails, walk-ends, walk-none, none_of}
 use Rattle.store_open.proofs.old_logs.remove_logs.Given.{Over}
@@ -31,7 +31,7 @@ loop-name-preserved g c = record {
   walked = walk-goes_on _ c.in-Some.name _ _ _ (looked g (goal.at.loop-name-preserved g c).In_ok-name)
       (idle-on _ _ _ c.in_ok-name.ensures.idle (rw c.in-Some.is at c.in_ok-name.ensures.first))
       (rw c.in-Some.is at c.in_ok-name.ensures.named) c.in_ok-remove.ensures.state;
-  faults = no_fault-then _ _ _ c.loop-name.invariant.faults (no_fault-then _ _ _ c.in_ok-name.ensures.unfailed (no_fault-change _ _ _ ? c.in_ok-remove.ensures.cause));
+  faults = no_fault-then _ _ _ c.loop-name.invariant.faults (no_fault-then _ _ _ c.in_ok-name.ensures.unfailed (no_fault-of_counts _ _ c.in_ok-remove.ensures.cause.reads (c.in_ok-remove.ensures.cause.unfailed refl)));
 }
 
 pub returns-clause-any_moment : goal.returns-clause-any_moment

@@ -11,6 +11,7 @@ use Rattle.store_open.proofs.IdleUnlessLemmas.{stays, has_it, opening}
 use Rattle.store_open.proofs.CheckedLemmas.{one_each, names_are, all_stand, opens_at, opens_with}
 use Rattle.store_open.proofs.OpenStoreLemmas.{as_many, indexes_are, opened_store}
 use Rattle.store_open.proofs.SweptStoreLemmas.{idle_settled, idle_safe, swept_safe, swept_since, carries-idle, carries-swept, shown}
+use Rattle.store_open.proofs.FaultLemmas.{sweep_fault, none_swept}
 use Rattle.store_open.proofs.open.open_logs.Goals as goal
 
 pub part-requires : goal.part-requires
@@ -64,7 +65,8 @@ join-requires-clause-room g c =
 pub returns-clause-store : goal.returns-clause-store
 returns-clause-store g c = λ lanes some few.
     let k = c.in_ok-id.ensures.checked in
-    opened_store c.args.alloc _ c.in_ok-id.field-0 k.0 k.1 k.2 c.in_ok-parts.parts c.in_ok-swept.swept.box_logs.items _ lanes _ _ _ c.counts_cover_listings.ensures c.in_ok-id.ensures.idle k.3
+    opened_store c.args.alloc c.sweep.new.disk c.in_ok-id.field-0 k.0 k.1 k.2 c.in_ok-parts.parts c.in_ok-swept.swept.box_logs.items
+    (record { id = c.in_ok-id.field-0.id; root_log = c.in_ok-swept.swept.root_log; map_log = c.in_ok-swept.swept.map_log; map = c.in_ok-id.field-0.map; boxes = c.join.new.opened }) lanes _ _ _ c.counts_cover_listings.ensures.nothing_due c.in_ok-id.ensures.idle k.3
     (parted c.in_ok-id.field-0 _ c.in_ok-parts.parts c.into_vec-boxes.ensures c.in_ok-parts.ensures) c.in_ok-swept.ensures.swept.reads refl c.in_ok-swept.ensures.root_log c.in_ok-swept.ensures.map_log c.in_ok-swept.ensures.box_logs
     (record { logs = c.join.ensures.logs; numbers = c.join.ensures.numbers; indexes = c.join.ensures.indexes }) some few
 
@@ -87,7 +89,7 @@ pub returns-in_err-parts-clause-settled_again : goal.returns-in_err-parts-clause
 returns-in_err-parts-clause-settled_again g c = λ none lists s. idle_settled lists _ _ c.in_ok-id.ensures.idle s
 
 pub returns-in_err-swept-clause-settled_again : goal.returns-in_err-swept-clause-settled_again
-returns-in_err-swept-clause-settled_again g c = λ none lists s. c.in_err-swept.ensures.settled_again ? lists (idle_settled lists _ _ c.in_ok-id.ensures.idle s)
+returns-in_err-swept-clause-settled_again g c = λ none lists s. c.in_err-swept.ensures.settled_again (none_swept (g.D.Disk.faults c.args.disk.now) (g.D.Disk.faults c.check_store.new.disk) (g.D.Disk.faults c.sweep.new.disk) (c.in_ok-id.ensures.unfailed (λ e. cc e)) (sweep_fault c.from_residual-in_err-swept.result c.in_err-swept.field-0.0 c.from_residual-in_err-swept.ensures.1) none) lists (idle_settled lists _ _ c.in_ok-id.ensures.idle s)
 
 pub returns-clause-settled_again : goal.returns-clause-settled_again
 returns-clause-settled_again g c = λ none lists s. c.in_ok-swept.ensures.settled_again (λ fault. absurd (cc fault)) lists (idle_settled lists _ _ c.in_ok-id.ensures.idle s)
@@ -104,7 +106,7 @@ returns-in_err-parts-clause-carried g c = λ none. carries-idle _ _ c.in_ok-id.e
 pub returns-in_err-swept-clause-carried : goal.returns-in_err-swept-clause-carried
 returns-in_err-swept-clause-carried g c = λ none.
     let k = c.in_ok-id.ensures.checked in
-    carries-swept c.in_ok-id.field-0.generation c.in_ok-id.field-0.map c.in_ok-id.field-0.id.0 k.1 k.2 _ _ _ c.in_ok-id.ensures.idle.same k.3.map_is (opens_at c.in_ok-id.field-0 k.0 k.1 k.2 _ _ c.in_ok-id.ensures.idle k.3) (c.in_err-swept.ensures.carried ?)
+    carries-swept c.in_ok-id.field-0.generation c.in_ok-id.field-0.map c.in_ok-id.field-0.id.0 k.1 k.2 _ _ _ c.in_ok-id.ensures.idle.same k.3.map_is (opens_at c.in_ok-id.field-0 k.0 k.1 k.2 _ _ c.in_ok-id.ensures.idle k.3) (c.in_err-swept.ensures.carried (none_swept (g.D.Disk.faults c.args.disk.now) (g.D.Disk.faults c.check_store.new.disk) (g.D.Disk.faults c.sweep.new.disk) (c.in_ok-id.ensures.unfailed (λ e. cc e)) (sweep_fault c.from_residual-in_err-swept.result c.in_err-swept.field-0.0 c.from_residual-in_err-swept.ensures.1) none))
 
 pub returns-clause-carried : goal.returns-clause-carried
 returns-clause-carried g c = λ none.

@@ -5,3 +5,9 @@ returns-in-Ok-clause-swept g c = rw c.of.ensures c.in-Ok.ensures.swept
 
 pub returns-in-Ok-clause-untouched : goal.returns-in-Ok-clause-untouched
 returns-in-Ok-clause-untouched g c = rw c.of.ensures c.in-Ok.ensures.untouched
+
+pub returns-in-Ok-clause-settled_again : goal.returns-in-Ok-clause-settled_again
+returns-in-Ok-clause-settled_again g c = λ none lists s. rw c.of.ensures (c.in-Ok.ensures.settled_again (λ fault. absurd (cc fault)) lists s)
+
+pub returns-in-Err-clause-settled_again : goal.returns-in-Err-clause-settled_again
+returns-in-Err-clause-settled_again g c = λ none lists s. c.in-Err.ensures.settled_again (λ fault. none (cc fault)) lists s

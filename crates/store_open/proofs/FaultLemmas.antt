@@ -1,0 +1,32 @@
+-- Faults of the checks and of the sweep, as an opening answers them.
+use Rattle.std.proofs.Common.{◌≡◌, Result, Err, sym, ◌∙◌, ap, subst}
+use Rattle.std.specs.Prelude.{IsErrOf, IsErrAnd}
+use Rattle.std.proofs.lemmas.Result.{err_from_is_err_and}
+use Rattle.disk_model.specs.Disk.{Faults}
+use Rattle.disk_model.specs.FaultCounts.{NoFault}
+use Rattle.store_checks.specs.declared.error.CheckError.{CheckError}
+use Rattle.store_checks.specs.declared.error.CheckError.TheVariants as check
+use Rattle.store_sweep.specs.Moments.{NoFailedChange}
+use Rattle.store_sweep.specs.declared.error.SweepError.{SweepError}
+use Rattle.store_sweep.specs.declared.error.SweepError.TheVariants as sweep
+use Rattle.store_open.specs.Causes.{of_check, of_sweep}
+use Rattle.store_open.specs.declared.error.OpenError.{OpenError}
+use Rattle.store_open.specs.declared.error.OpenError.TheVariants.{DiskFault}
+
+same_check : {S : Type 0} → (given : CheckError) → IsErrOf {T = S} (Err given) check.DiskFault → given ≡ check.DiskFault
+same_check given e = cc e
+
+same_sweep : {S : Type 0} → (given : SweepError) → IsErrOf {T = S} (Err given) sweep.DiskFault → given ≡ sweep.DiskFault
+same_sweep given e = cc e
+
+-- a fault of the checks is answered as one
+pub check_fault : {T S : Type 0} → (r : Result T OpenError) (given : CheckError) → IsErrAnd r (λ e. e ≡ of_check given) → IsErrOf {T = S} (Err given) check.DiskFault → IsErrOf r DiskFault
+check_fault r given is fault = let p = err_from_is_err_and r is in p.1 ∙ ap Err (p.2 ∙ ap of_check (same_check given fault))
+
+-- and so is one of the sweep
+pub sweep_fault : {T S : Type 0} → (r : Result T OpenError) (given : SweepError) → IsErrAnd r (λ e. e ≡ of_sweep given) → IsErrOf {T = S} (Err given) sweep.DiskFault → IsErrOf r DiskFault
+sweep_fault r given is fault = let p = err_from_is_err_and r is in p.1 ∙ ap Err (p.2 ∙ ap of_sweep (same_sweep given fault))
+
+-- no failed change was counted since
+pub none_swept : {F G : Type 0} → (old now new : Faults) → NoFault old now → (G → F) → NoFailedChange F old new → NoFailedChange G now new
+none_swept {F} {G} old now new same turn none = λ g. subst (λ (f : Faults). NoFailedChange F f new) (sym same) none (turn g)
