@@ -44,7 +44,7 @@ use Rattle.mail_ops.specs.Listing.{Replies}
 use Rattle.mail_ops.specs.Task.{TaskValue, IsAt, seen_of}
 use Rattle.mail_ops.specs.declared.task.TaskStage.TheVariants as stage
 use Rattle.mdbox_top.specs.ListRun.{AreSafeFor, ListMoments}
-use Rattle.mdbox_top.specs.Served.{BeginsWith, ServesRequest, DoesAlone}
+use Rattle.mdbox_top.specs.Served.{RunBegins, ServesRequest, DoesAlone}
 use Rattle.mdbox_top.proofs.ListLemmas.{LogsShow, shown_safe}
 
 -- ---- a listing leaves the lists
@@ -183,7 +183,7 @@ safe_formed : (lists : Lists) (old : Option History) → AreSafeFor lists old �
 safe_formed lists None safe = absurd safe
 safe_formed lists (Some h) safe = well_formed (files_of h.now) lists (record { store = safe.store; entries = safe.entries; by = safe.by.stands })
 
-begins : (run : Run) (old : Option History) (entries : List MapEntry) (logs : List (List BoxEntry)) → IfTold old (λ now. Opens (files_of now) run.store entries logs) → MeansSame (map_meaning run.store entries) (map_meaning run.store run.start) → BeginsWith run old
+begins : (run : Run) (old : Option History) (entries : List MapEntry) (logs : List (List BoxEntry)) → IfTold old (λ now. Opens (files_of now) run.store entries logs) → MeansSame (map_meaning run.store entries) (map_meaning run.store run.start) → RunBegins run old
 begins run None entries logs opens means = tt
 begins run (Some h) entries logs opens means = (entries, logs, opens, means)
 

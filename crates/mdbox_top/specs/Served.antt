@@ -21,8 +21,8 @@ use Rattle.task_steps.specs.Serves.{IsReached}
 use Rattle.task_steps.specs.Step.{Seen, ShowsSeen, HasComeTo, HasNotBegun, DidEvent}
 
 -- The files opened, and their map log means the same as the entries with which the run begins.
-abbrev pub BeginsWith : Run → Option History → Type 0
-BeginsWith run old = IfTold old (λ disk. (entries : List MapEntry) × (logs : List (List BoxEntry)) × Opens (files_of disk) run.store entries logs × MeansSame (map_meaning run.store entries) (map_meaning run.store run.start))
+abbrev pub RunBegins : Run → Option History → Type 0
+RunBegins run old = IfTold old (λ disk. (entries : List MapEntry) × (logs : List (List BoxEntry)) × Opens (files_of disk) run.store entries logs × MeansSame (map_meaning run.store entries) (map_meaning run.store run.start))
 
 -- The request is a script of its own, on one lane. From these lists, for which the files were safe, it was served legally,
 -- by a run that begins with the map log of the files, and was replied this. Of a disk that was settled for the lists each
@@ -33,7 +33,7 @@ pub record ServesRequest (request : Request) (lists : Lists) (given : Reply) (be
   pub journal : List JournalStep
   pub broken : Broken
   pub m : MapMeaning
-  pub begins : BeginsWith run old
+  pub begins : RunBegins run old
   pub served : IsServed lists ((1, request) ∷ []) run journal broken (Some given ∷ []) began now m
   pub crash : IsSettledFor lists old → EachImage (IsReached lists run journal broken) old new
   pub settled : (given ≡ reply.Refused refusal.Stopped → ⊥) → IsSettledFor lists old → IsSettledFor (left_by lists journal) new
