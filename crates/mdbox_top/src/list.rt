@@ -26,16 +26,7 @@ use store_core::{Store, listings_are_shown};
 use store_open::{OpenRefused, open_store};
 
 /// Opens the store, prints the listing of a mailbox, and hands the disk back.
-<<<<<<< HEAD
-pub fn list<D: Disk, O: Sink>(
-    alloc: Global,
-    name: Name,
-    disk: D,
-    output: &mut O,
-) -> (Outcome, D)
-=======
 pub fn list<D: Disk, O: Sink>(alloc: Global, name: Name, disk: D, output: &mut O) -> (Outcome, D)
->>>>>>> top
     ensures ends { ListOutcome name (O.held output.old) (O.held output.new) (D.history disk) (D.history result.1) (D.faults disk) (D.faults result.1) result.0 }
     ensures moments { ListMoments (D.history disk) (D.history result.1) }
     ensures rests { ListRests (result.0 ≡ outcome.DiskFault) (D.faults disk) (D.faults result.1) (D.history disk) (D.history result.1) }
