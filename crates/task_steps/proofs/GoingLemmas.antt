@@ -355,7 +355,7 @@ broken_on start script run journal broken replies began now new lane place reque
       shown = k.shown;
       within = more_events run event (length run.events) (omega arith);
       broken_is = broken_is run script start journal event w.would (told_calls now.history) step is_step;
-      of_failure = failure_is run event w.would (told_calls now.history) step (s.unrefused f.ran) s.come.moments f.refused w.lane_is w.request_is w.part_is refl;
+      of_failure = failure_is run event w.would (told_calls now.history) step (s.unrefused f.ran) s.come.come.moments f.refused w.lane_is w.request_is w.part_is refl;
       crash = crash;
       unbroken = λ e. absurd (fall new.stopped f.stopped e);
       settled = λ e at. absurd (fall new.stopped f.stopped e);
@@ -418,9 +418,9 @@ serves_on start script run journal broken replies began now new around after lan
     told = record {
       kept = record {
         legal = legal_faults start script (and_then run d.makes.event) (journal ++ steps_made run request d.makes.event d.makes.answer d.left) replies began.faults now.faults new.faults
-            (legal_by_task start script run journal replies began.faults now.faults around after lane place request d.left now.map new.map now.drawn new.drawn (told_calls now.history) (told_calls new.history) ended s.legal s.come d.grows turn.asked d.makes may)
+            (legal_by_task start script run journal replies began.faults now.faults around after lane place request d.left now.map new.map now.drawn new.drawn (told_calls now.history) (told_calls new.history) ended s.legal s.come.come d.grows turn.asked d.makes may)
             d.ends.faults.reads d.ends.faults.changes;
-        come = d.makes.come;
+        come = d.come;
         shown = subst (λ (ls : Lists). ShowsSeen new ls) (sym (left_made run request start journal d.makes.event d.makes.answer d.left d.makes.made)) d.shown;
         reads = reads_more run.events d.makes.event began.faults.reads now.faults.reads new.faults.reads s.reads d.ends.faults.reads d.ends.reads;
         changes = (let a = s.changes in let b = d.ends.faults.changes in omega (arith, a, b));

@@ -231,7 +231,7 @@ serves_start start script run replies now empty come shows runs none zero = reco
 }
   where
     at_start : HasCome (record run { events = [] }) now.map now.drawn (told_calls now.history)
-    at_start = subst (λ (es : List RunEvent). HasCome (record run { events = es }) now.map now.drawn (told_calls now.history)) empty come
+    at_start = subst (λ (es : List RunEvent). HasCome (record run { events = es }) now.map now.drawn (told_calls now.history)) empty come.come
 
     begins : (h : Option History) → IsSettledFor start h → EachImage (IsReached start run [] no_broken) h h
     begins None at = absurd at
