@@ -18,6 +18,7 @@ use Rattle.journal.specs.Events.{Around}
 use Rattle.journal.specs.Makes.{HasCome, Makes}
 use Rattle.journal.proofs.RunLemmas.{comes_on}
 use Rattle.task_steps.specs.Step.{Seen, ShowsSeen, HasComeTo, IsFault, DidEvent, HasNotBegun}
+use Rattle.task_steps.proofs.SeenLemmas.{comes_to_still, no_guids}
 use Rattle.task_steps.proofs.OneEventLemmas.{IsPlain, next_first, refusal_last, some_given, nothing, first_reply, first_turn, still_faults}
 
 pub list_is_plain : (name : List ℕ) → IsPlain (request.List name)
@@ -61,13 +62,15 @@ listed_is rows e = let k : reply.Listed rows ≡ reply.Refused refusal.Stopped =
 fall : (b : Bool) → b ≡ true → b ≡ false → ⊥
 fall b t f = let k : true ≡ false = sym t ∙ f in cc k
 
-pub does_list : (around after : Around) (run : Run) (lane place : ℕ) (said : List Reply) (name : List ℕ) (lists : Lists) (seen : Seen) (rows : List ListRow) → HasComeTo run seen → ShowsSeen seen lists → HasNotBegun (own_events place run) said → seen.stopped ≡ false
+pub does_list : (around after : Around) (run : Run) (lane place : ℕ) (said : List Reply) (name : List ℕ) (lists : Lists) (seen : Seen) (rows : List ListRow) → HasComeTo run seen → ShowsSeen seen lists → HasNotBegun run place said → seen.stopped ≡ false
     → ((event : RunEvent) → PartAnswers run event lists (request.List name) First (reply.Listed rows) lists) → DidEvent around after run lane place said (request.List name) lists seen seen (did.Step half.Whole) (Some (reply.Listed rows))
 unfolding list_makes
 does_list around after run lane place said name lists seen rows come shows stage runs answers = record {
   left = lists;
   shown = shows;
-  makes = list_makes around after run lane place name lists seen.map seen.drawn (told_calls seen.history) rows come stage.0 answers;
+  makes = list_makes around after run lane place name lists seen.map seen.drawn (told_calls seen.history) rows come.come stage.0 answers;
+  come = comes_to_still run (list_event lane place rows (told_calls seen.history)) seen come (comes_on run (list_event lane place rows (told_calls seen.history)) seen.map seen.drawn (told_calls seen.history) come.come (omega arith) refl refl) (λ uid. refl) (record { pins = refl; unpins = refl; doomed = refl; removed = refl; given = refl });
+  gives = no_guids run (list_event lane place rows (told_calls seen.history)) refl;
   went = (refl, refl, runs, nothing lists seen);
   grows = omega arith;
   ends = record {

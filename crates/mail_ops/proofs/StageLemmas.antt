@@ -1,14 +1,44 @@
--- A step, by the stage of its task.
-use Rattle.std.proofs.Common.{◌≡◌, Some, subst}
-use Rattle.journal.specs.Events.{Around}
+-- A step, by the stage of its task, and the run as a store is opened.
+use Rattle.std.proofs.Common.{◌≡◌, ◌+◌, ◌==◌, ℕ, Bool, true, false, cond, List, [], ◌∷◌, Option, Some, refl, sym, ◌∙◌, ap, subst, arith}
+use Rattle.std.specs.Prelude.{sum_by}
+use Rattle.disk_model.specs.Disk.{History, Faults, told_calls}
+use Rattle.model_meaning.specs.MapMeaning.{MapRecord}
+use Rattle.list_machine.specs.Run.{RunEvent, Run, is_pinned, is_doomed}
+use Rattle.journal.specs.Makes.{HasCome}
+use Rattle.store_core.specs.Dues.{number_beside, due_at}
+use Rattle.store_core.specs.Value.{StoreValue, none_due}
+use Rattle.journal.specs.Events.{Around, begun_in, ended_in}
 use Rattle.mdbox_base.specs.declared.progress.Did.{Did}
 use Rattle.mdbox_base.specs.declared.replies.Reply.{Reply}
 use Rattle.mdbox_base.specs.declared.requests.Request.{Request}
-use Rattle.task_steps.specs.Step.{Seen, HasNotBegun, Steps}
+use Rattle.task_steps.specs.Step.{Seen, was_given, was_doomed, HasComeTo, HasNotBegun, IsKept, Steps}
+use Rattle.task_steps.proofs.SeenLemmas.{not_begun_stays}
 use Rattle.task_steps.proofs.OneEventLemmas.{never_more}
-use Rattle.mail_ops.specs.Task.{IsAt}
+use Rattle.mail_ops.specs.Task.{IsAt, seen_of}
 use Rattle.mail_ops.specs.declared.task.TaskStage.{TaskStage}
 use Rattle.mail_ops.specs.declared.task.TaskStage.TheVariants as stage
+
+pub stages_kept : (stage : TaskStage) → IsKept (IsAt stage)
+stages_kept stage.First = not_begun_stays
+
+no_due : (rows : List MapRecord) (uid : ℕ) → number_beside uid rows (none_due rows) ≡ 0
+no_due [] uid = refl
+no_due (row ∷ rows) uid = by_test (row.uid == uid) refl (no_due rows uid)
+  where
+    by_test : (b : Bool) → (row.uid == uid) ≡ b → number_beside uid rows (none_due rows) ≡ 0 → number_beside uid (row ∷ rows) (none_due (row ∷ rows)) ≡ 0
+    by_test true t rest = ap (λ (c : Bool). cond c 0 (number_beside uid rows (none_due rows))) t
+    by_test false t rest = ap (λ (c : Bool). cond c 0 (number_beside uid rows (none_due rows))) t ∙ rest
+
+-- A run without events has come to a store of which nothing is due.
+pub comes_at_first : {D : Type 0} → (run : Run) (store : StoreValue D) (history : Option History) (faults : Faults) → run.events ≡ [] → store.dues ≡ none_due store.map.records → HasCome run store.map store.drawn (told_calls history) → HasComeTo run (seen_of store history faults)
+comes_at_first run store history faults none free come = record {
+  come = come;
+  due = λ uid. subst (λ (es : List RunEvent). sum_by (begun_in uid) es ≡ due_at uid store + sum_by (ended_in uid) es) (sym none) (sym (let e : due_at uid store ≡ 0 = ap (λ (ns : List ℕ). number_beside uid store.map.records ns) free ∙ no_due store.map.records uid in let k : due_at uid store + 0 ≡ 0 = omega (arith, e) in k));
+  pinned = λ file. subst (λ (es : List RunEvent). is_pinned (record run { events = es }) file ≡ false) (sym none) refl;
+  doomed = λ file. subst (λ (es : List RunEvent). is_doomed (record run { events = es }) file ≡ false) (sym none) refl;
+  once_doomed = λ file. subst (λ (es : List RunEvent). was_doomed (record run { events = es }) file ≡ true → false ≡ true) (sym none) (λ e. e);
+  gave = λ guid. subst (λ (es : List RunEvent). was_given (record run { events = es }) guid ≡ true → false ≡ true) (sym none) (λ e. e);
+}
 
 -- an only event, which ends its request
 pub only_event : (old new : TaskStage) (around after : Around) (q asked : Request) (before behind : Seen) (did : Did) (given : Reply) → asked ≡ q → Steps HasNotBegun HasNotBegun around after asked before behind did (Some given)

@@ -1,11 +1,11 @@
 -- What a caller sees of a task, and of the store that it works on.
-use Rattle.std.specs.Prelude.{List, Option}
+use Rattle.std.specs.Prelude.{ℕ, false, List, Option}
 use Rattle.disk_model.specs.Disk.{History, Faults}
-use Rattle.list_machine.specs.Run.{RunEvent}
+use Rattle.list_machine.specs.Run.{Run}
 use Rattle.mdbox_base.specs.declared.progress.Did.{Did}
 use Rattle.mdbox_base.specs.declared.replies.Reply.{Reply}
 use Rattle.mdbox_base.specs.declared.requests.Request.{Request}
-use Rattle.store_core.specs.Dues.{Amounts, no_amounts}
+use Rattle.store_core.specs.Dues.{Amounts, no_amounts, due_at}
 use Rattle.store_core.specs.Value.{StoreValue, indexes_of}
 use Rattle.task_steps.specs.Step.{Seen, HasNotBegun}
 use Rattle.mail_ops.specs.declared.task.TaskStage.{TaskStage}
@@ -17,14 +17,15 @@ pub record TaskValue : Type 0 where
   pub stage : TaskStage
   pub did : Did
 
--- what is true of the request's own events so far, and of the answers of its steps
-abbrev pub IsAt : TaskStage → List RunEvent → List Reply → Type 0
-IsAt stage.First own said = HasNotBegun own said
+-- where the task stands: what is true of the run, for the place of its request, and of the answers of its steps
+abbrev pub IsAt : TaskStage → Run → ℕ → List Reply → Type 0
+IsAt stage.First run place said = HasNotBegun run place said
 
 -- what the task holds and owes of records: a listing nothing
 abbrev pub amounts_of : TaskValue → Amounts
 amounts_of task = no_amounts
 
--- a store as an event sees it, with what its disk tells and the faults that it has counted
+-- A store as an event sees it, with what its disk tells and the faults that it has counted. No task pins or dooms a file, or
+-- gives a GUID, yet.
 abbrev pub seen_of : {D : Type 0} → StoreValue D → Option History → Faults → Seen
-seen_of store history faults = record { map = store.map; meanings = indexes_of store.boxes; drawn = store.drawn; history = history; faults = faults; stopped = store.stopped }
+seen_of store history faults = record { map = store.map; meanings = indexes_of store.boxes; drawn = store.drawn; history = history; faults = faults; stopped = store.stopped; due = λ uid. due_at uid store; pinned = λ file. false; doomed = λ file. false; once_doomed = λ file. false; gave = λ guid. false }

@@ -1,5 +1,5 @@
 -- What a store tells, as a run goes on with one event more.
-use Rattle.std.proofs.Common.{◌≡◌, ◌+◌, ◌-◌, ◌==◌, ◌&&◌, ◌||◌, ℕ, Bool, true, false, not, List, [], ◌∷◌, ◌++◌, refl, sym, ◌∙◌, ap, subst, arith, All}
+use Rattle.std.proofs.Common.{◌≡◌, ◌+◌, ◌==◌, ◌&&◌, ◌||◌, ℕ, Bool, true, false, not, List, [], ◌∷◌, ◌++◌, refl, sym, ◌∙◌, ap, subst, arith, All}
 use Rattle.std.specs.Prelude.{◌≢◌, flat_map, sum_by, filter, cond}
 use Rattle.std.specs.List.{list_any}
 use Rattle.std.specs.Str.{bytes_eq}
@@ -10,11 +10,11 @@ use Rattle.std.proofs.lemmas.List.Elements.{All-append, All-nil, All-weaker, fil
 use Rattle.std.proofs.lemmas.List.Folds.{list_any-append}
 use Rattle.std.proofs.lemmas.List.Sums.{sum_by-append, sum_by-cons}
 use Rattle.disk_model.specs.Disk.{told_calls}
-use Rattle.list_machine.specs.Run.{RunEvent, Run, Pin, TakenFile, and_then, own_events, given_by_others, is_one_of, is_unpinning, has_unpinned, is_pinned, is_doomed}
+use Rattle.list_machine.specs.Run.{RunEvent, Run, Pin, and_then, own_events, given_by_others, is_one_of, is_unpinning, has_unpinned, is_pinned, is_doomed}
 use Rattle.journal.specs.Events.{begun_in, ended_in, due_of, number_drawn, number_of, until_doomed, was_pinned}
 use Rattle.journal.specs.Makes.{HasCome}
 use Rattle.journal.proofs.OwnEventLemmas.{own_more, own_other}
-use Rattle.task_steps.specs.Step.{Seen, was_given, HasComeTo, GivesNew, IsKept, HasNotBegun}
+use Rattle.task_steps.specs.Step.{Seen, was_given, was_doomed, HasComeTo, GivesNew, IsKept, HasNotBegun}
 use Rattle.task_steps.specs.Tells.{LeavesFiles, TellsSame}
 
 or_none : (b : Bool) → (b || false) ≡ b
@@ -52,9 +52,12 @@ pinned_still run event file none unpins =
     ∙ any_same (λ (e : RunEvent). list_any (λ (p : Pin). p.file == file) e.pins && not (has_unpinned e.request (and_then run event))) (λ (e : RunEvent). list_any (λ (p : Pin). p.file == file) e.pins && not (has_unpinned e.request run)) run.events
     (λ e. ap (λ (b : Bool). list_any (λ (p : Pin). p.file == file) e.pins && not b) (unpinned_still e.request run event unpins))
 
+pub ever_doomed_still : (run : Run) (event : RunEvent) (file : ℕ) → event.doomed ≡ [] → was_doomed (and_then run event) file ≡ was_doomed run file
+ever_doomed_still run event file none = any_still (λ (e : RunEvent). is_one_of e.doomed file) run.events event (ap (λ (fs : List ℕ). is_one_of fs file) none)
+
 pub doomed_still : (run : Run) (event : RunEvent) (file : ℕ) → event.doomed ≡ [] → event.removed ≡ [] → is_doomed (and_then run event) file ≡ is_doomed run file
 doomed_still run event file none stay =
-    ap (λ (b : Bool). b && not (list_any (λ (e : RunEvent). is_one_of e.removed file) (run.events ++ event ∷ []))) (any_still (λ (e : RunEvent). is_one_of e.doomed file) run.events event (ap (λ (fs : List ℕ). is_one_of fs file) none))
+    ap (λ (b : Bool). b && not (list_any (λ (e : RunEvent). is_one_of e.removed file) (run.events ++ event ∷ []))) (ever_doomed_still run event file none)
     ∙ ap (λ (b : Bool). list_any (λ (e : RunEvent). is_one_of e.doomed file) run.events && not b) (any_still (λ (e : RunEvent). is_one_of e.removed file) run.events event (ap (λ (fs : List ℕ). is_one_of fs file) stay))
 
 pub given_still : (run : Run) (event : RunEvent) (guid : List ℕ) → event.given ≡ [] → was_given (and_then run event) guid ≡ was_given run guid
@@ -76,13 +79,14 @@ comes_to_on run event old new h come due leaves same = record {
       omega (arith, a, b, c, d);
   pinned = λ file. pinned_still run event file leaves.pins leaves.unpins ∙ (h.pinned file ∙ sym (same.pinned file));
   doomed = λ file. doomed_still run event file leaves.doomed leaves.removed ∙ (h.doomed file ∙ sym (same.doomed file));
+  once_doomed = λ file e. same.once_doomed file ∙ h.once_doomed file (sym (ever_doomed_still run event file leaves.doomed) ∙ e);
   gave = λ guid e. same.gave guid ∙ h.gave guid (sym (given_still run event guid leaves.given) ∙ e);
 }
 
 -- It does so with an event that leaves all.
 pub comes_to_still : (run : Run) (event : RunEvent) (seen : Seen) → HasComeTo run seen → HasCome (and_then run event) seen.map seen.drawn (told_calls seen.history) → ((uid : ℕ) → begun_in uid event ≡ ended_in uid event) → LeavesFiles event
     → HasComeTo (and_then run event) seen
-comes_to_still run event seen h come due leaves = comes_to_on run event seen seen h come (λ uid. let e = due uid in omega (arith, e)) leaves (record { pinned = λ file. refl; doomed = λ file. refl; gave = λ guid. refl })
+comes_to_still run event seen h come due leaves = comes_to_on run event seen seen h come (λ uid. let e = due uid in omega (arith, e)) leaves (record { pinned = λ file. refl; doomed = λ file. refl; once_doomed = λ file. refl; gave = λ guid. refl })
 
 pub no_guids : (run : Run) (event : RunEvent) → event.given ≡ [] → GivesNew run event
 no_guids run event none = subst (λ (gs : List (List ℕ)). All (λ guid. was_given run guid ≡ false) gs) (sym none) (All-nil _)
@@ -91,12 +95,15 @@ no_guids run event none = subst (λ (gs : List (List ℕ)). All (λ guid. was_gi
 pub due_is : (run : Run) (seen : Seen) (uid : ℕ) → HasComeTo run seen → due_of run uid ≡ seen.due uid
 due_is run seen uid h = let e = h.due uid in omega (arith, e)
 
+neither : (told there : Bool) → (told ≡ true → there ≡ true) → there ≡ false → told ≡ false
+neither true there h none = absurd (let k : true ≡ false = sym (h refl) ∙ none in cc k)
+neither false there h none = refl
+
 pub is_new : (run : Run) (seen : Seen) (guid : List ℕ) → HasComeTo run seen → seen.gave guid ≡ false → was_given run guid ≡ false
-is_new run seen guid h none = by_test (was_given run guid) refl
-  where
-    by_test : (b : Bool) → was_given run guid ≡ b → was_given run guid ≡ false
-    by_test true e = absurd (let k : true ≡ false = sym (h.gave guid e) ∙ none in cc k)
-    by_test false e = e
+is_new run seen guid h none = neither (was_given run guid) (seen.gave guid) (h.gave guid) none
+
+pub never_doomed : (run : Run) (seen : Seen) (file : ℕ) → HasComeTo run seen → seen.once_doomed file ≡ false → was_doomed run file ≡ false
+never_doomed run seen file h none = neither (was_doomed run file) (seen.once_doomed file) (h.once_doomed file) none
 
 -- ---- what a stage may read
 
@@ -119,8 +126,21 @@ until_still file (x ∷ xs) event e = by_test (is_one_of x.doomed file) refl (λ
         let later : list_any (λ (e : RunEvent). is_one_of e.doomed file) xs ≡ true = sym (ap (λ (b : Bool). b || list_any (λ (e : RunEvent). is_one_of e.doomed file) xs) t) ∙ e in
         ap (λ (b : Bool). cond b (x ∷ []) (x ∷ until_doomed file (xs ++ event ∷ []))) t ∙ (ap (λ (l : List RunEvent). x ∷ l) (rest later) ∙ sym (ap (λ (b : Bool). cond b (x ∷ []) (x ∷ until_doomed file xs)) t))
 
-pub was_pinned_still : (run : Run) (event : RunEvent) (file : ℕ) → list_any (λ e. is_one_of e.doomed file) run.events ≡ true → was_pinned (and_then run event) file ≡ was_pinned run file
+pub was_pinned_still : (run : Run) (event : RunEvent) (file : ℕ) → was_doomed run file ≡ true → was_pinned (and_then run event) file ≡ was_pinned run file
 was_pinned_still run event file doomed = ap (λ (es : List RunEvent). is_pinned (record run { events = es }) file) (until_still file run.events event doomed)
+
+until_first : (file : ℕ) (event : RunEvent) → is_one_of event.doomed file ≡ true → (events : List RunEvent) → list_any (λ (e : RunEvent). is_one_of e.doomed file) events ≡ false → until_doomed file (events ++ event ∷ []) ≡ events ++ event ∷ []
+until_first file event now [] none = rw now refl
+until_first file event now (x ∷ xs) none = by_test (is_one_of x.doomed file) refl (λ later. until_first file event now xs later)
+  where
+    by_test : (b : Bool) → is_one_of x.doomed file ≡ b → (list_any (λ (e : RunEvent). is_one_of e.doomed file) xs ≡ false → until_doomed file (xs ++ event ∷ []) ≡ xs ++ event ∷ []) → until_doomed file (x ∷ xs ++ event ∷ []) ≡ x ∷ xs ++ event ∷ []
+    by_test true t rest = absurd (let k : true ≡ false = sym (ap (λ (b : Bool). b || list_any (λ (e : RunEvent). is_one_of e.doomed file) xs) t) ∙ none in cc k)
+    by_test false t rest =
+        ap (λ (b : Bool). cond b (x ∷ []) (x ∷ until_doomed file (xs ++ event ∷ []))) t ∙ ap (λ (l : List RunEvent). x ∷ l) (rest (sym (ap (λ (b : Bool). b || list_any (λ (e : RunEvent). is_one_of e.doomed file) xs) t) ∙ none))
+
+-- an event that dooms a file that none doomed before
+pub first_doomed : (run : Run) (event : RunEvent) (file : ℕ) → was_doomed run file ≡ false → is_one_of event.doomed file ≡ true → was_pinned (and_then run event) file ≡ is_pinned (and_then run event) file
+first_doomed run event file none now = ap (λ (es : List RunEvent). is_pinned (record run { events = es }) file) (until_first file event now run.events none)
 
 -- that no other request gave a GUID that was given
 pub others_still : (run : Run) (event : RunEvent) (other : ℕ) (guid : List ℕ) → event.request ≢ other → GivesNew run event → was_given run guid ≡ true → All (λ g. g ≢ guid) (given_by_others other run) → All (λ g. g ≢ guid) (given_by_others other (and_then run event))

@@ -25,4 +25,4 @@ abbrev pub behind_box : Seen → List BoxMeaning → ℕ → Option History → 
 behind_box old meanings owed history faults = record old { meanings = meanings; due = λ uid. old.due uid + one_due owed uid; history = history; faults = faults }
 
 abbrev pub behind_lowering : Seen → ℕ → (ℕ → ℕ) → Option History → Faults → Seen
-behind_lowering old owed due history faults = record old { due = due;  map = map_applied (entry.D (record { 0 = owed } ∷ [])) old.map; drawn = drawn_also old.drawn no_numbers; history = history; faults = faults }
+behind_lowering old owed due history faults = record old { due = due; map = map_applied (entry.D (record { 0 = owed } ∷ [])) old.map; drawn = drawn_also old.drawn no_numbers; history = history; faults = faults }

@@ -13,7 +13,7 @@ use Rattle.model_lists.specs.Lists.{Lists, AreWellFormed}
 use Rattle.model_meaning.specs.BoxMeaning.{BoxMeaning}
 use Rattle.model_meaning.specs.MapMeaning.{MapMeaning}
 use Rattle.model_store.specs.Listing.{ShowLists}
-use Rattle.list_machine.specs.Run.{RunEvent, Run, and_then, own_events, is_pinned, is_doomed}
+use Rattle.list_machine.specs.Run.{RunEvent, Run, and_then, own_events, is_one_of, is_pinned, is_doomed}
 use Rattle.journal.specs.Journal.{half_of, halves_of, IsReplyOf}
 use Rattle.journal.specs.Events.{Around, begun_in, ended_in}
 use Rattle.journal.specs.Makes.{HasCome, WouldMake, Makes}
@@ -29,7 +29,7 @@ use Rattle.mdbox_base.specs.declared.progress.Progress.TheVariants as progress
 
 -- What is seen of a store: what its map and the logs of its mailboxes mean, the numbers drawn, what its disk tells, the
 -- faults counted, and whether it is stopped. Then what it keeps of its tasks: how much is due of each record, which files are
--- pinned and which are doomed, and which GUIDs it may have given.
+-- pinned and which are doomed, and, of those that it may have used up, files once doomed and GUIDs given.
 pub record Seen : Type 0 where
   pub map : MapMeaning
   pub meanings : List BoxMeaning
@@ -40,6 +40,7 @@ pub record Seen : Type 0 where
   pub due : ℕ → ℕ
   pub pinned : ℕ → Bool
   pub doomed : ℕ → Bool
+  pub once_doomed : ℕ → Bool
   pub gave : List ℕ → Bool
 
 -- it shows the lists, which are well formed
@@ -50,13 +51,19 @@ ShowsSeen seen lists = AreWellFormed lists × ShowLists seen.map.boxes seen.mean
 abbrev pub was_given : Run → List ℕ → Bool
 was_given run guid = list_any (bytes_eq guid) (flat_map (λ e. e.given) run.events)
 
+-- an event of the run doomed this file, which may be removed since
+abbrev pub was_doomed : Run → ℕ → Bool
+was_doomed run file = list_any (λ e. is_one_of e.doomed file) run.events
+
 -- The run has come to where the store stands. Its entries, numbers and moments are the store's; of each record as much began
--- as ended and is due; its files are pinned and doomed as the store has them; and no event gave a GUID that the store didn't.
+-- as ended and is due; its files are pinned and doomed as the store has them; and no event doomed a file or gave a GUID that
+-- the store didn't.
 pub record HasComeTo (run : Run) (seen : Seen) : Type 0 where
   pub come : HasCome run seen.map seen.drawn (told_calls seen.history)
   pub due : (uid : ℕ) → sum_by (begun_in uid) run.events ≡ seen.due uid + sum_by (ended_in uid) run.events
   pub pinned : (file : ℕ) → is_pinned run file ≡ seen.pinned file
   pub doomed : (file : ℕ) → is_doomed run file ≡ seen.doomed file
+  pub once_doomed : (file : ℕ) → was_doomed run file ≡ true → seen.once_doomed file ≡ true
   pub gave : (guid : List ℕ) → was_given run guid ≡ true → seen.gave guid ≡ true
 
 -- ---- the disk

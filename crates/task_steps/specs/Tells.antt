@@ -15,4 +15,5 @@ pub record LeavesFiles (event : RunEvent) : Type 0 where
 pub record TellsSame (old new : Seen) : Type 0 where
   pub pinned : (file : ℕ) → new.pinned file ≡ old.pinned file
   pub doomed : (file : ℕ) → new.doomed file ≡ old.doomed file
+  pub once_doomed : (file : ℕ) → new.once_doomed file ≡ old.once_doomed file
   pub gave : (guid : List ℕ) → new.gave guid ≡ old.gave guid

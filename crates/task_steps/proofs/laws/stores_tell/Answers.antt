@@ -1,4 +1,4 @@
-use Rattle.task_steps.proofs.SeenLemmas.{due_is, is_new, comes_to_on}
+use Rattle.task_steps.proofs.SeenLemmas.{due_is, is_new, never_doomed, first_doomed, comes_to_on}
 use Rattle.task_steps.proofs.laws.stores_tell.Goals as goal
 
 pub returns-clause-due : goal.returns-clause-due
@@ -6,6 +6,12 @@ returns-clause-due c = due_is
 
 pub returns-clause-new_guid : goal.returns-clause-new_guid
 returns-clause-new_guid c = is_new
+
+pub returns-clause-undoomed : goal.returns-clause-undoomed
+returns-clause-undoomed c = never_doomed
+
+pub returns-clause-dooms : goal.returns-clause-dooms
+returns-clause-dooms c = first_doomed
 
 pub returns-clause-on : goal.returns-clause-on
 returns-clause-on c = comes_to_on
