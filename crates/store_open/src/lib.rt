@@ -12,6 +12,5 @@ mod free;
 mod init;
 mod old_logs;
 mod open;
-mod parts;
 #[cfg(test)]
 mod tests;

@@ -2,8 +2,8 @@
 -- was removed.
 use Rattle.std.proofs.Common.{inl, inr, ◌≡◌, ◌≢◌, ◌⊎◌, ℕ, suc, zero, Bool, true, false, not, List, [], ◌∷◌, length, take, Option, refl, sym, ◌∙◌, ap, subst}
 use Rattle.std.proofs.lemmas.Bool.{cases_Bool, cases_eq, true≢false, false≢true, cond-true, cond-false, not_from_false}
-use Rattle.disk_model.specs.Disk.{FileState, DiskState, History, Between, IfTold, IsThere, Unchanged, SameState, SameButFor, after, change, change_all, named, no_file, cut_to, synced}
-use Rattle.disk_model.specs.Name.{same_name, is_log}
+use Rattle.disk_model.specs.Disk.{FileState, DiskState, History, IfTold, IsThere, Unchanged, SameState, after, change, change_all, named, no_file, cut_to, synced}
+use Rattle.disk_model.specs.Name.{same_name}
 use Rattle.disk_model.specs.declared.name.FileName.{FileName}
 use Rattle.disk_model.specs.declared.name.FileName.TheVariants as file
 use Rattle.disk_model.proofs.NameLemmas.{same_name-true, same_name-eq}
@@ -102,10 +102,10 @@ shortened_file m n end f g unsealed is e there = record {
   was = sym (ap (λ (h : FileState). h.is_there) e) ∙ there;
   name = λ loose. sym (ap (λ (h : FileState). h.is_name_loose) e) ∙ loose;
   content = inr (record {
-      unsealed = unsealed;
-      octets = ap (λ (h : FileState). h.octets) e ∙ ap (λ (k : ℕ). take k f.octets) is;
-      synced = subst IsFirm (sym e) (record { least = refl; greatest = refl; firm = λ i. refl });
-    });
+    unsealed = unsealed;
+    octets = ap (λ (h : FileState). h.octets) e ∙ ap (λ (k : ℕ). take k f.octets) is;
+    synced = subst IsFirm (sym e) (record { least = refl; greatest = refl; firm = λ i. refl });
+  });
 }
 
 mail_number : (a b : ℕ) → file.Mail a ≡ file.Mail b → a ≡ b
