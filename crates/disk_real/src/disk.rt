@@ -1,32 +1,23 @@
 // A disk over the files of the current folder.
-ghost use Rattle.std.specs.Prelude.{None, ◌≡◌, ◌≤◌, OnOk, IsOk, find};
-ghost use Rattle.mdbox_base.specs.Streams.{Rose};
-ghost use Rattle.disk_model.specs.Disk.{ReadCause, ChangeCause};
-ghost use Rattle.disk_model.specs.declared.error.DiskError.TheVariants.{Failed};
-ghost use Rattle.disk_real.specs.Counts.{real_faults_of};
-ghost use Rattle.disk_real.specs.Past.{is_past};
+ghost use Rattle.std.specs.Prelude.{None, Some, Ok, ◌≡◌, ◌↔◌, ◌≤◌, ◌<◌, ◌^◌, ◌+◌, length, drop, IfOk, IfSome, OnOk, IsOk, IsErr, IsErrOf};
+ghost use Rattle.disk_model.specs.Disk.{ReadCause, ChangeCause, IsPast};
+ghost use Rattle.disk_model.specs.declared.error.DiskError.TheVariants.{Absent};
+ghost use Rattle.disk_real.specs.Counts.{real_counts_of, real_faults_of, after_read, after_change, IsSpoiled, IsRealRead, IsRealChange};
 
-use crate::files::{
-    cut_in, length_of, lock_store, make_in, open_at, read_all, remove_in, sync_in, write_in,
-};
-use crate::folders::{sorted_names, sync_folders};
-use disk_model::{Disk, DiskError, FileName, order};
-use std::fs::File;
-use std::io::{self, ErrorKind};
+use crate::folder::StoreFolder;
+use disk_model::{Disk, DiskError, FileName};
+use std::io;
 
 /// The store's files in the current folder. Trusted: it tells no content, and no clause says what the system keeps.
 ///
 /// The first call locks `mdbox.lock`, so that one process at a time has the store. Folders are made as they are needed.
-/// Files that aren't the store's are passed over.
+/// Other files are passed over, and so is what has a file's name and is no plain file. Once a change has failed, each later
+/// one fails. Where memory runs out, the call fails.
 #[derive(Drop)]
 pub struct RealDisk {
-    rt: HostRuntime,
-    /// The locked file, from the first call that could lock it.
-    lock: Option<File>,
-    /// The names of the files that are there, in order, where they are known.
-    names: Option<Vec<FileName>>,
-    /// Whether names may have changed in any folder, as an earlier run may have left them.
-    is_all_loose: bool,
+    folder: StoreFolder,
+    /// How many calls have returned.
+    calls: u64,
     failed_reads: u64,
     failed_changes: u64,
 }
@@ -34,61 +25,52 @@ pub struct RealDisk {
 impl RealDisk {
     /// The files of the current folder. Nothing is looked at until the first call.
     pub fn of(rt: HostRuntime) -> RealDisk
+        ensures counts { real_counts_of result ≡ record { calls = 0; reads = 0; changes = 0 } }
         ensures reads { (⟦<RealDisk as Disk>⟧.faults result).reads ≡ 0 }
         ensures changes { (⟦<RealDisk as Disk>⟧.faults result).changes ≡ 0 }
+        ensures sound { IsSpoiled result → ⊥ }
     {
         RealDisk {
-            rt,
-            lock: None,
-            names: None,
-            is_all_loose: true,
+            folder: StoreFolder::of(rt),
+            calls: 0,
             failed_reads: 0,
             failed_changes: 0,
         }
     }
 
-    /// The runtime, once this process has the store. The first call locks it.
-    fn locked(&mut self) -> io::Result<HostRuntime>
-        ensures { real_faults_of self.new ≡ real_faults_of self.old }
-    {
-        if self.lock.is_none() {
-            self.lock = Some(lock_store(&self.rt).map_err(|_| ErrorKind::WouldBlock)?);
-        }
-        Ok(self.rt)
-    }
-
-    /// Counts a read that failed.
-    fn fail_read(&mut self) -> DiskError
-        ensures failed { result ≡ Failed }
-        ensures faults { (real_faults_of self.new).changes ≡ self.old.failed_changes }
-        ensures rose { Rose self.old.failed_reads self.new.failed_reads × (self.old.failed_reads ≤ self.new.failed_reads) }
-    {
-        self.failed_reads = self.failed_reads.saturating_add(1);
-        DiskError::Failed
-    }
-
-    /// What an answer of the system to a read means. Other errors than a missing file are counted.
-    fn read<T: Drop>(&mut self, answer: io::Result<T>) -> Result<T, DiskError>
+    /// What an answer of the system to a read means, None being that there is no such file. Errors are counted, and so is the
+    /// call.
+    fn read<T: Drop>(&mut self, answer: io::Result<Option<T>>) -> Result<T, DiskError>
+        ensures value { IfOk result (λ value. answer ≡ Ok (Some value)) }
+        ensures absent { IsErrOf result Absent ↔ (answer ≡ Ok None) }
+        ensures counts { real_counts_of self.new ≡ after_read result (real_counts_of self.old) }
+        ensures folder { self.new.folder ≡ self.old.folder }
         ensures cause { ReadCause result (real_faults_of self.old) (real_faults_of self.new) }
-        ensures ok { OnOk result (real_faults_of self.new ≡ real_faults_of self.old) }
     {
-        let _count = self.failed_reads;
+        self.calls = self.calls.saturating_add(1);
         match answer {
-            Ok(value) => Ok(value),
-            Err(error) if error.kind() == ErrorKind::NotFound => Err(DiskError::Absent),
-            Err(_) => Err(self.fail_read()),
+            Ok(Some(value)) => Ok(value),
+            Ok(None) => Err(DiskError::Absent),
+            Err(_) => {
+                self.failed_reads = self.failed_reads.saturating_add(1);
+                Err(DiskError::Failed)
+            }
         }
     }
 
-    /// What an answer of the system to a change means. Errors are counted.
+    /// What an answer of the system to a change means. Errors are counted, and so is the call. After an error no change can
+    /// be made any more.
     fn change(&mut self, answer: io::Result<()>) -> Result<(), DiskError>
+        ensures ok { IsOk result ↔ IsOk answer }
+        ensures spoils { IsErr result → IsSpoiled self.new }
+        ensures counts { real_counts_of self.new ≡ after_change result (real_counts_of self.old) }
         ensures cause { ChangeCause result (real_faults_of self.old) (real_faults_of self.new) }
-        ensures ok { OnOk result (IsOk answer) }
     {
-        let _count = self.failed_changes;
+        self.calls = self.calls.saturating_add(1);
         if answer.is_ok() {
             return Ok(());
         }
+        self.folder.is_spoiled = true;
         self.failed_changes = self.failed_changes.saturating_add(1);
         Err(DiskError::Failed)
     }
@@ -99,82 +81,82 @@ impl Disk for RealDisk {
 
     ghost faults = { real_faults_of };
 
-    fn length(&mut self, name: FileName) -> Result<u64, DiskError> {
-        let answer = self.locked().and_then(|rt| length_of(&rt, name));
+    fn moment(&self) -> u64
+        ensures { result ≡ (real_counts_of self.now).calls }
+    {
+        self.calls
+    }
+
+    fn length(&mut self, name: FileName) -> Result<u64, DiskError>
+        ensures read { IsRealRead result self.old self.new }
+    {
+        let answer = self.folder.length(name);
         self.read(answer)
     }
 
-    fn read_at(
-        &mut self,
-        name: FileName,
-        offset: u64,
-        into: &mut [u8],
-    ) -> Result<usize, DiskError> {
-        let opened = self.locked().and_then(|rt| open_at(&rt, name, offset));
-        let mut file = self.read(opened)?;
-        match read_all(&mut file, into) {
-            Ok(count) => Ok(count),
-            Err(_) => Err(self.fail_read()),
+    fn read_at(&mut self, name: FileName, offset: u64, into: &mut [u8]) -> Result<usize, DiskError>
+        ensures count { IfOk result (λ n. n ≤ length into.new) }
+        ensures rest { IfOk result (λ n. drop n into.new ≡ drop n into.old) }
+        ensures untouched { IsErrOf result Absent → into.new ≡ into.old }
+        ensures read { IsRealRead result self.old self.new }
+    {
+        let answer = self.folder.read_at(name, offset, into);
+        self.read(answer)
+    }
+
+    fn next_name(&mut self, after: Option<FileName>) -> Result<Option<FileName>, DiskError>
+        ensures past { IfOk result (λ next. IfSome next (IsPast ⟦<FileName as Ord>⟧.cmp after)) }
+        ensures not_absent { IsErrOf result Absent → ⊥ }
+        ensures read { IsRealRead result self.old self.new }
+    {
+        match self.folder.next_name(after) {
+            Ok(next) => self.read(Ok(Some(next))),
+            Err(error) => self.read(Err(error)),
         }
     }
 
-    fn next_name(&mut self, after: Option<FileName>) -> Result<Option<FileName>, DiskError> {
-        let names = match self.names.take() {
-            Some(names) => names,
-            None => match self.locked().and_then(|rt| sorted_names(&rt)) {
-                Ok(names) => names,
-                Err(_) => return Err(self.fail_read()),
-            },
-        };
-        let next = first_past(&names, after);
-        self.names = Some(names);
-        Ok(next)
-    }
-
-    fn write_at(&mut self, name: FileName, offset: u64, from: &[u8]) -> Result<(), DiskError> {
-        let answer = self
-            .locked()
-            .and_then(|rt| write_in(&rt, name, offset, from));
+    fn write_at(&mut self, name: FileName, offset: u64, from: &[u8]) -> Result<(), DiskError>
+        ensures fits { OnOk result (offset + length from.now < 2 ^ 64) }
+        ensures change { IsRealChange result self.old self.new }
+    {
+        let answer = self.folder.write_at(name, offset, from);
         self.change(answer)
     }
 
-    fn cut(&mut self, name: FileName, length: u64) -> Result<(), DiskError> {
-        let answer = self.locked().and_then(|rt| cut_in(&rt, name, length));
+    fn cut(&mut self, name: FileName, length: u64) -> Result<(), DiskError>
+        ensures change { IsRealChange result self.old self.new }
+    {
+        let answer = self.folder.cut(name, length);
         self.change(answer)
     }
 
-    fn sync(&mut self, name: FileName) -> Result<(), DiskError> {
-        let answer = self.locked().and_then(|rt| sync_in(&rt, name));
+    fn sync(&mut self, name: FileName) -> Result<(), DiskError>
+        ensures change { IsRealChange result self.old self.new }
+    {
+        let answer = self.folder.sync(name);
         self.change(answer)
     }
 
-    fn make(&mut self, name: FileName) -> Result<(), DiskError> {
-        self.names = None;
-        let answer = self.locked().and_then(|rt| make_in(&rt, name));
+    fn make(&mut self, name: FileName) -> Result<(), DiskError>
+        ensures change { IsRealChange result self.old self.new }
+    {
+        let answer = self.folder.make(name);
         self.change(answer)
     }
 
-    fn remove(&mut self, name: FileName) -> Result<(), DiskError> {
-        self.names = None;
-        let answer = self.locked().and_then(|rt| remove_in(&rt, name));
+    fn remove(&mut self, name: FileName) -> Result<(), DiskError>
+        ensures change { IsRealChange result self.old self.new }
+    {
+        let answer = self.folder.remove(name);
         self.change(answer)
     }
 
-    fn sync_names(&mut self) -> Result<(), DiskError> {
-        let is_all = self.is_all_loose;
-        let answer = self.locked().and_then(|rt| sync_folders(&rt, is_all));
-        if answer.is_ok() {
-            self.is_all_loose = false;
-        }
+    fn sync_names(&mut self) -> Result<(), DiskError>
+        ensures change { IsRealChange result self.old self.new }
+    {
+        let answer = self.folder.sync_names();
         self.change(answer)
     }
 
     ghost reads_image = { λ _. tt };
-}
-
-/// The first of these names that is greater than one.
-fn first_past(names: &[FileName], after: Option<FileName>) -> Option<FileName>
-    ensures { result ≡ find (is_past ⟦<FileName as Ord>⟧.cmp after) names.now }
-{
-    names.iter().copied().find(|name| after.is_none_or(|after| order(after, *name).is_lt()))
 }

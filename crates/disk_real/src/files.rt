@@ -1,11 +1,12 @@
-// Files in the current folder.
-ghost use Rattle.std.specs.Prelude.{◌≡◌, ◌≤◌, ◌<◌, ◌^◌, ◌+◌, length, drop, IfOk, OnOk, string_bytes};
-ghost use Rattle.file_paths.specs.Paths.{path_text};
+// One file in the current folder.
+ghost use Rattle.std.specs.Prelude.{◌≡◌, ◌≤◌, length, drop, Ok, Some, IfOk, IfSome, string_bytes};
+ghost use Rattle.file_paths.specs.Paths.{path_text, IsStoreFile};
 
 use crate::folders::sync_inst;
-use disk_model::FileName;
+use disk_model::{FileName, same_file};
+use file_paths::name_of_path;
 use std::fs::{DirBuilder, File, OpenOptions};
-use std::io::{Error, ErrorKind, Read, Seek, SeekFrom};
+use std::io::{Error, ErrorKind};
 use std::os::unix::fs::{DirBuilderExt, FileExt, OpenOptionsExt};
 use std::path::Path;
 use std::{fs, io};
@@ -29,35 +30,82 @@ pub(crate) fn lock_store(rt: &HostRuntime) -> io::Result<File> {
     Ok(file)
 }
 
-/// A file's path.
+/// An answer where there may be no such file: None where there is none, since a folder of its path is missing too, say, or is
+/// a file, or since its path is a circle of links.
+pub(crate) fn if_there<T: Drop>(answer: io::Result<T>) -> io::Result<Option<T>>
+    ensures found { IfOk result (λ found. IfSome found (λ value. answer ≡ Ok value)) }
+    ensures some { IfOk answer (λ value. result ≡ Ok (Some value)) }
+{
+    match answer {
+        Ok(value) => Ok(Some(value)),
+        Err(error) if is_missing(error.kind()) => Ok(None),
+        Err(error) => Err(error),
+    }
+}
+
+fn is_missing(kind: ErrorKind) -> bool {
+    matches!(
+        kind,
+        ErrorKind::NotFound | ErrorKind::NotADirectory | ErrorKind::FilesystemLoop
+    )
+}
+
+/// A file's path. A name that no file of a store has is the name of no file.
 fn path_of(rt: &HostRuntime, name: FileName) -> io::Result<String>
-    ensures { IfOk result (λ path. string_bytes path ≡ path_text name) }
+    ensures path { IfOk result (λ path. string_bytes path ≡ path_text name) }
+    ensures file { IfOk result (λ _. IsStoreFile name) }
 {
     let path = file_paths::path_of(rt.alloc(), name).map_err(|_| ErrorKind::OutOfMemory)?;
-    String::from_utf8(path.into_vec()).map_err(|_| Error::from(ErrorKind::InvalidData))
+    match name_of_path(path.as_slice()) {
+        Some(own) if same_file(own, name) => {
+            String::from_utf8(path.into_vec()).map_err(|_| Error::from(ErrorKind::InvalidData))
+        }
+        _ => Err(Error::from(ErrorKind::NotFound)),
+    }
 }
 
-pub(crate) fn length_of(rt: &HostRuntime, name: FileName) -> io::Result<u64> {
-    Ok(fs::metadata(rt, path_of(rt, name)?)?.len())
+/// Whether a plain file stands there, or a link to one.
+pub(crate) fn is_plain(rt: &HostRuntime, path: &str) -> io::Result<bool> {
+    match if_there(fs::metadata(rt, path))? {
+        Some(found) => Ok(found.is_file()),
+        None => Ok(false),
+    }
 }
 
-pub(crate) fn open_at(rt: &HostRuntime, name: FileName, offset: u64) -> io::Result<File> {
-    let mut file = File::open(rt, path_of(rt, name)?)?;
-    file.seek(SeekFrom::Start(offset))?;
-    Ok(file)
+/// Opens a plain file to read it and, where that is allowed, to write it. None where there is none.
+pub(crate) fn open_file(rt: &HostRuntime, name: FileName) -> io::Result<Option<File>> {
+    let Some(path) = if_there(path_of(rt, name))? else {
+        return Ok(None);
+    };
+    if !is_plain(rt, path.as_str())? {
+        return Ok(None);
+    }
+    let opened = OpenOptions::new()
+        .read(true)
+        .write(true)
+        .open(rt, path.as_str());
+    match opened {
+        Err(error) if error.kind() == ErrorKind::PermissionDenied => {
+            if_there(File::open(rt, path.as_str()))
+        }
+        opened => if_there(opened),
+    }
 }
 
-/// Reads to the end of the file or of `into`, and tells how many octets. Each piece comes through a buffer, since the system
-/// promises nothing of the rest of a slice.
-pub(crate) fn read_all(file: &mut File, into: &mut [u8]) -> io::Result<usize>
+/// Reads from an offset to the end of the file or of `into`, and tells how many octets. Each piece comes through a buffer,
+/// since the system promises nothing of the rest of a slice. No file of the system reaches 2^63.
+pub(crate) fn read_all(file: &File, offset: u64, into: &mut [u8]) -> io::Result<usize>
     ensures count { IfOk result (λ n. n ≤ length into.new) }
     ensures rest { IfOk result (λ n. drop n into.new ≡ drop n into.old) }
 {
+    if offset > i64::MAX as u64 {
+        return Ok(0);
+    }
     let mut piece = [0u8; PIECE];
     let mut done = 0;
     for _ in 0..u64::MAX {
         let most = (into.len() - done).min(PIECE);
-        let count = file.read(&mut piece[..most])?;
+        let count = file.read_at(&mut piece[..most], offset.saturating_add(done as u64))?;
         if count == 0 {
             break;
         }
@@ -67,36 +115,8 @@ pub(crate) fn read_all(file: &mut File, into: &mut [u8]) -> io::Result<usize>
     Ok(done)
 }
 
-/// Opens a file that is there and at least so long, for writing.
-fn open_reaching(rt: &HostRuntime, name: FileName, length: u64) -> io::Result<File> {
-    let file = OpenOptions::new().write(true).open(rt, path_of(rt, name)?)?;
-    if file.metadata()?.len() < length {
-        return Err(Error::from(ErrorKind::InvalidInput));
-    }
-    Ok(file)
-}
-
-pub(crate) fn write_in(rt: &HostRuntime, name: FileName, offset: u64, from: &[u8]) -> io::Result<()>
-    ensures { OnOk result (offset + length from.now < 2 ^ 64) }
-{
-    if offset.checked_add(from.len() as u64).is_none() {
-        return Err(Error::from(ErrorKind::FileTooLarge));
-    }
-    open_reaching(rt, name, offset)?.write_all_at(from, offset)
-}
-
-/// Shortens a file.
-pub(crate) fn cut_in(rt: &HostRuntime, name: FileName, length: u64) -> io::Result<()> {
-    open_reaching(rt, name, length)?.set_len(length)
-}
-
-/// Syncs a file's octets and its length.
-pub(crate) fn sync_in(rt: &HostRuntime, name: FileName) -> io::Result<()> {
-    open_reaching(rt, name, 0)?.sync_all()
-}
-
-/// Makes a file, and its folder where it isn't there.
-pub(crate) fn make_in(rt: &HostRuntime, name: FileName) -> io::Result<()> {
+/// Makes a file, and its folder where it isn't there. One that is there is emptied.
+pub(crate) fn make_file(rt: &HostRuntime, name: FileName) -> io::Result<File> {
     let path = path_of(rt, name)?;
     if let Some(folder) = Path::new(path.as_str()).parent() {
         DirBuilder::new()
@@ -104,21 +124,25 @@ pub(crate) fn make_in(rt: &HostRuntime, name: FileName) -> io::Result<()> {
             .mode(FOLDER_MODE)
             .create(rt, folder)?;
     }
-    let _made = OpenOptions::new()
+    let made = OpenOptions::new()
+        .read(true)
         .write(true)
         .create(true)
         .truncate(true)
         .mode(FILE_MODE)
         .open(rt, path.as_str())?;
-    sync_inst(rt, name, path.as_str())
+    sync_inst(rt, name, path.as_str())?;
+    Ok(made)
 }
 
-/// Removes a file, where it is there.
-pub(crate) fn remove_in(rt: &HostRuntime, name: FileName) -> io::Result<()> {
-    let path = path_of(rt, name)?;
-    match fs::remove_file(rt, path.as_str()) {
-        Ok(()) => sync_inst(rt, name, path.as_str()),
-        Err(error) if error.kind() == ErrorKind::NotFound => Ok(()),
-        Err(error) => Err(error),
+/// Removes a plain file, where it is there.
+pub(crate) fn remove_file(rt: &HostRuntime, name: FileName) -> io::Result<()> {
+    let Some(path) = if_there(path_of(rt, name))? else {
+        return Ok(());
+    };
+    if !is_plain(rt, path.as_str())? {
+        return Ok(());
     }
+    fs::remove_file(rt, path.as_str())?;
+    sync_inst(rt, name, path.as_str())
 }

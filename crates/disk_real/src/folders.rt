@@ -2,6 +2,7 @@
 ghost use Rattle.std.specs.Prelude.{All, IfOk, IsSorted};
 ghost use Rattle.file_paths.specs.Paths.{IsStoreFile};
 
+use crate::files::{if_there, is_plain};
 use disk_model::FileName;
 use file_paths::{name_of_path, octet_of};
 use std::fs::File;
@@ -9,7 +10,7 @@ use std::io::ErrorKind;
 use std::path::Path;
 use std::{fs, io};
 
-/// The names of the store's files that are there, in order. Other files are passed over.
+/// The names of the store's files that are there, in order. Other files are passed over, and what is no plain file too.
 pub(crate) fn sorted_names(rt: &HostRuntime) -> io::Result<Vec<FileName>>
     ensures order { IfOk result (λ names. IsSorted ⟦<FileName as Ord>⟧.cmp names.items) }
     ensures files { IfOk result (λ names. All IsStoreFile names.items) }
@@ -30,7 +31,9 @@ fn add_names(rt: &HostRuntime, names: &mut Vec<FileName>, folder: &str) -> io::R
 {
     for path in paths_in(rt, folder)? {
         if let Some(name) = name_of_path(path.as_bytes()) {
-            names.push(name)?;
+            if is_plain(rt, path.as_str())? {
+                names.push(name)?;
+            }
         }
     }
     Ok(())
@@ -56,13 +59,11 @@ fn octet_folders(rt: &HostRuntime, folder: &str) -> io::Result<Vec<String>> {
     Ok(folders)
 }
 
-/// The paths of what a folder holds, none where there is no such folder. Names that aren't text are passed over.
+/// The paths of what a folder holds, none where there is no such folder, or a file. Names that aren't text are passed over.
 fn paths_in(rt: &HostRuntime, folder: &str) -> io::Result<Vec<String>> {
     let mut paths = Vec::new(rt.alloc());
-    let entries = match fs::read_dir(rt, folder) {
-        Ok(entries) => entries,
-        Err(error) if error.kind() == ErrorKind::NotFound => return Ok(paths),
-        Err(error) => return Err(error),
+    let Some(entries) = if_there(fs::read_dir(rt, folder))? else {
+        return Ok(paths);
     };
     for entry in entries {
         match entry {
@@ -102,10 +103,10 @@ fn sync_inst_folders(rt: &HostRuntime) -> io::Result<()> {
     Ok(())
 }
 
+/// Syncs the names in a folder, where there is one.
 fn sync_folder(rt: &HostRuntime, folder: &str) -> io::Result<()> {
-    match File::open(rt, folder) {
-        Ok(opened) => opened.sync_all(),
-        Err(error) if error.kind() == ErrorKind::NotFound => Ok(()),
-        Err(error) => Err(error),
+    match if_there(fs::metadata(rt, folder))? {
+        Some(found) if found.is_dir() => File::open(rt, folder)?.sync_all(),
+        _ => Ok(()),
     }
 }

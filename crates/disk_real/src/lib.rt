@@ -2,12 +2,14 @@
 //! system gives or takes.
 #![tactic(auto)]
 
+pub use clock::StdClock;
 pub use disk::RealDisk;
 pub use streams::{StdSink, StdSource};
 
+mod clock;
 mod disk;
 mod files;
+mod folder;
 mod folders;
+mod names;
 mod streams;
-#[cfg(test)]
-mod tests;

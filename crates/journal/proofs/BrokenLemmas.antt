@@ -1,10 +1,12 @@
 -- Laws of a failed append, and of the references that a journal leaves.
-use Rattle.std.specs.Prelude.{◌≡◌, ◌≤◌, ◌+◌, ℕ, List, [], ◌∷◌, ◌++◌, length, refl}
+use Rattle.std.specs.Prelude.{◌≡◌, ◌≢◌, ◌<◌, ◌≤◌, ◌+◌, ℕ, List, [], ◌∷◌, ◌++◌, length, refl}
 use Rattle.std.proofs.Common.{sym, ◌∙◌, ap, arith, subst, inl, inr}
 use Rattle.std.specs.Prelude.{All, Some, drop}
 use Rattle.std.proofs.Math.Seq.{take-length, take-append_seam, drop-append_seam}
 use Rattle.std.proofs.lemmas.List.{take-append-le, drop-append-le}
 use Rattle.std.proofs.lemmas.List.Elements.{All-nil, All-cons}
+use Rattle.std.proofs.lemmas.List.Kept.{AllPairs-cons}
+use Rattle.model_octets.proofs.PairLemmas.{pairs_nil}
 use Rattle.mdbox_base.specs.declared.replies.Refusal.TheVariants as refusal
 use Rattle.std.proofs.lemmas.List.Sums.{count_by-le-length}
 use Rattle.model_lists.specs.Lists.{Lists, refs_of}
@@ -23,16 +25,18 @@ broken_is run script start journal failed would began step s = (subst (λ (r : R
 
 -- The broken steps are of the append that failed, also in a run that goes on.
 pub none_failed : (run : Run) → IsOfFailure run no_broken
-none_failed run = record { events = tt; steps = All-nil _; began = All-nil _ }
+none_failed run = record { first = All-nil _; events = tt; steps = All-nil _; once = pairs_nil (λ (a b : JournalStep). a.event < b.event); began = All-nil _ }
 
 would_have_been : (events failed : List RunEvent) (would : RunEvent) → events ≡ failed → WouldHaveBeen failed (would ∷ []) → WouldHaveBeen events (would ∷ [])
 would_have_been events failed would e h = subst (λ (es : List RunEvent). WouldHaveBeen es (would ∷ [])) (sym e) h
 
-pub failure_is : (run : Run) (failed would : RunEvent) (began : ℕ) (step : JournalStep) → All (λ e. e.moment ≤ began) run.events → failed.refused ≡ Some refusal.Stopped → would.lane ≡ failed.lane → would.request ≡ failed.request
+pub failure_is : (run : Run) (failed would : RunEvent) (began : ℕ) (step : JournalStep) → All (λ e. e.refused ≢ Some refusal.Stopped) run.events → All (λ e. e.moment ≤ began) run.events → failed.refused ≡ Some refusal.Stopped → would.lane ≡ failed.lane → would.request ≡ failed.request
     → would.part ≡ failed.part → step.event ≡ length run.events → IsOfFailure (and_then run failed) (broken_by run would began step)
-failure_is run failed would began step before stopped lane request part place = record {
+failure_is run failed would began step ran before stopped lane request part place = record {
+  first = subst (λ (es : List RunEvent). All (λ e. e.refused ≢ Some refusal.Stopped) es) (sym (take-append_seam run.events (failed ∷ []))) ran;
   events = would_have_been _ (failed ∷ []) would (drop-append_seam run.events (failed ∷ [])) (stopped, lane, request, part, tt);
   steps = All-cons (λ (s : JournalStep). length run.events ≤ s.event) step [] (omega (arith, place)) (All-nil _);
+  once = AllPairs-cons (λ (a b : JournalStep). a.event < b.event) step [] (All-nil _) (pairs_nil (λ (a b : JournalStep). a.event < b.event));
   began = subst (λ (es : List RunEvent). All (λ e. e.moment ≤ began) es) (sym (take-append_seam run.events (failed ∷ []))) before;
 }
 
@@ -43,8 +47,10 @@ would_have_been_more (event ∷ failed) more (w ∷ ws) h = (h.0, h.1, h.2, h.3,
 
 pub failure_still : (run : Run) (event : RunEvent) (broken : Broken) → broken.place ≤ length run.events → IsOfFailure run broken → IsOfFailure (and_then run event) broken
 failure_still run event broken within f = record {
+  first = subst (λ (es : List RunEvent). All (λ e. e.refused ≢ Some refusal.Stopped) es) (sym (take-append-le broken.place run.events (event ∷ []) within)) f.first;
   events = subst (λ (es : List RunEvent). WouldHaveBeen es broken.events) (sym (drop-append-le broken.place run.events (event ∷ []) within)) (would_have_been_more (drop broken.place run.events) (event ∷ []) broken.events f.events);
   steps = f.steps;
+  once = f.once;
   began = subst (λ (es : List RunEvent). All (λ e. e.moment ≤ broken.began) es) (sym (take-append-le broken.place run.events (event ∷ []) within)) f.began;
 }
 

@@ -126,14 +126,14 @@ fourth_is_legal = (
   ),
 )
 
--- The purge goes on past the pinned file, which the fetch removes as it unpins.
+-- The purge goes on past the file that was pinned as it switched it, and the fetch, which has unpinned it by then, removes it.
 pub fourth_parts : (next_part nothing_around (before 2 fourth_run) request.Purge (own_events 1 (before 2 fourth_run)) ≡ Some MakesTarget)
     × (next_part nothing_around (before 3 fourth_run) request.Purge (own_events 1 (before 3 fourth_run)) ≡ Some CopiesMessage)
     × (next_part nothing_around (before 4 fourth_run) request.Purge (own_events 1 (before 4 fourth_run)) ≡ Some Switches)
-    × (next_part nothing_around (before 5 fourth_run) request.Purge (own_events 1 (before 5 fourth_run)) ≡ Some Last)
-    × (next_part nothing_around (before 6 fourth_run) request.Purge (own_events 1 (before 6 fourth_run)) ≡ None)
-    × (next_part nothing_around (before 6 fourth_run) (request.Fetch inbox (record { 0 = 1 })) (own_events 0 (before 6 fourth_run)) ≡ Some ReadsPiece)
-    × (next_part nothing_around (before 7 fourth_run) (request.Fetch inbox (record { 0 = 1 })) (own_events 0 (before 7 fourth_run)) ≡ Some Unpins)
+    × (next_part nothing_around (before 5 fourth_run) (request.Fetch inbox (record { 0 = 1 })) (own_events 0 (before 5 fourth_run)) ≡ Some ReadsPiece)
+    × (next_part nothing_around (before 6 fourth_run) (request.Fetch inbox (record { 0 = 1 })) (own_events 0 (before 6 fourth_run)) ≡ Some Unpins)
+    × (next_part nothing_around (before 7 fourth_run) request.Purge (own_events 1 (before 7 fourth_run)) ≡ Some Last)
+    × (next_part nothing_around (before 8 fourth_run) request.Purge (own_events 1 (before 8 fourth_run)) ≡ None)
     × (next_part nothing_around (before 8 fourth_run) (request.Fetch inbox (record { 0 = 1 })) (own_events 0 (before 8 fourth_run)) ≡ Some RemovesFile)
     × (next_part nothing_around (before 9 fourth_run) (request.Fetch inbox (record { 0 = 1 })) (own_events 0 (before 9 fourth_run)) ≡ None)
 fourth_parts = (refl, refl, refl, refl, refl, refl, refl, refl, refl)

@@ -13,3 +13,4 @@ pub mod PurgeExampleLemmas
 pub mod ReachedLemmas
 pub mod RunLemmas
 pub mod ServedExampleLemmas
+pub mod StoppedLemmas

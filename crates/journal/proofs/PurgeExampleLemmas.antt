@@ -1,5 +1,5 @@
 -- A purge beside a fetch that has pinned the file: each event is the next of its lane.
-use Rattle.std.specs.Prelude.{◌≡◌, ◌≤◌, ◌<◌, ℕ, zero, suc, [], ◌∷◌, ◌++◌, slice_get, Some, None, refl}
+use Rattle.std.specs.Prelude.{◌≡◌, ◌≢◌, ◌≤◌, ◌<◌, ℕ, false, Contains, zero, suc, [], ◌∷◌, ◌++◌, slice_get, Some, None, refl}
 use Rattle.std.proofs.Common.{sym, ap, ◌∙◌, arith, subst, lit≤, lit<}
 use Rattle.std.proofs.lemmas.List.Elements.{All-nil, All-cons}
 use Rattle.std.proofs.lemmas.List.Kept.{AllPairs-cons}
@@ -16,6 +16,7 @@ use Rattle.model_meaning.specs.MeaningExamples.{example_guid}
 use Rattle.model_logs.specs.LogExamples.{example_store}
 use Rattle.list_machine.specs.Run.{ReadsPiece, Unpins, RemovesFile, MakesTarget, CopiesMessage, Switches, Last, RunEvent, before, map_of, reply_of}
 use Rattle.journal.specs.Events.{IsNextEvent, IsEvent}
+use Rattle.journal.specs.Found.{IsFreeFile, may_be_taken, FindsFiles}
 use Rattle.journal.specs.Makes.{lists_before, AreNextEvents}
 use Rattle.journal.specs.JournalExamples.{inbox, hello, nothing_around, lists_saved, fourth_run, fourth_script, fourth_around, fourth_journal, switched, pins_event, takes_files_event, target_event, copies_event, switches_event, purged_event, reads_event, unpins_event, removes_event}
 use Rattle.journal.proofs.EventExampleLemmas.{went_on, answered}
@@ -99,14 +100,14 @@ switches : Fits 4 (2, request.Purge) switches_event
 switches = went_on nothing_around nothing_around (before 4 fourth_run) lists_saved request.Purge switches_event Last tt refl refl refl refl
     (record { file = 1; target = 2 }, 2, new_place ∷ [], record { 0 = 2 } ∷ [], refl, switch_fits, All-cons (λ (p : MapPlace). HasRecord now p.uid.0 (λ row. 1 ≤ row.count)) new_place [] (kept, refl, lit≤ tt) (All-nil _), λ h. refl, refl) refl
 
-ends : Fits 5 (2, request.Purge) purged_event
-ends = answered nothing_around nothing_around (before 5 fourth_run) lists_saved request.Purge purged_event (reply.Purged 1 1 0) tt refl refl refl refl refl refl refl
+ends : Fits 7 (2, request.Purge) purged_event
+ends = answered nothing_around nothing_around (before 7 fourth_run) lists_saved request.Purge purged_event (reply.Purged 1 1 0) tt refl refl refl refl refl refl refl
 
-reads : Fits 6 (1, fetching) reads_event
-reads = went_on nothing_around nothing_around (before 6 fourth_run) lists_saved fetching reads_event Unpins tt refl refl refl refl refl refl
+reads : Fits 5 (1, fetching) reads_event
+reads = went_on nothing_around nothing_around (before 5 fourth_run) lists_saved fetching reads_event Unpins tt refl refl refl refl refl refl
 
-unpins : Fits 7 (1, fetching) unpins_event
-unpins = went_on nothing_around nothing_around (before 7 fourth_run) lists_saved fetching unpins_event RemovesFile tt refl refl refl refl refl refl
+unpins : Fits 6 (1, fetching) unpins_event
+unpins = went_on nothing_around nothing_around (before 6 fourth_run) lists_saved fetching unpins_event RemovesFile tt refl refl refl refl refl refl
 
 removes : Fits 8 (1, fetching) removes_event
 removes = answered nothing_around nothing_around (before 8 fourth_run) lists_saved fetching removes_event (reply.Fetched hello) tt refl refl refl refl (1, refl, refl, refl, refl) refl refl
@@ -142,8 +143,20 @@ purge_events (suc zero) event e = at 1 takes_files_event event e (of_purge 1 tak
 purge_events (suc (suc zero)) event e = at 2 target_event event e (of_purge 2 target_event refl refl refl refl makes)
 purge_events (suc (suc (suc zero))) event e = at 3 copies_event event e (of_purge 3 copies_event refl refl refl refl copies)
 purge_events (suc (suc (suc (suc zero)))) event e = at 4 switches_event event e (of_purge 4 switches_event refl refl refl refl switches)
-purge_events (suc (suc (suc (suc (suc zero))))) event e = at 5 purged_event event e (of_purge 5 purged_event refl refl refl refl ends)
-purge_events (suc (suc (suc (suc (suc (suc zero)))))) event e = at 6 reads_event event e (of_fetch 6 reads_event refl refl refl refl reads)
-purge_events (suc (suc (suc (suc (suc (suc (suc zero))))))) event e = at 7 unpins_event event e (of_fetch 7 unpins_event refl refl refl refl unpins)
+purge_events (suc (suc (suc (suc (suc zero))))) event e = at 5 reads_event event e (of_fetch 5 reads_event refl refl refl refl reads)
+purge_events (suc (suc (suc (suc (suc (suc zero)))))) event e = at 6 unpins_event event e (of_fetch 6 unpins_event refl refl refl refl unpins)
+purge_events (suc (suc (suc (suc (suc (suc (suc zero))))))) event e = at 7 purged_event event e (of_purge 7 purged_event refl refl refl refl ends)
 purge_events (suc (suc (suc (suc (suc (suc (suc (suc zero)))))))) event e = at 8 removes_event event e (of_fetch 8 removes_event refl refl refl refl removes)
 purge_events (suc (suc (suc (suc (suc (suc (suc (suc (suc n))))))))) event e = absurd (none_some event e)
+
+-- ---- what it found agrees with the run
+
+abbrev HasFile : MapRecord → Type 0
+HasFile row = row.count ≡ 0 → IsFreeFile (before 1 fourth_run) row.file → may_be_taken (before 1 fourth_run) row.file ≡ false → Contains (1 ∷ []) row.file
+
+pub purge_found : FindsFiles (before 1 fourth_run) (1 ∷ [])
+purge_found = record {
+  once = AllPairs-cons (λ (a b : ℕ). a ≢ b) 1 [] (All-nil _) (pairs_nil (λ (a b : ℕ). a ≢ b));
+  free = All-cons (IsFreeFile (before 1 fourth_run)) 1 [] (record { some = lit≤ tt; known = refl; unsealed = refl; undoomed = refl }) (All-nil _);
+  every = All-cons HasFile kept (gone ∷ []) (λ none free taken. (0, lit< tt, refl)) (All-cons HasFile gone [] (λ none free taken. (0, lit< tt, refl)) (All-nil _));
+}

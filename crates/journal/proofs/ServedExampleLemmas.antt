@@ -1,6 +1,6 @@
 -- The run of a copy whose message is expunged between its two events is whole: each event is the next of its lane, each
 -- step has its entry, the journal and the replies are legal.
-use Rattle.std.specs.Prelude.{◌≡◌, ◌≤◌, ◌<◌, ℕ, zero, suc, true, false, List, [], ◌∷◌, map, slice_get, Option, Some, None, AllPairs, Contains, refl}
+use Rattle.std.specs.Prelude.{All, ◌≡◌, ◌⊎◌, ◌≤◌, ◌<◌, ℕ, zero, suc, true, false, List, [], ◌∷◌, map, slice_get, Option, Some, None, AllPairs, Contains, refl}
 use Rattle.std.proofs.Common.{sym, ◌∙◌, ap, arith, subst, lit≤, lit<}
 use Rattle.std.proofs.lemmas.List.Elements.{All-nil, All-cons, All-from_recursion}
 use Rattle.std.specs.List.{AllByRecursion}
@@ -11,10 +11,11 @@ use Rattle.mdbox_base.specs.declared.replies.Refusal.TheVariants as refusal
 use Rattle.mdbox_base.specs.declared.replies.Reply.{Reply}
 use Rattle.mdbox_base.specs.declared.replies.Reply.TheVariants as reply
 use Rattle.model_octets.proofs.PairLemmas.{pairs_nil}
-use Rattle.list_machine.specs.Run.{RunEvent, before, map_of, reply_of}
+use Rattle.list_machine.specs.Run.{RunEvent, before, map_of, drawn_of, reply_of}
 use Rattle.journal.specs.Journal.{JournalStep, halves_of, steps_of, IsFirstPart, StandInOrder, HasReply, IsReplyOf, AreReplied, IsLegal, no_broken}
 use Rattle.journal.specs.Events.{makes_step, IsNextEvent}
-use Rattle.journal.specs.Makes.{lists_before, IsServed}
+use Rattle.journal.specs.Found.{AgreesWithRun, AgreeWithRun}
+use Rattle.journal.specs.Makes.{lists_before, StaysStopped, IsServed}
 use Rattle.journal.specs.JournalExamples.{nothing_around, raise_event, remove_event, lower_event, refused_event, back_event, second_run, second_script, lists_saved, second_journal, step_expunged, step_refused}
 use Rattle.journal.proofs.BrokenLemmas.{none_failed}
 use Rattle.journal.proofs.ExampleLemmas.{second_is_legal}
@@ -25,6 +26,10 @@ same_some x y e = cc e
 
 none_some : {X : Type 0} → (x : X) → None ≡ Some x → ⊥
 none_some x e = cc e
+
+none_at : {X : Type 0} → (n : ℕ) (x : X) → slice_get [] n ≡ Some x → ⊥
+none_at zero x e = cc e
+none_at (suc n) x e = cc e
 
 -- ---- events
 
@@ -76,6 +81,15 @@ all_told (suc (suc zero)) event e = subst (λ (x : RunEvent). IsToldAt 2 x) (sam
 all_told (suc (suc (suc zero))) event e = subst (λ (x : RunEvent). IsToldAt 3 x) (same_some refused_event event e) (λ asked q is. (step_refused, (1, lit< tt, refl), refl))
 all_told (suc (suc (suc (suc zero)))) event e = subst (λ (x : RunEvent). IsToldAt 4 x) (same_some back_event event e) (λ asked q is. absurd (untold back_event asked (1, copying) q refl is))
 all_told (suc (suc (suc (suc (suc n))))) event e = absurd (none_some event e)
+
+-- a copy and an expunge find nothing of files and instances
+all_found : AgreeWithRun (λ n. nothing_around) second_script second_run
+all_found n event asked e q = by_request event.request q
+  where
+    by_request : (i : ℕ) → slice_get second_script i ≡ Some asked → AgreesWithRun nothing_around (before n second_run) asked.1 event event.part
+    by_request zero k = subst (λ (x : ℕ × Request). AgreesWithRun nothing_around (before n second_run) x.1 event event.part) (same_some (1, copying) asked k) tt
+    by_request (suc zero) k = subst (λ (x : ℕ × Request). AgreesWithRun nothing_around (before n second_run) x.1 event event.part) (same_some (2, expunging) asked k) tt
+    by_request (suc (suc i)) k = absurd (none_some asked k)
 
 -- ---- replies
 
@@ -156,16 +170,38 @@ second_legal now = record {
   };
 }
 
-pub second_is_served : (now : Faults) → IsServed lists_saved second_script second_run second_journal no_broken (Some (reply.Refused refusal.NoMessage) ∷ Some reply.Done ∷ []) now now (map_of second_run)
+abbrev StopsBehind : RunEvent → RunEvent → Type 0
+StopsBehind a b = a.refused ≡ Some refusal.Stopped → (b.refused ≡ Some refusal.Stopped) ⊎ (b.refused ≡ Some refusal.NoMemory)
+
+not_refused_so : Some refusal.NoMessage ≡ Some refusal.Stopped → ⊥
+not_refused_so e = cc e
+
+never_stopped : StaysStopped second_run.events
+never_stopped =
+    push raise_event (remove_event ∷ lower_event ∷ refused_event ∷ back_event ∷ []) (λ e. none_some refusal.Stopped e)
+    (push remove_event (lower_event ∷ refused_event ∷ back_event ∷ []) (λ e. none_some refusal.Stopped e)
+    (push lower_event (refused_event ∷ back_event ∷ []) (λ e. none_some refusal.Stopped e) (push refused_event (back_event ∷ []) not_refused_so (push back_event [] (λ e. none_some refusal.Stopped e) (pairs_nil StopsBehind)))))
+  where
+    push : (e : RunEvent) (es : List RunEvent) → (e.refused ≡ Some refusal.Stopped → ⊥) → AllPairs StopsBehind es → AllPairs StopsBehind (e ∷ es)
+    push e es never p = AllPairs-cons StopsBehind e es (all_behind es) p
+      where
+        all_behind : (xs : List RunEvent) → All (StopsBehind e) xs
+        all_behind [] = All-nil _
+        all_behind (x ∷ xs) = All-cons (StopsBehind e) x xs (λ s. absurd (never s)) (all_behind xs)
+
+pub second_is_served : (now : Faults) → IsServed lists_saved second_script second_run second_journal no_broken (Some (reply.Refused refusal.NoMessage) ∷ Some reply.Done ∷ []) now now (map_of (before 0 second_run)) (map_of second_run) (drawn_of second_run) 16
 second_is_served now = record {
   around = λ n. nothing_around;
   after = λ n. nothing_around;
-  opened = refl;
+  begins = record { map_is = refl; drawn_is = refl; moments = All-nil _ };
   next = all_next;
+  found = all_found;
   told = λ n event asked e. all_told n event e asked;
   given = (refl, all_given);
   legal = second_legal now;
   broken_is = tt;
   of_failure = none_failed second_run;
-  come = refl;
+  would = λ n event asked around e. absurd (none_at n event e);
+  stays_stopped = never_stopped;
+  come = record { map_is = refl; drawn_is = refl; moments = All-from_recursion (λ (e : RunEvent). e.moment ≤ 16) second_run.events (lit≤ tt, (lit≤ tt, (lit≤ tt, (lit≤ tt, (lit≤ tt, tt))))) };
 }

@@ -116,11 +116,20 @@ copies_left own run (Some taken) = filter (λ row. is_copied_from taken.file row
 abbrev pub purge_copies : Run → List RunEvent → Option EventPart
 purge_copies run own = if nat_lt 0 (length (copies_left own run (next_taken own))) then Some CopiesMessage else Some Switches
 
+-- The events up to that which doomed a file; and whether the file was pinned then. If it was, the fetch that unpins it last
+-- removes it, and the purge goes on, however long that takes.
+abbrev pub until_doomed : ℕ → List RunEvent → List RunEvent
+until_doomed file [] = []
+until_doomed file (event ∷ events) = if is_one_of event.doomed file then event ∷ [] else event ∷ until_doomed file events
+
+abbrev pub was_pinned : Run → ℕ → Bool
+was_pinned run file = is_pinned (record run { events = until_doomed file run.events }) file
+
 abbrev pub behind_purge : Around → Run → RunEvent → EventPart → Option EventPart
 behind_purge around run event MakesTarget = purge_copies run (own_events event.request run)
 behind_purge around run event CopiesMessage = purge_copies run (own_events event.request run)
 behind_purge around run event Switches =
-    if list_any (λ file. is_pinned run file) event.doomed then purge_goes_on around run (next_taken (own_events event.request run)) else Some RemovesFile
+    if list_any (λ file. was_pinned run file) event.doomed then purge_goes_on around run (next_taken (own_events event.request run)) else Some RemovesFile
 behind_purge around run event Last = None
 behind_purge around run event part = purge_goes_on around run (next_taken (own_events event.request run))
 
@@ -442,6 +451,7 @@ Finds around request event = Unit {0}
 abbrev pub has_memory : EventPart → Request → Bool
 has_memory SecondHalf request = true
 has_memory GivesBack request = true
+has_memory StartsOver request = true
 has_memory ReadsPiece request = true
 has_memory Unpins request = true
 has_memory RemovesFile request = true

@@ -1,5 +1,5 @@
 -- The journal of a run: which steps were made, in their order, and when it is legal.
-use Rattle.std.specs.Prelude.{◌≡◌, ◌≤◌, ◌<◌, ◌+◌, ◌-◌, ◌^◌, ◌==◌, nat_le, min, ℕ, Bool, true, false, List, [], ◌∷◌, ◌++◌, length, map, filter, take, count_by, slice_get, if◌then◌else◌, Option, Some, None, AllPairs, ◌⊎◌, All, drop}
+use Rattle.std.specs.Prelude.{◌≡◌, ◌≢◌, ◌≤◌, ◌<◌, ◌+◌, ◌-◌, ◌^◌, ◌==◌, nat_le, min, ℕ, Bool, true, false, List, [], ◌∷◌, ◌++◌, length, map, filter, take, count_by, slice_get, if◌then◌else◌, Option, Some, None, AllPairs, ◌⊎◌, All, drop}
 use Rattle.std.specs.Option.{option_map_or}
 use Rattle.mdbox_base.specs.Streams.{Rose}
 use Rattle.disk_model.specs.Disk.{Faults}
@@ -44,13 +44,13 @@ pub record JournalStep : Type 0 where
 abbrev pub moment_of : Run → JournalStep → ℕ
 moment_of run step = option_map_or (λ e. e.moment) (slice_get run.events step.event) 0
 
--- What a store keeps of a step: its moment is the number of device calls as the run began, and the calls of the entry,
--- which stand still at the top of a u64.
+-- What a store keeps of a step: its moment is the number of device calls as the run began, and the calls of the entry. Both
+-- numbers of calls stand still at the top of a u64.
 pub record IsEntryOf (run : Run) (began : ℕ) (step : JournalStep) (entry : JournalEntry) : Type 0 where
   pub lane_is : entry.lane ≡ step.lane
   pub request_is : entry.request ≡ step.request
   pub half_is : entry.half ≡ step.half
-  pub calls_are : entry.calls ≡ min (moment_of run step - began) (2 ^ 64 - 1)
+  pub calls_are : entry.calls ≡ min (moment_of run step) (2 ^ 64 - 1) - min began (2 ^ 64 - 1)
 
 -- each entry is that of its step
 abbrev pub AreEntriesOf : Run → ℕ → List JournalStep → List JournalEntry → Type 0
@@ -211,10 +211,13 @@ WouldHaveBeen [] (would ∷ rest) = ⊥
 WouldHaveBeen (event ∷ failed) (would ∷ rest) =
     (event.refused ≡ Some refusal.Stopped) × (would.lane ≡ event.lane) × (would.request ≡ event.request) × (would.part ≡ event.part) × WouldHaveBeen failed rest
 
--- The broken steps are those of the append that failed: behind the events before it, and begun no earlier than they ended.
+-- The broken steps are those of the append that failed, which is the one that stopped the store: no event before it was
+-- refused so. They stand behind the events before it, each event makes one at most, and it began no earlier than those ended.
 pub record IsOfFailure (run : Run) (broken : Broken) : Type 0 where
+  pub first : All (λ event. event.refused ≢ Some refusal.Stopped) (take broken.place run.events)
   pub events : WouldHaveBeen (drop broken.place run.events) broken.events
   pub steps : All (λ step. broken.place ≤ step.event) broken.steps
+  pub once : AllPairs (λ a b. a.event < b.event) broken.steps
   pub began : All (λ event. event.moment ≤ broken.began) (take broken.place run.events)
 
 -- how many entries are acknowledged at this moment

@@ -192,7 +192,7 @@ abbrev pub switches_event : RunEvent
 switches_event = record (event_of 2 1 Switches 10) { map_entries = switched ∷ []; doomed = 1 ∷ [] }
 
 abbrev pub purged_event : RunEvent
-purged_event = record (event_of 2 1 Last 10) { reply = Some (reply.Purged 1 1 0) }
+purged_event = record (event_of 2 1 Last 11) { reply = Some (reply.Purged 1 1 0) }
 
 abbrev pub reads_event : RunEvent
 reads_event = event_of 1 0 ReadsPiece 11
@@ -208,7 +208,7 @@ fourth_run = record {
   store = example_store;
   start = example_made ∷ stored ∷ stored_two ∷ [];
   opened = record { file = 1; map = 2; instance = 0; mailbox = 1 };
-  events = pins_event ∷ takes_files_event ∷ target_event ∷ copies_event ∷ switches_event ∷ purged_event ∷ reads_event ∷ unpins_event ∷ removes_event ∷ [];
+  events = pins_event ∷ takes_files_event ∷ target_event ∷ copies_event ∷ switches_event ∷ reads_event ∷ unpins_event ∷ purged_event ∷ removes_event ∷ [];
 }
 
 -- what its events find: the purge takes the one file
@@ -217,7 +217,7 @@ fourth_around n = if n == 1 then record nothing_around { files = 1 ∷ [] } else
 
 abbrev pub fourth_journal : List JournalStep
 fourth_journal = record { lane = 1; request = 0; half = Whole; event = 0; answer = reply.Fetched hello; left = lists_saved }
-    ∷ record { lane = 2; request = 1; half = Whole; event = 5; answer = reply.Purged 1 1 0; left = lists_saved }
+    ∷ record { lane = 2; request = 1; half = Whole; event = 7; answer = reply.Purged 1 1 0; left = lists_saved }
     ∷ []
 
 -- a resync that finds one count too high

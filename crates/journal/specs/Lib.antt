@@ -1,5 +1,6 @@
 pub mod Events
 pub mod ExactCounts
+pub mod Found
 pub mod GoesOn
 pub mod Journal
 pub mod JournalExamples

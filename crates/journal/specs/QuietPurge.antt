@@ -1,25 +1,24 @@
 -- What a purge beside no other task leaves, and a resync.
-use Rattle.std.specs.Prelude.{◌≡◌, ◌≢◌, ◌≤◌, ◌<◌, ◌↔◌, ◌+◌, ◌==◌, ◌&&◌, ℕ, Bool, false, not, List, [], ◌∷◌, length, map, filter, take, drop, slice_get, Some, None, All, AllPairs, Contains}
+use Rattle.std.specs.Prelude.{◌≡◌, ◌≢◌, ◌≤◌, ◌↔◌, ◌+◌, ◌==◌, ◌&&◌, ℕ, Bool, false, not, List, [], ◌∷◌, length, map, filter, take, drop, slice_get, Some, None, All, AllPairs, Contains}
 use Rattle.std.specs.List.Sorted.{IsStrictlyIncreasing}
 use Rattle.disk_model.specs.Disk.{Files}
 use Rattle.disk_model.specs.declared.name.FileName.TheVariants as file
 use Rattle.mdbox_base.specs.declared.entries.InstRow.{InstRow}
 use Rattle.model_meaning.specs.MapMeaning.{MapRecord, MapMeaning, named_instances, is_sealed}
 use Rattle.model_storage.specs.StorageFile.{IsHeaderLine}
-use Rattle.list_machine.specs.Run.{RunEvent, Run}
+use Rattle.list_machine.specs.Run.{RunEvent, Run, before, own_events, reply_of}
 
 -- regions lie one directly after another, from this offset to the end
 abbrev pub RunTo : ℕ → List MapRecord → ℕ → Type 0
 RunTo offset [] end = offset ≡ end
 RunTo offset (row ∷ rows) end = (row.offset ≡ offset) × RunTo (offset + row.size) rows end
 
--- A storage file is clean: it is its header line and one or more mapped messages with counts above 0, one directly after
+-- A storage file is clean: it is its header line, for message headers of 30 octets, and one or more mapped messages with counts above 0, one directly after
 -- another.
 pub record IsClean (m : MapMeaning) (number : ℕ) (octets : List ℕ) : Type 0 where
   pub header : List ℕ
-  pub size : ℕ
   pub rows : List MapRecord
-  pub begins : IsHeaderLine header size × (take (length header) octets ≡ header)
+  pub begins : IsHeaderLine header 30 × (take (length header) octets ≡ header)
   pub some : rows ≢ []
   pub mapped : All (λ row. Contains m.records row × (row.file ≡ number) × (1 ≤ row.count)) rows
   pub whole : RunTo (length header) rows (length octets)
@@ -54,7 +53,7 @@ pub record AreAllOf (Holds : ℕ → Type 0) (numbers : List ℕ) : Type 0 where
   pub exactly : (n : ℕ) → Contains numbers n ↔ Holds n
 
 -- A quiet purge, from these files and this map's meaning to those: each file that isn't sealed is clean, each instance
--- that is there is named_instances, the records that went are those of unsealed files with count 0, and each that stays keeps all but
+-- that is there is named, the records that went are those of unsealed files with count 0, and each that stays keeps all but
 -- its place, and its region's octets. The numbers are those of the records that went, of the files that were neither
 -- sealed nor clean, and of the instances that went.
 pub record PurgesQuietly (old new : Files) (before after : MapMeaning) (dropped files instances : ℕ) : Type 0 where
@@ -72,7 +71,7 @@ pub record PurgesQuietly (old new : Files) (before after : MapMeaning) (dropped 
   pub instances_are : instances ≡ length gone
 
 -- A purge is quiet: no event of another request stands between its first and its last, and every other request of the
--- run is either answered before or begins behind.
+-- run that has begun before it is answered before it.
 pub record IsQuiet (run : Run) (request first last : ℕ) : Type 0 where
   pub alone : (n : ℕ) (event : RunEvent) → slice_get run.events n ≡ Some event → first ≤ n → n ≤ last → event.request ≡ request
-  pub apart : (i n k : ℕ) (a b : RunEvent) → i ≢ request → n < first → last < k → slice_get run.events n ≡ Some a → slice_get run.events k ≡ Some b → a.request ≡ i → b.request ≡ i → ⊥
+  pub answered : (i : ℕ) → i ≢ request → own_events i (before first run) ≢ [] → reply_of i (before first run) ≢ None

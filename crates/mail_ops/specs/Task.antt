@@ -5,6 +5,7 @@ use Rattle.list_machine.specs.Run.{RunEvent}
 use Rattle.mdbox_base.specs.declared.progress.Did.{Did}
 use Rattle.mdbox_base.specs.declared.replies.Reply.{Reply}
 use Rattle.mdbox_base.specs.declared.requests.Request.{Request}
+use Rattle.store_core.specs.Dues.{Amounts, no_amounts}
 use Rattle.store_core.specs.Value.{StoreValue, indexes_of}
 use Rattle.task_steps.specs.Step.{Seen, HasNotBegun}
 use Rattle.mail_ops.specs.declared.task.TaskStage.{TaskStage}
@@ -19,6 +20,10 @@ pub record TaskValue : Type 0 where
 -- what is true of the request's own events so far, and of the answers of its steps
 abbrev pub IsAt : TaskStage → List RunEvent → List Reply → Type 0
 IsAt stage.First own said = HasNotBegun own said
+
+-- what the task holds and owes of records: a listing nothing
+abbrev pub amounts_of : TaskValue → Amounts
+amounts_of task = no_amounts
 
 -- a store as an event sees it, with what its disk tells and the faults that it has counted
 abbrev pub seen_of : {D : Type 0} → StoreValue D → Option History → Faults → Seen

@@ -6,7 +6,8 @@ ghost use Rattle.mdbox_base.specs.declared.progress.Progress.TheVariants as prog
 ghost use Rattle.mdbox_base.specs.declared.replies.Reply.{Reply};
 ghost use Rattle.task_steps.specs.Step.{Steps, ended_by};
 ghost use Rattle.mail_ops.specs.Listing.{IsListing, Replies};
-ghost use Rattle.mail_ops.specs.Task.{IsAt, seen_of};
+ghost use Rattle.store_core.specs.Dues.{Moves, Spares, amounts_in};
+ghost use Rattle.mail_ops.specs.Task.{IsAt, amounts_of, seen_of};
 ghost use Rattle.mail_ops.specs.declared.task.TaskStage.TheVariants as stage;
 
 use crate::listing::list;
@@ -65,6 +66,10 @@ impl OpsTask {
     pub fn step<D: Disk>(&mut self, store: &mut Store<D>) -> Progress
         // Of every run that has come to the store: which event it was, what it answered, and what a crash may leave.
         ensures does { (around after : Around) → Steps (IsAt self.old.stage) (IsAt self.new.stage) around after self.old.request (seen_of store.old (D.history store.old.disk) (D.faults store.old.disk)) (seen_of store.new (D.history store.new.disk) (D.faults store.new.disk)) self.new.did (ended_by result) }
+
+        // What it holds and owes it does in the store, and what others do it leaves to them.
+        ensures moves { Moves (amounts_of self.old) (amounts_of self.new) (amounts_in store.old) (amounts_in store.new) }
+        ensures spares { Spares (amounts_of self.old) store.old store.new (D.history store.old.disk) (D.history store.new.disk) }
         ensures replies { (reply : Reply) × (result ≡ progress.Done reply) × Replies self.old.request store.old reply }
         ensures same { store.new ≡ store.old }
         ensures request { self.new.request ≡ self.old.request }

@@ -1,8 +1,5 @@
-pub mod CommandLaws
-pub mod PlaceLaws
-pub mod PrintLaws
-pub mod RunLaws
-pub mod LogPrintLaws
-pub mod StoreLaws
-pub mod ListLaws
-pub mod ReplyPrintLaws
+pub mod InitLemmas
+pub mod InputLemmas
+pub mod ListLemmas
+pub mod RunLemmas
+pub mod ServedLemmas

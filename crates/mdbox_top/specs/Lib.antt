@@ -1,8 +1,6 @@
-pub mod Commands
+pub mod InitRun
+pub mod InputRun
 pub mod ListRun
-pub mod Printing
+pub mod OpeningOutcome
 pub mod Run
-pub mod StoreRun
-pub mod DumpText
-pub mod LogDumpText
-pub mod ReplyText
+pub mod Served

@@ -1,77 +1,67 @@
 // Listing a mailbox.
-ghost use Rattle.std.specs.Prelude.{◌≡◌, ◌≤◌, ◌∷◌, ◌⊎◌, ◌↔◌, [], false, IsTrue, if◌then◌else◌};
-ghost use Rattle.disk_model.specs.Disk.{EachImage};
+ghost use Rattle.std.specs.Prelude.{◌≡◌, ◌≢◌, ◌≤◌, ◌⊎◌, ℕ, List, false};
+ghost use Rattle.disk_model.specs.FaultCounts.{NoFault, AnyFaultCounted};
 ghost use Rattle.mdbox_base.specs.Streams.{Rose};
-ghost use Rattle.disk_model.specs.FaultCounts.{AnyFaultCounted};
 ghost use Rattle.mdbox_base.specs.declared.replies.Refusal.TheVariants as refusal;
+ghost use Rattle.mdbox_base.specs.declared.replies.Reply.{Reply};
 ghost use Rattle.mdbox_base.specs.declared.replies.Reply.TheVariants as reply;
-ghost use Rattle.model_lists.specs.Lists.{Lists};
-ghost use Rattle.model_store.specs.Listing.{meaning_named, listing_of};
-ghost use Rattle.model_store.specs.Safe.{Safe};
-ghost use Rattle.model_store.specs.Settled.{IsSettledFor};
-ghost use Rattle.store_core.specs.Value.{indexes_of};
-ghost use Rattle.mdbox_top.specs.ListRun.{ListEnds, ShowsReply, ShowsNothing, is_refusal};
-ghost use Rattle.mdbox_top.specs.StoreRun.{store_status, store_error_text};
-ghost use Rattle.mdbox_top.specs.Run.{Gave, IsOneOf};
-ghost use Rattle.mdbox_top.specs.declared.store_outcome.StoreOutcome.{StoreOutcome};
-ghost use Rattle.mdbox_top.specs.declared.store_outcome.StoreOutcome.TheVariants as outcome;
+ghost use Rattle.model_store.specs.Listing.{listing_of};
+ghost use Rattle.store_core.specs.Value.{list_named};
+ghost use Rattle.mdbox_base.specs.declared.progress.Did.{Did};
+ghost use Rattle.mdbox_base.specs.declared.requests.Request.TheVariants as request;
+ghost use Rattle.mail_ops.specs.Task.{seen_of};
+ghost use Rattle.mdbox_top.specs.Served.{DoesAlone};
+ghost use Rattle.mdbox_top.specs.ListRun.{ListOutcome, ListMoments, ListRests, ShowsReply};
+ghost use Rattle.request_text.specs.ReplyText.{reply_text};
+ghost use Rattle.request_text.specs.declared.outcome.Outcome.TheVariants as outcome;
 
-use crate::print::PrintError;
-use crate::reply_print::print_reply;
-use crate::status::Status;
-use crate::store_outcome::{StoreOutcome, report_store};
+use crate::opening::outcome_of;
 use disk_model::Disk;
-use mail_ops::{OpsTask, Progress};
-use mdbox_base::{Name, Refusal, Reply, Request, Sink};
+use mail_ops::{OpsTask, listings_are_answered};
+use mdbox_base::{Name, Progress, Reply, Request, Sink};
+use piece_writer::PrintError;
+use request_text::{Outcome, outcome_of_reply, print_reply};
 use std::alloc::Global;
 use store_core::{Store, listings_are_shown};
-use store_open::{OpenError, OpenRefused, open_store};
+use store_open::{OpenRefused, open_store};
 
-/// Opens the store, prints the listing of a mailbox, tells the errors' sink what went wrong, and hands the disk back.
-pub fn run_list<D: Disk, O: Sink, E: Sink>(
-    alloc: Global,
-    name: Name,
-    disk: D,
-    output: &mut O,
-    errors: &mut E,
-) -> (Status, D)
-    ensures ends { (outcome : StoreOutcome) × (result.0.0 ≡ store_status outcome)
-        × ListEnds name (O.held output.old) (O.held output.new) (D.history disk) (D.history result.1) outcome
-        × Gave (E.held errors.old) (E.faults errors.old) (store_error_text outcome) (E.held errors.new) (E.faults errors.new) }
-    ensures moments { (lists : Lists) → IsSettledFor lists (D.history disk) → EachImage (λ _ image. Safe image lists) (D.history disk) (D.history result.1) }
-    ensures complete { (lists : Lists) → IsSettledFor lists (D.history disk) → IsOneOf (0 ∷ 1 ∷ 5 ∷ 6 ∷ 8 ∷ []) result.0.0 }
-    ensures disk_fault { AnyFaultCounted (result.0.0 ≡ 6) (D.faults disk) (D.faults result.1) }
-    ensures write_fault { result.0.0 ≡ 8 → Rose (O.faults output.old) (O.faults output.new) }
-    ensures known { IsOneOf (0 ∷ 1 ∷ 3 ∷ 5 ∷ 6 ∷ 8 ∷ []) result.0.0 }
-    ensures counted { (O.faults output.old ≤ O.faults output.new) × (E.faults errors.old ≤ E.faults errors.new) }
+/// Opens the store, prints the listing of a mailbox, and hands the disk back.
+pub fn list<D: Disk, O: Sink>(alloc: Global, name: Name, disk: D, output: &mut O) -> (Outcome, D)
+    ensures ends { ListOutcome name (O.held output.old) (O.held output.new) (D.history disk) (D.history result.1) (D.faults disk) (D.faults result.1) result.0 }
+    ensures moments { ListMoments (D.history disk) (D.history result.1) }
+    ensures rests { ListRests (result.0 ≡ outcome.DiskFault) (D.faults disk) (D.faults result.1) (D.history disk) (D.history result.1) }
+    ensures disk_fault { AnyFaultCounted (result.0 ≡ outcome.DiskFault) (D.faults disk) (D.faults result.1) }
+    ensures disk_quiet { result.0 ≢ outcome.DiskFault → NoFault (D.faults disk) (D.faults result.1) }
+    ensures write_fault { result.0 ≡ outcome.WriteFault → Rose (O.faults output.old) (O.faults output.new) }
+    ensures write_quiet { result.0 ≢ outcome.WriteFault → O.faults output.new ≡ O.faults output.old }
+    ensures counted { O.faults output.old ≤ O.faults output.new }
 {
     listings_are_shown();
+    listings_are_answered();
     match open_store(alloc, disk, 1) {
         Ok(store) => {
             let mut store = store;
             store.facts();
-            let outcome = list(alloc, name, &mut store, output);
-            (report_store(alloc, errors, outcome), store.into_disk())
+            let outcome = print_list(alloc, name, &mut store, output);
+            (outcome, store.into_disk())
         }
-        Err(OpenRefused { error, disk }) => {
-            let outcome = StoreOutcome::Refused(error);
-            (report_store(alloc, errors, outcome), disk)
-        }
+        Err(OpenRefused { error, disk }) => (outcome_of(error), disk),
     }
 }
 
 /// Prints the listing of a mailbox.
-fn list<D: Disk, O: Sink>(
+fn print_list<D: Disk, O: Sink>(
     alloc: Global,
     name: Name,
     store: &mut Store<D>,
     output: &mut O,
-) -> StoreOutcome
+) -> Outcome
     requires running { store.old.stopped ≡ false }
-    ensures shown { ShowsReply (listing_of (meaning_named name store.old.map.boxes (indexes_of store.old.boxes))) (O.held output.old) (O.held output.new) result
-        ⊎ ShowsNothing (O.held output.old) (O.held output.new) result }
+    ensures shown { (given : Reply) × (how : Did) × ((given ≡ listing_of (list_named store.old name)) ⊎ (given ≡ reply.Refused refusal.NoMemory))
+        × DoesAlone (request.List name) given (seen_of store.old (D.history store.old.disk) (D.faults store.old.disk)) how × ShowsReply (reply_text given) given (O.held output.old) (O.held output.new) result }
     ensures same { store.new ≡ store.old }
     ensures write_fault { result ≡ outcome.WriteFault → Rose (O.faults output.old) (O.faults output.new) }
+    ensures write_quiet { result ≢ outcome.WriteFault → O.faults output.new ≡ O.faults output.old }
     ensures counted { O.faults output.old ≤ O.faults output.new }
 {
     let mut task = OpsTask::of(Request::List { name });
@@ -81,39 +71,16 @@ fn list<D: Disk, O: Sink>(
     }
 }
 
-/// Prints a reply, but for want of memory.
-fn print_outcome<O: Sink>(alloc: Global, output: &mut O, given: &Reply) -> StoreOutcome
-    ensures shown { ShowsReply given.now (O.held output.old) (O.held output.new) result ⊎ ShowsNothing (O.held output.old) (O.held output.new) result }
-    ensures memory { given.now ≡ reply.Refused refusal.NoMemory → ShowsNothing (O.held output.old) (O.held output.new) result }
+/// Prints a reply.
+fn print_outcome<O: Sink>(alloc: Global, output: &mut O, given: &Reply) -> Outcome
+    ensures shown { ShowsReply (reply_text given.now) given.now (O.held output.old) (O.held output.new) result }
     ensures write_fault { result ≡ outcome.WriteFault → Rose (O.faults output.old) (O.faults output.new) }
+    ensures write_quiet { result ≢ outcome.WriteFault → O.faults output.new ≡ O.faults output.old }
     ensures counted { O.faults output.old ≤ O.faults output.new }
 {
-    if wants_memory(given) {
-        return StoreOutcome::Refused(OpenError::NoMemory);
-    }
     match print_reply(alloc, output, given) {
-        Ok(()) => printed(given),
-        Err(PrintError::NoMemory) => StoreOutcome::Refused(OpenError::NoMemory),
-        Err(PrintError::WriteFault) => StoreOutcome::WriteFault,
-    }
-}
-
-/// How the command ends whose reply was printed.
-fn printed(given: &Reply) -> StoreOutcome
-    ensures { result ≡ if is_refusal given.now then outcome.No else outcome.Done }
-{
-    match given {
-        Reply::Refused(_) => StoreOutcome::No,
-        _ => StoreOutcome::Done,
-    }
-}
-
-/// Whether there was no memory for the reply.
-fn wants_memory(given: &Reply) -> bool
-    ensures { IsTrue result ↔ (given.now ≡ reply.Refused refusal.NoMemory) }
-{
-    match given {
-        Reply::Refused(refusal) => matches!(refusal, Refusal::NoMemory),
-        _ => false,
+        Ok(()) => outcome_of_reply(given),
+        Err(PrintError::NoMemory) => Outcome::NoMemory,
+        Err(PrintError::WriteFault) => Outcome::WriteFault,
     }
 }

@@ -1,35 +1,24 @@
 // One run of the program.
-ghost use Rattle.std.specs.Prelude.{◌≡◌, ◌≢◌, ◌≤◌, ◌↔◌, ◌∷◌, [], length, map, string_bytes, List, ℕ, IfSome, Some};
-ghost use Rattle.mdbox_base.specs.Words.{IsOctets, IsName};
+ghost use Rattle.std.specs.Prelude.{◌≡◌, ◌≢◌, ◌≤◌, ◌↔◌, false, map, string_bytes};
+ghost use Rattle.disk_model.specs.FaultCounts.{NoFault, AnyFaultCounted};
 ghost use Rattle.mdbox_base.specs.Streams.{Rose};
-ghost use Rattle.mdbox_base.specs.declared.ids.StoreId.{StoreId};
-ghost use Rattle.disk_model.specs.FaultCounts.{AnyFaultCounted};
-ghost use Rattle.mdbox_top.specs.Commands.{words_of, IsCommandLine, store_words, IsFit, IsStoreLine};
-ghost use Rattle.mdbox_top.specs.Run.{Prints, Refuses, Ends, status_of, error_text, Gave, IsOneOf};
-ghost use Rattle.disk_model.specs.Disk.{EachImage};
-ghost use Rattle.model_lists.specs.Lists.{Lists};
-ghost use Rattle.model_store.specs.Safe.{Safe};
-ghost use Rattle.model_store.specs.Settled.{IsSettledFor};
-ghost use Rattle.mdbox_top.specs.ListRun.{ListEnds};
-ghost use Rattle.mdbox_top.specs.StoreRun.{Inits, InitMoments, store_status, store_error_text};
-ghost use Rattle.mdbox_top.specs.declared.command.Command.{Command};
-ghost use Rattle.mdbox_top.specs.declared.store_command.StoreCommand.TheVariants as store;
-ghost use Rattle.mdbox_top.specs.declared.outcome.InputRefusal.{InputRefusal};
-ghost use Rattle.mdbox_top.specs.declared.outcome.Outcome.{Outcome};
-ghost use Rattle.mdbox_top.specs.declared.store_outcome.StoreOutcome.{StoreOutcome};
+ghost use Rattle.piece_writer.specs.Pieces.{WritesOrFaults};
+ghost use Rattle.request_text.specs.Commands.{IsInRange, Says, SayNothing};
+ghost use Rattle.request_text.specs.Outcomes.{status_of, error_text};
+ghost use Rattle.request_text.specs.declared.command.Command.{Command};
+ghost use Rattle.request_text.specs.declared.outcome.Outcome.TheVariants as outcome;
+ghost use Rattle.mdbox_top.specs.Run.{Ends, RunOutcome, Moments, Rests, HasStatus, reads_input, uses_disk};
 
-use crate::init::run_init;
-use crate::list::run_list;
-use crate::status::Status;
-use crate::store_command::{StoreCommand, store_command_of};
-use crate::store_outcome::{StoreOutcome, report_store};
-use crate::streams::run_streams;
+use crate::init::init;
+use crate::input_commands::{dump, logdump};
+use crate::list::list;
+use crate::show::show;
 use disk_model::Disk;
-use mdbox_base::{NoMemory, Sink, Source};
+use mdbox_base::{Sink, Source};
+use request_text::{Command, HELP, Outcome, Status, VERSION, WordsError, read_words, report};
 use std::alloc::Global;
-use store_open::OpenError;
 
-/// Does what the words ask, and hands the disk back. A command that reads standard input reads it to its end.
+/// Does what the words ask, and hands the disk back. `dump` and `logdump` read standard input to its end.
 pub fn mdbox_run<D: Disk, I: Source, O: Sink, E: Sink>(
     alloc: Global,
     words: &[String],
@@ -38,86 +27,101 @@ pub fn mdbox_run<D: Disk, I: Source, O: Sink, E: Sink>(
     output: &mut O,
     errors: &mut E,
 ) -> (Status, D)
-    // Words that are no command on the store: what was read, what was printed, what was told, and the status.
-    ensures run { ¬ IsStoreLine (map string_bytes words.now) → (outcome : Outcome) × (result.0.0 ≡ status_of outcome)
-        × Ends (map string_bytes words.now) (I.left input.old) (O.held output.old) (O.held output.new) outcome
-        × Gave (E.held errors.old) (E.faults errors.old) (error_text outcome) (E.held errors.new) (E.faults errors.new) }
+    // What was read and printed, what the disk holds, what was told, and the status.
+    ensures run { (command : Command) → Says (map string_bytes words.now) command
+        → RunOutcome (Ends command (I.left input.old) (O.held output.old) (O.held output.new) (D.history disk) (D.history result.1) (D.faults disk) (D.faults result.1)) result.0.0 (E.held errors.old) (E.faults errors.old) (E.held errors.new) (E.faults errors.new) }
 
-    // Then no call is made of the disk.
-    ensures untouched { ¬ IsStoreLine (map string_bytes words.now) → result.1 ≡ disk }
+    // What a crash at any moment of the run leaves, whatever the result.
+    ensures moments { (command : Command) → Says (map string_bytes words.now) command → Moments command (D.history disk) (D.history result.1) }
 
-    // Other words than a command's, whatever else: then nothing is taken. A command on the store takes nothing either.
-    ensures usage { (result.0.0 ≡ 2) ↔ (¬ IsCommandLine (map string_bytes words.now) × ¬ IsStoreLine (map string_bytes words.now)) }
-    ensures untaken { result.0.0 ≡ 2 → I.left input.new ≡ I.left input.old }
-    ensures unread { IsStoreLine (map string_bytes words.now) → input.new ≡ input.old }
+    // What the disk is at the end, if no change of it failed.
+    ensures rests { (command : Command) → Says (map string_bytes words.now) command → Rests command (result.0.0 ≡ 6) (D.faults disk) (D.faults result.1) (D.history disk) (D.history result.1) }
 
-    // A refused input is answered as such, but for want of memory and a read fault; one in the grammar is printed, but for these and a write fault.
-    ensures refused { IfSome (I.left input.old) (λ all. (command : Command) (why : InputRefusal) →
-        map string_bytes words.now ≡ words_of command → Refuses command all why → IsOneOf (4 ∷ 5 ∷ 7 ∷ []) result.0.0) }
-    ensures printed { IfSome (I.left input.old) (λ all. (command : Command) (text : List ℕ) →
-        map string_bytes words.now ≡ words_of command → Prints command all text → IsOneOf (0 ∷ 5 ∷ 7 ∷ 8 ∷ []) result.0.0) }
+    // No other status than what the input and the disk allow.
+    ensures status { (command : Command) → Says (map string_bytes words.now) command → HasStatus command (I.left input.old) (D.history disk) result.0.0 }
+    ensures known { result.0.0 ≤ 8 }
 
-    // `init` makes a store with this id, whose INBOX is empty, and prints `OK`; or it refuses for what the files are.
-    ensures init { (id : StoreId) → IsFit (store.Init id) → map string_bytes words.now ≡ store_words (store.Init id) → (outcome : StoreOutcome) × (result.0.0 ≡ store_status outcome)
-        × Inits id.0 (O.held output.old) (O.held output.new) (D.history disk) (D.history result.1) outcome
-        × Gave (E.held errors.old) (E.faults errors.old) (store_error_text outcome) (E.held errors.new) (E.faults errors.new) }
+    // Words that say no command, whatever else: then that is told, and nothing else happens.
+    ensures usage { (result.0.0 ≡ 2) ↔ SayNothing (map string_bytes words.now) }
+    ensures unknown { SayNothing (map string_bytes words.now) → (input.new ≡ input.old) × (output.new ≡ output.old) × (result.1 ≡ disk)
+        × WritesOrFaults (E.held errors.old) (E.faults errors.old) (error_text outcome.Usage) (E.held errors.new) (E.faults errors.new) }
 
-    // A stop at any moment of it leaves no store, or one whose INBOX is empty, where no image had one before.
-    ensures init_moments { (id : StoreId) → IsFit (store.Init id) → map string_bytes words.now ≡ store_words (store.Init id) → InitMoments (D.history disk) (D.history result.1) }
+    // No call is made of an input or a disk that the command doesn't use.
+    ensures unread { (command : Command) → Says (map string_bytes words.now) command → reads_input command ≡ false → input.new ≡ input.old }
+    ensures untouched { (command : Command) → Says (map string_bytes words.now) command → uses_disk command ≡ false → result.1 ≡ disk }
 
-    // `list` prints the reply to a listing of the mailbox, which is that of the list machine where the disk is settled for
-    // lists; or the store was not opened, for what the files are.
-    ensures list { (name : List ℕ) → IsName name → map string_bytes words.now ≡ store_words (store.List name) → (outcome : StoreOutcome) × (result.0.0 ≡ store_status outcome)
-        × ListEnds name (O.held output.old) (O.held output.new) (D.history disk) (D.history result.1) outcome
-        × Gave (E.held errors.old) (E.faults errors.old) (store_error_text outcome) (E.held errors.new) (E.faults errors.new) }
-
-    // A stop at any moment of it leaves a disk that is safe for the lists for which it was settled, whatever fails; and no file
-    // of such a disk refuses it.
-    ensures list_moments { (name : List ℕ) → IsName name → map string_bytes words.now ≡ store_words (store.List name) → (lists : Lists) → IsSettledFor lists (D.history disk)
-        → EachImage (λ _ image. Safe image lists) (D.history disk) (D.history result.1) }
-    ensures list_complete { (name : List ℕ) → IsName name → map string_bytes words.now ≡ store_words (store.List name) → (lists : Lists) → IsSettledFor lists (D.history disk) → IsOneOf (0 ∷ 1 ∷ 5 ∷ 6 ∷ 8 ∷ []) result.0.0 }
-
-    // A fault only where that object's count rose.
+    // A fault if and only if that object's count of faults changed: none is made up, and none hidden. The counts never fall.
     ensures disk_fault { AnyFaultCounted (result.0.0 ≡ 6) (D.faults disk) (D.faults result.1) }
     ensures read_fault { result.0.0 ≡ 7 → Rose (I.faults input.old) (I.faults input.new) }
     ensures write_fault { result.0.0 ≡ 8 → Rose (O.faults output.old) (O.faults output.new) }
+    ensures disk_quiet { result.0.0 ≢ 6 → NoFault (D.faults disk) (D.faults result.1) }
+    ensures read_quiet { result.0.0 ≢ 7 → I.faults input.new ≡ I.faults input.old }
+    ensures write_quiet { result.0.0 ≢ 8 → O.faults output.new ≡ O.faults output.old }
     ensures counted { (I.faults input.old ≤ I.faults input.new) × (O.faults output.old ≤ O.faults output.new) × (E.faults errors.old ≤ E.faults errors.new) }
 {
-    match store_command_of(alloc, words) {
-        Ok(None) => (run_streams(alloc, words, input, output, errors), disk),
-        Ok(Some(command)) => run_command(alloc, command, disk, output, errors),
-        Err(NoMemory) => {
-            let outcome = StoreOutcome::Refused(OpenError::NoMemory);
-            (report_store(alloc, errors, outcome), disk)
-        }
+    match read_words(alloc, words) {
+        Ok(command) => mdbox_alone(alloc, command, disk, input, output, errors),
+        Err(WordsError::Usage) => (report(alloc, errors, Outcome::Usage), disk),
+        Err(WordsError::NoMemory) => (report(alloc, errors, Outcome::NoMemory), disk),
     }
 }
 
-/// Does a command on the store.
-fn run_command<D: Disk, O: Sink, E: Sink>(
+/// Does one command, and hands the disk back.
+pub fn mdbox_alone<D: Disk, I: Source, O: Sink, E: Sink>(
     alloc: Global,
-    command: StoreCommand,
+    command: Command,
     disk: D,
+    input: &mut I,
     output: &mut O,
     errors: &mut E,
 ) -> (Status, D)
-    requires fit { IsFit command }
-    ensures init { (id : StoreId) → command ≡ store.Init id → (outcome : StoreOutcome) × (result.0.0 ≡ store_status outcome)
-        × Inits id.0 (O.held output.old) (O.held output.new) (D.history disk) (D.history result.1) outcome
-        × Gave (E.held errors.old) (E.faults errors.old) (store_error_text outcome) (E.held errors.new) (E.faults errors.new) }
-    ensures init_moments { (id : StoreId) → command ≡ store.Init id → InitMoments (D.history disk) (D.history result.1) }
-    ensures list { (name : List ℕ) → command ≡ store.List name → (outcome : StoreOutcome) × (result.0.0 ≡ store_status outcome)
-        × ListEnds name (O.held output.old) (O.held output.new) (D.history disk) (D.history result.1) outcome
-        × Gave (E.held errors.old) (E.faults errors.old) (store_error_text outcome) (E.held errors.new) (E.faults errors.new) }
-    ensures list_moments { (name : List ℕ) → command ≡ store.List name → (lists : Lists) → IsSettledFor lists (D.history disk) → EachImage (λ _ image. Safe image lists) (D.history disk) (D.history result.1) }
-    ensures list_complete { (name : List ℕ) → command ≡ store.List name → (lists : Lists) → IsSettledFor lists (D.history disk) → IsOneOf (0 ∷ 1 ∷ 5 ∷ 6 ∷ 8 ∷ []) result.0.0 }
+    requires range { IsInRange command }
+    ensures run { RunOutcome (Ends command (I.left input.old) (O.held output.old) (O.held output.new) (D.history disk) (D.history result.1) (D.faults disk) (D.faults result.1)) result.0.0 (E.held errors.old) (E.faults errors.old) (E.held errors.new) (E.faults errors.new) }
+    ensures moments { Moments command (D.history disk) (D.history result.1) }
+    ensures rests { Rests command (result.0.0 ≡ 6) (D.faults disk) (D.faults result.1) (D.history disk) (D.history result.1) }
+    ensures status { HasStatus command (I.left input.old) (D.history disk) result.0.0 }
+    ensures unread { reads_input command ≡ false → input.new ≡ input.old }
+    ensures untouched { uses_disk command ≡ false → result.1 ≡ disk }
     ensures disk_fault { AnyFaultCounted (result.0.0 ≡ 6) (D.faults disk) (D.faults result.1) }
+    ensures read_fault { result.0.0 ≡ 7 → Rose (I.faults input.old) (I.faults input.new) }
     ensures write_fault { result.0.0 ≡ 8 → Rose (O.faults output.old) (O.faults output.new) }
-    ensures known { IsOneOf (0 ∷ 1 ∷ 3 ∷ 5 ∷ 6 ∷ 8 ∷ []) result.0.0 }
-    ensures counted { (O.faults output.old ≤ O.faults output.new) × (E.faults errors.old ≤ E.faults errors.new) }
+    ensures disk_quiet { result.0.0 ≢ 6 → NoFault (D.faults disk) (D.faults result.1) }
+    ensures read_quiet { result.0.0 ≢ 7 → I.faults input.new ≡ I.faults input.old }
+    ensures write_quiet { result.0.0 ≢ 8 → O.faults output.new ≡ O.faults output.old }
+    ensures counted { (I.faults input.old ≤ I.faults input.new) × (O.faults output.old ≤ O.faults output.new) × (E.faults errors.old ≤ E.faults errors.new) }
+{
+    let (outcome, disk) = perform(alloc, command, disk, input, output);
+    (report(alloc, errors, outcome), disk)
+}
+
+/// Does one command, and says how it ended.
+fn perform<D: Disk, I: Source, O: Sink>(
+    alloc: Global,
+    command: Command,
+    disk: D,
+    input: &mut I,
+    output: &mut O,
+) -> (Outcome, D)
+    requires range { IsInRange command }
+    ensures ends { Ends command (I.left input.old) (O.held output.old) (O.held output.new) (D.history disk) (D.history result.1) (D.faults disk) (D.faults result.1) result.0 }
+    ensures moments { Moments command (D.history disk) (D.history result.1) }
+    ensures unread { reads_input command ≡ false → input.new ≡ input.old }
+    ensures untouched { uses_disk command ≡ false → result.1 ≡ disk }
+    ensures rests { Rests command (result.0 ≡ outcome.DiskFault) (D.faults disk) (D.faults result.1) (D.history disk) (D.history result.1) }
+    ensures disk_fault { AnyFaultCounted (result.0 ≡ outcome.DiskFault) (D.faults disk) (D.faults result.1) }
+    ensures read_fault { result.0 ≡ outcome.ReadFault → Rose (I.faults input.old) (I.faults input.new) }
+    ensures write_fault { result.0 ≡ outcome.WriteFault → Rose (O.faults output.old) (O.faults output.new) }
+    ensures disk_quiet { result.0 ≢ outcome.DiskFault → NoFault (D.faults disk) (D.faults result.1) }
+    ensures read_quiet { result.0 ≢ outcome.ReadFault → I.faults input.new ≡ I.faults input.old }
+    ensures write_quiet { result.0 ≢ outcome.WriteFault → O.faults output.new ≡ O.faults output.old }
+    ensures counted { (I.faults input.old ≤ I.faults input.new) × (O.faults output.old ≤ O.faults output.new) }
 {
     match command {
-        StoreCommand::Init { id } => run_init(alloc, id, disk, output, errors),
-        StoreCommand::List { name } => run_list(alloc, name, disk, output, errors),
+        Command::Init { id } => init(alloc, id, disk, output),
+        Command::List { name } => list(alloc, name, disk, output),
+        Command::Dump => (dump(alloc, input, output), disk),
+        Command::LogDump => (logdump(alloc, input, output), disk),
+        Command::Help => (show(output, HELP), disk),
+        Command::Version => (show(output, VERSION), disk),
     }
 }

@@ -17,8 +17,8 @@ use Rattle.model_mime.specs.Fields.{fields_of}
 use Rattle.model_mime.specs.Parts.{part_found, Found, found_in, whole_entity, is_too_deep, within_limits, parts_in, part_of, trimmed_size, is_other, ends_part, part_lines, part_end, parts_of}
 use Rattle.model_mime.specs.Parts.Found.{APart}
 use Rattle.mime_parts.specs.ToCome.{open_found, own_end, end_here, to_come}
-use Rattle.mime_parts.specs.Marks.{Says, EndsAt}
-use Rattle.mime_parts.specs.Reading.{found_parts, boundary_in, after_head, IsOpen, HasLevel, IsRead, IsOutsideParts, EndsAs, Ended}
+use Rattle.mime_parts.specs.Marks.{MarkSays, EndsAt}
+use Rattle.mime_parts.specs.Reading.{found_parts, boundary_in, after_head, IsOpen, HasLevel, IsRead, IsOutsideParts, ReadingEndsAs, Ended}
 use Rattle.mime_parts.specs.declared.reader.Reader.{Reader}
 use Rattle.mime_parts.specs.declared.reader.Place.{Place}
 use Rattle.mime_parts.specs.declared.reader.Place.TheVariants as places
@@ -85,7 +85,7 @@ end_by outer (a ∷ inner) b k n place before e m = let less : k + 1 < n = omega
 
 -- What is still to come from a delimiter line on.
 pub delimit_all : (message : List ℕ) (s : Reader) (line : Line) (k : ℕ) (r : IsRead message s line.start) → IsLineAt message line.start line
-    → EndsAt s.stack.items (range message line.start line.end) k (Says marks.Delimiter)
+    → EndsAt s.stack.items (range message line.start line.end) k (MarkSays marks.Delimiter)
     → to_come message 64 s.stack.items s.place s.before (lines_from line.start (drop line.start message)) (length message)
     ≡ open_found message r.levels s.place [] (if k + 1 == length s.stack.items then own_end s.place s.before else s.before)
     ++ to_come message 64 (take (k + 1) s.stack.items) (places.Head line.next) line.end (lines_from line.next (drop line.next message)) (length message)
@@ -108,7 +108,7 @@ all_behind found found' gone rest all whole e f h = rw (e, append_assoc) (ap (λ
 
 -- the reader behind a delimiter line
 pub delimit_next : (message : List ℕ) (s mid new : Reader) (line : Line) (k end : ℕ) (r : IsRead message s line.start) → IsLineAt message line.start line
-    → EndsAt s.stack.items (range message line.start line.end) k (Says marks.Delimiter)
+    → EndsAt s.stack.items (range message line.start line.end) k (MarkSays marks.Delimiter)
     → end ≡ (if k + 1 == length s.stack.items then own_end s.place s.before else s.before)
     → Ended message s mid end true
     → new.stack.items ≡ take (k + 1) mid.stack.items → new.place ≡ places.Head line.next → new.before ≡ line.end → new.parts.items ≡ mid.parts.items
@@ -139,7 +139,7 @@ delimit_next message s mid new line k end r h e f d stack here before parts =
 
 -- What is still to come from a closing line on.
 pub close_all : (message : List ℕ) (s : Reader) (line : Line) (k : ℕ) (r : IsRead message s line.start) → IsLineAt message line.start line
-    → EndsAt s.stack.items (range message line.start line.end) k (Says marks.Closing)
+    → EndsAt s.stack.items (range message line.start line.end) k (MarkSays marks.Closing)
     → to_come message 64 s.stack.items s.place s.before (lines_from line.start (drop line.start message)) (length message)
     ≡ open_found message r.levels s.place [] (if k + 1 == length s.stack.items then own_end s.place s.before else s.before)
     ++ to_come message 64 (take k s.stack.items) places.Between line.end (lines_from line.next (drop line.next message)) (length message)
@@ -153,7 +153,7 @@ close_all message s line k r h e =
 
 -- the reader behind a closing line
 pub close_next : (message : List ℕ) (s mid new : Reader) (line : Line) (k end : ℕ) (r : IsRead message s line.start) → IsLineAt message line.start line
-    → EndsAt s.stack.items (range message line.start line.end) k (Says marks.Closing)
+    → EndsAt s.stack.items (range message line.start line.end) k (MarkSays marks.Closing)
     → end ≡ (if k + 1 == length s.stack.items then own_end s.place s.before else s.before)
     → Ended message s mid end true
     → new.stack.items ≡ take k mid.stack.items → new.place ≡ places.Between → new.before ≡ line.end → new.parts.items ≡ mid.parts.items
@@ -355,7 +355,7 @@ read_start message s stack now before parts = record {
 no_lines : (message : List ℕ) (at : ℕ) → length message ≤ at → lines_from at (drop at message) ≡ []
 no_lines message at h = rw (nil_from_length (drop at message) (omega (arith, length-drop at message))) refl
 
-pub end_all : (message : List ℕ) (s : Reader) (at : ℕ) → length message ≤ at → EndsAs message s at
+pub end_all : (message : List ℕ) (s : Reader) (at : ℕ) → length message ≤ at → ReadingEndsAs message s at
 end_all message s at h levels few = rw (no_lines message at h) (flushed message levels 64 s.stack.items s.place s.before (length message) (omega (arith, few)))
 
 -- the end of a message in which no multipart is open
@@ -364,11 +364,11 @@ same_body message places.Between levels levels' ls end h = refl
 same_body message (places.Head start) levels levels' ls end h = absurd (h start refl)
 same_body message (places.Body start body coding other) levels levels' ls end h = refl
 
-pub end_settled : (message : List ℕ) (s : Reader) (at : ℕ) → IsOutsideParts s → EndsAs message s at
+pub end_settled : (message : List ℕ) (s : Reader) (at : ℕ) → IsOutsideParts s → ReadingEndsAs message s at
 end_settled message s at h levels few = rw h.alone (same_body message s.place 64 levels (lines_from at (drop at message)) (length message) h.body)
 
 -- the end, with nothing behind it
-pub end_behind : (message : List ℕ) (s : Reader) (at : ℕ) (r : IsRead message s at) → EndsAs message s at
+pub end_behind : (message : List ℕ) (s : Reader) (at : ℕ) (r : IsRead message s at) → ReadingEndsAs message s at
     → to_come message 64 s.stack.items s.place s.before (lines_from at (drop at message)) (length message) ≡ open_found message r.levels s.place [] (length message) ++ []
 end_behind message s at r h = h r.levels r.few ∙ sym (append-nil _)
 
@@ -383,7 +383,7 @@ all_parts (p ∷ parts) = ap (λ (x : List Part). p ∷ x) (all_parts parts)
 few_enough : (n : ℕ) → n ≤ 10000 → nat_lt 10000 n ≡ false
 few_enough n h = grind (arith, nat_tests)
 
-pub parts_end : (message : List ℕ) (s mid : Reader) (at : ℕ) (r : IsRead message s at) → EndsAs message s at → Ended message s mid (length message) true → mid.parts.items ≡ parts_in message
+pub parts_end : (message : List ℕ) (s mid : Reader) (at : ℕ) (r : IsRead message s at) → ReadingEndsAs message s at → Ended message s mid (length message) true → mid.parts.items ≡ parts_in message
 unfolding parts_in
 parts_end message s mid at r h d =
     let told = d.parts refl in

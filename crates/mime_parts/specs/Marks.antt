@@ -8,10 +8,10 @@ use Rattle.mime_parts.specs.declared.mark.Ending.{Ending}
 use Rattle.mime_parts.specs.declared.mark.Ending.TheVariants as endings
 
 -- what a line is to a boundary
-abbrev pub Says : Mark → List ℕ → List ℕ → Type 0
-Says marks.Nothing boundary text = ends_part boundary text ≡ false
-Says marks.Delimiter boundary text = (is_closing boundary text ≡ false) × (is_delimiter boundary text ≡ true)
-Says marks.Closing boundary text = is_closing boundary text ≡ true
+abbrev pub MarkSays : Mark → List ℕ → List ℕ → Type 0
+MarkSays marks.Nothing boundary text = ends_part boundary text ≡ false
+MarkSays marks.Delimiter boundary text = (is_closing boundary text ≡ false) × (is_delimiter boundary text ≡ true)
+MarkSays marks.Closing boundary text = is_closing boundary text ≡ true
 
 -- the outermost boundary that a line ends a part of
 pub record EndsAt (stack : List (List ℕ)) (text : List ℕ) (k : ℕ) (P : List ℕ → List ℕ → Type 0) : Type 0 where
@@ -25,5 +25,5 @@ pub record EndsAt (stack : List (List ℕ)) (text : List ℕ) (k : ℕ) (P : Lis
 
 abbrev pub LineEnds : Ending → List (List ℕ) → List ℕ → Type 0
 LineEnds endings.Nothing stack text = list_any (λ b. ends_part b text) stack ≡ false
-LineEnds (endings.Delimiter k) stack text = EndsAt stack text k (Says marks.Delimiter)
-LineEnds (endings.Closing k) stack text = EndsAt stack text k (Says marks.Closing)
+LineEnds (endings.Delimiter k) stack text = EndsAt stack text k (MarkSays marks.Delimiter)
+LineEnds (endings.Closing k) stack text = EndsAt stack text k (MarkSays marks.Closing)

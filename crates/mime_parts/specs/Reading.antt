@@ -47,8 +47,8 @@ pub record IsOutsideParts (s : Reader) : Type 0 where
   pub body : (start : ℕ) → s.place ≢ places.Head start
 
 -- From a place on no line changes what is found: it is what would be if the message ended there.
-abbrev pub EndsAs : List ℕ → Reader → ℕ → Type 0
-EndsAs message s at =
+abbrev pub ReadingEndsAs : List ℕ → Reader → ℕ → Type 0
+ReadingEndsAs message s at =
     (levels : ℕ) → levels + length s.stack.items ≡ 64
     → to_come message 64 s.stack.items s.place s.before (lines_from at (drop at message)) (length message) ≡ open_found message levels s.place [] (length message)
 

@@ -2,7 +2,7 @@
 ghost use Rattle.std.specs.Prelude.{◌≡◌, ◌++◌, ◌<◌, List, ℕ, length, true, false, IfSome, IfNone};
 ghost use Rattle.std.specs.List.{list_all};
 ghost use Rattle.model_mime.specs.Lines.{is_blank};
-ghost use Rattle.mime_parts.specs.Marks.{Says, LineEnds};
+ghost use Rattle.mime_parts.specs.Marks.{MarkSays, LineEnds};
 
 use model_mime::Boundary;
 
@@ -42,13 +42,13 @@ pub fn ending_of(stack: &[Boundary], text: &[u8]) -> Ending
 }
 
 fn mark_by(boundary: &Boundary, text: &[u8]) -> Mark
-    ensures { Says result boundary.now text.now }
+    ensures { MarkSays result boundary.now text.now }
 {
     mark_of(boundary.as_octets(), text)
 }
 
 fn mark_of(boundary: &[u8], text: &[u8]) -> Mark
-    ensures { Says result boundary.now text.now }
+    ensures { MarkSays result boundary.now text.now }
 {
     let Some(inside) = behind(b"--", text) else {
         return Mark::Nothing;

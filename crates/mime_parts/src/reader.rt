@@ -3,10 +3,10 @@ ghost use Rattle.std.specs.Prelude.{◌≡◌, ◌≤◌, ◌<◌, ◌+◌, ◌-
 ghost use Rattle.std.specs.List.{list_any};
 ghost use Rattle.model_mime.specs.Lines.{range, IsLineAt};
 ghost use Rattle.model_mime.specs.Parts.{ends_part, part_of, trimmed_size, parts_in};
-ghost use Rattle.mime_parts.specs.Marks.{Says, EndsAt};
+ghost use Rattle.mime_parts.specs.Marks.{MarkSays, EndsAt};
 ghost use Rattle.mime_parts.specs.ToCome.{own_end};
 ghost use Rattle.mime_parts.specs.declared.mark.Mark.{Mark};
-ghost use Rattle.mime_parts.specs.Reading.{IsRead, boundary_in, after_head, IsOutsideParts, EndsAs, Flushes, Ended};
+ghost use Rattle.mime_parts.specs.Reading.{IsRead, boundary_in, after_head, IsOutsideParts, ReadingEndsAs, Flushes, Ended};
 
 use crate::mark::{Ending, ending_of};
 use mdbox_base::{NoMemory, Seq};
@@ -74,7 +74,7 @@ impl Reader {
     pub fn next_line(&self, message: &[u8], at: usize) -> Option<Line>
         requires read { IsRead message.now self.now at }
         ensures line { IfSome result (λ line. IsLineAt message.now at line) }
-        ensures end { IfNone result (EndsAs message.now self.now at) }
+        ensures end { IfNone result (ReadingEndsAs message.now self.now at) }
     {
         if self.is_settled() {
             return None;
@@ -146,7 +146,7 @@ impl Reader {
         requires small { length message.now ≤ 67108864 }
         requires read { IsRead message.now self.old line.start }
         requires line { IsLineAt message.now line.start line }
-        requires ends { EndsAt self.old.stack.items (range message.now line.start line.end) k (Says Mark.Delimiter) }
+        requires ends { EndsAt self.old.stack.items (range message.now line.start line.end) k (MarkSays Mark.Delimiter) }
         ensures { IfOk result (λ going. MatchBool going (IsRead message.now self.new line.next) (parts_in message.now ≡ [])) }
     {
         let end = self.end_at(k);
@@ -164,7 +164,7 @@ impl Reader {
         requires small { length message.now ≤ 67108864 }
         requires read { IsRead message.now self.old line.start }
         requires line { IsLineAt message.now line.start line }
-        requires ends { EndsAt self.old.stack.items (range message.now line.start line.end) k (Says Mark.Closing) }
+        requires ends { EndsAt self.old.stack.items (range message.now line.start line.end) k (MarkSays Mark.Closing) }
         ensures { IfOk result (λ going. MatchBool going (IsRead message.now self.new line.next) (parts_in message.now ≡ [])) }
     {
         let end = self.end_at(k);

@@ -1,3 +1,4 @@
 pub mod CountingLemmas
+pub mod DueLemmas
 pub mod LookupLemmas
 pub mod ShownLemmas

@@ -1,2 +1,3 @@
-pub mod Value
+pub mod Dues
 pub mod Running
+pub mod Value

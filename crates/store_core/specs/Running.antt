@@ -60,8 +60,8 @@ pub record IsUpTo (drawn highest : Highest) : Type 0 where
   pub mailbox : highest.mailbox ≤ drawn.mailbox
 
 -- A store's indexes are what good logs mean, its logs stand under the names and heads that the root log and the map say, and
--- each count covers what is listed and due. Unless it is stopped, its disk, of which this
--- is told, opens with these logs, and reads them.
+-- each count covers what is listed and due. Unless it is stopped, its disk, which tells this, opens with these logs, and reads
+-- them. What a failed change leaves on the disk of a stopped store is said by the clauses of the call that made it.
 pub record IsStore {D : Type 0} (history : Option History) (store : StoreValue D) : Type 0 where
   pub entries : List MapEntry
   pub logs : List (List BoxEntry)

@@ -1,9 +1,13 @@
 // A store that is open.
-ghost use Rattle.std.specs.Prelude.{◌≡◌, ◌<◌, ◌≤◌, ◌^◌, ◌==◌, false, length, find, count_by, sum_by, if◌then◌else◌};
+ghost use Rattle.std.specs.Prelude.{◌≡◌, ◌<◌, ◌≤◌, ◌^◌, ◌==◌, ℕ, List, All, map, false, length, find, count_by, sum_by, if◌then◌else◌};
 ghost use Rattle.std.specs.Option.{option_copied, option_map, option_map_or};
 ghost use Rattle.std.specs.Str.{bytes_eq};
+ghost use Rattle.mdbox_base.specs.declared.entries.BoxEntry.{BoxEntry};
+ghost use Rattle.model_appends.specs.Amounts.{IsAccounted};
+ghost use Rattle.model_meaning.specs.BoxMeaning.{box_meaning};
 ghost use Rattle.model_meaning.specs.MapMeaning.{count_of};
-ghost use Rattle.store_core.specs.Value.{newly_open, list_named, list_numbered, references_to};
+ghost use Rattle.store_core.specs.Dues.{due_at, leak_at};
+ghost use Rattle.store_core.specs.Value.{indexes_of, newly_open, list_named, list_numbered, references_to};
 ghost use Rattle.store_core.specs.Running.{IsStore};
 
 use box_index::{BoxIndex, BoxRow};
@@ -97,6 +101,13 @@ impl<D: Disk> Store<D> {
         let _ = &self.id;
     }
 
+    /// Each count is made up of the listed messages, what is due of the record, and its leak.
+    pub fn counts(&self)
+        ensures { (logs : List (List BoxEntry)) → indexes_of self.now.boxes ≡ map box_meaning logs → All (IsAccounted (λ uid. due_at uid self.now) (λ uid. leak_at uid self.now) logs) self.now.map.records }
+    {
+        self.map.known_facts();
+    }
+
     /// The allocator that the store keeps.
     pub fn alloc(&self) -> Global
         ensures { result ≡ self.now.alloc }
@@ -129,7 +140,7 @@ impl<D: Disk> Store<D> {
     pub fn list_of(&self, name: &Name) -> Option<&BoxIndex>
         ensures { option_copied result ≡ list_named self.now name.now }
     {
-        self.map.is_kept();
+        self.map.known_facts();
         let number = self.map.box_named(name)?;
         self.mailbox(number)
     }
@@ -138,7 +149,7 @@ impl<D: Disk> Store<D> {
     pub fn refs_of(&self, guid: Guid) -> u64
         ensures { result ≡ references_to self.now guid.0 }
     {
-        self.map.is_kept();
+        self.map.known_facts();
         listed_in_all(&self.boxes, guid)
     }
 

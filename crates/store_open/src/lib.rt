@@ -12,5 +12,3 @@ mod free;
 mod init;
 mod old_logs;
 mod open;
-#[cfg(test)]
-mod tests;

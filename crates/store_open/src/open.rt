@@ -27,7 +27,7 @@ pub fn open_store<D: Disk>(alloc: Global, disk: D, lanes: u32) -> Result<Store<D
 
     // The store has what the files meant, and isn't stopped.
     ensures opened { IfOk result (λ store. IsOpenedAs (D.history disk) store.map (indexes_of store.boxes)) }
-    ensures state { IfOk result (λ store. (store.lanes ≡ lanes) × (store.stopped ≡ false) × (store.alloc ≡ alloc)) }
+    ensures state { IfOk result (λ store. (store.lanes ≡ lanes) × (store.stopped ≡ false) × (store.alloc ≡ alloc) × (store.drawn ≡ store.map.highest)) }
 
     // Of a settled disk it shows the lists.
     ensures shows { IfOk result (λ store. (lists : Lists) → IsSettledFor lists (D.history disk) → ShowLists store.map.boxes (indexes_of store.boxes) lists) }

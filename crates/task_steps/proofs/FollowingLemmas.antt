@@ -1,10 +1,9 @@
 -- Each event is the next of its lane, and each step is told.
-use Rattle.std.proofs.Common.{inl, inr, ◌⊎◌, ◌≡◌, ◌<◌, ◌≤◌, ◌+◌, ◌==◌, ℕ, Bool, true, false, cond, List, [], ◌∷◌, ◌++◌, Option, Some, None, refl, sym, ◌∙◌, ap, subst, arith, map}
-use Rattle.std.specs.Prelude.{◌≢◌, is_some, length, slice_get, Contains, if◌then◌else◌, nat_lt}
+use Rattle.std.proofs.Common.{inl, inr, ◌⊎◌, ◌≡◌, ◌<◌, ◌==◌, ℕ, Bool, true, false, List, [], ◌∷◌, ◌++◌, Option, Some, None, refl, sym, ◌∙◌, ap, subst, arith, map}
+use Rattle.std.specs.Prelude.{◌≢◌, is_some, length, slice_get, Contains, if◌then◌else◌}
 use Rattle.std.proofs.lemmas.Grind.{common_steps}
 use Rattle.std.proofs.lemmas.Option.{slice_get_within}
 use Rattle.std.proofs.lemmas.List.Elements.{Contains-append_left, Contains-push}
-use Rattle.std.proofs.lemmas.List.{append-nil, length-append}
 use Rattle.mdbox_base.specs.declared.requests.Request.{Request}
 use Rattle.mdbox_base.specs.declared.replies.Reply.{Reply}
 use Rattle.model_lists.specs.Lists.{Lists}
@@ -14,6 +13,9 @@ use Rattle.journal.specs.GoesOn.{RepliesAlso}
 use Rattle.journal.proofs.OwnEventLemmas.{own_more, own_other}
 use Rattle.journal.specs.Journal.{Requests, half_of, JournalStep, left_by, Broken, steps_of}
 use Rattle.journal.specs.Events.{Around, IsNextEvent, makes_step}
+use Rattle.journal.specs.Found.{AgreesWithRun}
+use Rattle.journal.proofs.JournalLemmas.{before_more}
+use Rattle.std.proofs.Math.Seq.{take-append_seam}
 use Rattle.journal.specs.Makes.{steps_made, lists_before, AreNextEvents, AreReplies, AreTold}
 use Rattle.journal.proofs.MakesLemmas.{run_goes_on, last_or_before}
 use Rattle.mdbox_base.specs.declared.progress.Did.{Did}
@@ -40,14 +42,15 @@ one_some a b e = cc e
 
 pub follows_on : (start : Lists) (script : Requests) (run : Run) (journal : List JournalStep) (broken : Broken) (replies : List (Option Reply)) (began now new : Seen) (around after : Around) (lane place : ℕ) (request : Request) (how : Did) (ended : Option Reply) → Serves start script run journal broken replies began now
     → IsTurn script journal replies lane place request → AreReplies script run replies → ((i : ℕ) (q : ℕ × Request) → i < place → slice_get script i ≡ Some q → q.0 ≡ lane → reply_of i run ≢ None) → place < length script
-    → (d : DidEvent around after run lane place (map (λ s. s.answer) (steps_of place journal)) request (left_by start journal) now new how ended) → Follows start script run journal
+    → (d : DidEvent around after run lane place (map (λ s. s.answer) (steps_of place journal)) request (left_by start journal) now new how ended) → AgreesWithRun around run request d.makes.event d.makes.event.part → Follows start script run journal
     → Follows start script (and_then run d.makes.event) (journal ++ steps_made run request d.makes.event d.makes.answer d.left)
-follows_on start script run journal broken replies began now new around after lane place request how ended s turn given earlier within d f = record {
+follows_on start script run journal broken replies began now new around after lane place request how ended s turn given earlier within d agrees f = record {
   around = with_last (length run.events) around f.around;
   after = with_last (length run.events) after f.after;
   next = run_goes_on (with_last (length run.events) around f.around) (with_last (length run.events) after f.after) script start run journal request d.makes.event d.makes.answer d.left s.legal.steps old
       (subst (λ (a : Around). IsNextEvent a (with_last (length run.events) after f.after (length run.events)) script run (left_by start journal) d.makes.event) (sym (last_is (length run.events) around f.around))
       (subst (λ (a : Around). IsNextEvent around a script run (left_by start journal) d.makes.event) (sym (last_is (length run.events) after f.after)) is_next));
+  found = λ n found asked e q. found_by n found asked q (last_or_before run d.makes.event found n e);
 }
   where
     is_next : IsNextEvent around after script run (left_by start journal) d.makes.event
@@ -59,6 +62,22 @@ follows_on start script run journal broken replies began now new around after la
       unanswered = ap (λ (n : ℕ). reply_of n run) d.makes.request_is ∙ one_some (reply_of place run) None (sym (given.1 place within) ∙ turn.unanswered);
       is_event = d.makes.is_event;
     }
+
+    now_found : AgreesWithRun (with_last (length run.events) around f.around (length run.events)) (before (length run.events) (and_then run d.makes.event)) request d.makes.event d.makes.event.part
+    now_found = subst (λ (a : Around). AgreesWithRun a (before (length run.events) (and_then run d.makes.event)) request d.makes.event d.makes.event.part) (sym (last_is (length run.events) around f.around))
+        (subst (λ (r : Run). AgreesWithRun around r request d.makes.event d.makes.event.part) (ap (λ (es : List RunEvent). record run { events = es }) (sym (take-append_seam run.events (d.makes.event ∷ [])))) agrees)
+
+    found_by : (n : ℕ) (found : RunEvent) (asked : ℕ × Request) → slice_get script found.request ≡ Some asked → (slice_get run.events n ≡ Some found) ⊎ ((n ≡ length run.events) × (found ≡ d.makes.event))
+        → AgreesWithRun (with_last (length run.events) around f.around n) (before n (and_then run d.makes.event)) asked.1 found found.part
+    found_by n found asked q (inl there) =
+        let lt = slice_get_within run.events n found there in
+        subst (λ (a : Around). AgreesWithRun a (before n (and_then run d.makes.event)) asked.1 found found.part) (sym (earlier_is (length run.events) around f.around n lt))
+        (subst (λ (r : Run). AgreesWithRun (f.around n) r asked.1 found found.part) (before_more run d.makes.event n (omega (arith, lt))) (f.found n found asked there q))
+    found_by n found asked q (inr last) =
+        let is : asked ≡ (lane, request) = one_some asked (lane, request) ((sym q ∙ ap (λ (x : RunEvent). slice_get script x.request) last.1) ∙ (ap (λ (k : ℕ). slice_get script k) d.makes.request_is ∙ turn.asked)) in
+        subst (λ (k : ℕ). AgreesWithRun (with_last (length run.events) around f.around k) (before k (and_then run d.makes.event)) asked.1 found found.part) (sym last.0)
+        (subst (λ (x : RunEvent). AgreesWithRun (with_last (length run.events) around f.around (length run.events)) (before (length run.events) (and_then run d.makes.event)) asked.1 x x.part) (sym last.1)
+        (subst (λ (x : ℕ × Request). AgreesWithRun (with_last (length run.events) around f.around (length run.events)) (before (length run.events) (and_then run d.makes.event)) x.1 d.makes.event d.makes.event.part) (sym is) now_found))
 
     old : AreNextEvents (with_last (length run.events) around f.around) (with_last (length run.events) after f.after) script start run journal
     old = λ n event e.

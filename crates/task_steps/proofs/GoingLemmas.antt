@@ -1,13 +1,13 @@
 -- One event more, whatever task it is of.
 use Rattle.std.proofs.Common.{inl, inr, ◌⊎◌, ◌≡◌, ◌<◌, ◌≤◌, ◌+◌, ◌-◌, ◌^◌, ◌==◌, ℕ, Bool, true, false, cond, List, [], ◌∷◌, ◌++◌, Option, Some, None, refl, sym, ◌∙◌, ap, subst, arith, All, map}
-use Rattle.std.specs.Prelude.{min, is_some, length, filter, take, count_by, slice_get, nat_le}
+use Rattle.std.specs.Prelude.{◌≢◌, min, is_some, length, filter, count_by, slice_get, nat_le}
 use Rattle.std.proofs.lemmas.Grind.{common_steps}
 use Rattle.std.proofs.lemmas.List.{append-nil, length-append, map-append, take-append-le}
-use Rattle.std.proofs.lemmas.List.Elements.{All-head, All-tail, All-weaker, filter-append}
+use Rattle.std.proofs.lemmas.List.Elements.{All-nil, All-cons, All-append, All-weaker, filter-append}
 use Rattle.std.proofs.lemmas.List.Sums.{sum_by-append, sum_by-cons}
 use Rattle.disk_model.specs.Disk.{Files, DiskState, History, IsImage, EachImage, calls, state_at, told_calls}
 use Rattle.mdbox_base.specs.Streams.{Rose}
-use Rattle.task_steps.specs.Step.{FaultsGrow, Seen, ShowsSeen, HasComeTo, Leads, Stops, Fell, Went, and_told, IsFault, EndsRequest, DidEvent}
+use Rattle.task_steps.specs.Step.{FaultsGrow, Seen, ShowsSeen, HasComeTo, Leads, Stops, Fell, Went, IsFault, DidEvent}
 use Rattle.disk_model.proofs.MomentLemmas.{each_image-map, each_image-then, state_at-only}
 use Rattle.mdbox_base.specs.declared.requests.Request.{Request}
 use Rattle.mdbox_base.specs.declared.replies.Refusal.{Refusal}
@@ -16,15 +16,16 @@ use Rattle.mdbox_base.specs.declared.replies.Reply.{Reply}
 use Rattle.mdbox_base.specs.declared.replies.Reply.TheVariants as reply
 use Rattle.model_lists.specs.Lists.{Lists}
 use Rattle.list_machine.specs.Run.{RunEvent, Run, and_then}
-use Rattle.journal.specs.Journal.{Requests, half_of, halves_of, JournalStep, IsStep, AreSteps, left_by, IsLegal, Broken, no_broken, as_if, AreBroken, Reached, HasReply, RoseBy, steps_of, IsFirstPart}
+use Rattle.journal.specs.Journal.{Requests, half_of, halves_of, JournalStep, IsStep, AreSteps, left_by, IsLegal, Broken, no_broken, AreBroken, Reached, HasReply, RoseBy, steps_of, IsFirstPart}
 use Rattle.mdbox_base.specs.declared.script.Half.{Half}
 use Rattle.journal.proofs.JournalLemmas.{steps_within}
-use Rattle.journal.specs.GoesOn.{MayCome, broken_by, AllMayCome}
+use Rattle.journal.specs.GoesOn.{broken_by, AllMayCome}
 use Rattle.journal.proofs.LegalLemmas.{legal_faults}
 use Rattle.journal.proofs.ReachedLemmas.{reached_last, reached_quiet, reached_step}
-use Rattle.journal.proofs.BrokenLemmas.{broken_is, reached_fails, reached_broken}
+use Rattle.journal.proofs.BrokenLemmas.{broken_is, none_failed, failure_is, failure_still, reached_fails, reached_broken}
+use Rattle.journal.proofs.StoppedLemmas.{stopped_is_replied}
 use Rattle.journal.specs.Events.{Around, is_faulted}
-use Rattle.journal.specs.Makes.{StepOf, WouldMake, Makes, steps_made}
+use Rattle.journal.specs.Makes.{StepOf, WouldMake, steps_made}
 use Rattle.journal.proofs.MakesLemmas.{made_is_step, legal_by_task}
 use Rattle.model_store.specs.Safe.{Safe}
 use Rattle.model_store.proofs.SettledLemmas.{settled_safe}
@@ -200,6 +201,7 @@ record Kept (start : Lists) (script : Requests) (run : Run) (journal : List Jour
   pub reads : RoseBy (count_by is_faulted run.events) began.faults.reads now.faults.reads
   pub changes : began.faults.changes ≤ now.faults.changes
   pub halted : (i : ℕ) → HasReply replies i (reply.Refused refusal.Stopped) → now.stopped ≡ true
+  pub unrefused : now.stopped ≡ false → All (λ event. event.refused ≢ Some refusal.Stopped) run.events
 
 -- the event and what it did, told apart
 record Told (start : Lists) (script : Requests) (run : Run) (journal : List JournalStep) (replies : List (Option Reply)) (began now new : Seen) (request : Request) (event : RunEvent) (answer : Option Reply) (left : Lists) (did : Did) : Type 0 where
@@ -255,10 +257,12 @@ quiet_on start script run journal broken replies began now new request event ans
     all : Kept start script (and_then run event) journal replies began new → Serves start script (and_then run event) journal broken replies began new
     all k = record {
       legal = k.legal;
+      begins = s.begins;
       come = k.come;
       shown = k.shown;
       within = more_events run event broken.place s.within;
       broken_is = broken_stays run script start journal broken event s.within s.broken_is;
+      of_failure = failure_still run event broken s.within s.of_failure;
       crash = λ at. crash at now.stopped refl;
       unbroken = λ e. s.unbroken (sym same ∙ e);
       settled = λ e at. leads.settled (s.settled (sym same ∙ e) at);
@@ -266,6 +270,7 @@ quiet_on start script run journal broken replies began now new request event ans
       changes = k.changes;
       fell = λ e. rose_later began.faults.changes now.faults.changes new.faults.changes (s.fell (sym same ∙ e)) t.faults.changes;
       halted = k.halted;
+      unrefused = k.unrefused;
     }
 
 step_on : (start : Lists) (script : Requests) (run : Run) (journal : List JournalStep) (broken : Broken) (replies : List (Option Reply)) (began now new : Seen) (request : Request) (event : RunEvent) (answer : Option Reply) (left : Lists) (how : Did) → Serves start script run journal broken replies began now
@@ -274,10 +279,12 @@ step_on start script run journal broken replies began now new request event answ
   no_broken,
   record {
     legal = t.kept.legal;
+    begins = s.begins;
     come = t.kept.come;
     shown = t.kept.shown;
     within = omega arith;
     broken_is = tt;
+    of_failure = none_failed (and_then run event);
     crash = λ at. step_reached start run request journal began now new event answer left some t.within t.moment_is
         (subst (λ (b : Broken). EachImage (IsReached start run journal b) began.history now.history) (s.unbroken ran) (s.crash at)) (leads.stops (s.settled ran at)) (leads.settled (s.settled ran at));
     unbroken = λ e. refl;
@@ -286,6 +293,7 @@ step_on start script run journal broken replies began now new request event answ
     changes = t.kept.changes;
     fell = λ e. absurd (fall new.stopped e runs);
     halted = t.kept.halted;
+    unrefused = t.kept.unrefused;
   },
 )
 
@@ -297,10 +305,12 @@ failed_on start script run journal broken replies began now new request event an
     all : Kept start script (and_then run event) journal replies began new → Serves start script (and_then run event) journal broken replies began new
     all k = record {
       legal = k.legal;
+      begins = s.begins;
       come = k.come;
       shown = k.shown;
       within = more_events run event broken.place s.within;
       broken_is = broken_stays run script start journal broken event s.within s.broken_is;
+      of_failure = failure_still run event broken s.within s.of_failure;
       crash = λ at. quiet_images start run journal broken began now new event t.within (s.crash at) (stops (s.settled f.ran at));
       unbroken = λ e. absurd (fall new.stopped f.stopped e);
       settled = λ e at. absurd (fall new.stopped f.stopped e);
@@ -308,6 +318,7 @@ failed_on start script run journal broken replies began now new request event an
       changes = k.changes;
       fell = λ e. rose_now began.faults.changes now.faults.changes new.faults.changes s.changes (t.faults.rose tt);
       halted = k.halted;
+      unrefused = k.unrefused;
     }
 
 broken_on : (start : Lists) (script : Requests) (run : Run) (journal : List JournalStep) (broken : Broken) (replies : List (Option Reply)) (began now new : Seen) (lane place : ℕ) (request : Request) (event : RunEvent) (answer : Option Reply) (left : Lists) (how : Did)
@@ -339,10 +350,12 @@ broken_on start script run journal broken replies began now new lane place reque
     all : Kept start script (and_then run event) journal replies began new → Serves start script (and_then run event) journal next replies began new
     all k = record {
       legal = k.legal;
+      begins = s.begins;
       come = k.come;
       shown = k.shown;
       within = more_events run event (length run.events) (omega arith);
       broken_is = broken_is run script start journal event w.would (told_calls now.history) step is_step;
+      of_failure = failure_is run event w.would (told_calls now.history) step (s.unrefused f.ran) s.come.come.moments f.refused w.lane_is w.request_is w.part_is refl;
       crash = crash;
       unbroken = λ e. absurd (fall new.stopped f.stopped e);
       settled = λ e at. absurd (fall new.stopped f.stopped e);
@@ -350,6 +363,7 @@ broken_on start script run journal broken replies began now new lane place reque
       changes = k.changes;
       fell = λ e. rose_now began.faults.changes now.faults.changes new.faults.changes s.changes (t.faults.rose fault);
       halted = k.halted;
+      unrefused = k.unrefused;
     }
 
 ran_on : (now new : Seen) → new.stopped ≡ false → (now.stopped ≡ true → new ≡ now) → now.stopped ≡ false
@@ -386,6 +400,14 @@ serves_on start script run journal broken replies began now new around after lan
     halted : (i : ℕ) → HasReply replies i (reply.Refused refusal.Stopped) → new.stopped ≡ true
     halted i h = let e = s.halted i h in ap (λ (x : Seen). x.stopped) (d.ends.still e) ∙ e
 
+    -- an event that a stopped store refused would have been replied so, and the store be stopped
+    stops : d.makes.event.refused ≡ Some refusal.Stopped → new.stopped ≡ true
+    stops why = d.ends.halts.0 (sym d.makes.ended_is ∙ stopped_is_replied around after run (left_by start journal) request d.makes.event d.makes.is_event why)
+
+    unrefused : new.stopped ≡ false → All (λ event. event.refused ≢ Some refusal.Stopped) (run.events ++ d.makes.event ∷ [])
+    unrefused e = All-append (λ (x : RunEvent). x.refused ≢ Some refusal.Stopped) run.events (d.makes.event ∷ []) (s.unrefused (ran_on now new e d.ends.still))
+        (All-cons (λ (x : RunEvent). x.refused ≢ Some refusal.Stopped) d.makes.event [] (λ why. fall new.stopped (stops why) e) (All-nil _))
+
     free : is_some d.makes.answer ≡ true → (i : ℕ) → HasReply replies i (reply.Refused refusal.Stopped) → ⊥
     free some i h = fall new.stopped (halted i h) (makes_running request run (left_by start journal) d.left d.makes.event d.makes.answer now new how d.went some)
 
@@ -396,13 +418,14 @@ serves_on start script run journal broken replies began now new around after lan
     told = record {
       kept = record {
         legal = legal_faults start script (and_then run d.makes.event) (journal ++ steps_made run request d.makes.event d.makes.answer d.left) replies began.faults now.faults new.faults
-            (legal_by_task start script run journal replies began.faults now.faults around after lane place request d.left now.map new.map now.drawn new.drawn (told_calls now.history) (told_calls new.history) ended s.legal s.come d.grows turn.asked d.makes may)
+            (legal_by_task start script run journal replies began.faults now.faults around after lane place request d.left now.map new.map now.drawn new.drawn (told_calls now.history) (told_calls new.history) ended s.legal s.come.come d.grows turn.asked d.makes may)
             d.ends.faults.reads d.ends.faults.changes;
-        come = d.makes.come;
+        come = d.come;
         shown = subst (λ (ls : Lists). ShowsSeen new ls) (sym (left_made run request start journal d.makes.event d.makes.answer d.left d.makes.made)) d.shown;
         reads = reads_more run.events d.makes.event began.faults.reads now.faults.reads new.faults.reads s.reads d.ends.faults.reads d.ends.reads;
         changes = (let a = s.changes in let b = d.ends.faults.changes in omega (arith, a, b));
         halted = halted;
+        unrefused = unrefused;
       };
       moment_is = d.makes.moment_is;
       made = d.makes.made;

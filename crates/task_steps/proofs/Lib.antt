@@ -3,3 +3,4 @@ pub mod FollowingLemmas
 pub mod GoingLemmas
 pub mod OneEventLemmas
 pub mod ReplyingLemmas
+pub mod SeenLemmas

@@ -1,6 +1,6 @@
 -- Requests of one event: what is refused, and what is done.
 use Rattle.std.proofs.Common.{◌≡◌, ◌≤◌, Ok, Err, ℕ, Bool, true, false, List, [], ◌∷◌, Option, Some, None, refl, sym, ap, ◌∙◌, subst, arith}
-use Rattle.std.specs.Prelude.{is_some, length, slice_get, ◌↔◌, ◌++◌, ◌⊎◌}
+use Rattle.std.specs.Prelude.{length, slice_get, ◌↔◌, ◌++◌, ◌⊎◌}
 use Rattle.std.specs.Option.{option_or}
 use Rattle.disk_model.specs.Disk.{History, Faults}
 use Rattle.task_steps.specs.Step.{FaultsGrow}
@@ -21,15 +21,15 @@ use Rattle.journal.specs.Makes.{HasCome, Makes}
 use Rattle.journal.proofs.RunLemmas.{comes_on}
 use Rattle.disk_model.specs.Disk.{told_calls}
 use Rattle.std.proofs.Common.{inl}
-use Rattle.disk_model.specs.Disk.{EachImage}
 use Rattle.disk_model.proofs.MomentLemmas.{each_image-begins}
 use Rattle.model_store.specs.Safe.{Safe}
 use Rattle.model_store.specs.Settled.{IsSettledFor, Leaves}
 use Rattle.model_store.proofs.SettledLemmas.{settled_safe}
 use Rattle.mdbox_base.specs.declared.script.Half.TheVariants as half
-use Rattle.mdbox_base.specs.declared.progress.Did.{Did}
 use Rattle.mdbox_base.specs.declared.progress.Did.TheVariants as did
-use Rattle.task_steps.specs.Step.{Seen, ShowsSeen, HasComeTo, Leads, IsFault, and_told, EndsRequest, DidEvent, HasNotBegun}
+use Rattle.task_steps.specs.Step.{Seen, ShowsSeen, HasComeTo, Leads, IsFault, and_told, DidEvent, HasNotBegun}
+use Rattle.task_steps.specs.Tells.{LeavesFiles}
+use Rattle.task_steps.proofs.SeenLemmas.{comes_to_still, no_guids}
 
 -- a request whose first event is its step and its end
 pub record IsPlain (q : Request) : Type 0 where
@@ -41,6 +41,9 @@ pub record IsPlain (q : Request) : Type 0 where
 
 abbrev pub refused_event : ℕ → ℕ → Refusal → ℕ → RunEvent
 refused_event lane place why calls = record (event_of lane place First calls) { refused = Some why; reply = Some (reply.Refused why) }
+
+pub refused_leaves : (lane place : ℕ) (why : Refusal) (calls : ℕ) → LeavesFiles (refused_event lane place why calls)
+refused_leaves lane place why calls = record { pins = refl; unpins = refl; doomed = refl; removed = refl; given = refl }
 
 pub next_first : (around : Around) (run : Run) (q : Request) (own : List RunEvent) → own ≡ [] → next_part around run q own ≡ Some First
 next_first around run q own e = ap (λ (es : List RunEvent). next_part around run q es) e
@@ -143,14 +146,16 @@ pub still_faults : (F : Type 0) (f : Faults) → (F → ⊥) → FaultsGrow F f 
 still_faults F f never = record { reads = omega arith; changes = omega arith; rose = λ x. absurd (never x) }
 
 -- stopped or want of memory: the request ends, and nothing was done
-pub does_nothing : (around after : Around) (run : Run) (lane place : ℕ) (said : List Reply) (q : Request) (lists : Lists) (seen : Seen) (why : Refusal) → IsPlain q → HasComeTo run seen → ShowsSeen seen lists → HasNotBegun (own_events place run) said
+pub does_nothing : (around after : Around) (run : Run) (lane place : ℕ) (said : List Reply) (q : Request) (lists : Lists) (seen : Seen) (why : Refusal) → IsPlain q → HasComeTo run seen → ShowsSeen seen lists → HasNotBegun run place said
     → is_step why ≡ false → IsReplyOf q [] (reply.Refused why) → (why ≡ refusal.ReadFault → ⊥) → ((Some (reply.Refused why) ≡ Some (reply.Refused refusal.Stopped)) ↔ (seen.stopped ≡ true))
     → DidEvent around after run lane place said q lists seen seen did.Quiet (Some (reply.Refused why))
 unfolding unmade
 does_nothing around after run lane place said q lists seen why plain come shows stage none is calm halts = record {
   left = lists;
   shown = shows;
-  makes = unmade around after run lane place q lists seen.map seen.map seen.drawn (told_calls seen.history) (told_calls seen.history) why refl plain come (omega arith) stage.0 none;
+  makes = unmade around after run lane place q lists seen.map seen.map seen.drawn (told_calls seen.history) (told_calls seen.history) why refl plain come.come (omega arith) stage.0 none;
+  come = comes_to_still run (refused_event lane place why (told_calls seen.history)) seen come (comes_on run (refused_event lane place why (told_calls seen.history)) seen.map seen.drawn (told_calls seen.history) come.come (omega arith) refl refl) (λ uid. refl) (refused_leaves lane place why (told_calls seen.history));
+  gives = no_guids run (refused_event lane place why (told_calls seen.history)) refl;
   went = (refl, refl, nothing lists seen);
   grows = omega arith;
   ends = record {
@@ -164,14 +169,16 @@ does_nothing around after run lane place said q lists seen why plain come shows 
 }
 
 -- a refusal by the list machine
-pub does_refuse : (around after : Around) (run : Run) (lane place : ℕ) (said : List Reply) (q : Request) (lists : Lists) (seen : Seen) (why : Refusal) → IsPlain q → HasComeTo run seen → ShowsSeen seen lists → HasNotBegun (own_events place run) said
+pub does_refuse : (around after : Around) (run : Run) (lane place : ℕ) (said : List Reply) (q : Request) (lists : Lists) (seen : Seen) (why : Refusal) → IsPlain q → HasComeTo run seen → ShowsSeen seen lists → HasNotBegun run place said
     → is_step why ≡ true → IsReplyOf q (reply.Refused why ∷ []) (reply.Refused why) → seen.stopped ≡ false → ((event : RunEvent) → PartAnswers run event lists q First (reply.Refused why) lists)
     → DidEvent around after run lane place said q lists seen seen (did.Step half.Whole) (Some (reply.Refused why))
 unfolding refused
 does_refuse around after run lane place said q lists seen why plain come shows stage step is runs answers = record {
   left = lists;
   shown = shows;
-  makes = refused around after run lane place q lists seen.map seen.drawn (told_calls seen.history) why plain come stage.0 step (answers (refused_event lane place why (told_calls seen.history)));
+  makes = refused around after run lane place q lists seen.map seen.drawn (told_calls seen.history) why plain come.come stage.0 step (answers (refused_event lane place why (told_calls seen.history)));
+  come = comes_to_still run (refused_event lane place why (told_calls seen.history)) seen come (comes_on run (refused_event lane place why (told_calls seen.history)) seen.map seen.drawn (told_calls seen.history) come.come (omega arith) refl refl) (λ uid. refl) (refused_leaves lane place why (told_calls seen.history));
+  gives = no_guids run (refused_event lane place why (told_calls seen.history)) refl;
   went = (refl, plain.half_is, runs, nothing lists seen);
   grows = omega arith;
   ends = record {

@@ -1,11 +1,10 @@
 -- An event that ends its request; turns and stages as events go on.
-use Rattle.std.proofs.Common.{inl, inr, ◌⊎◌, ◌≡◌, ◌<◌, ◌≤◌, ◌+◌, ◌-◌, ◌^◌, ◌==◌, ℕ, Bool, true, false, cond, List, [], ◌∷◌, ◌++◌, Option, Some, None, refl, sym, ◌∙◌, ap, subst, arith, All, map}
-use Rattle.std.specs.Prelude.{◌≢◌, min, is_some, length, filter, count_by, slice_get}
+use Rattle.std.proofs.Common.{inr, ◌≡◌, ◌<◌, ◌≤◌, ◌==◌, ℕ, Bool, true, false, cond, List, [], ◌∷◌, ◌++◌, Option, Some, None, refl, sym, ◌∙◌, ap, subst, arith, All, map}
+use Rattle.std.specs.Prelude.{◌≢◌, length, filter, count_by, slice_get}
 use Rattle.std.proofs.lemmas.Grind.{common_steps}
 use Rattle.std.proofs.lemmas.List.{append-nil, map-append}
-use Rattle.std.proofs.lemmas.List.Elements.{All-head, All-tail, All-weaker, All-push, filter-append}
+use Rattle.std.proofs.lemmas.List.Elements.{All-nil, All-head, All-tail, All-push, filter-append}
 use Rattle.disk_model.specs.Disk.{History, EachImage, told_calls}
-use Rattle.mdbox_base.specs.Streams.{Rose}
 use Rattle.disk_model.proofs.MomentLemmas.{each_image-begins}
 use Rattle.model_store.proofs.SettledLemmas.{settled_safe}
 use Rattle.model_store.specs.Settled.{IsSettledFor}
@@ -14,22 +13,20 @@ use Rattle.mdbox_base.specs.declared.replies.Refusal.TheVariants as refusal
 use Rattle.mdbox_base.specs.declared.replies.Reply.{Reply}
 use Rattle.mdbox_base.specs.declared.replies.Reply.TheVariants as reply
 use Rattle.model_lists.specs.Lists.{Lists}
-use Rattle.model_octets.proofs.PairLemmas.{pairs_nil}
 use Rattle.list_machine.specs.Run.{RunEvent, Run, and_then, own_events}
-use Rattle.journal.specs.Journal.{Requests, half_of, JournalStep, left_by, IsReplyOf, IsLegal, Broken, no_broken, HasReply, RoseBy, is_read_fault, AreBefore, LacksOrGoesOn, steps_of}
-use Rattle.model_store.specs.Opening.{IsCutOff}
+use Rattle.journal.specs.Journal.{Requests, JournalStep, left_by, IsReplyOf, Broken, no_broken, HasReply, RoseBy, is_read_fault, AreBefore, steps_of}
+use Rattle.journal.proofs.BrokenLemmas.{none_failed}
 use Rattle.journal.proofs.JournalLemmas.{steps_within}
 use Rattle.journal.specs.GoesOn.{RepliesAlso, MayReply}
 use Rattle.journal.proofs.LegalLemmas.{legal_reply}
 use Rattle.journal.proofs.ReachedLemmas.{get_last, legal_start, reached_last}
 use Rattle.journal.proofs.OwnEventLemmas.{own_more, own_other}
 use Rattle.journal.specs.Events.{Around, is_faulted}
-use Rattle.journal.specs.Makes.{steps_made}
+use Rattle.journal.specs.Makes.{HasCome, steps_made}
 use Rattle.mdbox_base.specs.declared.progress.Did.{Did}
 use Rattle.mdbox_base.specs.declared.progress.Did.TheVariants as did
 use Rattle.task_steps.specs.Step.{Seen, ShowsSeen, HasComeTo, Went, and_told, DidEvent}
 use Rattle.task_steps.specs.Serves.{IsReached, Serves, IsTurn}
-use Rattle.task_steps.proofs.GoingLemmas.{journal_by, serves_on}
 
 one_test : {X : Type 0} → (p : X → Bool) (x : X) (b : Bool) → p x ≡ b → filter p (x ∷ []) ≡ cond b (x ∷ []) []
 one_test p x b e = ap (λ (c : Bool). cond c (x ∷ []) []) e
@@ -155,12 +152,15 @@ pub reply_on : (start : Lists) (script : Requests) (run : Run) (journal : List J
     → Serves start script (and_then run d.makes.event) (journal ++ steps_made run request d.makes.event d.makes.answer d.left) next given_also began new
 reply_on start script run journal broken next replies given_also began now new around after lane place request how given s turn d also few t = record {
   legal = legal_reply start script (and_then run d.makes.event) all replies given_also began.faults new.faults place given t.legal also may;
+  begins = t.begins;
   come = t.come;
   shown = t.shown;
   within = t.within;
   broken_is = t.broken_is;
+  of_failure = t.of_failure;
   crash = t.crash;
   unbroken = t.unbroken;
+  unrefused = t.unrefused;
   settled = t.settled;
   reads = t.reads;
   changes = t.changes;
@@ -214,12 +214,15 @@ pub serves_start : (start : Lists) (script : Requests) (run : Run) (replies : Li
     → ((i : ℕ) (given : Reply) → HasReply replies i given → ⊥) → count_by is_read_fault replies ≡ 0 → Serves start script run [] no_broken replies now now
 serves_start start script run replies now empty come shows runs none zero = record {
   legal = legal_start start script run replies now.faults empty none zero;
+  begins = record { map_is = at_start.map_is; drawn_is = at_start.drawn_is; moments = All-nil _ };
   come = come;
   shown = shows;
   within = omega arith;
   broken_is = tt;
+  of_failure = none_failed run;
   crash = λ at. begins now.history at;
   unbroken = λ e. refl;
+  unrefused = λ e. subst (λ (es : List RunEvent). All (λ event. event.refused ≢ Some refusal.Stopped) es) (sym empty) (All-nil _);
   settled = λ e at. at;
   reads = subst (λ (es : List RunEvent). RoseBy (count_by is_faulted es) now.faults.reads now.faults.reads) (sym empty) (omega arith);
   changes = omega arith;
@@ -227,6 +230,9 @@ serves_start start script run replies now empty come shows runs none zero = reco
   halted = λ i h. absurd (none i _ h);
 }
   where
+    at_start : HasCome (record run { events = [] }) now.map now.drawn (told_calls now.history)
+    at_start = subst (λ (es : List RunEvent). HasCome (record run { events = es }) now.map now.drawn (told_calls now.history)) empty come.come
+
     begins : (h : Option History) → IsSettledFor start h → EachImage (IsReached start run [] no_broken) h h
     begins None at = absurd at
     begins (Some h) at = each_image-begins (IsReached start run [] no_broken) (Some h) (λ m image is. (start, reached_last start run [] no_broken m, settled_safe h.now start image at is))

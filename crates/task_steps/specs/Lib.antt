@@ -1,3 +1,4 @@
 pub mod ExpungeStages
 pub mod Serves
 pub mod Step
+pub mod Tells

@@ -1,17 +1,17 @@
 -- What the events since the beginning have made of a store.
 use Rattle.journal.specs.Events.{is_faulted, Around}
-use Rattle.std.specs.Prelude.{◌≡◌, ◌≤◌, ◌<◌, ℕ, Bool, count_by, true, false, List, [], All, Option, Some, None, length, slice_get}
+use Rattle.std.specs.Prelude.{◌≡◌, ◌≢◌, ◌≤◌, ◌<◌, ℕ, count_by, true, false, List, [], All, Option, Some, None, length, slice_get}
 use Rattle.disk_model.specs.Disk.{Files, EachImage}
 use Rattle.mdbox_base.specs.Streams.{Rose}
 use Rattle.mdbox_base.specs.declared.requests.Request.{Request}
-use Rattle.mdbox_base.specs.declared.replies.Refusal.{Refusal}
 use Rattle.mdbox_base.specs.declared.replies.Refusal.TheVariants as refusal
 use Rattle.mdbox_base.specs.declared.replies.Reply.{Reply}
 use Rattle.mdbox_base.specs.declared.replies.Reply.TheVariants as reply
 use Rattle.model_lists.specs.Lists.{Lists}
-use Rattle.list_machine.specs.Run.{RunEvent, Run}
-use Rattle.journal.specs.Journal.{Requests, JournalStep, left_by, IsLegal, Broken, no_broken, AreBroken, Reached, HasReply, RoseBy, steps_of}
-use Rattle.journal.specs.Makes.{AreNextEvents}
+use Rattle.list_machine.specs.Run.{Run, before}
+use Rattle.journal.specs.Journal.{Requests, JournalStep, left_by, IsLegal, Broken, no_broken, AreBroken, IsOfFailure, Reached, HasReply, RoseBy, steps_of}
+use Rattle.journal.specs.Found.{AgreeWithRun}
+use Rattle.journal.specs.Makes.{HasCome, AreNextEvents}
 use Rattle.model_store.specs.Safe.{Safe}
 use Rattle.model_store.specs.Settled.{IsSettledFor}
 use Rattle.task_steps.specs.Step.{Seen, ShowsSeen, HasComeTo}
@@ -20,18 +20,23 @@ use Rattle.task_steps.specs.Step.{Seen, ShowsSeen, HasComeTo}
 abbrev pub IsReached : Lists → Run → List JournalStep → Broken → ℕ → Files → Type 0
 IsReached start run journal broken m image = (lists : Lists) × Reached start run journal broken m lists × Safe image lists
 
--- A run of events, from these lists and from a store as it was seen then: the journal and the replies are legal, the run has
+-- A run of events, from these lists and from a store as it was seen then: the run began with the
+-- map and the numbers drawn of that store, the journal and the replies are legal, the run has
 -- come to the store, which shows what the journal left; a store that is stopped replied so, and no other. Of a disk that was
--- settled at the start each image since is safe for lists that are reached; unless the store is stopped, no step is broken
--- and the disk is settled for the present lists.
+-- settled at the start each image since is safe for lists that are reached; unless the store is stopped, no step is broken,
+-- no event was refused as by one that is, and the disk is settled for the present lists. Broken steps are those of the append
+-- that stopped the store.
 pub record Serves (start : Lists) (script : Requests) (run : Run) (journal : List JournalStep) (broken : Broken) (replies : List (Option Reply)) (began now : Seen) : Type 0 where
   pub legal : IsLegal start script run journal replies began.faults now.faults
+  pub begins : HasCome (before 0 run) began.map began.drawn 0
   pub come : HasComeTo run now
   pub shown : ShowsSeen now (left_by start journal)
   pub within : broken.place ≤ length run.events
   pub broken_is : AreBroken run script start journal broken
+  pub of_failure : IsOfFailure run broken
   pub crash : IsSettledFor start began.history → EachImage (IsReached start run journal broken) began.history now.history
   pub unbroken : now.stopped ≡ false → broken ≡ no_broken
+  pub unrefused : now.stopped ≡ false → All (λ event. event.refused ≢ Some refusal.Stopped) run.events
   pub settled : now.stopped ≡ false → IsSettledFor start began.history → IsSettledFor (left_by start journal) now.history
   pub reads : RoseBy (count_by is_faulted run.events) began.faults.reads now.faults.reads
   pub changes : began.faults.changes ≤ now.faults.changes
@@ -46,8 +51,9 @@ pub record IsTurn (script : Requests) (journal : List JournalStep) (replies : Li
   pub first : All (λ s. s.lane ≡ lane → s.request ≤ place) journal
   pub later : (j : ℕ) (q : ℕ × Request) → place < j → slice_get script j ≡ Some q → q.0 ≡ lane → (steps_of j journal ≡ []) × (slice_get replies j ≡ Some None)
 
--- Each event was the next of its lane, whatever it saw of files and instances.
+-- Each event was the next of its lane, and what it saw of files and instances agrees with the run.
 pub record Follows (start : Lists) (script : Requests) (run : Run) (journal : List JournalStep) : Type 0 where
   pub around : ℕ → Around
   pub after : ℕ → Around
   pub next : AreNextEvents around after script start run journal
+  pub found : AgreeWithRun around script run

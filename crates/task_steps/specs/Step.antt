@@ -1,5 +1,7 @@
 -- What an event of a task did: to the journal, to the disk, and by what its request ended.
-use Rattle.std.specs.Prelude.{◌≡◌, ◌≤◌, ◌⊎◌, ◌↔◌, ◌++◌, ◌∷◌, ℕ, Bool, true, false, List, [], length, slice_get, Option, Some, None, is_some}
+use Rattle.std.specs.Prelude.{◌≡◌, ◌≢◌, ◌≤◌, ◌↔◌, ◌+◌, ◌++◌, ◌∷◌, ℕ, Bool, true, false, List, [], All, flat_map, sum_by, length, slice_get, Option, Some, None, is_some}
+use Rattle.std.specs.List.{list_any}
+use Rattle.std.specs.Str.{bytes_eq}
 use Rattle.disk_model.specs.Disk.{History, Faults}
 use Rattle.mdbox_base.specs.Streams.{Rose}
 use Rattle.mdbox_base.specs.declared.entries.Highest.{Highest}
@@ -11,15 +13,13 @@ use Rattle.model_lists.specs.Lists.{Lists, AreWellFormed}
 use Rattle.model_meaning.specs.BoxMeaning.{BoxMeaning}
 use Rattle.model_meaning.specs.MapMeaning.{MapMeaning}
 use Rattle.model_store.specs.Listing.{ShowLists}
-use Rattle.list_machine.specs.Run.{RunEvent, Run, own_events}
+use Rattle.list_machine.specs.Run.{RunEvent, Run, and_then, own_events, is_pinned, is_doomed}
 use Rattle.journal.specs.Journal.{half_of, halves_of, IsReplyOf}
-use Rattle.journal.specs.Events.{Around}
+use Rattle.journal.specs.Events.{Around, begun_in, ended_in}
 use Rattle.journal.specs.Makes.{HasCome, WouldMake, Makes}
 use Rattle.disk_model.specs.Disk.{told_calls, Grows}
 use Rattle.model_store.specs.Settled.{Leaves}
 use Rattle.model_store.specs.Settled.{IsSettledFor}
-use Rattle.mdbox_base.specs.declared.script.Half.{Half}
-use Rattle.mdbox_base.specs.declared.script.Half.TheVariants as half
 use Rattle.mdbox_base.specs.declared.progress.Did.{Did}
 use Rattle.mdbox_base.specs.declared.progress.Did.TheVariants as did
 use Rattle.mdbox_base.specs.declared.progress.Progress.{Progress}
@@ -28,7 +28,8 @@ use Rattle.mdbox_base.specs.declared.progress.Progress.TheVariants as progress
 -- ---- a store as an event begins or ends
 
 -- What is seen of a store: what its map and the logs of its mailboxes mean, the numbers drawn, what its disk tells, the
--- faults counted, and whether it is stopped.
+-- faults counted, and whether it is stopped. Then what it keeps of its tasks: how much is due of each record, which files are
+-- pinned and which are doomed, and which GUIDs it may have given.
 pub record Seen : Type 0 where
   pub map : MapMeaning
   pub meanings : List BoxMeaning
@@ -36,14 +37,27 @@ pub record Seen : Type 0 where
   pub history : Option History
   pub faults : Faults
   pub stopped : Bool
+  pub due : ℕ → ℕ
+  pub pinned : ℕ → Bool
+  pub doomed : ℕ → Bool
+  pub gave : List ℕ → Bool
 
 -- it shows the lists, which are well formed
 abbrev pub ShowsSeen : Seen → Lists → Type 0
 ShowsSeen seen lists = AreWellFormed lists × ShowLists seen.map.boxes seen.meanings lists
 
--- the run has come to where it stands
-abbrev pub HasComeTo : Run → Seen → Type 0
-HasComeTo run seen = HasCome run seen.map seen.drawn (told_calls seen.history)
+-- an event of the run gave this GUID
+abbrev pub was_given : Run → List ℕ → Bool
+was_given run guid = list_any (bytes_eq guid) (flat_map (λ e. e.given) run.events)
+
+-- The run has come to where the store stands. Its entries, numbers and moments are the store's; of each record as much began
+-- as ended and is due; its files are pinned and doomed as the store has them; and no event gave a GUID that the store didn't.
+pub record HasComeTo (run : Run) (seen : Seen) : Type 0 where
+  pub come : HasCome run seen.map seen.drawn (told_calls seen.history)
+  pub due : (uid : ℕ) → sum_by (begun_in uid) run.events ≡ seen.due uid + sum_by (ended_in uid) run.events
+  pub pinned : (file : ℕ) → is_pinned run file ≡ seen.pinned file
+  pub doomed : (file : ℕ) → is_doomed run file ≡ seen.doomed file
+  pub gave : (guid : List ℕ) → was_given run guid ≡ true → seen.gave guid ≡ true
 
 -- ---- the disk
 
@@ -102,27 +116,40 @@ pub record EndsRequest (request : Request) (said : List Reply) (event : RunEvent
 
 -- ---- an event
 
+-- The GUIDs that an event gives are new to the run.
+abbrev pub GivesNew : Run → RunEvent → Type 0
+GivesNew run event = All (λ guid. was_given run guid ≡ false) event.given
+
 -- What an event did, of a run and of lists: which event of the run it was and what it answered, the lists that the store shows
--- now, what a stop within it leaves, and how its request ended, if it did.
+-- now, that the run with it has come to the store, what a stop within it leaves, and how its request ended, if it did.
 pub record DidEvent (around after : Around) (run : Run) (lane place : ℕ) (said : List Reply) (request : Request) (lists : Lists) (old new : Seen) (did : Did) (ended : Option Reply) : Type 0 where
   pub left : Lists
   pub shown : ShowsSeen new left
   pub makes : Makes around after run lane place request lists left new.map new.drawn (told_calls new.history) ended
+  pub come : HasComeTo (and_then run makes.event) new
+  pub gives : GivesNew run makes.event
   pub went : Went did request run lists left makes.event makes.answer old new
   pub grows : Grows old.history new.history
   pub ends : EndsRequest request said makes.event makes.answer ended did old new
 
--- The clause of a task's step: of every run that has come to the store, of any lists that it shows, and where the request's
--- own events and the answers of its steps are as the task's stage says. Where it goes on, they are as the new stage says.
-abbrev pub Steps : (List RunEvent → List Reply → Type 0) → (List RunEvent → List Reply → Type 0) → Around → Around → Request → Seen → Seen → Did → Option Reply → Type 0
+-- The clause of a task's step: of every run that has come to the store, of any lists that it shows, and where the task stands
+-- at its stage: the stage is of the run, of the request's place, and of the answers of its steps. Where it goes on, it stands
+-- at the new stage, of the run with the event.
+abbrev pub Steps : (Run → ℕ → List Reply → Type 0) → (Run → ℕ → List Reply → Type 0) → Around → Around → Request → Seen → Seen → Did → Option Reply → Type 0
 Steps Stood Stands around after request old new did ended =
-    (run : Run) (lane place : ℕ) (said : List Reply) (lists : Lists) → HasComeTo run old → ShowsSeen old lists → Stood (own_events place run) said
-    → (d : DidEvent around after run lane place said request lists old new did ended) × (ended ≡ None → Stands (own_events place run ++ d.makes.event ∷ []) (and_told said d.makes.answer))
+    (run : Run) (lane place : ℕ) (said : List Reply) (lists : Lists) → HasComeTo run old → ShowsSeen old lists → Stood run place said
+    → (d : DidEvent around after run lane place said request lists old new did ended) × (ended ≡ None → Stands (and_then run d.makes.event) place (and_told said d.makes.answer))
 
 abbrev pub ended_by : Progress → Option Reply
 ended_by progress.More = None
 ended_by (progress.Done given) = Some given
 
+-- A stage is kept by every event of another request. So it may read its request's own events and the answers of its steps,
+-- the number that it drew last (`number_of`), whether a file was pinned as it was doomed (`was_pinned`), and that no other
+-- request gave a GUID that was given. What others change, a task reads of the store as its event begins.
+abbrev pub IsKept : (Run → ℕ → List Reply → Type 0) → Type 0
+IsKept Stands = (run : Run) (place : ℕ) (said : List Reply) (event : RunEvent) → event.request ≢ place → GivesNew run event → Stands run place said → Stands (and_then run event) place said
+
 -- the stage of a task of one event
-abbrev pub HasNotBegun : List RunEvent → List Reply → Type 0
-HasNotBegun own said = (own ≡ []) × (said ≡ [])
+abbrev pub HasNotBegun : Run → ℕ → List Reply → Type 0
+HasNotBegun run place said = (own_events place run ≡ []) × (said ≡ [])

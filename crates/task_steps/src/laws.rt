@@ -1,12 +1,14 @@
 // Events of tasks compose.
-ghost use Rattle.std.specs.Prelude.{◌≡◌, ◌≢◌, false, ◌≤◌, ◌<◌, length, ◌++◌, ◌∷◌, [], ℕ, List, Option, Some, None, is_some, map, count_by, slice_get};
+ghost use Rattle.std.specs.Prelude.{◌≡◌, ◌≢◌, true, false, ◌≤◌, ◌<◌, ◌+◌, All, length, ◌++◌, ◌∷◌, [], ℕ, List, Option, Some, None, is_some, map, count_by, slice_get};
+ghost use Rattle.std.specs.List.{list_any};
 ghost use Rattle.mdbox_base.specs.declared.requests.Request.{Request};
 ghost use Rattle.mdbox_base.specs.declared.replies.Reply.{Reply};
 ghost use Rattle.model_lists.specs.Lists.{Mailbox, Lists};
-ghost use Rattle.list_machine.specs.Run.{First, RunEvent, Run, and_then, own_events, reply_of};
+ghost use Rattle.list_machine.specs.Run.{First, RunEvent, Run, and_then, own_events, reply_of, given_by_others, is_one_of};
 ghost use Rattle.journal.specs.Journal.{Requests, JournalStep, left_by, Broken, no_broken, HasReply, is_read_fault, steps_of};
-ghost use Rattle.journal.specs.Events.{Around, IsRecord, makes_step, is_faulted};
-ghost use Rattle.journal.specs.Makes.{steps_made, AreReplies, AreTold};
+ghost use Rattle.journal.specs.Events.{Around, IsRecord, makes_step, is_faulted, begun_in, ended_in, due_of, number_of, was_pinned};
+ghost use Rattle.journal.specs.Found.{AgreesWithRun};
+ghost use Rattle.journal.specs.Makes.{HasCome, steps_made, AreReplies, AreTold};
 ghost use Rattle.journal.specs.GoesOn.{RepliesAlso};
 ghost use Rattle.disk_model.specs.Disk.{History, Faults, told_calls, Grows};
 ghost use Rattle.mdbox_base.specs.declared.ids.Uid.{Uid};
@@ -15,11 +17,12 @@ ghost use Rattle.mdbox_base.specs.declared.requests.Request.TheVariants as reque
 ghost use Rattle.model_meaning.specs.BoxMeaning.{BoxMeaning};
 ghost use Rattle.model_meaning.specs.MapMeaning.{MapRecord};
 ghost use Rattle.list_machine.specs.Machine.{mailbox_named, expunge, first_refusal, part_checks};
-ghost use Rattle.journal.specs.Stages.{ToRemove, ToLower, removal};
-ghost use Rattle.task_steps.specs.ExpungeStages.{StandsAtStage, behind_box, behind_lowering};
+ghost use Rattle.journal.specs.Stages.{Stage, ToRemove, ToLower, removal};
+ghost use Rattle.task_steps.specs.ExpungeStages.{StandsAtStage, one_due, behind_box, behind_lowering};
 ghost use Rattle.mdbox_base.specs.declared.progress.Did.TheVariants as did;
 ghost use Rattle.mdbox_base.specs.declared.script.Half.TheVariants as half;
-ghost use Rattle.task_steps.specs.Step.{Seen, ShowsSeen, HasComeTo, Leads, and_told, DidEvent};
+ghost use Rattle.task_steps.specs.Step.{Seen, ShowsSeen, was_given, HasComeTo, Leads, and_told, GivesNew, DidEvent, IsKept, HasNotBegun};
+ghost use Rattle.task_steps.specs.Tells.{LeavesFiles, TellsSame};
 ghost use Rattle.task_steps.specs.Serves.{Serves, IsTurn, Follows};
 ghost use Rattle.mdbox_base.specs.declared.progress.Did.{Did};
 
@@ -33,7 +36,7 @@ pub fn events_go_on()
 
     ensures next { (start : Lists) (script : Requests) (run : Run) (journal : List JournalStep) (broken : Broken) (replies : List (Option Reply)) (began now new : Seen) (around after : Around) (lane place : ℕ) (request : Request) (how : Did) (ended : Option Reply) → Serves start script run journal broken replies began now
         → IsTurn script journal replies lane place request → AreReplies script run replies → ((i : ℕ) (q : ℕ × Request) → i < place → slice_get script i ≡ Some q → q.0 ≡ lane → reply_of i run ≢ None) → place < length script
-        → (d : DidEvent around after run lane place (map (λ s. s.answer) (steps_of place journal)) request (left_by start journal) now new how ended) → Follows start script run journal
+        → (d : DidEvent around after run lane place (map (λ s. s.answer) (steps_of place journal)) request (left_by start journal) now new how ended) → AgreesWithRun around run request d.makes.event d.makes.event.part → Follows start script run journal
         → Follows start script (and_then run d.makes.event) (journal ++ steps_made run request d.makes.event d.makes.answer d.left) }
 
     ensures told { (script : Requests) (run : Run) (journal : List JournalStep) (lane : ℕ) (request : Request) (event : RunEvent) (answer : Option Reply) (left : Lists) → slice_get script event.request ≡ Some (lane, request) → is_some answer ≡ makes_step request event.part event.refused
@@ -59,6 +62,23 @@ pub fn stages_stay()
         → slice_get script own ≡ Some (event.lane, other) → ((j : ℕ) → own ≢ j → slice_get after j ≡ slice_get replies j) → IsTurn script journal replies lane place request → IsTurn script (journal ++ steps_made run other event answer left) after lane place request }
 {}
 
+/// What a stage may read of a run beside its request's own events stays too, with every event of another request.
+pub fn stages_are_kept()
+    ensures unbegun { IsKept HasNotBegun }
+    ensures number { (run : Run) (event : RunEvent) (other : ℕ) → event.request ≢ other → number_of (and_then run event) other ≡ number_of run other }
+    ensures pinned { (run : Run) (event : RunEvent) (file : ℕ) → list_any (λ e. is_one_of e.doomed file) run.events ≡ true → was_pinned (and_then run event) file ≡ was_pinned run file }
+    ensures guid { (run : Run) (event : RunEvent) (other : ℕ) (guid : List ℕ) → event.request ≢ other → GivesNew run event → was_given run guid ≡ true → All (λ g. g ≢ guid) (given_by_others other run) → All (λ g. g ≢ guid) (given_by_others other (and_then run event)) }
+{}
+
+/// What a store says of a run that has come to it.
+pub fn stores_tell()
+    ensures due { (run : Run) (seen : Seen) (uid : ℕ) → HasComeTo run seen → due_of run uid ≡ seen.due uid }
+    ensures new_guid { (run : Run) (seen : Seen) (guid : List ℕ) → HasComeTo run seen → seen.gave guid ≡ false → was_given run guid ≡ false }
+    // The run comes on with an event that leaves files and GUIDs.
+    ensures on { (run : Run) (event : RunEvent) (old new : Seen) → HasComeTo run old → HasCome (and_then run event) new.map new.drawn (told_calls new.history) → ((uid : ℕ) → new.due uid + ended_in uid event ≡ old.due uid + begun_in uid event)
+        → LeavesFiles event → TellsSame old new → HasComeTo (and_then run event) new }
+{}
+
 /// The replies are those that the events gave, also with one event more.
 pub fn replies_go_on()
     ensures ended { (script : Requests) (run : Run) (journal : List JournalStep) (replies given_also : List (Option Reply)) (lane place : ℕ) (request : Request) (event : RunEvent) (given : Reply) → IsTurn script journal replies lane place request → AreReplies script run replies → event.request ≡ place
@@ -70,10 +90,11 @@ pub fn replies_go_on()
 /// Both events of an expunge do as the clause of a step says, each from its stage, and the first leads to the second.
 pub fn expunges_step_twice()
     ensures removing { (around after : Around) (run : Run) (lane place : ℕ) (said : List Reply) (name : List ℕ) (uid : Uid) (lists : Lists) (old : Seen) (meanings : List BoxMeaning) (history : Option History) (faults : Faults) (mailbox : Mailbox) (row : MapRecord)
-        → HasComeTo run old → StandsAtStage ToRemove (own_events place run) said → old.stopped ≡ false → first_refusal run lists (part_checks run (removal lane place mailbox uid row.uid (told_calls history)) (request.Expunge name uid) First) ≡ None
-        → mailbox_named name lists ≡ Some mailbox → IsRecord run lists name uid.0 row → ShowsSeen (behind_box old meanings history faults) (expunge name uid.0 lists) → Leads lists (expunge name uid.0 lists) old (behind_box old meanings history faults) → Grows old.history history → old.faults.reads ≤ faults.reads → old.faults.changes ≤ faults.changes
-        → (d : DidEvent around after run lane place said (request.Expunge name uid) lists old (behind_box old meanings history faults) (did.Step half.Whole) None) × StandsAtStage (ToLower row.uid) (own_events place run ++ d.makes.event ∷ []) (and_told said d.makes.answer) }
-    ensures lowering { (around after : Around) (run : Run) (lane place : ℕ) (said : List Reply) (name : List ℕ) (uid : Uid) (lists : Lists) (old : Seen) (owed : ℕ) (history : Option History) (faults : Faults)
-        → HasComeTo run old → StandsAtStage (ToLower owed) (own_events place run) said → old.stopped ≡ false → ShowsSeen (behind_lowering old owed history faults) lists → Leads lists lists old (behind_lowering old owed history faults) → Grows old.history history → old.faults.reads ≤ faults.reads → old.faults.changes ≤ faults.changes
-        → DidEvent around after run lane place said (request.Expunge name uid) lists old (behind_lowering old owed history faults) did.Quiet (Some reply.Done) }
+        → HasComeTo run old → StandsAtStage ToRemove run place said → old.stopped ≡ false → first_refusal run lists (part_checks run (removal lane place mailbox uid row.uid (told_calls history)) (request.Expunge name uid) First) ≡ None
+        → mailbox_named name lists ≡ Some mailbox → IsRecord run lists name uid.0 row → ShowsSeen (behind_box old meanings row.uid history faults) (expunge name uid.0 lists) → Leads lists (expunge name uid.0 lists) old (behind_box old meanings row.uid history faults) → Grows old.history history → old.faults.reads ≤ faults.reads → old.faults.changes ≤ faults.changes
+        → (d : DidEvent around after run lane place said (request.Expunge name uid) lists old (behind_box old meanings row.uid history faults) (did.Step half.Whole) None) × StandsAtStage (ToLower row.uid) (and_then run d.makes.event) place (and_told said d.makes.answer) }
+    ensures lowering { (around after : Around) (run : Run) (lane place : ℕ) (said : List Reply) (name : List ℕ) (uid : Uid) (lists : Lists) (old : Seen) (owed : ℕ) (due : ℕ → ℕ) (history : Option History) (faults : Faults)
+        → HasComeTo run old → StandsAtStage (ToLower owed) run place said → old.stopped ≡ false → ((uid : ℕ) → due uid + one_due owed uid ≡ old.due uid) → ShowsSeen (behind_lowering old owed due history faults) lists → Leads lists lists old (behind_lowering old owed due history faults) → Grows old.history history → old.faults.reads ≤ faults.reads → old.faults.changes ≤ faults.changes
+        → DidEvent around after run lane place said (request.Expunge name uid) lists old (behind_lowering old owed due history faults) did.Quiet (Some reply.Done) }
+    ensures kept { (stage : Stage) → IsKept (StandsAtStage stage) }
 {}

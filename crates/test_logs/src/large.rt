@@ -2,16 +2,24 @@
 use disk_mem::MemDisk;
 use disk_model::{Disk, FileName};
 use gate_log::{create_log, open_log, read_log};
+use std::alloc::Global;
 use std::test::Fail;
 use test_stores::entries::RAISES_FIRST;
 use test_stores::{BOX_HEAD, MAP_HEAD, log_octets, put_file};
 
+fn million(alloc: Global, octet: u8) -> Result<Vec<u8>, Fail> {
+    let mut octets = Vec::new(alloc);
+    octets.resize(1_000_000, octet)?;
+    Ok(octets)
+}
+
 #[test]
 fn an_append_of_a_million_octets(rt: HostRuntime) -> Result<(), Fail> {
-    let entry = vec![in rt.alloc(); b'x'; 1_000_000]?;
+    let entry = million(rt.alloc(), b'x')?;
     let mut disk = MemDisk::fresh(rt.alloc())?;
     let mut log = create_log(rt.alloc(), &mut disk, FileName::Box(1, 1), BOX_HEAD)?;
     log.reserve(1 << 20)?;
+    assert!(rt; !entry.is_empty() && entry.len() + 5 <= log.room());
     log.append(&mut disk, &entry)?;
     assert_eq!(rt; disk.length(FileName::Box(1, 1)), Ok(1_000_031));
     let (_, read) = open_log(rt.alloc(), &mut disk, FileName::Box(1, 1), BOX_HEAD)?;

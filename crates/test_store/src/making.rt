@@ -6,12 +6,27 @@ use mdbox_base::{BoxNo, Seq};
 use std::alloc::Global;
 use std::test::Fail;
 use store_core::Store;
-use store_open::{OpenError, OpenRefused, init_store, make_files, open_store};
+use store_open::{OpenError, OpenRefused, init_store, open_store};
 use test_stores::entries::MAKES_INBOX;
 use test_stores::{ID, StoreFiles, each_crash, file_octets};
 
 /// How many calls a making on an empty disk takes: 3 that look, 4 for each log and 4 for each entry.
 const CALLS: u64 = 23;
+
+/// The disk of an answer, and why there is no store of this id for so many lanes whose INBOX is empty.
+fn taken(
+    answer: Result<Store<MemDisk>, OpenRefused<MemDisk>>,
+    lanes: u32,
+) -> (MemDisk, Option<OpenError>) {
+    match answer {
+        Ok(store) => {
+            let inbox = store.mailbox(BoxNo(1)).map(|index| index.length());
+            let is_new = store.id() == ID && store.lanes() == lanes && inbox == Some(0);
+            (store.into_disk(), (!is_new).then_some(OpenError::NoStore))
+        }
+        Err(OpenRefused { error, disk }) => (disk, Some(error)),
+    }
+}
 
 /// Whether the disk has just the logs of a new store.
 fn is_new_store(alloc: Global, disk: &mut MemDisk) -> Result<bool, Fail> {
@@ -34,13 +49,13 @@ fn is_left(run: u64, choice: Choice) -> bool {
 /// A making that crashes after each of its calls leaves no store, or the whole new one, and is begun again on what is left.
 #[test]
 fn a_making_that_crashes(rt: HostRuntime) -> Result<(), Fail> {
-    let mut disk = MemDisk::fresh(rt.alloc())?;
-    make_files(rt.alloc(), &mut disk, ID)?;
-    assert_eq!(rt; disk.calls(), CALLS);
-    each_crash(rt.alloc(), &disk, 0, |mut image, run, choice| {
-        let again = make_files(rt.alloc(), &mut image, ID).err();
+    let disk = MemDisk::fresh(rt.alloc())?;
+    let (disk, error) = taken(init_store(rt.alloc(), disk, ID), 1);
+    assert_eq!(rt; (error, disk.calls()), (None, CALLS));
+    each_crash(rt.alloc(), &disk, 0, |image, run, choice| {
+        let (mut image, error) = taken(init_store(rt.alloc(), image, ID), 1);
         let whole = is_left(run, choice).then_some(OpenError::StoreWhole);
-        assert_eq!(rt; again, whole, "{run} run, {choice:?}");
+        assert_eq!(rt; error, whole, "{run} run, {choice:?}");
         assert!(rt; is_new_store(rt.alloc(), &mut image)?);
         assert_eq!(rt; inbox(rt.alloc(), image)?, Ok(Some((0, None))));
         Ok(())
@@ -52,9 +67,9 @@ fn a_making_that_crashes(rt: HostRuntime) -> Result<(), Fail> {
 fn a_making_that_fails(rt: HostRuntime) -> Result<(), Fail> {
     for call in 1..CALLS + 1 {
         let calls = Seq::of(vec![in rt.alloc(); call]?);
-        let mut disk = MemDisk::fresh(rt.alloc())?.failing(calls);
-        let made = make_files(rt.alloc(), &mut disk, ID);
-        assert_eq!(rt; made.err(), Some(OpenError::DiskFault), "call {call}");
+        let disk = MemDisk::fresh(rt.alloc())?.failing(calls);
+        let (_disk, error) = taken(init_store(rt.alloc(), disk, ID), 1);
+        assert_eq!(rt; error, Some(OpenError::DiskFault), "call {call}");
     }
     Ok(())
 }
@@ -64,27 +79,12 @@ fn mail_files_are_kept(rt: HostRuntime) -> Result<(), Fail> {
     for name in [FileName::Mail(1), FileName::Inst([0; 20], [0; 16])] {
         let mut disk = MemDisk::fresh(rt.alloc())?;
         disk.make(name)?;
-        let made = make_files(rt.alloc(), &mut disk, ID);
-        assert_eq!(rt; made.err(), Some(OpenError::MailFiles));
+        let (mut disk, error) = taken(init_store(rt.alloc(), disk, ID), 1);
+        assert_eq!(rt; error, Some(OpenError::MailFiles));
         assert_eq!(rt; disk.next_name(None), Ok(Some(name)));
         assert_eq!(rt; inbox(rt.alloc(), disk)?, Err(OpenError::NoStore));
     }
     Ok(())
-}
-
-/// The disk of an answer, and why there is no store of this id for so many lanes whose INBOX is empty.
-fn taken(
-    answer: Result<Store<MemDisk>, OpenRefused<MemDisk>>,
-    lanes: u32,
-) -> (MemDisk, Option<OpenError>) {
-    match answer {
-        Ok(store) => {
-            let inbox = store.mailbox(BoxNo(1)).map(|index| index.length());
-            let is_new = store.id() == ID && store.lanes() == lanes && inbox == Some(0);
-            (store.into_disk(), (!is_new).then_some(OpenError::NoStore))
-        }
-        Err(OpenRefused { error, disk }) => (disk, Some(error)),
-    }
 }
 
 #[test]
@@ -94,10 +94,8 @@ fn a_new_store_is_opened(rt: HostRuntime) -> Result<(), Fail> {
     assert_eq!(rt; error, Some(OpenError::NoStore));
     let (disk, error) = taken(init_store(rt.alloc(), disk, ID), 1);
     assert_eq!(rt; error, None);
-    let (disk, error) = taken(open_store(rt.alloc(), disk, 64), 64);
+    let (mut disk, error) = taken(open_store(rt.alloc(), disk, 64), 64);
     assert_eq!(rt; error, None);
-    let (mut disk, error) = taken(init_store(rt.alloc(), disk, ID), 1);
-    assert_eq!(rt; error, Some(OpenError::StoreWhole));
     disk.remove(FileName::Box(1, 1))?;
     let (_disk, error) = taken(open_store(rt.alloc(), disk, 1), 1);
     assert_eq!(rt; error, Some(OpenError::Damaged(FileName::Box(1, 1), 0)));

@@ -6,6 +6,8 @@ use mdbox_base::{MemSink, MemSource, Octets, Seq};
 use mdbox_top::{Status, mdbox_run};
 use std::alloc::Global;
 use std::test::Fail;
+use test_stores::entries::RAISES_FIRST;
+use test_stores::{MAP_HEAD, log_octets};
 
 /// The words of runs on a disk that is empty at first, with the status, the output and the errors of each.
 const RUNS: [(&[&str], u8, &str, &str); 4] = [
@@ -72,5 +74,35 @@ fn no_store_is_made_beside_mail_files(rt: HostRuntime) -> Result<(), Fail> {
     let said = "mdbox: mail files without a store\n";
     let (_disk, status, same) = run(rt.alloc(), disk, &words, "", said)?;
     assert_eq!(rt; (status, same), (3, true));
+    Ok(())
+}
+
+#[test]
+fn a_long_log_is_printed(rt: HostRuntime) -> Result<(), Fail> {
+    let entries = vec![in rt.alloc(); RAISES_FIRST; 100_000]?;
+    let log = Octets::of(log_octets(rt.alloc(), MAP_HEAD, &entries)?);
+    let words = vec![in rt.alloc(); String::from_str(rt.alloc(), "logdump")?]?;
+    let mut output = MemSink::of(Octets::empty(rt.alloc()), Seq::empty(rt.alloc()));
+    let (Status(status), _) = mdbox_run(
+        rt.alloc(),
+        words.as_slice(),
+        MemDisk::fresh(rt.alloc())?,
+        &mut MemSource::of(log, Seq::empty(rt.alloc())),
+        &mut output,
+        &mut MemSink::of(Octets::empty(rt.alloc()), Seq::empty(rt.alloc())),
+    );
+    assert_eq!(rt; status, 0);
+    assert!(rt;
+        output
+            .held()
+            .as_slice()
+            .starts_with(b"LOG M 0 1\n26 5500000001\n")
+    );
+    assert!(rt;
+        output
+            .held()
+            .as_slice()
+            .ends_with(b"\n1000016 5500000001\nEND 1000025\n")
+    );
     Ok(())
 }

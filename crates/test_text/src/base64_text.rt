@@ -1,5 +1,5 @@
 // Texts of the standard alphabet (RFC 4648), worked out by hand.
-use b64_lines::{push_lines, recognise, text_size, write_lines};
+use b64_lines::{push_lines, recognise, write_lines};
 use mdbox_base::LineForm;
 use std::test::Fail;
 
@@ -48,15 +48,4 @@ fn other_text(rt: HostRuntime) -> Result<(), Fail> {
     assert!(rt; recognise(rt.alloc(), &long)?.is_none());
     assert!(rt; recognise(rt.alloc(), &long[..996])?.is_some());
     Ok(())
-}
-
-#[test]
-fn sizes_of_text(rt: HostRuntime) {
-    let form = LineForm {
-        length: 76,
-        crlf: true,
-    };
-    for (octets, size) in [(57, 76), (58, 82), (180_000, 246_314)] {
-        assert_eq!(rt; text_size(form, octets), size);
-    }
 }

@@ -1,7 +1,6 @@
 // Lines and header fields (RFC 2045, RFC 2046).
 use mime_fields::{next_line, read_fields};
 use model_mime::{Coding, Kind, Line};
-use std::test::Fail;
 
 /// A kind's name.
 fn name_of(kind: &Kind) -> &'static str {
@@ -108,16 +107,6 @@ fn fields_of_header_blocks(rt: HostRuntime) {
     for (block, coding) in CODINGS {
         assert_eq!(rt; read_fields(block).coding, coding);
     }
-}
-
-#[test]
-fn the_longest_boundary(rt: HostRuntime) -> Result<(), Fail> {
-    let mut block = b"Content-Type: multipart/mixed; boundary=".to_vec(rt.alloc())?;
-    block.extend_from_slice(&[b'b'; 70])?;
-    assert_eq!(rt; name_of(&read_fields(&block).kind), "multipart");
-    block.push(b'b')?;
-    assert_eq!(rt; name_of(&read_fields(&block).kind), "unreadable");
-    Ok(())
 }
 
 #[test]

@@ -128,9 +128,8 @@ fn ranges_that_overlap(rt: HostRuntime) -> Result<(), Fail> {
     refs.push(reference(0, 3, None))?;
     refs.push(reference(2, 3, None))?;
     let mut instances = Seq::empty(rt.alloc());
-    for _ in 0..2 {
-        instances.push(octets(rt.alloc(), b"xyz")?)?;
-    }
+    instances.push(octets(rt.alloc(), b"xyz")?)?;
+    instances.push(octets(rt.alloc(), b"xyz")?)?;
     let outcome = rejoin(rt.alloc(), b"ab", 8, &refs, &instances);
     assert!(rt; outcome.err() == Some(JoinError::RangeBad(1)));
     Ok(())

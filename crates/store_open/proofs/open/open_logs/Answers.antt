@@ -53,7 +53,7 @@ pub returns-clause-store : goal.returns-clause-store
 returns-clause-store g c = λ lanes some few.
     let k = c.in_ok-checked.ensures.checked in
     let e = c.in_ok-opened.ensures in
-    opened_store c.args.alloc c.sweep.new.disk c.in_ok-checked.checked k.0 k.1 k.2 c.in_ok-opened.opened lanes _ _ _ c.counts_cover_listings.ensures c.in_ok-checked.ensures.idle k.3 e.swept.reads e.same.1 e.root_log e.map_log e.box_logs e.same.2 some few
+    opened_store c.args.alloc c.sweep.new.disk c.in_ok-checked.checked k.0 k.1 k.2 c.in_ok-opened.opened lanes _ _ _ c.counts_cover_listings.ensures.nothing_due c.in_ok-checked.ensures.idle k.3 e.swept.reads e.same.1 e.root_log e.map_log e.box_logs e.same.2 some few
 
 pub returns-clause-opened : goal.returns-clause-opened
 returns-clause-opened g c =

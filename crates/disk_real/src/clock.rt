@@ -1,0 +1,46 @@
+// The system's clock.
+ghost use Rattle.std.specs.Prelude.{None, ◌≡◌};
+
+use mdbox_base::{Clock, ClockFault};
+use std::io;
+use std::time::{Duration, SystemTime};
+
+/// The system's clock. A call that the system fails is counted, and so is a time before 1970.
+#[derive(Drop)]
+pub struct StdClock {
+    rt: HostRuntime,
+    faults: u64,
+}
+
+impl StdClock {
+    /// A clock whose count of faults is 0.
+    pub fn of(rt: HostRuntime) -> StdClock
+        ensures { ⟦<StdClock as Clock>⟧.faults result ≡ 0 }
+    {
+        StdClock { rt, faults: 0 }
+    }
+}
+
+impl Clock for StdClock {
+    ghost time = { λ _. None };
+
+    ghost faults = { λ clock. clock.faults };
+
+    fn now(&mut self) -> Result<u64, ClockFault> {
+        match since_1970(&self.rt) {
+            Ok(time) => Ok(time.as_secs()),
+            Err(_) => {
+                self.faults = self.faults.saturating_add(1);
+                Err(ClockFault)
+            }
+        }
+    }
+}
+
+/// The time since the beginning of 1970.
+fn since_1970(rt: &HostRuntime) -> io::Result<Duration> {
+    match SystemTime::now(rt)?.duration_since(SystemTime::UNIX_EPOCH) {
+        Ok(time) => Ok(time),
+        Err(_) => Err(io::ErrorKind::InvalidData.into()),
+    }
+}

@@ -1,0 +1,155 @@
+-- How a run ends, by its command.
+use Rattle.std.specs.Prelude.{◌≡◌, ◌⊎◌, ℕ, List, [], ◌∷◌, Option, refl}
+use Rattle.std.proofs.Common.{sym, ◌∙◌, ap, subst, inl, inr, arith}
+use Rattle.disk_model.specs.Disk.{History, Faults}
+use Rattle.disk_model.specs.FaultCounts.{AnyFaultCounted}
+use Rattle.disk_model.specs.declared.name.FileName.{FileName}
+use Rattle.piece_writer.specs.Pieces.{WritesOrFaults}
+use Rattle.request_text.specs.Outcomes.{status_of, error_text, EndsAs}
+use Rattle.request_text.specs.declared.command.Command.{Command}
+use Rattle.request_text.specs.declared.command.Command.TheVariants as command
+use Rattle.request_text.specs.declared.outcome.InputRefusal.{InputRefusal}
+use Rattle.request_text.specs.declared.outcome.StoreRefusal.{StoreRefusal}
+use Rattle.request_text.specs.declared.outcome.StoreRefusal.TheVariants as store
+use Rattle.request_text.specs.declared.outcome.Outcome.{Outcome}
+use Rattle.request_text.specs.declared.outcome.Outcome.TheVariants as outcome
+use Rattle.mdbox_top.specs.InputRun.{DumpPrints, DumpRefuses, LogDumpPrints, LogDumpRefuses}
+use Rattle.mdbox_top.specs.Run.{Ends, RunOutcome, HasStatus}
+use Rattle.mdbox_top.proofs.InputLemmas.{dumps_apart, log_dumps_apart, input_status, shows_status}
+use Rattle.mdbox_top.proofs.InitLemmas.{init_status}
+use Rattle.mdbox_top.proofs.ListLemmas.{list_status, list_used, list_input, list_damage}
+
+-- a refused input whose text finds no memory
+input_memory : (c : Command) (left h k : Option (List ℕ)) (old new : Option History) (f g : Faults) (why : InputRefusal) → Ends c left h k old new f g (outcome.InputRefused why) → Ends c left h k old new f g outcome.NoMemory
+input_memory command.Dump left h k old new f g why e = inl e.1
+input_memory command.LogDump left h k old new f g why e = inl e.1
+input_memory (command.Init id) left h k old new f g why e = absurd e
+input_memory (command.List name) left h k old new f g why e = absurd (list_input name h k old new f g why e)
+input_memory command.Help left h k old new f g why e = absurd e
+input_memory command.Version left h k old new f g why e = absurd e
+
+-- damage whose text finds no memory
+damage_memory : (c : Command) (left h k : Option (List ℕ)) (old new : Option History) (f g : Faults) (name : FileName) (place : ℕ) → Ends c left h k old new f g (outcome.StoreRefused (store.Damaged name place)) → Ends c left h k old new f g outcome.NoMemory
+damage_memory (command.Init id) left h k old new f g name place e = absurd e.1
+damage_memory (command.List box) left h k old new f g name place e = list_damage box h k old new f g (store.Damaged name place) e
+damage_memory command.Dump left h k old new f g name place e = absurd e
+damage_memory command.LogDump left h k old new f g name place e = absurd e
+damage_memory command.Help left h k old new f g name place e = absurd e
+damage_memory command.Version left h k old new f g name place e = absurd e
+
+-- the last end is one that the command may have
+pub last_ends : (c : Command) (left h k : Option (List ℕ)) (old new : Option History) (f g : Faults) (o last : Outcome) → EndsAs o last → Ends c left h k old new f g o → Ends c left h k old new f g last
+last_ends c left h k old new f g (outcome.InputRefused why) last y e = elim y [
+  | inl same ↦ subst (Ends c left h k old new f g) (sym same) e
+  | inr none ↦ subst (Ends c left h k old new f g) (sym none) (input_memory c left h k old new f g why e)
+]
+last_ends c left h k old new f g (outcome.StoreRefused (store.Damaged name place)) last y e = elim y [
+  | inl same ↦ subst (Ends c left h k old new f g) (sym same) e
+  | inr none ↦ subst (Ends c left h k old new f g) (sym none) (damage_memory c left h k old new f g name place e)
+]
+last_ends c left h k old new f g (outcome.StoreRefused store.NoStore) last y e = subst (Ends c left h k old new f g) (sym y) e
+last_ends c left h k old new f g (outcome.StoreRefused store.StoreWhole) last y e = subst (Ends c left h k old new f g) (sym y) e
+last_ends c left h k old new f g (outcome.StoreRefused store.MailFiles) last y e = subst (Ends c left h k old new f g) (sym y) e
+last_ends c left h k old new f g outcome.Done last y e = subst (Ends c left h k old new f g) (sym y) e
+last_ends c left h k old new f g outcome.No last y e = subst (Ends c left h k old new f g) (sym y) e
+last_ends c left h k old new f g outcome.Usage last y e = subst (Ends c left h k old new f g) (sym y) e
+last_ends c left h k old new f g outcome.NoMemory last y e = subst (Ends c left h k old new f g) (sym y) e
+last_ends c left h k old new f g outcome.DiskFault last y e = subst (Ends c left h k old new f g) (sym y) e
+last_ends c left h k old new f g outcome.ReadFault last y e = subst (Ends c left h k old new f g) (sym y) e
+last_ends c left h k old new f g outcome.WriteFault last y e = subst (Ends c left h k old new f g) (sym y) e
+
+pub has_status : (c : Command) (left h k : Option (List ℕ)) (old new : Option History) (f g : Faults) (o : Outcome) → Ends c left h k old new f g o → HasStatus c left old (status_of o)
+has_status (command.Init id) left h k old new f g o e = λ free. init_status id.0 h k old new o e free
+has_status (command.List name) left h k old new f g o e = λ lists s. list_status name h k old new f g o e lists s
+has_status command.Dump left h k old new f g o e = input_status DumpPrints DumpRefuses left h k o dumps_apart e
+has_status command.LogDump left h k old new f g o e = input_status LogDumpPrints LogDumpRefuses left h k o log_dumps_apart e
+has_status command.Help left h k old new f g o e = shows_status _ h k o e
+has_status command.Version left h k old new f g o e = shows_status _ h k o e
+
+-- no command ends as unknown words
+used : (c : Command) (left h k : Option (List ℕ)) (old new : Option History) (f g : Faults) → Ends c left h k old new f g outcome.Usage → ⊥
+used (command.Init id) left h k old new f g e = e
+used (command.List name) left h k old new f g e = list_used name h k old new f g e
+used command.Dump left h k old new f g e = e
+used command.LogDump left h k old new f g e = e
+used command.Help left h k old new f g e = e
+used command.Version left h k old new f g e = e
+
+-- what a status says of the end
+two : (o : Outcome) → status_of o ≡ 2 → o ≡ outcome.Usage
+two outcome.Usage e = refl
+two outcome.Done e = absurd (omega (arith, e))
+two outcome.No e = absurd (omega (arith, e))
+two outcome.NoMemory e = absurd (omega (arith, e))
+two outcome.DiskFault e = absurd (omega (arith, e))
+two outcome.ReadFault e = absurd (omega (arith, e))
+two outcome.WriteFault e = absurd (omega (arith, e))
+two (outcome.StoreRefused why) e = absurd (omega (arith, e))
+two (outcome.InputRefused why) e = absurd (omega (arith, e))
+
+six : (o : Outcome) → status_of o ≡ 6 → o ≡ outcome.DiskFault
+six outcome.DiskFault e = refl
+six outcome.Done e = absurd (omega (arith, e))
+six outcome.No e = absurd (omega (arith, e))
+six outcome.NoMemory e = absurd (omega (arith, e))
+six outcome.Usage e = absurd (omega (arith, e))
+six outcome.ReadFault e = absurd (omega (arith, e))
+six outcome.WriteFault e = absurd (omega (arith, e))
+six (outcome.StoreRefused why) e = absurd (omega (arith, e))
+six (outcome.InputRefused why) e = absurd (omega (arith, e))
+
+seven : (o : Outcome) → status_of o ≡ 7 → o ≡ outcome.ReadFault
+seven outcome.ReadFault e = refl
+seven outcome.Done e = absurd (omega (arith, e))
+seven outcome.No e = absurd (omega (arith, e))
+seven outcome.NoMemory e = absurd (omega (arith, e))
+seven outcome.Usage e = absurd (omega (arith, e))
+seven outcome.DiskFault e = absurd (omega (arith, e))
+seven outcome.WriteFault e = absurd (omega (arith, e))
+seven (outcome.StoreRefused why) e = absurd (omega (arith, e))
+seven (outcome.InputRefused why) e = absurd (omega (arith, e))
+
+eight : (o : Outcome) → status_of o ≡ 8 → o ≡ outcome.WriteFault
+eight outcome.WriteFault e = refl
+eight outcome.Done e = absurd (omega (arith, e))
+eight outcome.No e = absurd (omega (arith, e))
+eight outcome.NoMemory e = absurd (omega (arith, e))
+eight outcome.Usage e = absurd (omega (arith, e))
+eight outcome.DiskFault e = absurd (omega (arith, e))
+eight outcome.ReadFault e = absurd (omega (arith, e))
+eight (outcome.StoreRefused why) e = absurd (omega (arith, e))
+eight (outcome.InputRefused why) e = absurd (omega (arith, e))
+
+-- the same end, or out of memory
+kept : (o last : Outcome) → EndsAs o last → (last ≡ o) ⊎ (last ≡ outcome.NoMemory)
+kept (outcome.InputRefused why) last y = y
+kept (outcome.StoreRefused (store.Damaged name place)) last y = y
+kept (outcome.StoreRefused store.NoStore) last y = inl y
+kept (outcome.StoreRefused store.StoreWhole) last y = inl y
+kept (outcome.StoreRefused store.MailFiles) last y = inl y
+kept outcome.Done last y = inl y
+kept outcome.No last y = inl y
+kept outcome.Usage last y = inl y
+kept outcome.NoMemory last y = inl y
+kept outcome.DiskFault last y = inl y
+kept outcome.ReadFault last y = inl y
+kept outcome.WriteFault last y = inl y
+
+pub faulted : (o last : Outcome) (n : ℕ) → EndsAs o last → n ≡ status_of last → n ≡ 6 → o ≡ outcome.DiskFault
+faulted o last n y s e =
+    let l : last ≡ outcome.DiskFault = six last (sym s ∙ e) in
+    elim (kept o last y) [ inl same ↦ sym same ∙ l | inr none ↦ absurd (cc (sym none ∙ l)) ]
+
+pub unread : (o last : Outcome) (n : ℕ) → EndsAs o last → n ≡ status_of last → n ≡ 7 → o ≡ outcome.ReadFault
+unread o last n y s e =
+    let l : last ≡ outcome.ReadFault = seven last (sym s ∙ e) in
+    elim (kept o last y) [ inl same ↦ sym same ∙ l | inr none ↦ absurd (cc (sym none ∙ l)) ]
+
+pub unwritten : (o last : Outcome) (n : ℕ) → EndsAs o last → n ≡ status_of last → n ≡ 8 → o ≡ outcome.WriteFault
+unwritten o last n y s e =
+    let l : last ≡ outcome.WriteFault = eight last (sym s ∙ e) in
+    elim (kept o last y) [ inl same ↦ sym same ∙ l | inr none ↦ absurd (cc (sym none ∙ l)) ]
+
+-- a run of a command doesn't end with status 2
+pub known_words : (c : Command) (left h k : Option (List ℕ)) (old new : Option History) (f g : Faults) (n : ℕ) (eh : Option (List ℕ)) (ef : ℕ) (ek : Option (List ℕ)) (eg : ℕ) → RunOutcome (Ends c left h k old new f g) n eh ef ek eg → n ≡ 2 → ⊥
+known_words c left h k old new f g n eh ef ek eg r e = used c left h k old new f g (subst (Ends c left h k old new f g) (two r.outcome (sym r.status_is ∙ e)) r.ended)

@@ -1,0 +1,2 @@
+pub mod ReplyPrintLemmas
+pub mod WordsLemmas

@@ -1,0 +1,37 @@
+-- The words of the commands.
+use Rattle.std.specs.Prelude.{◌≡◌, ℕ, List, [], ◌∷◌, length, codes}
+use Rattle.hex.specs.Hex.{encode_lower}
+use Rattle.mdbox_base.specs.Words.{IsOctets, IsName}
+use Rattle.request_text.specs.declared.command.Command.{Command}
+use Rattle.request_text.specs.declared.command.Command.TheVariants as command
+
+-- The words of a command. An id is 16 lower-case hexadecimal digits.
+abbrev pub words_of : Command → List (List ℕ)
+words_of (command.Init id) = codes "init" ∷ encode_lower id.0 ∷ []
+words_of (command.List name) = codes "list" ∷ name ∷ []
+words_of command.Dump = codes "dump" ∷ []
+words_of command.LogDump = codes "logdump" ∷ []
+words_of command.Help = codes "--help" ∷ []
+words_of command.Version = codes "--version" ∷ []
+
+-- An id has 8 octets, and a name is that of a mailbox.
+abbrev pub IsInRange : Command → Type 0
+IsInRange (command.Init id) = (length id.0 ≡ 8) × IsOctets id.0
+IsInRange (command.List name) = IsName name
+IsInRange command.Dump = Unit {0}
+IsInRange command.LogDump = Unit {0}
+IsInRange command.Help = Unit {0}
+IsInRange command.Version = Unit {0}
+
+-- The words say this command.
+abbrev pub Says : List (List ℕ) → Command → Type 0
+Says words command = IsInRange command × (words ≡ words_of command)
+
+-- The words say this command, and no other.
+pub record SaysOnly (words : List (List ℕ)) (command : Command) : Type 0 where
+  pub says : Says words command
+  pub only : (other : Command) → Says words other → other ≡ command
+
+-- The words say no command.
+abbrev pub SayNothing : List (List ℕ) → Type 0
+SayNothing words = (command : Command) → Says words command → ⊥

@@ -1,0 +1,46 @@
+// The commands of the program.
+use mdbox_base::{Name, StoreId};
+
+/// What the program is asked to do.
+#[derive(Drop)]
+pub enum Command {
+    /// Makes an empty store with this id.
+    Init { id: StoreId },
+    /// Lists the mailbox with this name.
+    List { name: Name },
+    /// Prints the messages of a storage file.
+    Dump,
+    /// Prints the entries of a log.
+    LogDump,
+    /// Prints what each command does.
+    Help,
+    /// Prints the version.
+    Version,
+}
+
+/// What `--help` prints.
+pub const HELP: &str = "mdbox WORDS
+
+init ID     makes an empty store in the current folder, with one mailbox, INBOX, and prints OK; ID names
+            the store, in 16 lower-case hexadecimal digits
+list BOX    lists a mailbox of the store in the current folder: prints OK and the number of messages, then a
+            line for each: its UID, its flags (the sum of 1 answered, 2 flagged, 4 deleted, 8 seen, 16 draft),
+            its size in octets, the time it was received (Unix seconds) and its GUID; or prints
+            NO 10 no mailbox
+dump        reads a storage file (m.N) of mdbox from standard input and prints, for each message,
+            MESSAGE, its offset and the size of its body, and then its metadata lines, each after two spaces
+logdump     reads a log of mdbox from standard input and prints LOG, its kind (R, M or B), its number and its
+            generation, then for each entry the offset of its record and its octets in hexadecimal digits,
+            and END with the offset of the last gate
+--help      prints this
+--version   prints the version
+
+Exit status: 0 done, 1 the reply is NO, 2 unknown command, 3 no store, a store that exists already, storage files
+without a store, or a damaged store, 4 the input is refused, 5 out of memory, 6 disk fault, 7 read fault,
+8 write fault
+
+Example: mdbox init 0011223344556677 && mdbox list INBOX
+";
+
+/// What `--version` prints.
+pub const VERSION: &str = "mdbox 0.1.0\n";

@@ -1,0 +1,77 @@
+// How a run ends.
+ghost use Rattle.std.specs.Prelude.{◌≡◌};
+ghost use Rattle.request_text.specs.Outcomes.{reply_outcome};
+
+use disk_model::FileName;
+use mdbox_base::{Refusal, Reply};
+
+/// Why octets are no storage file. Offsets are those of the first place where no whole message stands.
+#[derive(Clone, Copy, Debug, PartialEq, Eq)]
+pub enum FileRefusal {
+    /// No header line begins the file.
+    BadHeader,
+    /// The header line is good, but its `M` is this number and not 30.
+    HeaderSize(u64),
+    /// What stands from here to the end may be a prefix of a message: the file was cut off.
+    Truncated(u64),
+    /// What stands here is no message, and no prefix of one.
+    BadMessage(u64),
+}
+
+/// Why the input is refused.
+#[derive(Clone, Copy, Debug, PartialEq, Eq)]
+pub enum InputRefusal {
+    /// It has more octets than this.
+    TooLong(u64),
+    /// It is no storage file.
+    File(FileRefusal),
+    /// It is no log: it is damaged at this place.
+    Log(u64),
+}
+
+/// Why the files let no store be made or opened.
+#[derive(Clone, Copy, Debug, PartialEq, Eq)]
+pub enum StoreRefusal {
+    /// There is no store.
+    NoStore,
+    /// There is a store already.
+    StoreWhole,
+    /// There are storage files or attachments, but no store.
+    MailFiles,
+    /// The store is damaged in this file at this place.
+    Damaged(FileName, u64),
+}
+
+/// How a run ends.
+#[derive(Clone, Copy, Debug, PartialEq, Eq)]
+pub enum Outcome {
+    /// All was done and printed.
+    Done,
+    /// A reply was printed that refuses the request: one that begins with `NO` and another number than 17 to 19.
+    No,
+    /// The words say no command.
+    Usage,
+    /// The store was not made or opened, for what the files are.
+    StoreRefused(StoreRefusal),
+    /// The input isn't in the command's grammar, or is too long.
+    InputRefused(InputRefusal),
+    NoMemory,
+    /// The disk failed.
+    DiskFault,
+    /// The source of the input failed.
+    ReadFault,
+    /// The output failed.
+    WriteFault,
+}
+
+/// The end of a run that printed this reply.
+pub fn outcome_of_reply(given: &Reply) -> Outcome
+    ensures { result ≡ reply_outcome given.now }
+{
+    match given {
+        Reply::Refused(Refusal::NoMemory) => Outcome::NoMemory,
+        Reply::Refused(Refusal::ReadFault | Refusal::Stopped) => Outcome::DiskFault,
+        Reply::Refused(_) => Outcome::No,
+        _ => Outcome::Done,
+    }
+}

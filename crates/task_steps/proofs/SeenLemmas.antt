@@ -1,0 +1,141 @@
+-- What a store tells, as a run goes on with one event more.
+use Rattle.std.proofs.Common.{◌≡◌, ◌+◌, ◌-◌, ◌==◌, ◌&&◌, ◌||◌, ℕ, Bool, true, false, not, List, [], ◌∷◌, ◌++◌, refl, sym, ◌∙◌, ap, subst, arith, All}
+use Rattle.std.specs.Prelude.{◌≢◌, flat_map, sum_by, filter, cond}
+use Rattle.std.specs.List.{list_any}
+use Rattle.std.specs.Str.{bytes_eq}
+use Rattle.std.proofs.lemmas.Bool.{ne_eqb}
+use Rattle.std.proofs.lemmas.Grind.{flat_map-append}
+use Rattle.std.proofs.lemmas.List.{append-nil}
+use Rattle.std.proofs.lemmas.List.Elements.{All-append, All-nil, All-weaker, filter-append}
+use Rattle.std.proofs.lemmas.List.Folds.{list_any-append}
+use Rattle.std.proofs.lemmas.List.Sums.{sum_by-append, sum_by-cons}
+use Rattle.disk_model.specs.Disk.{told_calls}
+use Rattle.list_machine.specs.Run.{RunEvent, Run, Pin, TakenFile, and_then, own_events, given_by_others, is_one_of, is_unpinning, has_unpinned, is_pinned, is_doomed}
+use Rattle.journal.specs.Events.{begun_in, ended_in, due_of, number_drawn, number_of, until_doomed, was_pinned}
+use Rattle.journal.specs.Makes.{HasCome}
+use Rattle.journal.proofs.OwnEventLemmas.{own_more, own_other}
+use Rattle.task_steps.specs.Step.{Seen, was_given, HasComeTo, GivesNew, IsKept, HasNotBegun}
+use Rattle.task_steps.specs.Tells.{LeavesFiles, TellsSame}
+
+or_none : (b : Bool) → (b || false) ≡ b
+or_none true = refl
+or_none false = refl
+
+any_push : {X : Type 0} → (p : X → Bool) (xs : List X) (x : X) → list_any p (xs ++ x ∷ []) ≡ (list_any p xs || p x)
+any_push p xs x = list_any-append p xs (x ∷ []) ∙ ap (λ (b : Bool). list_any p xs || b) (or_none (p x))
+
+any_still : {X : Type 0} → (p : X → Bool) (xs : List X) (x : X) → p x ≡ false → list_any p (xs ++ x ∷ []) ≡ list_any p xs
+any_still p xs x e = any_push p xs x ∙ (ap (λ (b : Bool). list_any p xs || b) e ∙ or_none (list_any p xs))
+
+any_same : {X : Type 0} → (p q : X → Bool) (xs : List X) → ((x : X) → p x ≡ q x) → list_any p xs ≡ list_any q xs
+any_same p q [] h = refl
+any_same p q (x ∷ xs) h = ap (λ (b : Bool). b || list_any p xs) (h x) ∙ ap (λ (b : Bool). q x || b) (any_same p q xs h)
+
+sum_push : {X : Type 0} → (f : X → ℕ) (xs : List X) (x : X) → sum_by f (xs ++ x ∷ []) ≡ sum_by f xs + f x
+sum_push f xs x = let h = sum_by-append f xs (x ∷ []) in let k = sum_by-cons f x [] in omega (arith, h, k)
+
+flat_push : {X Y : Type 0} → (f : X → List Y) (xs : List X) (x : X) → flat_map f (xs ++ x ∷ []) ≡ flat_map f xs ++ f x
+flat_push f xs x = flat_map-append f xs (x ∷ []) ∙ ap (λ (l : List _). flat_map f xs ++ l) (append-nil (f x))
+
+-- ---- files
+
+unpinned_still : (request : ℕ) (run : Run) (event : RunEvent) → is_unpinning event ≡ false → has_unpinned request (and_then run event) ≡ has_unpinned request run
+unpinned_still request run event none = by_test (event.request == request) refl
+  where
+    by_test : (b : Bool) → (event.request == request) ≡ b → has_unpinned request (and_then run event) ≡ has_unpinned request run
+    by_test true e = ap (λ (es : List RunEvent). list_any is_unpinning es) (own_more request run event e) ∙ any_still is_unpinning (own_events request run) event none
+    by_test false e = ap (λ (es : List RunEvent). list_any is_unpinning es) (own_other request run event e)
+
+pub pinned_still : (run : Run) (event : RunEvent) (file : ℕ) → event.pins ≡ [] → is_unpinning event ≡ false → is_pinned (and_then run event) file ≡ is_pinned run file
+pinned_still run event file none unpins =
+    any_still (λ (e : RunEvent). list_any (λ (p : Pin). p.file == file) e.pins && not (has_unpinned e.request (and_then run event))) run.events event (ap (λ (ps : List Pin). list_any (λ (p : Pin). p.file == file) ps && not (has_unpinned event.request (and_then run event))) none)
+    ∙ any_same (λ (e : RunEvent). list_any (λ (p : Pin). p.file == file) e.pins && not (has_unpinned e.request (and_then run event))) (λ (e : RunEvent). list_any (λ (p : Pin). p.file == file) e.pins && not (has_unpinned e.request run)) run.events
+    (λ e. ap (λ (b : Bool). list_any (λ (p : Pin). p.file == file) e.pins && not b) (unpinned_still e.request run event unpins))
+
+pub doomed_still : (run : Run) (event : RunEvent) (file : ℕ) → event.doomed ≡ [] → event.removed ≡ [] → is_doomed (and_then run event) file ≡ is_doomed run file
+doomed_still run event file none stay =
+    ap (λ (b : Bool). b && not (list_any (λ (e : RunEvent). is_one_of e.removed file) (run.events ++ event ∷ []))) (any_still (λ (e : RunEvent). is_one_of e.doomed file) run.events event (ap (λ (fs : List ℕ). is_one_of fs file) none))
+    ∙ ap (λ (b : Bool). list_any (λ (e : RunEvent). is_one_of e.doomed file) run.events && not b) (any_still (λ (e : RunEvent). is_one_of e.removed file) run.events event (ap (λ (fs : List ℕ). is_one_of fs file) stay))
+
+pub given_still : (run : Run) (event : RunEvent) (guid : List ℕ) → event.given ≡ [] → was_given (and_then run event) guid ≡ was_given run guid
+given_still run event guid none =
+    ap (λ (gs : List (List ℕ)). list_any (bytes_eq guid) gs) (flat_push (λ (e : RunEvent). e.given) run.events event ∙ (ap (λ (gs : List (List ℕ)). flat_map (λ (e : RunEvent). e.given) run.events ++ gs) none ∙ append-nil (flat_map (λ (e : RunEvent). e.given) run.events)))
+
+-- ---- the store
+
+-- A run that has come to a store comes on with an event that leaves files and GUIDs: what is due rose and fell as it says.
+pub comes_to_on : (run : Run) (event : RunEvent) (old new : Seen) → HasComeTo run old → HasCome (and_then run event) new.map new.drawn (told_calls new.history) → ((uid : ℕ) → new.due uid + ended_in uid event ≡ old.due uid + begun_in uid event)
+    → LeavesFiles event → TellsSame old new → HasComeTo (and_then run event) new
+comes_to_on run event old new h come due leaves same = record {
+  come = come;
+  due = λ uid.
+      let a = sum_push (begun_in uid) run.events event in
+      let b = sum_push (ended_in uid) run.events event in
+      let c = h.due uid in
+      let d = due uid in
+      omega (arith, a, b, c, d);
+  pinned = λ file. pinned_still run event file leaves.pins leaves.unpins ∙ (h.pinned file ∙ sym (same.pinned file));
+  doomed = λ file. doomed_still run event file leaves.doomed leaves.removed ∙ (h.doomed file ∙ sym (same.doomed file));
+  gave = λ guid e. same.gave guid ∙ h.gave guid (sym (given_still run event guid leaves.given) ∙ e);
+}
+
+-- It does so with an event that leaves all.
+pub comes_to_still : (run : Run) (event : RunEvent) (seen : Seen) → HasComeTo run seen → HasCome (and_then run event) seen.map seen.drawn (told_calls seen.history) → ((uid : ℕ) → begun_in uid event ≡ ended_in uid event) → LeavesFiles event
+    → HasComeTo (and_then run event) seen
+comes_to_still run event seen h come due leaves = comes_to_on run event seen seen h come (λ uid. let e = due uid in omega (arith, e)) leaves (record { pinned = λ file. refl; doomed = λ file. refl; gave = λ guid. refl })
+
+pub no_guids : (run : Run) (event : RunEvent) → event.given ≡ [] → GivesNew run event
+no_guids run event none = subst (λ (gs : List (List ℕ)). All (λ guid. was_given run guid ≡ false) gs) (sym none) (All-nil _)
+
+-- what is due of a record in the run is what the store says
+pub due_is : (run : Run) (seen : Seen) (uid : ℕ) → HasComeTo run seen → due_of run uid ≡ seen.due uid
+due_is run seen uid h = let e = h.due uid in omega (arith, e)
+
+pub is_new : (run : Run) (seen : Seen) (guid : List ℕ) → HasComeTo run seen → seen.gave guid ≡ false → was_given run guid ≡ false
+is_new run seen guid h none = by_test (was_given run guid) refl
+  where
+    by_test : (b : Bool) → was_given run guid ≡ b → was_given run guid ≡ false
+    by_test true e = absurd (let k : true ≡ false = sym (h.gave guid e) ∙ none in cc k)
+    by_test false e = e
+
+-- ---- what a stage may read
+
+-- the number that another request drew last
+drawn_still : (request : ℕ) (event : RunEvent) → (event.request == request) ≡ false → (events : List RunEvent) (last drawn : ℕ) → number_drawn request last drawn (events ++ event ∷ []) ≡ number_drawn request last drawn events
+drawn_still request event e [] last drawn = rw e refl
+drawn_still request event e (x ∷ xs) last drawn = drawn_still request event e xs _ _
+
+pub number_still : (run : Run) (event : RunEvent) (other : ℕ) → event.request ≢ other → number_of (and_then run event) other ≡ number_of run other
+number_still run event other e = drawn_still other event (ne_eqb event.request other e) run.events 0 run.opened.mailbox
+
+-- whether a file was pinned as it was doomed
+until_still : (file : ℕ) (events : List RunEvent) (event : RunEvent) → list_any (λ (e : RunEvent). is_one_of e.doomed file) events ≡ true → until_doomed file (events ++ event ∷ []) ≡ until_doomed file events
+until_still file [] event e = absurd (cc e)
+until_still file (x ∷ xs) event e = by_test (is_one_of x.doomed file) refl (λ later. until_still file xs event later)
+  where
+    by_test : (b : Bool) → is_one_of x.doomed file ≡ b → (list_any (λ (e : RunEvent). is_one_of e.doomed file) xs ≡ true → until_doomed file (xs ++ event ∷ []) ≡ until_doomed file xs) → until_doomed file (x ∷ xs ++ event ∷ []) ≡ until_doomed file (x ∷ xs)
+    by_test true t rest = ap (λ (b : Bool). cond b (x ∷ []) (x ∷ until_doomed file (xs ++ event ∷ []))) t ∙ sym (ap (λ (b : Bool). cond b (x ∷ []) (x ∷ until_doomed file xs)) t)
+    by_test false t rest =
+        let later : list_any (λ (e : RunEvent). is_one_of e.doomed file) xs ≡ true = sym (ap (λ (b : Bool). b || list_any (λ (e : RunEvent). is_one_of e.doomed file) xs) t) ∙ e in
+        ap (λ (b : Bool). cond b (x ∷ []) (x ∷ until_doomed file (xs ++ event ∷ []))) t ∙ (ap (λ (l : List RunEvent). x ∷ l) (rest later) ∙ sym (ap (λ (b : Bool). cond b (x ∷ []) (x ∷ until_doomed file xs)) t))
+
+pub was_pinned_still : (run : Run) (event : RunEvent) (file : ℕ) → list_any (λ e. is_one_of e.doomed file) run.events ≡ true → was_pinned (and_then run event) file ≡ was_pinned run file
+was_pinned_still run event file doomed = ap (λ (es : List RunEvent). is_pinned (record run { events = es }) file) (until_still file run.events event doomed)
+
+-- that no other request gave a GUID that was given
+pub others_still : (run : Run) (event : RunEvent) (other : ℕ) (guid : List ℕ) → event.request ≢ other → GivesNew run event → was_given run guid ≡ true → All (λ g. g ≢ guid) (given_by_others other run) → All (λ g. g ≢ guid) (given_by_others other (and_then run event))
+others_still run event other guid e new given none =
+    subst (λ (gs : List (List ℕ)). All (λ g. g ≢ guid) gs) (sym more)
+    (All-append (λ (g : List ℕ). g ≢ guid) (given_by_others other run) event.given none (All-weaker (λ (g : List ℕ). was_given run g ≡ false) (λ (g : List ℕ). g ≢ guid) (λ g fresh same. let k : true ≡ false = sym given ∙ (ap (λ (x : List ℕ). was_given run x) (sym same) ∙ fresh) in cc k) event.given new))
+  where
+    one : filter (λ (x : RunEvent). not (x.request == other)) (event ∷ []) ≡ event ∷ []
+    one = ap (λ (b : Bool). cond (not b) (event ∷ []) []) (ne_eqb event.request other e)
+
+    more : given_by_others other (and_then run event) ≡ given_by_others other run ++ event.given
+    more =
+        ap (λ (es : List RunEvent). flat_map (λ (x : RunEvent). x.given) es) (filter-append (λ (x : RunEvent). not (x.request == other)) run.events (event ∷ []) ∙ ap (λ (es : List RunEvent). filter (λ (x : RunEvent). not (x.request == other)) run.events ++ es) one)
+        ∙ flat_push (λ (x : RunEvent). x.given) (filter (λ (x : RunEvent). not (x.request == other)) run.events) event
+
+-- a task that hasn't begun
+pub not_begun_stays : IsKept HasNotBegun
+not_begun_stays run place said event e new stood = (own_other place run event (ne_eqb event.request place e) ∙ stood.0, stood.1)

@@ -1,0 +1,18 @@
+-- Events that leave what a store keeps of its tasks.
+use Rattle.std.specs.Prelude.{◌≡◌, ℕ, false, List, []}
+use Rattle.list_machine.specs.Run.{RunEvent, is_unpinning}
+use Rattle.task_steps.specs.Step.{Seen}
+
+-- an event that pins, unpins, dooms and removes no file, and gives no GUID
+pub record LeavesFiles (event : RunEvent) : Type 0 where
+  pub pins : event.pins ≡ []
+  pub unpins : is_unpinning event ≡ false
+  pub doomed : event.doomed ≡ []
+  pub removed : event.removed ≡ []
+  pub given : event.given ≡ []
+
+-- a store tells the same of files and GUIDs as before
+pub record TellsSame (old new : Seen) : Type 0 where
+  pub pinned : (file : ℕ) → new.pinned file ≡ old.pinned file
+  pub doomed : (file : ℕ) → new.doomed file ≡ old.doomed file
+  pub gave : (guid : List ℕ) → new.gave guid ≡ old.gave guid

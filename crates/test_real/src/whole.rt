@@ -1,0 +1,34 @@
+// One test runs the cases one after the other, since they share a folder and its lock.
+use crate::{calls, strange};
+use disk_model::FileName;
+use disk_real::StdClock;
+use mdbox_base::Clock;
+use std::test::Fail;
+
+/// A file of each kind, in order.
+pub(crate) const NAMES: [FileName; 5] = [
+    FileName::Root,
+    FileName::Map(1),
+    FileName::Box(2, 3),
+    FileName::Mail(4_294_967_294),
+    FileName::Inst([171; 20], [9; 16]),
+];
+
+#[test]
+fn real_files(rt: HostRuntime) -> Result<(), Fail> {
+    calls::each_call_on_each_kind(&rt, rt)?;
+    calls::names_stay_in_order(&rt, rt)?;
+    calls::one_process_has_the_store(&rt, rt)?;
+    calls::nothing_changes_after_a_failure(&rt, rt)?;
+    calls::each_call_is_counted(&rt, rt)?;
+    strange::others_are_no_files(&rt, rt)?;
+    strange::files_in_place_of_folders(&rt, rt)?;
+    strange::names_of_no_store(&rt, rt)
+}
+
+#[test]
+fn the_clock_is_past_2020(rt: HostRuntime) -> Result<(), Fail> {
+    let mut clock = StdClock::of(rt);
+    assert!(rt; clock.now()? > 1_577_836_800);
+    Ok(())
+}

@@ -1,0 +1,7 @@
+//! Tests of the whole program, and of what is printed of replies.
+#![tactic(auto)]
+
+#[cfg(test)]
+mod replies;
+#[cfg(test)]
+mod runs;

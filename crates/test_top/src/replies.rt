@@ -1,0 +1,157 @@
+// What is printed of replies.
+use mdbox_base::{
+    FileNo, Flags, Guid, ListRow, MemSink, Octets, Refusal, Reply, Seq, Uid, flags_of,
+};
+use piece_writer::PrintError;
+use request_text::print_reply;
+use std::alloc::Global;
+use std::test::Fail;
+
+/// A GUID: the id of a store, the number of a storage file, and an offset.
+const GUID: Guid = Guid([
+    0x00, 0x11, 0x22, 0x33, 0x44, 0x55, 0x66, 0x77, 0, 0, 0, 1, 0, 0, 0, 0x10,
+]);
+
+/// What printing a reply answers where this call of the output fails, and whether this was printed.
+fn printed(
+    alloc: Global,
+    reply: &Reply,
+    failing: u64,
+    text: &str,
+) -> Result<(Result<(), PrintError>, bool), Fail> {
+    let fails = Seq::of(vec![in alloc; failing]?);
+    let mut output = MemSink::of(Octets::empty(alloc), fails);
+    let answer = print_reply(alloc, &mut output, reply);
+    Ok((answer, output.held().as_slice() == text.as_bytes()))
+}
+
+/// A row of a listing.
+fn row(uid: u32, flags: Flags, size: u32) -> ListRow {
+    ListRow {
+        uid: Uid(uid),
+        flags,
+        size,
+        time: 1_694_498_816,
+        guid: GUID,
+    }
+}
+
+/// What each reason for a refusal prints.
+const REFUSALS: [(Refusal, &str); 11] = [
+    (Refusal::NoMailbox, "NO 10 no mailbox\n"),
+    (Refusal::Exists, "NO 11 exists\n"),
+    (Refusal::NoMessage, "NO 12 no message\n"),
+    (
+        Refusal::TooManyCopies(65_535),
+        "NO 13 too many copies 65535\n",
+    ),
+    (
+        Refusal::MailboxFull(1_000_000),
+        "NO 14 mailbox full 1000000\n",
+    ),
+    (
+        Refusal::TooManyMailboxes(1024),
+        "NO 15 too many mailboxes 1024\n",
+    ),
+    (
+        Refusal::StoreFull(4_294_967_294),
+        "NO 16 store full 4294967294\n",
+    ),
+    (Refusal::NoMemory, "NO 17 memory\n"),
+    (Refusal::ReadFault, "NO 18 read fault\n"),
+    (Refusal::Stopped, "NO 19 stopped\n"),
+    (
+        Refusal::Damaged {
+            file: FileNo(1),
+            offset: 16,
+        },
+        "NO 20 damaged storage/m.1 16\n",
+    ),
+];
+
+#[test]
+fn refusals_are_printed(rt: HostRuntime) -> Result<(), Fail> {
+    for (refusal, text) in REFUSALS {
+        let ran = printed(rt.alloc(), &Reply::Refused(refusal), 0, text)?;
+        assert_eq!(rt; ran, (Ok(()), true), "{text}");
+    }
+    Ok(())
+}
+
+#[test]
+fn numbers_are_printed(rt: HostRuntime) -> Result<(), Fail> {
+    let uid = Uid(1);
+    let cases = [
+        (
+            Reply::Saved { uid, guid: GUID },
+            "OK 1 00112233445566770000000100000010\n",
+        ),
+        (Reply::Done, "OK\n"),
+        (Reply::Copied { uid: Uid(2) }, "OK 2\n"),
+        (Reply::Moved { uid, gone: true }, "OK 1 GONE\n"),
+        (Reply::Moved { uid, gone: false }, "OK 1\n"),
+        (
+            Reply::Counted {
+                records: 1,
+                references: 2,
+                counts: 2,
+                instances: 0,
+            },
+            "OK 1 2 2 0\n",
+        ),
+        (
+            Reply::Purged {
+                dropped: 1,
+                files: 1,
+                instances: 0,
+            },
+            "OK 1 1 0\n",
+        ),
+        (
+            Reply::Resynced {
+                corrected: 1,
+                damaged: 0,
+            },
+            "OK 1 0\n",
+        ),
+    ];
+    for (reply, text) in cases {
+        let ran = printed(rt.alloc(), &reply, 0, text)?;
+        assert_eq!(rt; ran, (Ok(()), true), "{text}");
+    }
+    Ok(())
+}
+
+#[test]
+fn mail_is_printed(rt: HostRuntime) -> Result<(), Fail> {
+    let seen = flags_of(8).ok_or("no flags")?;
+    let none = flags_of(0).ok_or("no flags")?;
+    let rows = vec![in rt.alloc(); row(1, seen, 5), row(3, none, 70)]?;
+    let mut message = Octets::empty(rt.alloc());
+    message.push_all(b"Hi\r\n\n")?;
+    let listing = Reply::Listed(Seq::of(rows));
+    let listed = "OK 2
+1 8 5 1694498816 00112233445566770000000100000010
+3 0 70 1694498816 00112233445566770000000100000010
+";
+    let fetched = Reply::Fetched(message);
+    assert_eq!(rt; printed(rt.alloc(), &listing, 0, listed)?, (Ok(()), true));
+    assert_eq!(rt;
+        printed(rt.alloc(), &fetched, 0, "OK 5\nHi\r\n\n\n")?,
+        (Ok(()), true)
+    );
+    assert_eq!(rt;
+        printed(
+            rt.alloc(),
+            &Reply::Listed(Seq::empty(rt.alloc())),
+            0,
+            "OK 0\n"
+        )?,
+        (Ok(()), true)
+    );
+    assert_eq!(rt;
+        printed(rt.alloc(), &listing, 1, "")?,
+        (Err(PrintError::WriteFault), true)
+    );
+    Ok(())
+}
