@@ -7,25 +7,20 @@ use Rattle.disk_model.specs.FaultCounts.{NoFault}
 use Rattle.store_checks.specs.declared.error.CheckError.{CheckError}
 use Rattle.store_checks.specs.declared.error.CheckError.TheVariants as check
 use Rattle.store_sweep.specs.Moments.{NoFailedChange}
-use Rattle.store_sweep.specs.declared.error.SweepError.{SweepError}
-use Rattle.store_sweep.specs.declared.error.SweepError.TheVariants as sweep
-use Rattle.store_open.specs.Causes.{of_check, of_sweep}
+use Rattle.store_open.specs.Causes.{of_check}
 use Rattle.store_open.specs.declared.error.OpenError.{OpenError}
 use Rattle.store_open.specs.declared.error.OpenError.TheVariants.{DiskFault}
 
 same_check : {S : Type 0} → (given : CheckError) → IsErrOf {T = S} (Err given) check.DiskFault → given ≡ check.DiskFault
 same_check given e = cc e
 
-same_sweep : {S : Type 0} → (given : SweepError) → IsErrOf {T = S} (Err given) sweep.DiskFault → given ≡ sweep.DiskFault
-same_sweep given e = cc e
-
 -- a fault of the checks is answered as one
 pub check_fault : {T S : Type 0} → (r : Result T OpenError) (given : CheckError) → IsErrAnd r (λ e. e ≡ of_check given) → IsErrOf {T = S} (Err given) check.DiskFault → IsErrOf r DiskFault
 check_fault r given is fault = let p = err_from_is_err_and r is in p.1 ∙ ap Err (p.2 ∙ ap of_check (same_check given fault))
 
--- and so is one of the sweep
-pub sweep_fault : {T S : Type 0} → (r : Result T OpenError) (given : SweepError) → IsErrAnd r (λ e. e ≡ of_sweep given) → IsErrOf {T = S} (Err given) sweep.DiskFault → IsErrOf r DiskFault
-sweep_fault r given is fault = let p = err_from_is_err_and r is in p.1 ∙ ap Err (p.2 ∙ ap of_sweep (same_sweep given fault))
+-- and a fault of the sweep is one
+pub fault_is : {T : Type 0} → (r : Result T OpenError) → IsErrAnd r (λ e. e ≡ DiskFault) → IsErrOf r DiskFault
+fault_is r is = let p = err_from_is_err_and r is in p.1 ∙ ap Err p.2
 
 -- no failed change was counted since
 pub none_swept : {F G : Type 0} → (old now new : Faults) → NoFault old now → (G → F) → NoFailedChange F old new → NoFailedChange G now new

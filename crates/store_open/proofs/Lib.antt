@@ -7,7 +7,6 @@ pub mod NewLogLemmas
 pub mod NewStoreLemmas
 pub mod OldLogLemmas
 pub mod OpenStoreLemmas
-pub mod PartLemmas
 pub mod RootFrontLemmas
 pub mod StillOpensLemmas
 pub mod SweptStoreLemmas

@@ -4,7 +4,7 @@ use Rattle.std.proofs.Common.{◌≡◌, ◌⊎◌, inl, inr, ◌||◌, Bool, tr
 use Rattle.std.proofs.lemmas.Bool.{cases_Bool, cond-true, cond-false, false≢true, true≢false}
 use Rattle.std.specs.Option.{is_some}
 use Rattle.std.specs.declared.cmp.Ordering.TheVariants.{Less}
-use Rattle.disk_model.specs.Disk.{Files, FileState, DiskState, History, IsImage, IsThere, IsPast, IfTold, EachImage, AfterFailed, after, change, change_all, removed, half_removed, named, no_file, SameState, IsIdle, Between}
+use Rattle.disk_model.specs.Disk.{Files, FileState, DiskState, History, IsImage, IsThere, IsPast, IfTold, EachImage, AfterFailed, after, change, change_all, removed, half_removed, named, no_file, IsIdle, Between}
 use Rattle.disk_model.specs.Name.{same_name, IsNameInRange, IsLogName, IsLogInRange}
 use Rattle.disk_model.specs.declared.name.FileName.{FileName}
 use Rattle.disk_model.specs.declared.name.FileName.TheVariants as file

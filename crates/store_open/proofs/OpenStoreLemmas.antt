@@ -1,19 +1,17 @@
 -- The store that was opened.
-use Rattle.std.proofs.Common.{◌≡◌, ◌≤◌, ◌-◌, ℕ, false, List, [], ◌∷◌, length, map, All, Option, refl, sym, ◌∙◌, ap, subst, arith}
+use Rattle.std.proofs.Common.{◌≡◌, ◌≤◌, ℕ, List, [], ◌∷◌, map, All, Option, refl, sym, ◌∙◌, ap, subst, arith}
 use Rattle.std.specs.List.{AllZip}
-use Rattle.std.proofs.lemmas.List.{length-map}
-use Rattle.std.proofs.lemmas.List.Elements.{All-weaker}
 use Rattle.disk_model.specs.Disk.{History, IfTold, IsIdle}
 use Rattle.disk_model.specs.declared.name.FileName.TheVariants as file
 use Rattle.disk_model.proofs.MomentLemmas.{if_told-map}
 use Rattle.mdbox_base.specs.declared.entries.BoxEntry.{BoxEntry}
 use Rattle.mdbox_base.specs.declared.entries.MapEntry.{MapEntry}
 use Rattle.mdbox_base.specs.declared.entries.RootEntry.{RootEntry}
-use Rattle.model_meaning.specs.BoxMeaning.{box_meaning}
+use Rattle.model_meaning.specs.BoxMeaning.{BoxMeaning, box_meaning}
 use Rattle.model_logs.specs.Entries.{map_text}
 use Rattle.model_store.specs.GoodLogs.{AreGoodLogs}
 use Rattle.model_meaning.specs.MapMeaning.{MapRecord, MapBox, MapMeaning, map_meaning}
-use Rattle.model_store.specs.Opening.{listed_of, IsCounted}
+use Rattle.model_store.specs.Opening.{Opens, IsCounted}
 use Rattle.gate_log.specs.State.{LogState, InspectedLog}
 use Rattle.store_checks.specs.Boxes.{IsFoundAs, AreFound}
 use Rattle.store_checks.specs.Roots.{root_log_head, root_texts, map_log_head}
@@ -26,9 +24,11 @@ use Rattle.store_core.specs.declared.store.OpenBox.{OpenBox}
 use Rattle.store_core.specs.declared.store.OpenLogs.{OpenLogs}
 use Rattle.std.specs.declared.alloc.Global.{Global}
 use Rattle.store_sweep.specs.Swept.{FilesCarry, IsOpened}
-use Rattle.store_open.specs.Parts.{AreParted}
-use Rattle.store_open.specs.declared.parts.BoxRest.{BoxRest}
-use Rattle.store_open.specs.declared.parts.Parts.{Parts}
+use Rattle.store_sweep.specs.Boxes.{HaveIndexes}
+use Rattle.mdbox_base.specs.declared.ids.StoreId.{StoreId}
+use Rattle.model_meaning.specs.SameMeaning.{MeansSame}
+use Rattle.model_store.specs.Settled.{files_of}
+use Rattle.store_open.specs.Opened.{IsOpenedAs}
 use Rattle.store_open.proofs.CheckedLemmas.{OpensAt, opens_at}
 use Rattle.store_open.proofs.StillOpensLemmas.{still_opens, has_root}
 
@@ -61,32 +61,9 @@ read_logs store [] (b ∷ bs) ls os now new f z = absurd f
 read_logs store (x ∷ xs) [] ls os now new f z = absurd f
 read_logs store (x ∷ xs) (b ∷ bs) [] os now new f z = absurd f
 
--- ---- the mailboxes, apart and together again
-
-zip_length : {X Y : Type 0} → (R : X → Y → Type 0) (xs : List X) (ys : List Y) → AllZip R xs ys → length xs ≡ length ys
-zip_length R [] [] z = refl
-zip_length R [] (y ∷ ys) z = absurd z
-zip_length R (x ∷ xs) [] z = absurd z
-zip_length R (x ∷ xs) (y ∷ ys) z = let e = zip_length R xs ys z.1 in omega (arith, e)
-
-same_lengths : {X Y Z : Type 0} → (f : X → Z) (g : Y → Z) (xs : List X) (ys : List Y) → map f xs ≡ map g ys → length xs ≡ length ys
-same_lengths f g xs ys e = sym (length-map xs f) ∙ ap length e ∙ length-map ys g
-
-pub as_many : (mailboxes : List MapBox) (boxes : List CheckedBox) (parts : Parts) (gates : List LogState) (now new : Option History) → AreParted mailboxes boxes parts → AllZip (IsOpened now new) parts.logs.items gates
-    → (length gates ≡ length parts.rest.items) × (length gates ≡ length boxes)
-as_many mailboxes boxes parts gates now new p z =
-    let e : length gates ≡ length boxes = sym (zip_length (IsOpened now new) parts.logs.items gates z) ∙ ap length p.logs ∙ length-map boxes (λ (b : CheckedBox). b.log) in
-    (e ∙ sym (same_lengths (λ (r : BoxRest). r.index) (λ (b : CheckedBox). b.index) parts.rest.items boxes p.indexes), e)
-
--- together again they are these
-pub record AreJoined (gates : List LogState) (rest : List BoxRest) (opened : List OpenBox) : Type 0 where
-  pub logs : map (λ b. b.log) opened ≡ gates
-  pub numbers : map (λ b. b.number.0) opened ≡ map (λ r. r.number.0) rest
-  pub indexes : map (λ b. b.index) opened ≡ map (λ r. r.index) rest
-
 -- ---- the store
 
-store_is : (m : MapMeaning) (store : List ℕ) (entries : List MapEntry) → m ≡ map_meaning store entries → store ≡ m.store
+pub store_is : (m : MapMeaning) (store : List ℕ) (entries : List MapEntry) → m ≡ map_meaning store entries → store ≡ m.store
 store_is m store entries e = sym (ap (λ (k : MapMeaning). k.store) e)
 
 -- the law of counts
@@ -132,14 +109,13 @@ is_store alloc disk generation entries logs root log texts boxes o lanes now new
 }
 
 -- the indexes are what the logs mean
-pub indexes_are : (c : Checked) (before : List RootEntry) (entries : List MapEntry) (logs : List (List BoxEntry)) (parts : Parts) (gates : List LogState) (opened : List OpenBox) (old now : Option History) → IsChecked c before entries logs old now
-    → AreParted c.map.boxes c.boxes parts → AreJoined gates parts.rest.items opened → indexes_of opened ≡ map box_meaning logs
-indexes_are c before entries logs parts gates opened old now k p j = j.indexes ∙ p.indexes ∙ k.boxes_are
+pub indexes_are : (c : Checked) (before : List RootEntry) (entries : List MapEntry) (logs : List (List BoxEntry)) (opened : List OpenBox) (old now : Option History) → IsChecked c before entries logs old now → HaveIndexes c.map c.boxes opened → indexes_of opened ≡ map box_meaning logs
+indexes_are c before entries logs opened old now k h = h.indexes ∙ k.boxes_are
 
-pub opened_store : {D : Type 0} (alloc : Global) (disk : D) (c : Checked) (before : List RootEntry) (entries : List MapEntry) (logs : List (List BoxEntry)) (parts : Parts) (gates : List LogState) (o : OpenLogs) (lanes : ℕ) (old now new : Option History) → CountsCover → IsIdle old now
-    → IsChecked c before entries logs old now → AreParted c.map.boxes c.boxes parts → FilesCarry c.generation c.map now new → o.map ≡ c.map → IsOpened now new c.root_log o.root_log → IsOpened now new c.map_log o.map_log → AllZip (IsOpened now new) parts.logs.items gates → AreJoined gates parts.rest.items o.boxes.items
+pub opened_store : {D : Type 0} (alloc : Global) (disk : D) (c : Checked) (before : List RootEntry) (entries : List MapEntry) (logs : List (List BoxEntry)) (o : OpenLogs) (lanes : ℕ) (old now new : Option History) → CountsCover → IsIdle old now
+    → IsChecked c before entries logs old now → FilesCarry c.generation c.map now new → o.map ≡ c.map → IsOpened now new c.root_log o.root_log → IsOpened now new c.map_log o.map_log → Opened now new c.boxes o.boxes.items → HaveIndexes c.map c.boxes o.boxes.items
     → 1 ≤ lanes → lanes ≤ 64 → IsStore new (newly_open alloc disk o lanes)
-opened_store alloc disk c before entries logs parts gates o lanes old now new cover idle k p carry same root_opened map_opened zip j some few =
+opened_store alloc disk c before entries logs o lanes old now new cover idle k carry same root_opened map_opened zip h some few =
     let known : IsKnown c.map.store c.generation entries logs c.map c.root_log c.map_log (root_texts before c.generation) c.boxes now new =
     subst (λ (s : List ℕ). IsKnown s c.generation entries logs c.map c.root_log c.map_log (root_texts before c.generation) c.boxes now new) (store_is c.map c.id.0 entries k.map_is) (record {
       good = k.good;
@@ -151,6 +127,30 @@ opened_store alloc disk c before entries logs parts gates o lanes old now new co
     }) in
     is_store alloc disk c.generation entries logs c.root_log c.map_log (root_texts before c.generation) c.boxes o lanes now new cover
     (subst (λ (m : MapMeaning). IsKnown m.store c.generation entries logs m c.root_log c.map_log (root_texts before c.generation) c.boxes now new) (sym same) known)
-    root_opened map_opened
-    (subst (λ (ls : List LogState). AllZip (IsOpened now new) (map (λ (b : CheckedBox). b.log) c.boxes) ls) (sym j.logs) (subst (λ (ls : List InspectedLog). AllZip (IsOpened now new) ls gates) p.logs zip))
-    (j.numbers ∙ p.numbers ∙ ap (λ (m : MapMeaning). map (λ (b : MapBox). b.number) m.boxes) (sym same)) (indexes_are c before entries logs parts gates o.boxes.items old now k p j) some few
+    root_opened map_opened zip
+    (h.numbers ∙ ap (λ (m : MapMeaning). map (λ (b : MapBox). b.number) m.boxes) (sym same)) (indexes_are c before entries logs o.boxes.items old now k h) some few
+
+-- ---- what it has
+
+means_self : (m : MapMeaning) → MeansSame m m
+means_self m = record { store = refl; records = refl; numbers = refl; names = refl; sealed = refl; highest = refl }
+
+opened_checked : (store : List ℕ) (entries : List MapEntry) (logs : List (List BoxEntry)) (m : MapMeaning) (meanings : List BoxMeaning) (old : Option History) → store ≡ m.store → AreGoodLogs store entries logs → IfTold old (λ now. Opens (files_of now) store entries logs) → m ≡ map_meaning store entries → meanings ≡ map box_meaning logs
+    → IsOpenedAs old m meanings
+opened_checked store entries logs m meanings old own good opens is are = record {
+  entries = entries;
+  logs = logs;
+  good = subst (λ (s : List ℕ). AreGoodLogs s entries logs) own good;
+  opens = subst (λ (s : List ℕ). IfTold old (λ now. Opens (files_of now) s entries logs)) own opens;
+  means = subst (λ (s : List ℕ). MeansSame (map_meaning s entries) m) own (subst (λ (n : MapMeaning). MeansSame n m) is (means_self m));
+  meanings_are = are;
+}
+
+pub opened_as : (c : Checked) (before : List RootEntry) (entries : List MapEntry) (logs : List (List BoxEntry)) (o : OpenLogs) (old now : Option History) → IsChecked c before entries logs old now → o.map ≡ c.map → HaveIndexes c.map c.boxes o.boxes.items → IsOpenedAs old o.map (indexes_of o.boxes.items)
+opened_as c before entries logs o old now k same h =
+    subst (λ (m : MapMeaning). IsOpenedAs old m (indexes_of o.boxes.items)) (sym same)
+    (opened_checked c.id.0 entries logs c.map (indexes_of o.boxes.items) old (store_is c.map c.id.0 entries k.map_is) k.good k.opens k.map_is (indexes_are c before entries logs o.boxes.items old now k h))
+
+-- its id
+pub id_is : (c : Checked) (before : List RootEntry) (entries : List MapEntry) (logs : List (List BoxEntry)) (o : OpenLogs) (old now : Option History) → IsChecked c before entries logs old now → o.id ≡ c.id → o.map ≡ c.map → o.map.store ≡ o.id.0
+id_is c before entries logs o old now k id same = ap (λ (m : MapMeaning). m.store) same ∙ sym (store_is c.map c.id.0 entries k.map_is) ∙ ap (λ (i : StoreId). i.0) (sym id)

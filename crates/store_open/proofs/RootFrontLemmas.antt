@@ -1,5 +1,5 @@
 -- What the first 27 octets of a root log tell.
-use Rattle.std.proofs.Common.{◌≡◌, ◌↔◌, inl, true, Bool, IsTrue, ℕ, List, Option, Some, None, refl, sym, subst, arith}
+use Rattle.std.proofs.Common.{◌↔◌, inl, true, Bool, IsTrue, ℕ, List, Option, Some, None, refl, sym, subst, arith}
 use Rattle.disk_model.specs.Disk.{History, IfTold, reading}
 use Rattle.disk_model.specs.declared.name.FileName.TheVariants as file
 use Rattle.disk_model.proofs.MomentLemmas.{if_told-map}

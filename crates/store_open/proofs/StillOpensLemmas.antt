@@ -2,14 +2,13 @@
 use Rattle.std.proofs.Common.{◌≡◌, ℕ, List, [], ◌∷◌, Option, Some, None, All, refl, sym, ◌∙◌, subst, arith}
 use Rattle.std.proofs.lemmas.List.Elements.{All-head, All-tail}
 use Rattle.disk_model.specs.Disk.{Files, DiskState, History, IfTold}
-use Rattle.disk_model.specs.declared.name.FileName.{FileName}
 use Rattle.disk_model.specs.declared.name.FileName.TheVariants as file
 use Rattle.mdbox_base.specs.declared.entries.BoxEntry.{BoxEntry}
 use Rattle.mdbox_base.specs.declared.entries.MapEntry.{MapEntry}
 use Rattle.model_meaning.specs.MapMeaning.{MapBox, MapMeaning, map_meaning}
 use Rattle.model_store.specs.Settled.{files_of}
 use Rattle.model_store.proofs.SettledLemmas.{has_all_carried, log_along}
-use Rattle.model_store.specs.Stands.{HasLog, HasRoot, HasMap}
+use Rattle.model_store.specs.Stands.{HasRoot, HasMap}
 use Rattle.model_store.specs.Safe.{HasAll}
 use Rattle.model_store.specs.Carrying.{HasSameEntries, CarryOver}
 use Rattle.model_store.specs.Opening.{PassBoxes, Opens}

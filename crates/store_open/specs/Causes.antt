@@ -1,8 +1,6 @@
--- What errors of the checks and of a sweep mean for an opening.
+-- What errors of the checks mean for an opening.
 use Rattle.store_checks.specs.declared.error.CheckError.{CheckError}
 use Rattle.store_checks.specs.declared.error.CheckError.TheVariants as check
-use Rattle.store_sweep.specs.declared.error.SweepError.{SweepError}
-use Rattle.store_sweep.specs.declared.error.SweepError.TheVariants as sweep
 use Rattle.store_open.specs.declared.error.OpenError.{OpenError}
 use Rattle.store_open.specs.declared.error.OpenError.TheVariants.{NoStore, Damaged, DiskFault, NoMemory}
 
@@ -11,7 +9,3 @@ of_check check.NoStore = NoStore
 of_check (check.Damaged name place) = Damaged name place
 of_check check.DiskFault = DiskFault
 of_check check.NoMemory = NoMemory
-
-abbrev pub of_sweep : SweepError → OpenError
-of_sweep sweep.DiskFault = DiskFault
-of_sweep sweep.NoMemory = NoMemory

@@ -1,5 +1,4 @@
 pub mod Causes
 pub mod Making
 pub mod Opened
-pub mod Parts
 pub mod Refused

@@ -1,7 +1,7 @@
 // Errors of making and opening a store.
 ghost use Rattle.std.specs.Prelude.{◌≡◌, Some};
 ghost use Rattle.store_open.specs.Refused.{open_error_text};
-ghost use Rattle.store_open.specs.Causes.{of_check, of_sweep};
+ghost use Rattle.store_open.specs.Causes.{of_check};
 ghost use Rattle.store_open.specs.declared.error.OpenError.TheVariants.{DiskFault as Fault, NoMemory as Memory};
 
 use disk_model::FileName;
@@ -11,7 +11,6 @@ use std::alloc::AllocError;
 use std::error::Error;
 use std::fmt;
 use store_checks::CheckError;
-use store_sweep::SweepError;
 
 /// Why a store was not made or opened.
 #[derive(Clone, Copy, Debug, PartialEq, Eq)]
@@ -86,17 +85,6 @@ impl From<CheckError> for OpenError {
             CheckError::Damaged(name, place) => OpenError::Damaged(name, place),
             CheckError::DiskFault => OpenError::DiskFault,
             CheckError::NoMemory => OpenError::NoMemory,
-        }
-    }
-}
-
-impl From<SweepError> for OpenError {
-    ghost from_gives = { λ given error. error ≡ of_sweep given };
-
-    fn from(error: SweepError) -> OpenError {
-        match error {
-            SweepError::DiskFault => OpenError::DiskFault,
-            SweepError::NoMemory => OpenError::NoMemory,
         }
     }
 }

@@ -1,5 +1,5 @@
 // Making a store and opening it.
-ghost use Rattle.std.specs.Prelude.{◌≡◌, ◌∷◌, [], false, IfOk, IfErr, IsErrOf, OnOk};
+ghost use Rattle.std.specs.Prelude.{◌≡◌, ◌<◌, ◌++◌, ◌∷◌, [], false, vec_len, vec_capacity, IfOk, IfErr, IsErrOf, OnOk};
 ghost use Rattle.disk_model.specs.Disk.{IfTold, EachImage, IsIdle};
 ghost use Rattle.disk_model.specs.FaultCounts.{NoFault, AnyFaultCounted};
 ghost use Rattle.model_meaning.specs.BoxMeaning.{box_meaning};
@@ -15,7 +15,6 @@ ghost use Rattle.store_open.specs.Refused.{IsMakingError, IsOfFiles};
 use crate::entries::inbox;
 use crate::error::{OpenError, OpenRefused};
 use crate::first_logs::make_files;
-use crate::parts::push_box;
 use box_index::BoxIndex;
 use disk_model::Disk;
 use map_index::MapIndex;
@@ -42,7 +41,7 @@ pub fn init_store<D: Disk>(alloc: Global, disk: D, id: StoreId) -> Result<Store<
     // After Ok the disk has the new store and no other file, and the store is that, for one lane.
     ensures settled { IfOk result (λ store. IfTold (D.history store.disk) (λ now. IsSettled now empty_inbox)) }
     ensures store { IfOk result (λ store. IfTold (D.history store.disk) (IsMadeStore id.0)) }
-    ensures made { IfOk result (λ store. (store.map ≡ map_meaning id.0 (first_box ∷ [])) × (indexes_of store.boxes ≡ box_meaning [] ∷ []) × (store.lanes ≡ 1) × (store.stopped ≡ false) × (store.alloc ≡ alloc)) }
+    ensures made { IfOk result (λ store. (store.map ≡ map_meaning id.0 (first_box ∷ [])) × (indexes_of store.boxes ≡ box_meaning [] ∷ []) × (store.lanes ≡ 1) × (store.stopped ≡ false) × (store.alloc ≡ alloc) × (store.drawn ≡ store.map.highest)) }
 
     // Out of memory means that no store was made.
     ensures unmade { IfErr result (λ refused. refused.error ≡ OpenError.NoMemory → NeverHasStore (D.history disk) → NeverHasStore (D.history refused.disk)) }
@@ -101,4 +100,12 @@ fn new_map(alloc: Global, id: StoreId) -> Result<MapIndex, NoMemory>
     let mut map = MapIndex::empty(alloc, id)?;
     map.apply(&inbox)?;
     Ok(map)
+}
+
+/// Adds a mailbox where there is room.
+fn push_box(boxes: &mut Vec<OpenBox>, open_box: OpenBox)
+    requires { vec_len boxes.old < vec_capacity boxes.old }
+    ensures { boxes.new.items ≡ boxes.old.items ++ open_box ∷ [] }
+{
+    boxes.push(open_box).unwrap();
 }

@@ -12,4 +12,3 @@ mod free;
 mod init;
 mod old_logs;
 mod open;
-mod parts;

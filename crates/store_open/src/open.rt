@@ -15,10 +15,9 @@ ghost use Rattle.store_sweep.specs.Moments.{NoFailedChange};
 ghost use Rattle.store_sweep.specs.Swept.{IsSwept};
 
 use crate::error::{OpenError, OpenRefused};
-use crate::parts::{join, part};
 use disk_model::Disk;
 use std::alloc::Global;
-use store_checks::{Checked, check_store};
+use store_checks::check_store;
 use store_core::{OpenLogs, Store, counts_cover_listings, listings_are_shown};
 use store_sweep::sweep;
 
@@ -75,26 +74,10 @@ fn open_logs<D: Disk>(alloc: Global, disk: &mut D) -> Result<OpenLogs, OpenError
     ensures fault { AnyFaultCounted (IsErrOf result OpenError.DiskFault) (D.faults disk.old) (D.faults disk.new) }
     ensures unfailed { (IsErrOf result OpenError.DiskFault → ⊥) → NoFault (D.faults disk.old) (D.faults disk.new) }
 {
-    let Checked {
-        id,
-        root_log,
-        map_log,
-        generation,
-        map,
-        boxes,
-    } = check_store(alloc, disk)?;
-    let boxes = boxes.into_vec();
-    let mut opened = Vec::with_capacity(alloc, boxes.as_slice().len())?;
-    let parts = part(alloc, &map, boxes)?;
-    let swept = sweep(alloc, disk, generation, root_log, map_log, parts.logs, &map)?;
-    join(swept.box_logs, parts.rest, &mut opened);
+    let checked = check_store(alloc, disk)?;
+    let room = Vec::with_capacity(alloc, checked.boxes.as_slice().len())?;
+    let opened = sweep(alloc, disk, checked, room)?;
     listings_are_shown();
     counts_cover_listings();
-    Ok(OpenLogs {
-        id,
-        root_log: swept.root_log,
-        map_log: swept.map_log,
-        map,
-        boxes: opened,
-    })
+    Ok(opened)
 }

@@ -1,9 +1,9 @@
 -- The logs of the mailboxes, repaired one after another.
-use Rattle.std.proofs.Common.{◌≡◌, ℕ, ◌+◌, ◌<◌, ◌≤◌, ◌++◌, ◌∷◌, [], suc, append_assoc, length-append, true, false, Bool, List, length, map, Option, Some, None, All, refl, sym, ◌∙◌, ap, subst, arith}
+use Rattle.std.proofs.Common.{◌≡◌, ℕ, ◌+◌, ◌<◌, ◌≤◌, ◌++◌, ◌∷◌, [], suc, append_assoc, length-append, true, false, Bool, List, length, map, take, slice_get, Option, Some, None, All, refl, sym, ◌∙◌, ap, subst, arith}
 use Rattle.std.specs.Prelude.{AllPairs, Contains}
 use Rattle.std.specs.List.{list_any, AllZip}
 use Rattle.std.proofs.lemmas.List.Elements.{All-contains, Contains-append_right}
-use Rattle.std.proofs.lemmas.List.{append-nil}
+use Rattle.std.proofs.lemmas.List.{append-nil, map-append, length-map}
 use Rattle.std.proofs.lemmas.Bool.{true≢false, or_parts, or_from, not-true, not_from_false}
 use Rattle.disk_model.specs.Disk.{FileState, DiskState, History, IfTold, EachImage, OthersStay, SameButFor, reading, Keeps}
 use Rattle.disk_model.specs.Name.{same_name}
@@ -15,6 +15,13 @@ use Rattle.model_octets.proofs.PairLemmas.{pairs_head, pairs_tail}
 use Rattle.gate_log.specs.State.{LogState, InspectedLog}
 use Rattle.gate_log.specs.Log.{IsFound, IsFoundKept, Reads, Holds}
 use Rattle.store_sweep.specs.Moments.{ImagesCarry, KeepsStore, SameWhere}
+use Rattle.std.specs.Option.{option_map}
+use Rattle.map_index.specs.Shown.{shown_box}
+use Rattle.map_index.specs.declared.rows.BoxAt.{BoxAt}
+use Rattle.store_checks.specs.declared.mailbox.CheckedBox.{CheckedBox}
+use Rattle.store_checks.proofs.WalkLemmas.{behind, map_next}
+use Rattle.store_core.specs.declared.store.OpenBox.{OpenBox}
+use Rattle.store_sweep.specs.Boxes.{found_logs, opened_logs}
 use Rattle.store_sweep.specs.Repaired.{StandsFound, IsRepaired, box_name, AreLogsOfBoxes, is_outside, is_no_box}
 use Rattle.store_sweep.proofs.RepairLemmas.{IsLogAt, box_log, repair_images, repair_keeps, repaired_stays, stays_but_for}
 use Rattle.store_sweep.proofs.SweepStepLemmas.{images_then, keeps_then}
@@ -182,28 +189,28 @@ others_stay m logs (Some old) (Some new) names same = λ name no_box. same name 
 
 -- ---- how far the loop is
 
-pub whole_next : (done : List InspectedLog) (log : InspectedLog) (left rest logs : List InspectedLog) → left ≡ log ∷ rest → done ++ left ≡ logs → done ++ log ∷ rest ≡ logs
-whole_next done log left rest logs e whole = ap (λ (xs : List InspectedLog). done ++ xs) (sym e) ∙ whole
+pub whole_next : {X : Type 0} → (done : List X) (log : X) (left rest logs : List X) → left ≡ log ∷ rest → done ++ left ≡ logs → done ++ log ∷ rest ≡ logs
+whole_next done log left rest logs e whole = ap (λ (xs : List _). done ++ xs) (sym e) ∙ whole
 
-pub whole_more : (done : List InspectedLog) (log : InspectedLog) (left rest logs : List InspectedLog) → left ≡ log ∷ rest → done ++ left ≡ logs → (done ++ log ∷ []) ++ rest ≡ logs
+pub whole_more : {X : Type 0} → (done : List X) (log : X) (left rest logs : List X) → left ≡ log ∷ rest → done ++ left ≡ logs → (done ++ log ∷ []) ++ rest ≡ logs
 whole_more done log left rest logs e whole = append_assoc done (log ∷ []) rest ∙ whole_next done log left rest logs e whole
 
-pub left_more : (log : InspectedLog) (left rest : List InspectedLog) (m n : ℕ) → left ≡ log ∷ rest → m ≡ length left → n + 1 ≡ m → n ≡ length rest
+pub left_more : {X : Type 0} → (log : X) (left rest : List X) (m n : ℕ) → left ≡ log ∷ rest → m ≡ length left → n + 1 ≡ m → n ≡ length rest
 left_more log left rest m n e long one = let l : length left ≡ length (log ∷ rest) = ap length e in omega (arith, long, one, l)
 
-pub is_room : (done : List InspectedLog) (log : InspectedLog) (rest logs : List InspectedLog) (size cap old : ℕ) → done ++ log ∷ rest ≡ logs → length logs ≤ old → old ≤ cap → size ≡ length done → size < cap
+pub is_room : {X : Type 0} → (done : List X) (log : X) (rest logs : List X) (size cap old : ℕ) → done ++ log ∷ rest ≡ logs → length logs ≤ old → old ≤ cap → size ≡ length done → size < cap
 is_room done log rest logs size cap old whole room grown is =
     let l : length (done ++ log ∷ rest) ≡ length logs = ap length whole in
     omega (arith, l, length-append done (log ∷ rest), room, grown, is)
 
-nothing_left : (xs : List InspectedLog) → 0 ≡ length xs → xs ≡ []
+nothing_left : {X : Type 0} → (xs : List X) → 0 ≡ length xs → xs ≡ []
 nothing_left [] e = refl
 nothing_left (x ∷ xs) e = absurd (omega (arith, e))
 
-pub whole_done : (done left logs : List InspectedLog) (m : ℕ) → m ≡ 0 → m ≡ length left → done ++ left ≡ logs → done ≡ logs
+pub whole_done : {X : Type 0} → (done left logs : List X) (m : ℕ) → m ≡ 0 → m ≡ length left → done ++ left ≡ logs → done ≡ logs
 whole_done done left logs m none long whole =
     let e : left ≡ [] = nothing_left left (sym none ∙ long) in
-    sym (append-nil done) ∙ ap (λ (xs : List InspectedLog). done ++ xs) (sym e) ∙ whole
+    sym (append-nil done) ∙ ap (λ (xs : List _). done ++ xs) (sym e) ∙ whole
 
 pub made_repaired : (old new : Option History) (log : InspectedLog) (gate : LogState) → gate ≡ record { name = log.name; head = log.head; end = log.end; room = 0 } → ((es : List (List ℕ)) → IfTold old (IsFound log es) → Reads gate es new)
     → ((es : List (List ℕ)) → IfTold old (IsFoundKept log es) → Holds gate es new) → IsRepaired old new log gate
@@ -212,8 +219,38 @@ made_repaired old new log gate is reads holds = record { is = is; reads = reads;
 pub pushed_opened : (old new : Option History) (done : List InspectedLog) (log : InspectedLog) (gates after : List LogState) (gate : LogState) → after ≡ gates ++ gate ∷ [] → AllZip (IsRepaired old new) (done ++ log ∷ []) (gates ++ gate ∷ []) → AllZip (IsRepaired old new) (done ++ log ∷ []) after
 pushed_opened old new done log gates after gate e all = subst (λ (xs : List LogState). AllZip (IsRepaired old new) (done ++ log ∷ []) xs) (sym e) all
 
-pub one_longer : (done : List InspectedLog) (log : InspectedLog) (m n : ℕ) → m ≡ n + 1 → n ≡ length done → m ≡ length (done ++ log ∷ [])
+pub one_longer : {X : Type 0} → (done : List X) (log : X) (m n : ℕ) → m ≡ n + 1 → n ≡ length done → m ≡ length (done ++ log ∷ [])
 one_longer done log m n e long = omega (arith, e, long, length-append done (log ∷ []))
 
 pub none_opened : (old : Option History) (gates : List LogState) → gates ≡ [] → AllZip (IsRepaired old old) [] gates
 none_opened old gates e = subst (λ (xs : List LogState). AllZip (IsRepaired old old) [] xs) (sym e) tt
+
+-- ---- the mailboxes of the logs
+
+-- the logs of mailboxes in two parts
+pub logs_whole : (done : List CheckedBox) (box : CheckedBox) (rest boxes : List CheckedBox) → done ++ box ∷ rest ≡ boxes → found_logs done ++ box.log ∷ found_logs rest ≡ found_logs boxes
+logs_whole done box rest boxes e = sym (map-append (λ (b : CheckedBox). b.log) done (box ∷ rest)) ∙ ap found_logs e
+
+-- and with one more
+pub logs_more : (done : List CheckedBox) (box : CheckedBox) → found_logs (done ++ box ∷ []) ≡ found_logs done ++ box.log ∷ []
+logs_more done box = map-append (λ (b : CheckedBox). b.log) done (box ∷ [])
+
+pub gates_more : (gates after : List OpenBox) (gate : OpenBox) → after ≡ gates ++ gate ∷ [] → opened_logs after ≡ opened_logs gates ++ gate.log ∷ []
+gates_more gates after gate e = ap opened_logs e ∙ map-append (λ (b : OpenBox). b.log) gates (gate ∷ [])
+
+pub indexes_more : (done : List CheckedBox) (box : CheckedBox) (gates after : List OpenBox) (gate : OpenBox) → after ≡ gates ++ gate ∷ [] → gate.index ≡ box.index → map (λ b. b.index) gates ≡ map (λ b. b.index) done → map (λ b. b.index) after ≡ map (λ b. b.index) (done ++ box ∷ [])
+indexes_more done box gates after gate e same is =
+    ap (map (λ (b : OpenBox). b.index)) e ∙ map-append (λ (b : OpenBox). b.index) gates (gate ∷ []) ∙ ap (λ (xs : List _). xs ++ gate.index ∷ []) is ∙ ap (λ (i : _). map (λ (b : CheckedBox). b.index) done ++ i ∷ []) same
+    ∙ sym (map-append (λ (b : CheckedBox). b.index) done (box ∷ []))
+
+-- one more number of the map
+pub numbers_more : (boxes : List MapBox) (place : ℕ) (at : BoxAt) (o : Option BoxAt) (gates after : List OpenBox) (gate : OpenBox) → o ≡ option_map shown_box (slice_get boxes place) → o ≡ Some at → gate.number.0 ≡ at.number.0 → after ≡ gates ++ gate ∷ []
+    → map (λ b. b.number.0) gates ≡ map (λ b. b.number) (take place boxes) → map (λ b. b.number.0) after ≡ map (λ b. b.number) (take (place + 1) boxes)
+numbers_more boxes place at o gates after gate e is n push so_far =
+    let b = behind shown_box (slice_get boxes place) at (sym is ∙ e) in
+    map_next (λ (y : MapBox). y.number) boxes place b.0 gate.number.0 (map (λ (r : OpenBox). r.number.0) gates) (map (λ (r : OpenBox). r.number.0) after) b.1 (n ∙ ap (λ (a : BoxAt). a.number.0) b.2) so_far
+    (ap (map (λ (r : OpenBox). r.number.0)) push ∙ map-append (λ (r : OpenBox). r.number.0) gates (gate ∷ []))
+
+-- as many as there are
+pub many : (m : MapMeaning) (logs : List InspectedLog) → AreLogsOfBoxes m logs → length logs ≡ length m.boxes
+many m logs names = sym (length-map logs (λ (l : InspectedLog). l.name)) ∙ ap length names ∙ length-map m.boxes box_name

@@ -1,8 +1,7 @@
 -- Counts of faults behind calls that did not fail.
 use Rattle.std.proofs.Common.{◌≡◌, true, false, Result, Ok, Err, refl, sym, ◌∙◌, ap, subst}
 use Rattle.std.proofs.lemmas.Bool.{false≢true}
-use Rattle.std.specs.Prelude.{IsErrOf, IsErrAnd}
-use Rattle.std.proofs.lemmas.Result.{err_from_is_err_and}
+use Rattle.std.specs.Prelude.{IsErrOf}
 use Rattle.disk_model.specs.Disk.{Faults, ReadCause}
 use Rattle.disk_model.specs.FaultCounts.{NoFault, ChangeFaultCounted, AnyFaultCounted}
 use Rattle.disk_model.specs.declared.error.DiskError.{DiskError}
@@ -28,11 +27,3 @@ none_since {F} {G} old now new same failed none = λ g. subst (λ (f : Faults). 
 -- a read that was answered Ok
 pub read_ok : {T : Type 0} → (x : T) (old new : Faults) → ReadCause {T = T} (Ok x) old new → NoFault old new
 read_ok x old new cause = no_fault-read (Ok x) old new (λ failed. cc failed) cause
-
--- what is answered Ok
-pub none_ok : (old new : Faults) → NoFailedChange (false ≡ true) old new
-none_ok old new = λ err. absurd (false≢true err)
-
--- an error that is this one
-pub error_is : {T E : Type 0} → (r : Result T E) (e : E) → IsErrAnd r (λ given. given ≡ e) → IsErrOf r e
-error_is r e is = let p = err_from_is_err_and r is in p.1 ∙ ap Err p.2

@@ -2,8 +2,8 @@
 -- was removed.
 use Rattle.std.proofs.Common.{inl, inr, ◌≡◌, ◌≢◌, ◌⊎◌, ℕ, suc, zero, Bool, true, false, not, List, [], ◌∷◌, length, take, Option, refl, sym, ◌∙◌, ap, subst}
 use Rattle.std.proofs.lemmas.Bool.{cases_Bool, cases_eq, true≢false, false≢true, cond-true, cond-false, not_from_false}
-use Rattle.disk_model.specs.Disk.{FileState, DiskState, History, Between, IfTold, IsThere, Unchanged, SameState, SameButFor, after, change, change_all, named, no_file, cut_to, synced}
-use Rattle.disk_model.specs.Name.{same_name, is_log}
+use Rattle.disk_model.specs.Disk.{FileState, DiskState, History, IfTold, IsThere, Unchanged, SameState, after, change, change_all, named, no_file, cut_to, synced}
+use Rattle.disk_model.specs.Name.{same_name}
 use Rattle.disk_model.specs.declared.name.FileName.{FileName}
 use Rattle.disk_model.specs.declared.name.FileName.TheVariants as file
 use Rattle.disk_model.proofs.NameLemmas.{same_name-true, same_name-eq}

@@ -16,7 +16,7 @@ use Rattle.gate_log.specs.State.{LogState, InspectedLog}
 use Rattle.gate_log.specs.Log.{IsFound, IsFoundKept}
 use Rattle.store_sweep.specs.Wanted.{is_wanted}
 use Rattle.store_sweep.specs.Moments.{ImagesCarry, KeepsStore, SameWhere}
-use Rattle.store_sweep.specs.Repaired.{StandsFound, IsRepaired, box_name, repaired_log, AreLogsOfBoxes, is_outside, is_no_box}
+use Rattle.store_sweep.specs.Repaired.{StandsFound, IsRepaired, box_name, AreLogsOfBoxes, is_outside, is_no_box}
 use Rattle.store_sweep.proofs.RepairLemmas.{IsLogAt, root_log, map_log, box_log, repair_images, repair_keeps, repaired_stays, stays_where, stays_but_for}
 use Rattle.store_sweep.proofs.BoxLogLemmas.{still_found, still_kept, others_stay}
 

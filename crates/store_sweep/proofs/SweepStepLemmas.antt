@@ -1,11 +1,10 @@
 -- What single calls of a sweep leave of a store, and runs of them.
-use Rattle.std.proofs.Common.{◌≡◌, ◌⊎◌, inl, inr, ℕ, Bool, true, false, Option, Some, None, refl, sym, ◌∙◌, ap, subst}
+use Rattle.std.proofs.Common.{◌≡◌, inl, inr, ℕ, Bool, true, false, Option, Some, None, refl, sym, ◌∙◌, ap, subst}
 use Rattle.std.proofs.lemmas.Bool.{cases_Bool, true≢false, false≢true}
 use Rattle.disk_model.specs.Disk.{Files, FileState, DiskState, History, IsImage, IfTold, IsTold, IsThere, Unchanged, AfterFailed, SameButFor, after, change, change_all, named, removed, reading}
-use Rattle.disk_model.specs.Name.{same_name, is_log}
+use Rattle.disk_model.specs.Name.{is_log}
 use Rattle.disk_model.specs.declared.name.FileName.{FileName}
 use Rattle.disk_model.specs.declared.name.FileName.TheVariants as file
-use Rattle.disk_model.proofs.NameLemmas.{same_name-true, same_name-eq}
 use Rattle.disk_model.proofs.MomentLemmas.{if_told-map, if_told-both, if_told-all, if_told-after, if_told-unchanged, told-after, each_image-begins, each_image-then, each_image-goes_on, each_image-fails, each_image-fails_still, each_image-unchanged}
 use Rattle.disk_model.proofs.OneFileLemmas.{change-here, change-other}
 use Rattle.model_meaning.specs.MapMeaning.{MapMeaning}

@@ -1,4 +1,4 @@
-pub mod Error
+pub mod Boxes
 pub mod Held
 pub mod Wanted
 pub mod Moments

@@ -1,11 +1,9 @@
 //! What an opening of the store does to the disk after its checks have passed.
 #![tactic(auto)]
 
-pub use error::SweepError;
-pub use swept::{SweptLogs, sweep};
+pub use swept::sweep;
 
 mod cuts;
-mod error;
 mod repairs;
 mod strays;
 mod swept;

@@ -32,7 +32,7 @@ returns-clause-store g c =
       box_held = e.box_log.0;
       box_is = e.box_log.1;
     }) refl c.in_ok-index.ensures
-    (c.push_box.ensures.items ∙ ap (λ (bs : List OpenBox). bs ++ box ∷ []) c.in_ok-boxes.ensures.items)
+    (c.push_box.ensures ∙ ap (λ (bs : List OpenBox). bs ++ box ∷ []) c.in_ok-boxes.ensures.items)
 
 pub returns-in_err-map-clause-untouched : goal.returns-in_err-map-clause-untouched
 returns-in_err-map-clause-untouched g c = stays IsFreeForStore _ _ (idle-begins _)

@@ -3,6 +3,7 @@ use Rattle.store_sweep.proofs.BoxLogLemmas.{made_repaired}
 use Rattle.store_sweep.proofs.LogsInForceLemmas.{found_of, log_images, log_keeps, root_at, map_at, stands_still, log_since, map_apart, boxes_still, boxes_since, no_box_root, no_box_map, map_stays, root_stays, three_stay}
 use Rattle.store_sweep.proofs.FittedLemmas.{there-then}
 use Rattle.store_sweep.proofs.RepairLemmas.{repaired_there}
+use Rattle.store_sweep.specs.Boxes.{found_logs, opened_logs}
 use Rattle.store_sweep.proofs.swept.repair_logs.Goals as goal
 
 pub repair-requires : goal.repair-requires
@@ -31,8 +32,8 @@ returns-in_err-map_log-clause-images g c = λ generation is.
 
 pub repair_boxes-requires-clause-stand : goal.repair_boxes-requires-clause-stand
 repair_boxes-requires-clause-stand g c =
-    boxes_still c.args.map.now c.args.box_logs.items c.args.map_log.name _ _ c.requires.box_logs (no_box_map c.requires.map_log.0.0 c.args.map_log c.requires.map_log.0.1) c.in_ok-map_log.ensures.others
-    (boxes_still c.args.map.now c.args.box_logs.items c.args.root_log.name _ _ c.requires.box_logs (no_box_root c.args.root_log c.requires.root.0) c.in_ok-root_log.ensures.others c.requires.box_logs_stand)
+    boxes_still c.args.map.now (found_logs c.args.boxes.items) c.args.map_log.name _ _ c.requires.box_logs (no_box_map c.requires.map_log.0.0 c.args.map_log c.requires.map_log.0.1) c.in_ok-map_log.ensures.others
+    (boxes_still c.args.map.now (found_logs c.args.boxes.items) c.args.root_log.name _ _ c.requires.box_logs (no_box_root c.args.root_log c.requires.root.0) c.in_ok-root_log.ensures.others c.requires.box_logs_stand)
 
 pub returns-in_err-repair_boxes-clause-images : goal.returns-in_err-repair_boxes-clause-images
 returns-in_err-repair_boxes-clause-images g c = λ generation is.
@@ -76,22 +77,22 @@ returns-clause-keeps g c = λ generation is.
 pub returns-clause-map_log : goal.returns-clause-map_log
 returns-clause-map_log g c =
     let s = made_repaired _ _ c.args.map_log _ c.in_ok-map_log.ensures.log c.in_ok-map_log.ensures.reads c.in_ok-map_log.ensures.holds in
-    map_stays c.requires.map_log.0.0 c.args.map.now c.args.box_logs.items c.args.map_log _ _ _ _ c.requires.map_log.0.1 c.requires.box_logs c.in_ok-repair_boxes.ensures.others
+    map_stays c.requires.map_log.0.0 c.args.map.now (found_logs c.args.boxes.items) c.args.map_log _ _ _ _ c.requires.map_log.0.1 c.requires.box_logs c.in_ok-repair_boxes.ensures.others
     (log_since c.args.map_log _ c.args.root_log.name _ _ _ (map_apart c.requires.map_log.0.0 c.args.map_log c.args.root_log c.requires.map_log.0.1 c.requires.root.0) c.in_ok-root_log.ensures.others s)
 
 pub returns-clause-box_logs : goal.returns-clause-box_logs
 returns-clause-box_logs g c =
-    boxes_since c.args.map.now c.args.box_logs.items _ c.args.root_log.name _ _ _ c.requires.box_logs (no_box_root c.args.root_log c.requires.root.0) c.in_ok-root_log.ensures.others
-    (boxes_since c.args.map.now c.args.box_logs.items _ c.args.map_log.name _ _ _ c.requires.box_logs (no_box_map c.requires.map_log.0.0 c.args.map_log c.requires.map_log.0.1) c.in_ok-map_log.ensures.others
+    boxes_since c.args.map.now (found_logs c.args.boxes.items) (opened_logs c.repair_boxes.new.opened.items) c.args.root_log.name _ _ _ c.requires.box_logs (no_box_root c.args.root_log c.requires.root.0) c.in_ok-root_log.ensures.others
+    (boxes_since c.args.map.now (found_logs c.args.boxes.items) (opened_logs c.repair_boxes.new.opened.items) c.args.map_log.name _ _ _ c.requires.box_logs (no_box_map c.requires.map_log.0.0 c.args.map_log c.requires.map_log.0.1) c.in_ok-map_log.ensures.others
     c.in_ok-repair_boxes.ensures.opened)
 
 pub returns-clause-others : goal.returns-clause-others
-returns-clause-others g c = three_stay c.args.root_log c.args.map_log c.args.box_logs.items _ _ _ _ c.in_ok-root_log.ensures.others c.in_ok-map_log.ensures.others c.in_ok-repair_boxes.ensures.others
+returns-clause-others g c = three_stay c.args.root_log c.args.map_log (found_logs c.args.boxes.items) _ _ _ _ c.in_ok-root_log.ensures.others c.in_ok-map_log.ensures.others c.in_ok-repair_boxes.ensures.others
 
 pub returns-clause-root_log : goal.returns-clause-root_log
 returns-clause-root_log g c =
     let r = made_repaired _ _ c.args.root_log _ c.in_ok-root_log.ensures.log c.in_ok-root_log.ensures.reads c.in_ok-root_log.ensures.holds in
-    root_stays c.requires.map_log.0.0 c.args.map.now c.args.box_logs.items c.args.root_log c.args.map_log _ _ _ _ _ c.requires.root.0 c.requires.map_log.0.1 c.requires.box_logs c.in_ok-map_log.ensures.others c.in_ok-repair_boxes.ensures.others r
+    root_stays c.requires.map_log.0.0 c.args.map.now (found_logs c.args.boxes.items) c.args.root_log c.args.map_log _ _ _ _ _ c.requires.root.0 c.requires.map_log.0.1 c.requires.box_logs c.in_ok-map_log.ensures.others c.in_ok-repair_boxes.ensures.others r
 
 pub returns-clause-there : goal.returns-clause-there
 returns-clause-there g c =
