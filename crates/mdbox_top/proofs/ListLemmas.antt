@@ -44,7 +44,8 @@ use Rattle.request_text.specs.declared.outcome.Outcome.{Outcome}
 use Rattle.request_text.specs.declared.outcome.Outcome.TheVariants as outcome
 use Rattle.mdbox_top.specs.InputRun.{IsOneOf}
 use Rattle.mdbox_top.specs.OpeningOutcome.{opening_outcome, opening_error}
-use Rattle.mdbox_top.specs.ListRun.{AreSafeFor, StaysSettled, IsListReply, ShowsReply, IsNotOpened, IsListedSo, ListOutcome, ListMoments}
+use Rattle.mdbox_top.specs.ListRun.{ListOutcome, ListMoments}
+use Rattle.mdbox_top.specs.Served.{AreSafeFor, ShowsReply}
 
 -- ---- the reply
 

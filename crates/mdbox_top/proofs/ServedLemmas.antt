@@ -19,6 +19,7 @@ use Rattle.model_lists.specs.Lists.{Lists, AreWellFormed}
 use Rattle.model_meaning.specs.BoxMeaning.{BoxMeaning, box_meaning}
 use Rattle.model_meaning.specs.MapMeaning.{MapBox, MapMeaning, map_meaning}
 use Rattle.model_meaning.specs.SameMeaning.{MeansSame}
+use Rattle.model_octets.proofs.PairLemmas.{pairs_nil, pairs_push}
 use Rattle.model_store.specs.Listing.{ShowLists, listing_of}
 use Rattle.model_store.specs.Opening.{Opens}
 use Rattle.model_store.specs.Safe.{Safe}
@@ -27,9 +28,10 @@ use Rattle.model_store.proofs.WellFormedLemmas.{well_formed}
 use Rattle.list_machine.specs.Machine.{Does, PartAnswers}
 use Rattle.list_machine.specs.Run.{EventPart, First, RunEvent, Run, and_then, own_events, reply_of}
 use Rattle.journal.specs.Events.{Around, is_faulted}
+use Rattle.journal.specs.Found.{AgreesWithRun}
 use Rattle.journal.specs.GoesOn.{RepliesAlso}
 use Rattle.journal.specs.Journal.{Requests, JournalStep, Broken, no_broken, left_by, Reached, HasReply, is_read_fault, AreBroken}
-use Rattle.journal.specs.Makes.{StepOf, HasCome, steps_made, AreReplies, AreTold, IsServed}
+use Rattle.journal.specs.Makes.{StepOf, steps_made, AreReplies, StaysStopped, IsServed}
 use Rattle.journal.proofs.BrokenLemmas.{none_failed}
 use Rattle.journal.proofs.ReachedLemmas.{reached_last}
 use Rattle.task_steps.specs.Serves.{IsReached, Serves, IsTurn, Follows}
@@ -43,8 +45,8 @@ use Rattle.store_open.specs.Opened.{IsOpenedAs}
 use Rattle.mail_ops.specs.Listing.{Replies}
 use Rattle.mail_ops.specs.Task.{TaskValue, IsAt, seen_of}
 use Rattle.mail_ops.specs.declared.task.TaskStage.TheVariants as stage
-use Rattle.mdbox_top.specs.ListRun.{AreSafeFor, ListMoments}
-use Rattle.mdbox_top.specs.Served.{RunBegins, ServesRequest, DoesAlone}
+use Rattle.mdbox_top.specs.ListRun.{ListMoments}
+use Rattle.mdbox_top.specs.Served.{AreSafeFor, RunBegins, ServesRequest, DoesAlone}
 use Rattle.mdbox_top.proofs.ListLemmas.{LogsShow, shown_safe}
 
 -- ---- a listing leaves the lists
@@ -125,25 +127,32 @@ no_replies request m entries = (refl, λ i l. there i l)
 few_faults : (given : Reply) (n : ℕ) → is_read_fault (Some given) ≡ false → count_by is_read_fault (Some given ∷ []) ≤ n
 few_faults given n e = rw e (omega arith)
 
+-- a run of one event stays stopped
+abbrev StopsLater : RunEvent → RunEvent → Type 0
+StopsLater a b = a.refused ≡ Some refusal.Stopped → (b.refused ≡ Some refusal.Stopped) ⊎ (b.refused ≡ Some refusal.NoMemory)
+
+one_event : (event : RunEvent) → StaysStopped (event ∷ [])
+one_event event = pairs_push StopsLater [] event (pairs_nil StopsLater) (All-nil (λ (x : RunEvent). StopsLater x event))
+
 -- a request alone that one event ended is served
 pub record ServedAlone (request : Request) (lists : Lists) (given : Reply) (seen : Seen) (run : Run) : Type 0 where
   pub event : RunEvent
   pub answer : Option Reply
   pub left : Lists
   pub made : StepOf run request lists event answer left
-  pub served : IsServed lists (alone request) (and_then run event) (steps_made run request event answer left) no_broken (Some given ∷ []) seen.faults seen.faults seen.map
+  pub served : IsServed lists (alone request) (and_then run event) (steps_made run request event answer left) no_broken (Some given ∷ []) seen.faults seen.faults (map_meaning run.store run.start) seen.map seen.drawn (told_calls seen.history)
 
 served_alone : (request : Request) (lists : Lists) (given : Reply) (seen : Seen) (how : Did) (m : MapMeaning) (entries : List MapEntry) (around after : Around)
     → m.highest ≡ (map_meaning m.store entries).highest → HasComeTo (beginning m entries) seen → ShowsSeen seen lists → seen.stopped ≡ false → is_read_fault (Some given) ≡ false
-    → DidEvent around after (beginning m entries) 1 0 [] request lists seen seen how (Some given) → ServedAlone request lists given seen (beginning m entries)
-served_alone request lists given seen how m entries around after opened come shows running unfaulted d =
+    → (d : DidEvent around after (beginning m entries) 1 0 [] request lists seen seen how (Some given)) → AgreesWithRun around (beginning m entries) request d.makes.event d.makes.event.part → ServedAlone request lists given seen (beginning m entries)
+served_alone request lists given seen how m entries around after opened come shows running unfaulted d agrees =
     let run : Run = beginning m entries in
     let turn = its_turn request in
     let s0 = serves_start lists (alone request) run (None ∷ []) seen refl come shows running unreplied refl in
     let s1 = serves_on lists (alone request) run [] no_broken (None ∷ []) seen seen seen around after 1 0 request how (Some given) s0 turn d in
     let s2 = reply_on lists (alone request) run [] no_broken s1.0 (None ∷ []) (Some given ∷ []) seen seen seen around after 1 0 request how given s0 turn d (replied_also given) (few_faults given _ unfaulted) s1.1 in
-    let f = follows_on lists (alone request) run [] no_broken (None ∷ []) seen seen seen around after 1 0 request how (Some given) s0 turn (no_replies request m entries) (λ i q l e on. absurd (omega (arith, l))) (omega arith) d
-    (record { around = λ n. around; after = λ n. after; next = λ n event e. absurd (let k : None ≡ Some event = e in cc k) }) in
+    let f = follows_on lists (alone request) run [] no_broken (None ∷ []) seen seen seen around after 1 0 request how (Some given) s0 turn (no_replies request m entries) (λ i q l e on. absurd (omega (arith, l))) (omega arith) d agrees
+    (record { around = λ n. around; after = λ n. after; next = λ n event e. absurd (let k : None ≡ Some event = e in cc k); found = λ n event asked e a. absurd (let k : None ≡ Some event = e in cc k) }) in
     record {
       event = d.makes.event;
       answer = d.makes.answer;
@@ -152,14 +161,17 @@ served_alone request lists given seen how m entries around after opened come sho
       served = record {
         around = f.around;
         after = f.after;
-        opened = opened;
+        begins = record { map_is = ap (map_meaning m.store) (append-nil entries); drawn_is = opened; moments = All-nil _ };
         next = f.next;
+        found = f.found;
         told = told_on (alone request) run [] 1 request d.makes.event d.makes.answer d.left (ap (λ (n : ℕ). slice_get (alone request) n) d.makes.request_is) d.makes.is_told (λ n event asked e a makes. absurd (let k : None ≡ Some event = e in cc k));
         given = replies_on (alone request) run [] (None ∷ []) (Some given ∷ []) 1 0 request d.makes.event given turn (no_replies request m entries) d.makes.request_is d.makes.ended_is refl (replied_also given);
         legal = s2.legal;
         broken_is = subst (λ (b : Broken). AreBroken (and_then run d.makes.event) (alone request) lists (steps_made run request d.makes.event d.makes.answer d.left) b) (s2.unbroken running) s2.broken_is;
         of_failure = none_failed _;
-        come = s2.come.map_is;
+        would = λ n event asked found e a unrefused. absurd (let k : None ≡ Some event = e in cc k);
+        stays_stopped = one_event d.makes.event;
+        come = s2.come;
       };
     }
 
@@ -209,13 +221,15 @@ list_served name lists given old mid faults s how o k drawn running show safe un
     subst (λ (ms : List BoxMeaning). ShowLists s.map.boxes ms lists) (sym o.meanings_are)
     (shows_same (map_meaning s.map.store o.entries).boxes s.map.boxes (map box_meaning o.logs) lists o.means.numbers o.means.names (shown_safe lists old s.map.store o.entries o.logs show safe o.opens)) in
     let shows : ShowsSeen seen lists = (safe_formed lists old safe, shown) in
-    let r = served_alone (request.List name) lists given seen how s.map k.entries nothing_found nothing_found (ap (λ (n : MapMeaning). n.highest) k.map_is) come shows running unfaulted (did nothing_found nothing_found run lists come shows (refl, refl)) in
+    let r = served_alone (request.List name) lists given seen how s.map k.entries nothing_found nothing_found (ap (λ (n : MapMeaning). n.highest) k.map_is) come shows running unfaulted (did nothing_found nothing_found run lists come shows (refl, refl)) tt in
     let stays : left_by lists (steps_made run (request.List name) r.event r.answer r.left) ≡ lists = journal_leaves run (request.List name) r.event r.answer lists r.left (step_leaves run r.event lists name r.answer r.left r.made) in
     record {
       run = and_then run r.event;
       journal = steps_made run (request.List name) r.event r.answer r.left;
       broken = no_broken;
       m = s.map;
+      drawn = s.drawn;
+      calls = told_calls mid;
       begins = begins (and_then run r.event) old o.entries o.logs o.opens (subst (λ (n : MapMeaning). MeansSame (map_meaning s.map.store o.entries) n) k.map_is o.means);
       served = r.served;
       crash = λ sure. each_map (λ m image. Safe image lists) (IsReached lists (and_then run r.event) (steps_made run (request.List name) r.event r.answer r.left) no_broken) old mid

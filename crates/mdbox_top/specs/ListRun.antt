@@ -25,59 +25,30 @@ use Rattle.request_text.specs.Outcomes.{reply_outcome}
 use Rattle.request_text.specs.ReplyText.{single_text}
 use Rattle.request_text.specs.declared.outcome.Outcome.{Outcome}
 use Rattle.request_text.specs.declared.outcome.Outcome.TheVariants as outcome
-use Rattle.mdbox_top.specs.OpeningOutcome.{opening_outcome}
-use Rattle.mdbox_top.specs.Served.{ServesRequest}
-
--- the disk is modelled, and its files are safe for these lists
-abbrev pub AreSafeFor : Lists → Option History → Type 0
-AreSafeFor lists None = ⊥
-AreSafeFor lists (Some history) = Safe (files_of history.now) lists
+use Rattle.mdbox_top.specs.Served.{AreSafeFor, RequestOutcome}
 
 -- A disk that was settled for lists is settled for them again.
 abbrev pub StaysSettled : Option History → Option History → Type 0
 StaysSettled old new = (lists : Lists) → IsSettledFor lists old → IsSettledFor lists new
 
 -- The reply to a listing of this mailbox: what the logs mean from which the store opened, and opens again, or out of memory.
--- If the files were safe for lists, the first is the list machine's reply for these, and the request was served from them. All that the store reads is carried over,
+-- If the files were safe for lists, the first is the list machine's reply for these. All that the store reads is carried over,
 -- and the disk was swept; if it was settled for lists, it is settled for them again.
-pub record IsListReply (name : List ℕ) (old new : Option History) (began now : Faults) (given : Reply) : Type 0 where
+pub record IsListReply (name : List ℕ) (old new : Option History) (given : Reply) : Type 0 where
   pub m : MapMeaning
   pub meanings : List BoxMeaning
   pub opened : IsOpenedAs old m meanings
   pub again : IsOpenedAs new m meanings
   pub given_is : (given ≡ listing_of (meaning_named name m.boxes meanings)) ⊎ (given ≡ reply.Refused refusal.NoMemory)
   pub answers : (run : Run) (event : RunEvent) (lists : Lists) → AreSafeFor lists old → PartAnswers run event lists (request.List name) First (listing_of (meaning_named name m.boxes meanings)) lists
-  pub serves : (lists : Lists) → AreSafeFor lists old → ServesRequest (request.List name) lists given began now old new
   pub settled : StaysSettled old new
   pub carried : StoreCarries old new
   pub swept : (generation : ℕ) × IsSwept generation m old new
 
--- How a reply with this text is printed: whole; or a prefix of it, for a fault of the output or out of memory.
-abbrev pub ShowsReply : List ℕ → Reply → Option (List ℕ) → Option (List ℕ) → Outcome → Type 0
-ShowsReply text given held later outcome.WriteFault = WritesPrefix held [] text later
-ShowsReply text given held later outcome.NoMemory = WritesPrefix held [] text later
-ShowsReply text given held later ended = (ended ≡ reply_outcome given) × Appended held text later
-
--- The store was not opened, for a cause in the files, a fault, or out of memory: nothing was printed. Nothing has changed but
--- after a fault, and then only if the files open.
-pub record IsNotOpened (held later : Option (List ℕ)) (old new : Option History) (ended : Outcome) : Type 0 where
-  pub why : OpenError
-  pub ended_is : ended ≡ opening_outcome why
-  pub unprinted : later ≡ held
-  pub cause : IsOpeningError old why
-  pub idle : (why ≡ error.DiskFault → ⊥) → IsIdle old new
-  pub untouched : IdleUnless Opening old new
-
--- The store was opened, and replied so.
-pub record IsListedSo (name : List ℕ) (held later : Option (List ℕ)) (old new : Option History) (began now : Faults) (ended : Outcome) : Type 0 where
-  pub given : Reply
-  pub listed : IsListReply name old new began now given
-  pub printed : ShowsReply (single_text (request.List name) given) given held later ended
-
 -- How `list` ends: the reply is printed, which is `NO 10 no mailbox` if no mailbox has the name; or a prefix of it; or the
 -- store was not opened.
 abbrev pub ListOutcome : List ℕ → Option (List ℕ) → Option (List ℕ) → Option History → Option History → Faults → Faults → Outcome → Type 0
-ListOutcome name held later old new began now ended = IsNotOpened held later old new ended ⊎ IsListedSo name held later old new began now ended
+ListOutcome name = RequestOutcome (IsListReply name) (request.List name)
 
 -- A crash at any moment of a listing leaves a disk that is safe for the lists for which it was settled, whatever fails.
 abbrev pub ListMoments : Option History → Option History → Type 0

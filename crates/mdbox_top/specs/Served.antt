@@ -1,7 +1,9 @@
--- What a request alone makes of a store that was opened.
-use Rattle.std.specs.Prelude.{◌≡◌, ℕ, List, [], ◌∷◌, Option, Some}
-use Rattle.disk_model.specs.Disk.{History, Faults, EachImage, IfTold}
+-- What a request alone makes of a store, and how it ends.
+use Rattle.std.specs.Prelude.{◌≡◌, ◌⊎◌, ℕ, List, [], ◌∷◌, Option, Some, None}
+use Rattle.disk_model.specs.Disk.{History, Faults, EachImage, IfTold, IsIdle}
+use Rattle.mdbox_base.specs.Streams.{Appended}
 use Rattle.mdbox_base.specs.declared.entries.BoxEntry.{BoxEntry}
+use Rattle.mdbox_base.specs.declared.entries.Highest.{Highest}
 use Rattle.mdbox_base.specs.declared.entries.MapEntry.{MapEntry}
 use Rattle.mdbox_base.specs.declared.replies.Refusal.TheVariants as refusal
 use Rattle.mdbox_base.specs.declared.replies.Reply.{Reply}
@@ -11,14 +13,30 @@ use Rattle.model_lists.specs.Lists.{Lists}
 use Rattle.model_meaning.specs.MapMeaning.{MapMeaning, map_meaning}
 use Rattle.model_meaning.specs.SameMeaning.{MeansSame}
 use Rattle.model_store.specs.Opening.{Opens}
+use Rattle.model_store.specs.Safe.{Safe}
 use Rattle.model_store.specs.Settled.{files_of, IsSettledFor}
 use Rattle.list_machine.specs.Run.{Run, own_events}
 use Rattle.mdbox_base.specs.declared.progress.Did.{Did}
 use Rattle.journal.specs.Events.{Around}
 use Rattle.journal.specs.Journal.{JournalStep, Broken, left_by}
 use Rattle.journal.specs.Makes.{IsServed}
+use Rattle.store_open.specs.Making.{IdleUnless}
+use Rattle.store_open.specs.Opened.{Opening, IsOpeningError}
+use Rattle.store_open.specs.declared.error.OpenError.{OpenError}
+use Rattle.store_open.specs.declared.error.OpenError.TheVariants as error
+use Rattle.piece_writer.specs.Pieces.{WritesPrefix}
+use Rattle.request_text.specs.Outcomes.{reply_outcome}
+use Rattle.request_text.specs.ReplyText.{single_text}
+use Rattle.request_text.specs.declared.outcome.Outcome.{Outcome}
+use Rattle.request_text.specs.declared.outcome.Outcome.TheVariants as outcome
+use Rattle.mdbox_top.specs.OpeningOutcome.{opening_outcome}
 use Rattle.task_steps.specs.Serves.{IsReached}
 use Rattle.task_steps.specs.Step.{Seen, ShowsSeen, HasComeTo, HasNotBegun, DidEvent}
+
+-- the disk is modelled, and its files are safe for these lists
+abbrev pub AreSafeFor : Lists → Option History → Type 0
+AreSafeFor lists None = ⊥
+AreSafeFor lists (Some history) = Safe (files_of history.now) lists
 
 -- The files opened, and their map log means the same as the entries with which the run begins.
 abbrev pub RunBegins : Run → Option History → Type 0
@@ -33,10 +51,40 @@ pub record ServesRequest (request : Request) (lists : Lists) (given : Reply) (be
   pub journal : List JournalStep
   pub broken : Broken
   pub m : MapMeaning
+  pub drawn : Highest
+  pub calls : ℕ
   pub begins : RunBegins run old
-  pub served : IsServed lists ((1, request) ∷ []) run journal broken (Some given ∷ []) began now m
+  pub served : IsServed lists ((1, request) ∷ []) run journal broken (Some given ∷ []) began now (map_meaning run.store run.start) m drawn calls
   pub crash : IsSettledFor lists old → EachImage (IsReached lists run journal broken) old new
   pub settled : (given ≡ reply.Refused refusal.Stopped → ⊥) → IsSettledFor lists old → IsSettledFor (left_by lists journal) new
+
+-- How a reply with this text is printed: whole; or a prefix of it, for a fault of the output or out of memory.
+abbrev pub ShowsReply : List ℕ → Reply → Option (List ℕ) → Option (List ℕ) → Outcome → Type 0
+ShowsReply text given held later outcome.WriteFault = WritesPrefix held [] text later
+ShowsReply text given held later outcome.NoMemory = WritesPrefix held [] text later
+ShowsReply text given held later ended = (ended ≡ reply_outcome given) × Appended held text later
+
+-- The store was not opened, for a cause in the files, a fault, or out of memory: nothing was printed. Nothing has changed but
+-- after a fault, and then only if the files open.
+pub record IsNotOpened (held later : Option (List ℕ)) (old new : Option History) (ended : Outcome) : Type 0 where
+  pub why : OpenError
+  pub ended_is : ended ≡ opening_outcome why
+  pub unprinted : later ≡ held
+  pub cause : IsOpeningError old why
+  pub idle : (why ≡ error.DiskFault → ⊥) → IsIdle old new
+  pub untouched : IdleUnless Opening old new
+
+-- The store was opened and replied this: what this command's reply tells beside, that the request was served from any lists
+-- for which the files were safe, and that the reply was printed.
+pub record IsReplied (Tells : Option History → Option History → Reply → Type 0) (request : Request) (held later : Option (List ℕ)) (old new : Option History) (began now : Faults) (ended : Outcome) : Type 0 where
+  pub given : Reply
+  pub tells : Tells old new given
+  pub serves : (lists : Lists) → AreSafeFor lists old → ServesRequest request lists given began now old new
+  pub printed : ShowsReply (single_text request given) given held later ended
+
+-- How a request alone ends: the store was not opened, or it replied.
+abbrev pub RequestOutcome : (Option History → Option History → Reply → Type 0) → Request → Option (List ℕ) → Option (List ℕ) → Option History → Option History → Faults → Faults → Outcome → Type 0
+RequestOutcome Tells request held later old new began now ended = IsNotOpened held later old new ended ⊎ IsReplied Tells request held later old new began now ended
 
 -- What the event of a request alone did that changed nothing, of every run that has come to where the store stands, and of
 -- every lists that it shows: it answered this, and ended the request.

@@ -10,8 +10,8 @@ ghost use Rattle.store_core.specs.Value.{list_named};
 ghost use Rattle.mdbox_base.specs.declared.progress.Did.{Did};
 ghost use Rattle.mdbox_base.specs.declared.requests.Request.TheVariants as request;
 ghost use Rattle.mail_ops.specs.Task.{seen_of};
-ghost use Rattle.mdbox_top.specs.Served.{DoesAlone};
-ghost use Rattle.mdbox_top.specs.ListRun.{ListOutcome, ListMoments, ListRests, ShowsReply};
+ghost use Rattle.mdbox_top.specs.Served.{DoesAlone, ShowsReply};
+ghost use Rattle.mdbox_top.specs.ListRun.{ListOutcome, ListMoments, ListRests};
 ghost use Rattle.request_text.specs.ReplyText.{reply_text};
 ghost use Rattle.request_text.specs.declared.outcome.Outcome.TheVariants as outcome;
 
