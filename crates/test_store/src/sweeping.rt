@@ -21,23 +21,39 @@ fn opened(alloc: Global, disk: MemDisk) -> Result<(MemDisk, u64), Fail> {
     }
 }
 
+/// The names of the clean store's files.
+const CLEAN: [FileName; 6] = [
+    FileName::Root,
+    FileName::Map(1),
+    FileName::Box(1, 1),
+    FileName::Mail(1),
+    FileName::Mail(3),
+    FileName::Inst(*b"hash of twenty bytes", *b"id of sixteen oc"),
+];
+
+/// The first seven names of files.
+fn names(alloc: Global, disk: &mut MemDisk) -> Result<Vec<FileName>, Fail> {
+    let mut names = Vec::new(alloc);
+    let mut last = None;
+    for _ in 0..7 {
+        if let Some(name) = disk.next_name(last)? {
+            names.push(name)?;
+            last = Some(name);
+        }
+    }
+    Ok(names)
+}
+
 /// Whether the disk has just the files of the clean store.
 fn is_clean(alloc: Global, disk: &mut MemDisk) -> Result<bool, Fail> {
     let files = clean_store(alloc)?;
-    let same = file_octets(alloc, disk, FileName::Root)? == files.root
-        && file_octets(alloc, disk, FileName::Map(1))? == files.map
-        && file_octets(alloc, disk, FileName::Box(1, 1))? == files.inbox
-        && file_octets(alloc, disk, FileName::Mail(1))? == files.mail;
-    let mut names = 0;
-    let mut last = None;
-    while names < 20 {
-        let Some(name) = disk.next_name(last)? else {
-            break;
-        };
-        last = Some(name);
-        names += 1;
-    }
-    Ok(same && names == 6)
+    Ok(
+        names(alloc, disk)?.as_slice() == CLEAN.as_slice()
+            && file_octets(alloc, disk, FileName::Root)? == files.root
+            && file_octets(alloc, disk, FileName::Map(1))? == files.map
+            && file_octets(alloc, disk, FileName::Box(1, 1))? == files.inbox
+            && file_octets(alloc, disk, FileName::Mail(1))? == files.mail,
+    )
 }
 
 #[test]
