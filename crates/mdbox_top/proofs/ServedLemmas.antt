@@ -1,5 +1,5 @@
 -- A listing alone, as a request of a script.
-use Rattle.std.specs.Prelude.{◌≡◌, ◌≢◌, ◌⊎◌, ◌≤◌, ◌<◌, ◌==◌, ℕ, zero, suc, Bool, true, false, List, [], ◌∷◌, ◌++◌, map, flat_map, count_by, length, slice_get, Option, Some, None, if◌then◌else◌}
+use Rattle.std.specs.Prelude.{◌≡◌, ◌⊎◌, ◌≤◌, ◌<◌, ◌==◌, ℕ, zero, suc, Bool, false, List, [], ◌∷◌, map, count_by, slice_get, Option, Some, None, if◌then◌else◌}
 use Rattle.std.proofs.Common.{refl, sym, ◌∙◌, ap, subst, inl, inr, append-nil, arith}
 use Rattle.disk_model.specs.Disk.{Files, History, Faults, EachImage, IfTold, told_calls}
 use Rattle.std.proofs.lemmas.List.Elements.{All-nil}
@@ -26,18 +26,18 @@ use Rattle.model_store.specs.Safe.{Safe}
 use Rattle.model_store.specs.Settled.{files_of, IsSettledFor}
 use Rattle.model_store.proofs.WellFormedLemmas.{well_formed}
 use Rattle.list_machine.specs.Machine.{Does, PartAnswers}
-use Rattle.list_machine.specs.Run.{EventPart, First, RunEvent, Run, and_then, own_events, reply_of}
-use Rattle.journal.specs.Events.{Around, is_faulted}
+use Rattle.list_machine.specs.Run.{EventPart, First, RunEvent, Run, and_then, reply_of}
+use Rattle.journal.specs.Events.{Around}
 use Rattle.journal.specs.Found.{AgreesWithRun}
 use Rattle.journal.specs.GoesOn.{RepliesAlso}
-use Rattle.journal.specs.Journal.{Requests, JournalStep, Broken, no_broken, left_by, Reached, HasReply, is_read_fault, AreBroken}
+use Rattle.journal.specs.Journal.{Requests, Broken, no_broken, left_by, HasReply, is_read_fault, AreBroken}
 use Rattle.journal.specs.Makes.{StepOf, steps_made, AreReplies, StaysStopped, IsServed}
 use Rattle.journal.proofs.BrokenLemmas.{none_failed}
 use Rattle.journal.proofs.ReachedLemmas.{reached_last}
-use Rattle.task_steps.specs.Serves.{IsReached, Serves, IsTurn, Follows}
+use Rattle.task_steps.specs.Serves.{IsReached, IsTurn}
 use Rattle.store_core.specs.Value.{none_due, StoreValue, indexes_of, list_named}
 use Rattle.mail_ops.proofs.StageLemmas.{comes_at_first}
-use Rattle.task_steps.specs.Step.{Seen, ShowsSeen, HasComeTo, HasNotBegun, DidEvent, Steps, ended_by}
+use Rattle.task_steps.specs.Step.{Seen, ShowsSeen, HasComeTo, DidEvent, Steps, ended_by}
 use Rattle.task_steps.proofs.FollowingLemmas.{follows_on, replies_on, told_on}
 use Rattle.task_steps.proofs.GoingLemmas.{serves_on}
 use Rattle.task_steps.proofs.ReplyingLemmas.{reply_on, serves_start}

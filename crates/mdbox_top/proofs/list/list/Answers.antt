@@ -1,7 +1,6 @@
 use Rattle.std.proofs.Common.{inr, sym, ap, subst, ◌∙◌}
-use Rattle.disk_model.specs.FaultCounts.{NoFault, AnyFaultCounted}
+use Rattle.disk_model.specs.FaultCounts.{NoFault}
 use Rattle.model_store.specs.Settled.{IsSettledFor}
-use Rattle.store_core.specs.Running.{IsStore}
 use Rattle.store_core.specs.Value.{indexes_of}
 use Rattle.store_open.specs.Opened.{IsOpenedAs, StoreCarries}
 use Rattle.store_sweep.specs.Swept.{IsSwept}
