@@ -1,5 +1,5 @@
-//! Tests of whole stores on a disk in memory: what an opening checks, sweeps and lists, how a store is made, and runs of the
-//! program.
+//! Tests of whole stores on a disk in memory: what an opening checks, sweeps and lists, and how
+//! a store is made.
 #![tactic(auto)]
 
 #[cfg(test)]
@@ -10,7 +10,5 @@ mod damage;
 mod making;
 #[cfg(test)]
 mod opening;
-#[cfg(test)]
-mod runs;
 #[cfg(test)]
 mod sweeping;

@@ -5,3 +5,5 @@
 mod replies;
 #[cfg(test)]
 mod runs;
+#[cfg(test)]
+mod store_runs;

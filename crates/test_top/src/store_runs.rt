@@ -1,5 +1,4 @@
 // Runs of the whole program, one behind another on a disk in memory.
-use crate::sweeping::put_unclean;
 use disk_mem::MemDisk;
 use disk_model::{Disk, FileName};
 use mdbox_base::{MemSink, MemSource, Octets, Seq};
@@ -7,7 +6,7 @@ use mdbox_top::{Status, mdbox_run};
 use std::alloc::Global;
 use std::test::Fail;
 use test_stores::entries::RAISES_FIRST;
-use test_stores::{MAP_HEAD, log_octets};
+use test_stores::{MAP_HEAD, log_octets, put_unclean};
 
 /// The words of runs on a disk that is empty at first, with the status, the output and the errors of each.
 const RUNS: [(&[&str], u8, &str, &str); 4] = [
