@@ -61,7 +61,7 @@ abbrev pub was_used : Run → ℕ → Bool
 was_used run file = list_any (λ e. is_one_of e.doomed file || is_one_of e.removed file) run.events
 
 -- The run has come to where the store stands. Its entries, numbers and moments are the store's; of each record as much began
--- as ended and is due; its files are pinned and doomed as the store has them; and events used files and gave GUIDs only where
+-- as ended and is due; its files are pinned and doomed as the store has them; and events used files and gave GUIDs only if
 -- the store may have.
 pub record HasComeTo (run : Run) (seen : Seen) : Type 0 where
   pub come : HasCome run seen.map seen.drawn (told_calls seen.history)
@@ -133,7 +133,7 @@ abbrev pub GivesNew : Run → RunEvent → Type 0
 GivesNew run event = All (λ guid. was_given run guid ≡ false) event.given
 
 -- What an event did, of a run and of lists: which event of the run it was and what it answered, the lists that the store shows
--- now, that the run with it has come to the store, what a stop within it leaves, and how its request ended, if it did.
+-- now, that the run with it has come to the store, what a crash within it leaves, and how its request ended, if it did.
 pub record DidEvent (around after : Around) (run : Run) (lane place : ℕ) (said : List Reply) (request : Request) (lists : Lists) (old new : Seen) (did : Did) (ended : Option Reply) : Type 0 where
   pub left : Lists
   pub shown : ShowsSeen new left
