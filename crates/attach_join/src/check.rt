@@ -51,7 +51,7 @@ pub fn compare_sizes(body: &[u8], whole: u64, found: u64) -> Result<(), JoinErro
 }
 
 /// Whether each reference's text is as long as its count. The first that isn't, else; one whose text is too long for
-/// its length to be told in 64 bits is want of memory.
+/// its length to be told in 64 bits is lack of memory.
 pub fn compare_texts(refs: &[ExtRef], instances: &[Octets]) -> Result<(), JoinError>
     requires one_each { length refs.now ≡ length instances.now }
     requires few { length refs.now < 2 ^ 32 }

@@ -95,7 +95,7 @@ impl BoxIndex {
         self.rows.get(place as usize).copied()
     }
 
-    /// The listed message with this UID. None exactly where there is none.
+    /// The listed message with this UID. None if and only if there is none.
     pub fn find(&self, uid: Uid) -> Option<BoxRow>
         ensures { option_map row_of result ≡ row_at self.now uid.0 }
     {

@@ -58,7 +58,7 @@ pub record ChangeCounts (listed is_ok : Bool) (old new : MemDisk) (next_plan : P
   pub plan : new.plan ≡ next_plan
   pub was_listed : new.was_listed ≡ old.was_listed
 
--- A call that changes something fails where it was listed, and else only where it raises the count of starved calls. After
+-- A call that changes something fails where it was listed, and else only if it raises the count of starved calls. After
 -- it has failed each file reads as before.
 pub record ChangeFails (listed : Bool) (result : Result (Unit {0}) DiskError) (old new : MemDisk) (next_plan : Plan) : Type 0 where
   pub fails : listed ≡ true → IsErr result

@@ -181,7 +181,7 @@ impl MemDisk {
         due
     }
 
-    /// Makes a change, or fails for want of memory.
+    /// Makes a change, or fails for lack of memory.
     pub(crate) fn change(&mut self, name: FileName, change: Change) -> Result<(), DiskError>
         ensures ok { OnOk result (told self.new ≡ joined_by (done name change (told self.old).now) (told self.old)) }
         ensures err { OnErr result (Unchanged (Some (told self.old)) (Some (told self.new))) }
@@ -195,7 +195,7 @@ impl MemDisk {
         }
     }
 
-    /// Fails for want of memory.
+    /// Fails for lack of memory.
     fn starve(&mut self) -> Result<(), DiskError>
         ensures is_err { IsErr result }
         ensures state { Unchanged (Some (told self.old)) (Some (told self.new)) }

@@ -205,14 +205,14 @@ pub record Faults : Type 0 where
   pub reads : ℕ
   pub changes : ℕ
 
--- `Failed` comes only where the count of failed reads rose, and any other answer only where it stayed
+-- `Failed` comes only if the count of failed reads rose, and any other answer only if it stayed
 pub record ReadCause {T : Type 0} (result : Result T DiskError) (old new : Faults) : Type 0 where
   pub no_less : old.reads ≤ new.reads
   pub failed : IsErrOf result Failed → Rose old.reads new.reads
   pub unfailed : (IsErrOf result Failed → ⊥) → new.reads ≡ old.reads
   pub changes : new.changes ≡ old.changes
 
--- `Failed` is the only error, and comes only where the count of failed changes rose. Success comes only where it stayed.
+-- `Failed` is the only error, and comes only if the count of failed changes rose. Success comes only if it stayed.
 pub record ChangeCause {T : Type 0} (result : Result T DiskError) (old new : Faults) : Type 0 where
   pub no_less : old.changes ≤ new.changes
   pub failed : IsErr result → IsErrOf result Failed × Rose old.changes new.changes

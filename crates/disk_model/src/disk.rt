@@ -25,7 +25,7 @@ pub trait Disk {
     fn moment(&self) -> u64
         ensures { IsMoment (history self.now) result };
 
-    /// The file's length in octets. `Absent` exactly where there is no such file.
+    /// The file's length in octets. `Absent` if and only if there is no such file.
     fn length(&mut self, name: FileName) -> Result<u64, DiskError>
         ensures length { IfOk result (λ n. IfTold (history self.old) (λ disk. option_map length (reading (disk name)) ≡ Some n)) }
         ensures absent { IsErrOf result Absent → IfTold (history self.old) (λ disk. reading (disk name) ≡ None) }
@@ -33,7 +33,7 @@ pub trait Disk {
         ensures cause { ReadCause result (faults self.old) (faults self.new) };
 
     /// Fills the front of `into` with the file's octets from `offset` to the end of the file or of `into`, and answers how
-    /// many. `Absent` exactly where there is no such file: `into` is then as before. After `Failed` it may hold any octets.
+    /// many. `Absent` if and only if there is no such file: `into` is then as before. After `Failed` it may hold any octets.
     fn read_at(&mut self, name: FileName, offset: u64, into: &mut [u8]) -> Result<usize, DiskError>
         ensures count { IfOk result (λ n. n ≤ length into.new) }
         ensures octets { IfOk result (λ n. IfTold (history self.old) (λ disk. (reading (disk name) ≡ Some (disk name).octets)

@@ -85,7 +85,7 @@ pub(crate) fn sync_inst(rt: &HostRuntime, name: FileName, path: &str) -> io::Res
     Ok(())
 }
 
-/// Syncs the names in the store's folders, in those of instances only where all are asked for.
+/// Syncs the names in the store's folders, in those of instances only if all are asked for.
 pub(crate) fn sync_folders(rt: &HostRuntime, is_all: bool) -> io::Result<()> {
     for folder in [".", "storage", "mailboxes", "attachments"] {
         sync_folder(rt, folder)?;

@@ -12,7 +12,7 @@ ghost use Rattle.file_paths.specs.InstPath.{inst_path};
 use disk_model::FileName;
 use mdbox_base::{is_number, read_decimal, read_lower_hex};
 
-/// The store's file with this path. None exactly where the path is none of a store's file.
+/// The store's file with this path. None if and only if the path is none of a store's file.
 pub fn name_of_path(path: &[u8]) -> Option<FileName>
     ensures some { IfSome result (λ name. IsStoreFile name × (path.now ≡ path_text name)) }
     ensures none { IfNone result ((name : FileName) → IsStoreFile name → path.now ≡ path_text name → ⊥) }

@@ -1,4 +1,4 @@
--- What a stop may leave of a log to which an entry is being added.
+-- What a crash may leave of a log to which an entry is being added.
 use Rattle.std.specs.Prelude.{◌⊎◌}
 use mir.Syntax.{w8}
 use Rattle.std.specs.Int.{w32, to_be_bytes}

@@ -1,4 +1,4 @@
--- What a stop may leave of a file that is made anew.
+-- What a crash may leave of a file that is made anew.
 use Rattle.std.proofs.Common.{◌≡◌, ℕ, ◌+◌, ◌<◌, ◌≤◌, List, [], ◌∷◌, length, Option, Some, None, true, false, All, refl, sym, ◌∙◌, subst, ap, max, length-append, arith}
 use Rattle.std.proofs.lemmas.Bool.{cond-true}
 use Rattle.disk_model.specs.Disk.{FileState, History, MayLeave, IsThere, Reaches, Keeps, IfTold, AfterFailed, EachImage, SameButFor, after, change, change_all, made, half_made, written, half_written, synced, named, no_file}

@@ -1,4 +1,4 @@
--- A log that was read, as it stands, and what a stop leaves of it while it is repaired.
+-- A log that was read, as it stands, and what a crash leaves of it while it is repaired.
 use Rattle.std.proofs.Common.{◌≡◌, ℕ, ◌+◌, List, ◌∷◌, ◌++◌, length, get_or, Option, Some, sym, ◌∙◌, subst, ap, length-append, arith}
 use Rattle.std.proofs.Math.Seq.{get_or-append_seam}
 use Rattle.std.proofs.lemmas.Option.{same_Some}

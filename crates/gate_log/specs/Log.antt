@@ -21,7 +21,7 @@ pub record IsLogRead (log : LogState) (entries : List (List ℕ)) (disk : DiskSt
 abbrev pub Reads : LogState → List (List ℕ) → Option History → Type 0
 Reads log entries history = IfTold history (IsLogRead log entries)
 
--- the same, and a stop leaves the file so
+-- the same, and a crash leaves the file so
 pub record IsLogHeld (log : LogState) (entries : List (List ℕ)) (disk : DiskState) : Type 0 where
   pub reads : IsLogRead log entries disk
   pub keeps : Keeps (disk log.name) (log_text log.head entries)
@@ -49,7 +49,7 @@ pub record ReadsParts (size : ℕ) (front rest : List ℕ) (f : FileState) : Typ
   pub reads : reading f ≡ Some (front ++ rest)
   pub size_is : size ≡ length front
 
--- and a stop leaves it so
+-- and a crash leaves it so
 pub record KeepsParts (size : ℕ) (front rest : List ℕ) (f : FileState) : Type 0 where
   pub keeps : Keeps f (front ++ rest)
   pub size_is : size ≡ length front
@@ -70,7 +70,7 @@ pub record IsStanding (name : FileName) (head : LogHead) (entries : List (List �
   pub entries_fit : All EntryFits entries
   pub ends : EndsLog gate behind
 
--- and a stop leaves it so
+-- and a crash leaves it so
 pub record IsDurable (name : FileName) (head : LogHead) (entries : List (List ℕ)) (end gate : ℕ) (behind : List ℕ) (disk : DiskState) : Type 0 where
   pub stands : IsStanding name head entries end gate behind disk
   pub keeps : Keeps (disk name) (log_front head entries ++ gate ∷ behind)
@@ -81,7 +81,7 @@ pub record IsFound (found : InspectedLog) (entries : List (List ℕ)) (disk : Di
   pub behind : found.behind ≡ length rest
   pub stands : IsStanding found.name found.head entries found.end found.gate rest disk
 
--- and a stop leaves it so
+-- and a crash leaves it so
 pub record IsFoundKept (found : InspectedLog) (entries : List (List ℕ)) (disk : DiskState) : Type 0 where
   pub rest : List ℕ
   pub behind : found.behind ≡ length rest

@@ -9,7 +9,7 @@ use crate::error::{DiskFault, LogError};
 use disk_model::{Disk, FileName};
 use std::alloc::Global;
 
-/// The octets of a file. `NoLog` exactly where there is no such file.
+/// The octets of a file. `NoLog` if and only if there is no such file.
 pub fn read_file<D: Disk>(alloc: Global, disk: &mut D, name: FileName) -> Result<Vec<u8>, LogError>
     ensures octets { IfOk result (λ octets. IfTold (D.history disk.old) (λ now. reading (now name) ≡ Some octets.items)) }
     ensures idle { IsIdle (D.history disk.old) (D.history disk.new) }

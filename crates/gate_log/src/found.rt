@@ -54,7 +54,7 @@ pub fn inspect_log<D: Disk>(
     ensures log { IfOk result (λ found. (found.0.name ≡ name) × (found.0.head ≡ head) × (found.0.end ≡ found.1.end) × (found.1.head ≡ head)) }
     ensures found { IfOk result (λ found. IfTold (D.history disk.old) (IsFound found.0 found.1.entries)) }
 
-    // The file still stands so, and where a stop left it as it read, it does.
+    // The file still stands so, and where a crash left it as it read, it does.
     ensures stands { IfOk result (λ found. IfTold (D.history disk.new) (IsFound found.0 found.1.entries)) }
     ensures kept { IfOk result (λ found. (octets : List ℕ) → IfTold (D.history disk.old) (λ now. Keeps (now name) octets) → IfTold (D.history disk.new) (IsFoundKept found.0 found.1.entries)) }
 

@@ -1,4 +1,4 @@
-//! Logs that only grow, on a disk that may stop at any moment.
+//! Logs that only grow, on a disk that may crash at any moment.
 #![tactic(auto)]
 
 pub use error::{DiskFault, LogError};

@@ -91,7 +91,7 @@ impl GateLog {
         ensures any_moment { (entries : List (List ℕ)) → Holds self.old entries (D.history disk.old)
             → EachImage (λ _ image. IsLogWithOrWithout self.old.head entries entry.now (image self.old.name) × OthersStay self.old.name (D.history disk.old) image) (D.history disk.old) (D.history disk.new) }
 
-        // Of the other files each image has what an image had before, also where the log's file is not as a stop leaves it.
+        // Of the other files each image has what an image had before, also where the log's file is not as a crash leaves it.
         ensures others_stay { EachImage (λ _ image. OthersStay self.old.name (D.history disk.old) image) (D.history disk.old) (D.history disk.new) }
 
         // After Ok the log has this entry, and no other file has changed.

@@ -1,4 +1,4 @@
--- Laws of a stop: what a journal that goes on leaves reached, and how a legal one begins.
+-- Laws of a crash: what a journal that goes on leaves reached, and how a legal one begins.
 use Rattle.std.specs.Prelude.{◌≡◌, ◌≤◌, ◌<◌, nat_le, min, ℕ, Bool, true, false, cond, List, [], ◌∷◌, ◌++◌, length, take, count_by, slice_get, Option, Some, All, AllPairs, refl}
 use Rattle.std.specs.Option.{option_map_or}
 use Rattle.std.proofs.Common.{sym, ◌∙◌, ap, arith, subst, inl, inr}

@@ -40,7 +40,7 @@ pub record Around : Type 0 where
 -- ---- the order of the parts
 
 -- A delivery: each part of the message is compared with its candidates, and placed where none is equal; then a storage
--- file is taken, a new one only where none has room, the message placed, stored in the map, and added.
+-- file is taken, a new one only if none has room, the message placed, stored in the map, and added.
 abbrev pub instances_found : ℕ → Run → List InstRow
 instances_found request run = flat_map (λ e. e.equal ++ e.placed) (own_events request run)
 

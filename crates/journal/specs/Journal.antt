@@ -163,7 +163,7 @@ LacksOrGoesOn run script journal i =
 abbrev pub IsHalted : List JournalStep → List (Option Reply) → ℕ → Type 0
 IsHalted journal replies i = (steps_of i journal ≡ []) × ((given : Reply) → HasReply replies i given → (given ≡ reply.Refused refusal.NoMemory) ⊎ (given ≡ reply.Refused refusal.Stopped))
 
--- The replies of read faults are at most as many as reads failed. One of a stopped store comes only where a change failed,
+-- The replies of read faults are at most as many as reads failed. One of a stopped store comes only if a change failed,
 -- to a request that lacks a step or has events behind its last one, and then no later request of its lane has a step.
 pub record HaveCauses (run : Run) (script : Requests) (journal : List JournalStep) (replies : List (Option Reply)) (old new : Faults) : Type 0 where
   pub reads : RoseBy (count_by is_read_fault replies) old.reads new.reads

@@ -72,7 +72,7 @@ pub fn push_box_entry(out: &mut Octets, entry: &BoxEntry) -> Result<(), NoMemory
     out.push_all(text)
 }
 
-/// The entry that the octets are. None exactly where they aren't one; takes no memory.
+/// The entry that the octets are. None if and only if they aren't one; takes no memory.
 pub fn read_box_entry(text: &[u8]) -> Result<Option<BoxEntry>, NoMemory>
     ensures { MatchResult result (λ entry. MatchOption entry ((other : BoxEntry) → IsBoxText text.now other → ⊥) (IsBoxText text.now)) (λ _. ⊥) }
 {

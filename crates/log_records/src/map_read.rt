@@ -10,7 +10,7 @@ use crate::stored::stored_at;
 use mdbox_base::{BoxNo, FileNo, Highest, MapEntry, MapUid, NoMemory, name_of};
 use std::alloc::Global;
 
-/// The entry that the octets are. None exactly where they aren't one.
+/// The entry that the octets are. None if and only if they aren't one.
 pub fn read_map_entry(alloc: Global, text: &[u8]) -> Result<Option<MapEntry>, NoMemory>
     ensures { IfOk result (λ entry. MatchOption entry ((other : MapEntry) → IsMapText text.now other → ⊥) (IsMapText text.now)) }
 {

@@ -17,7 +17,7 @@ pub fn push_root_entry(out: &mut Octets, entry: &RootEntry) -> Result<(), NoMemo
     out.push_all(&[b'M', a, b, c, d])
 }
 
-/// The entry that the octets are. None exactly where they aren't one; takes no memory.
+/// The entry that the octets are. None if and only if they aren't one; takes no memory.
 pub fn read_root_entry(text: &[u8]) -> Result<Option<RootEntry>, NoMemory>
     ensures { MatchResult result (λ entry. MatchOption entry ((other : RootEntry) → IsRootText text.now other → ⊥) (IsRootText text.now)) (λ _. ⊥) }
 {

@@ -3,7 +3,7 @@ use Rattle.std.proofs.Common.{◌≡◌, ◌+◌, ◌==◌, ℕ, Bool, true, fal
 use Rattle.std.specs.Prelude.{sum_by}
 use Rattle.disk_model.specs.Disk.{History, Faults, told_calls}
 use Rattle.model_meaning.specs.MapMeaning.{MapRecord}
-use Rattle.list_machine.specs.Run.{RunEvent, Run, is_pinned, is_doomed}
+use Rattle.list_machine.specs.Run.{RunEvent, Run, is_doomed}
 use Rattle.journal.specs.Makes.{HasCome}
 use Rattle.store_core.specs.Dues.{number_beside, due_at}
 use Rattle.store_core.specs.Value.{StoreValue, none_due}
@@ -11,7 +11,7 @@ use Rattle.journal.specs.Events.{Around, begun_in, ended_in}
 use Rattle.mdbox_base.specs.declared.progress.Did.{Did}
 use Rattle.mdbox_base.specs.declared.replies.Reply.{Reply}
 use Rattle.mdbox_base.specs.declared.requests.Request.{Request}
-use Rattle.task_steps.specs.Step.{Seen, was_given, was_doomed, HasComeTo, HasNotBegun, IsKept, Steps}
+use Rattle.task_steps.specs.Step.{Seen, was_given, pins_of, was_used, HasComeTo, HasNotBegun, IsKept, Steps}
 use Rattle.task_steps.proofs.SeenLemmas.{not_begun_stays}
 use Rattle.task_steps.proofs.OneEventLemmas.{never_more}
 use Rattle.mail_ops.specs.Task.{IsAt, seen_of}
@@ -34,9 +34,9 @@ pub comes_at_first : {D : Type 0} → (run : Run) (store : StoreValue D) (histor
 comes_at_first run store history faults none free come = record {
   come = come;
   due = λ uid. subst (λ (es : List RunEvent). sum_by (begun_in uid) es ≡ due_at uid store + sum_by (ended_in uid) es) (sym none) (sym (let e : due_at uid store ≡ 0 = ap (λ (ns : List ℕ). number_beside uid store.map.records ns) free ∙ no_due store.map.records uid in let k : due_at uid store + 0 ≡ 0 = omega (arith, e) in k));
-  pinned = λ file. subst (λ (es : List RunEvent). is_pinned (record run { events = es }) file ≡ false) (sym none) refl;
+  pins = λ file. subst (λ (es : List RunEvent). pins_of (record run { events = es }) file ≡ 0) (sym none) refl;
   doomed = λ file. subst (λ (es : List RunEvent). is_doomed (record run { events = es }) file ≡ false) (sym none) refl;
-  once_doomed = λ file. subst (λ (es : List RunEvent). was_doomed (record run { events = es }) file ≡ true → false ≡ true) (sym none) (λ e. e);
+  used = λ file. subst (λ (es : List RunEvent). was_used (record run { events = es }) file ≡ true → false ≡ true) (sym none) (λ e. e);
   gave = λ guid. subst (λ (es : List RunEvent). was_given (record run { events = es }) guid ≡ true → false ≡ true) (sym none) (λ e. e);
 }
 

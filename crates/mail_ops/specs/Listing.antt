@@ -16,7 +16,7 @@ IsListing other = ⊥
 abbrev pub listing_reply : {D : Type 0} → List ℕ → StoreValue D → Reply
 listing_reply name store = if store.stopped then reply.Refused refusal.Stopped else listing_of (list_named store name)
 
--- A listing of a store has that reply, or that of want of memory.
+-- A listing of a store has that reply, or that of lack of memory.
 abbrev pub Replies : {D : Type 0} → Request → StoreValue D → Reply → Type 0
 Replies (request.List name) store given = (given ≡ listing_reply name store) ⊎ (given ≡ reply.Refused refusal.NoMemory)
 Replies other store given = ⊥

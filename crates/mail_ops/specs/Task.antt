@@ -28,4 +28,4 @@ amounts_of task = no_amounts
 -- A store as an event sees it, with what its disk tells and the faults that it has counted. No task pins or dooms a file, or
 -- gives a GUID, yet.
 abbrev pub seen_of : {D : Type 0} → StoreValue D → Option History → Faults → Seen
-seen_of store history faults = record { map = store.map; meanings = indexes_of store.boxes; drawn = store.drawn; history = history; faults = faults; stopped = store.stopped; due = λ uid. due_at uid store; pinned = λ file. false; doomed = λ file. false; once_doomed = λ file. false; gave = λ guid. false }
+seen_of store history faults = record { map = store.map; meanings = indexes_of store.boxes; drawn = store.drawn; history = history; faults = faults; stopped = store.stopped; due = λ uid. due_at uid store; pins = λ file. 0; doomed = λ file. false; used = λ file. false; gave = λ guid. false }

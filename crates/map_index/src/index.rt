@@ -103,21 +103,21 @@ impl MapIndex {
         with_name(&self.boxes, name.as_octets())
     }
 
-    /// The instances of a record's message. None exactly where there is no such record.
+    /// The instances of a record's message. None if and only if there is no such record.
     pub fn instances(&self, uid: MapUid) -> Option<&Seq<InstRow>>
         ensures { option_copied result ≡ option_map (λ r. r.instances) (record_at self.now uid.0) }
     {
         self.find(uid).map(|record| &record.instances)
     }
 
-    /// The record of a map uid. None exactly where there is none.
+    /// The record of a map uid. None if and only if there is none.
     pub fn row(&self, uid: MapUid) -> Option<MapRow>
         ensures { result ≡ option_map shown_record (record_at self.now uid.0) }
     {
         self.find(uid).map(|record| record.row)
     }
 
-    /// The record of a GUID. None exactly where there is none.
+    /// The record of a GUID. None if and only if there is none.
     pub fn row_of(&self, guid: Guid) -> Option<MapRow>
         ensures { result ≡ option_map shown_record (record_of self.now guid.0) }
     {
@@ -131,7 +131,7 @@ impl MapIndex {
         self.find_guid(guid).map_or(0, |record| record.row.count)
     }
 
-    /// The number of the mailbox with this name. None exactly where there is none.
+    /// The number of the mailbox with this name. None if and only if there is none.
     pub fn box_named(&self, name: &Name) -> Option<BoxNo>
         ensures { result ≡ option_map (λ b. record { 0 = b.number }) (box_of_name self.now name.now) }
     {
@@ -159,7 +159,7 @@ impl MapIndex {
         self.records.get(place as usize).map(|record| record.row)
     }
 
-    /// The record of this file with the least offset that is at least `from`. None exactly where there is none.
+    /// The record of this file with the least offset that is at least `from`. None if and only if there is none.
     pub fn in_file(&self, file: FileNo, from: u32) -> Option<MapRow>
         ensures { result ≡ option_map shown_record (record_from self.now file.0 from) }
     {
@@ -180,7 +180,7 @@ impl MapIndex {
         self.boxes.get(place as usize).map(|mailbox| mailbox.at)
     }
 
-    /// The name of the mailbox with this number. None exactly where there is none.
+    /// The name of the mailbox with this number. None if and only if there is none.
     pub fn box_name(&self, number: BoxNo) -> Option<&Name>
         ensures { option_copied result ≡ option_map (λ b. b.name) (box_at self.now number.0) }
     {

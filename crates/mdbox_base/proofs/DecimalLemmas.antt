@@ -13,7 +13,7 @@ no_sign text n h e p =
     let q : get_or (decimal n) 0 0 ≡ 43 = subst (λ (l : List ℕ). get_or l 0 0 ≡ 43) e p in
     omega arith
 
--- a decimal text begins with a zero only where it is `0`
+-- a decimal text begins with a zero only if it is `0`
 pub no_leading_zero : (text : List ℕ) (n : ℕ) → n < 2 ^ 64 → text ≡ decimal n → get_or text 0 0 ≡ 48 → 2 ≤ length text → ⊥
 no_leading_zero text zero h e p q =
     let one : text ≡ 48 ∷ [] = e ∙ decimal_digit 0 (omega arith) in

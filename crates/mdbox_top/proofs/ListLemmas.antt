@@ -1,5 +1,5 @@
 -- How `list` ends.
-use Rattle.std.specs.Prelude.{◌≡◌, ◌⊎◌, ℕ, Bool, false, List, [], ◌∷◌, ◌++◌, map, Option, Some, None, if◌then◌else◌}
+use Rattle.std.specs.Prelude.{◌≡◌, ◌⊎◌, ℕ, false, List, [], ◌∷◌, map, Option, Some, None, if◌then◌else◌}
 use Rattle.std.specs.Str.{bytes_eq}
 use Rattle.std.proofs.Common.{refl, sym, ◌∙◌, ap, subst, inl, inr, append-nil, arith}
 use Rattle.disk_model.specs.Disk.{History, Faults, EachImage, IfTold, IsIdle}
@@ -8,7 +8,6 @@ use Rattle.disk_model.proofs.IdleLemmas.{idle-begins}
 use Rattle.mdbox_base.specs.Streams.{Appended}
 use Rattle.mdbox_base.specs.declared.entries.BoxEntry.{BoxEntry}
 use Rattle.mdbox_base.specs.declared.entries.MapEntry.{MapEntry}
-use Rattle.mdbox_base.specs.declared.replies.Refusal.{Refusal}
 use Rattle.mdbox_base.specs.declared.replies.Refusal.TheVariants as refusal
 use Rattle.mdbox_base.specs.declared.replies.Reply.{Reply}
 use Rattle.mdbox_base.specs.declared.replies.Reply.TheVariants as reply
@@ -28,22 +27,18 @@ use Rattle.model_store.proofs.SettledLemmas.{settled_safe}
 use Rattle.model_store.proofs.OpeningLemmas.{no_store_or_opens, opens_or_damaged, one_store}
 use Rattle.model_store.proofs.OpeningSafeLemmas.{safe_opens}
 use Rattle.store_core.specs.Running.{IsStore}
-use Rattle.store_core.specs.Value.{StoreValue, indexes_of, list_named}
+use Rattle.store_core.specs.Value.{StoreValue, indexes_of}
 use Rattle.store_open.specs.Making.{IdleUnless}
-use Rattle.store_open.specs.Opened.{Opening, IsOpenedAs, StoreCarries, IsOpeningError}
+use Rattle.store_open.specs.Opened.{Opening, IsOpenedAs, IsOpeningError}
 use Rattle.store_open.specs.declared.error.OpenError.{OpenError}
 use Rattle.store_open.specs.declared.error.OpenError.TheVariants as error
-use Rattle.store_sweep.specs.Swept.{IsSwept}
-use Rattle.piece_writer.specs.Pieces.{WritesPrefix}
 use Rattle.request_text.specs.Outcomes.{status_of, reply_outcome}
-use Rattle.request_text.specs.ReplyText.{reply_text, single_text}
 use Rattle.request_text.specs.declared.outcome.InputRefusal.{InputRefusal}
 use Rattle.request_text.specs.declared.outcome.StoreRefusal.{StoreRefusal}
-use Rattle.request_text.specs.declared.outcome.StoreRefusal.TheVariants as store
 use Rattle.request_text.specs.declared.outcome.Outcome.{Outcome}
 use Rattle.request_text.specs.declared.outcome.Outcome.TheVariants as outcome
 use Rattle.mdbox_top.specs.InputRun.{IsOneOf}
-use Rattle.mdbox_top.specs.OpeningOutcome.{opening_outcome, opening_error}
+use Rattle.mdbox_top.specs.OpeningOutcome.{opening_outcome}
 use Rattle.mdbox_top.specs.ListRun.{ListOutcome, ListMoments}
 use Rattle.mdbox_top.specs.Served.{AreSafeFor, ShowsReply}
 

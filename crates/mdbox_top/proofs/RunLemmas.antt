@@ -1,15 +1,12 @@
 -- How a run ends, by its command.
-use Rattle.std.specs.Prelude.{◌≡◌, ◌⊎◌, ℕ, List, [], ◌∷◌, Option, refl}
-use Rattle.std.proofs.Common.{sym, ◌∙◌, ap, subst, inl, inr, arith}
+use Rattle.std.specs.Prelude.{◌≡◌, ◌⊎◌, ℕ, List, Option, refl}
+use Rattle.std.proofs.Common.{sym, ◌∙◌, subst, inl, inr, arith}
 use Rattle.disk_model.specs.Disk.{History, Faults}
-use Rattle.disk_model.specs.FaultCounts.{AnyFaultCounted}
 use Rattle.disk_model.specs.declared.name.FileName.{FileName}
-use Rattle.piece_writer.specs.Pieces.{WritesOrFaults}
-use Rattle.request_text.specs.Outcomes.{status_of, error_text, EndsAs}
+use Rattle.request_text.specs.Outcomes.{status_of, EndsAs}
 use Rattle.request_text.specs.declared.command.Command.{Command}
 use Rattle.request_text.specs.declared.command.Command.TheVariants as command
 use Rattle.request_text.specs.declared.outcome.InputRefusal.{InputRefusal}
-use Rattle.request_text.specs.declared.outcome.StoreRefusal.{StoreRefusal}
 use Rattle.request_text.specs.declared.outcome.StoreRefusal.TheVariants as store
 use Rattle.request_text.specs.declared.outcome.Outcome.{Outcome}
 use Rattle.request_text.specs.declared.outcome.Outcome.TheVariants as outcome

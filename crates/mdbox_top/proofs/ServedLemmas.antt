@@ -1,5 +1,5 @@
 -- A listing alone, as a request of a script.
-use Rattle.std.specs.Prelude.{◌≡◌, ◌≢◌, ◌⊎◌, ◌≤◌, ◌<◌, ◌==◌, ℕ, zero, suc, Bool, true, false, List, [], ◌∷◌, ◌++◌, map, flat_map, count_by, length, slice_get, Option, Some, None, if◌then◌else◌}
+use Rattle.std.specs.Prelude.{◌≡◌, ◌⊎◌, ◌≤◌, ◌<◌, ◌==◌, ℕ, zero, suc, Bool, false, List, [], ◌∷◌, map, count_by, slice_get, Option, Some, None, if◌then◌else◌}
 use Rattle.std.proofs.Common.{refl, sym, ◌∙◌, ap, subst, inl, inr, append-nil, arith}
 use Rattle.disk_model.specs.Disk.{Files, History, Faults, EachImage, IfTold, told_calls}
 use Rattle.std.proofs.lemmas.List.Elements.{All-nil}
@@ -26,21 +26,22 @@ use Rattle.model_store.specs.Safe.{Safe}
 use Rattle.model_store.specs.Settled.{files_of, IsSettledFor}
 use Rattle.model_store.proofs.WellFormedLemmas.{well_formed}
 use Rattle.list_machine.specs.Machine.{Does, PartAnswers}
-use Rattle.list_machine.specs.Run.{EventPart, First, RunEvent, Run, and_then, own_events, reply_of}
-use Rattle.journal.specs.Events.{Around, is_faulted}
+use Rattle.list_machine.specs.Run.{EventPart, First, RunEvent, Run, and_then, reply_of}
+use Rattle.journal.specs.Events.{Around}
 use Rattle.journal.specs.Found.{AgreesWithRun}
 use Rattle.journal.specs.GoesOn.{RepliesAlso}
-use Rattle.journal.specs.Journal.{Requests, JournalStep, Broken, no_broken, left_by, Reached, HasReply, is_read_fault, AreBroken}
+use Rattle.journal.specs.Journal.{Requests, Broken, no_broken, left_by, HasReply, is_read_fault, AreBroken}
 use Rattle.journal.specs.Makes.{StepOf, steps_made, AreReplies, StaysStopped, IsServed}
 use Rattle.journal.proofs.BrokenLemmas.{none_failed}
 use Rattle.journal.proofs.ReachedLemmas.{reached_last}
-use Rattle.task_steps.specs.Serves.{IsReached, Serves, IsTurn, Follows}
-use Rattle.task_steps.specs.Step.{Seen, ShowsSeen, HasComeTo, HasNotBegun, DidEvent, Steps, ended_by}
+use Rattle.task_steps.specs.Serves.{IsReached, IsTurn}
+use Rattle.store_core.specs.Value.{none_due, StoreValue, indexes_of, list_named}
+use Rattle.mail_ops.proofs.StageLemmas.{comes_at_first}
+use Rattle.task_steps.specs.Step.{Seen, ShowsSeen, HasComeTo, DidEvent, Steps, ended_by}
 use Rattle.task_steps.proofs.FollowingLemmas.{follows_on, replies_on, told_on}
 use Rattle.task_steps.proofs.GoingLemmas.{serves_on}
 use Rattle.task_steps.proofs.ReplyingLemmas.{reply_on, serves_start}
 use Rattle.store_core.specs.Running.{IsStore}
-use Rattle.store_core.specs.Value.{StoreValue, indexes_of, list_named}
 use Rattle.store_open.specs.Opened.{IsOpenedAs}
 use Rattle.mail_ops.specs.Listing.{Replies}
 use Rattle.mail_ops.specs.Task.{TaskValue, IsAt, seen_of}
@@ -171,7 +172,7 @@ served_alone request lists given seen how m entries around after opened come sho
         of_failure = none_failed _;
         would = λ n event asked found e a unrefused. absurd (let k : None ≡ Some event = e in cc k);
         stays_stopped = one_event d.makes.event;
-        come = s2.come;
+        come = s2.come.come;
       };
     }
 
@@ -210,13 +211,13 @@ unfaulted None given (inl e) = ap (λ (r : Reply). is_read_fault (Some r)) e
 unfaulted (Some m) given (inl e) = ap (λ (r : Reply). is_read_fault (Some r)) e
 unfaulted found given (inr e) = ap (λ (r : Reply). is_read_fault (Some r)) e
 
-pub list_served : {D : Type 0} → (name : List ℕ) (lists : Lists) (given : Reply) (old mid : Option History) (faults : Faults) (s : StoreValue D) (how : Did) → IsOpenedAs old s.map (indexes_of s.boxes) → IsStore mid s → s.drawn ≡ s.map.highest → s.stopped ≡ false
+pub list_served : {D : Type 0} → (name : List ℕ) (lists : Lists) (given : Reply) (old mid : Option History) (faults : Faults) (s : StoreValue D) (how : Did) → IsOpenedAs old s.map (indexes_of s.boxes) → IsStore mid s → s.drawn ≡ s.map.highest → s.dues ≡ none_due s.map.records → s.stopped ≡ false
     → LogsShow → AreSafeFor lists old → is_read_fault (Some given) ≡ false → DoesAlone (request.List name) given (seen_of s mid faults) how → ListMoments old mid → (IsSettledFor lists old → IsSettledFor lists mid)
     → ServesRequest (request.List name) lists given faults faults old mid
-list_served name lists given old mid faults s how o k drawn running show safe unfaulted did moments settled =
+list_served name lists given old mid faults s how o k drawn free running show safe unfaulted did moments settled =
     let seen : Seen = seen_of s mid faults in
     let run : Run = beginning s.map k.entries in
-    let come : HasComeTo run seen = record { map_is = ap (map_meaning s.map.store) (append-nil k.entries) ∙ sym k.map_is; drawn_is = sym drawn; moments = All-nil _ } in
+    let come : HasComeTo run seen = comes_at_first run s mid faults refl free (record { map_is = ap (map_meaning s.map.store) (append-nil k.entries) ∙ sym k.map_is; drawn_is = sym drawn; moments = All-nil _ }) in
     let shown : ShowLists s.map.boxes (indexes_of s.boxes) lists =
     subst (λ (ms : List BoxMeaning). ShowLists s.map.boxes ms lists) (sym o.meanings_are)
     (shows_same (map_meaning s.map.store o.entries).boxes s.map.boxes (map box_meaning o.logs) lists o.means.numbers o.means.names (shown_safe lists old s.map.store o.entries o.logs show safe o.opens)) in

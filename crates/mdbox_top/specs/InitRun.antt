@@ -1,5 +1,5 @@
 -- How `init` ends.
-use Rattle.std.specs.Prelude.{◌≡◌, ℕ, List, [], ◌∷◌, Option, Some, None}
+use Rattle.std.specs.Prelude.{◌≡◌, ℕ, List, [], Option, Some, None}
 use Rattle.disk_model.specs.Disk.{History, IfTold, EachImage, IsIdle}
 use Rattle.mdbox_base.specs.Streams.{Appended}
 use Rattle.model_store.specs.Opening.{empty_inbox}

@@ -1,7 +1,6 @@
 -- How `list` ends.
-use Rattle.std.specs.Prelude.{◌≡◌, ◌⊎◌, ℕ, List, [], Option, Some, None}
-use Rattle.disk_model.specs.Disk.{History, Faults, EachImage, IsIdle}
-use Rattle.mdbox_base.specs.Streams.{Appended}
+use Rattle.std.specs.Prelude.{◌≡◌, ◌⊎◌, ℕ, List, Option}
+use Rattle.disk_model.specs.Disk.{History, Faults, EachImage}
 use Rattle.mdbox_base.specs.declared.replies.Refusal.TheVariants as refusal
 use Rattle.mdbox_base.specs.declared.replies.Reply.{Reply}
 use Rattle.mdbox_base.specs.declared.replies.Reply.TheVariants as reply
@@ -13,18 +12,11 @@ use Rattle.model_meaning.specs.BoxMeaning.{BoxMeaning}
 use Rattle.model_meaning.specs.MapMeaning.{MapMeaning}
 use Rattle.model_store.specs.Listing.{meaning_named, listing_of}
 use Rattle.model_store.specs.Safe.{Safe}
-use Rattle.model_store.specs.Settled.{files_of, IsSettledFor}
-use Rattle.store_open.specs.Making.{IdleUnless}
-use Rattle.store_open.specs.Opened.{Opening, IsOpenedAs, StoreCarries, IsOpeningError}
-use Rattle.store_open.specs.declared.error.OpenError.{OpenError}
-use Rattle.store_open.specs.declared.error.OpenError.TheVariants as error
+use Rattle.model_store.specs.Settled.{IsSettledFor}
+use Rattle.store_open.specs.Opened.{IsOpenedAs, StoreCarries}
 use Rattle.store_sweep.specs.Moments.{NoFailedChange}
 use Rattle.store_sweep.specs.Swept.{IsSwept}
-use Rattle.piece_writer.specs.Pieces.{WritesPrefix}
-use Rattle.request_text.specs.Outcomes.{reply_outcome}
-use Rattle.request_text.specs.ReplyText.{single_text}
 use Rattle.request_text.specs.declared.outcome.Outcome.{Outcome}
-use Rattle.request_text.specs.declared.outcome.Outcome.TheVariants as outcome
 use Rattle.mdbox_top.specs.Served.{AreSafeFor, RequestOutcome}
 
 -- A disk that was settled for lists is settled for them again.

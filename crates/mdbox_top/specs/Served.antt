@@ -15,7 +15,7 @@ use Rattle.model_meaning.specs.SameMeaning.{MeansSame}
 use Rattle.model_store.specs.Opening.{Opens}
 use Rattle.model_store.specs.Safe.{Safe}
 use Rattle.model_store.specs.Settled.{files_of, IsSettledFor}
-use Rattle.list_machine.specs.Run.{Run, own_events}
+use Rattle.list_machine.specs.Run.{Run}
 use Rattle.mdbox_base.specs.declared.progress.Did.{Did}
 use Rattle.journal.specs.Events.{Around}
 use Rattle.journal.specs.Journal.{JournalStep, Broken, left_by}
@@ -89,5 +89,5 @@ RequestOutcome Tells request held later old new began now ended = IsNotOpened he
 -- What the event of a request alone did that changed nothing, of every run that has come to where the store stands, and of
 -- every lists that it shows: it answered this, and ended the request.
 abbrev pub DoesAlone : Request → Reply → Seen → Did → Type 0
-DoesAlone request given seen how = (around after : Around) (run : Run) (lists : Lists) → HasComeTo run seen → ShowsSeen seen lists → HasNotBegun (own_events 0 run) []
+DoesAlone request given seen how = (around after : Around) (run : Run) (lists : Lists) → HasComeTo run seen → ShowsSeen seen lists → HasNotBegun run 0 []
     → DidEvent around after run 1 0 [] request lists seen seen how (Some given)

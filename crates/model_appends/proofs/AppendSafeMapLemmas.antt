@@ -195,7 +195,7 @@ made_append a store entries lists mailbox generation name s in_range fits log =
 
 -- ---- afterwards
 
--- After an entry of the map log the disk is settled for the lists that it gives, where whatever a stop could leave agreed with
+-- After an entry of the map log the disk is settled for the lists that it gives, where whatever a crash could leave agreed with
 -- what was read by the new meaning too: for an `S` that its region and its instances are synced, with their names.
 pub settled_by_map_entry : (old new : DiskState) (lists added : Lists) (made : List MapBox) (e : MapEntry) → (s : IsSettled old lists) → IsImage old (files_of old) → MapInRange e → MapFits (map_meaning s.store s.entries) e
     → IsMapStep (files_of old) (map_meaning s.store s.entries) (map_meaning s.store (s.entries ++ e ∷ [])) made added → HasAll (files_of old) (map_meaning s.store (s.entries ++ e ∷ [])) (lists ++ added)

@@ -108,6 +108,6 @@ or_none : (a : Bool) → (a || false) ≡ a
 or_none true = refl
 or_none false = refl
 
--- a file is sealed exactly where an `E` names it
+-- a file is sealed if and only if an `E` names it
 pub sealed_is : (store : List ℕ) (entries : List MapEntry) (file : ℕ) → is_sealed (map_meaning store entries) file ≡ list_any (seals file) entries
 sealed_is store entries file = has_from file [] entries ∙ or_none _

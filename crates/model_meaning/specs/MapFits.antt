@@ -78,7 +78,7 @@ size_at m uid = option_map_or (λ row. row.size) (record_at m uid) 0
 abbrev pub ArePlacedApart : MapMeaning → MapPlace → MapPlace → Type 0
 ArePlacedApart m a b = (a.offset + size_at m a.uid.0 ≤ b.offset) ⊎ (b.offset + size_at m b.uid.0 ≤ a.offset)
 
--- The target is 0 exactly where nothing is moved, else another file with room for what is moved.
+-- The target is 0 if and only if nothing is moved, else another file with room for what is moved.
 abbrev pub FitsTarget : MapMeaning → ℕ → ℕ → List MapPlace → Type 0
 FitsTarget m file target [] = target ≡ 0
 FitsTarget m file target (place ∷ moved) =

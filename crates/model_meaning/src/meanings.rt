@@ -31,7 +31,7 @@ pub fn meanings_are_sound()
     ensures highest { (store : List ℕ) (entries : List MapEntry) → AllMapFit store [] entries → AllByRecursion MapInRange entries → AllByRecursion HasOctets entries → AreInRange (map_meaning store entries).highest }
 {}
 
-/// A file is sealed exactly where an `E` names it, and the sealed files stand once each, in order of number.
+/// A file is sealed if and only if an `E` names it, and the sealed files stand once each, in order of number.
 pub fn sealed_files()
     ensures named { (store : List ℕ) (entries : List MapEntry) (file : ℕ) → is_sealed (map_meaning store entries) file ≡ list_any (seals file) entries }
     ensures rising { (entries : List MapEntry) → AllPairs (λ a b. a < b) (sealed_after entries) }

@@ -166,7 +166,7 @@ IsRefused octets (scan.Truncated offset) = (rest : List ℕ) × StopsAt octets o
 IsRefused octets (scan.BadMessage offset) = (rest : List ℕ) × StopsAt octets offset rest × ¬ IsFrontOf IsMessage rest
 IsRefused octets scan.NoMemory = ⊥
 
--- What a scan of the octets gives, but for want of memory: the places of the messages, or the cause of refusal.
+-- What a scan of the octets gives, but for lack of memory: the places of the messages, or the cause of refusal.
 abbrev pub ScanGives : List ℕ → Result (List MessageAt) ScanError → Type 0
 ScanGives octets (Ok places) = HasPlaces octets places
 ScanGives octets (Err error) = IsRefused octets error

@@ -15,7 +15,7 @@ pub fn octets_are_one_file()
     ensures { (octets h k : List ℕ) (ms ns : List Message) → IsFile octets h ms → IsFile octets k ns → (h ≡ k) × (ms ≡ ns) }
 {}
 
-/// A scan has at most one answer, but for want of memory.
+/// A scan has at most one answer, but for lack of memory.
 pub fn a_scan_has_one_answer()
     ensures { (octets : List ℕ) (a b : Result (List MessageAt) ScanError) → ScanGives octets a → ScanGives octets b → a ≡ b }
 {}

@@ -35,7 +35,7 @@ two_cuts (d ∷ a) (f ∷ b) x y u v e = cuts_behind d f a b x y (cc) (two_cuts 
 
 -- ---- good entries
 
--- Entries whose texts are spelled in one way, and which are good only where each front of them is.
+-- Entries whose texts are spelled in one way, and which are good only if each front of them is.
 pub record IsGrammar {E : Type 0} (text : E → List ℕ) (InRange : E → Type 0) (AreGood : List E → Type 0) : Type 0 where
   pub one : HasOneText text InRange
   pub range : (entries : List E) → AreGood entries → AllByRecursion InRange entries

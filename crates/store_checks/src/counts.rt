@@ -34,7 +34,7 @@ fn is_counted(boxes: &[CheckedBox], uid: MapUid, count: u16) -> bool
     true
 }
 
-/// The count less the messages that the mailbox lists with this map uid. None exactly where they are more.
+/// The count less the messages that the mailbox lists with this map uid. None if and only if they are more.
 fn take_off(index: &BoxIndex, uid: MapUid, count: u16) -> Option<u16>
     ensures { MatchOption result (count < listed_by uid.0 index.now) (λ rest. rest + listed_by uid.0 index.now ≡ count) }
 {

@@ -15,7 +15,7 @@ pub struct Asked {
     pub length: Option<u64>,
 }
 
-/// The length of a file, None where there is none. The disk is asked only where the file asked last was another.
+/// The length of a file, None where there is none. The disk is asked only if the file asked last was another.
 pub fn length_of<D: Disk>(
     disk: &mut D,
     last: &mut Option<Asked>,

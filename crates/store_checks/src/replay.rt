@@ -19,7 +19,7 @@ pub trait Replay {
     /// The store's id, where the meaning depends on it.
     ghost store: { Self → List ℕ };
 
-    /// Takes in the entry with this text. False exactly where there is none that is good behind those so far.
+    /// Takes in the entry with this text. False if and only if there is none that is good behind those so far.
     fn replay_entry(&mut self, alloc: Global, text: &[u8]) -> Result<bool, NoMemory>
         ensures taken { IfOk result (λ taken. MatchBool taken
             ((texts : List (List ℕ)) → is_replay self.old texts → is_replay self.new (texts ++ text.now ∷ []))

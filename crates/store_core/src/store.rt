@@ -129,14 +129,14 @@ impl<D: Disk> Store<D> {
         &self.map
     }
 
-    /// What the log of the mailbox with this number means. None exactly where the map has no such mailbox.
+    /// What the log of the mailbox with this number means. None if and only if the map has no such mailbox.
     pub fn mailbox(&self, number: BoxNo) -> Option<&BoxIndex>
         ensures { option_copied result ≡ list_numbered self.now number.0 }
     {
         index_of(&self.boxes, number)
     }
 
-    /// What the log of the mailbox with this name means. None exactly where no mailbox has the name.
+    /// What the log of the mailbox with this name means. None if and only if no mailbox has the name.
     pub fn list_of(&self, name: &Name) -> Option<&BoxIndex>
         ensures { option_copied result ≡ list_named self.now name.now }
     {

@@ -38,7 +38,7 @@ pub record IsFreeForStore (disk : DiskState) : Type 0 where
   pub no_entry : HasNoEntry (reading (disk file.Root))
   pub no_mail : HasMailFile disk → ⊥
 
--- whatever a stop leaves of the file, as a root log it has no entry
+-- whatever a crash leaves of the file, as a root log it has no entry
 abbrev pub NeverHasEntry : FileState → Type 0
 NeverHasEntry f = (left : Option (List ℕ)) → MayLeave f left → HasNoEntry left
 
@@ -81,7 +81,7 @@ new_map_head store = head_of store kind.Map 0 1
 abbrev pub inbox_head : List ℕ → LogHead
 inbox_head store = head_of store kind.Box 1 1
 
--- A new store with this id is on the disk: a stop leaves just its three logs, each as it reads.
+-- A new store with this id is on the disk: a crash leaves just its three logs, each as it reads.
 pub record IsMadeStore (store : List ℕ) (disk : DiskState) : Type 0 where
   pub root_log : Keeps (disk file.Root) (log_text (new_root_head store) (root_text first_root ∷ []))
   pub map_log : Keeps (disk (file.Map 1)) (log_text (new_map_head store) (map_text first_box ∷ []))

@@ -17,7 +17,7 @@ IsMakingError old NoMemory = ⊤
 IsMakingError old NoStore = ⊥
 IsMakingError old (Damaged name place) = ⊥
 
--- a fault of the device, or want of memory
+-- a fault of the device, or lack of memory
 abbrev pub IsFaultOrMemory : OpenError → Type 0
 IsFaultOrMemory error = (error ≡ DiskFault) ⊎ (error ≡ NoMemory)
 

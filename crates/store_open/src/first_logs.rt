@@ -36,7 +36,7 @@ pub struct FirstLogs {
 /// Makes the files of a new store with this id: removes the logs that an earlier making left, and makes the log of
 /// mailbox 1 (INBOX), the map log of generation 1, and last the root log.
 ///
-/// `StoreWhole` exactly where the root log has an entry, `MailFiles` exactly where it has none and a storage file or an
+/// `StoreWhole` if and only if the root log has an entry, `MailFiles` if and only if it has none and a storage file or an
 /// attachment instance is there.
 pub fn make_files<D: Disk>(alloc: Global, disk: &mut D, id: StoreId) -> Result<FirstLogs, OpenError>
     ensures refused { IfErr result (IsMakingError (D.history disk.old)) }

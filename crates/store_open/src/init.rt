@@ -24,7 +24,7 @@ use store_core::{OpenBox, OpenLogs, Store};
 
 /// Makes an empty store with INBOX, as opened for one lane.
 ///
-/// `StoreWhole` exactly where the root log has an entry, `MailFiles` exactly where it has none and a storage file or an
+/// `StoreWhole` if and only if the root log has an entry, `MailFiles` if and only if it has none and a storage file or an
 /// attachment instance is there.
 pub fn init_store<D: Disk>(alloc: Global, disk: D, id: StoreId) -> Result<Store<D>, OpenRefused<D>>
     ensures refused { IfErr result (λ refused. IsMakingError (D.history disk) refused.error) }

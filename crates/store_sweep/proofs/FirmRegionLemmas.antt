@@ -1,4 +1,4 @@
--- Regions of a storage file: what a stop, a cut and a sync leave of them.
+-- Regions of a storage file: what a crash, a cut and a sync leave of them.
 use Rattle.std.proofs.Common.{◌≡◌, inl, inr, ℕ, ◌+◌, ◌<◌, ◌≤◌, zero, suc, List, [], ◌∷◌, length, take, drop, slice_get, Option, Some, None, refl, sym, ◌∙◌, subst, arith}
 use Rattle.std.proofs.lemmas.List.{length-take-le}
 use Rattle.std.proofs.lemmas.Bool.{true≢false, false≢true}
@@ -37,7 +37,7 @@ region_moved found octets other row s long same = record {
       ∙ subst (λ (o : List ℕ). take row.size (drop row.offset o) ≡ take row.size (drop row.offset s.first)) (second_is found octets row s) s.same;
 }
 
--- what a stop leaves of a firm region
+-- what a crash leaves of a firm region
 pub region_left : (found : Option (List ℕ)) (row : MapRecord) (f : FileState) (left : Option (List ℕ)) → IsFirmRegion found row f → MayLeave f left → IsSameRegion found left row
 region_left found row f None k (inl gone) = absurd (true≢false (sym k.there ∙ gone))
 region_left found row f None k (inr loose) = absurd (false≢true (sym k.name ∙ loose))

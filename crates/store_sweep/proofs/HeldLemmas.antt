@@ -1,4 +1,4 @@
--- A disk that holds a store: what a stop leaves of it, name by name, and what the calls of a sweep keep.
+-- A disk that holds a store: what a crash leaves of it, name by name, and what the calls of a sweep keep.
 use Rattle.std.proofs.Common.{◌≡◌, inl, inr, ℕ, ◌+◌, ◌==◌, ◌&&◌, ◌≤◌, true, false, List, length, take, Option, Some, None, All, refl, sym, ◌∙◌, ap, subst}
 use Rattle.std.proofs.lemmas.List.Elements.{All-weaker}
 use Rattle.std.proofs.lemmas.Bool.{true≢false, eq-eqb, and_from, or_parts, cases_Bool, cond-true, cond-false}
@@ -20,7 +20,7 @@ use Rattle.store_sweep.specs.Wanted.{has_region, row_names, is_wanted, EndBy}
 use Rattle.store_sweep.proofs.ScanLemmas.{none_pass}
 use Rattle.store_sweep.proofs.FirmRegionLemmas.{region_left, region_before, region_half_cut, region_cut, region_synced}
 
--- ---- what a stop leaves
+-- ---- what a crash leaves
 
 log_left : (found : Option (List ℕ)) (f : FileState) (left : Option (List ℕ)) → IsHeldLog found f → MayLeave f left → HasSameEntries found left
 log_left found f left k h =

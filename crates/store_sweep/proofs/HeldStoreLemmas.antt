@@ -76,7 +76,7 @@ in_region octets at size i from below =
     let e : at + (i - at) ≡ i = omega arith in
     a ∙ b ∙ ap (λ (k : ℕ). get_or octets k 0) e
 
--- the same region of other octets that a stop may leave
+-- the same region of other octets that a crash may leave
 left_region : (f : FileState) (row : MapRecord) (octets other : List ℕ) → reading f ≡ Some octets → IsSameRegion (reading f) (Some other) row → take row.size (drop row.offset other) ≡ take row.size (drop row.offset octets)
 left_region f row octets other there s =
     let a : s.second ≡ other = same_Some _ _ (sym s.in_second) in

@@ -67,7 +67,7 @@ one_refusal a b e = cc e
 pub no_step : (why r : Refusal) → is_step why ≡ false → Some why ≡ Some r → is_step r ≡ true → ⊥
 no_step why r none e s = let k : false ≡ true = sym none ∙ (ap is_step (one_refusal why r e) ∙ s) in cc k
 
--- an event that was refused for want of memory or by a stopped store
+-- an event that was refused for lack of memory or by a stopped store
 unfoldable pub unmade : (around after : Around) (run : Run) (lane place : ℕ) (q : Request) (old : Lists) (m m_then : MapMeaning) (drawn : Highest) (calls calls_then : ℕ) (why : Refusal) → m_then ≡ m → IsPlain q → HasCome run m drawn calls → calls ≤ calls_then → own_events place run ≡ [] → is_step why ≡ false
     → Makes around after run lane place q old old m_then drawn calls_then (Some (reply.Refused why))
 unmade around after run lane place q old m m_then drawn calls calls_then why map_is plain come le own none = record {
@@ -145,7 +145,7 @@ first_turn q said event plain none part =
 pub still_faults : (F : Type 0) (f : Faults) → (F → ⊥) → FaultsGrow F f f
 still_faults F f never = record { reads = omega arith; changes = omega arith; rose = λ x. absurd (never x) }
 
--- stopped or want of memory: the request ends, and nothing was done
+-- stopped or lack of memory: the request ends, and nothing was done
 pub does_nothing : (around after : Around) (run : Run) (lane place : ℕ) (said : List Reply) (q : Request) (lists : Lists) (seen : Seen) (why : Refusal) → IsPlain q → HasComeTo run seen → ShowsSeen seen lists → HasNotBegun run place said
     → is_step why ≡ false → IsReplyOf q [] (reply.Refused why) → (why ≡ refusal.ReadFault → ⊥) → ((Some (reply.Refused why) ≡ Some (reply.Refused refusal.Stopped)) ↔ (seen.stopped ≡ true))
     → DidEvent around after run lane place said q lists seen seen did.Quiet (Some (reply.Refused why))

@@ -1,6 +1,7 @@
 -- What a store tells, as a run goes on with one event more.
-use Rattle.std.proofs.Common.{◌≡◌, ◌+◌, ◌==◌, ◌&&◌, ◌||◌, ℕ, Bool, true, false, not, List, [], ◌∷◌, ◌++◌, refl, sym, ◌∙◌, ap, subst, arith, All}
-use Rattle.std.specs.Prelude.{◌≢◌, flat_map, sum_by, filter, cond}
+use Rattle.std.proofs.Common.{◌≡◌, ◌<◌, ◌+◌, ◌==◌, ◌&&◌, ◌||◌, ℕ, zero, suc, Bool, true, false, not, List, [], ◌∷◌, ◌++◌, refl, sym, ◌∙◌, ap, subst, arith, All}
+use Rattle.std.specs.Prelude.{◌≢◌, flat_map, sum_by, count_by, nat_lt, filter, cond, if◌then◌else◌}
+use Rattle.std.proofs.lemmas.Grind.{common_steps}
 use Rattle.std.specs.List.{list_any}
 use Rattle.std.specs.Str.{bytes_eq}
 use Rattle.std.proofs.lemmas.Bool.{ne_eqb}
@@ -14,7 +15,7 @@ use Rattle.list_machine.specs.Run.{RunEvent, Run, Pin, and_then, own_events, giv
 use Rattle.journal.specs.Events.{begun_in, ended_in, due_of, number_drawn, number_of, until_doomed, was_pinned}
 use Rattle.journal.specs.Makes.{HasCome}
 use Rattle.journal.proofs.OwnEventLemmas.{own_more, own_other}
-use Rattle.task_steps.specs.Step.{Seen, was_given, was_doomed, HasComeTo, GivesNew, IsKept, HasNotBegun}
+use Rattle.task_steps.specs.Step.{Seen, was_given, pins_of, was_used, HasComeTo, GivesNew, IsKept, HasNotBegun}
 use Rattle.task_steps.specs.Tells.{LeavesFiles, TellsSame}
 
 or_none : (b : Bool) → (b || false) ≡ b
@@ -27,9 +28,9 @@ any_push p xs x = list_any-append p xs (x ∷ []) ∙ ap (λ (b : Bool). list_an
 any_still : {X : Type 0} → (p : X → Bool) (xs : List X) (x : X) → p x ≡ false → list_any p (xs ++ x ∷ []) ≡ list_any p xs
 any_still p xs x e = any_push p xs x ∙ (ap (λ (b : Bool). list_any p xs || b) e ∙ or_none (list_any p xs))
 
-any_same : {X : Type 0} → (p q : X → Bool) (xs : List X) → ((x : X) → p x ≡ q x) → list_any p xs ≡ list_any q xs
-any_same p q [] h = refl
-any_same p q (x ∷ xs) h = ap (λ (b : Bool). b || list_any p xs) (h x) ∙ ap (λ (b : Bool). q x || b) (any_same p q xs h)
+sum_same : {X : Type 0} → (f g : X → ℕ) (xs : List X) → ((x : X) → f x ≡ g x) → sum_by f xs ≡ sum_by g xs
+sum_same f g [] h = refl
+sum_same f g (x ∷ xs) h = let a = sum_by-cons f x xs in let b = sum_by-cons g x xs in let c = h x in let d = sum_same f g xs h in omega (arith, a, b, c, d)
 
 sum_push : {X : Type 0} → (f : X → ℕ) (xs : List X) (x : X) → sum_by f (xs ++ x ∷ []) ≡ sum_by f xs + f x
 sum_push f xs x = let h = sum_by-append f xs (x ∷ []) in let k = sum_by-cons f x [] in omega (arith, h, k)
@@ -46,18 +47,57 @@ unpinned_still request run event none = by_test (event.request == request) refl
     by_test true e = ap (λ (es : List RunEvent). list_any is_unpinning es) (own_more request run event e) ∙ any_still is_unpinning (own_events request run) event none
     by_test false e = ap (λ (es : List RunEvent). list_any is_unpinning es) (own_other request run event e)
 
-pub pinned_still : (run : Run) (event : RunEvent) (file : ℕ) → event.pins ≡ [] → is_unpinning event ≡ false → is_pinned (and_then run event) file ≡ is_pinned run file
-pinned_still run event file none unpins =
-    any_still (λ (e : RunEvent). list_any (λ (p : Pin). p.file == file) e.pins && not (has_unpinned e.request (and_then run event))) run.events event (ap (λ (ps : List Pin). list_any (λ (p : Pin). p.file == file) ps && not (has_unpinned event.request (and_then run event))) none)
-    ∙ any_same (λ (e : RunEvent). list_any (λ (p : Pin). p.file == file) e.pins && not (has_unpinned e.request (and_then run event))) (λ (e : RunEvent). list_any (λ (p : Pin). p.file == file) e.pins && not (has_unpinned e.request run)) run.events
-    (λ e. ap (λ (b : Bool). list_any (λ (p : Pin). p.file == file) e.pins && not b) (unpinned_still e.request run event unpins))
+abbrev pins_in : Run → ℕ → RunEvent → ℕ
+pins_in run file e = if has_unpinned e.request run then 0 else count_by (λ p. p.file == file) e.pins
 
-pub ever_doomed_still : (run : Run) (event : RunEvent) (file : ℕ) → event.doomed ≡ [] → was_doomed (and_then run event) file ≡ was_doomed run file
-ever_doomed_still run event file none = any_still (λ (e : RunEvent). is_one_of e.doomed file) run.events event (ap (λ (fs : List ℕ). is_one_of fs file) none)
+pub pins_still : (run : Run) (event : RunEvent) (file : ℕ) → event.pins ≡ [] → is_unpinning event ≡ false → pins_of (and_then run event) file ≡ pins_of run file
+pins_still run event file none unpins =
+    let more = sum_push (pins_in (and_then run event) file) run.events event in
+    let own : pins_in (and_then run event) file event ≡ 0 = ap (λ (ps : List Pin). if has_unpinned event.request (and_then run event) then 0 else count_by (λ (p : Pin). p.file == file) ps) none ∙ zero_both (has_unpinned event.request (and_then run event)) 0 in
+    let same = sum_same (pins_in (and_then run event) file) (pins_in run file) run.events (λ e. ap (λ (b : Bool). cond b 0 (count_by (λ (p : Pin). p.file == file) e.pins)) (unpinned_still e.request run event unpins)) in
+    omega (arith, more, own, same)
+  where
+    zero_both : (b : Bool) (n : ℕ) → cond b n n ≡ n
+    zero_both true n = refl
+    zero_both false n = refl
+
+-- a file is pinned where it has pins
+some_of : (a b : ℕ) → nat_lt 0 (a + b) ≡ (nat_lt 0 a || nat_lt 0 b)
+some_of zero b = ap (λ (n : ℕ). nat_lt 0 n) (let e : 0 + b ≡ b = omega arith in e)
+some_of (suc a) b = more (suc a + b) (omega arith) ∙ sym (ap (λ (t : Bool). t || nat_lt 0 b) (more (suc a) (omega arith)))
+  where
+    more : (n : ℕ) → 0 < n → nat_lt 0 n ≡ true
+    more n l = grind (arith, common_steps, l)
+
+some_where : {X : Type 0} → (p : X → Bool) (f : X → ℕ) → ((x : X) → p x ≡ nat_lt 0 (f x)) → (xs : List X) → list_any p xs ≡ nat_lt 0 (sum_by f xs)
+some_where p f h [] = refl
+some_where p f h (x ∷ xs) =
+    (ap (λ (b : Bool). b || list_any p xs) (h x) ∙ ap (λ (b : Bool). nat_lt 0 (f x) || b) (some_where p f h xs)) ∙ (sym (some_of (f x) (sum_by f xs)) ∙ ap (λ (n : ℕ). nat_lt 0 n) (sym (sum_by-cons f x xs)))
+
+pub pinned_is : (run : Run) (file : ℕ) → is_pinned run file ≡ nat_lt 0 (pins_of run file)
+pinned_is run file = some_where (λ (e : RunEvent). list_any (λ (p : Pin). p.file == file) e.pins && not (has_unpinned e.request run)) (pins_in run file) (λ e. by_test (has_unpinned e.request run) (list_any (λ (p : Pin). p.file == file) e.pins) (count_by (λ (p : Pin). p.file == file) e.pins) (counted e.pins)) run.events
+  where
+    one : (b : Bool) → b ≡ nat_lt 0 (cond b 1 0)
+    one true = refl
+    one false = refl
+
+    counted : (ps : List Pin) → list_any (λ (p : Pin). p.file == file) ps ≡ nat_lt 0 (count_by (λ (p : Pin). p.file == file) ps)
+    counted ps = some_where (λ (p : Pin). p.file == file) (λ (p : Pin). cond (p.file == file) 1 0) (λ p. one (p.file == file)) ps
+
+    by_test : (unpinned there : Bool) (many : ℕ) → there ≡ nat_lt 0 many → (there && not unpinned) ≡ nat_lt 0 (cond unpinned 0 many)
+    by_test true true many e = refl
+    by_test true false many e = refl
+    by_test false true many e = e
+    by_test false false many e = e
+
+pub used_still : (run : Run) (event : RunEvent) (file : ℕ) → event.doomed ≡ [] → event.removed ≡ [] → was_used (and_then run event) file ≡ was_used run file
+used_still run event file none stay =
+    any_still (λ (e : RunEvent). is_one_of e.doomed file || is_one_of e.removed file) run.events event
+    (ap (λ (fs : List ℕ). is_one_of fs file || is_one_of event.removed file) none ∙ ap (λ (fs : List ℕ). is_one_of fs file) stay)
 
 pub doomed_still : (run : Run) (event : RunEvent) (file : ℕ) → event.doomed ≡ [] → event.removed ≡ [] → is_doomed (and_then run event) file ≡ is_doomed run file
 doomed_still run event file none stay =
-    ap (λ (b : Bool). b && not (list_any (λ (e : RunEvent). is_one_of e.removed file) (run.events ++ event ∷ []))) (ever_doomed_still run event file none)
+    ap (λ (b : Bool). b && not (list_any (λ (e : RunEvent). is_one_of e.removed file) (run.events ++ event ∷ []))) (any_still (λ (e : RunEvent). is_one_of e.doomed file) run.events event (ap (λ (fs : List ℕ). is_one_of fs file) none))
     ∙ ap (λ (b : Bool). list_any (λ (e : RunEvent). is_one_of e.doomed file) run.events && not b) (any_still (λ (e : RunEvent). is_one_of e.removed file) run.events event (ap (λ (fs : List ℕ). is_one_of fs file) stay))
 
 pub given_still : (run : Run) (event : RunEvent) (guid : List ℕ) → event.given ≡ [] → was_given (and_then run event) guid ≡ was_given run guid
@@ -77,16 +117,16 @@ comes_to_on run event old new h come due leaves same = record {
       let c = h.due uid in
       let d = due uid in
       omega (arith, a, b, c, d);
-  pinned = λ file. pinned_still run event file leaves.pins leaves.unpins ∙ (h.pinned file ∙ sym (same.pinned file));
+  pins = λ file. pins_still run event file leaves.pins leaves.unpins ∙ (h.pins file ∙ sym (same.pins file));
   doomed = λ file. doomed_still run event file leaves.doomed leaves.removed ∙ (h.doomed file ∙ sym (same.doomed file));
-  once_doomed = λ file e. same.once_doomed file ∙ h.once_doomed file (sym (ever_doomed_still run event file leaves.doomed) ∙ e);
+  used = λ file e. same.used file ∙ h.used file (sym (used_still run event file leaves.doomed leaves.removed) ∙ e);
   gave = λ guid e. same.gave guid ∙ h.gave guid (sym (given_still run event guid leaves.given) ∙ e);
 }
 
 -- It does so with an event that leaves all.
 pub comes_to_still : (run : Run) (event : RunEvent) (seen : Seen) → HasComeTo run seen → HasCome (and_then run event) seen.map seen.drawn (told_calls seen.history) → ((uid : ℕ) → begun_in uid event ≡ ended_in uid event) → LeavesFiles event
     → HasComeTo (and_then run event) seen
-comes_to_still run event seen h come due leaves = comes_to_on run event seen seen h come (λ uid. let e = due uid in omega (arith, e)) leaves (record { pinned = λ file. refl; doomed = λ file. refl; once_doomed = λ file. refl; gave = λ guid. refl })
+comes_to_still run event seen h come due leaves = comes_to_on run event seen seen h come (λ uid. let e = due uid in omega (arith, e)) leaves (record { pins = λ file. refl; doomed = λ file. refl; used = λ file. refl; gave = λ guid. refl })
 
 pub no_guids : (run : Run) (event : RunEvent) → event.given ≡ [] → GivesNew run event
 no_guids run event none = subst (λ (gs : List (List ℕ)). All (λ guid. was_given run guid ≡ false) gs) (sym none) (All-nil _)
@@ -102,8 +142,11 @@ neither false there h none = refl
 pub is_new : (run : Run) (seen : Seen) (guid : List ℕ) → HasComeTo run seen → seen.gave guid ≡ false → was_given run guid ≡ false
 is_new run seen guid h none = neither (was_given run guid) (seen.gave guid) (h.gave guid) none
 
-pub never_doomed : (run : Run) (seen : Seen) (file : ℕ) → HasComeTo run seen → seen.once_doomed file ≡ false → was_doomed run file ≡ false
-never_doomed run seen file h none = neither (was_doomed run file) (seen.once_doomed file) (h.once_doomed file) none
+pub never_used : (run : Run) (seen : Seen) (file : ℕ) → HasComeTo run seen → seen.used file ≡ false → was_used run file ≡ false
+never_used run seen file h none = neither (was_used run file) (seen.used file) (h.used file) none
+
+pub pinned_as : (run : Run) (seen : Seen) (file : ℕ) → HasComeTo run seen → is_pinned run file ≡ nat_lt 0 (seen.pins file)
+pinned_as run seen file h = pinned_is run file ∙ ap (λ (n : ℕ). nat_lt 0 n) (h.pins file)
 
 -- ---- what a stage may read
 
@@ -126,7 +169,7 @@ until_still file (x ∷ xs) event e = by_test (is_one_of x.doomed file) refl (λ
         let later : list_any (λ (e : RunEvent). is_one_of e.doomed file) xs ≡ true = sym (ap (λ (b : Bool). b || list_any (λ (e : RunEvent). is_one_of e.doomed file) xs) t) ∙ e in
         ap (λ (b : Bool). cond b (x ∷ []) (x ∷ until_doomed file (xs ++ event ∷ []))) t ∙ (ap (λ (l : List RunEvent). x ∷ l) (rest later) ∙ sym (ap (λ (b : Bool). cond b (x ∷ []) (x ∷ until_doomed file xs)) t))
 
-pub was_pinned_still : (run : Run) (event : RunEvent) (file : ℕ) → was_doomed run file ≡ true → was_pinned (and_then run event) file ≡ was_pinned run file
+pub was_pinned_still : (run : Run) (event : RunEvent) (file : ℕ) → list_any (λ e. is_one_of e.doomed file) run.events ≡ true → was_pinned (and_then run event) file ≡ was_pinned run file
 was_pinned_still run event file doomed = ap (λ (es : List RunEvent). is_pinned (record run { events = es }) file) (until_still file run.events event doomed)
 
 until_first : (file : ℕ) (event : RunEvent) → is_one_of event.doomed file ≡ true → (events : List RunEvent) → list_any (λ (e : RunEvent). is_one_of e.doomed file) events ≡ false → until_doomed file (events ++ event ∷ []) ≡ events ++ event ∷ []
@@ -138,9 +181,24 @@ until_first file event now (x ∷ xs) none = by_test (is_one_of x.doomed file) r
     by_test false t rest =
         ap (λ (b : Bool). cond b (x ∷ []) (x ∷ until_doomed file (xs ++ event ∷ []))) t ∙ ap (λ (l : List RunEvent). x ∷ l) (rest (sym (ap (λ (b : Bool). b || list_any (λ (e : RunEvent). is_one_of e.doomed file) xs) t) ∙ none))
 
--- an event that dooms a file that none doomed before
-pub first_doomed : (run : Run) (event : RunEvent) (file : ℕ) → was_doomed run file ≡ false → is_one_of event.doomed file ≡ true → was_pinned (and_then run event) file ≡ is_pinned (and_then run event) file
-first_doomed run event file none now = ap (λ (es : List RunEvent). is_pinned (record run { events = es }) file) (until_first file event now run.events none)
+-- an event that dooms a new file: none doomed it before, or removed it
+none_doomed : (file : ℕ) (events : List RunEvent) → list_any (λ (e : RunEvent). is_one_of e.doomed file || is_one_of e.removed file) events ≡ false → (list_any (λ (e : RunEvent). is_one_of e.doomed file) events ≡ false) × (list_any (λ (e : RunEvent). is_one_of e.removed file) events ≡ false)
+none_doomed file [] e = (refl, refl)
+none_doomed file (x ∷ xs) e = by_tests (is_one_of x.doomed file) (is_one_of x.removed file) (list_any (λ (e : RunEvent). is_one_of e.doomed file || is_one_of e.removed file) xs) (λ later. none_doomed file xs later) e
+  where
+    by_tests : (a b rest : Bool) → (rest ≡ false → (list_any (λ (e : RunEvent). is_one_of e.doomed file) xs ≡ false) × (list_any (λ (e : RunEvent). is_one_of e.removed file) xs ≡ false)) → ((a || b) || rest) ≡ false
+        → ((a || list_any (λ (e : RunEvent). is_one_of e.doomed file) xs) ≡ false) × ((b || list_any (λ (e : RunEvent). is_one_of e.removed file) xs) ≡ false)
+    by_tests false false rest h e = h e
+    by_tests false true rest h e = absurd (let k : true ≡ false = e in cc k)
+    by_tests true b rest h e = absurd (let k : true ≡ false = e in cc k)
+
+pub first_doomed : (run : Run) (event : RunEvent) (file : ℕ) → was_used run file ≡ false → is_one_of event.doomed file ≡ true → event.removed ≡ [] → (was_pinned (and_then run event) file ≡ is_pinned (and_then run event) file) × (is_doomed (and_then run event) file ≡ true)
+first_doomed run event file none now stay =
+    let free = none_doomed file run.events none in (
+      ap (λ (es : List RunEvent). is_pinned (record run { events = es }) file) (until_first file event now run.events free.0),
+      ap (λ (b : Bool). b && not (list_any (λ (e : RunEvent). is_one_of e.removed file) (run.events ++ event ∷ []))) (any_push (λ (e : RunEvent). is_one_of e.doomed file) run.events event ∙ (ap (λ (b : Bool). b || is_one_of event.doomed file) free.0 ∙ now))
+          ∙ ap (λ (b : Bool). not b) (any_still (λ (e : RunEvent). is_one_of e.removed file) run.events event (ap (λ (fs : List ℕ). is_one_of fs file) stay) ∙ free.1),
+    )
 
 -- that no other request gave a GUID that was given
 pub others_still : (run : Run) (event : RunEvent) (other : ℕ) (guid : List ℕ) → event.request ≢ other → GivesNew run event → was_given run guid ≡ true → All (λ g. g ≢ guid) (given_by_others other run) → All (λ g. g ≢ guid) (given_by_others other (and_then run event))

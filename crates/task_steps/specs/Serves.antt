@@ -16,7 +16,7 @@ use Rattle.model_store.specs.Safe.{Safe}
 use Rattle.model_store.specs.Settled.{IsSettledFor}
 use Rattle.task_steps.specs.Step.{Seen, ShowsSeen, HasComeTo}
 
--- At this moment the image is safe for lists that a stop may leave.
+-- At this moment the image is safe for lists that a crash may leave.
 abbrev pub IsReached : Lists → Run → List JournalStep → Broken → ℕ → Files → Type 0
 IsReached start run journal broken m image = (lists : Lists) × Reached start run journal broken m lists × Safe image lists
 

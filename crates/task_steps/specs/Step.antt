@@ -1,5 +1,5 @@
 -- What an event of a task did: to the journal, to the disk, and by what its request ended.
-use Rattle.std.specs.Prelude.{◌≡◌, ◌≢◌, ◌≤◌, ◌↔◌, ◌+◌, ◌++◌, ◌∷◌, ℕ, Bool, true, false, List, [], All, flat_map, sum_by, length, slice_get, Option, Some, None, is_some}
+use Rattle.std.specs.Prelude.{◌≡◌, ◌≢◌, ◌≤◌, ◌↔◌, ◌+◌, ◌==◌, ◌||◌, ◌++◌, ◌∷◌, ℕ, Bool, true, false, List, [], All, flat_map, sum_by, count_by, length, if◌then◌else◌, slice_get, Option, Some, None, is_some}
 use Rattle.std.specs.List.{list_any}
 use Rattle.std.specs.Str.{bytes_eq}
 use Rattle.disk_model.specs.Disk.{History, Faults}
@@ -13,7 +13,7 @@ use Rattle.model_lists.specs.Lists.{Lists, AreWellFormed}
 use Rattle.model_meaning.specs.BoxMeaning.{BoxMeaning}
 use Rattle.model_meaning.specs.MapMeaning.{MapMeaning}
 use Rattle.model_store.specs.Listing.{ShowLists}
-use Rattle.list_machine.specs.Run.{RunEvent, Run, and_then, own_events, is_one_of, is_pinned, is_doomed}
+use Rattle.list_machine.specs.Run.{RunEvent, Run, and_then, own_events, is_one_of, has_unpinned, is_doomed}
 use Rattle.journal.specs.Journal.{half_of, halves_of, IsReplyOf}
 use Rattle.journal.specs.Events.{Around, begun_in, ended_in}
 use Rattle.journal.specs.Makes.{HasCome, WouldMake, Makes}
@@ -28,8 +28,9 @@ use Rattle.mdbox_base.specs.declared.progress.Progress.TheVariants as progress
 -- ---- a store as an event begins or ends
 
 -- What is seen of a store: what its map and the logs of its mailboxes mean, the numbers drawn, what its disk tells, the
--- faults counted, and whether it is stopped. Then what it keeps of its tasks: how much is due of each record, which files are
--- pinned and which are doomed, and, of those that it may have used up, files once doomed and GUIDs given.
+-- faults counted, and whether it is stopped. Then what it keeps of its tasks: how much is due of each record, how many pins
+-- each file has, which files are doomed, and which are no new ones, that it may have doomed or removed; and the GUIDs that it
+-- may have given.
 pub record Seen : Type 0 where
   pub map : MapMeaning
   pub meanings : List BoxMeaning
@@ -38,9 +39,9 @@ pub record Seen : Type 0 where
   pub faults : Faults
   pub stopped : Bool
   pub due : ℕ → ℕ
-  pub pinned : ℕ → Bool
+  pub pins : ℕ → ℕ
   pub doomed : ℕ → Bool
-  pub once_doomed : ℕ → Bool
+  pub used : ℕ → Bool
   pub gave : List ℕ → Bool
 
 -- it shows the lists, which are well formed
@@ -51,19 +52,23 @@ ShowsSeen seen lists = AreWellFormed lists × ShowLists seen.map.boxes seen.mean
 abbrev pub was_given : Run → List ℕ → Bool
 was_given run guid = list_any (bytes_eq guid) (flat_map (λ e. e.given) run.events)
 
--- an event of the run doomed this file, which may be removed since
-abbrev pub was_doomed : Run → ℕ → Bool
-was_doomed run file = list_any (λ e. is_one_of e.doomed file) run.events
+-- how many pins a file has: those of requests that haven't unpinned
+abbrev pub pins_of : Run → ℕ → ℕ
+pins_of run file = sum_by (λ e. if has_unpinned e.request run then 0 else count_by (λ p. p.file == file) e.pins) run.events
+
+-- an event of the run doomed this file, or removed it
+abbrev pub was_used : Run → ℕ → Bool
+was_used run file = list_any (λ e. is_one_of e.doomed file || is_one_of e.removed file) run.events
 
 -- The run has come to where the store stands. Its entries, numbers and moments are the store's; of each record as much began
--- as ended and is due; its files are pinned and doomed as the store has them; and no event doomed a file or gave a GUID that
--- the store didn't.
+-- as ended and is due; its files are pinned and doomed as the store has them; and events used files and gave GUIDs only if
+-- the store may have.
 pub record HasComeTo (run : Run) (seen : Seen) : Type 0 where
   pub come : HasCome run seen.map seen.drawn (told_calls seen.history)
   pub due : (uid : ℕ) → sum_by (begun_in uid) run.events ≡ seen.due uid + sum_by (ended_in uid) run.events
-  pub pinned : (file : ℕ) → is_pinned run file ≡ seen.pinned file
+  pub pins : (file : ℕ) → pins_of run file ≡ seen.pins file
   pub doomed : (file : ℕ) → is_doomed run file ≡ seen.doomed file
-  pub once_doomed : (file : ℕ) → was_doomed run file ≡ true → seen.once_doomed file ≡ true
+  pub used : (file : ℕ) → was_used run file ≡ true → seen.used file ≡ true
   pub gave : (guid : List ℕ) → was_given run guid ≡ true → seen.gave guid ≡ true
 
 -- ---- the disk
@@ -128,7 +133,7 @@ abbrev pub GivesNew : Run → RunEvent → Type 0
 GivesNew run event = All (λ guid. was_given run guid ≡ false) event.given
 
 -- What an event did, of a run and of lists: which event of the run it was and what it answered, the lists that the store shows
--- now, that the run with it has come to the store, what a stop within it leaves, and how its request ended, if it did.
+-- now, that the run with it has come to the store, what a crash within it leaves, and how its request ended, if it did.
 pub record DidEvent (around after : Around) (run : Run) (lane place : ℕ) (said : List Reply) (request : Request) (lists : Lists) (old new : Seen) (did : Did) (ended : Option Reply) : Type 0 where
   pub left : Lists
   pub shown : ShowsSeen new left

@@ -13,7 +13,7 @@ pub record LeavesFiles (event : RunEvent) : Type 0 where
 
 -- a store tells the same of files and GUIDs as before
 pub record TellsSame (old new : Seen) : Type 0 where
-  pub pinned : (file : ℕ) → new.pinned file ≡ old.pinned file
+  pub pins : (file : ℕ) → new.pins file ≡ old.pins file
   pub doomed : (file : ℕ) → new.doomed file ≡ old.doomed file
-  pub once_doomed : (file : ℕ) → new.once_doomed file ≡ old.once_doomed file
+  pub used : (file : ℕ) → new.used file ≡ old.used file
   pub gave : (guid : List ℕ) → new.gave guid ≡ old.gave guid

@@ -1,9 +1,10 @@
 // Events of tasks compose.
-ghost use Rattle.std.specs.Prelude.{◌≡◌, ◌≢◌, true, false, ◌≤◌, ◌<◌, ◌+◌, All, length, ◌++◌, ◌∷◌, [], ℕ, List, Option, Some, None, is_some, map, count_by, slice_get};
+ghost use Rattle.std.specs.Prelude.{◌≡◌, ◌≢◌, true, false, ◌≤◌, ◌<◌, ◌+◌, nat_lt, All, length, ◌++◌, ◌∷◌, [], ℕ, List, Option, Some, None, is_some, map, count_by, slice_get};
+ghost use Rattle.std.specs.List.{list_any};
 ghost use Rattle.mdbox_base.specs.declared.requests.Request.{Request};
 ghost use Rattle.mdbox_base.specs.declared.replies.Reply.{Reply};
 ghost use Rattle.model_lists.specs.Lists.{Mailbox, Lists};
-ghost use Rattle.list_machine.specs.Run.{First, RunEvent, Run, and_then, own_events, reply_of, given_by_others, is_one_of, is_pinned};
+ghost use Rattle.list_machine.specs.Run.{First, RunEvent, Run, and_then, own_events, reply_of, given_by_others, is_one_of, is_pinned, is_doomed};
 ghost use Rattle.journal.specs.Journal.{Requests, JournalStep, left_by, Broken, no_broken, HasReply, is_read_fault, steps_of};
 ghost use Rattle.journal.specs.Events.{Around, IsRecord, makes_step, is_faulted, begun_in, ended_in, due_of, number_of, was_pinned};
 ghost use Rattle.journal.specs.Found.{AgreesWithRun};
@@ -20,7 +21,7 @@ ghost use Rattle.journal.specs.Stages.{Stage, ToRemove, ToLower, removal};
 ghost use Rattle.task_steps.specs.ExpungeStages.{StandsAtStage, one_due, behind_box, behind_lowering};
 ghost use Rattle.mdbox_base.specs.declared.progress.Did.TheVariants as did;
 ghost use Rattle.mdbox_base.specs.declared.script.Half.TheVariants as half;
-ghost use Rattle.task_steps.specs.Step.{Seen, ShowsSeen, was_given, was_doomed, HasComeTo, Leads, and_told, GivesNew, DidEvent, IsKept, HasNotBegun};
+ghost use Rattle.task_steps.specs.Step.{Seen, ShowsSeen, was_given, was_used, HasComeTo, Leads, and_told, GivesNew, DidEvent, IsKept, HasNotBegun};
 ghost use Rattle.task_steps.specs.Tells.{LeavesFiles, TellsSame};
 ghost use Rattle.task_steps.specs.Serves.{Serves, IsTurn, Follows};
 ghost use Rattle.mdbox_base.specs.declared.progress.Did.{Did};
@@ -65,7 +66,7 @@ pub fn stages_stay()
 pub fn stages_are_kept()
     ensures unbegun { IsKept HasNotBegun }
     ensures number { (run : Run) (event : RunEvent) (other : ℕ) → event.request ≢ other → number_of (and_then run event) other ≡ number_of run other }
-    ensures pinned { (run : Run) (event : RunEvent) (file : ℕ) → was_doomed run file ≡ true → was_pinned (and_then run event) file ≡ was_pinned run file }
+    ensures pinned { (run : Run) (event : RunEvent) (file : ℕ) → list_any (λ e. is_one_of e.doomed file) run.events ≡ true → was_pinned (and_then run event) file ≡ was_pinned run file }
     ensures guid { (run : Run) (event : RunEvent) (other : ℕ) (guid : List ℕ) → event.request ≢ other → GivesNew run event → was_given run guid ≡ true → All (λ g. g ≢ guid) (given_by_others other run) → All (λ g. g ≢ guid) (given_by_others other (and_then run event)) }
 {}
 
@@ -73,9 +74,10 @@ pub fn stages_are_kept()
 pub fn stores_tell()
     ensures due { (run : Run) (seen : Seen) (uid : ℕ) → HasComeTo run seen → due_of run uid ≡ seen.due uid }
     ensures new_guid { (run : Run) (seen : Seen) (guid : List ℕ) → HasComeTo run seen → seen.gave guid ≡ false → was_given run guid ≡ false }
-    ensures undoomed { (run : Run) (seen : Seen) (file : ℕ) → HasComeTo run seen → seen.once_doomed file ≡ false → was_doomed run file ≡ false }
-    // A file is first doomed: it was pinned then as it is now.
-    ensures dooms { (run : Run) (event : RunEvent) (file : ℕ) → was_doomed run file ≡ false → is_one_of event.doomed file ≡ true → was_pinned (and_then run event) file ≡ is_pinned (and_then run event) file }
+    ensures pinned { (run : Run) (seen : Seen) (file : ℕ) → HasComeTo run seen → is_pinned run file ≡ nat_lt 0 (seen.pins file) }
+    ensures unused { (run : Run) (seen : Seen) (file : ℕ) → HasComeTo run seen → seen.used file ≡ false → was_used run file ≡ false }
+    // A new file is doomed: it was pinned then as it is now.
+    ensures dooms { (run : Run) (event : RunEvent) (file : ℕ) → was_used run file ≡ false → is_one_of event.doomed file ≡ true → event.removed ≡ [] → (was_pinned (and_then run event) file ≡ is_pinned (and_then run event) file) × (is_doomed (and_then run event) file ≡ true) }
     // The run comes on with an event that leaves files and GUIDs.
     ensures on { (run : Run) (event : RunEvent) (old new : Seen) → HasComeTo run old → HasCome (and_then run event) new.map new.drawn (told_calls new.history) → ((uid : ℕ) → new.due uid + ended_in uid event ≡ old.due uid + begun_in uid event)
         → LeavesFiles event → TellsSame old new → HasComeTo (and_then run event) new }

@@ -3,7 +3,7 @@ use Rattle.std.specs.Prelude.{AllPairs, ◌↔◌}
 use Rattle.model_meaning.specs.MapFits.{AgreesOn}
 use Rattle.map_index.proofs.fitting.agree_among.Given as goal
 
--- the instances agree exactly where the rest does
+-- the instances agree if and only if the rest does
 abbrev pub invariant-loop-first : goal.invariant-loop-first
 invariant-loop-first l = AllPairs AgreesOn l.rest ↔ AllPairs AgreesOn l.fn.instances
 

@@ -1,6 +1,5 @@
 use Rattle.std.proofs.Common.{sym, ap, subst, ◌∙◌}
 use Rattle.disk_model.specs.Disk.{IfTold}
-use Rattle.disk_model.specs.FaultCounts.{NoFault, AnyFaultCounted}
 use Rattle.model_store.specs.Settled.{IsSettled}
 use Rattle.model_store.specs.Opening.{empty_inbox}
 use Rattle.store_open.specs.Making.{IsMadeStore}

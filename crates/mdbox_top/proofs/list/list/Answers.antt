@@ -1,7 +1,6 @@
 use Rattle.std.proofs.Common.{inr, sym, ap, subst, ◌∙◌}
-use Rattle.disk_model.specs.FaultCounts.{NoFault, AnyFaultCounted}
+use Rattle.disk_model.specs.FaultCounts.{NoFault}
 use Rattle.model_store.specs.Settled.{IsSettledFor}
-use Rattle.store_core.specs.Running.{IsStore}
 use Rattle.store_core.specs.Value.{indexes_of}
 use Rattle.store_open.specs.Opened.{IsOpenedAs, StoreCarries}
 use Rattle.store_sweep.specs.Swept.{IsSwept}
@@ -32,7 +31,7 @@ returns-in-Ok-clause-ends g c =
       };
       serves = λ lists safe. subst (λ d. ServesRequest (request.List c.args.name) lists shown.0 (g.D.Disk.faults c.args.disk) (g.D.Disk.faults d) (g.D.Disk.history c.args.disk) (g.D.Disk.history d)) back
           (subst (λ n. ServesRequest (request.List c.args.name) lists shown.0 n (g.D.Disk.faults c.in-Ok.store.disk) (g.D.Disk.history c.args.disk) (g.D.Disk.history c.in-Ok.store.disk)) (c.in-Ok.ensures.unfailed (λ f. f))
-          (list_served c.args.name lists shown.0 (g.D.Disk.history c.args.disk) (g.D.Disk.history c.in-Ok.store.disk) (g.D.Disk.faults c.in-Ok.store.disk) c.in-Ok.store shown.1 c.in-Ok.ensures.opened c.facts.ensures c.in-Ok.ensures.state.3 c.in-Ok.ensures.state.1
+          (list_served c.args.name lists shown.0 (g.D.Disk.history c.args.disk) (g.D.Disk.history c.in-Ok.store.disk) (g.D.Disk.faults c.in-Ok.store.disk) c.in-Ok.store shown.1 c.in-Ok.ensures.opened c.facts.ensures c.in-Ok.ensures.state.3 c.in-Ok.ensures.state.4 c.in-Ok.ensures.state.1
           c.listings_are_shown.ensures.logs safe (unfaulted _ shown.0 shown.2) shown.3 c.in-Ok.ensures.any_moment (λ s. c.in-Ok.ensures.settled_again (λ f. absurd f) lists s)));
       printed = shown.4;
     })

@@ -1,7 +1,6 @@
-use Rattle.std.proofs.Common.{◌≡◌, refl, sym, ap, subst, ◌∙◌, arith}
+use Rattle.std.proofs.Common.{◌≡◌, refl, ap, ◌∙◌, arith}
 use Rattle.request_text.specs.Outcomes.{status_of}
 use Rattle.request_text.specs.declared.command.Command.TheVariants as command
-use Rattle.mdbox_top.specs.Run.{Ends}
 use Rattle.mdbox_top.proofs.ListLemmas.{unasked, unlisted}
 use Rattle.mdbox_top.proofs.run.mdbox_run.Goals as goal
 

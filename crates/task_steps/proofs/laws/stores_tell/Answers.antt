@@ -1,4 +1,4 @@
-use Rattle.task_steps.proofs.SeenLemmas.{due_is, is_new, never_doomed, first_doomed, comes_to_on}
+use Rattle.task_steps.proofs.SeenLemmas.{due_is, is_new, pinned_as, never_used, first_doomed, comes_to_on}
 use Rattle.task_steps.proofs.laws.stores_tell.Goals as goal
 
 pub returns-clause-due : goal.returns-clause-due
@@ -7,8 +7,11 @@ returns-clause-due c = due_is
 pub returns-clause-new_guid : goal.returns-clause-new_guid
 returns-clause-new_guid c = is_new
 
-pub returns-clause-undoomed : goal.returns-clause-undoomed
-returns-clause-undoomed c = never_doomed
+pub returns-clause-pinned : goal.returns-clause-pinned
+returns-clause-pinned c = pinned_as
+
+pub returns-clause-unused : goal.returns-clause-unused
+returns-clause-unused c = never_used
 
 pub returns-clause-dooms : goal.returns-clause-dooms
 returns-clause-dooms c = first_doomed

@@ -3,7 +3,7 @@ use Rattle.std.specs.Prelude.{AllPairs, ◌↔◌}
 use Rattle.model_meaning.specs.MapFits.{ArePlacedApart}
 use Rattle.map_index.proofs.index.MapIndex.are_apart.Given as goal
 
--- the places are apart exactly where the rest is
+-- the places are apart if and only if the rest is
 abbrev pub invariant-loop-first : goal.invariant-loop-first
 invariant-loop-first l = AllPairs (ArePlacedApart l.self) l.rest ↔ AllPairs (ArePlacedApart l.self) l.fn.moved
 
