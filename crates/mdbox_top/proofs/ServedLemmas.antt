@@ -37,6 +37,7 @@ use Rattle.journal.proofs.ReachedLemmas.{reached_last}
 use Rattle.task_steps.specs.Serves.{IsReached, IsTurn}
 use Rattle.store_core.specs.Value.{none_due, StoreValue, indexes_of, list_named}
 use Rattle.mail_ops.proofs.StageLemmas.{comes_at_first}
+use Rattle.model_meaning.proofs.SameMeaningLemmas.{means_itself}
 use Rattle.task_steps.specs.Step.{Seen, ShowsSeen, HasComeTo, DidEvent, Steps, ended_by}
 use Rattle.task_steps.proofs.FollowingLemmas.{follows_on, replies_on, told_on}
 use Rattle.task_steps.proofs.GoingLemmas.{serves_on}
@@ -47,7 +48,7 @@ use Rattle.mail_ops.specs.Listing.{Replies}
 use Rattle.mail_ops.specs.Task.{TaskValue, IsAt, seen_of}
 use Rattle.mail_ops.specs.declared.task.TaskStage.TheVariants as stage
 use Rattle.mdbox_top.specs.ListRun.{ListMoments}
-use Rattle.mdbox_top.specs.Served.{AreSafeFor, RunBegins, ServesRequest, DoesAlone}
+use Rattle.mdbox_top.specs.Served.{AreSafeFor, RunBegins, RunEnds, ServesRequest, DoesAlone}
 use Rattle.mdbox_top.proofs.ListLemmas.{LogsShow, shown_safe}
 
 -- ---- a listing leaves the lists
@@ -200,6 +201,10 @@ begins : (run : Run) (old : Option History) (entries : List MapEntry) (logs : Li
 begins run None entries logs opens means = tt
 begins run (Some h) entries logs opens means = (entries, logs, opens, means)
 
+ends : (run : Run) (m : MapMeaning) (new : Option History) (entries : List MapEntry) (logs : List (List BoxEntry)) → IfTold new (λ now. Opens (files_of now) run.store entries logs) → m ≡ map_meaning run.store entries → RunEnds run m new
+ends run m None entries logs opens is = tt
+ends run m (Some h) entries logs opens is = (entries, logs, opens, subst (λ (n : MapMeaning). MeansSame n m) is (means_itself m))
+
 each_map : (P Q : ℕ → Files → Type 0) (old new : Option History) → ((m : ℕ) (image : Files) → P m image → Q m image) → EachImage P old new → EachImage Q old new
 each_map P Q None new f e = e
 each_map P Q (Some old) None f e = e
@@ -230,8 +235,8 @@ list_served name lists given old mid faults s how o k drawn free running show sa
       broken = no_broken;
       m = s.map;
       drawn = s.drawn;
-      calls = told_calls mid;
       begins = begins (and_then run r.event) old o.entries o.logs o.opens (subst (λ (n : MapMeaning). MeansSame (map_meaning s.map.store o.entries) n) k.map_is o.means);
+      ends = λ unstopped. ends (and_then run r.event) s.map mid k.entries k.logs (k.running running).opens k.map_is;
       served = r.served;
       crash = λ sure. each_map (λ m image. Safe image lists) (IsReached lists (and_then run r.event) (steps_made run (request.List name) r.event r.answer r.left) no_broken) old mid
           (λ m image is. (left_by lists (steps_made run (request.List name) r.event r.answer r.left), reached_last lists (and_then run r.event) (steps_made run (request.List name) r.event r.answer r.left) no_broken m, subst (Safe image) (sym stays) is))

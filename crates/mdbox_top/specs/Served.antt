@@ -1,6 +1,6 @@
 -- What a request alone makes of a store, and how it ends.
 use Rattle.std.specs.Prelude.{◌≡◌, ◌⊎◌, ℕ, List, [], ◌∷◌, Option, Some, None}
-use Rattle.disk_model.specs.Disk.{History, Faults, EachImage, IfTold, IsIdle}
+use Rattle.disk_model.specs.Disk.{told_calls, History, Faults, EachImage, IfTold, IsIdle}
 use Rattle.mdbox_base.specs.Streams.{Appended}
 use Rattle.mdbox_base.specs.declared.entries.BoxEntry.{BoxEntry}
 use Rattle.mdbox_base.specs.declared.entries.Highest.{Highest}
@@ -42,19 +42,24 @@ AreSafeFor lists (Some history) = Safe (files_of history.now) lists
 abbrev pub RunBegins : Run → Option History → Type 0
 RunBegins run old = IfTold old (λ disk. (entries : List MapEntry) × (logs : List (List BoxEntry)) × Opens (files_of disk) run.store entries logs × MeansSame (map_meaning run.store entries) (map_meaning run.store run.start))
 
+-- The files open, and their map log means the same as this.
+abbrev pub RunEnds : Run → MapMeaning → Option History → Type 0
+RunEnds run m new = IfTold new (λ disk. (entries : List MapEntry) × (logs : List (List BoxEntry)) × Opens (files_of disk) run.store entries logs × MeansSame (map_meaning run.store entries) m)
+
 -- The request is a script of its own, on one lane. From these lists, for which the files were safe, it was served legally,
--- by a run that begins with the map log of the files, and was replied this. Of a disk that was settled for the lists each
--- crash image since is safe for lists that the journal reaches; and the disk is settled for the lists that the journal
--- leaves, unless a change of it failed.
+-- by a run that begins with the map log of the files, and was replied this. The run has come to where the disk is now: to what
+-- its map log means, unless a change of it failed, and to its number of calls, so that by now every step is acknowledged. Of a
+-- disk that was settled for the lists each crash image since is safe for lists that the journal reaches; and the disk is settled
+-- for the lists that the journal leaves, unless a change of it failed.
 pub record ServesRequest (request : Request) (lists : Lists) (given : Reply) (began now : Faults) (old new : Option History) : Type 0 where
   pub run : Run
   pub journal : List JournalStep
   pub broken : Broken
   pub m : MapMeaning
   pub drawn : Highest
-  pub calls : ℕ
   pub begins : RunBegins run old
-  pub served : IsServed lists ((1, request) ∷ []) run journal broken (Some given ∷ []) began now (map_meaning run.store run.start) m drawn calls
+  pub ends : (given ≡ reply.Refused refusal.Stopped → ⊥) → RunEnds run m new
+  pub served : IsServed lists ((1, request) ∷ []) run journal broken (Some given ∷ []) began now (map_meaning run.store run.start) m drawn (told_calls new)
   pub crash : IsSettledFor lists old → EachImage (IsReached lists run journal broken) old new
   pub settled : (given ≡ reply.Refused refusal.Stopped → ⊥) → IsSettledFor lists old → IsSettledFor (left_by lists journal) new
 
