@@ -48,7 +48,7 @@ use Rattle.mail_ops.specs.Listing.{Replies}
 use Rattle.mail_ops.specs.Task.{TaskValue, IsAt, seen_of}
 use Rattle.mail_ops.specs.declared.task.TaskStage.TheVariants as stage
 use Rattle.mdbox_top.specs.ListRun.{ListMoments}
-use Rattle.mdbox_top.specs.Served.{AreSafeFor, RunBegins, RunEnds, ServesRequest, DoesAlone}
+use Rattle.mdbox_top.specs.Served.{AreSafeFor, RunBegins, RunHasCome, ServesRequest, DoesAlone}
 use Rattle.mdbox_top.proofs.ListLemmas.{LogsShow, shown_safe}
 
 -- ---- a listing leaves the lists
@@ -201,7 +201,7 @@ begins : (run : Run) (old : Option History) (entries : List MapEntry) (logs : Li
 begins run None entries logs opens means = tt
 begins run (Some h) entries logs opens means = (entries, logs, opens, means)
 
-ends : (run : Run) (m : MapMeaning) (new : Option History) (entries : List MapEntry) (logs : List (List BoxEntry)) → IfTold new (λ now. Opens (files_of now) run.store entries logs) → m ≡ map_meaning run.store entries → RunEnds run m new
+ends : (run : Run) (m : MapMeaning) (new : Option History) (entries : List MapEntry) (logs : List (List BoxEntry)) → IfTold new (λ now. Opens (files_of now) run.store entries logs) → m ≡ map_meaning run.store entries → RunHasCome run m new
 ends run m None entries logs opens is = tt
 ends run m (Some h) entries logs opens is = (entries, logs, opens, subst (λ (n : MapMeaning). MeansSame n m) is (means_itself m))
 

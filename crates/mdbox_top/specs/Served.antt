@@ -43,8 +43,8 @@ abbrev pub RunBegins : Run → Option History → Type 0
 RunBegins run old = IfTold old (λ disk. (entries : List MapEntry) × (logs : List (List BoxEntry)) × Opens (files_of disk) run.store entries logs × MeansSame (map_meaning run.store entries) (map_meaning run.store run.start))
 
 -- The files open, and their map log means the same as this.
-abbrev pub RunEnds : Run → MapMeaning → Option History → Type 0
-RunEnds run m new = IfTold new (λ disk. (entries : List MapEntry) × (logs : List (List BoxEntry)) × Opens (files_of disk) run.store entries logs × MeansSame (map_meaning run.store entries) m)
+abbrev pub RunHasCome : Run → MapMeaning → Option History → Type 0
+RunHasCome run m new = IfTold new (λ disk. (entries : List MapEntry) × (logs : List (List BoxEntry)) × Opens (files_of disk) run.store entries logs × MeansSame (map_meaning run.store entries) m)
 
 -- The request is a script of its own, on one lane. From these lists, for which the files were safe, it was served legally,
 -- by a run that begins with the map log of the files, and was replied this. The run has come to where the disk is now: to what
@@ -58,7 +58,7 @@ pub record ServesRequest (request : Request) (lists : Lists) (given : Reply) (be
   pub m : MapMeaning
   pub drawn : Highest
   pub begins : RunBegins run old
-  pub ends : (given ≡ reply.Refused refusal.Stopped → ⊥) → RunEnds run m new
+  pub ends : (given ≡ reply.Refused refusal.Stopped → ⊥) → RunHasCome run m new
   pub served : IsServed lists ((1, request) ∷ []) run journal broken (Some given ∷ []) began now (map_meaning run.store run.start) m drawn (told_calls new)
   pub crash : IsSettledFor lists old → EachImage (IsReached lists run journal broken) old new
   pub settled : (given ≡ reply.Refused refusal.Stopped → ⊥) → IsSettledFor lists old → IsSettledFor (left_by lists journal) new
