@@ -28,10 +28,10 @@ InitOutcome id held later old new outcome.NoMemory = (later ≡ held) × (NeverH
 InitOutcome id held later old new outcome.DiskFault = later ≡ held
 InitOutcome id held later old new other = ⊥
 
--- A crash at any moment of an `init` that began when no crash image had a root entry: each image has none, or is safe for an
--- empty INBOX. If a store may not be made here, nothing changes, whatever the result.
-pub record InitMoments (old new : Option History) : Type 0 where
-  pub each : NeverHasStore old → EachImage (λ _ image. HasNothingOrInbox image) old new
+-- A crash at any moment of an `init` that began when no crash image had a root entry: each image has none, or has the new store
+-- with this id, safe for an empty INBOX. If a store may not be made here, nothing changes, whatever the result.
+pub record InitMoments (id : List ℕ) (old new : Option History) : Type 0 where
+  pub each : NeverHasStore old → EachImage (λ _ image. HasNothingOrInbox id image) old new
   pub untouched : IdleUnless IsFreeForStore old new
 
 -- the disk is modelled, and a store may be made here

@@ -32,7 +32,7 @@ pub record RunOutcome (May : Outcome → Type 0) (status : ℕ) (held : Option (
 
 -- What a crash at any moment of the command may leave.
 abbrev pub Moments : Command → Option History → Option History → Type 0
-Moments (command.Init id) old new = InitMoments old new
+Moments (command.Init id) old new = InitMoments id.0 old new
 Moments (command.List name) old new = ListMoments old new
 Moments other old new = new ≡ old
 

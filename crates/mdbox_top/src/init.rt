@@ -18,7 +18,7 @@ use store_open::{OpenRefused, init_store};
 pub fn init<D: Disk, O: Sink>(alloc: Global, id: StoreId, disk: D, output: &mut O) -> (Outcome, D)
     requires id { (length id.0 ≡ 8) × IsOctets id.0 }
     ensures ends { InitOutcome id.0 (O.held output.old) (O.held output.new) (D.history disk) (D.history result.1) result.0 }
-    ensures moments { InitMoments (D.history disk) (D.history result.1) }
+    ensures moments { InitMoments id.0 (D.history disk) (D.history result.1) }
     ensures disk_fault { AnyFaultCounted (result.0 ≡ outcome.DiskFault) (D.faults disk) (D.faults result.1) }
     ensures disk_quiet { result.0 ≢ outcome.DiskFault → NoFault (D.faults disk) (D.faults result.1) }
     ensures write_fault { result.0 ≡ outcome.WriteFault → Rose (O.faults output.old) (O.faults output.new) }

@@ -6,6 +6,4 @@ pub use lists::{PlainLists, PlainMailbox, PlainMessage};
 mod lists;
 mod messages;
 mod serve;
-#[cfg(test)]
-mod tests;
 mod walks;

@@ -42,6 +42,9 @@ impl Model for PlainLists {
 }
 
 impl PlainLists {
+    ghost use Rattle.std.specs.Prelude.{map};
+    ghost use Rattle.plain_lists.specs.View.{mailbox_of};
+
     /// No mailbox.
     pub fn empty(alloc: Global) -> PlainLists
         ensures { result ≡ [] }
@@ -49,5 +52,12 @@ impl PlainLists {
         PlainLists {
             mailboxes: Vec::new(alloc),
         }
+    }
+
+    /// These mailboxes, in the order in which they were made.
+    pub fn of(mailboxes: Vec<PlainMailbox>) -> PlainLists
+        ensures { result ≡ map mailbox_of mailboxes.items }
+    {
+        PlainLists { mailboxes }
     }
 }

@@ -141,10 +141,10 @@ pub map-is-no-root : file.Map 1 ≢ file.Root
 map-is-no-root = map-root
 
 -- while another log is made, the root log has no entry
-pub without-root : (Q : Files → Type 0) (name : FileName) (old new : Option History) → name ≢ file.Root → IfTold old (λ disk. NeverHasEntry (disk file.Root))
-    → EachImage (λ _ image. Q image × OthersStay name old image) old new → EachImage (λ _ image. HasNothingOrInbox image) old new
-without-root Q name None new apart never each = each
-without-root Q name (Some old) new apart never each =
+pub without-root : (store : List ℕ) (Q : Files → Type 0) (name : FileName) (old new : Option History) → name ≢ file.Root → IfTold old (λ disk. NeverHasEntry (disk file.Root))
+    → EachImage (λ _ image. Q image × OthersStay name old image) old new → EachImage (λ _ image. HasNothingOrInbox store image) old new
+without-root store Q name None new apart never each = each
+without-root store Q name (Some old) new apart never each =
     each_image-map _ _ (Some old) new (λ m image is. inl (never (image file.Root) (is.1 file.Root (λ e. apart (sym e))))) each
 
 inbox-never : (store : List ℕ) (disk : DiskState) → HasInbox store disk → NeverHasEntry (disk file.Root)
@@ -204,14 +204,14 @@ new-store store disk image p stay root = record {
 }
 
 root-image : (store : List ℕ) (disk : DiskState) (image : Files) → HasMapLog store disk → IsBeingMade (new_root_head store) (root_text first_root) (disk file.Root) (image file.Root)
-    → ((other : FileName) → other ≢ file.Root → MayLeave (disk other) (image other)) → HasNothingOrInbox image
+    → ((other : FileName) → other ≢ file.Root → MayLeave (disk other) (image other)) → HasNothingOrInbox store image
 root-image store disk image p (inl short) stay = inl (short-none (disk file.Root) (image file.Root) (p.nothing_else file.Root (λ e. map-root (sym e)) (λ e. box-root (sym e))) short)
 root-image store disk image p (inr (inl empty)) stay = inl (log-none (new_root_head store) (image file.Root) empty)
-root-image store disk image p (inr (inr full)) stay = inr (new_safe image store (new-store store disk image p stay full))
+root-image store disk image p (inr (inr full)) stay = let n = new-store store disk image p stay full in inr (n, new_safe image store n)
 
 -- while the root log is made, it has no entry, or the store is there
 pub with-root : (store : List ℕ) (head : LogHead) (entry : List ℕ) (old new : Option History) → head ≡ new_root_head store → entry ≡ root_text first_root → IfTold old (HasMapLog store)
-    → EachImage (λ _ image. IsMaking file.Root head entry old image) old new → EachImage (λ _ image. HasNothingOrInbox image) old new
+    → EachImage (λ _ image. IsMaking file.Root head entry old image) old new → EachImage (λ _ image. HasNothingOrInbox store image) old new
 with-root store head entry None new h e p each = each
 with-root store head entry (Some old) new h e p each =
     let F : LogHead → List ℕ → Type 0 = λ o t. EachImage (λ _ image. IsMaking file.Root o t (Some old) image) (Some old) new in

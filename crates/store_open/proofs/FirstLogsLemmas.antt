@@ -1,5 +1,5 @@
 -- The making of a store's files, step after step.
-use Rattle.std.proofs.Common.{◌≡◌, ◌⊎◌, inl, inr, false, Option, refl, sym, ◌∙◌, subst}
+use Rattle.std.proofs.Common.{◌≡◌, ◌⊎◌, inl, inr, false, ℕ, List, Option, refl, sym, ◌∙◌, subst}
 use Rattle.std.proofs.lemmas.Bool.{cases_Bool, cond-false, false≢true, true≢false}
 use Rattle.disk_model.specs.Disk.{FileState, DiskState, History, IsThere, IfTold, EachImage, named, no_file, IsIdle, Between}
 use Rattle.disk_model.specs.declared.name.FileName.{FileName}
@@ -43,20 +43,20 @@ pub all-bare : (old now new : Option History) → IfTold old IsFreeForStore → 
 all-bare old now new free idle cleared = between-on AreCleared IsFreeForStore IsEmptyDisk now new bare cleared (idle-on IsFreeForStore old now idle free)
 
 -- what images have while the disk is checked
-pub checked-images : (old new : Option History) → IsIdle old new → IfTold old (λ disk. NeverHasEntry (disk file.Root)) → EachImage (λ _ image. HasNothingOrInbox image) old new
-checked-images old new idle never = idle-images HasNothingOrInbox old new idle (if_told-map _ _ old (λ disk n image is. inl (n (image file.Root) (is file.Root))) never)
+pub checked-images : (store : List ℕ) (old new : Option History) → IsIdle old new → IfTold old (λ disk. NeverHasEntry (disk file.Root)) → EachImage (λ _ image. HasNothingOrInbox store image) old new
+checked-images store old new idle never = idle-images (HasNothingOrInbox store) old new idle (if_told-map _ _ old (λ disk n image is. inl (n (image file.Root) (is file.Root))) never)
 
 -- and while logs are cleared
-pub cleared-images : (old now new : Option History) → IsIdle old now → (IfTold now (λ disk. NeverHasEntry (disk file.Root)) → EachImage (λ _ image. HasNoEntry (image file.Root)) now new)
-    → IfTold old (λ disk. NeverHasEntry (disk file.Root)) → EachImage (λ _ image. HasNothingOrInbox image) old new
-cleared-images old now new idle each never =
-    each_image-then _ old now new (checked-images old now idle never)
+pub cleared-images : (store : List ℕ) (old now new : Option History) → IsIdle old now → (IfTold now (λ disk. NeverHasEntry (disk file.Root)) → EachImage (λ _ image. HasNoEntry (image file.Root)) now new)
+    → IfTold old (λ disk. NeverHasEntry (disk file.Root)) → EachImage (λ _ image. HasNothingOrInbox store image) old new
+cleared-images store old now new idle each never =
+    each_image-then _ old now new (checked-images store old now idle never)
     (each_image-map _ _ now new (λ m image none. inl none) (each (idle-on _ old now idle never)))
 
 -- and while logs are made
-pub made-images : (old now mid new : Option History) → IsIdle old now → Between AreCleared now mid → (IfTold now (λ disk. NeverHasEntry (disk file.Root)) → EachImage (λ _ image. HasNoEntry (image file.Root)) now mid)
-    → (IfTold mid (λ disk. NeverHasEntry (disk file.Root)) → EachImage (λ _ image. HasNothingOrInbox image) mid new)
-    → IfTold old (λ disk. NeverHasEntry (disk file.Root)) → EachImage (λ _ image. HasNothingOrInbox image) old new
-made-images old now mid new idle cleared each made never =
-    each_image-then _ old mid new (cleared-images old now mid idle each never)
+pub made-images : (store : List ℕ) (old now mid new : Option History) → IsIdle old now → Between AreCleared now mid → (IfTold now (λ disk. NeverHasEntry (disk file.Root)) → EachImage (λ _ image. HasNoEntry (image file.Root)) now mid)
+    → (IfTold mid (λ disk. NeverHasEntry (disk file.Root)) → EachImage (λ _ image. HasNothingOrInbox store image) mid new)
+    → IfTold old (λ disk. NeverHasEntry (disk file.Root)) → EachImage (λ _ image. HasNothingOrInbox store image) old new
+made-images store old now mid new idle cleared each made never =
+    each_image-then _ old mid new (cleared-images store old now mid idle each never)
     (made (between-on AreCleared _ _ now mid never-cleared cleared (idle-on _ old now idle never)))

@@ -12,7 +12,7 @@ use Rattle.model_logs.specs.LogFile.{IsLogFile}
 use Rattle.model_logs.specs.Entries.{root_text, map_text}
 use Rattle.model_store.specs.Stands.{head_of}
 use Rattle.model_store.specs.Safe.{Safe}
-use Rattle.model_store.specs.Opening.{HasNoEntry, first_root, first_box, empty_inbox}
+use Rattle.model_store.specs.Opening.{HasNoEntry, IsNewStore, first_root, first_box, empty_inbox}
 use Rattle.gate_log.specs.Log.{IsAtMostAsLong, log_text}
 
 -- Where the disk has not this at the beginning, nothing has changed.
@@ -88,6 +88,6 @@ pub record IsMadeStore (store : List ℕ) (disk : DiskState) : Type 0 where
   pub inbox : Keeps (disk (file.Box 1 1)) (log_text (inbox_head store) [])
   pub nothing_else : (name : FileName) → name ≢ file.Root → name ≢ file.Map 1 → name ≢ file.Box 1 1 → disk name ≡ no_file
 
--- the files have no store, or a new one
-abbrev pub HasNothingOrInbox : Files → Type 0
-HasNothingOrInbox image = HasNoEntry (image file.Root) ⊎ Safe image empty_inbox
+-- the files have no store, or a new one with this id, which is safe for an empty INBOX
+abbrev pub HasNothingOrInbox : List ℕ → Files → Type 0
+HasNothingOrInbox store image = HasNoEntry (image file.Root) ⊎ (IsNewStore image store × Safe image empty_inbox)

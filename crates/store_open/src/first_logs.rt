@@ -48,7 +48,7 @@ pub fn make_files<D: Disk>(alloc: Global, disk: &mut D, id: StoreId) -> Result<F
 
     // Where at the beginning each image's root log has no entry, at every moment of the call each image has no entry there,
     // or is safe for the lists with an empty INBOX.
-    ensures any_moment { NeverHasStore (D.history disk.old) → EachImage (λ _ image. HasNothingOrInbox image) (D.history disk.old) (D.history disk.new) }
+    ensures any_moment { NeverHasStore (D.history disk.old) → EachImage (λ _ image. HasNothingOrInbox id.0 image) (D.history disk.old) (D.history disk.new) }
 
     // After Ok the disk has the new store and no other file.
     ensures settled { OnOk result (IfTold (D.history disk.new) (λ now. IsSettled now empty_inbox)) }
@@ -80,7 +80,7 @@ fn make_logs<D: Disk>(
     requires bare { IfTold (D.history disk.old) IsEmptyDisk }
     requires inbox { inbox.now ≡ map_text first_box }
     requires first { first.now ≡ root_text first_root }
-    ensures any_moment { NeverHasStore (D.history disk.old) → EachImage (λ _ image. HasNothingOrInbox image) (D.history disk.old) (D.history disk.new) }
+    ensures any_moment { NeverHasStore (D.history disk.old) → EachImage (λ _ image. HasNothingOrInbox id.0 image) (D.history disk.old) (D.history disk.new) }
     ensures store { OnOk result (IfTold (D.history disk.new) (IsMadeStore id.0)) }
     ensures settled { OnOk result (IfTold (D.history disk.new) (λ now. IsSettled now empty_inbox)) }
     ensures root_log { IfOk result (λ made. Holds made.root_log (root_text first_root ∷ []) (D.history disk.new) × (made.root_log.name ≡ file.Root) × (made.root_log.head ≡ new_root_head id.0)) }

@@ -36,7 +36,7 @@ pub fn init_store<D: Disk>(alloc: Global, disk: D, id: StoreId) -> Result<Store<
 
     // Where at the beginning each image's root log has no entry, at every moment of the call each image has no entry there,
     // or is safe for the lists with an empty INBOX.
-    ensures any_moment { NeverHasStore (D.history disk) → EachImage (λ _ image. HasNothingOrInbox image) (D.history disk) (D.history (disk_of result)) }
+    ensures any_moment { NeverHasStore (D.history disk) → EachImage (λ _ image. HasNothingOrInbox id.0 image) (D.history disk) (D.history (disk_of result)) }
 
     // After Ok the disk has the new store and no other file, and the store is that, for one lane.
     ensures settled { IfOk result (λ store. IfTold (D.history store.disk) (λ now. IsSettled now empty_inbox)) }
@@ -62,7 +62,7 @@ fn new_logs<D: Disk>(alloc: Global, disk: &mut D, id: StoreId) -> Result<OpenLog
     ensures made { IfOk result (λ logs. (logs.map ≡ map_meaning id.0 (first_box ∷ [])) × (indexes_of logs.boxes.items ≡ box_meaning [] ∷ [])) }
     ensures settled { OnOk result (IfTold (D.history disk.new) (λ now. IsSettled now empty_inbox)) }
     ensures there { OnOk result (IfTold (D.history disk.new) (IsMadeStore id.0)) }
-    ensures any_moment { NeverHasStore (D.history disk.old) → EachImage (λ _ image. HasNothingOrInbox image) (D.history disk.old) (D.history disk.new) }
+    ensures any_moment { NeverHasStore (D.history disk.old) → EachImage (λ _ image. HasNothingOrInbox id.0 image) (D.history disk.old) (D.history disk.new) }
     ensures refused { IfErr result (IsMakingError (D.history disk.old)) }
     ensures free { OnOk result (IfTold (D.history disk.old) IsFreeForStore) }
     ensures idle { IfErr result (λ error. IsOfFiles error → IsIdle (D.history disk.old) (D.history disk.new)) }

@@ -17,8 +17,8 @@ boxed : (g : Over) (c : In_ok-box_log g) → IfTold (g.D.Disk.history c.make_emp
 boxed g c = has-inbox c.args.id.0 c.in_ok-box_log.box_log _ _ (ap (λ (l : LogState). l.name) c.in_ok-box_log.ensures.log) (ap (λ (l : LogState). l.head) c.in_ok-box_log.ensures.log ∙ c.head_of-head.ensures)
     c.in_ok-box_log.ensures.others c.requires.bare c.in_ok-box_log.ensures.made
 
-boxed-images : (g : Over) (c : In_ok-box_log g) → IfTold (g.D.Disk.history c.args.disk.now) (λ now. NeverHasEntry (now file.Root)) → EachImage (λ _ image. HasNothingOrInbox image) (g.D.Disk.history c.args.disk.now) (g.D.Disk.history c.make_empty_log.new.disk)
-boxed-images g c never = without-root _ (file.Box 1 1) _ _ box-is-no-root never c.in_ok-box_log.ensures.any_moment
+boxed-images : (g : Over) (c : In_ok-box_log g) → IfTold (g.D.Disk.history c.args.disk.now) (λ now. NeverHasEntry (now file.Root)) → EachImage (λ _ image. HasNothingOrInbox c.args.id.0 image) (g.D.Disk.history c.args.disk.now) (g.D.Disk.history c.make_empty_log.new.disk)
+boxed-images g c never = without-root c.args.id.0 _ (file.Box 1 1) _ _ box-is-no-root never c.in_ok-box_log.ensures.any_moment
 
 -- and the map log
 
@@ -27,16 +27,16 @@ mapped g c before = has-map c.args.id.0 c.in_ok-map_log.map_log _ _ c.in_ok-map_
     c.in_ok-map_log.ensures.others before (rw c.requires.inbox at c.in_ok-map_log.ensures.made)
 
 mapped-images : (g : Over) (c : In_ok-map_log g) → IfTold (g.D.Disk.history c.make_empty_log.new.disk) (HasInbox c.args.id.0)
-    → EachImage (λ _ image. HasNothingOrInbox image) (g.D.Disk.history c.args.disk.now) (g.D.Disk.history c.make_empty_log.new.disk) → EachImage (λ _ image. HasNothingOrInbox image) (g.D.Disk.history c.args.disk.now) (g.D.Disk.history c.make_log.new.disk)
-mapped-images g c before images = each_image-then _ _ _ _ images (without-root _ (file.Map 1) _ _ map-is-no-root (inbox-nevers c.args.id.0 _ before) c.in_ok-map_log.ensures.any_moment)
+    → EachImage (λ _ image. HasNothingOrInbox c.args.id.0 image) (g.D.Disk.history c.args.disk.now) (g.D.Disk.history c.make_empty_log.new.disk) → EachImage (λ _ image. HasNothingOrInbox c.args.id.0 image) (g.D.Disk.history c.args.disk.now) (g.D.Disk.history c.make_log.new.disk)
+mapped-images g c before images = each_image-then _ _ _ _ images (without-root c.args.id.0 _ (file.Map 1) _ _ map-is-no-root (inbox-nevers c.args.id.0 _ before) c.in_ok-map_log.ensures.any_moment)
 
 pub returns-in_err-box_log-clause-any_moment : goal.returns-in_err-box_log-clause-any_moment
-returns-in_err-box_log-clause-any_moment g c = λ never. without-root _ (file.Box 1 1) _ _ box-is-no-root never c.in_err-box_log.ensures.any_moment
+returns-in_err-box_log-clause-any_moment g c = λ never. without-root c.args.id.0 _ (file.Box 1 1) _ _ box-is-no-root never c.in_err-box_log.ensures.any_moment
 
 pub returns-in_err-map_log-clause-any_moment : goal.returns-in_err-map_log-clause-any_moment
 returns-in_err-map_log-clause-any_moment g c = λ never.
     let b = (goal.at.returns-in_err-map_log-clause-any_moment g c).In_ok-box_log in
-    each_image-then _ _ _ _ (boxed-images g b never) (without-root _ (file.Map 1) _ _ map-is-no-root (inbox-nevers c.args.id.0 _ (boxed g b)) c.in_err-map_log.ensures.any_moment)
+    each_image-then _ _ _ _ (boxed-images g b never) (without-root c.args.id.0 _ (file.Map 1) _ _ map-is-no-root (inbox-nevers c.args.id.0 _ (boxed g b)) c.in_err-map_log.ensures.any_moment)
 
 pub returns-in_err-root_log-clause-any_moment : goal.returns-in_err-root_log-clause-any_moment
 returns-in_err-root_log-clause-any_moment g c = λ never.

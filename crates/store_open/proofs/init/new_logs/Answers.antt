@@ -8,13 +8,13 @@ use Rattle.store_open.proofs.NewStoreLemmas.{new_store}
 use Rattle.store_open.proofs.init.new_logs.Goals as goal
 
 pub returns-in_err-map-clause-any_moment : goal.returns-in_err-map-clause-any_moment
-returns-in_err-map-clause-any_moment g c = checked-images _ _ (idle-begins _)
+returns-in_err-map-clause-any_moment g c = checked-images _ _ _ (idle-begins _)
 
 pub returns-in_err-index-clause-any_moment : goal.returns-in_err-index-clause-any_moment
-returns-in_err-index-clause-any_moment g c = checked-images _ _ (idle-begins _)
+returns-in_err-index-clause-any_moment g c = checked-images _ _ _ (idle-begins _)
 
 pub returns-in_err-boxes-clause-any_moment : goal.returns-in_err-boxes-clause-any_moment
-returns-in_err-boxes-clause-any_moment g c = checked-images _ _ (idle-begins _)
+returns-in_err-boxes-clause-any_moment g c = checked-images _ _ _ (idle-begins _)
 
 pub returns-clause-store : goal.returns-clause-store
 returns-clause-store g c =

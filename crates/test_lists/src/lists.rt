@@ -1,6 +1,6 @@
 // Examples of the list machine's steps.
-use crate::lists::{PlainLists, PlainMailbox, PlainMessage};
 use mdbox_base::{BoxNo, Guid, ListRow, Name, Octets, Refusal, Reply, Uid, flags_of, name_of};
+use plain_lists::{PlainLists, PlainMailbox, PlainMessage};
 use std::alloc::Global;
 use std::test::Fail;
 
@@ -29,9 +29,7 @@ fn hello(alloc: Global) -> Result<PlainLists, Fail> {
         next_uid: 2,
         messages: vec![in alloc; message]?,
     };
-    Ok(PlainLists {
-        mailboxes: vec![in alloc; inbox]?,
-    })
+    Ok(PlainLists::of(vec![in alloc; inbox]?))
 }
 
 /// The row of `Hello` with this UID and these flags.
