@@ -2,6 +2,7 @@ pub mod AppendLemmas
 pub mod EntryReadLemmas
 pub mod FilePartLemmas
 pub mod HeadLemmas
+pub mod LayoutLemmas
 pub mod LogEndLemmas
 pub mod MakeFileLemmas
 pub mod OpenLogLemmas

@@ -12,6 +12,7 @@ mod error;
 mod found;
 mod gate;
 mod head;
+mod layout;
 mod log;
 mod make;
 mod peek;
