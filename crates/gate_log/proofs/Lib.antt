@@ -8,3 +8,4 @@ pub mod MakeFileLemmas
 pub mod OpenLogLemmas
 pub mod ReadFileLemmas
 pub mod RepairLemmas
+pub mod TextLemmas

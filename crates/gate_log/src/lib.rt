@@ -2,10 +2,11 @@
 #![tactic(auto)]
 
 pub use error::{DiskFault, LogError};
-pub use found::{FoundLog, inspect_log};
+pub use found::{FoundLog, inspect_log, inspect_text};
 pub use log::{GateLog, create_log, open_log};
 pub use peek::{FRONT_SIZE, id_in, peek_head};
 pub use read::{LogRead, read_log};
+pub use text::{LogCursor, LogText, check_log};
 
 mod device;
 mod error;
@@ -19,3 +20,4 @@ mod peek;
 mod read;
 mod record;
 mod repair;
+mod text;
