@@ -2,8 +2,10 @@ pub mod AppendLemmas
 pub mod EntryReadLemmas
 pub mod FilePartLemmas
 pub mod HeadLemmas
+pub mod LayoutLemmas
 pub mod LogEndLemmas
 pub mod MakeFileLemmas
 pub mod OpenLogLemmas
 pub mod ReadFileLemmas
 pub mod RepairLemmas
+pub mod TextLemmas

@@ -2,3 +2,4 @@ pub mod Causes
 pub mod Log
 pub mod Reading
 pub mod State
+pub mod Text

@@ -1,5 +1,5 @@
 -- Logs on a disk.
-use Rattle.std.specs.Prelude.{◌≡◌, ◌≢◌, ◌⊎◌, ◌≤◌, ℕ, List, [], ◌∷◌, ◌++◌, length, max, All, Option, Some, None, IfSome}
+use Rattle.std.specs.Prelude.{◌≡◌, ◌≢◌, ◌⊎◌, ◌≤◌, ℕ, List, [], ◌∷◌, ◌++◌, length, take, drop, max, All, Option, Some, None, IfSome}
 use Rattle.disk_model.specs.Disk.{FileState, DiskState, History, IfTold, Keeps, named, reading}
 use Rattle.disk_model.specs.declared.name.FileName.{FileName}
 use Rattle.model_logs.specs.declared.log_head.LogHead.{LogHead}
@@ -33,6 +33,15 @@ Holds log entries history = IfTold history (IsLogHeld log entries)
 -- the file is a log with these entries, or with one more
 abbrev pub IsLogWithOrWithout : LogHead → List (List ℕ) → List ℕ → Option (List ℕ) → Type 0
 IsLogWithOrWithout head entries entry octets = IsLogFile octets head entries ⊎ IsLogFile octets head (entries ++ entry ∷ [])
+
+-- octets, cut one after another into pieces of these lengths
+abbrev pub cut_by : List ℕ → List ℕ → List (List ℕ)
+cut_by [] octets = []
+cut_by (size ∷ lengths) octets = take size octets ∷ cut_by lengths (drop size octets)
+
+-- the file is a log with these entries, or with all of these more
+abbrev pub IsLogWithOrWithoutAll : LogHead → List (List ℕ) → List (List ℕ) → Option (List ℕ) → Type 0
+IsLogWithOrWithoutAll head entries more octets = IsLogFile octets head entries ⊎ IsLogFile octets head (entries ++ more)
 
 -- Octets of a file that is made anew: no more than it could have before, or than are written.
 abbrev pub IsAtMostAsLong : ℕ → FileState → Option (List ℕ) → Type 0

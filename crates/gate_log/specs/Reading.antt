@@ -22,6 +22,13 @@ IsReadError asked octets NoMemory = ⊤
 IsReadError asked octets NoLog = ⊥
 IsReadError asked octets DiskFault = ⊥
 
+-- Why octets are no log, this one where a head is asked for: they are damaged at that place.
+abbrev pub IsDamage : Option LogHead → List ℕ → LogError → Type 0
+IsDamage asked octets (LogDamaged place) = IsDamagedAt asked octets place
+IsDamage asked octets NoMemory = ⊥
+IsDamage asked octets NoLog = ⊥
+IsDamage asked octets DiskFault = ⊥
+
 -- Why a file was not read: there is none of that name, the device failed, or there was no memory.
 abbrev pub IsFileError : FileName → Option History → LogError → Type 0
 IsFileError name old NoLog = IfTold old (λ disk. reading (disk name) ≡ None)

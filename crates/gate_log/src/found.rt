@@ -1,11 +1,12 @@
 // Logs that were looked at, and how they are repaired.
-ghost use Rattle.std.specs.Prelude.{◌≡◌, ◌↔◌, ℕ, List, Some, IsTrue, IfOk, IfErr, OnOk, IsErr, IsErrOf, IsOk};
+ghost use Rattle.std.specs.Prelude.{◌≡◌, ◌↔◌, ℕ, List, length, Some, IsTrue, IfOk, IfErr, OnOk, IsErr, IsErrOf, IsOk};
 ghost use Rattle.disk_model.specs.FaultCounts.{NoFault, ChangeFaultCounted, ReadFaultCounted};
 ghost use Rattle.disk_model.specs.Disk.{EachImage, OthersStay, SameButFor, IfTold, Keeps, reading, IsIdle};
-ghost use Rattle.model_logs.specs.LogFile.{IsLogFile};
+ghost use Rattle.model_logs.specs.LogFile.{IsLogFile, IsLog, log_end};
 ghost use Rattle.gate_log.specs.State.{IsWholeLog};
 ghost use Rattle.gate_log.specs.Log.{Reads, Holds, IsFound, IsFoundKept};
 ghost use Rattle.gate_log.specs.Reading.{IsReading, IsOpenError};
+ghost use Rattle.gate_log.specs.Text.{IsLogText};
 
 use crate::device::read_file;
 use crate::error::{DiskFault, LogError};
@@ -13,7 +14,9 @@ use crate::gate::CLOSED;
 use crate::log::GateLog;
 use crate::read::{LogRead, read_log_of};
 use crate::repair::repair;
+use crate::text::{LogText, check_log_of};
 use disk_model::{Disk, FileName};
+use mdbox_base::Octets;
 use model_logs::LogHead;
 use std::alloc::Global;
 use std::marker::Model;
@@ -42,7 +45,52 @@ impl Model for FoundLog {
     ghost invariant = { λ log. log.end < 2 ^ 64 - 1 };
 }
 
-/// Reads the log that has this head, and changes nothing.
+/// Reads the log that has this head, and changes nothing. Its entries stay where they were read.
+pub fn inspect_text<D: Disk>(
+    alloc: Global,
+    disk: &mut D,
+    name: FileName,
+    head: LogHead,
+) -> Result<(FoundLog, LogText), LogError>
+    // After Ok what was read is what the file has.
+    ensures octets { IfOk result (λ found. IfTold (D.history disk.old) (λ now. reading (now name) ≡ Some found.1.octets)) }
+    ensures text { IfOk result (λ found. (entries : List (List ℕ)) × IsLogText found.1 entries) }
+    ensures log { IfOk result (λ found. (found.0.name ≡ name) × (found.0.head ≡ head) × (found.0.end ≡ found.1.end) × (found.1.head ≡ head)) }
+    ensures found { IfOk result (λ found. (entries : List (List ℕ)) → IsLogText found.1 entries → IfTold (D.history disk.old) (IsFound found.0 entries)) }
+
+    // The file still stands so, and where a crash left it as it read, it does.
+    ensures stands { IfOk result (λ found. (entries : List (List ℕ)) → IsLogText found.1 entries → IfTold (D.history disk.new) (IsFound found.0 entries)) }
+    ensures kept { IfOk result (λ found. (entries : List (List ℕ)) (octets : List ℕ) → IsLogText found.1 entries → IfTold (D.history disk.old) (λ now. Keeps (now name) octets) → IfTold (D.history disk.new) (IsFoundKept found.0 entries)) }
+
+    ensures idle { IsIdle (D.history disk.old) (D.history disk.new) }
+    ensures refused { IfErr result (IsOpenError name head (D.history disk.old)) }
+    ensures fault { ReadFaultCounted (IsErrOf result LogError.DiskFault) (D.faults disk.old) (D.faults disk.new) }
+    ensures unfailed { (IsErrOf result LogError.DiskFault → ⊥) → NoFault (D.faults disk.old) (D.faults disk.new) }
+{
+    let octets = read_file(alloc, disk, name)?;
+    let text = check_log_of(Octets::of(octets), head)?;
+    let found = found_in(name, &text);
+    Ok((found, text))
+}
+
+/// What stands at the end of a log that was read.
+fn found_in(name: FileName, text: &LogText) -> FoundLog
+    requires { (entries : List (List ℕ)) × IsLogText text.now entries }
+    ensures log { (result.name ≡ name) × (result.head ≡ text.now.head) × (result.end ≡ text.now.end) }
+    ensures end { (entries : List (List ℕ)) (log : IsLog text.now.octets result.head entries) → text.now.end ≡ log_end entries → (result.gate ≡ log.gate) × (result.behind ≡ length log.behind) }
+{
+    let octets = text.octets.as_slice();
+    let end = text.end as usize;
+    FoundLog {
+        name,
+        head: text.head,
+        end: text.end,
+        gate: octets[end],
+        behind: (octets.len() - end - 1) as u64,
+    }
+}
+
+/// The same, with each entry a text of its own.
 pub fn inspect_log<D: Disk>(
     alloc: Global,
     disk: &mut D,
@@ -63,16 +111,8 @@ pub fn inspect_log<D: Disk>(
     ensures fault { ReadFaultCounted (IsErrOf result LogError.DiskFault) (D.faults disk.old) (D.faults disk.new) }
     ensures unfailed { (IsErrOf result LogError.DiskFault → ⊥) → NoFault (D.faults disk.old) (D.faults disk.new) }
 {
-    let octets = read_file(alloc, disk, name)?;
-    let read = read_log_of(alloc, &octets, head)?;
-    let end = read.end as usize;
-    let found = FoundLog {
-        name,
-        head,
-        end: read.end,
-        gate: octets[end],
-        behind: (octets.len() - end - 1) as u64,
-    };
+    let (found, text) = inspect_text(alloc, disk, name, head)?;
+    let read = read_log_of(alloc, text.octets.as_slice(), head)?;
     Ok((found, read))
 }
 

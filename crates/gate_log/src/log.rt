@@ -1,16 +1,17 @@
 // Logs on a disk.
-ghost use Rattle.std.specs.Prelude.{◌≡◌, ◌≢◌, Some, IsErrOf, ◌+◌, ◌-◌, ◌<◌, ◌≤◌, ◌^◌, ◌++◌, ◌∷◌, [], ℕ, List, length, take, OnOk, OnErr, IfOk, IfErr, IsErr};
+ghost use Rattle.std.specs.Prelude.{◌≡◌, ◌≢◌, Some, IsErrOf, ◌+◌, ◌-◌, ◌*◌, ◌<◌, ◌≤◌, ◌^◌, ◌++◌, ◌∷◌, [], ℕ, List, All, length, sum, OnOk, OnErr, IfOk, IfErr, IsErr};
 ghost use Rattle.disk_model.specs.FaultCounts.{NoFault, ChangeFaultCounted, AnyFaultCounted};
 ghost use Rattle.disk_model.specs.Disk.{EachImage, OthersStay, SameButFor, IfTold, Keeps, reading, IsIdle};
-ghost use Rattle.model_logs.specs.LogFile.{record_octets, IsLog, IsLogFile};
+ghost use Rattle.model_logs.specs.LogFile.{IsLog, IsLogFile};
 ghost use Rattle.gate_log.specs.State.{LogState, IsSameLog};
-ghost use Rattle.gate_log.specs.Log.{Reads, Holds, IsLogWithOrWithout, IsAtMostAsLong, NamedButFor};
+ghost use Rattle.gate_log.specs.Log.{Reads, Holds, cut_by, IsLogWithOrWithout, IsLogWithOrWithoutAll, IsAtMostAsLong, NamedButFor};
 ghost use Rattle.gate_log.specs.Reading.{IsReading, IsOpenError};
 
 use crate::error::{DiskFault, LogError};
 use crate::found::inspect_log;
-use crate::gate::{CLOSED, OPEN};
+use crate::gate::OPEN;
 use crate::head::{HEAD_SIZE, first_text};
+use crate::layout::lay_out;
 use crate::make::make_file;
 use crate::read::LogRead;
 use disk_model::{Disk, FileName};
@@ -81,7 +82,7 @@ impl GateLog {
         Ok(())
     }
 
-    /// Adds an entry: its record and a closed gate behind the last gate, a sync, and then the gate is opened and synced.
+    /// Adds an entry. At every moment, also where the device fails, a crash leaves the log with this entry or without it.
     pub fn append<D: Disk>(&mut self, disk: &mut D, entry: &[u8]) -> Result<(), DiskFault>
         requires read { (entries : List (List ℕ)) × Reads self.old entries (D.history disk.old) }
         requires some { 1 ≤ length entry.now }
@@ -104,10 +105,56 @@ impl GateLog {
         ensures unfailed { OnOk result (NoFault (D.faults disk.old) (D.faults disk.new)) }
         ensures log { IsSameLog self.old self.new }
     {
-        let size = entry.len() + 5;
-        lay_out(&mut self.buffer, entry);
+        let size = self.size_of(entry);
+        self.append_many(disk, entry, &[size])
+    }
+
+    /// The length of an entry for which there is room.
+    fn size_of(&self, entry: &[u8]) -> u32
+        requires { length entry.now + 5 ≤ self.now.room }
+        ensures { result ≡ length entry.now }
+    {
+        let _room = self.buffer.len();
+        entry.len() as u32
+    }
+
+    /// Adds entries, all or none of them: at every moment, also where the device fails, a crash leaves the log with all of
+    /// them or without any. They stand one behind another in `octets`, and have these lengths.
+    ///
+    /// Their records and the gates behind these, open but for the last, are written behind the last gate and synced, and
+    /// then that gate is opened and synced.
+    pub fn append_many<D: Disk>(
+        &mut self,
+        disk: &mut D,
+        octets: &[u8],
+        lengths: &[u32],
+    ) -> Result<(), DiskFault>
+        requires read { (entries : List (List ℕ)) × Reads self.old entries (D.history disk.old) }
+        requires many { 1 ≤ length lengths.now }
+        requires some { All (λ size. 1 ≤ size) lengths.now }
+        requires whole { sum lengths.now ≡ length octets.now }
+        requires room { length octets.now + 5 * length lengths.now ≤ self.old.room }
+
+        // At every moment of the call each image has the old entries, or the old and all of these.
+        ensures any_moment { (entries : List (List ℕ)) → Holds self.old entries (D.history disk.old)
+            → EachImage (λ _ image. IsLogWithOrWithoutAll self.old.head entries (cut_by lengths.now octets.now) (image self.old.name) × OthersStay self.old.name (D.history disk.old) image) (D.history disk.old) (D.history disk.new) }
+
+        // Of the other files each image has what an image had before, also where the log's file is not as a crash leaves it.
+        ensures others_stay { EachImage (λ _ image. OthersStay self.old.name (D.history disk.old) image) (D.history disk.old) (D.history disk.new) }
+
+        // After Ok the log has these entries, and no other file has changed.
+        ensures added { OnOk result ((entries : List (List ℕ)) → Reads self.old entries (D.history disk.old) → Reads self.new (entries ++ cut_by lengths.now octets.now) (D.history disk.new)) }
+        ensures held { OnOk result ((entries : List (List ℕ)) → Holds self.old entries (D.history disk.old) → Holds self.new (entries ++ cut_by lengths.now octets.now) (D.history disk.new)) }
+        ensures others { OnOk result (SameButFor self.old.name (D.history disk.old) (D.history disk.new)) }
+
+        ensures fault { ChangeFaultCounted (IsErr result) (D.faults disk.old) (D.faults disk.new) }
+        ensures unread { (D.faults disk.new).reads ≡ (D.faults disk.old).reads }
+        ensures unfailed { OnOk result (NoFault (D.faults disk.old) (D.faults disk.new)) }
+        ensures log { IsSameLog self.old self.new }
+    {
+        let size = lay_out(&mut self.buffer, octets, lengths);
         disk.write_at(self.name, self.end + 1, &self.buffer[..size])?;
-        disk.sync(self.name)?; // before the gate opens on the record
+        disk.sync(self.name)?; // before the gate opens on the records
         disk.write_at(self.name, self.end, &[OPEN])?;
         disk.sync(self.name)?;
         self.end += size as u64;
@@ -166,16 +213,4 @@ pub fn open_log<D: Disk>(
     let (found, read) = inspect_log(alloc, disk, name, head)?;
     let log = found.repair(alloc, disk)?;
     Ok((log, read))
-}
-
-/// Lays out a record and a closed gate.
-fn lay_out(buffer: &mut [u8], entry: &[u8])
-    requires short { length entry.now < 2 ^ 32 }
-    requires room { length entry.now + 5 ≤ length buffer.old }
-    ensures { take (length entry.now + 5) buffer.new ≡ record_octets entry.now ++ 0 ∷ [] }
-{
-    let end = entry.len() + 4;
-    buffer[..4].copy_from_slice(&(entry.len() as u32).to_be_bytes());
-    buffer[4..end].copy_from_slice(entry);
-    buffer[end] = CLOSED;
 }

@@ -1,11 +1,13 @@
-use Rattle.std.proofs.Common.{[], ◌≡◌}
-use Rattle.piece_writer.specs.Pieces.{Gathers}
-use Rattle.dump_text.proofs.LogPrintLemmas.{lines_to}
+use Rattle.std.proofs.Common.{◌≡◌, ◌-◌, length}
+use Rattle.dump_text.proofs.LogPrintLemmas.{Printed}
 use Rattle.dump_text.proofs.log_print.print_log.Given as goal
 
 -- the head and the entries so far are printed, or stand in the piece
-abbrev pub invariant-loop-i : goal.invariant-loop-i
-invariant-loop-i g l = record {
-  passed : Gathers (g.O.Sink.held l.fn.output) [] (lines_to l.read.head l.entries l.i) (g.O.Sink.held l.output) l.writer.piece;
+abbrev pub invariant-loop-place : goal.invariant-loop-place
+invariant-loop-place g l = record {
+  printed : Printed l.text l.entries.octets.now l.entries.gate (g.O.Sink.held l.fn.output) (g.O.Sink.held l.output) l.writer.piece;
   quiet : g.O.Sink.faults l.output ≡ g.O.Sink.faults l.fn.output;
 }
+
+abbrev pub decreases-loop-place : goal.decreases-loop-place
+decreases-loop-place g l = length l.entries.octets.now - l.entries.gate
