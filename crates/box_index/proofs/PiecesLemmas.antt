@@ -7,7 +7,7 @@ use Rattle.std.specs.List.Sorted.{IsPartitionedBy, IsPartitionPoint}
 use Rattle.std.proofs.lemmas.Bool.{leb-true, leb-false, le-leb}
 use Rattle.std.proofs.lemmas.List.{length-map, take-append-drop, drop_more, take-set, drop-set, get_or-drop}
 use Rattle.std.proofs.lemmas.List.Concat.{flat_map-append}
-use Rattle.std.proofs.lemmas.List.Elements.{All-nil, All-head, All-tail, All-drop, All-set}
+use Rattle.std.proofs.lemmas.List.Elements.{All-nil, All-head, All-tail, All-take, All-drop, All-append, All-set}
 use Rattle.box_index.specs.declared.index.BoxRow.{BoxRow}
 use Rattle.std.specs.Option.{SomeIff}
 use Rattle.box_index.specs.Row.{row_of, flagged, UidsRise}
@@ -194,6 +194,24 @@ flagged-length uid flags pieces place piece changed last only e is =
 
 pub held-same : (rows more : List BoxRow) (room : ℕ) → rows ≡ more → (let held : HeldRows = record { rows = rows; room = room } in held) ≡ record { rows = more; room = room }
 held-same rows more room e = ap (λ (r : List BoxRow). record { rows = r; room = room }) e
+
+-- ---- a piece joins the one before it
+
+pub joined-rows : (pieces : List HeldRows) (place : ℕ) (first next joined : HeldRows) → suc place < length pieces → first ≡ get_or (remove pieces (suc place)) place first → next ≡ get_or pieces (suc place) next → joined.rows ≡ first.rows ++ next.rows
+    → rows_in (slice_set (remove pieces (suc place)) place joined) ≡ rows_in pieces
+joined-rows [] place first next joined lt e f is = absurd (omega (arith, lt))
+joined-rows (x ∷ []) place first next joined lt e f is = absurd (omega (arith, lt))
+joined-rows (x ∷ (y ∷ pieces)) zero first next joined lt e f is =
+    ap (λ (t : List BoxRow). t ++ rows_in pieces) (is ∙ ap (λ (p : HeldRows). p.rows ++ next.rows) e ∙ ap (λ (p : HeldRows). x.rows ++ p.rows) f) ∙ append_assoc x.rows y.rows (rows_in pieces)
+joined-rows (x ∷ (y ∷ pieces)) (suc place) first next joined lt e f is = ap (λ (t : List BoxRow). x.rows ++ t) (joined-rows (y ∷ pieces) place first next joined (omega (arith, lt)) e f is)
+
+pub joined-filled : (pieces : List HeldRows) (place : ℕ) (first next joined : HeldRows) → AreFilled pieces → suc place < length pieces → next ≡ get_or pieces (suc place) next → joined.rows ≡ first.rows ++ next.rows → AreFilled (slice_set (remove pieces (suc place)) place joined)
+joined-filled pieces place first next joined filled lt f is =
+    let some = filled (suc place) next lt in
+    let same : length next.rows ≡ length (get_or pieces (suc place) next).rows = ap (λ (p : HeldRows). length p.rows) f in
+    let count : length joined.rows ≡ length (first.rows ++ next.rows) = ap length is in
+    All-set (λ (piece : HeldRows). 1 ≤ length piece.rows) (remove pieces (suc place)) place joined (omega (arith, some, same, count, length-append first.rows next.rows))
+    (All-append (λ (piece : HeldRows). 1 ≤ length piece.rows) (take (suc place) pieces) (drop (suc (suc place)) pieces) (All-take (λ (piece : HeldRows). 1 ≤ length piece.rows) (suc place) pieces filled) (All-drop (λ (piece : HeldRows). 1 ≤ length piece.rows) (suc (suc place)) pieces filled))
 
 -- ---- the row at a place
 

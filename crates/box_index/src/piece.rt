@@ -12,6 +12,9 @@ use std::marker::Model;
 /// How many rows a piece has at the most.
 const PIECE_ROWS: usize = 1024;
 
+/// How many rows two pieces have at the most that are joined.
+const JOINED_ROWS: usize = 512;
+
 /// Rows of rising UIDs, at most 1,024.
 #[derive(Drop)]
 pub(crate) struct Piece {
@@ -141,6 +144,24 @@ impl Piece {
         ensures { self.new ≡ record { rows = self.old.rows ++ row ∷ []; room = self.old.room - 1 } }
     {
         self.rows.push_reserved(row);
+    }
+
+    /// Whether the next piece may be joined to this one: both are small, and there is room.
+    pub(crate) fn can_join(&self, next: &Piece) -> bool
+        ensures { IsTrue result → length next.now.rows ≤ self.now.room }
+    {
+        let both = self.rows.len() + next.rows.len();
+        both <= JOINED_ROWS && both <= self.rows.capacity()
+    }
+
+    /// Adds the rows of the next piece, for which there is room.
+    pub(crate) fn join(&mut self, next: &Piece)
+        requires { length next.now.rows ≤ self.old.room }
+        ensures { self.new.rows ≡ self.old.rows ++ next.now.rows }
+    {
+        for row in next.rows() {
+            self.push(*row);
+        }
     }
 }
 

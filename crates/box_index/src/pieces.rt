@@ -12,9 +12,10 @@ use std::marker::Model;
 use std::mem::replace;
 
 /// Rows of rising UIDs. They are added at the end, so that a look-up is two binary searches: for the piece and in it.
+/// One that leaves moves rows of its own piece, or of a small neighbour too.
 #[derive(Drop)]
 pub(crate) struct Pieces {
-    /// The pieces that were full once. None of them is empty.
+    /// The pieces before the last, each full once. None of them is empty.
     earlier: Vec<Piece>,
     /// The piece that rows are added to.
     last: Piece,
@@ -144,7 +145,7 @@ fn piece_with(pieces: &[Piece], uid: Uid) -> Option<usize>
     begun.checked_sub(1)
 }
 
-/// Removes the row with this UID, and with it its piece if that is empty then. Whether there was one.
+/// Removes the row with this UID. A piece that is small then joins its neighbour, so that pieces stay few. Whether there was one.
 fn remove_row(earlier: &mut Vec<Piece>, last: &mut Piece, uid: Uid) -> bool
     requires rising { AreRising (rows_in earlier.old.items ++ last.old.rows) }
     requires filled { AreFilled earlier.old.items }
@@ -158,7 +159,12 @@ fn remove_row(earlier: &mut Vec<Piece>, last: &mut Piece, uid: Uid) -> bool
         return last.remove(uid);
     }
     match piece_with(earlier, uid) {
-        Some(place) => remove_in(earlier, place, uid),
+        Some(place) => {
+            let removed = remove_in(earlier, place, uid);
+            join_next(earlier, place);
+            join_next(earlier, place.saturating_sub(1));
+            removed
+        }
         None => false,
     }
 }
@@ -178,6 +184,18 @@ fn remove_in(pieces: &mut Vec<Piece>, place: usize, uid: Uid) -> bool
         pieces.remove(place);
     }
     removed
+}
+
+/// Joins the next piece to the one at this place, if both are small. It takes no memory.
+fn join_next(pieces: &mut Vec<Piece>, place: usize)
+    requires { AreFilled pieces.old.items }
+    ensures same { rows_in pieces.new.items ≡ rows_in pieces.old.items }
+    ensures filled { AreFilled pieces.new.items }
+{
+    if place < pieces.len().saturating_sub(1) && pieces[place].can_join(&pieces[place + 1]) {
+        let next = pieces.remove(place + 1);
+        pieces[place].join(&next);
+    }
 }
 
 /// Follows a full piece by one without rows.

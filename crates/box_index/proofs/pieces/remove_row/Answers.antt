@@ -16,13 +16,13 @@ returns-then-begins_by-clause-rows c =
 pub piece_with-requires-clause-rising : goal.piece_with-requires-clause-rising
 piece_with-requires-clause-rising c = rw c.deref.ensures.value (rising-front (rows_in c.args.earlier.now.items) c.args.last.now.rows c.requires.rising)
 
-pub remove_in-requires-clause-rising : goal.remove_in-requires-clause-rising
-remove_in-requires-clause-rising c = rising-front (rows_in c.args.earlier.now.items) c.args.last.now.rows c.requires.rising
+pub remove_in-removed-requires-clause-rising : goal.remove_in-removed-requires-clause-rising
+remove_in-removed-requires-clause-rising c = rising-front (rows_in c.args.earlier.now.items) c.args.last.now.rows c.requires.rising
 
 pub returns-in-Some-clause-rows : goal.returns-in-Some-clause-rows
 returns-in-Some-clause-rows c =
     let lacks = lacks-last c.args.uid.0 (rows_in c.args.earlier.now.items) c.args.last.now.rows c.requires.rising (sym c.begins_by.ensures ∙ c.if-begins_by.false) in
-    ap (λ (t : List BoxRow). t ++ c.args.last.now.rows) c.remove_in.ensures.rows ∙ sym (filter-before c.args.uid.0 (rows_in c.args.earlier.now.items) c.args.last.now.rows lacks)
+    ap (λ (t : List BoxRow). t ++ c.args.last.now.rows) (c.join_next-in-Some.ensures.same ∙ c.join_next.ensures.same ∙ c.remove_in-removed.ensures.rows) ∙ sym (filter-before c.args.uid.0 (rows_in c.args.earlier.now.items) c.args.last.now.rows lacks)
 
 pub returns-in-None-clause-rows : goal.returns-in-None-clause-rows
 returns-in-None-clause-rows c =
