@@ -1,16 +1,18 @@
 // The index of a mailbox.
-ghost use Rattle.std.specs.Prelude.{◌≡◌, ◌≢◌, ◌<◌, ◌≤◌, ◌↔◌, ◌++◌, ◌∷◌, [], ℕ, List, length, map, slice_get, Option, Some, None, IsTrue, IsNone, IsErr, IfOk, IfSome, IfNone, OnOk, OnErr, find, filter, not, ◌==◌};
+ghost use Rattle.std.specs.Prelude.{◌≡◌, ◌≢◌, ◌+◌, ◌<◌, ◌≤◌, ◌↔◌, ◌++◌, ◌∷◌, [], ℕ, List, length, map, slice_get, Option, Some, None, IsTrue, IsNone, IsErr, IfOk, IfSome, IfNone, OnOk, OnErr, find, filter, not, ◌==◌, vec_len, vec_capacity};
 ghost use Rattle.std.specs.Option.{option_map};
-ghost use Rattle.model_meaning.specs.BoxMeaning.{LogRow, box_meaning, box_applied, BoxFits, row_at, row_changed, row_removed};
+ghost use Rattle.model_meaning.specs.BoxMeaning.{LogRow, box_meaning, box_applied, BoxFits, row_at, row_made, row_changed, row_removed};
 ghost use Rattle.mdbox_base.specs.declared.entries.BoxEntry.TheVariants as entry;
 ghost use Rattle.box_index.specs.Row.{row_of, flagged};
 
+use crate::pieces::Pieces;
+use crate::rows::BoxRows;
 use mdbox_base::{BoxEntry, Flags, Guid, MapUid, NoMemory, Uid, flags_of};
 use std::alloc::Global;
 use std::marker::Model;
 
 /// How many messages a mailbox has at the most.
-const MOST_ROWS: usize = 1_000_000;
+const MOST_ROWS: u32 = 1_000_000;
 
 /// The greatest UID.
 const LAST_UID: u32 = 4_294_967_294;
@@ -32,21 +34,22 @@ pub struct BoxRow {
 /// What the entries of a mailbox log mean so far.
 #[derive(Drop)]
 pub struct BoxIndex {
-    rows: Vec<BoxRow>,
+    rows: Pieces,
     next: u32,
 }
 
 impl Model for BoxIndex {
     ghost use Rattle.std.specs.Prelude.{map};
     ghost use Rattle.model_meaning.specs.BoxMeaning.{BoxMeaning};
+    ghost use Rattle.box_index.specs.State.{BoxState};
 
-    ghost Value = { BoxMeaning };
+    ghost Value = { BoxState };
 
     ghost use Rattle.box_index.specs.Row.{row_of, IsInOrder};
 
-    ghost view = { λ index. record { rows = map row_of index.rows.items; next = index.next } };
+    ghost view = { λ index. record { meaning = record { rows = map row_of index.rows.rows; next = index.next }; room = index.rows.room } };
 
-    ghost invariant = { λ index. IsInOrder (record { rows = map row_of index.rows.items; next = index.next }) };
+    ghost invariant = { λ index. IsInOrder (record { rows = map row_of index.rows.rows; next = index.next }) };
 }
 
 impl BoxIndex {
@@ -54,32 +57,32 @@ impl BoxIndex {
 
     /// The index of a log without entries.
     pub fn empty(alloc: Global) -> Result<BoxIndex, NoMemory>
-        ensures { IfOk result (λ index. index ≡ box_meaning []) }
+        ensures { IfOk result (λ index. index ≡ record { meaning = box_meaning []; room = 0 }) }
     {
         Ok(BoxIndex {
-            rows: Vec::new(alloc),
+            rows: Pieces::empty(alloc),
             next: 1,
         })
     }
 
     /// UIDs rise and lie below the next one.
     pub fn known_facts(&self)
-        ensures { IsInOrder self.now }
+        ensures { IsInOrder self.now.meaning }
     {
         let _ = &self.rows;
     }
 
     /// How many messages are listed.
     pub fn length(&self) -> u32
-        ensures { result ≡ length self.now.rows }
+        ensures { result ≡ length self.now.meaning.rows }
     {
-        self.rows.len() as u32
+        self.rows.length()
     }
 
     /// The UID that the next message gets. None exactly after the greatest UID, 4,294,967,294.
     pub fn next_uid(&self) -> Option<Uid>
-        ensures some { IfSome result (λ uid. uid.0 ≡ self.now.next) }
-        ensures none { IsNone result ↔ (self.now.next ≡ 4294967295) }
+        ensures some { IfSome result (λ uid. uid.0 ≡ self.now.meaning.next) }
+        ensures none { IsNone result ↔ (self.now.meaning.next ≡ 4294967295) }
     {
         if self.next <= LAST_UID {
             Some(Uid(self.next))
@@ -90,21 +93,28 @@ impl BoxIndex {
 
     /// The listed messages in UID order, by places from 0. None exactly past the end.
     pub fn row_at(&self, place: u32) -> Option<BoxRow>
-        ensures { option_map row_of result ≡ slice_get self.now.rows place }
+        ensures { option_map row_of result ≡ slice_get self.now.meaning.rows place }
     {
-        self.rows.get(place as usize).copied()
+        self.rows.row_at(place as usize)
+    }
+
+    /// The listed messages in UID order.
+    pub fn rows(&self) -> BoxRows<'_>
+        ensures { map row_of result ≡ self.now.meaning.rows }
+    {
+        self.rows.rows()
     }
 
     /// The listed message with this UID. None if and only if there is none.
     pub fn find(&self, uid: Uid) -> Option<BoxRow>
-        ensures { option_map row_of result ≡ row_at self.now uid.0 }
+        ensures { option_map row_of result ≡ row_at self.now.meaning uid.0 }
     {
-        row_with(&self.rows, uid)
+        self.rows.find(uid)
     }
 
     /// Whether an entry fits behind those so far.
     pub fn fits(&self, entry: &BoxEntry) -> bool
-        ensures { IsTrue result ↔ BoxFits self.now entry.now }
+        ensures { IsTrue result ↔ BoxFits self.now.meaning entry.now }
     {
         match *entry {
             BoxEntry::N { next } => self.next <= next && next >= 1,
@@ -118,19 +128,36 @@ impl BoxIndex {
                     && uid.0 <= LAST_UID
                     && flags <= 31
                     && size <= MOST_OCTETS
-                    && self.rows.len() < MOST_ROWS
+                    && self.rows.length() < MOST_ROWS
             }
             BoxEntry::F { uid, flags } => self.find(uid).is_some() && flags <= 31,
             BoxEntry::R { uid } => self.find(uid).is_some(),
         }
     }
 
-    /// Takes in an entry that fits. Only one that adds a message takes memory; without it the index stays.
+    /// Makes room for one message at least. If there is room already, no memory is taken.
+    ///
+    /// At the limit of messages too: the answer is Ok or out of memory, although no further message fits.
+    pub fn reserve_row(&mut self) -> Result<(), NoMemory>
+        ensures ok { OnOk result (1 ≤ self.new.room) }
+        ensures err { OnErr result (self.new ≡ self.old) }
+        ensures full { IsErr result → self.old.room ≡ 0 }
+        ensures no_less { self.old.room ≤ self.new.room }
+        ensures same { self.new.meaning ≡ self.old.meaning }
+    {
+        self.rows.reserve()
+    }
+
+    /// Takes in an entry that fits. Only one that adds a message takes memory, and only if there is no room for it;
+    /// without it the index stays.
     pub fn apply(&mut self, entry: &BoxEntry) -> Result<(), NoMemory>
-        requires { BoxFits self.old entry.now }
-        ensures ok { OnOk result (self.new ≡ box_applied entry.now self.old) }
+        requires { BoxFits self.old.meaning entry.now }
+        ensures ok { OnOk result (self.new.meaning ≡ box_applied entry.now self.old.meaning) }
         ensures err { OnErr result (self.new ≡ self.old) }
         ensures added_only { IsErr result → IsAdded entry.now }
+        ensures full { IsErr result → self.old.room ≡ 0 }
+        // A message that is added takes one place at most, and any other entry none.
+        ensures room { self.old.room ≤ self.new.room + length (row_made entry.now) }
     {
         match *entry {
             BoxEntry::N { next } => {
@@ -152,14 +179,15 @@ impl BoxIndex {
                     guid,
                     map_uid,
                 };
-                self.rows.push(row)?;
+                self.rows.reserve()?;
+                self.rows.push(row);
                 self.next = uid.0 + 1;
             }
             BoxEntry::F { uid, flags } => {
-                flag_rows(&mut self.rows, uid, known_flags(flags));
+                self.rows.flag(uid, known_flags(flags));
             }
             BoxEntry::R { uid } => {
-                remove_rows(&mut self.rows, uid);
+                self.rows.remove(uid);
             }
         }
         Ok(())
@@ -172,41 +200,4 @@ fn known_flags(bits: u8) -> Flags
     ensures { result ≡ bits }
 {
     flags_of(bits).unwrap()
-}
-
-/// The row with this UID.
-fn row_with(rows: &[BoxRow], uid: Uid) -> Option<BoxRow>
-    ensures { option_map row_of result ≡ find (λ row. row.uid == uid.0) (map row_of rows.now) }
-{
-    for row in rows {
-        if row.uid.0 == uid.0 {
-            return Some(*row);
-        }
-    }
-    None
-}
-
-/// Sets the flags of each row with this UID.
-fn flag_rows(rows: &mut Vec<BoxRow>, uid: Uid, flags: Flags)
-    ensures { rows.new.items ≡ map (flagged uid.0 flags) rows.old.items }
-{
-    for place in 0..rows.len() {
-        if uid.0 == rows[place].uid.0 {
-            rows[place].flags = flags;
-        }
-    }
-}
-
-/// Removes each row with this UID.
-fn remove_rows(rows: &mut Vec<BoxRow>, uid: Uid)
-    ensures { rows.new.items ≡ filter (λ row. not (uid.0 == row.uid.0)) rows.old.items }
-{
-    let mut place = 0;
-    while place < rows.len() {
-        if uid.0 == rows[place].uid.0 {
-            rows.remove(place);
-        } else {
-            place += 1;
-        }
-    }
 }

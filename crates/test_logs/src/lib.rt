@@ -10,6 +10,8 @@ mod large;
 #[cfg(test)]
 mod octets;
 #[cfg(test)]
+mod pieces;
+#[cfg(test)]
 mod reading;
 #[cfg(test)]
 mod repairs;
