@@ -1,0 +1,5 @@
+pub mod Instances
+pub mod Keys
+pub mod MetadataRead
+pub mod Options
+pub mod SoFar
