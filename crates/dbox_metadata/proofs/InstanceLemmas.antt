@@ -21,9 +21,6 @@ digits_at octets i = encode_lower (slice_index octets i ∷ [])
 abbrev pub pieces_text : List ℕ → List ℕ → List ℕ → List ℕ → List ℕ
 pieces_text first second hash id = first ++ 47 ∷ (second ++ 47 ∷ (hash ++ 45 ∷ id))
 
-made_hash : List ℕ → Hash
-made_hash octets = record { 0 = octets }
-
 pieces_of : (octets : List ℕ) (id : InstId) → 2 ≤ length octets → instance_path (record { 0 = octets }) id ≡ pieces_text (digits_at octets 0) (digits_at octets 1) (encode_lower octets) (encode_lower id.0)
 pieces_of [] id l = absurd (omega arith)
 pieces_of (a ∷ []) id l = absurd (omega arith)
@@ -53,16 +50,6 @@ second_piece second name hash id p names e =
 pub third_piece : (digits behind : List ℕ) (hash : Hash) (id : InstId) → IsTrue (list_all (is_other_than 45) digits) → NamesInstance hash id →
     digits ++ 45 ∷ behind ≡ encode_lower hash.0 ++ 45 ∷ encode_lower id.0 → (digits ≡ encode_lower hash.0) × (behind ≡ encode_lower id.0)
 third_piece digits behind hash id p names e = cut_digits 45 hash.0 digits behind _ (omega arith) names.hash_octets p e
-
--- a path of octets that were read
-pub path_made : (path first rest second name digits behind : List ℕ) (a b : ℕ) (hash id : List ℕ) →
-    path ≡ first ++ 47 ∷ rest → rest ≡ second ++ 47 ∷ name → name ≡ digits ++ 45 ∷ behind →
-    first ≡ encode_lower (a ∷ []) → second ≡ encode_lower (b ∷ []) → digits ≡ encode_lower hash → behind ≡ encode_lower id →
-    slice_index hash 0 ≡ a → slice_index hash 1 ≡ b → length hash ≡ 20 → IsOctets hash → length id ≡ 16 → IsOctets id →
-    IsInstancePath path (record { 0 = hash }) (record { 0 = id })
-path_made path first rest second name digits behind a b hash id e1 e2 e3 d1 d2 d3 d4 h0 h1 hl ho il io =
-    let names : NamesInstance (record { 0 = hash }) (record { 0 = id }) = record { hash_length = hl; hash_octets = ho; id_length = il; id_octets = io } in
-    (names, e1 ∙ rw (e2, e3, d1, d2, d3, d4, ← h0, ← h1) (sym (path_pieces (record { 0 = hash }) (record { 0 = id }) names)))
 
 -- a path has 79 octets
 pub path_length : (hash : Hash) (id : InstId) → NamesInstance hash id → length (instance_path hash id) ≡ 79

@@ -1,5 +1,5 @@
 -- Lines that were taken one after another, and where they end.
-use Rattle.std.specs.Prelude.{◌≡◌, ◌≢◌, ◌-◌, ℕ, List, [], ◌∷◌, ◌++◌, length, flat_map, Result, Ok, Err, ◌⊎◌, refl}
+use Rattle.std.specs.Prelude.{◌≡◌, ◌≢◌, ◌-◌, ℕ, List, [], ◌∷◌, ◌++◌, length, flat_map, Result, Ok, Err, ◌⊎◌}
 use Rattle.std.proofs.Common.{sym, inr, ◌∙◌, ap, subst, arith, append_assoc, append-nil, length-append}
 use Rattle.std.proofs.lemmas.Grind.{flat_map-append}
 use Rattle.model_storage.specs.declared.metadata_value.Metadata.{Metadata}
@@ -19,9 +19,6 @@ pub record TakenBefore (text rest : List ℕ) (reader : Reader) : Type 0 where
   pub parts : text ≡ flat_map line_text good ++ rest
   pub follow : FollowOneAnother [] good
   pub taken : HasTaken good reader
-
-pub nothing_taken : (text : List ℕ) (reader : Reader) → HasTaken [] reader → TakenBefore text text reader
-nothing_taken text reader h = record { good = []; parts = refl; follow = tt; taken = h }
 
 follow_more : (before good : List Line) (line : Line) → FollowOneAnother before good → MayFollow (before ++ good) line → FollowOneAnother before (good ++ line ∷ [])
 follow_more before [] line f m = (subst (λ (o : List Line). MayFollow o line) (append-nil before) m, tt)

@@ -1,8 +1,8 @@
 -- The options of a reference.
-use Rattle.std.specs.Prelude.{◌≡◌, ◌≢◌, ◌<◌, ◌^◌, ℕ, Bool, true, false, List, [], ◌∷◌, ◌++◌, length, codes, IsTrue, Option, Some, None, MatchOption, if◌then◌else◌, refl}
+use Rattle.std.specs.Prelude.{◌≡◌, ◌≢◌, ◌<◌, ◌^◌, ℕ, Bool, true, false, List, [], ◌∷◌, ◌++◌, length, codes, IsTrue, Option, Some, None, if◌then◌else◌, refl}
 use Rattle.std.specs.List.{list_all}
 use Rattle.std.specs.Fmt.{decimal}
-use Rattle.std.proofs.Common.{sym, ◌∙◌, ap, subst, arith, append-nil, length-append, Bor}
+use Rattle.std.proofs.Common.{sym, ◌∙◌, ap, subst, arith, append-nil, length-append}
 use Rattle.mdbox_base.specs.Words.{is_other_than}
 use Rattle.mdbox_base.specs.declared.metadata.LineForm.{LineForm}
 use Rattle.model_base64.specs.Base64Text.{IsForm}
@@ -10,14 +10,6 @@ use Rattle.model_octets.proofs.PiecesLemmas.{split_same}
 use Rattle.model_storage.proofs.ReferenceLemmas.{is_digit, decimal_digits, others, all_last, all_more}
 use Rattle.model_storage.specs.References.{options_text, FormFits}
 use Rattle.dbox_metadata.specs.Options.{lines_text}
-
--- what stands in front of an end, where that is looked for
-abbrev pub StripsEnd : Option (Bor (List ℕ)) → List ℕ → List ℕ → Type 0
-StripsEnd r text end = MatchOption r ((front : List ℕ) → text ≢ front ++ end) (λ x. text ≡ x.now ++ end)
-
--- what stands behind a front
-abbrev pub StripsFront : Option (Bor (List ℕ)) → List ℕ → List ℕ → Type 0
-StripsFront r text front = MatchOption r ((behind : List ℕ) → text ≢ front ++ behind) (λ x. text ≡ front ++ x.now)
 
 before_end : (x y end : List ℕ) → x ++ end ≡ y ++ end → x ≡ y
 before_end x y end e =
@@ -39,14 +31,6 @@ with_mark text x form fits at e = by_crlf form.crlf refl
     by_crlf true is = (is, before_end x (decimal form.length) (67 ∷ []) (sym at ∙ e ∙ rw is refl))
     by_crlf false is = absurd (no_end form.length x (omega (arith, fits.most)) (sym (append-nil _) ∙ sym (rw is at e) ∙ at))
 
--- else it is that of a form without
-pub without_mark : (text : List ℕ) (form : LineForm) → IsForm form → ((x : List ℕ) → text ≢ x ++ codes "C") → text ≡ lines_text form → (form.crlf ≡ false) × (text ≡ decimal form.length)
-without_mark text form fits none e = by_crlf form.crlf refl
-  where
-    by_crlf : (b : Bool) → form.crlf ≡ b → (form.crlf ≡ false) × (text ≡ decimal form.length)
-    by_crlf true is = absurd (none (decimal form.length) (rw is at e))
-    by_crlf false is = (is, rw is at e ∙ append-nil _)
-
 -- a form by its parts
 pub lines_made : (text x : List ℕ) (form : LineForm) (crlf : Bool) → form.crlf ≡ crlf → x ≡ decimal form.length → text ≡ x ++ (if crlf then codes "C" else codes "") → text ≡ lines_text form
 lines_made text x form crlf c n e = rw (c, ← n) e
@@ -59,8 +43,3 @@ no_space_mark ds false h = rw (append-nil ds) h
 pub options_no_space : (a : Option LineForm) → FormFits a → IsTrue (list_all (is_other_than 32) (options_text a))
 options_no_space None p = refl
 options_no_space (Some f) p = no_space_mark (decimal f.length) f.crlf (others 32 (decimal f.length) refl (decimal_digits f.length (omega (arith, p.most))))
-
--- options other than `-` begin with `B`
-pub options_begin : (options : List ℕ) (form : Option LineForm) → FormFits form → options ≢ codes "-" → options ≡ options_text form → (f : LineForm) × IsForm f × (form ≡ Some f) × (options ≡ codes "B" ++ lines_text f)
-options_begin options None fits other e = absurd (other e)
-options_begin options (Some f) fits other e = (f, fits, refl, e)

@@ -2,6 +2,7 @@
 #![tactic(auto)]
 
 pub use error::MetaError;
+pub use laws::{made_metadata_is_said, made_metadata_is_short};
 pub use metadata_read::read_metadata;
 pub use metadata_write::push_metadata;
 pub use model_storage::Metadata;
@@ -10,6 +11,7 @@ pub use refs_write::push_refs;
 
 mod error;
 mod key;
+mod laws;
 mod metadata_read;
 mod metadata_write;
 mod reader;
