@@ -5,3 +5,4 @@ pub mod RowLemmas
 pub mod RunLemmas
 pub mod ScanLemmas
 pub mod SizeLemmas
+pub mod WrittenLemmas

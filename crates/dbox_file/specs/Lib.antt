@@ -3,3 +3,4 @@ pub mod MessageFound
 pub mod Reading
 pub mod Rows
 pub mod Sizes
+pub mod Written

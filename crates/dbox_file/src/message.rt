@@ -23,7 +23,7 @@ const MAX_BODY: u64 = 4_294_967_295;
 /// How many octets a message's header has.
 const HEADER: u64 = 30;
 /// What stands between a body and its metadata lines.
-const TRAILER: &[u8] = b"\n\x01\x03\n";
+pub const TRAILER: &[u8] = b"\n\x01\x03\n";
 
 /// The place of the message at an offset, which is at most the file's length.
 /// A rest that may go on to be a message is `Truncated`, also an empty one.

@@ -1,4 +1,4 @@
-//! Tests of what is text: numbers, sources and sinks, the parts of a message, base64, attachments and storage files.
+//! Tests of what is text: numbers, sources and sinks, the parts of a message, base64, attachments, storage files and metadata.
 #![tactic(auto)]
 
 #[cfg(test)]
@@ -9,6 +9,8 @@ mod base64_text;
 mod fields;
 #[cfg(test)]
 mod joins;
+#[cfg(test)]
+mod metadata;
 #[cfg(test)]
 mod number_text;
 #[cfg(test)]

@@ -1,0 +1,9 @@
+pub mod ClearLemmas
+pub mod InstanceLemmas
+pub mod LinesLemmas
+pub mod MadeLemmas
+pub mod OptionLemmas
+pub mod ReaderLemmas
+pub mod RefLemmas
+pub mod ShortLemmas
+pub mod SplitLemmas

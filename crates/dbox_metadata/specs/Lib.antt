@@ -1,0 +1,6 @@
+pub mod Instances
+pub mod Keys
+pub mod MadeMetadata
+pub mod MetadataRead
+pub mod Options
+pub mod SoFar
