@@ -1,9 +1,8 @@
 // The index of a mailbox.
-ghost use Rattle.std.specs.Prelude.{◌≡◌, ◌≢◌, ◌+◌, ◌<◌, ◌≤◌, ◌↔◌, ◌++◌, ◌∷◌, [], ℕ, List, length, map, slice_get, Option, Some, None, IsTrue, IsNone, IsErr, IfOk, IfSome, IfNone, OnOk, OnErr, find, filter, not, ◌==◌, vec_len, vec_capacity};
+ghost use Rattle.std.specs.Prelude.{◌≡◌, ◌+◌, ◌<◌, ◌≤◌, ◌↔◌, [], length, map, slice_get, IsTrue, IsNone, IsErr, IfOk, IfSome, OnOk, OnErr};
 ghost use Rattle.std.specs.Option.{option_map};
-ghost use Rattle.model_meaning.specs.BoxMeaning.{LogRow, box_meaning, box_applied, BoxFits, row_at, row_made, row_changed, row_removed};
-ghost use Rattle.mdbox_base.specs.declared.entries.BoxEntry.TheVariants as entry;
-ghost use Rattle.box_index.specs.Row.{row_of, flagged};
+ghost use Rattle.model_meaning.specs.BoxMeaning.{box_meaning, box_applied, BoxFits, row_at, row_made};
+ghost use Rattle.box_index.specs.Row.{row_of};
 
 use crate::pieces::Pieces;
 use crate::rows::BoxRows;

@@ -1,5 +1,5 @@
 // One piece of the rows of a mailbox.
-ghost use Rattle.std.specs.Prelude.{◌≡◌, ◌≢◌, ◌<◌, ◌≤◌, ◌+◌, ◌-◌, ◌↔◌, ◌++◌, ◌∷◌, [], ◌==◌, IsTrue, IsNone, IsErr, IfSome, OnOk, OnErr, false, length, map, filter, find, not, slice_get};
+ghost use Rattle.std.specs.Prelude.{◌≡◌, ◌<◌, ◌≤◌, ◌+◌, ◌-◌, ◌↔◌, ◌++◌, ◌∷◌, [], ◌==◌, IsTrue, IsNone, IsErr, IfSome, OnOk, OnErr, false, length, map, filter, find, not, slice_get};
 ghost use Rattle.std.specs.List.{HoldsAt};
 ghost use Rattle.box_index.specs.Row.{flagged};
 ghost use Rattle.box_index.specs.Pieces.{AreRising, LacksUid, begins_by};
