@@ -1,0 +1,7 @@
+pub mod AddLemmas
+pub mod MakeLemmas
+pub mod RemoveLemmas
+pub mod SearchLemmas
+pub mod FileListLemmas
+pub mod KnownLemmas
+pub mod OrderLemmas

@@ -1,0 +1,13 @@
+//! The storage files of a store: who has taken which, where each ends, and what is written to them.
+#![tactic(auto)]
+
+pub use error::DiskFault;
+pub use file::{FileState, MailFile, Take};
+pub use files::MailFiles;
+
+mod device;
+mod error;
+mod file;
+mod files;
+mod list;
+mod placing;
