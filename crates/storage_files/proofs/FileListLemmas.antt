@@ -1,7 +1,7 @@
 -- One file among those of a store: found, changed, or left out.
 use Rattle.std.specs.Prelude.{is_some, not, remove, if◌then◌else◌}
 use Rattle.std.proofs.Common.{◌≡◌, ◌≢◌, inl, inr, ℕ, zero, suc, ◌<◌, ◌==◌, true, false, List, [], ◌∷◌, ◌++◌, length, slice_get, get_or, set, Option, Some, None, All, refl, sym, ◌∙◌, ap, subst, arith}
-use Rattle.std.specs.Option.{option_and_then}
+use Rattle.std.specs.Option.{option_map, option_and_then}
 use Rattle.std.proofs.lemmas.Bool.{cases_Bool, cases_eq, cond-true, cond-false, eq-eqb, ne_eqb, true≢false}
 use Rattle.std.proofs.lemmas.List.Elements.{All-head, All-tail}
 use Rattle.model_octets.proofs.PairLemmas.{pairs_head, pairs_tail}
@@ -94,7 +94,7 @@ without-at (x ∷ xs) n (suc at) f rise e same =
     let kept : not (x.file.0 == n) ≡ true = ap not (ne_eqb x.file.0 n (λ k. omega (arith, l, k, same))) in
     ap (λ (ys : List MailFile). x ∷ ys) (without-at xs n at f (pairs_tail R x xs rise) e same) ∙ sym (cond-true (not (x.file.0 == n)) (x ∷ without_file n xs) (without_file n xs) kept)
 
--- where files end, by what was done to one
+-- the file with a number, by what was done to one
 
 -- a change that keeps numbers
 abbrev pub KeepsNumber : (MailFile → MailFile) → Type 0
@@ -107,95 +107,117 @@ number_kept n step x keeps = elim (cases_Bool (x.file.0 == n)) [
 ]
 
 -- of another number
-pub ends-other : (n m : ℕ) (step : MailFile → MailFile) (files : List MailFile) → KeepsNumber step → m ≢ n → end_in m (changed_in n step files) ≡ end_in m files
-ends-other n m step [] keeps apart = refl
-ends-other n m step (x ∷ xs) keeps apart =
+pub file-other : (n m : ℕ) (step : MailFile → MailFile) (files : List MailFile) → KeepsNumber step → m ≢ n → file_in m (changed_in n step files) ≡ file_in m files
+file-other n m step [] keeps apart = refl
+file-other n m step (x ∷ xs) keeps apart =
     let y : MailFile = if x.file.0 == n then step x else x in
-    let number : y.file.0 ≡ x.file.0 = number_kept n step x keeps in
-    let e : (y.file.0 == m) ≡ (x.file.0 == m) = ap (λ (k : ℕ). k == m) number in
+    let e : (y.file.0 == m) ≡ (x.file.0 == m) = ap (λ (k : ℕ). k == m) (number_kept n step x keeps) in
     elim (cases_eq x.file.0 m) [
       | inl is ↦
           let same : y ≡ x = cond-false (x.file.0 == n) (step x) x (ne_eqb x.file.0 n (λ k. apart (sym is ∙ k))) in
-          ap (option_and_then (λ f. f.end)) (cond-true (y.file.0 == m) (Some y) (file_in m (changed_in n step xs)) (e ∙ eq-eqb x.file.0 m is))
-          ∙ ap (λ (z : MailFile). z.end) same
-          ∙ sym (ap (option_and_then (λ f. f.end)) (cond-true (x.file.0 == m) (Some x) (file_in m xs) (eq-eqb x.file.0 m is)))
+          cond-true (y.file.0 == m) (Some y) (file_in m (changed_in n step xs)) (e ∙ eq-eqb x.file.0 m is)
+          ∙ ap Some same
+          ∙ sym (cond-true (x.file.0 == m) (Some x) (file_in m xs) (eq-eqb x.file.0 m is))
       | inr not_is ↦
-          ap (option_and_then (λ f. f.end)) (cond-false (y.file.0 == m) (Some y) (file_in m (changed_in n step xs)) (e ∙ ne_eqb x.file.0 m not_is))
-          ∙ ends-other n m step xs keeps apart
-          ∙ sym (ap (option_and_then (λ f. f.end)) (cond-false (x.file.0 == m) (Some x) (file_in m xs) (ne_eqb x.file.0 m not_is)))
+          cond-false (y.file.0 == m) (Some y) (file_in m (changed_in n step xs)) (e ∙ ne_eqb x.file.0 m not_is)
+          ∙ file-other n m step xs keeps apart
+          ∙ sym (cond-false (x.file.0 == m) (Some x) (file_in m xs) (ne_eqb x.file.0 m not_is))
     ]
 
--- by a change that keeps the end too
-pub ends-kept : (n m : ℕ) (step : MailFile → MailFile) (files : List MailFile) → KeepsNumber step → ((f : MailFile) → (step f).end ≡ f.end) → end_in m (changed_in n step files) ≡ end_in m files
-ends-kept n m step [] keeps same = refl
-ends-kept n m step (x ∷ xs) keeps same =
+-- of the one that changes
+pub file-here : (n : ℕ) (step : MailFile → MailFile) (files : List MailFile) → KeepsNumber step → file_in n (changed_in n step files) ≡ option_map step (file_in n files)
+file-here n step [] keeps = refl
+file-here n step (x ∷ xs) keeps =
     let y : MailFile = if x.file.0 == n then step x else x in
-    let e : (y.file.0 == m) ≡ (x.file.0 == m) = ap (λ (k : ℕ). k == m) (number_kept n step x keeps) in
-    let end : y.end ≡ x.end = elim (cases_Bool (x.file.0 == n)) [
-      | inl hit ↦ ap (λ (z : MailFile). z.end) (cond-true (x.file.0 == n) (step x) x hit) ∙ same x
-      | inr miss ↦ ap (λ (z : MailFile). z.end) (cond-false (x.file.0 == n) (step x) x miss)
-    ] in
-    elim (cases_Bool (x.file.0 == m)) [
-      | inl is ↦
-          ap (option_and_then (λ f. f.end)) (cond-true (y.file.0 == m) (Some y) (file_in m (changed_in n step xs)) (e ∙ is))
-          ∙ end
-          ∙ sym (ap (option_and_then (λ f. f.end)) (cond-true (x.file.0 == m) (Some x) (file_in m xs) is))
-      | inr not_is ↦
-          ap (option_and_then (λ f. f.end)) (cond-false (y.file.0 == m) (Some y) (file_in m (changed_in n step xs)) (e ∙ not_is))
-          ∙ ends-kept n m step xs keeps same
-          ∙ sym (ap (option_and_then (λ f. f.end)) (cond-false (x.file.0 == m) (Some x) (file_in m xs) not_is))
-    ]
-
--- of the file whose end is set
-pub ends-here : (n end : ℕ) (files : List MailFile) (f : MailFile) → file_in n files ≡ Some f → end_in n (changed_in n (ending_at end) files) ≡ Some end
-ends-here n end [] f e = absurd (let w : None ≡ Some f = e in cc)
-ends-here n end (x ∷ xs) f e =
-    let y : MailFile = if x.file.0 == n then ending_at end x else x in
-    let same : (y.file.0 == n) ≡ (x.file.0 == n) = ap (λ (k : ℕ). k == n) (number_kept n (ending_at end) x (λ g. refl)) in
+    let e : (y.file.0 == n) ≡ (x.file.0 == n) = ap (λ (k : ℕ). k == n) (number_kept n step x keeps) in
     elim (cases_Bool (x.file.0 == n)) [
       | inl hit ↦
-          ap (option_and_then (λ g. g.end)) (cond-true (y.file.0 == n) (Some y) (file_in n (changed_in n (ending_at end) xs)) (same ∙ hit))
-          ∙ ap (λ (z : MailFile). z.end) (cond-true (x.file.0 == n) (ending_at end x) x hit)
+          cond-true (y.file.0 == n) (Some y) (file_in n (changed_in n step xs)) (e ∙ hit)
+          ∙ ap Some (cond-true (x.file.0 == n) (step x) x hit)
+          ∙ sym (ap (option_map step) (cond-true (x.file.0 == n) (Some x) (file_in n xs) hit))
       | inr miss ↦
-          ap (option_and_then (λ g. g.end)) (cond-false (y.file.0 == n) (Some y) (file_in n (changed_in n (ending_at end) xs)) (same ∙ miss))
-          ∙ ends-here n end xs f (sym (cond-false (x.file.0 == n) (Some x) (file_in n xs) miss) ∙ e)
+          cond-false (y.file.0 == n) (Some y) (file_in n (changed_in n step xs)) (e ∙ miss)
+          ∙ file-here n step xs keeps
+          ∙ sym (ap (option_map step) (cond-false (x.file.0 == n) (Some x) (file_in n xs) miss))
     ]
 
 -- without one file
-pub ends-without_it : (n : ℕ) (files : List MailFile) → end_in n (without_file n files) ≡ None
-ends-without_it n [] = refl
-ends-without_it n (x ∷ xs) = elim (cases_Bool (x.file.0 == n)) [
-  | inl hit ↦ ap (end_in n) (cond-false (not (x.file.0 == n)) (x ∷ without_file n xs) (without_file n xs) (ap not hit)) ∙ ends-without_it n xs
+pub file-gone : (n : ℕ) (files : List MailFile) → file_in n (without_file n files) ≡ None
+file-gone n [] = refl
+file-gone n (x ∷ xs) = elim (cases_Bool (x.file.0 == n)) [
+  | inl hit ↦ ap (file_in n) (cond-false (not (x.file.0 == n)) (x ∷ without_file n xs) (without_file n xs) (ap not hit)) ∙ file-gone n xs
   | inr miss ↦
-      ap (end_in n) (cond-true (not (x.file.0 == n)) (x ∷ without_file n xs) (without_file n xs) (ap not miss))
-      ∙ ap (option_and_then (λ g. g.end)) (cond-false (x.file.0 == n) (Some x) (file_in n (without_file n xs)) miss)
-      ∙ ends-without_it n xs
+      ap (file_in n) (cond-true (not (x.file.0 == n)) (x ∷ without_file n xs) (without_file n xs) (ap not miss))
+      ∙ cond-false (x.file.0 == n) (Some x) (file_in n (without_file n xs)) miss
+      ∙ file-gone n xs
 ]
 
-pub ends-without : (n m : ℕ) (files : List MailFile) → m ≢ n → end_in m (without_file n files) ≡ end_in m files
-ends-without n m [] apart = refl
-ends-without n m (x ∷ xs) apart = elim (cases_Bool (x.file.0 == n)) [
-  | inl hit ↦
-      ap (end_in m) (cond-false (not (x.file.0 == n)) (x ∷ without_file n xs) (without_file n xs) (ap not hit))
-      ∙ ends-without n m xs apart
-      ∙ sym (ap (option_and_then (λ g. g.end)) (cond-false (x.file.0 == m) (Some x) (file_in m xs) (ne_eqb x.file.0 m (λ k. apart (sym k ∙ eqb_is x.file.0 n hit)))))
-  | inr miss ↦
-      ap (end_in m) (cond-true (not (x.file.0 == n)) (x ∷ without_file n xs) (without_file n xs) (ap not miss))
+pub file-without : (n m : ℕ) (files : List MailFile) → m ≢ n → file_in m (without_file n files) ≡ file_in m files
+file-without n m [] apart = refl
+file-without n m (x ∷ xs) apart = elim (cases_eq x.file.0 n) [
+  | inl same ↦
+      ap (file_in m) (cond-false (not (x.file.0 == n)) (x ∷ without_file n xs) (without_file n xs) (ap not (eq-eqb x.file.0 n same)))
+      ∙ file-without n m xs apart
+      ∙ sym (cond-false (x.file.0 == m) (Some x) (file_in m xs) (ne_eqb x.file.0 m (λ k. apart (sym k ∙ same))))
+  | inr other ↦
+      ap (file_in m) (cond-true (not (x.file.0 == n)) (x ∷ without_file n xs) (without_file n xs) (ap not (ne_eqb x.file.0 n other)))
       ∙ elim (cases_Bool (x.file.0 == m)) [
-        | inl is ↦
-            ap (option_and_then (λ g. g.end)) (cond-true (x.file.0 == m) (Some x) (file_in m (without_file n xs)) is)
-            ∙ sym (ap (option_and_then (λ g. g.end)) (cond-true (x.file.0 == m) (Some x) (file_in m xs) is))
-        | inr not_is ↦
-            ap (option_and_then (λ g. g.end)) (cond-false (x.file.0 == m) (Some x) (file_in m (without_file n xs)) not_is)
-            ∙ ends-without n m xs apart
-            ∙ sym (ap (option_and_then (λ g. g.end)) (cond-false (x.file.0 == m) (Some x) (file_in m xs) not_is))
+        | inl hit ↦ cond-true (x.file.0 == m) (Some x) (file_in m (without_file n xs)) hit ∙ sym (cond-true (x.file.0 == m) (Some x) (file_in m xs) hit)
+        | inr miss ↦
+            cond-false (x.file.0 == m) (Some x) (file_in m (without_file n xs)) miss
+            ∙ file-without n m xs apart
+            ∙ sym (cond-false (x.file.0 == m) (Some x) (file_in m xs) miss)
       ]
 ]
-  where
-    eqb_is : (a b : ℕ) → (a == b) ≡ true → a ≡ b
-    eqb_is a b hit = elim (cases_eq a b) [ inl is ↦ is | inr apart ↦ absurd (true≢false (sym hit ∙ ne_eqb a b apart)) ]
 
 -- with one that somebody is about to make
+pub file-begun : (file : FileNo) (files : List MailFile) → file_in file.0 files ≡ None → file_in file.0 (files ++ file_begun file ∷ []) ≡ Some (file_begun file)
+file-begun file [] none = cond-true (file.0 == file.0) (Some (file_begun file)) None (eq-eqb file.0 file.0 refl)
+file-begun file (x ∷ xs) none = elim (cases_Bool (x.file.0 == file.0)) [
+  | inl hit ↦ absurd (let w : Some x ≡ None = sym (cond-true (x.file.0 == file.0) (Some x) (file_in file.0 xs) hit) ∙ none in cc)
+  | inr miss ↦
+      cond-false (x.file.0 == file.0) (Some x) (file_in file.0 (xs ++ file_begun file ∷ [])) miss
+      ∙ file-begun file xs (sym (cond-false (x.file.0 == file.0) (Some x) (file_in file.0 xs) miss) ∙ none)
+]
+
+pub file-before_begun : (file : FileNo) (m : ℕ) (files : List MailFile) → m ≢ file.0 → file_in m (files ++ file_begun file ∷ []) ≡ file_in m files
+file-before_begun file m [] apart = cond-false (file.0 == m) (Some (file_begun file)) None (ne_eqb file.0 m (λ e. apart (sym e)))
+file-before_begun file m (x ∷ xs) apart = elim (cases_Bool (x.file.0 == m)) [
+  | inl hit ↦ cond-true (x.file.0 == m) (Some x) (file_in m (xs ++ file_begun file ∷ [])) hit ∙ sym (cond-true (x.file.0 == m) (Some x) (file_in m xs) hit)
+  | inr miss ↦
+      cond-false (x.file.0 == m) (Some x) (file_in m (xs ++ file_begun file ∷ [])) miss
+      ∙ file-before_begun file m xs apart
+      ∙ sym (cond-false (x.file.0 == m) (Some x) (file_in m xs) miss)
+]
+
+-- where files end
+
+pub ends-other : (n m : ℕ) (step : MailFile → MailFile) (files : List MailFile) → KeepsNumber step → m ≢ n → end_in m (changed_in n step files) ≡ end_in m files
+ends-other n m step files keeps apart = ap (option_and_then (λ f. f.end)) (file-other n m step files keeps apart)
+
+pub ends-kept : (n m : ℕ) (step : MailFile → MailFile) (files : List MailFile) → KeepsNumber step → ((f : MailFile) → (step f).end ≡ f.end) → end_in m (changed_in n step files) ≡ end_in m files
+ends-kept n m step files keeps same = elim (cases_eq m n) [
+  | inl is ↦
+      let here : end_in n (changed_in n step files) ≡ end_in n files = ap (option_and_then (λ f. f.end)) (file-here n step files keeps) ∙ kept (file_in n files) in
+      subst (λ (k : ℕ). end_in k (changed_in n step files) ≡ end_in k files) (sym is) here
+  | inr apart ↦ ends-other n m step files keeps apart
+]
+  where
+    kept : (o : Option MailFile) → option_and_then (λ f. f.end) (option_map step o) ≡ option_and_then (λ f. f.end) o
+    kept None = refl
+    kept (Some f) = same f
+
+pub ends-here : (n end : ℕ) (files : List MailFile) (f : MailFile) → file_in n files ≡ Some f → end_in n (changed_in n (ending_at end) files) ≡ Some end
+ends-here n end files f e =
+    ap (option_and_then (λ g. g.end)) (file-here n (ending_at end) files (λ g. refl)) ∙ ap (λ (o : Option MailFile). option_and_then (λ g. g.end) (option_map (ending_at end) o)) e
+
+pub ends-without_it : (n : ℕ) (files : List MailFile) → end_in n (without_file n files) ≡ None
+ends-without_it n files = ap (option_and_then (λ g. g.end)) (file-gone n files)
+
+pub ends-without : (n m : ℕ) (files : List MailFile) → m ≢ n → end_in m (without_file n files) ≡ end_in m files
+ends-without n m files apart = ap (option_and_then (λ g. g.end)) (file-without n m files apart)
+
+-- a new file has no end yet
 pub ends-begun : (m : ℕ) (file : FileNo) (files : List MailFile) → end_in m (files ++ file_begun file ∷ []) ≡ end_in m files
 ends-begun m file [] = elim (cases_Bool (file.0 == m)) [
   | inl hit ↦ ap (option_and_then (λ g. g.end)) (cond-true (file.0 == m) (Some (file_begun file)) None hit)

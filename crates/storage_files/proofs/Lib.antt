@@ -5,3 +5,4 @@ pub mod SearchLemmas
 pub mod FileListLemmas
 pub mod KnownLemmas
 pub mod OrderLemmas
+pub mod GivenLemmas

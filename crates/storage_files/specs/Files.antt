@@ -1,5 +1,5 @@
 -- What callers see of the storage files of a store, and what taking one and giving it back mean.
-use Rattle.std.specs.Prelude.{◌≡◌, ◌==◌, ◌⊎◌, ◌+◌, ◌-◌, ◌<◌, ◌≤◌, ℕ, Bool, true, false, not, ◌&&◌, nat_lt, if◌then◌else◌, List, [], ◌∷◌, ◌++◌, map, filter, find, All, AllPairs, Contains, Option, Some, None, is_some, IsSome}
+use Rattle.std.specs.Prelude.{◌≡◌, ◌==◌, ◌⊎◌, ◌+◌, ◌-◌, ◌<◌, ◌≤◌, ℕ, Bool, true, false, not, ◌&&◌, nat_lt, if◌then◌else◌, List, [], ◌∷◌, ◌++◌, map, filter, find, All, AllPairs, Contains, Option, Some, None, is_some, IsSome, ⊤}
 use Rattle.std.specs.Option.{option_map, option_map_or, option_and_then}
 use Rattle.mdbox_base.specs.declared.ids.FileNo.{FileNo}
 use Rattle.storage_files.specs.declared.file.FileState.{FileState}
@@ -91,7 +91,13 @@ IsTakeFor size value (Known file) = (f : MailFile) × Contains value.files f × 
 IsTakeFor size value (New file) = All (λ g. HasRoomFor size g → ⊥) value.files × (file.0 ≡ value.highest + 1) × (value.highest < 4294967294)
 IsTakeFor size value Full = All (λ g. HasRoomFor size g → ⊥) value.files × (value.highest ≡ 4294967294)
 
--- what is known after it
+-- The file is the taker's. A known one has room for so many octets, and a new one is to be made.
+abbrev pub IsGiven : ℕ → List MailFile → Take → Type 0
+IsGiven size files (Known file) = (is_taken_in file.0 files ≡ true) × ((end : ℕ) × (end_in file.0 files ≡ Some end) × (end + size ≤ 10485760))
+IsGiven size files (New file) = (is_taken_in file.0 files ≡ true) × (end_in file.0 files ≡ None)
+IsGiven size files Full = ⊤
+
+-- what is known after a file was taken
 abbrev pub after_take : Take → FilesValue → FilesValue
 after_take (Known file) value = record value { files = changed_in file.0 (with_taken true) value.files }
 after_take (New file) value = record { files = value.files ++ file_begun file ∷ []; highest = file.0; spare = value.spare - 1 }

@@ -5,14 +5,14 @@ ghost use Rattle.storage_files.specs.Files.{HasRoomFor};
 use mdbox_base::FileNo;
 
 /// How many octets a storage file is filled up to. A longer message has a file to itself.
-const FULL: u64 = 10_485_760;
+pub(crate) const FULL: u64 = 10_485_760;
 
 /// A storage file as an opening finds it; `end` is its length in octets.
 #[derive(Clone, Copy, Debug, PartialEq, Eq)]
 pub struct FileState {
     pub file: FileNo,
     pub end: u64,
-    /// It stays as it is for ever.
+    /// Nothing is added to it, ever.
     pub sealed: bool,
     /// Nothing is added to it until the next opening, since an offset past its end is part of a GUID that was given.
     pub barred: bool,

@@ -2,7 +2,7 @@
 ghost use Rattle.std.specs.Prelude.{◌≡◌, ◌+◌, ◌<◌, ◌≤◌, ℕ, map, max, find, true, is_some, All, AllPairs, IfOk, OnOk, OnErr, IsOk};
 ghost use Rattle.std.specs.Option.{option_map};
 ghost use Rattle.storage_files.specs.declared.file.Take.TheVariants as Take;
-ghost use Rattle.storage_files.specs.Files.{IsTakeFor, after_take, file_found, file_past, end_in, is_taken_in, released_in, without_file, changed_in, ending_at};
+ghost use Rattle.storage_files.specs.Files.{IsTakeFor, IsGiven, after_take, file_found, file_past, end_in, is_taken_in, released_in, without_file, changed_in, ending_at};
 
 use crate::file::{FileState, MailFile, Take};
 use crate::list::{find, greatest_with_room, leave_out, mark, place_past, set_end};
@@ -79,11 +79,13 @@ impl MailFiles {
         self.spare
     }
 
-    /// Takes a file for a message of so many octets, with all that belongs to it. It looks at files from the greatest
-    /// number down to the one that it takes.
+    /// Takes a file for so many octets: a message with its header and its metadata. It looks at files from the greatest
+    /// number down to the one that it takes, so at all of them if none has room, and at none for octets that no file has
+    /// room for.
     pub fn take_for(&mut self, size: u32) -> Take
         requires spare { 1 ≤ self.old.spare }
         ensures take { IsTakeFor size self.old result }
+        ensures given { IsGiven size self.new.files result }
         ensures files { self.new ≡ after_take result self.old }
         ensures ends { (number : ℕ) → end_in number self.new.files ≡ end_in number self.old.files }
     {

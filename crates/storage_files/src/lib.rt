@@ -4,10 +4,12 @@
 pub use error::DiskFault;
 pub use file::{FileState, MailFile, Take};
 pub use files::MailFiles;
+pub use laws::files_change_apart;
 
 mod device;
 mod error;
 mod file;
 mod files;
+mod laws;
 mod list;
 mod placing;

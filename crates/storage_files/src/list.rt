@@ -3,7 +3,7 @@ ghost use Rattle.std.specs.Prelude.{◌≡◌, ◌≢◌, ◌+◌, ◌<◌, ◌�
 ghost use Rattle.storage_files.specs.declared.file.MailFile.{MailFile};
 ghost use Rattle.storage_files.specs.Files.{HasRoomFor, is_number_past, file_in, changed_in, with_taken, ending_at, without_file};
 
-use crate::file::MailFile;
+use crate::file::{FULL, MailFile};
 use mdbox_base::FileNo;
 
 /// The file with this number.
@@ -83,6 +83,9 @@ pub(crate) fn greatest_with_room(files: &[MailFile], size: u32) -> Option<FileNo
     ensures some { IfSome result (λ file. (f : MailFile) × Contains files.now f × (f.file ≡ file) × HasRoomFor size f × All (λ g. HasRoomFor size g → g.file.0 ≤ file.0) files.now) }
     ensures none { IsNone result → All (λ g. HasRoomFor size g → ⊥) files.now }
 {
+    if u64::from(size) > FULL {
+        return None; // no file is filled so far
+    }
     match last_with_room(files, size) {
         Some(at) => Some(files[at].file),
         None => None,
