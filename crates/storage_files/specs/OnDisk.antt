@@ -37,6 +37,6 @@ abbrev pub IsLeftOrNone : FileName → Option History → Files → Type 0
 IsLeftOrNone name old image = IfTold old (λ disk. (image name ≡ None) ⊎ MayLeave (disk name) (image name))
 
 -- What is read of a file from an offset on, at most so many octets. Of a file that isn't there nothing is read.
-abbrev pub piece_of : ℕ → ℕ → Option (List ℕ) → List ℕ
-piece_of offset size None = []
-piece_of offset size (Some octets) = take size (drop offset octets)
+abbrev pub piece_read : ℕ → ℕ → Option (List ℕ) → List ℕ
+piece_read offset size None = []
+piece_read offset size (Some octets) = take size (drop offset octets)

@@ -3,7 +3,7 @@ ghost use Rattle.std.specs.Prelude.{◌≡◌, ◌≤◌, length, take, drop, So
 ghost use Rattle.std.specs.Option.{option_map};
 ghost use Rattle.disk_model.specs.FaultCounts.{NoFault, ChangeFaultCounted, ReadFaultCounted};
 ghost use Rattle.disk_model.specs.Disk.{EachImage, OthersStay, SameButFor, Between, IfTold, IsThere, Keeps, reading, IsIdle};
-ghost use Rattle.storage_files.specs.OnDisk.{FrontStays, IsAddedTo, IsNewOrNone, OthersAreNamed, IsLeftOrNone, piece_of};
+ghost use Rattle.storage_files.specs.OnDisk.{FrontStays, IsAddedTo, IsNewOrNone, OthersAreNamed, IsLeftOrNone, piece_read};
 
 use crate::error::DiskFault;
 use disk_model::{Disk, DiskError, FileName};
@@ -40,7 +40,7 @@ pub(crate) fn add_to<D: Disk>(
     ensures unfailed { OnOk result (NoFault (D.faults disk.old) (D.faults disk.new)) }
 {
     disk.write_at(name, end, octets)?;
-    disk.sync(name)?;
+    disk.sync(name)?; // from here on a crash leaves the octets
     Ok(())
 }
 
@@ -66,7 +66,7 @@ pub(crate) fn read_from<D: Disk>(
     into: &mut [u8],
 ) -> Result<usize, DiskFault>
     ensures count { IfOk result (λ n. n ≤ length into.new) }
-    ensures piece { IfOk result (λ n. IfTold (D.history disk.old) (λ now. take n into.new ≡ piece_of offset (length into.old) (reading (now name)))) }
+    ensures piece { IfOk result (λ n. IfTold (D.history disk.old) (λ now. take n into.new ≡ piece_read offset (length into.old) (reading (now name)))) }
     ensures rest { IfOk result (λ n. drop n into.new ≡ drop n into.old) }
     ensures idle { IsIdle (D.history disk.old) (D.history disk.new) }
     ensures fault { ReadFaultCounted (IsErr result) (D.faults disk.old) (D.faults disk.new) }

@@ -4,7 +4,7 @@ ghost use Rattle.disk_model.specs.FaultCounts.{NoFault, ChangeFaultCounted, Read
 ghost use Rattle.disk_model.specs.Disk.{EachImage, OthersStay, SameButFor, Between, IfTold, IsThere, Keeps, reading, IsIdle};
 ghost use Rattle.disk_model.specs.declared.name.FileName.TheVariants.{Mail};
 ghost use Rattle.storage_files.specs.Files.{FilesValue, end_in, is_taken_in, changed_in, ending_at, without_file};
-ghost use Rattle.storage_files.specs.OnDisk.{IsAsKnown, FrontStays, IsAddedTo, IsNewOrNone, OthersAreNamed, IsLeftOrNone, piece_of};
+ghost use Rattle.storage_files.specs.OnDisk.{IsAsKnown, FrontStays, IsAddedTo, IsNewOrNone, OthersAreNamed, IsLeftOrNone, piece_read};
 
 use crate::device::{add_to, make_with, read_from, remove};
 use crate::error::DiskFault;
@@ -25,7 +25,7 @@ impl MailFiles {
         requires absent { end_in file.0 self.old.files ≡ None }
         requires known { IsAsKnown self.old.files file.0 (D.history disk.old) }
 
-        // At every moment each image has nothing of this file, or at most as many octets as the header.
+        // At every moment each image has nothing of this file, or no more octets than it could have before or than the header has.
         ensures any_moment { EachImage (λ _ image. IsNewOrNone (Mail file.0) (length header.now) (D.history disk.old) image × OthersStay (Mail file.0) (D.history disk.old) image) (D.history disk.old) (D.history disk.new) }
 
         // After Ok the file is there, and a crash leaves it so. No other file has changed, and their names are synced.
@@ -110,7 +110,7 @@ impl MailFiles {
         into: &mut [u8],
     ) -> Result<usize, DiskFault>
         ensures count { IfOk result (λ n. n ≤ length into.new) }
-        ensures piece { IfOk result (λ n. IfTold (D.history disk.old) (λ now. take n into.new ≡ piece_of offset (length into.old) (reading (now (Mail file.0))))) }
+        ensures piece { IfOk result (λ n. IfTold (D.history disk.old) (λ now. take n into.new ≡ piece_read offset (length into.old) (reading (now (Mail file.0))))) }
         ensures rest { IfOk result (λ n. drop n into.new ≡ drop n into.old) }
         ensures idle { IsIdle (D.history disk.old) (D.history disk.new) }
         ensures fault { ReadFaultCounted (IsErr result) (D.faults disk.old) (D.faults disk.new) }
