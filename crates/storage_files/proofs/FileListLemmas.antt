@@ -1,13 +1,13 @@
 -- One file among those of a store: found, changed, or left out.
 use Rattle.std.specs.Prelude.{is_some, not, remove, if◌then◌else◌}
 use Rattle.std.proofs.Common.{◌≡◌, ◌≢◌, inl, inr, ℕ, zero, suc, ◌<◌, ◌==◌, true, false, List, [], ◌∷◌, ◌++◌, length, slice_get, get_or, set, Option, Some, None, All, refl, sym, ◌∙◌, ap, subst, arith}
-use Rattle.std.specs.Option.{option_map, option_and_then}
+use Rattle.std.specs.Option.{option_map, option_and_then, option_map_or}
 use Rattle.std.proofs.lemmas.Bool.{cases_Bool, cases_eq, cond-true, cond-false, eq-eqb, ne_eqb, true≢false}
 use Rattle.std.proofs.lemmas.List.Elements.{All-head, All-tail}
 use Rattle.model_octets.proofs.PairLemmas.{pairs_head, pairs_tail}
 use Rattle.mdbox_base.specs.declared.ids.FileNo.{FileNo}
 use Rattle.storage_files.specs.declared.file.MailFile.{MailFile}
-use Rattle.storage_files.specs.Files.{file_in, end_in, changed_in, without_file, ending_at, file_begun}
+use Rattle.storage_files.specs.Files.{file_in, end_in, changed_in, without_file, ending_at, file_begun, is_taken_in}
 use Rattle.storage_files.proofs.SearchLemmas.{Rise, got}
 
 -- no file has this number
@@ -216,6 +216,19 @@ ends-without_it n files = ap (option_and_then (λ g. g.end)) (file-gone n files)
 
 pub ends-without : (n m : ℕ) (files : List MailFile) → m ≢ n → end_in m (without_file n files) ≡ end_in m files
 ends-without n m files apart = ap (option_and_then (λ g. g.end)) (file-without n m files apart)
+
+-- who has taken files, by a change that keeps that
+pub takers-kept : (n m : ℕ) (step : MailFile → MailFile) (files : List MailFile) → KeepsNumber step → ((f : MailFile) → (step f).taken ≡ f.taken) → is_taken_in m (changed_in n step files) ≡ is_taken_in m files
+takers-kept n m step files keeps same = elim (cases_eq m n) [
+  | inl is ↦
+      let here : is_taken_in n (changed_in n step files) ≡ is_taken_in n files = ap (λ (o : Option MailFile). option_map_or (λ f. f.taken) o false) (file-here n step files keeps) ∙ kept (file_in n files) in
+      subst (λ (k : ℕ). is_taken_in k (changed_in n step files) ≡ is_taken_in k files) (sym is) here
+  | inr apart ↦ ap (λ (o : Option MailFile). option_map_or (λ f. f.taken) o false) (file-other n m step files keeps apart)
+]
+  where
+    kept : (o : Option MailFile) → option_map_or (λ f. f.taken) (option_map step o) false ≡ option_map_or (λ f. f.taken) o false
+    kept None = refl
+    kept (Some f) = same f
 
 -- a new file has no end yet
 pub ends-begun : (m : ℕ) (file : FileNo) (files : List MailFile) → end_in m (files ++ file_begun file ∷ []) ≡ end_in m files

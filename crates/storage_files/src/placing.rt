@@ -32,6 +32,7 @@ impl MailFiles {
         ensures made { OnOk result (IfTold (D.history disk.new) (λ now. Keeps (now (Mail file.0)) header.now)) }
         ensures others { OnOk result (OthersAreNamed (Mail file.0) (D.history disk.old) (D.history disk.new)) }
         ensures ok { OnOk result (self.new ≡ record self.old { files = changed_in file.0 (ending_at (length header.now)) self.old.files }) }
+        ensures taken { (number : ℕ) → is_taken_in number self.new.files ≡ is_taken_in number self.old.files }
         ensures still_known { OnOk result ((number : ℕ) → IsAsKnown self.old.files number (D.history disk.old) → IsAsKnown self.new.files number (D.history disk.new)) }
 
         ensures err { OnErr result (self.new ≡ self.old) }
@@ -66,6 +67,7 @@ impl MailFiles {
         ensures held { OnOk result ((text : List ℕ) → IfTold (D.history disk.old) (λ now. Keeps (now (Mail file.0)) text) → IfTold (D.history disk.new) (λ now. Keeps (now (Mail file.0)) (text ++ octets.now))) }
         ensures others { OnOk result (SameButFor (Mail file.0) (D.history disk.old) (D.history disk.new)) }
         ensures ok { IfOk result (λ offset. self.new ≡ record self.old { files = changed_in file.0 (ending_at (offset + length octets.now)) self.old.files }) }
+        ensures taken { (number : ℕ) → is_taken_in number self.new.files ≡ is_taken_in number self.old.files }
         ensures still_known { OnOk result ((number : ℕ) → IsAsKnown self.old.files number (D.history disk.old) → IsAsKnown self.new.files number (D.history disk.new)) }
 
         ensures err { OnErr result (self.new ≡ self.old) }

@@ -1,10 +1,12 @@
-use Rattle.std.proofs.Common.{◌≡◌, ◌+◌, ℕ, length, sym, ◌∙◌, subst}
+use Rattle.std.proofs.Common.{◌≡◌, ◌+◌, ℕ, length, refl, sym, ◌∙◌, subst}
 use Rattle.std.proofs.lemmas.Option.{same_Some}
 use Rattle.disk_model.specs.Disk.{EachImage, OthersStay, IfTold, reading}
 use Rattle.disk_model.specs.declared.name.FileName.TheVariants.{Mail}
 use Rattle.std.specs.Option.{option_map}
 use Rattle.storage_files.specs.OnDisk.{FrontStays}
 use Rattle.storage_files.proofs.AddLemmas.{held-on}
+use Rattle.storage_files.specs.Files.{ending_at}
+use Rattle.storage_files.proofs.FileListLemmas.{takers-kept}
 use Rattle.storage_files.proofs.KnownLemmas.{taken-there, same-reads, added-length, known-ending}
 use Rattle.storage_files.proofs.files.MailFiles.place.Goals as goal
 
@@ -28,3 +30,6 @@ returns-clause-still_known g c = λ number known.
     let long = subst (λ o. IfTold (g.D.Disk.history c.args.disk.now) (λ disk. option_map length (reading (disk (Mail c.args.file.0))) ≡ o)) (sym end) c.requires.known in
     rw c.set_end.ensures (known-ending c.args.file.0 (c.unwrap-end.result + length c.args.octets.now) c.args.self.now.files there.0 _ _ there.1 (same-reads c.args.file.0 _ _ c.in_ok-add_to.ensures.others)
     (added-length (Mail c.args.file.0) c.unwrap-end.result c.args.octets.now _ _ long c.in_ok-add_to.ensures.added) number known)
+
+pub returns-clause-taken : goal.returns-clause-taken
+returns-clause-taken g c = λ number. rw c.set_end.ensures (takers-kept c.args.file.0 number (ending_at (c.unwrap-end.result + length c.args.octets.now)) c.args.self.now.files (λ f. refl) (λ f. refl))
