@@ -1,0 +1,104 @@
+-- What callers see of the storage files of a store, and what taking one and giving it back mean.
+use Rattle.std.specs.Prelude.{◌≡◌, ◌==◌, ◌⊎◌, ◌+◌, ◌-◌, ◌<◌, ◌≤◌, ℕ, Bool, true, false, not, ◌&&◌, nat_lt, if◌then◌else◌, List, [], ◌∷◌, ◌++◌, map, filter, find, All, AllPairs, Contains, Option, Some, None, is_some, IsSome, ⊤}
+use Rattle.std.specs.Option.{option_map, option_map_or, option_and_then}
+use Rattle.mdbox_base.specs.declared.ids.FileNo.{FileNo}
+use Rattle.storage_files.specs.declared.file.FileState.{FileState}
+use Rattle.storage_files.specs.declared.file.MailFile.{MailFile}
+use Rattle.storage_files.specs.declared.file.Take.{Take}
+use Rattle.storage_files.specs.declared.file.Take.TheVariants.{Known, New, Full}
+
+pub record FilesValue : Type 0 where
+  -- the files that are there or that somebody is about to make, in order of number
+  pub files : List MailFile
+  -- the greatest number that was drawn
+  pub highest : ℕ
+  -- how many files more can be taken without memory
+  pub spare : ℕ
+
+-- the file is there, or somebody is about to make it
+abbrev pub IsThereOrBegun : MailFile → Type 0
+IsThereOrBegun f = IsSome f.end ⊎ (f.taken ≡ true)
+
+-- Numbers rise up to the drawn one, which is a file's number at most, and each file is there or begun.
+pub record AreFilesInOrder (value : FilesValue) : Type 0 where
+  pub rising : AllPairs (λ a b. a.file.0 < b.file.0) value.files
+  pub below : All (λ f. f.file.0 ≤ value.highest) value.files
+  pub last : value.highest ≤ 4294967294
+  pub begun : All IsThereOrBegun value.files
+
+-- a file as an opening found it, which nobody has taken
+abbrev pub file_found : FileState → MailFile
+file_found s = record { file = s.file; end = Some s.end; sealed = s.sealed; barred = s.barred; taken = false }
+
+-- the file with this number
+abbrev pub file_in : ℕ → List MailFile → Option MailFile
+file_in number files = find (λ f. f.file.0 == number) files
+
+-- where the file with this number ends, None where it isn't there
+abbrev pub end_in : ℕ → List MailFile → Option ℕ
+end_in number files = option_and_then (λ f. f.end) (file_in number files)
+
+-- whether somebody has taken the file with this number
+abbrev pub is_taken_in : ℕ → List MailFile → Bool
+is_taken_in number files = option_map_or (λ f. f.taken) (file_in number files) false
+
+-- whether a number is greater than this one, if there is one
+abbrev pub is_number_past : Option FileNo → ℕ → Bool
+is_number_past None number = true
+is_number_past (Some after) number = nat_lt after.0 number
+
+-- the file that is there with the least number past this one
+abbrev pub file_past : Option FileNo → List MailFile → Option FileNo
+file_past after files = option_map (λ f. f.file) (find (λ f. is_some f.end && is_number_past after f.file.0) files)
+
+-- the file with this number changes so, and no other
+abbrev pub changed_in : ℕ → (MailFile → MailFile) → List MailFile → List MailFile
+changed_in number change files = map (λ f. if f.file.0 == number then change f else f) files
+
+-- all but the file with this number
+abbrev pub without_file : ℕ → List MailFile → List MailFile
+without_file number files = filter (λ f. not (f.file.0 == number)) files
+
+-- the file ends there
+abbrev pub ending_at : ℕ → MailFile → MailFile
+ending_at end f = record f { end = Some end }
+
+abbrev pub with_taken : Bool → MailFile → MailFile
+with_taken is_taken f = record f { taken = is_taken }
+
+-- a file that somebody is about to make
+abbrev pub file_begun : FileNo → MailFile
+file_begun file = record { file = file; end = None; sealed = false; barred = false; taken = true }
+
+-- A file that is given back is taken no more. One that was not made is none then.
+abbrev pub released_in : ℕ → List MailFile → List MailFile
+released_in number files = if is_some (end_in number files) then changed_in number (with_taken false) files else without_file number files
+
+-- The file is there, nobody has taken it, messages may be added to it, and there is room for so many octets: a file is
+-- filled up to 10,485,760 octets.
+pub record HasRoomFor (size : ℕ) (f : MailFile) : Type 0 where
+  pub end : ℕ
+  pub ends : f.end ≡ Some end
+  pub room : end + size ≤ 10485760
+  pub free : f.taken ≡ false
+  pub unsealed : f.sealed ≡ false
+  pub unbarred : f.barred ≡ false
+
+-- Which file is taken for so many octets: of those that have room, the one with the greatest number. Where none has room
+-- a new one, with the next number; and where all numbers are used up, none.
+abbrev pub IsTakeFor : ℕ → FilesValue → Take → Type 0
+IsTakeFor size value (Known file) = (f : MailFile) × Contains value.files f × (f.file ≡ file) × HasRoomFor size f × All (λ g. HasRoomFor size g → g.file.0 ≤ file.0) value.files
+IsTakeFor size value (New file) = All (λ g. HasRoomFor size g → ⊥) value.files × (file.0 ≡ value.highest + 1) × (value.highest < 4294967294)
+IsTakeFor size value Full = All (λ g. HasRoomFor size g → ⊥) value.files × (value.highest ≡ 4294967294)
+
+-- The file is the taker's. A known one has room for so many octets, and a new one is to be made.
+abbrev pub IsGiven : ℕ → List MailFile → Take → Type 0
+IsGiven size files (Known file) = (is_taken_in file.0 files ≡ true) × ((end : ℕ) × (end_in file.0 files ≡ Some end) × (end + size ≤ 10485760))
+IsGiven size files (New file) = (is_taken_in file.0 files ≡ true) × (end_in file.0 files ≡ None)
+IsGiven size files Full = ⊤
+
+-- what is known after a file was taken
+abbrev pub after_take : Take → FilesValue → FilesValue
+after_take (Known file) value = record value { files = changed_in file.0 (with_taken true) value.files }
+after_take (New file) value = record { files = value.files ++ file_begun file ∷ []; highest = file.0; spare = value.spare - 1 }
+after_take Full value = value
