@@ -18,13 +18,16 @@ demo: all
 check:
 	.ci/run
 
-# Times the program on a storage file of 200 MB, a log of 100 MB and a store of 10,000 messages, and taking messages apart.
+# Times the program on a storage file of 200 MB, a log of 100 MB and a store of 10,000 messages, taking messages apart, and
+# appends to a log.
 bench: all
 	bench/dump
 	bench/logdump
 	cd crates/parts_bench && rt run -- read <stdin
 	bench/parts
 	bench/open
+	cd crates/log_bench && rt run -- 1
+	bench/sync
 
 clean:
 	rm -rf mdbox crates/*/out

@@ -1,34 +1,17 @@
-// One file in the current folder.
-ghost use Rattle.std.specs.Prelude.{◌≡◌, ◌≤◌, length, drop, Ok, Some, IfOk, IfSome, string_bytes};
+// The files of the current folder by their paths.
+ghost use Rattle.std.specs.Prelude.{◌≡◌, Ok, Some, IfOk, IfSome, string_bytes};
 ghost use Rattle.file_paths.specs.Paths.{path_text, IsStoreFile};
 
-use crate::folders::sync_inst;
+use crate::open_files::OpenFile;
 use disk_model::{FileName, same_file};
 use file_paths::name_of_path;
-use std::fs::{DirBuilder, File, OpenOptions};
+use std::fs::{File, OpenOptions};
 use std::io::{Error, ErrorKind};
-use std::os::unix::fs::{DirBuilderExt, FileExt, OpenOptionsExt};
-use std::path::Path;
+use std::os::unix::fs::OpenOptionsExt;
 use std::{fs, io};
 
-/// Files that are made can be read and written by their owner alone, and so can their folders.
-const FILE_MODE: u32 = 0o600;
-
-const FOLDER_MODE: u32 = 0o700;
-
-/// What is read at a time.
-const PIECE: usize = 16384;
-
-/// Locks the store. Another process's lock is an error.
-pub(crate) fn lock_store(rt: &HostRuntime) -> io::Result<File> {
-    let file = OpenOptions::new()
-        .write(true)
-        .create(true)
-        .mode(FILE_MODE)
-        .open(rt, "mdbox.lock")?;
-    file.try_lock()?;
-    Ok(file)
-}
+/// Files that are made can be read and written by their owner alone.
+pub(crate) const FILE_MODE: u32 = 0o600;
 
 /// An answer where there may be no such file: None where there is none, since a folder of its path is missing too, say, or is
 /// a file, or since its path is a circle of links.
@@ -64,85 +47,50 @@ fn path_of(rt: &HostRuntime, name: FileName) -> io::Result<String>
     }
 }
 
+/// The length of the plain file that stands there, or to which a link there leads. None where there is none.
+fn plain_length(rt: &HostRuntime, path: &str) -> io::Result<Option<u64>> {
+    match if_there(fs::metadata(rt, path))? {
+        Some(found) if found.is_file() => Ok(Some(found.len())),
+        _ => Ok(None),
+    }
+}
+
 /// Whether a plain file stands there, or a link to one.
 pub(crate) fn is_plain(rt: &HostRuntime, path: &str) -> io::Result<bool> {
-    match if_there(fs::metadata(rt, path))? {
-        Some(found) => Ok(found.is_file()),
-        None => Ok(false),
-    }
+    Ok(plain_length(rt, path)?.is_some())
 }
 
 /// Opens a plain file to read it and, where that is allowed, to write it. None where there is none.
-pub(crate) fn open_file(rt: &HostRuntime, name: FileName) -> io::Result<Option<File>> {
+pub(crate) fn open_file(rt: &HostRuntime, name: FileName) -> io::Result<Option<OpenFile>> {
     let Some(path) = if_there(path_of(rt, name))? else {
         return Ok(None);
     };
-    if !is_plain(rt, path.as_str())? {
+    let Some(length) = plain_length(rt, path.as_str())? else {
         return Ok(None);
-    }
-    let opened = OpenOptions::new()
-        .read(true)
-        .write(true)
-        .open(rt, path.as_str());
-    match opened {
-        Err(error) if error.kind() == ErrorKind::PermissionDenied => {
-            if_there(File::open(rt, path.as_str()))
-        }
-        opened => if_there(opened),
-    }
+    };
+    let file = match OpenOptions::new().read(true).write(true).open(rt, &path) {
+        Err(error) if error.kind() == ErrorKind::PermissionDenied => File::open(rt, &path)?,
+        opened => opened?,
+    };
+    Ok(Some(OpenFile::of(name, file, length)))
 }
 
-/// Reads from an offset to the end of the file or of `into`, and tells how many octets. Each piece comes through a buffer,
-/// since the system promises nothing of the rest of a slice. No file of the system reaches 2^63.
-pub(crate) fn read_all(file: &File, offset: u64, into: &mut [u8]) -> io::Result<usize>
-    ensures count { IfOk result (λ n. n ≤ length into.new) }
-    ensures rest { IfOk result (λ n. drop n into.new ≡ drop n into.old) }
-{
-    if offset > i64::MAX as u64 {
-        return Ok(0);
-    }
-    let mut piece = [0u8; PIECE];
-    let mut done = 0;
-    for _ in 0..u64::MAX {
-        let most = (into.len() - done).min(PIECE);
-        let count = file.read_at(&mut piece[..most], offset.saturating_add(done as u64))?;
-        if count == 0 {
-            break;
-        }
-        into[done..done + count].copy_from_slice(&piece[..count]);
-        done += count;
-    }
-    Ok(done)
-}
-
-/// Makes a file, and its folder where it isn't there. One that is there is emptied.
-pub(crate) fn make_file(rt: &HostRuntime, name: FileName) -> io::Result<File> {
+/// Makes a file, empty, in a folder that is there. A plain file that stands there is emptied; what else has its name is left
+/// alone, and is an error.
+pub(crate) fn make_file(rt: &HostRuntime, name: FileName) -> io::Result<OpenFile> {
     let path = path_of(rt, name)?;
-    if let Some(folder) = Path::new(path.as_str()).parent() {
-        DirBuilder::new()
-            .recursive(true)
-            .mode(FOLDER_MODE)
-            .create(rt, folder)?;
-    }
-    let made = OpenOptions::new()
+    let is_there = is_plain(rt, path.as_str())?;
+    let file = OpenOptions::new()
         .read(true)
         .write(true)
-        .create(true)
-        .truncate(true)
+        .truncate(is_there)
+        .create_new(!is_there)
         .mode(FILE_MODE)
-        .open(rt, path.as_str())?;
-    sync_inst(rt, name, path.as_str())?;
-    Ok(made)
+        .open(rt, &path)?;
+    Ok(OpenFile::of(name, file, 0))
 }
 
-/// Removes a plain file, where it is there.
+/// Removes a file.
 pub(crate) fn remove_file(rt: &HostRuntime, name: FileName) -> io::Result<()> {
-    let Some(path) = if_there(path_of(rt, name))? else {
-        return Ok(());
-    };
-    if !is_plain(rt, path.as_str())? {
-        return Ok(());
-    }
-    fs::remove_file(rt, path.as_str())?;
-    sync_inst(rt, name, path.as_str())
+    fs::remove_file(rt, &path_of(rt, name)?)
 }

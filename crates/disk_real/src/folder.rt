@@ -2,31 +2,28 @@
 ghost use Rattle.std.specs.Prelude.{◌≡◌, ◌≤◌, ◌<◌, ◌^◌, ◌+◌, length, drop, false, IsTrue, IsErr, IfOk, IfSome, IfNone, OnOk};
 ghost use Rattle.disk_model.specs.Disk.{IsPast};
 
-use crate::files::{lock_store, make_file, open_file, read_all, remove_file};
-use crate::folders::{sorted_names, sync_folders};
-use crate::names::{first_past, put_name, take_name};
-use disk_model::{FileName, is_log, same_file};
-use std::fs::File;
+use crate::files::{make_file, open_file, remove_file};
+use crate::folders::{Folder, Folders, names_there};
+use crate::lock::Lock;
+use crate::names::Names;
+use crate::open_files::{OpenFile, OpenFiles};
+use disk_model::{FileName, is_log};
 use std::io::{self, Error, ErrorKind};
-use std::os::unix::fs::FileExt;
 
-/// The store's files, as the system answers for them. A call that fails may forget what is known of the folder, which is then
-/// looked up again.
+/// The store's files, as the system answers for them.
 #[derive(Drop)]
 pub(crate) struct StoreFolder {
     rt: HostRuntime,
-    /// The locked file, from the first call that could lock it.
-    lock: Option<File>,
-    /// The names of the files that are there, in order, where they are known.
-    names: Option<Vec<FileName>>,
-    /// The file of the last call, open.
-    last: Option<(FileName, File)>,
-    /// The logs that this process has made, or synced before it read them, in order.
-    firm: Vec<FileName>,
-    /// Whether names may have changed in any folder, as an earlier run may have left them.
-    is_all_loose: bool,
-    /// Whether a change or a sync has failed. The system forgets a sync that failed: the next one of the same file answers that
-    /// all is well, so nothing can be changed any more.
+    lock: Lock,
+    open: OpenFiles,
+    /// The names of the files that are there, from the first look at the folders on. After a change that failed they are
+    /// looked up again.
+    names: Option<Names>,
+    /// The logs that this process has made, or synced at their first use.
+    firm: Names,
+    folders: Folders,
+    /// Whether a change has failed. The system forgets a sync that failed: the next one of the same file answers that all is
+    /// well, so nothing can be changed any more.
     pub(crate) is_spoiled: bool,
 }
 
@@ -37,23 +34,26 @@ impl StoreFolder {
     {
         StoreFolder {
             rt,
-            lock: None,
+            lock: Lock::Unasked,
+            open: OpenFiles::none(rt.alloc()),
             names: None,
-            last: None,
-            firm: Vec::new(rt.alloc()),
-            is_all_loose: true,
+            firm: Names::none(rt.alloc()),
+            folders: Folders::of(rt.alloc()),
             is_spoiled: false,
         }
     }
 
-    /// The runtime, once this process has the store. The first call locks it.
+    /// The runtime, once this process has the store. The first call asks for the lock.
     fn locked(&mut self) -> io::Result<HostRuntime>
         ensures { self.new.is_spoiled ≡ self.old.is_spoiled }
     {
-        if self.lock.is_none() {
-            self.lock = Some(lock_store(&self.rt).map_err(|_| ErrorKind::WouldBlock)?);
+        if let Lock::Unasked = self.lock {
+            self.lock = Lock::ask(&self.rt);
         }
-        Ok(self.rt)
+        match self.lock {
+            Lock::Held(_) => Ok(self.rt),
+            _ => Err(Error::from(ErrorKind::WouldBlock)),
+        }
     }
 
     /// The same for a change.
@@ -67,49 +67,50 @@ impl StoreFolder {
         self.locked()
     }
 
-    /// A file, open. None where there is no such file.
-    fn take_file(&mut self, name: FileName) -> io::Result<Option<File>>
+    /// Takes a file to use it, None where there is no such file. A log is synced at its first use: a process that was killed
+    /// may have left octets of it unsynced, which a crash may take away afterwards. If that fails, nothing of the store can be
+    /// relied on, and this process gives it up.
+    fn take(&mut self, name: FileName) -> io::Result<Option<OpenFile>>
         ensures { self.new.is_spoiled ≡ self.old.is_spoiled }
     {
         let rt = self.locked()?;
-        if let Some((own, file)) = self.last.take() {
-            if same_file(own, name) {
-                return Ok(Some(file));
-            }
-        }
-        open_file(&rt, name)
-    }
-
-    /// The same to read it. A process that was killed may have left octets of a log unsynced: they are synced before the first
-    /// read, since a crash may take them away afterwards.
-    fn take_synced(&mut self, name: FileName) -> io::Result<Option<File>>
-        ensures { IsTrue self.old.is_spoiled → IsTrue self.new.is_spoiled }
-    {
-        let Some(file) = self.take_file(name)? else {
-            return Ok(None);
+        let file = match self.open.take(name) {
+            Some(file) => file,
+            None => match open_file(&rt, name)? {
+                Some(file) => file,
+                None => return Ok(None),
+            },
         };
-        if is_log(name) && self.firm.binary_search(&name).is_err() {
-            if self.is_spoiled {
-                return Err(Error::from(ErrorKind::Other));
-            }
-            if let Err(error) = file.sync_all() {
-                self.is_spoiled = true;
+        if is_log(name) && !self.firm.has(name) {
+            if let Err(error) = file.sync() {
+                self.lock = Lock::Refused;
                 return Err(error);
             }
-            put_name(&mut self.firm, name)?;
+            self.firm.put(name)?;
         }
         Ok(Some(file))
     }
 
+    /// Takes a file to change it.
+    fn take_to_change(&mut self, name: FileName) -> io::Result<OpenFile>
+        ensures spoiled { IsTrue self.old.is_spoiled → IsErr result }
+    {
+        let _ = self.locked_sound()?;
+        match self.take(name)? {
+            Some(file) => Ok(file),
+            None => Err(Error::from(ErrorKind::NotFound)),
+        }
+    }
+
     /// A file's length, None where there is no such file.
     pub(crate) fn length(&mut self, name: FileName) -> io::Result<Option<u64>>
-        ensures { IsTrue self.old.is_spoiled → IsTrue self.new.is_spoiled }
+        ensures { self.new.is_spoiled ≡ self.old.is_spoiled }
     {
-        let Some(file) = self.take_synced(name)? else {
+        let Some(file) = self.take(name)? else {
             return Ok(None);
         };
-        let length = file.metadata()?.len();
-        self.last = Some((name, file));
+        let length = file.length();
+        self.open.keep(file);
         Ok(Some(length))
     }
 
@@ -123,13 +124,13 @@ impl StoreFolder {
         ensures count { IfOk result (λ found. IfSome found (λ n. n ≤ length into.new)) }
         ensures rest { IfOk result (λ found. IfSome found (λ n. drop n into.new ≡ drop n into.old)) }
         ensures none { IfOk result (λ found. IfNone found (into.new ≡ into.old)) }
-        ensures stays { IsTrue self.old.is_spoiled → IsTrue self.new.is_spoiled }
+        ensures same { self.new.is_spoiled ≡ self.old.is_spoiled }
     {
-        let Some(file) = self.take_synced(name)? else {
+        let Some(file) = self.take(name)? else {
             return Ok(None);
         };
-        let count = read_all(&file, offset, into)?;
-        self.last = Some((name, file));
+        let count = file.read_at(offset, into)?;
+        self.open.keep(file);
         Ok(Some(count))
     }
 
@@ -138,48 +139,32 @@ impl StoreFolder {
         ensures past { IfOk result (λ next. IfSome next (IsPast ⟦<FileName as Ord>⟧.cmp after)) }
         ensures same { self.new.is_spoiled ≡ self.old.is_spoiled }
     {
+        let rt = self.locked()?;
         let names = match self.names.take() {
             Some(names) => names,
-            None => sorted_names(&self.locked()?)?,
+            None => names_there(&rt)?,
         };
-        let next = first_past(&names, after);
+        let next = names.next(after);
         self.names = Some(names);
         Ok(next)
-    }
-
-    /// A file that is to be changed, at least so long.
-    fn take_reaching(&mut self, name: FileName, length: u64) -> io::Result<File>
-        ensures spoiled { IsTrue self.old.is_spoiled → IsErr result }
-    {
-        let _ = self.locked_sound()?;
-        let Some(file) = self.take_file(name)? else {
-            return Err(Error::from(ErrorKind::NotFound));
-        };
-        if file.metadata()?.len() < length {
-            return Err(Error::from(ErrorKind::InvalidInput));
-        }
-        Ok(file)
     }
 
     pub(crate) fn write_at(&mut self, name: FileName, offset: u64, from: &[u8]) -> io::Result<()>
         ensures fits { OnOk result (offset + length from.now < 2 ^ 64) }
         ensures spoiled { IsTrue self.old.is_spoiled → IsErr result }
     {
-        if offset.checked_add(from.len() as u64).is_none() {
-            return Err(Error::from(ErrorKind::FileTooLarge));
-        }
-        let file = self.take_reaching(name, offset)?;
-        file.write_all_at(from, offset)?;
-        self.last = Some((name, file));
+        let mut file = self.take_to_change(name)?;
+        file.write_at(offset, from)?;
+        self.open.keep(file);
         Ok(())
     }
 
     pub(crate) fn cut(&mut self, name: FileName, length: u64) -> io::Result<()>
         ensures spoiled { IsTrue self.old.is_spoiled → IsErr result }
     {
-        let file = self.take_reaching(name, length)?;
-        file.set_len(length)?;
-        self.last = Some((name, file));
+        let mut file = self.take_to_change(name)?;
+        file.cut(length)?;
+        self.open.keep(file);
         Ok(())
     }
 
@@ -187,27 +172,32 @@ impl StoreFolder {
     pub(crate) fn sync(&mut self, name: FileName) -> io::Result<()>
         ensures spoiled { IsTrue self.old.is_spoiled → IsErr result }
     {
-        let file = self.take_reaching(name, 0)?;
-        file.sync_all()?;
-        self.last = Some((name, file));
+        let file = self.take_to_change(name)?;
+        file.sync()?;
+        self.open.keep(file);
         Ok(())
     }
 
+    /// Makes a file, and its folder where it isn't there. No octet of a file that was there is relied on afterwards, so a log
+    /// is firm from then on.
     pub(crate) fn make(&mut self, name: FileName) -> io::Result<()>
         ensures spoiled { IsTrue self.old.is_spoiled → IsErr result }
     {
         let rt = self.locked_sound()?;
-        self.last = None;
+        self.open.close(name);
         let known = self.names.take();
-        let made = make_file(&rt, name)?;
+        let folder = Folder::of(name);
+        self.folders.make(&rt, folder)?;
+        self.folders.note(folder)?;
+        let file = make_file(&rt, name)?;
         if let Some(mut names) = known {
-            put_name(&mut names, name)?;
+            names.put(name)?;
             self.names = Some(names);
         }
         if is_log(name) {
-            put_name(&mut self.firm, name)?;
+            self.firm.put(name)?;
         }
-        self.last = Some((name, made));
+        self.open.keep(file);
         Ok(())
     }
 
@@ -215,11 +205,15 @@ impl StoreFolder {
         ensures spoiled { IsTrue self.old.is_spoiled → IsErr result }
     {
         let rt = self.locked_sound()?;
-        self.last = None;
+        if self.take(name)?.is_none() {
+            return Ok(());
+        }
+        self.open.close(name);
         let known = self.names.take();
+        self.folders.note(Folder::of(name))?;
         remove_file(&rt, name)?;
         if let Some(mut names) = known {
-            take_name(&mut names, name);
+            names.take(name);
             self.names = Some(names);
         }
         Ok(())
@@ -230,8 +224,6 @@ impl StoreFolder {
         ensures spoiled { IsTrue self.old.is_spoiled → IsErr result }
     {
         let rt = self.locked_sound()?;
-        sync_folders(&rt, self.is_all_loose)?;
-        self.is_all_loose = false;
-        Ok(())
+        self.folders.sync(&rt)
     }
 }

@@ -11,5 +11,7 @@ mod disk;
 mod files;
 mod folder;
 mod folders;
+mod lock;
 mod names;
+mod open_files;
 mod streams;

@@ -1,40 +1,65 @@
-// Lists of names of files, in order.
-ghost use Rattle.std.specs.Prelude.{◌≡◌, IsTrue, IfSome, Contains};
-ghost use Rattle.disk_model.specs.Disk.{IsPast};
+// A set of names of files.
+ghost use Rattle.std.specs.Prelude.{◌≡◌, [], All, OnOk, OnErr};
+ghost use Rattle.std.specs.BTreeMap.{is_at};
+ghost use Rattle.std.specs.Set.{remove_key};
+ghost use Rattle.std.specs.BTreeSet.{contains, insert_key};
+ghost use Rattle.file_paths.specs.Paths.{IsStoreFile};
+ghost use Rattle.disk_real.specs.Names.{IsNextIn};
 
-use disk_model::{FileName, order};
-use std::cmp::Ordering;
+use disk_model::FileName;
+use std::alloc::Global;
+use std::collections::BTreeSet;
 use std::io;
+use std::ops::Bound;
 
-/// The first of these names that is greater than one.
-pub(crate) fn first_past(names: &[FileName], after: Option<FileName>) -> Option<FileName>
-    ensures { IfSome result (IsPast ⟦<FileName as Ord>⟧.cmp after) }
-{
-    let Some(after) = after else {
-        return names.first().copied();
-    };
-    let at = match names.binary_search(&after) {
-        Ok(at) => at + 1,
-        Err(at) => at,
-    };
-    let next = *names.get(at)?;
-    match order(after, next) {
-        Ordering::Less => Some(next),
-        _ => None,
-    }
+/// Names of files, in order.
+#[derive(Drop)]
+pub(crate) struct Names {
+    set: BTreeSet<FileName>,
 }
 
-/// Puts a name in its place, where it isn't there.
-pub(crate) fn put_name(names: &mut Vec<FileName>, name: FileName) -> io::Result<()> {
-    if let Err(at) = names.binary_search(&name) {
-        names.insert(at, name)?;
+impl Names {
+    pub(crate) fn none(alloc: Global) -> Names
+        ensures { result.set.keys ≡ [] }
+    {
+        Names {
+            set: BTreeSet::new(alloc),
+        }
     }
-    Ok(())
-}
 
-/// Takes a name out, where it is there.
-pub(crate) fn take_name(names: &mut Vec<FileName>, name: FileName) {
-    if let Ok(at) = names.binary_search(&name) {
-        let _ = names.remove(at);
+    pub(crate) fn has(&self, name: FileName) -> bool
+        ensures { result ≡ contains ⟦<FileName as Ord>⟧.cmp self.now.set name }
+    {
+        self.set.contains(&name)
+    }
+
+    /// Puts a name in its place, if it isn't there.
+    pub(crate) fn put(&mut self, name: FileName) -> io::Result<()>
+        ensures ok { OnOk result (self.new.set.keys ≡ insert_key ⟦<FileName as Ord>⟧.cmp self.old.set.keys name) }
+        ensures err { OnErr result (self.new.set.keys ≡ self.old.set.keys) }
+        ensures files { All IsStoreFile self.old.set.keys → IsStoreFile name → All IsStoreFile self.new.set.keys }
+    {
+        self.set.insert(name)?;
+        Ok(())
+    }
+
+    /// Takes a name out, if it is there.
+    pub(crate) fn take(&mut self, name: FileName)
+        ensures { self.new.set.keys ≡ remove_key (is_at (⟦<FileName as Ord>⟧.cmp name)) self.old.set.keys }
+    {
+        self.set.remove(&name);
+    }
+
+    /// The least name that is greater than this one, or the least of all.
+    pub(crate) fn next(&self, after: Option<FileName>) -> Option<FileName>
+        ensures { IsNextIn ⟦<FileName as Ord>⟧.cmp after result self.now.set }
+    {
+        let Some(after) = after else {
+            return self.set.first().copied();
+        };
+        self.set
+            .range((Bound::Excluded(after), Bound::Unbounded))
+            .next()
+            .copied()
     }
 }

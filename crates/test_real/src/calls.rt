@@ -6,6 +6,8 @@ use std::fs;
 use std::os::unix::fs::PermissionsExt;
 use std::process::Abort;
 use std::test::Fail;
+use std::thread::{self, Threads};
+use std::time::Duration;
 
 pub(crate) fn each_call_on_each_kind(rt: &impl Abort, host: HostRuntime) -> Result<(), Fail> {
     let mut disk = RealDisk::of(host);
@@ -83,12 +85,19 @@ pub(crate) fn are_listed(
     Ok(())
 }
 
-pub(crate) fn one_process_has_the_store(rt: &impl Abort, host: HostRuntime) -> Result<(), Fail> {
-    let mut disk = RealDisk::of(host);
-    assert_eq!(rt; disk.length(FileName::Root), Err(DiskError::Absent));
-    let mut second = RealDisk::of(host);
-    assert_eq!(rt; second.length(FileName::Root), Err(DiskError::Failed));
-    assert_eq!(rt; second.make(FileName::Root), Err(DiskError::Failed));
+/// The first call of a second disk waits while another has the store.
+pub(crate) fn a_second_disk_waits(
+    rt: &(impl Abort + Threads),
+    host: HostRuntime,
+) -> Result<(), Fail> {
+    let mut first = RealDisk::of(host);
+    first.make(FileName::Root)?;
+    let second = thread::spawn(rt, move || RealDisk::of(host).length(FileName::Root))?;
+    thread::sleep(&host, Duration::from_millis(100));
+    first.write_at(FileName::Root, 0, b"abc")?;
+    drop(first);
+    assert_eq!(rt; second.join(rt), Ok(3));
+    RealDisk::of(host).remove(FileName::Root)?;
     Ok(())
 }
 

@@ -4,6 +4,8 @@
 #[cfg(test)]
 mod calls;
 #[cfg(test)]
+mod many;
+#[cfg(test)]
 mod strange;
 #[cfg(test)]
 mod whole;

@@ -95,6 +95,25 @@ pub(crate) fn files_in_place_of_folders(rt: &impl Abort, host: HostRuntime) -> R
     Ok(())
 }
 
+/// What stands in place of a file keeps it from being made, and nothing is made elsewhere through a link.
+pub(crate) fn others_are_left_alone(rt: &impl Abort, host: HostRuntime) -> Result<(), Fail> {
+    for (other, path, name) in [
+        (Other::Folder, "storage/m.5", FileName::Mail(5)),
+        (Other::Link("nowhere"), "storage/m.6", FileName::Mail(6)),
+    ] {
+        put(host, other, path)?;
+        let mut disk = RealDisk::of(host);
+        assert_eq!(rt; disk.make(name), Err(DiskError::Failed));
+        assert_eq!(rt; disk.length(name), Err(DiskError::Absent));
+        assert!(rt; fs::metadata(&host, "storage/nowhere").is_err());
+        match other {
+            Other::Folder => fs::remove_dir(&host, path)?,
+            _ => fs::remove_file(&host, path)?,
+        }
+    }
+    Ok(())
+}
+
 /// A name that no store's file has can't be made.
 pub(crate) fn names_of_no_store(rt: &impl Abort, host: HostRuntime) -> Result<(), Fail> {
     for name in [

@@ -1,5 +1,5 @@
 // One test runs the cases one after the other, since they share a folder and its lock.
-use crate::{calls, strange};
+use crate::{calls, many, strange};
 use disk_model::FileName;
 use disk_real::StdClock;
 use mdbox_base::Clock;
@@ -18,12 +18,15 @@ pub(crate) const NAMES: [FileName; 5] = [
 fn real_files(rt: HostRuntime) -> Result<(), Fail> {
     calls::each_call_on_each_kind(&rt, rt)?;
     calls::names_stay_in_order(&rt, rt)?;
-    calls::one_process_has_the_store(&rt, rt)?;
+    calls::a_second_disk_waits(&rt, rt)?;
     calls::nothing_changes_after_a_failure(&rt, rt)?;
     calls::each_call_is_counted(&rt, rt)?;
     strange::others_are_no_files(&rt, rt)?;
     strange::files_in_place_of_folders(&rt, rt)?;
-    strange::names_of_no_store(&rt, rt)
+    strange::others_are_left_alone(&rt, rt)?;
+    strange::names_of_no_store(&rt, rt)?;
+    many::few_files_stay_open(&rt, rt)?;
+    many::strays_are_swept_within_two_seconds(&rt, rt)
 }
 
 #[test]
