@@ -1,5 +1,5 @@
 // The references of an `X` line, written.
-ghost use Rattle.std.specs.Prelude.{◌≡◌, ◌≤◌, ◌++◌, ℕ, List, length, All, Option, OnOk, OnErr};
+ghost use Rattle.std.specs.Prelude.{◌≡◌, ◌≤◌, ◌++◌, ℕ, List, length, Option, OnOk, OnErr};
 ghost use Rattle.hex.specs.Hex.{encode_lower};
 ghost use Rattle.mdbox_base.specs.declared.metadata.LineForm.{LineForm};
 ghost use Rattle.mdbox_base.specs.declared.metadata.ExtRef.{ExtRef};
@@ -10,8 +10,7 @@ use std::alloc::Global;
 
 /// Appends the value of an `X` line with these references. Without memory nothing is appended.
 pub fn push_refs(alloc: Global, out: &mut Octets, refs: &Seq<ExtRef>) -> Result<(), NoMemory>
-    requires some { 1 ≤ length refs.now }
-    requires counts { All (λ ref. 1 ≤ ref.count) refs.now }
+    requires { 1 ≤ length refs.now }
     ensures ok { OnOk result (out.new ≡ out.old ++ references_text refs.now) }
     ensures err { OnErr result (out.new ≡ out.old) }
 {
