@@ -88,7 +88,7 @@ made_of alloc disk logs lanes map_log boxes drawn dues = record {
   disk = disk;
   root_log = logs.root_log;
   map_log = map_log;
-  map = logs.map;
+  map = logs.map.meaning;
   boxes = boxes;
   drawn = drawn;
   dues = dues;
@@ -97,12 +97,12 @@ made_of alloc disk logs lanes map_log boxes drawn dues = record {
 }
 
 pub opened_as : {D : Type 0} → (alloc : Global) (disk : D) (logs : OpenLogs) (lanes : ℕ) (map_log : LogState) (boxes : List OpenBox) (drawn : Highest) (dues : List ℕ) → map_log ≡ roomy_log logs.map_log → boxes ≡ map roomy_box logs.boxes.items
-    → drawn ≡ logs.map.highest → dues ≡ none_due logs.map.records → made_of alloc disk logs lanes map_log boxes drawn dues ≡ with_entry_room (newly_open alloc disk logs lanes)
+    → drawn ≡ logs.map.meaning.highest → dues ≡ none_due logs.map.meaning.records → made_of alloc disk logs lanes map_log boxes drawn dues ≡ with_entry_room (newly_open alloc disk logs lanes)
 opened_as alloc disk logs lanes map_log boxes drawn dues a b c d =
     ap (λ (l : LogState). made_of alloc disk logs lanes l boxes drawn dues) a
     ∙ ap (λ (bs : List OpenBox). made_of alloc disk logs lanes (roomy_log logs.map_log) bs drawn dues) b
     ∙ ap (λ (n : Highest). made_of alloc disk logs lanes (roomy_log logs.map_log) (map roomy_box logs.boxes.items) n dues) c
-    ∙ ap (λ (ns : List ℕ). made_of alloc disk logs lanes (roomy_log logs.map_log) (map roomy_box logs.boxes.items) logs.map.highest ns) d
+    ∙ ap (λ (ns : List ℕ). made_of alloc disk logs lanes (roomy_log logs.map_log) (map roomy_box logs.boxes.items) logs.map.meaning.highest ns) d
 
 pub dues_taken : (rows : List MapRecord) (dues : List ℕ) (n : ℕ) → dues ≡ replicate n 0 → n ≡ length rows → dues ≡ none_due rows
 dues_taken rows dues n is size = is ∙ ap (λ (k : ℕ). replicate k 0) size ∙ sym (nothing_at_all rows)

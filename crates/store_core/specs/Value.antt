@@ -35,10 +35,10 @@ newly_open alloc disk logs lanes = record {
   disk = disk;
   root_log = logs.root_log;
   map_log = logs.map_log;
-  map = logs.map;
+  map = logs.map.meaning;
   boxes = logs.boxes.items;
-  drawn = logs.map.highest;
-  dues = none_due logs.map.records;
+  drawn = logs.map.meaning.highest;
+  dues = none_due logs.map.meaning.records;
   lanes = lanes;
   stopped = false;
 }

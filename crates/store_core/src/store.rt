@@ -62,17 +62,17 @@ impl<D: Disk> Model for Store<D> {
 
     ghost Value = { StoreValue D };
 
-    ghost view = { λ s. record { alloc = s.alloc; disk = s.disk; root_log = s.root_log; map_log = s.map_log; map = s.map; boxes = s.boxes.items; drawn = s.drawn; dues = s.dues.items; lanes = s.lanes; stopped = s.stopped } };
+    ghost view = { λ s. record { alloc = s.alloc; disk = s.disk; root_log = s.root_log; map_log = s.map_log; map = s.map.meaning; boxes = s.boxes.items; drawn = s.drawn; dues = s.dues.items; lanes = s.lanes; stopped = s.stopped } };
 
-    ghost invariant = { λ s. (s.id.0 ≡ s.map.store) × IsStore (D.history s.disk) (record { alloc = s.alloc; disk = s.disk; root_log = s.root_log; map_log = s.map_log; map = s.map; boxes = s.boxes.items; drawn = s.drawn; dues = s.dues.items; lanes = s.lanes; stopped = s.stopped }) × HasRoom (record { alloc = s.alloc; disk = s.disk; root_log = s.root_log; map_log = s.map_log; map = s.map; boxes = s.boxes.items; drawn = s.drawn; dues = s.dues.items; lanes = s.lanes; stopped = s.stopped }) };
+    ghost invariant = { λ s. (s.id.0 ≡ s.map.meaning.store) × IsStore (D.history s.disk) (record { alloc = s.alloc; disk = s.disk; root_log = s.root_log; map_log = s.map_log; map = s.map.meaning; boxes = s.boxes.items; drawn = s.drawn; dues = s.dues.items; lanes = s.lanes; stopped = s.stopped }) × HasRoom (record { alloc = s.alloc; disk = s.disk; root_log = s.root_log; map_log = s.map_log; map = s.map.meaning; boxes = s.boxes.items; drawn = s.drawn; dues = s.dues.items; lanes = s.lanes; stopped = s.stopped }) };
 }
 
 impl<D: Disk> Store<D> {
     /// A store whose logs were opened, for so many lanes, with the memory that was taken for it. It takes no more.
     pub fn of(alloc: Global, disk: D, logs: OpenLogs, room: StoreRoom, lanes: u32) -> Store<D>
-        requires id { logs.map.store ≡ logs.id.0 }
+        requires id { logs.map.meaning.store ≡ logs.id.0 }
         requires store { IsStore (D.history disk) (newly_open alloc disk logs lanes) }
-        requires room { (room.boxes ≡ length logs.boxes.items) × (room.records ≡ length logs.map.records) }
+        requires room { (room.boxes ≡ length logs.boxes.items) × (room.records ≡ length logs.map.meaning.records) }
         ensures store { result ≡ with_entry_room (newly_open alloc disk logs lanes) }
         ensures indexes { indexes_of result.boxes ≡ indexes_of logs.boxes.items }
     {
@@ -137,7 +137,7 @@ impl<D: Disk> Store<D> {
 
     /// What the map log means.
     pub fn map(&self) -> &MapIndex
-        ensures { result.now ≡ self.now.map }
+        ensures { result.now.meaning ≡ self.now.map }
     {
         &self.map
     }
