@@ -17,7 +17,7 @@ use Rattle.store_core.specs.Dues.{number_beside, due_at, listed_at, leak_at, Amo
 use Rattle.store_core.specs.Running.{CoverDues, IsStore}
 use Rattle.store_core.specs.Value.{StoreValue, indexes_of}
 
-abbrev RecordsRise : MapRecord → MapRecord → Type 0
+abbrev pub RecordsRise : MapRecord → MapRecord → Type 0
 RecordsRise a b = a.uid < b.uid
 
 -- each record has the number of its place

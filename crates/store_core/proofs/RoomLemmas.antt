@@ -1,5 +1,5 @@
 -- A store whose logs have more room.
-use Rattle.std.proofs.Common.{◌≡◌, ◌≤◌, ℕ, max, false, List, [], ◌∷◌, map, length, All, Option, refl, sym, ◌∙◌, ap, subst, arith}
+use Rattle.std.proofs.Common.{◌≡◌, ◌≤◌, ℕ, max, false, List, [], ◌∷◌, map, length, All, Option, refl, sym, ◌∙◌, ap, arith}
 use Rattle.std.specs.Prelude.{replicate}
 use Rattle.std.specs.declared.alloc.Global.{Global}
 use Rattle.mdbox_base.specs.declared.entries.Highest.{Highest}

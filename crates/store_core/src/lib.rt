@@ -6,6 +6,8 @@ pub use laws::{counts_cover_listings, listings_are_shown};
 pub use room::StoreRoom;
 pub use store::{OpenBox, OpenLogs, Store};
 
+mod append;
+mod due;
 mod error;
 mod laws;
 mod room;

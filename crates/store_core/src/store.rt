@@ -1,21 +1,34 @@
 // A store that is open.
-ghost use Rattle.std.specs.Prelude.{◌≡◌, ◌<◌, ◌≤◌, ◌^◌, ◌==◌, ℕ, List, All, map, false, length, find, count_by, sum_by, if◌then◌else◌};
+ghost use Rattle.std.specs.Prelude.{◌≡◌, ◌↔◌, ◌<◌, ◌≤◌, ◌^◌, ◌==◌, ℕ, List, All, Some, OnOk, IsErr, IsErrOf, map, true, false, length, find, count_by, sum_by, if◌then◌else◌};
 ghost use Rattle.std.specs.Option.{option_copied, option_map, option_map_or};
 ghost use Rattle.std.specs.Str.{bytes_eq};
+ghost use Rattle.box_index.specs.Row.{IsAdded};
+ghost use Rattle.disk_model.specs.Disk.{Grows};
+ghost use Rattle.disk_model.specs.FaultCounts.{NoFault, ChangeFaultCounted};
 ghost use Rattle.mdbox_base.specs.declared.entries.BoxEntry.{BoxEntry};
-ghost use Rattle.model_appends.specs.Amounts.{IsAccounted};
-ghost use Rattle.model_meaning.specs.BoxMeaning.{box_meaning};
+ghost use Rattle.model_appends.specs.Amounts.{IsAccounted, due_by_box, HoldsAdded};
+ghost use Rattle.model_appends.specs.Appending.{lists_by, meanings_by};
+ghost use Rattle.model_lists.specs.Lists.{Lists};
+ghost use Rattle.model_logs.specs.Entries.{BoxInRange};
+ghost use Rattle.model_meaning.specs.BoxMeaning.{BoxMeaning, box_meaning, row_made};
 ghost use Rattle.model_meaning.specs.MapMeaning.{count_of};
+ghost use Rattle.model_store.specs.Opening.{HasItsRecord};
+ghost use Rattle.model_store.specs.Settled.{IsSettledFor, Leaves};
+ghost use Rattle.store_core.specs.Append.{FitsBox, Brings};
 ghost use Rattle.store_core.specs.Dues.{due_at, leak_at};
 ghost use Rattle.store_core.specs.Value.{indexes_of, newly_open, with_entry_room, list_named, list_numbered, references_to};
 ghost use Rattle.store_core.specs.Running.{HasRoom, IsStore};
+ghost use Rattle.store_core.specs.declared.error.StepError.TheVariants as step_error;
 
+use crate::append::{append_in, place_of};
+use crate::due::{change_due, due_change};
+use crate::error::StepError;
 use crate::room::{StoreRoom, give_rooms};
 use box_index::{BoxIndex, BoxRow};
 use disk_model::Disk;
 use gate_log::GateLog;
 use map_index::MapIndex;
-use mdbox_base::{BoxNo, Guid, Highest, Name, StoreId};
+use mdbox_base::{BoxEntry, BoxNo, Guid, Highest, Name, StoreId};
 use std::alloc::Global;
 use std::marker::Model;
 
@@ -185,6 +198,52 @@ impl<D: Disk> Store<D> {
         ensures { result ≡ self.now.stopped }
     {
         self.stopped
+    }
+
+    /// Adds an entry that fits to the log of a mailbox, and takes it in. It takes memory only for a message that is added, and
+    /// before anything is written; a change of the disk that fails stops the store.
+    pub fn append_box(&mut self, mailbox: BoxNo, entry: &BoxEntry) -> Result<(), StepError>
+        requires running { self.old.stopped ≡ false }
+        requires range { BoxInRange entry.now }
+        requires fits { FitsBox mailbox.0 entry.now self.old }
+
+        // A message that is added has its record, of which something is due.
+        requires record { All (HasItsRecord self.old.map) (row_made entry.now) }
+        requires held { HoldsAdded entry.now (λ uid. due_at uid self.old) }
+
+        // Of a settled disk each image at every moment is safe for its lists, or for those that the entry gives, whichever call
+        // fails; and after Ok the disk is settled for the latter.
+        ensures any_moment { (lists : Lists) (octets : List ℕ) → Brings self.old.map entry.now octets (D.history self.old.disk) → IsSettledFor lists (D.history self.old.disk) → Leaves lists (lists_by mailbox.0 octets entry.now lists) (D.history self.old.disk) (D.history self.new.disk) }
+        ensures settled { OnOk result ((lists : Lists) (octets : List ℕ) → Brings self.old.map entry.now octets (D.history self.old.disk) → IsSettledFor lists (D.history self.old.disk) → IsSettledFor (lists_by mailbox.0 octets entry.now lists) (D.history self.new.disk)) }
+
+        // After Ok the logs mean what they did, with the entry, and so does what is due. The leak stays, whatever is answered.
+        ensures taken { OnOk result (indexes_of self.new.boxes ≡ meanings_by mailbox.0 entry.now self.old.map.boxes (indexes_of self.old.boxes)) }
+        ensures due { OnOk result ((m : BoxMeaning) (uid : ℕ) → list_numbered self.old mailbox.0 ≡ Some m → due_at uid self.new ≡ due_by_box m entry.now (λ uid. due_at uid self.old) uid) }
+        ensures leak { (uid : ℕ) → leak_at uid self.new ≡ leak_at uid self.old }
+
+        ensures stopped { IsErrOf result step_error.Stopped ↔ (self.new.stopped ≡ true) }
+        ensures untaken { IsErr result → (indexes_of self.new.boxes ≡ indexes_of self.old.boxes) × (self.new.dues ≡ self.old.dues) }
+        ensures memory { IsErrOf result step_error.NoMemory → (self.new ≡ self.old) × IsAdded entry.now }
+        ensures same { self.new ≡ record self.old { disk = self.new.disk; boxes = self.new.boxes; dues = self.new.dues; stopped = self.new.stopped } }
+        ensures grows { Grows (D.history self.old.disk) (D.history self.new.disk) }
+        ensures fault { ChangeFaultCounted (IsErrOf result step_error.Stopped) (D.faults self.old.disk) (D.faults self.new.disk) }
+        ensures unfailed { OnOk result (NoFault (D.faults self.old.disk) (D.faults self.new.disk)) }
+    {
+        let Some(place) = place_of(&self.boxes, mailbox) else {
+            unreachable!()
+        };
+        let how = due_change(&self.boxes[place].index, entry);
+        match append_in(&mut self.boxes[place], &mut self.disk, entry) {
+            Ok(()) => {
+                change_due(&self.map, &mut self.dues, how);
+                Ok(())
+            }
+            Err(StepError::Stopped) => {
+                self.stopped = true;
+                Err(StepError::Stopped)
+            }
+            Err(StepError::NoMemory) => Err(StepError::NoMemory),
+        }
     }
 
     /// The disk, which the store gives back.

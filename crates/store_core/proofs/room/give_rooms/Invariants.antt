@@ -1,4 +1,4 @@
-use Rattle.std.proofs.Common.{◌≡◌, ◌+◌, length, All, ℕ}
+use Rattle.std.proofs.Common.{◌≡◌, ◌+◌, length, All}
 use Rattle.std.specs.Prelude.{vec_len}
 use Rattle.model_octets.proofs.InPlaceLemmas.{changed_to}
 use Rattle.store_core.specs.Value.{entry_room, roomy_box}

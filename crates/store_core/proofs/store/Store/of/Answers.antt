@@ -1,4 +1,4 @@
-use Rattle.std.proofs.Common.{◌≡◌, sym, ◌∙◌, ap, subst}
+use Rattle.std.proofs.Common.{sym, ◌∙◌, ap, subst}
 use Rattle.store_core.specs.Value.{StoreValue, indexes_of, newly_open}
 use Rattle.store_core.specs.Running.{HasRoom, IsStore}
 use Rattle.store_core.proofs.RoomLemmas.{roomy_by, opened_as, dues_taken, store_roomy, room_there, indexes_roomy}
