@@ -27,7 +27,7 @@ use Rattle.gate_log.specs.Log.{Reads}
 use Rattle.store_core.specs.Append.{FitsBox, due_change_of, change_beside, dues_by}
 use Rattle.store_core.specs.Dues.{number_beside, due_at, listed_at, leak_at}
 use Rattle.store_core.specs.Value.{StoreValue, indexes_of, list_numbered, entry_room}
-use Rattle.store_core.specs.Running.{AreBoxLogs, CoverDues, IsStore, HasRoom}
+use Rattle.store_core.specs.Running.{AreBoxLogs, CoverDues, IsStore, HasEntryRoom}
 use Rattle.store_core.specs.declared.due.DueChange.{DueChange}
 use Rattle.store_core.specs.declared.due.DueChange.TheVariants as change
 use Rattle.store_core.specs.declared.store.OpenBox.{OpenBox}
@@ -106,10 +106,10 @@ must_be h v w found number e s same same_found fits none =
 pub read_there : {D : Type 0} → (h : Option History) (v : StoreValue D) (k : ℕ) (b : OpenBox) (number : ℕ) (e : BoxEntry) → Placed h v k b number e → (texts : List (List ℕ)) × Reads b.log texts h
 read_there h v k b number e p = let q = own_box h v k b number e p in (map box_text q.log, q.reads)
 
-pub room_there : {D : Type 0} → (h : Option History) (v : StoreValue D) (k : ℕ) (b : OpenBox) (number : ℕ) (e : BoxEntry) → Placed h v k b number e → HasRoom v → entry_room ≤ b.log.room
+pub room_there : {D : Type 0} → (h : Option History) (v : StoreValue D) (k : ℕ) (b : OpenBox) (number : ℕ) (e : BoxEntry) → Placed h v k b number e → HasEntryRoom v → entry_room ≤ b.log.room
 room_there h v k b number e p room = subst (λ (y : OpenBox). entry_room ≤ y.log.room) (sym p.here) (room_at entry_room k p.default v.boxes p.below room.box_logs)
 
-pub room_stays : {D : Type 0} → (h : Option History) (v w : StoreValue D) (k : ℕ) (b x : OpenBox) (number : ℕ) (e : BoxEntry) → Placed h v k b number e → HasRoom v → x.log.room ≡ b.log.room → w.map_log ≡ v.map_log → w.boxes ≡ slice_set v.boxes k x → HasRoom w
+pub room_stays : {D : Type 0} → (h : Option History) (v w : StoreValue D) (k : ℕ) (b x : OpenBox) (number : ℕ) (e : BoxEntry) → Placed h v k b number e → HasEntryRoom v → x.log.room ≡ b.log.room → w.map_log ≡ v.map_log → w.boxes ≡ slice_set v.boxes k x → HasEntryRoom w
 room_stays h v w k b x number e p room same map_log boxes = record {
   map_log = subst (λ (l : _). entry_room ≤ l.room) (sym map_log) room.map_log;
   box_logs = subst (λ (bs : List OpenBox). All (λ (o : OpenBox). entry_room ≤ o.log.room) bs) (sym boxes) (rooms_set entry_room k p.default x v.boxes p.below room.box_logs (same ∙ ap (λ (o : OpenBox). o.log.room) p.here));

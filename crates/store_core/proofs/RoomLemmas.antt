@@ -14,7 +14,7 @@ use Rattle.model_meaning.specs.MapMeaning.{MapRecord, MapBox}
 use Rattle.gate_log.specs.State.{LogState}
 use Rattle.gate_log.specs.Log.{IsLogRead, Reads}
 use Rattle.store_core.specs.Value.{StoreValue, indexes_of, none_due, entry_room, roomy_log, roomy_box, with_entry_room, newly_open}
-use Rattle.store_core.specs.Running.{AreBoxLogs, ReadBoxLogs, IsStore, HasRoom}
+use Rattle.store_core.specs.Running.{AreBoxLogs, ReadBoxLogs, IsStore, HasEntryRoom}
 use Rattle.store_core.specs.declared.store.OpenBox.{OpenBox}
 
 pub indexes_roomy : (boxes : List OpenBox) → indexes_of (map roomy_box boxes) ≡ indexes_of boxes
@@ -69,7 +69,7 @@ boxes_roomy : (boxes : List OpenBox) → All (λ (b : OpenBox). entry_room ≤ b
 boxes_roomy [] = All-nil (λ (b : OpenBox). entry_room ≤ b.log.room)
 boxes_roomy (b ∷ bs) = All-cons (λ (b : OpenBox). entry_room ≤ b.log.room) (roomy_box b) (map roomy_box bs) (omega arith) (boxes_roomy bs)
 
-pub room_there : {D : Type 0} → (store : StoreValue D) → HasRoom (with_entry_room store)
+pub room_there : {D : Type 0} → (store : StoreValue D) → HasEntryRoom (with_entry_room store)
 room_there store = record { map_log = omega arith; box_logs = boxes_roomy store.boxes }
 
 -- nothing is due of as many records

@@ -53,7 +53,7 @@ CoverDues logs rows dues = ⊥
 -- ---- room
 
 -- The map log and the log of each mailbox have room for an entry of 64 octets.
-pub record HasRoom {D : Type 0} (store : StoreValue D) : Type 0 where
+pub record HasEntryRoom {D : Type 0} (store : StoreValue D) : Type 0 where
   pub map_log : entry_room ≤ store.map_log.room
   pub box_logs : All (λ open_box. entry_room ≤ open_box.log.room) store.boxes
 

@@ -17,7 +17,7 @@ ghost use Rattle.model_store.specs.Settled.{IsSettledFor, Leaves};
 ghost use Rattle.store_core.specs.Append.{FitsBox, Brings};
 ghost use Rattle.store_core.specs.Dues.{due_at, leak_at};
 ghost use Rattle.store_core.specs.Value.{indexes_of, newly_open, with_entry_room, list_named, list_numbered, references_to};
-ghost use Rattle.store_core.specs.Running.{HasRoom, IsStore};
+ghost use Rattle.store_core.specs.Running.{HasEntryRoom, IsStore};
 ghost use Rattle.store_core.specs.declared.error.StepError.TheVariants as step_error;
 
 use crate::append::{append_in, place_of};
@@ -71,13 +71,13 @@ pub struct Store<D: Disk> {
 impl<D: Disk> Model for Store<D> {
     ghost use Rattle.std.specs.Prelude.{◌≡◌};
     ghost use Rattle.store_core.specs.Value.{StoreValue};
-    ghost use Rattle.store_core.specs.Running.{HasRoom, IsStore};
+    ghost use Rattle.store_core.specs.Running.{HasEntryRoom, IsStore};
 
     ghost Value = { StoreValue D };
 
     ghost view = { λ s. record { alloc = s.alloc; disk = s.disk; root_log = s.root_log; map_log = s.map_log; map = s.map.meaning; boxes = s.boxes.items; drawn = s.drawn; dues = s.dues.items; lanes = s.lanes; stopped = s.stopped } };
 
-    ghost invariant = { λ s. (s.id.0 ≡ s.map.meaning.store) × IsStore (D.history s.disk) (record { alloc = s.alloc; disk = s.disk; root_log = s.root_log; map_log = s.map_log; map = s.map.meaning; boxes = s.boxes.items; drawn = s.drawn; dues = s.dues.items; lanes = s.lanes; stopped = s.stopped }) × HasRoom (record { alloc = s.alloc; disk = s.disk; root_log = s.root_log; map_log = s.map_log; map = s.map.meaning; boxes = s.boxes.items; drawn = s.drawn; dues = s.dues.items; lanes = s.lanes; stopped = s.stopped }) };
+    ghost invariant = { λ s. (s.id.0 ≡ s.map.meaning.store) × IsStore (D.history s.disk) (record { alloc = s.alloc; disk = s.disk; root_log = s.root_log; map_log = s.map_log; map = s.map.meaning; boxes = s.boxes.items; drawn = s.drawn; dues = s.dues.items; lanes = s.lanes; stopped = s.stopped }) × HasEntryRoom (record { alloc = s.alloc; disk = s.disk; root_log = s.root_log; map_log = s.map_log; map = s.map.meaning; boxes = s.boxes.items; drawn = s.drawn; dues = s.dues.items; lanes = s.lanes; stopped = s.stopped }) };
 }
 
 impl<D: Disk> Store<D> {
@@ -122,7 +122,7 @@ impl<D: Disk> Store<D> {
     /// What is true of every open store.
     pub fn facts(&self)
         ensures store { IsStore (D.history self.now.disk) self.now }
-        ensures room { HasRoom self.now }
+        ensures room { HasEntryRoom self.now }
     {
         let _ = &self.id;
     }

@@ -1,6 +1,6 @@
 use Rattle.std.proofs.Common.{sym, ◌∙◌, ap, subst}
 use Rattle.store_core.specs.Value.{StoreValue, indexes_of, newly_open}
-use Rattle.store_core.specs.Running.{HasRoom, IsStore}
+use Rattle.store_core.specs.Running.{HasEntryRoom, IsStore}
 use Rattle.store_core.proofs.RoomLemmas.{roomy_by, opened_as, dues_taken, store_roomy, room_there, indexes_roomy}
 use Rattle.store_core.proofs.store.Store.of.Goals as goal
 
@@ -11,7 +11,7 @@ invariant_of-result g c =
     (dues_taken c.args.logs.map.meaning.records c.room.inside.dues.items _ c.room.invariant.2 (ap (λ r. r.records) c.room.view_is ∙ c.requires.room.1)) in (
       sym c.requires.id,
       subst (λ (v : StoreValue _). IsStore (g.D.Disk.history c.args.disk) v) (sym is) (store_roomy (g.D.Disk.history c.args.disk) (newly_open c.args.alloc c.args.disk c.args.logs c.args.lanes) c.requires.store),
-      subst (λ (v : StoreValue _). HasRoom v) (sym is) (room_there (newly_open c.args.alloc c.args.disk c.args.logs c.args.lanes)),
+      subst (λ (v : StoreValue _). HasEntryRoom v) (sym is) (room_there (newly_open c.args.alloc c.args.disk c.args.logs c.args.lanes)),
     )
 
 pub returns-clause-store : goal.returns-clause-store
