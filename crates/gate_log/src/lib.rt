@@ -6,6 +6,7 @@ pub use found::{FoundLog, inspect_log};
 pub use log::{GateLog, create_log, open_log};
 pub use peek::{FRONT_SIZE, id_in, peek_head};
 pub use read::{LogRead, read_log};
+pub use room::LogRoom;
 
 mod device;
 mod error;
@@ -18,3 +19,4 @@ mod peek;
 mod read;
 mod record;
 mod repair;
+mod room;
