@@ -26,6 +26,8 @@ use Rattle.model_appends.proofs.HeldLogLemmas.{holds_box}
 use Rattle.gate_log.specs.State.{LogState}
 use Rattle.gate_log.specs.Log.{IsLogRead, IsLogHeld, Holds, IsLogWithOrWithout}
 use Rattle.store_core.specs.Append.{AddsText, Brings, IsSameBox}
+use Rattle.model_appends.proofs.AppendFileLemmas.{box_stored, count_itself, kept_as}
+use Rattle.store_core.specs.Dues.{KeepsStored}
 use Rattle.store_core.specs.Value.{StoreValue}
 use Rattle.store_core.specs.declared.store.OpenBox.{OpenBox}
 use Rattle.store_core.proofs.PickingLemmas.{Picked}
@@ -136,3 +138,13 @@ settled_there (Some old) (Some new) v k b x number e p own same others hold list
 pub leaves_none : (old : Option History) (lists later : Lists) → IsSettledFor lists old → Leaves lists later old old
 leaves_none None lists later settled = absurd settled
 leaves_none (Some old) lists later settled = each_image-begins (λ _ image. Safe image lists ⊎ Safe image later) (Some old) (λ moment image is. inl (settled_safe old.now lists image settled is))
+
+-- ---- what records store
+
+pub stored_there : {D : Type 0} → (old new : Option History) (v : StoreValue D) (k : ℕ) (b : OpenBox) (number : ℕ) (e : BoxEntry) → Placed old v k b number e → SameButFor b.log.name old new → KeepsStored old new
+stored_there None new v k b number e p same = same
+stored_there (Some old) None v k b number e p same = absurd same
+stored_there (Some old) (Some new) v k b number e p same =
+    let q : Picked (Some old) v.map.store (map_meaning v.map.store p.store.entries).boxes p.store.logs b = own_box (Some old) v k b number e p in
+    λ row octets stores. kept_as (files_of old.now) (files_of new.now) row row octets
+    (box_stored q.box.number q.box.generation (files_of old.now) (files_of new.now) (λ other apart. ap reading (same other (λ r. apart (r ∙ q.name))))) (count_itself row) stores

@@ -1,6 +1,6 @@
 -- Mailboxes that are looked up by number and by name.
 use Rattle.std.proofs.Common.{◌≡◌, ◌<◌, ◌==◌, ℕ, Bool, true, false, cond, List, [], ◌∷◌, find, Option, Some, None, All, refl, sym, ◌∙◌, ap, subst, arith}
-use Rattle.std.specs.Prelude.{AllPairs}
+use Rattle.std.specs.Prelude.{AllPairs, IfSome, IfNone}
 use Rattle.std.specs.Str.{bytes_eq}
 use Rattle.std.specs.Option.{option_map}
 use Rattle.std.proofs.lemmas.Bool.{cond-true, cond-false, ne_eqb, eq-eqb}
@@ -107,3 +107,19 @@ unnamed_in name m n meanings r same lost e =
     is_none : (o : Option MapBox) → None ≡ option_map (λ b. the_number b) o → None ≡ o
     is_none None h = refl
     is_none (Some x) h = absurd (cc (let k : None ≡ Some (the_number x) = h in k))
+
+-- the number of the mailbox with this name, in a store, whose fields are known under two names
+pub number_in : (name : List ℕ) (m n : MapMeaning) (meanings : List BoxMeaning) (r : Option BoxNo) → AllPairs (λ a b. a.number < b.number) m.boxes → m ≡ n → r ≡ option_map (λ b. the_number b) (find (λ box. bytes_eq box.name name) m.boxes)
+    → IfSome r (λ number. (meaning_numbered number.0 n.boxes meanings ≡ meaning_named name n.boxes meanings) × (option_map (λ b. b.number) (find (λ b. bytes_eq b.name name) n.boxes) ≡ Some number.0))
+number_in name m n meanings None rising same e = tt
+number_in name m n meanings (Some k) rising same e =
+    subst (λ (o : MapMeaning). (meaning_numbered k.0 o.boxes meanings ≡ meaning_named name o.boxes meanings) × (option_map (λ (b : MapBox). b.number) (find (λ (b : MapBox). bytes_eq b.name name) o.boxes) ≡ Some k.0)) same
+    (by_name name k m.boxes meanings rising e, numbers (find (λ (b : MapBox). bytes_eq b.name name) m.boxes) e)
+  where
+    numbers : (o : Option MapBox) → Some k ≡ option_map (λ b. the_number b) o → option_map (λ (b : MapBox). b.number) o ≡ Some k.0
+    numbers None h = absurd (cc (let w : Some k ≡ None = h in w))
+    numbers (Some x) h = let w : Some k ≡ Some (the_number x) = h in let s : k ≡ the_number x = cc w in ap (λ (n : BoxNo). Some n.0) (sym s)
+
+pub none_in : (name : List ℕ) (m n : MapMeaning) (meanings : List BoxMeaning) (r : Option BoxNo) → m ≡ n → r ≡ option_map (λ b. the_number b) (find (λ box. bytes_eq box.name name) m.boxes) → IfNone r (meaning_named name n.boxes meanings ≡ None)
+none_in name m n meanings None same e = sym (unnamed_in name m n meanings None same e refl)
+none_in name m n meanings (Some k) same e = tt

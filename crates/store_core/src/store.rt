@@ -1,5 +1,5 @@
 // A store that is open.
-ghost use Rattle.std.specs.Prelude.{◌≡◌, ◌↔◌, ◌<◌, ◌≤◌, ◌^◌, ◌==◌, ℕ, List, All, Some, OnOk, IsErr, IsErrOf, map, true, false, length, find, count_by, sum_by, if◌then◌else◌};
+ghost use Rattle.std.specs.Prelude.{◌≡◌, ◌↔◌, ◌<◌, ◌≤◌, ◌^◌, ◌==◌, ℕ, List, All, Some, None, IfSome, IfNone, OnOk, IsErr, IsErrOf, map, true, false, length, find, count_by, sum_by, if◌then◌else◌};
 ghost use Rattle.std.specs.Option.{option_copied, option_map, option_map_or};
 ghost use Rattle.std.specs.Str.{bytes_eq};
 ghost use Rattle.box_index.specs.Row.{IsAdded};
@@ -15,7 +15,7 @@ ghost use Rattle.model_meaning.specs.MapMeaning.{count_of};
 ghost use Rattle.model_store.specs.Opening.{HasItsRecord};
 ghost use Rattle.model_store.specs.Settled.{IsSettledFor, Leaves};
 ghost use Rattle.store_core.specs.Append.{FitsBox, Brings};
-ghost use Rattle.store_core.specs.Dues.{due_at, leak_at};
+ghost use Rattle.store_core.specs.Dues.{due_at, leak_at, KeepsStored};
 ghost use Rattle.store_core.specs.Value.{indexes_of, newly_open, with_entry_room, list_named, list_numbered, references_to};
 ghost use Rattle.store_core.specs.Running.{HasEntryRoom, IsStore};
 ghost use Rattle.store_core.specs.declared.error.StepError.TheVariants as step_error;
@@ -171,6 +171,15 @@ impl<D: Disk> Store<D> {
         self.mailbox(number)
     }
 
+    /// The number of the mailbox with this name. None if and only if no mailbox has the name.
+    pub fn number_of(&self, name: &Name) -> Option<BoxNo>
+        ensures some { IfSome result (λ number. (list_numbered self.now number.0 ≡ list_named self.now name.now) × (option_map (λ b. b.number) (find (λ b. bytes_eq b.name name.now) self.now.map.boxes) ≡ Some number.0)) }
+        ensures none { IfNone result (list_named self.now name.now ≡ None) }
+    {
+        self.map.known_facts();
+        self.map.box_named(name)
+    }
+
     /// How many listed messages have this GUID.
     pub fn refs_of(&self, guid: Guid) -> u64
         ensures { result ≡ references_to self.now guid.0 }
@@ -220,6 +229,9 @@ impl<D: Disk> Store<D> {
         ensures taken { OnOk result (indexes_of self.new.boxes ≡ meanings_by mailbox.0 entry.now self.old.map.boxes (indexes_of self.old.boxes)) }
         ensures due { OnOk result ((m : BoxMeaning) (uid : ℕ) → list_numbered self.old mailbox.0 ≡ Some m → due_at uid self.new ≡ due_by_box m entry.now (λ uid. due_at uid self.old) uid) }
         ensures leak { (uid : ℕ) → leak_at uid self.new ≡ leak_at uid self.old }
+
+        // Each record stores what it stored.
+        ensures stored { OnOk result (KeepsStored (D.history self.old.disk) (D.history self.new.disk)) }
 
         ensures stopped { IsErrOf result step_error.Stopped ↔ (self.new.stopped ≡ true) }
         ensures untaken { IsErr result → (indexes_of self.new.boxes ≡ indexes_of self.old.boxes) × (self.new.dues ≡ self.old.dues) }

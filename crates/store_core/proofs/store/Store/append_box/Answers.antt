@@ -6,10 +6,10 @@ use Rattle.model_lists.specs.Lists.{Lists}
 use Rattle.model_meaning.specs.BoxMeaning.{BoxMeaning}
 use Rattle.model_store.specs.Settled.{IsSettledFor, Leaves}
 use Rattle.store_core.specs.Append.{Brings}
-use Rattle.store_core.specs.Dues.{number_beside, due_at, leak_at}
+use Rattle.store_core.specs.Dues.{number_beside, due_at, leak_at, KeepsStored}
 use Rattle.store_core.specs.Value.{indexes_of, list_numbered}
 use Rattle.store_core.proofs.BoxAppendLemmas.{store_there, stopped_there}
-use Rattle.store_core.proofs.BoxCrashLemmas.{leaves_there, settled_there, leaves_none}
+use Rattle.store_core.proofs.BoxCrashLemmas.{leaves_there, settled_there, stored_there, leaves_none}
 use Rattle.store_core.proofs.PickingLemmas.{indexes_kept}
 use Rattle.store_core.proofs.PlacingLemmas.{placed, place_below, must_be, read_there, fits_there, room_there, room_stays, taken_there, size_there, due_there, due_room, leak_there, how_is, dues_are_by}
 use Rattle.store_core.proofs.store.Store.append_box.Goals as goal
@@ -95,3 +95,8 @@ returns-in-Err-Stopped-clause-untaken g c = λ failed. (
   indexes_kept c.in-Some.place c.index_mut.result.now c.append_in.new.open_box c.self.inside.boxes.items (c.in-Err-Stopped.ensures.untaken refl ∙ ap (λ b. b.index.meaning) c.index_mut.ensures.value) ∙ ap (λ v. indexes_of v.boxes) c.self.view_is,
   ap (λ v. v.dues) c.self.view_is,
 )
+
+pub returns-in-Ok-clause-stored : goal.returns-in-Ok-clause-stored
+returns-in-Ok-clause-stored g c =
+    subst (λ v. KeepsStored (g.D.Disk.history v.disk) (g.D.Disk.history c.append_in.new.disk)) c.self.view_is
+    (stored_there _ _ _ c.in-Some.place c.index_mut.result.now c.args.mailbox.0 c.args.entry.now (placed _ _ c.args.self.now c.deref.result.now c.in-Some.place c.index_mut.result.now c.args.mailbox.0 c.args.entry.now c.self.invariant.1 c.self.view_is c.deref.ensures.value c.requires.running c.requires.range c.requires.fits c.requires.held c.requires.record c.in-Some.ensures.some c.index_mut.ensures.value) c.in-Ok.ensures.others)
