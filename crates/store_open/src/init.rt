@@ -56,7 +56,11 @@ pub fn init_store<D: Disk>(alloc: Global, disk: D, id: StoreId) -> Result<Store<
 }
 
 /// Makes the logs of a new store, with what they mean. Nothing wants memory once they are made.
-fn new_logs<D: Disk>(alloc: Global, disk: &mut D, id: StoreId) -> Result<(OpenLogs, StoreRoom), OpenError>
+fn new_logs<D: Disk>(
+    alloc: Global,
+    disk: &mut D,
+    id: StoreId,
+) -> Result<(OpenLogs, StoreRoom), OpenError>
     ensures id { IfOk result (λ opened. opened.0.map.meaning.store ≡ opened.0.id.0) }
     ensures store { IfOk result (λ opened. IsStore (D.history disk.new) (newly_open alloc disk.new opened.0 1)) }
     ensures room { IfOk result (λ opened. (opened.1.boxes ≡ length opened.0.boxes.items) × (opened.1.records ≡ length opened.0.map.meaning.records)) }
