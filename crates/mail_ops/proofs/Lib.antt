@@ -1,3 +1,5 @@
+pub mod FlagEventLemmas
+pub mod FlagListLemmas
 pub mod ListEventLemmas
 pub mod NamedListLemmas
 pub mod RowLemmas

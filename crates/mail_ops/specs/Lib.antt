@@ -1,2 +1,4 @@
+pub mod Flagging
 pub mod Listing
+pub mod Requests
 pub mod Task

@@ -1,10 +1,17 @@
-// A listing by the list machine.
-ghost use Rattle.std.specs.Prelude.{ℕ, List};
-ghost use Rattle.list_machine.specs.Machine.{PartAnswers};
+// Requests by the list machine.
+ghost use Rattle.std.specs.Prelude.{◌≡◌, ℕ, List, [], find, Some, None};
+ghost use Rattle.std.specs.Option.{option_map};
+ghost use Rattle.std.specs.Str.{bytes_eq};
+ghost use Rattle.list_machine.specs.Machine.{PartAnswers, set_flags};
 ghost use Rattle.list_machine.specs.Run.{First, RunEvent, Run};
-ghost use Rattle.mdbox_base.specs.declared.requests.Request.TheVariants.{List as ListBox};
-ghost use Rattle.model_lists.specs.Lists.{Lists};
-ghost use Rattle.model_meaning.specs.BoxMeaning.{BoxMeaning};
+ghost use Rattle.mdbox_base.specs.declared.entries.BoxEntry.TheVariants.{F};
+ghost use Rattle.mdbox_base.specs.declared.ids.Uid.{Uid};
+ghost use Rattle.mdbox_base.specs.declared.replies.Refusal.TheVariants.{NoMailbox, NoMessage};
+ghost use Rattle.mdbox_base.specs.declared.replies.Reply.TheVariants.{Refused, Done};
+ghost use Rattle.mdbox_base.specs.declared.requests.Request.TheVariants.{List as ListBox, Flag};
+ghost use Rattle.model_appends.specs.Appending.{lists_by, meanings_by};
+ghost use Rattle.model_lists.specs.Lists.{Lists, AreWellFormed};
+ghost use Rattle.model_meaning.specs.BoxMeaning.{LogRow, BoxMeaning, row_at};
 ghost use Rattle.model_meaning.specs.MapMeaning.{MapBox};
 ghost use Rattle.model_store.specs.Listing.{ShowLists, meaning_named, listing_of};
 ghost use Rattle.task_steps.specs.Step.{IsKept};
@@ -19,4 +26,18 @@ pub fn task_stages_are_kept()
 /// Where lists are shown, what the logs of the mailboxes mean is what the list machine answers a listing.
 pub fn listings_are_answered()
     ensures { (run : Run) (event : RunEvent) (boxes : List MapBox) (meanings : List BoxMeaning) (lists : Lists) (name : List ℕ) → ShowLists boxes meanings lists → PartAnswers run event lists (ListBox name) First (listing_of (meaning_named name boxes meanings)) lists }
+{}
+
+/// A flag by the list machine: where lists are shown and no mailbox has the name, or no message the UID, it is refused; else
+/// the entry gives the lists that the machine gives, and they are shown by what the logs mean then.
+pub fn flags_are_shown()
+    ensures no_mailbox { (run : Run) (event : RunEvent) (boxes : List MapBox) (meanings : List BoxMeaning) (lists : Lists) (name : List ℕ) (uid : Uid) (flags : ℕ) → ShowLists boxes meanings lists → meaning_named name boxes meanings ≡ None
+        → PartAnswers run event lists (Flag name uid flags) First (Refused NoMailbox) lists }
+    ensures no_message { (run : Run) (event : RunEvent) (boxes : List MapBox) (meanings : List BoxMeaning) (lists : Lists) (name : List ℕ) (uid : Uid) (flags : ℕ) (m : BoxMeaning) → ShowLists boxes meanings lists → meaning_named name boxes meanings ≡ Some m
+        → row_at m uid.0 ≡ None → PartAnswers run event lists (Flag name uid flags) First (Refused NoMessage) lists }
+    ensures flagged { (run : Run) (event : RunEvent) (boxes : List MapBox) (meanings : List BoxMeaning) (lists : Lists) (name : List ℕ) (number : ℕ) (uid : Uid) (flags : ℕ) (m : BoxMeaning) (row : LogRow) → AreWellFormed lists → ShowLists boxes meanings lists
+        → meaning_named name boxes meanings ≡ Some m → row_at m uid.0 ≡ Some row → option_map (λ b. b.number) (find (λ b. bytes_eq b.name name) boxes) ≡ Some number
+        → (lists_by number [] (F uid flags) lists ≡ set_flags name uid.0 flags lists) × PartAnswers run event lists (Flag name uid flags) First Done (set_flags name uid.0 flags lists) }
+    ensures shown { (number : ℕ) (octets : List ℕ) (uid : Uid) (flags : ℕ) (boxes : List MapBox) (meanings : List BoxMeaning) (lists : Lists) → ShowLists boxes meanings lists
+        → ShowLists boxes (meanings_by number (F uid flags) boxes meanings) (lists_by number octets (F uid flags) lists) }
 {}

@@ -37,7 +37,7 @@ pub fn list<D: Disk>(store: &Store<D>, name: &Name) -> (Reply, Did)
 
 /// The rows of a listing, in UID order.
 fn rows_of(alloc: Global, index: &BoxIndex) -> Result<Seq<ListRow>, NoMemory>
-    ensures { IfOk result (λ rows. rows ≡ map listed_row index.now.rows) }
+    ensures { IfOk result (λ rows. rows ≡ map listed_row index.now.meaning.rows) }
 {
     let mut rows = Vec::with_capacity(alloc, index.length() as usize)?;
     for place in 0..index.length() {

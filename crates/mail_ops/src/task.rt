@@ -1,18 +1,19 @@
 // The task of a request.
-ghost use Rattle.std.specs.Prelude.{◌≡◌};
+ghost use Rattle.std.specs.Prelude.{◌≡◌, ℕ, Some};
 ghost use Rattle.journal.specs.Events.{Around};
 ghost use Rattle.mdbox_base.specs.declared.progress.Did.TheVariants as did;
 ghost use Rattle.mdbox_base.specs.declared.progress.Progress.TheVariants as progress;
 ghost use Rattle.mdbox_base.specs.declared.replies.Reply.{Reply};
-ghost use Rattle.task_steps.specs.Step.{Steps, ended_by};
-ghost use Rattle.mail_ops.specs.Listing.{IsListing, Replies};
-ghost use Rattle.store_core.specs.Dues.{Moves, Spares, amounts_in};
+ghost use Rattle.task_steps.specs.Step.{HasNotBegun, Steps, ended_by};
+ghost use Rattle.mail_ops.specs.Requests.{IsOpsRequest, Replies, AppendsNothing};
+ghost use Rattle.store_core.specs.Dues.{due_at, KeepsStored, Moves, Spares, amounts_in};
 ghost use Rattle.mail_ops.specs.Task.{IsAt, amounts_of, seen_of};
 ghost use Rattle.mail_ops.specs.declared.task.TaskStage.TheVariants as stage;
 
+use crate::flagging::flag;
 use crate::listing::list;
 use disk_model::Disk;
-use mdbox_base::{Did, Progress, Request};
+use mdbox_base::{Did, Progress, Reply, Request};
 use std::marker::Model;
 use store_core::Store;
 
@@ -32,20 +33,20 @@ pub struct OpsTask {
 }
 
 impl Model for OpsTask {
-    ghost use Rattle.mail_ops.specs.Listing.{IsListing};
+    ghost use Rattle.mail_ops.specs.Requests.{IsOpsRequest};
     ghost use Rattle.mail_ops.specs.Task.{TaskValue};
 
     ghost Value = { TaskValue };
 
     ghost view = { λ task. record { request = task.request; stage = task.stage; did = task.did } };
 
-    ghost invariant = { λ task. IsListing task.request };
+    ghost invariant = { λ task. IsOpsRequest task.request };
 }
 
 impl OpsTask {
-    /// The task of a listing.
+    /// The task of a request: a listing, or one that sets flags.
     pub fn of(request: Request) -> OpsTask
-        requires { IsListing request }
+        requires { IsOpsRequest request }
         ensures { result ≡ record { request = request; stage = stage.First; did = did.Quiet } }
     {
         OpsTask {
@@ -62,24 +63,38 @@ impl OpsTask {
         self.did
     }
 
-    /// Does the next event. A listing has one, and is answered by it.
+    /// Does the next event. Each of these requests has one, and is answered by it.
     pub fn step<D: Disk>(&mut self, store: &mut Store<D>) -> Progress
         // Of every run that has come to the store: which event it was, what it answered, and what a crash may leave.
         ensures does { (around after : Around) → Steps (IsAt self.old.stage) (IsAt self.new.stage) around after self.old.request (seen_of store.old (D.history store.old.disk) (D.faults store.old.disk)) (seen_of store.new (D.history store.new.disk) (D.faults store.new.disk)) self.new.did (ended_by result) }
 
-        // What it holds and owes it does in the store, and what others do it leaves to them.
+        // What it holds and owes it does in the store, and what others do it leaves to them, unless a failed change stops the store.
         ensures moves { Moves (amounts_of self.old) (amounts_of self.new) (amounts_in store.old) (amounts_in store.new) }
-        ensures spares { Spares (amounts_of self.old) store.old store.new (D.history store.old.disk) (D.history store.new.disk) }
-        ensures replies { (reply : Reply) × (result ≡ progress.Done reply) × Replies self.old.request store.old reply }
-        ensures same { store.new ≡ store.old }
+        ensures spares { store.new.stopped ≡ store.old.stopped → Spares (amounts_of self.old) store.old store.new (D.history store.old.disk) (D.history store.new.disk) }
+        ensures replies { (reply : Reply) × (result ≡ progress.Done reply) × Replies self.old.request store.old store.new reply }
+        ensures same { AppendsNothing self.old.request store.old → store.new ≡ store.old }
         ensures request { self.new.request ≡ self.old.request }
     {
         let TaskStage::First = self.stage;
-        let Request::List { name } = &self.request else {
-            unreachable!()
-        };
-        let (reply, did) = list(store, name);
+        let (reply, did) = only_event(store, &self.request);
         self.did = did;
         Progress::Done(reply)
+    }
+}
+
+/// The only event of a request.
+fn only_event<D: Disk>(store: &mut Store<D>, request: &Request) -> (Reply, Did)
+    requires { IsOpsRequest request.now }
+    ensures does { (around after : Around) → Steps HasNotBegun HasNotBegun around after request.now (seen_of store.old (D.history store.old.disk) (D.faults store.old.disk)) (seen_of store.new (D.history store.new.disk) (D.faults store.new.disk)) result.1 (Some result.0) }
+    ensures replies { Replies request.now store.old store.new result.0 }
+    ensures same { AppendsNothing request.now store.old → store.new ≡ store.old }
+    ensures due { (uid : ℕ) → due_at uid store.new ≡ due_at uid store.old }
+    ensures map { store.new.map ≡ store.old.map }
+    ensures stored { store.new.stopped ≡ store.old.stopped → KeepsStored (D.history store.old.disk) (D.history store.new.disk) }
+{
+    match request {
+        Request::List { name } => list(store, name),
+        Request::Flag { name, uid, flags } => flag(store, name, *uid, *flags),
+        _ => unreachable!(),
     }
 }

@@ -7,17 +7,17 @@ use Rattle.std.proofs.lemmas.List.Sums.{sum_by-cons}
 use Rattle.mdbox_base.specs.declared.entries.BoxEntry.{BoxEntry}
 use Rattle.model_octets.proofs.PairLemmas.{pairs_head, pairs_tail}
 use Rattle.model_meaning.specs.BoxMeaning.{BoxMeaning, box_meaning, rows_after}
-use Rattle.model_meaning.specs.MapMeaning.{MapRecord}
+use Rattle.model_meaning.specs.MapMeaning.{MapRecord, MapMeaning, record_at}
 use Rattle.model_store.specs.Opening.{listed_of}
 use Rattle.model_appends.specs.Amounts.{IsAccounted}
 use Rattle.disk_model.specs.Disk.{History, Between}
 use Rattle.model_store.specs.Settled.{files_of}
 use Rattle.model_store.specs.Stands.{StoresMessage}
-use Rattle.store_core.specs.Dues.{number_beside, due_at, listed_at, leak_at, Amounts, Moves, Spares}
+use Rattle.store_core.specs.Dues.{number_beside, due_at, listed_at, leak_at, Amounts, Moves, KeepsStored, Spares}
 use Rattle.store_core.specs.Running.{CoverDues, IsStore}
 use Rattle.store_core.specs.Value.{StoreValue, indexes_of}
 
-abbrev RecordsRise : MapRecord → MapRecord → Type 0
+abbrev pub RecordsRise : MapRecord → MapRecord → Type 0
 RecordsRise a b = a.uid < b.uid
 
 -- each record has the number of its place
@@ -103,14 +103,26 @@ pub counts_seen : {D : Type 0} → (history : Option History) (inside seen : Sto
 counts_seen history inside seen logs is s rising same =
     store_counts history seen logs (subst (λ (v : StoreValue _). IsStore history v) is s) (subst (λ (v : StoreValue _). AllPairs RecordsRise v.map.records) is rising) same
 
--- ---- a store that stays
+-- ---- a store of which as much is due, and whose records stay
 
-pub moves_nothing : (mine all : Amounts) → Moves mine mine all all
-moves_nothing mine all = record { due = λ uid. refl }
+pub moves_as : (mine all all_now : Amounts) → ((uid : ℕ) → all_now.due uid ≡ all.due uid) → Moves mine mine all all_now
+moves_as mine all all_now same = record { due = λ uid. ap (λ (n : ℕ). n + mine.due uid) (same uid) }
 
-pub spares_all : {D : Type 0} → (mine : Amounts) (store : StoreValue D) (history : Option History) → Spares mine store store history history
-spares_all mine store history = record { records = λ uid row more found. record { now = row; there = found; guid = refl; stores = λ octets. as_it_was history row octets } }
+pub spares_kept : {D : Type 0} → (mine : Amounts) (old new : StoreValue D) (before after : Option History) → new.map ≡ old.map → KeepsStored before after → Spares mine old new before after
+spares_kept mine old new before after map keeps = record {
+  records = λ uid row more found. record {
+    now = row;
+    there = ap (λ (m : MapMeaning). record_at m uid) map ∙ found;
+    guid = refl;
+    stores = λ octets. as_kept before after row octets keeps;
+  };
+}
   where
-    as_it_was : (h : Option History) (row : MapRecord) (octets : List ℕ) → Between (λ a b. StoresMessage (files_of a) row octets → StoresMessage (files_of b) row octets) h h
-    as_it_was None row octets = refl
-    as_it_was (Some h) row octets = λ x. x
+    as_kept : (a b : Option History) (row : MapRecord) (octets : List ℕ) → KeepsStored a b → Between (λ a b. StoresMessage (files_of a) row octets → StoresMessage (files_of b) row octets) a b
+    as_kept None b row octets k = k
+    as_kept (Some a) None row octets k = absurd k
+    as_kept (Some a) (Some b) row octets k = k row octets
+
+pub keeps_itself : (h : Option History) → KeepsStored h h
+keeps_itself None = refl
+keeps_itself (Some h) = λ row octets x. x

@@ -1,4 +1,10 @@
+pub mod BoxAppendLemmas
+pub mod BoxCrashLemmas
 pub mod CountingLemmas
+pub mod DueChangeLemmas
 pub mod DueLemmas
 pub mod LookupLemmas
+pub mod PickingLemmas
+pub mod PlacingLemmas
+pub mod RoomLemmas
 pub mod ShownLemmas

@@ -50,6 +50,10 @@ pub record IsSpared {D : Type 0} (uid : ℕ) (row : MapRecord) (new : StoreValue
   pub guid : now.guid ≡ row.guid
   pub stores : (octets : List ℕ) → Between (λ a b. StoresMessage (files_of a) row octets → StoresMessage (files_of b) now octets) before after
 
+-- Each record of any map stores the text that it stored.
+abbrev pub KeepsStored : Option History → Option History → Type 0
+KeepsStored = Between (λ a b. (row : MapRecord) (octets : List ℕ) → StoresMessage (files_of a) row octets → StoresMessage (files_of b) row octets)
+
 -- A task with these amounts leaves to the others what is theirs: each record of which more is due than its own.
 pub record Spares {D : Type 0} (mine : Amounts) (old new : StoreValue D) (before after : Option History) : Type 0 where
   pub records : (uid : ℕ) (row : MapRecord) → mine.due uid < due_at uid old → record_at old.map uid ≡ Some row → IsSpared uid row new before after

@@ -1,3 +1,4 @@
+pub mod Append
 pub mod Dues
 pub mod Running
 pub mod Value

@@ -1,20 +1,34 @@
 // A store that is open.
-ghost use Rattle.std.specs.Prelude.{◌≡◌, ◌<◌, ◌≤◌, ◌^◌, ◌==◌, ℕ, List, All, map, false, length, find, count_by, sum_by, if◌then◌else◌};
+ghost use Rattle.std.specs.Prelude.{◌≡◌, ◌↔◌, ◌<◌, ◌≤◌, ◌^◌, ◌==◌, ℕ, List, All, Some, None, IfSome, IfNone, OnOk, IsErr, IsErrOf, map, true, false, length, find, count_by, sum_by, if◌then◌else◌};
 ghost use Rattle.std.specs.Option.{option_copied, option_map, option_map_or};
 ghost use Rattle.std.specs.Str.{bytes_eq};
+ghost use Rattle.box_index.specs.Row.{IsAdded};
+ghost use Rattle.disk_model.specs.Disk.{Grows};
+ghost use Rattle.disk_model.specs.FaultCounts.{NoFault, ChangeFaultCounted};
 ghost use Rattle.mdbox_base.specs.declared.entries.BoxEntry.{BoxEntry};
-ghost use Rattle.model_appends.specs.Amounts.{IsAccounted};
-ghost use Rattle.model_meaning.specs.BoxMeaning.{box_meaning};
+ghost use Rattle.model_appends.specs.Amounts.{IsAccounted, due_by_box, HoldsAdded};
+ghost use Rattle.model_appends.specs.Appending.{lists_by, meanings_by};
+ghost use Rattle.model_lists.specs.Lists.{Lists};
+ghost use Rattle.model_logs.specs.Entries.{BoxInRange};
+ghost use Rattle.model_meaning.specs.BoxMeaning.{BoxMeaning, box_meaning, row_made};
 ghost use Rattle.model_meaning.specs.MapMeaning.{count_of};
-ghost use Rattle.store_core.specs.Dues.{due_at, leak_at};
-ghost use Rattle.store_core.specs.Value.{indexes_of, newly_open, list_named, list_numbered, references_to};
-ghost use Rattle.store_core.specs.Running.{IsStore};
+ghost use Rattle.model_store.specs.Opening.{HasItsRecord};
+ghost use Rattle.model_store.specs.Settled.{IsSettledFor, Leaves};
+ghost use Rattle.store_core.specs.Append.{FitsBox, Brings};
+ghost use Rattle.store_core.specs.Dues.{due_at, leak_at, KeepsStored};
+ghost use Rattle.store_core.specs.Value.{indexes_of, newly_open, with_entry_room, list_named, list_numbered, references_to};
+ghost use Rattle.store_core.specs.Running.{HasEntryRoom, IsStore};
+ghost use Rattle.store_core.specs.declared.error.StepError.TheVariants as step_error;
 
+use crate::append::{append_in, place_of};
+use crate::due::{change_due, due_change};
+use crate::error::StepError;
+use crate::room::{StoreRoom, give_rooms};
 use box_index::{BoxIndex, BoxRow};
 use disk_model::Disk;
 use gate_log::GateLog;
 use map_index::MapIndex;
-use mdbox_base::{BoxNo, Guid, Highest, Name, StoreId};
+use mdbox_base::{BoxEntry, BoxNo, Guid, Highest, Name, StoreId};
 use std::alloc::Global;
 use std::marker::Model;
 
@@ -48,37 +62,47 @@ pub struct Store<D: Disk> {
     map: MapIndex,
     boxes: Vec<OpenBox>,
     drawn: Highest,
+    /// What is due of each record, in the order of the map's records.
+    dues: Vec<u32>,
     lanes: u32,
     stopped: bool,
 }
 
 impl<D: Disk> Model for Store<D> {
     ghost use Rattle.std.specs.Prelude.{◌≡◌};
-    ghost use Rattle.store_core.specs.Value.{StoreValue, none_due};
-    ghost use Rattle.store_core.specs.Running.{IsStore};
+    ghost use Rattle.store_core.specs.Value.{StoreValue};
+    ghost use Rattle.store_core.specs.Running.{HasEntryRoom, IsStore};
 
     ghost Value = { StoreValue D };
 
-    // No task holds or owes anything yet.
-    ghost view = { λ s. record { alloc = s.alloc; disk = s.disk; root_log = s.root_log; map_log = s.map_log; map = s.map; boxes = s.boxes.items; drawn = s.drawn; dues = none_due s.map.records; lanes = s.lanes; stopped = s.stopped } };
+    ghost view = { λ s. record { alloc = s.alloc; disk = s.disk; root_log = s.root_log; map_log = s.map_log; map = s.map.meaning; boxes = s.boxes.items; drawn = s.drawn; dues = s.dues.items; lanes = s.lanes; stopped = s.stopped } };
 
-    ghost invariant = { λ s. (s.id.0 ≡ s.map.store) × IsStore (D.history s.disk) (record { alloc = s.alloc; disk = s.disk; root_log = s.root_log; map_log = s.map_log; map = s.map; boxes = s.boxes.items; drawn = s.drawn; dues = none_due s.map.records; lanes = s.lanes; stopped = s.stopped }) };
+    ghost invariant = { λ s. (s.id.0 ≡ s.map.meaning.store) × IsStore (D.history s.disk) (record { alloc = s.alloc; disk = s.disk; root_log = s.root_log; map_log = s.map_log; map = s.map.meaning; boxes = s.boxes.items; drawn = s.drawn; dues = s.dues.items; lanes = s.lanes; stopped = s.stopped }) × HasEntryRoom (record { alloc = s.alloc; disk = s.disk; root_log = s.root_log; map_log = s.map_log; map = s.map.meaning; boxes = s.boxes.items; drawn = s.drawn; dues = s.dues.items; lanes = s.lanes; stopped = s.stopped }) };
 }
 
 impl<D: Disk> Store<D> {
-    /// A store whose logs were opened, for so many lanes.
-    pub fn of(alloc: Global, disk: D, logs: OpenLogs, lanes: u32) -> Store<D>
-        requires id { logs.map.store ≡ logs.id.0 }
+    /// A store whose logs were opened, for so many lanes, with the memory that was taken for it. It takes no more.
+    pub fn of(alloc: Global, disk: D, logs: OpenLogs, room: StoreRoom, lanes: u32) -> Store<D>
+        requires id { logs.map.meaning.store ≡ logs.id.0 }
         requires store { IsStore (D.history disk) (newly_open alloc disk logs lanes) }
-        ensures { result ≡ newly_open alloc disk logs lanes }
+        requires room { (room.boxes ≡ length logs.boxes.items) × (room.records ≡ length logs.map.meaning.records) }
+        ensures store { result ≡ with_entry_room (newly_open alloc disk logs lanes) }
+        ensures indexes { indexes_of result.boxes ≡ indexes_of logs.boxes.items }
     {
         let OpenLogs {
             id,
             root_log,
-            map_log,
+            mut map_log,
             map,
-            boxes,
+            mut boxes,
         } = logs;
+        let StoreRoom {
+            map_log: map_room,
+            box_logs: box_rooms,
+            dues,
+        } = room;
+        map_log.take_room(map_room);
+        give_rooms(&mut boxes, box_rooms);
         let drawn = map.highest();
         Store {
             alloc,
@@ -89,6 +113,7 @@ impl<D: Disk> Store<D> {
             map,
             boxes,
             drawn,
+            dues,
             lanes,
             stopped: false,
         }
@@ -96,7 +121,8 @@ impl<D: Disk> Store<D> {
 
     /// What is true of every open store.
     pub fn facts(&self)
-        ensures { IsStore (D.history self.now.disk) self.now }
+        ensures store { IsStore (D.history self.now.disk) self.now }
+        ensures room { HasEntryRoom self.now }
     {
         let _ = &self.id;
     }
@@ -124,25 +150,34 @@ impl<D: Disk> Store<D> {
 
     /// What the map log means.
     pub fn map(&self) -> &MapIndex
-        ensures { result.now ≡ self.now.map }
+        ensures { result.now.meaning ≡ self.now.map }
     {
         &self.map
     }
 
     /// What the log of the mailbox with this number means. None if and only if the map has no such mailbox.
     pub fn mailbox(&self, number: BoxNo) -> Option<&BoxIndex>
-        ensures { option_copied result ≡ list_numbered self.now number.0 }
+        ensures { option_map (λ index. index.meaning) (option_copied result) ≡ list_numbered self.now number.0 }
     {
         index_of(&self.boxes, number)
     }
 
     /// What the log of the mailbox with this name means. None if and only if no mailbox has the name.
     pub fn list_of(&self, name: &Name) -> Option<&BoxIndex>
-        ensures { option_copied result ≡ list_named self.now name.now }
+        ensures { option_map (λ index. index.meaning) (option_copied result) ≡ list_named self.now name.now }
     {
         self.map.known_facts();
         let number = self.map.box_named(name)?;
         self.mailbox(number)
+    }
+
+    /// The number of the mailbox with this name. None if and only if no mailbox has the name.
+    pub fn number_of(&self, name: &Name) -> Option<BoxNo>
+        ensures some { IfSome result (λ number. (list_numbered self.now number.0 ≡ list_named self.now name.now) × (option_map (λ b. b.number) (find (λ b. bytes_eq b.name name.now) self.now.map.boxes) ≡ Some number.0)) }
+        ensures none { IfNone result (list_named self.now name.now ≡ None) }
+    {
+        self.map.known_facts();
+        self.map.box_named(name)
     }
 
     /// How many listed messages have this GUID.
@@ -174,6 +209,55 @@ impl<D: Disk> Store<D> {
         self.stopped
     }
 
+    /// Adds an entry that fits to the log of a mailbox, and takes it in. It takes memory only for a message that is added, and
+    /// before anything is written; a change of the disk that fails stops the store.
+    pub fn append_box(&mut self, mailbox: BoxNo, entry: &BoxEntry) -> Result<(), StepError>
+        requires running { self.old.stopped ≡ false }
+        requires range { BoxInRange entry.now }
+        requires fits { FitsBox mailbox.0 entry.now self.old }
+
+        // A message that is added has its record, of which something is due.
+        requires record { All (HasItsRecord self.old.map) (row_made entry.now) }
+        requires held { HoldsAdded entry.now (λ uid. due_at uid self.old) }
+
+        // Of a settled disk each image at every moment is safe for its lists, or for those that the entry gives, whichever call
+        // fails; and after Ok the disk is settled for the latter.
+        ensures any_moment { (lists : Lists) (octets : List ℕ) → Brings self.old.map entry.now octets (D.history self.old.disk) → IsSettledFor lists (D.history self.old.disk) → Leaves lists (lists_by mailbox.0 octets entry.now lists) (D.history self.old.disk) (D.history self.new.disk) }
+        ensures settled { OnOk result ((lists : Lists) (octets : List ℕ) → Brings self.old.map entry.now octets (D.history self.old.disk) → IsSettledFor lists (D.history self.old.disk) → IsSettledFor (lists_by mailbox.0 octets entry.now lists) (D.history self.new.disk)) }
+
+        // After Ok the logs mean what they did, with the entry, and so does what is due. The leak stays, whatever is answered.
+        ensures taken { OnOk result (indexes_of self.new.boxes ≡ meanings_by mailbox.0 entry.now self.old.map.boxes (indexes_of self.old.boxes)) }
+        ensures due { OnOk result ((m : BoxMeaning) (uid : ℕ) → list_numbered self.old mailbox.0 ≡ Some m → due_at uid self.new ≡ due_by_box m entry.now (λ uid. due_at uid self.old) uid) }
+        ensures leak { (uid : ℕ) → leak_at uid self.new ≡ leak_at uid self.old }
+
+        // Each record stores what it stored.
+        ensures stored { OnOk result (KeepsStored (D.history self.old.disk) (D.history self.new.disk)) }
+
+        ensures stopped { IsErrOf result step_error.Stopped ↔ (self.new.stopped ≡ true) }
+        ensures untaken { IsErr result → (indexes_of self.new.boxes ≡ indexes_of self.old.boxes) × (self.new.dues ≡ self.old.dues) }
+        ensures memory { IsErrOf result step_error.NoMemory → (self.new ≡ self.old) × IsAdded entry.now }
+        ensures same { self.new ≡ record self.old { disk = self.new.disk; boxes = self.new.boxes; dues = self.new.dues; stopped = self.new.stopped } }
+        ensures grows { Grows (D.history self.old.disk) (D.history self.new.disk) }
+        ensures fault { ChangeFaultCounted (IsErrOf result step_error.Stopped) (D.faults self.old.disk) (D.faults self.new.disk) }
+        ensures unfailed { OnOk result (NoFault (D.faults self.old.disk) (D.faults self.new.disk)) }
+    {
+        let Some(place) = place_of(&self.boxes, mailbox) else {
+            unreachable!()
+        };
+        let how = due_change(&self.boxes[place].index, entry);
+        match append_in(&mut self.boxes[place], &mut self.disk, entry) {
+            Ok(()) => {
+                change_due(&self.map, &mut self.dues, how);
+                Ok(())
+            }
+            Err(StepError::Stopped) => {
+                self.stopped = true;
+                Err(StepError::Stopped)
+            }
+            Err(StepError::NoMemory) => Err(StepError::NoMemory),
+        }
+    }
+
     /// The disk, which the store gives back.
     pub fn into_disk(self) -> D
         ensures { result ≡ self.disk }
@@ -187,6 +271,7 @@ impl<D: Disk> Store<D> {
             map: _map,
             boxes: _boxes,
             drawn: _,
+            dues: _dues,
             lanes: _,
             stopped: _,
         } = self;
@@ -211,7 +296,7 @@ fn with_number(boxes: &[OpenBox], number: BoxNo) -> Option<&OpenBox>
 /// How many messages of mailboxes have this GUID.
 fn listed_in_all(boxes: &[OpenBox], guid: Guid) -> u64
     requires { length boxes.now ≤ 1024 }
-    ensures { result ≡ sum_by (λ b. count_by (λ row. bytes_eq row.guid guid.0) b.index.rows) boxes.now }
+    ensures { result ≡ sum_by (λ b. count_by (λ row. bytes_eq row.guid guid.0) b.index.meaning.rows) boxes.now }
 {
     let mut count = 0;
     for open_box in boxes {
@@ -222,7 +307,7 @@ fn listed_in_all(boxes: &[OpenBox], guid: Guid) -> u64
 
 /// How many messages of a mailbox have this GUID.
 fn listed_in(index: &BoxIndex, guid: Guid) -> u64
-    ensures count { result ≡ count_by (λ row. bytes_eq row.guid guid.0) index.now.rows }
+    ensures count { result ≡ count_by (λ row. bytes_eq row.guid guid.0) index.now.meaning.rows }
     ensures short { result < 2 ^ 32 }
 {
     let mut count = 0;

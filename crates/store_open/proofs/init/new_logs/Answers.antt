@@ -31,7 +31,7 @@ returns-clause-store g c =
       map_head_is = e.map_log.2;
       box_held = e.box_log.0;
       box_is = e.box_log.1;
-    }) refl c.in_ok-index.ensures
+    }) refl (ap (λ i. i.meaning) c.in_ok-index.ensures)
     (c.push_box.ensures ∙ ap (λ (bs : List OpenBox). bs ++ box ∷ []) c.in_ok-boxes.ensures.items)
 
 pub returns-in_err-map-clause-untouched : goal.returns-in_err-map-clause-untouched
@@ -42,3 +42,9 @@ returns-in_err-index-clause-untouched g c = stays IsFreeForStore _ _ (idle-begin
 
 pub returns-in_err-boxes-clause-untouched : goal.returns-in_err-boxes-clause-untouched
 returns-in_err-boxes-clause-untouched g c = stays IsFreeForStore _ _ (idle-begins _)
+
+pub returns-in_err-room-clause-any_moment : goal.returns-in_err-room-clause-any_moment
+returns-in_err-room-clause-any_moment g c = checked-images _ _ (idle-begins _)
+
+pub returns-in_err-room-clause-untouched : goal.returns-in_err-room-clause-untouched
+returns-in_err-room-clause-untouched g c = stays IsFreeForStore _ _ (idle-begins _)

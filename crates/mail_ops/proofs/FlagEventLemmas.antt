@@ -1,0 +1,239 @@
+-- A flag as an event, which appends one entry.
+use Rattle.std.proofs.Common.{◌≡◌, ◌≤◌, ◌<◌, ℕ, Bool, true, false, List, [], Option, Some, None, refl, sym, ◌∙◌, ap, subst, arith}
+use Rattle.std.specs.Option.{option_map, option_or}
+use Rattle.std.specs.Prelude.{find, is_some, is_none}
+use Rattle.std.specs.Str.{bytes_eq}
+use Rattle.disk_model.specs.Disk.{History, told_calls, Grows}
+use Rattle.mdbox_base.specs.declared.entries.BoxEntry.TheVariants as entry
+use Rattle.mdbox_base.specs.declared.entries.Highest.{Highest}
+use Rattle.mdbox_base.specs.declared.ids.Uid.{Uid}
+use Rattle.mdbox_base.specs.declared.progress.Did.TheVariants as did
+use Rattle.mdbox_base.specs.declared.replies.Refusal.{Refusal}
+use Rattle.mdbox_base.specs.declared.replies.Refusal.TheVariants as refusal
+use Rattle.mdbox_base.specs.declared.replies.Reply.{Reply}
+use Rattle.mdbox_base.specs.declared.replies.Reply.TheVariants as reply
+use Rattle.mdbox_base.specs.declared.requests.Request.TheVariants as request
+use Rattle.mdbox_base.specs.declared.script.Half.TheVariants as half
+use Rattle.mdbox_base.specs.Streams.{Rose}
+use Rattle.model_lists.specs.Lists.{Mailbox, Lists, AreWellFormed}
+use Rattle.model_meaning.specs.BoxMeaning.{LogRow, BoxMeaning, row_at}
+use Rattle.model_meaning.specs.MapMeaning.{MapBox, MapMeaning}
+use Rattle.model_appends.specs.Appending.{lists_by, meanings_by}
+use Rattle.model_store.specs.Listing.{ShowLists, meaning_named}
+use Rattle.model_store.specs.Settled.{IsSettledFor, Leaves}
+use Rattle.list_machine.specs.Run.{First, BoxAppend, RunEvent, event_of, Run, and_then, own_events}
+use Rattle.list_machine.specs.Machine.{PartAnswers, set_flags, mailbox_named, refusal_at, refused_where, HasMailbox}
+use Rattle.list_machine.proofs.MachineOrderLemmas.{answers_well}
+use Rattle.journal.specs.Events.{Around, adds_to}
+use Rattle.journal.specs.Makes.{HasCome, Makes}
+use Rattle.journal.proofs.RunLemmas.{comes_on}
+use Rattle.store_core.specs.Append.{Brings}
+use Rattle.store_core.specs.Dues.{number_beside, due_at}
+use Rattle.store_core.specs.Value.{StoreValue}
+use Rattle.task_steps.specs.Step.{Seen, ShowsSeen, HasComeTo, DidEvent, HasNotBegun}
+use Rattle.task_steps.specs.Tells.{TellsSame}
+use Rattle.task_steps.proofs.SeenLemmas.{comes_to_on, no_guids}
+use Rattle.task_steps.proofs.OneEventLemmas.{IsPlain, refused_event, refused_leaves, unmade, next_first, refusal_last, some_given, first_reply, first_turn}
+use Rattle.mail_ops.proofs.FlagListLemmas.{is_flagged, shows_by}
+
+pub flag_is_plain : (name : List ℕ) (uid : Uid) (flags : ℕ) → IsPlain (request.Flag name uid flags)
+flag_is_plain name uid flags = record { finds = λ around event. tt; memory = refl; behind = λ after run event why. refl; half_is = refl; halves_are = refl }
+
+-- ---- what is known as the entry is appended
+
+pub record Flags (boxes : List MapBox) (meanings : List BoxMeaning) (lists : Lists) (name : List ℕ) (number : ℕ) (uid : Uid) (flags bits : ℕ) (run : Run) : Type 0 where
+  pub by : lists_by number [] (entry.F uid bits) lists ≡ set_flags name uid.0 flags lists
+  pub answers : (event : RunEvent) → PartAnswers run event lists (request.Flag name uid flags) First reply.Done (set_flags name uid.0 flags lists)
+  pub well : AreWellFormed (set_flags name uid.0 flags lists)
+  pub shown : ShowLists boxes (meanings_by number (entry.F uid bits) boxes meanings) (set_flags name uid.0 flags lists)
+
+pub flags_known : (run : Run) (boxes : List MapBox) (meanings : List BoxMeaning) (lists : Lists) (name : List ℕ) (number : ℕ) (uid : Uid) (flags bits : ℕ) (m : BoxMeaning) (row : LogRow) → AreWellFormed lists → ShowLists boxes meanings lists
+    → meaning_named name boxes meanings ≡ Some m → row_at m uid.0 ≡ Some row → option_map (λ b. b.number) (find (λ b. bytes_eq b.name name) boxes) ≡ Some number → bits ≡ flags → bits < 32 → Flags boxes meanings lists name number uid flags bits run
+flags_known run boxes meanings lists name number uid flags bits m row well h is found at same few =
+    let r = λ (event : RunEvent). is_flagged run event boxes meanings lists name number uid flags m row well h is found at in
+    let one = event_of 0 0 First 0 in
+    let by : lists_by number [] (entry.F uid bits) lists ≡ set_flags name uid.0 flags lists = subst (λ (n : ℕ). lists_by number [] (entry.F uid n) lists ≡ set_flags name uid.0 flags lists) (sym same) (r one).0 in
+    record {
+      by = by;
+      answers = λ event. (r event).1;
+      well = answers_well run lists (request.Flag name uid flags) one reply.Done (set_flags name uid.0 flags lists) well (omega (arith, few, same)) (r one).1;
+      shown = subst (λ (ls : Lists). ShowLists boxes (meanings_by number (entry.F uid bits) boxes meanings) ls) by (shows_by number [] uid bits boxes meanings lists h);
+    }
+
+-- a flag adds no message, so it brings any octets
+pub brings_none : (m : MapMeaning) (uid : Uid) (bits : ℕ) (octets : List ℕ) (h : Option History) → Brings m (entry.F uid bits) octets h
+brings_none m uid bits octets None = tt
+brings_none m uid bits octets (Some h) = tt
+
+-- what the append says of a store before and after
+pub record AppendsFlag (old new : Seen) (number : ℕ) (uid : Uid) (bits : ℕ) : Type 0 where
+  pub map_is : new.map ≡ old.map
+  pub drawn_is : new.drawn ≡ old.drawn
+  pub due_is : (uid : ℕ) → new.due uid ≡ old.due uid
+  pub same : TellsSame old new
+  pub ran : old.stopped ≡ false
+  pub grows : Grows old.history new.history
+  pub moments : (ls : Lists) → IsSettledFor ls old.history → Leaves ls (lists_by number [] (entry.F uid bits) ls) old.history new.history
+  pub reads : old.faults.reads ≤ new.faults.reads
+  pub changes : old.faults.changes ≤ new.faults.changes
+
+-- ---- the event
+
+abbrev pub flag_event : ℕ → ℕ → List BoxAppend → ℕ → RunEvent
+flag_event lane place entries calls = record (event_of lane place First calls) { reply = Some reply.Done; box_entries = entries }
+
+no_refusal : (r : Refusal) → None ≡ Some r → ⊥
+no_refusal r e = cc e
+
+some_mailbox : (run : Run) (name : List ℕ) (lists : Lists) (rest : Option Refusal) → option_or (refusal_at run lists (HasMailbox name)) rest ≡ None → (mailbox : Mailbox) × (mailbox_named name lists ≡ Some mailbox)
+some_mailbox run name lists rest e = by_option (mailbox_named name lists) refl e
+  where
+    by_option : (o : Option Mailbox) → mailbox_named name lists ≡ o → option_or (refused_where (is_none o) refusal.NoMailbox) rest ≡ None → (mailbox : Mailbox) × (mailbox_named name lists ≡ Some mailbox)
+    by_option None h f = absurd (let k : Some refusal.NoMailbox ≡ None = f in cc k)
+    by_option (Some mailbox) h f = (mailbox, h)
+
+-- the run with an event that adds no entry of the map has come to where the store stands
+come_along : (run : Run) (event : RunEvent) (old new : Seen) (number : ℕ) (uid : Uid) (bits : ℕ) → HasComeTo run old → AppendsFlag old new number uid bits → event.moment ≡ told_calls new.history → HasCome (and_then run event) old.map old.drawn event.moment
+    → HasCome (and_then run event) new.map new.drawn (told_calls new.history)
+come_along run event old new number uid bits come a moment h =
+    subst (λ (x : MapMeaning). HasCome (and_then run event) x new.drawn (told_calls new.history)) (sym a.map_is)
+    (subst (λ (d : Highest). HasCome (and_then run event) old.map d (told_calls new.history)) (sym a.drawn_is)
+    (subst (λ (n : ℕ). HasCome (and_then run event) old.map old.drawn n) moment h))
+
+flag_makes : (around after : Around) (run : Run) (lane place : ℕ) (name : List ℕ) (uid : Uid) (flags number bits : ℕ) (lists : Lists) (old new : Seen) → HasComeTo run old → AppendsFlag old new number uid bits → own_events place run ≡ []
+    → ((event : RunEvent) → PartAnswers run event lists (request.Flag name uid flags) First reply.Done (set_flags name uid.0 flags lists))
+    → Makes around after run lane place (request.Flag name uid flags) lists (set_flags name uid.0 flags lists) new.map new.drawn (told_calls new.history) (Some reply.Done)
+flag_makes around after run lane place name uid flags number bits lists old new come a own answers =
+    let found = some_mailbox run name lists _ (answers (flag_event lane place [] (told_calls new.history))).0 in
+    let event = flag_event lane place (adds_to found.0 (entry.F uid flags)) (told_calls new.history) in
+    record {
+      event = event;
+      lane_is = refl;
+      request_is = refl;
+      moment_is = refl;
+      ended_is = refl;
+      is_event = record {
+        finds = tt;
+        part_is = next_first around run (request.Flag name uid flags) (own_events place run) own;
+        refused = λ r e. absurd (no_refusal r e);
+        undone = λ r e. absurd (no_refusal r e);
+        drew = λ h. absurd (h refl);
+        memory = λ e. absurd (no_refusal refusal.NoMemory e);
+        replied = refusal_last (own_events place run) event own;
+        allowed = λ e. (answers event).0;
+        did = λ e. (found.0, found.1, refl);
+        ends = record { 0 = λ e. refl; 1 = λ e f. some_given reply.Done f };
+      };
+      answer = Some reply.Done;
+      is_told = refl;
+      made = (answers event, refl);
+      come = come_along run event old new number uid bits come a refl (comes_on run event old.map old.drawn (told_calls old.history) come.come a.grows refl refl);
+    }
+
+fall : (b : Bool) → b ≡ true → b ≡ false → ⊥
+fall b t f = let k : true ≡ false = sym t ∙ f in cc k
+
+done_is : reply.Done ≡ reply.Refused refusal.Stopped → ⊥
+done_is e = cc e
+
+given_is : (a b : Reply) → Some a ≡ Some b → a ≡ b
+given_is a b e = cc e
+
+shown_on : (old new : Seen) (meanings : List BoxMeaning) (lists : Lists) → new.map ≡ old.map → new.meanings ≡ meanings → ShowLists old.map.boxes meanings lists → ShowLists new.map.boxes new.meanings lists
+shown_on old new meanings lists map taken h =
+    subst (λ (bs : List MapBox). ShowLists bs new.meanings lists) (sym (ap (λ (m : MapMeaning). m.boxes) map)) (subst (λ (ms : List BoxMeaning). ShowLists old.map.boxes ms lists) (sym taken) h)
+
+-- The flags are set: a step that ends its request.
+pub flag_done : (around after : Around) (run : Run) (lane place : ℕ) (said : List Reply) (lists : Lists) (name : List ℕ) (number : ℕ) (uid : Uid) (flags bits : ℕ) (old new : Seen) → HasComeTo run old → HasNotBegun run place said
+    → Flags old.map.boxes old.meanings lists name number uid flags bits run → AppendsFlag old new number uid bits → new.stopped ≡ false → new.meanings ≡ meanings_by number (entry.F uid bits) old.map.boxes old.meanings
+    → ((ls : Lists) → IsSettledFor ls old.history → IsSettledFor (lists_by number [] (entry.F uid bits) ls) new.history)
+    → DidEvent around after run lane place said (request.Flag name uid flags) lists old new (did.Step half.Whole) (Some reply.Done)
+unfolding flag_makes
+flag_done around after run lane place said lists name number uid flags bits old new come stage f a runs taken settled = record {
+  left = set_flags name uid.0 flags lists;
+  shown = (f.well, shown_on old new (meanings_by number (entry.F uid bits) old.map.boxes old.meanings) (set_flags name uid.0 flags lists) a.map_is taken f.shown);
+  makes = flag_makes around after run lane place name uid flags number bits lists old new come a stage.0 f.answers;
+  come = comes_to_on run event old new come (come_along run event old new number uid bits come a refl (comes_on run event old.map old.drawn (told_calls old.history) come.come a.grows refl refl))
+      (λ other. let d = a.due_is other in omega (arith, d)) (record { pins = refl; unpins = refl; doomed = refl; removed = refl; given = refl }) a.same;
+  gives = no_guids run event refl;
+  went = (
+    refl,
+    refl,
+    runs,
+    record {
+      stops = λ s. subst (λ (ls : Lists). Leaves lists ls old.history new.history) f.by (a.moments lists s);
+      settled = λ s. subst (λ (ls : Lists). IsSettledFor ls new.history) f.by (settled lists s);
+    },
+  );
+  grows = a.grows;
+  ends = record {
+    in_turn = λ some. first_turn (request.Flag name uid flags) said event (flag_is_plain name uid flags) stage.1 refl;
+    replied = first_reply (request.Flag name uid flags) said (Some reply.Done) reply.Done stage.1 refl;
+    halts = record { 0 = λ e. absurd (done_is (given_is reply.Done (reply.Refused refusal.Stopped) e)); 1 = λ e. absurd (fall new.stopped e runs) };
+    still = λ e. absurd (fall old.stopped e a.ran);
+    reads = λ e. absurd (no_refusal refusal.ReadFault e);
+    faults = record { reads = a.reads; changes = a.changes; rose = λ x. absurd x };
+  };
+}
+  where
+    event : RunEvent
+    event = flag_event lane place (adds_to (some_mailbox run name lists _ (f.answers (flag_event lane place [] (told_calls new.history))).0).0 (entry.F uid flags)) (told_calls new.history)
+
+stopped_is : Some refusal.Stopped ≡ Some refusal.ReadFault → ⊥
+stopped_is e = let k : refusal.Stopped ≡ refusal.ReadFault = cc e in cc k
+
+-- The append failed: it would have made that step.
+pub flag_broken : (around after : Around) (run : Run) (lane place : ℕ) (said : List Reply) (lists : Lists) (name : List ℕ) (number : ℕ) (uid : Uid) (flags bits : ℕ) (old new : Seen) → HasComeTo run old → ShowsSeen old lists → HasNotBegun run place said
+    → Flags old.map.boxes old.meanings lists name number uid flags bits run → AppendsFlag old new number uid bits → new.stopped ≡ true → new.meanings ≡ old.meanings → Rose old.faults.changes new.faults.changes
+    → DidEvent around after run lane place said (request.Flag name uid flags) lists old new (did.Broken half.Whole) (Some (reply.Refused refusal.Stopped))
+unfolding unmade
+flag_broken around after run lane place said lists name number uid flags bits old new come shows stage f a stopped untaken rose = record {
+  left = lists;
+  shown = (shows.0, shown_on old new old.meanings lists a.map_is untaken shows.1);
+  makes = unmade around after run lane place (request.Flag name uid flags) lists old.map new.map new.drawn (told_calls old.history) (told_calls new.history) refusal.Stopped a.map_is (flag_is_plain name uid flags) (subst (λ (d : Highest). HasCome run old.map d (told_calls old.history)) (sym a.drawn_is) come.come)
+      a.grows stage.0 refl;
+  come = comes_to_on run event old new come (come_along run event old new number uid bits come a refl (comes_on run event old.map old.drawn (told_calls old.history) come.come a.grows refl refl))
+      (λ other. let d = a.due_is other in omega (arith, d)) (refused_leaves lane place refusal.Stopped (told_calls new.history)) a.same;
+  gives = no_guids run event refl;
+  went = (
+    record { refused = refl; unanswered = refl; ran = a.ran; stopped = stopped },
+    refl,
+    (
+      record { would = would; lane_is = refl; request_is = refl; part_is = refl; did = λ around e. (found.0, found.1, refl); answer = reply.Done; left = set_flags name uid.0 flags lists; made = (f.answers would, refl) },
+      λ s. subst (λ (ls : Lists). Leaves lists ls old.history new.history) f.by (a.moments lists s),
+    ),
+  );
+  grows = a.grows;
+  ends = record {
+    in_turn = λ some. absurd (let k : false ≡ true = some in cc k);
+    replied = first_reply (request.Flag name uid flags) said None (reply.Refused refusal.Stopped) stage.1 tt;
+    halts = record { 0 = λ e. stopped; 1 = λ e. refl };
+    still = λ e. absurd (fall old.stopped e a.ran);
+    reads = λ e. absurd (stopped_is e);
+    faults = record { reads = a.reads; changes = a.changes; rose = λ x. rose };
+  };
+}
+  where
+    event : RunEvent
+    event = refused_event lane place refusal.Stopped (told_calls new.history)
+
+    found : (mailbox : Mailbox) × (mailbox_named name lists ≡ Some mailbox)
+    found = some_mailbox run name lists _ (f.answers (flag_event lane place [] (told_calls new.history))).0
+
+    would : RunEvent
+    would = flag_event lane place (adds_to found.0 (entry.F uid flags)) (told_calls new.history)
+
+-- ---- what was looked up
+
+pub none_of : {R S : Type 0} → (f : R → S) (o : Option R) (r : Option S) → is_some o ≡ false → option_map f o ≡ r → r ≡ None
+none_of f None r gone is = sym is
+none_of f (Some x) r gone is = absurd (cc gone)
+
+pub some_of : {R S : Type 0} → (f : R → S) (o : Option R) (r : Option S) → is_some o ≡ true → option_map f o ≡ r → (s : S) × (r ≡ Some s)
+some_of f None r there is = absurd (cc there)
+some_of f (Some x) r there is = (f x, sym is)
+
+-- ---- what is due
+
+pub due_kept : {D : Type 0} → (old new : StoreValue D) (uid : ℕ) → new.map ≡ old.map → new.dues ≡ old.dues → due_at uid new ≡ due_at uid old
+due_kept old new uid map dues = ap (λ (m : MapMeaning). number_beside uid m.records new.dues) map ∙ ap (number_beside uid old.map.records) dues

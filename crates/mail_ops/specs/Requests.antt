@@ -1,0 +1,29 @@
+-- The requests that a task does, and what is replied to them.
+use Rattle.std.specs.Prelude.{◌≡◌, ◌⊎◌, true, Some, None}
+use Rattle.mdbox_base.specs.declared.replies.Refusal.{Refusal}
+use Rattle.mdbox_base.specs.declared.replies.Refusal.TheVariants as refusal
+use Rattle.mdbox_base.specs.declared.replies.Reply.{Reply}
+use Rattle.mdbox_base.specs.declared.replies.Reply.TheVariants as reply
+use Rattle.mdbox_base.specs.declared.requests.Request.{Request}
+use Rattle.mdbox_base.specs.declared.requests.Request.TheVariants as request
+use Rattle.store_core.specs.Value.{StoreValue}
+use Rattle.mail_ops.specs.Flagging.{flag_refusal}
+use Rattle.mail_ops.specs.Listing.{listing_reply}
+
+abbrev pub IsOpsRequest : Request → Type 0
+IsOpsRequest (request.List name) = Unit {0}
+IsOpsRequest (request.Flag name uid flags) = Unit {0}
+IsOpsRequest other = ⊥
+
+-- A listing has the reply that the store's indexes mean, or that of lack of memory. Setting flags is refused, or it is done;
+-- or the append failed, and the store is stopped.
+abbrev pub Replies : {D : Type 0} → Request → StoreValue D → StoreValue D → Reply → Type 0
+Replies (request.List name) old new given = (given ≡ listing_reply name old) ⊎ (given ≡ reply.Refused refusal.NoMemory)
+Replies (request.Flag name uid flags) old new given =
+    ((why : Refusal) → flag_refusal name uid.0 old ≡ Some why → given ≡ reply.Refused why) × (flag_refusal name uid.0 old ≡ None → (given ≡ reply.Done) ⊎ ((given ≡ reply.Refused refusal.Stopped) × (new.stopped ≡ true)))
+Replies other old new given = ⊥
+
+-- the request appends nothing to this store: it is a listing, or it is refused first
+abbrev pub AppendsNothing : {D : Type 0} → Request → StoreValue D → Type 0
+AppendsNothing (request.Flag name uid flags) store = (why : Refusal) × (flag_refusal name uid.0 store ≡ Some why)
+AppendsNothing other store = Unit {0}
