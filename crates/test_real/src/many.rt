@@ -44,11 +44,9 @@ fn open_files(host: HostRuntime) -> Result<usize, Fail> {
     Ok(fs::read_dir(&host, "/proc/self/fd")?.count())
 }
 
-/// Instances that an earlier run left. A sync of each would take longer, and so would a look at the folders after each.
-pub(crate) fn strays_are_swept_within_two_seconds(
-    rt: &impl Abort,
-    host: HostRuntime,
-) -> Result<(), Fail> {
+/// Instances that an earlier run left. Where all folders were listed anew after each removal this took over a minute; it takes
+/// a second or two. The limit leaves room for a machine that is busy.
+pub(crate) fn strays_are_swept_in_one_walk(rt: &impl Abort, host: HostRuntime) -> Result<(), Fail> {
     {
         let mut disk = RealDisk::of(host);
         for number in 0..STRAYS {
@@ -63,7 +61,7 @@ pub(crate) fn strays_are_swept_within_two_seconds(
         }
     }
     disk.sync_names()?;
-    assert!(rt; start.elapsed(&host)? < Duration::from_secs(2));
+    assert!(rt; start.elapsed(&host)? < Duration::from_secs(20));
     assert_eq!(rt; disk.next_name(None), Ok(None));
     Ok(())
 }

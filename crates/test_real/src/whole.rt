@@ -26,7 +26,7 @@ fn real_files(rt: HostRuntime) -> Result<(), Fail> {
     strange::others_are_left_alone(&rt, rt)?;
     strange::names_of_no_store(&rt, rt)?;
     many::few_files_stay_open(&rt, rt)?;
-    many::strays_are_swept_within_two_seconds(&rt, rt)
+    many::strays_are_swept_in_one_walk(&rt, rt)
 }
 
 #[test]
