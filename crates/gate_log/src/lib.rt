@@ -6,6 +6,7 @@ pub use found::{FoundLog, inspect_log, inspect_text};
 pub use log::{GateLog, create_log, open_log};
 pub use peek::{FRONT_SIZE, id_in, peek_head};
 pub use read::{LogRead, read_log};
+pub use room::LogRoom;
 pub use text::{LogCursor, LogText, check_log};
 
 mod device;
@@ -20,4 +21,5 @@ mod peek;
 mod read;
 mod record;
 mod repair;
+mod room;
 mod text;

@@ -1,5 +1,5 @@
 // Logs on a disk.
-ghost use Rattle.std.specs.Prelude.{◌≡◌, ◌≢◌, Some, IsErrOf, ◌+◌, ◌-◌, ◌*◌, ◌<◌, ◌≤◌, ◌^◌, ◌++◌, ◌∷◌, [], ℕ, List, All, length, sum, OnOk, OnErr, IfOk, IfErr, IsErr};
+ghost use Rattle.std.specs.Prelude.{◌≡◌, ◌≢◌, Some, IsErrOf, ◌+◌, ◌-◌, ◌*◌, ◌<◌, ◌≤◌, ◌^◌, ◌++◌, ◌∷◌, [], ℕ, List, All, length, max, sum, OnOk, OnErr, IfOk, IfErr, IsErr};
 ghost use Rattle.disk_model.specs.FaultCounts.{NoFault, ChangeFaultCounted, AnyFaultCounted};
 ghost use Rattle.disk_model.specs.Disk.{EachImage, OthersStay, SameButFor, IfTold, Keeps, reading, IsIdle};
 ghost use Rattle.model_logs.specs.LogFile.{IsLog, IsLogFile};
@@ -14,6 +14,7 @@ use crate::head::{HEAD_SIZE, first_text};
 use crate::layout::lay_out;
 use crate::make::make_file;
 use crate::read::LogRead;
+use crate::room::LogRoom;
 use disk_model::{Disk, FileName};
 use mdbox_base::NoMemory;
 use model_logs::LogHead;
@@ -80,6 +81,16 @@ impl GateLog {
             self.buffer.resize(octets, 0)?;
         }
         Ok(())
+    }
+
+    /// Takes over room that was made before, where it is more than the log has. This takes no memory.
+    pub fn take_room(&mut self, room: LogRoom)
+        ensures { self.new ≡ record self.old { room = max self.old.room room } }
+    {
+        let buffer = room.into_buffer();
+        if buffer.len() > self.buffer.len() {
+            self.buffer = buffer;
+        }
     }
 
     /// Adds an entry. At every moment, also where the device fails, a crash leaves the log with this entry or without it.

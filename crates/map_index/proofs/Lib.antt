@@ -1,4 +1,5 @@
 pub mod DerivedListLemmas
+pub mod LastLemmas
 pub mod MapAppliedLemmas
 pub mod MapOrderLemmas
 pub mod NearestLemmas

@@ -1,6 +1,5 @@
 -- One entry more, in the words of the code.
-use Rattle.std.proofs.Common.{◌≡◌, ℕ, Bool, true, false, cond, Result, Ok, Err, List, [], ◌∷◌, map, filter, refl, ap}
-use Rattle.std.specs.Prelude.{OnErr}
+use Rattle.std.proofs.Common.{◌≡◌, ◌≤◌, ◌+◌, ◌-◌, ℕ, max, Bool, true, false, cond, List, [], ◌∷◌, map, filter, refl, sym, subst, ap, arith}
 use Rattle.mdbox_base.specs.declared.ids.BoxNo.{BoxNo}
 use Rattle.mdbox_base.specs.declared.ids.FileNo.{FileNo}
 use Rattle.mdbox_base.specs.declared.ids.Guid.{Guid}
@@ -11,14 +10,11 @@ use Rattle.mdbox_base.specs.declared.entries.Highest.{Highest}
 use Rattle.mdbox_base.specs.declared.entries.MapEntry.{MapEntry}
 use Rattle.mdbox_base.specs.declared.entries.MapEntry.TheVariants as entry
 use Rattle.model_meaning.specs.Rows.{rows_by}
-use Rattle.model_meaning.specs.MapMeaning.{MapRecord, MapBox, MapMeaning, record_rules, record_changed, box_rules}
-use Rattle.model_meaning.proofs.AppliedLemmas.{records_by_mailbox, records_by_sealed, boxes_by_highest, boxes_by_stored, boxes_by_raised, boxes_by_lowered, boxes_by_counted, boxes_by_purged, boxes_by_sealed, only_changes}
-use Rattle.map_index.specs.Shown.{IsMaking, IsSealing}
-
--- what is said of an error holds of any result
-pub on_err : {T E : Type 0} → (r : Result T E) (P : Type 0) → P → OnErr r P
-on_err (Ok x) P p = tt
-on_err (Err e) P p = p
+use Rattle.model_meaning.specs.MapMeaning.{MapRecord, MapBox, MapMeaning, record_rules, record_changed, box_rules, sealed_by}
+use Rattle.model_meaning.proofs.AppliedLemmas.{boxes_by_highest, boxes_by_stored, boxes_by_raised, boxes_by_lowered, boxes_by_counted, boxes_by_purged, boxes_by_sealed, only_changes}
+use Rattle.map_index.specs.declared.room.MapRoom.{MapRoom}
+use Rattle.map_index.specs.Shown.{TakesMemory}
+use Rattle.map_index.specs.Value.{no_room, larger_room, room_for, room_left, IsNoLessRoom}
 
 filter_step : {X Y : Type 0} → (f : X → Y) (b : Bool) (x : X) (xs : List X) (ys : List Y) → map f xs ≡ ys → map f (cond b (x ∷ xs) xs) ≡ cond b (f x ∷ ys) ys
 filter_step f true x xs ys e = ap (λ (t : List _). f x ∷ t) e
@@ -29,30 +25,6 @@ pub filter-map : {X Y : Type 0} → (f : X → Y) (p : Y → Bool) (xs : List X)
 filter-map f p [] = refl
 filter-map f p (x ∷ xs) = filter_step f (p (f x)) x _ _ (filter-map f p xs)
 
--- a mailbox that is made leaves records and files
-pub made_leaves : (e : MapEntry) (rows : List MapRecord) → IsMaking e → rows_by record_rules e rows ≡ rows
-made_leaves (entry.B b g n) rows h = records_by_mailbox b g n rows
-made_leaves (entry.H x) rows h = absurd h
-made_leaves (entry.G b g) rows h = absurd h
-made_leaves (entry.S o c u file a z g is) rows h = absurd h
-made_leaves (entry.U u) rows h = absurd h
-made_leaves (entry.D us) rows h = absurd h
-made_leaves (entry.T cs) rows h = absurd h
-made_leaves (entry.P file t ms us) rows h = absurd h
-made_leaves (entry.E file) rows h = absurd h
-
--- a file that is sealed leaves records and mailboxes
-pub sealing_leaves : (e : MapEntry) (rows : List MapRecord) (boxes : List MapBox) → IsSealing e → (rows_by record_rules e rows ≡ rows) × (rows_by box_rules e boxes ≡ boxes)
-sealing_leaves (entry.E file) rows boxes h = (records_by_sealed file rows, boxes_by_sealed file boxes)
-sealing_leaves (entry.H x) rows boxes h = absurd h
-sealing_leaves (entry.B b g n) rows boxes h = absurd h
-sealing_leaves (entry.G b g) rows boxes h = absurd h
-sealing_leaves (entry.S o c u file a z g is) rows boxes h = absurd h
-sealing_leaves (entry.U u) rows boxes h = absurd h
-sealing_leaves (entry.D us) rows boxes h = absurd h
-sealing_leaves (entry.T cs) rows boxes h = absurd h
-sealing_leaves (entry.P file t ms us) rows boxes h = absurd h
-
 -- ---- one meaning, part by part
 
 abbrev pub made : List ℕ → List MapRecord → List MapBox → List ℕ → Highest → MapMeaning
@@ -61,27 +33,91 @@ made store records boxes sealed highest = record { store = store; records = reco
 pub same_parts : (store : List ℕ) (rs ss : List MapRecord) (bs cs : List MapBox) (fs gs : List ℕ) (h k : Highest) → rs ≡ ss → bs ≡ cs → fs ≡ gs → h ≡ k → made store rs bs fs h ≡ made store ss cs gs k
 same_parts store rs ss bs cs fs gs h k p q r s = cc (p, q, r, s)
 
--- ---- entries that a match leaves over
+-- ---- entries that take no memory
 
-pub boxes_stay : (e : MapEntry) → ((b : BoxNo) (g : ℕ) (n : List ℕ) → e ≡ entry.B b g n → ⊥) → ((b : BoxNo) (g : ℕ) → e ≡ entry.G b g → ⊥) → (boxes : List MapBox) → rows_by box_rules e boxes ≡ boxes
-boxes_stay (entry.H x) b g boxes = boxes_by_highest x boxes
-boxes_stay (entry.B n gen name) b g boxes = absurd (b n gen name refl)
-boxes_stay (entry.G n gen) b g boxes = absurd (g n gen refl)
-boxes_stay (entry.S o c u file a z guid is) b g boxes = boxes_by_stored o c u file a z guid is boxes
-boxes_stay (entry.U u) b g boxes = boxes_by_raised u boxes
-boxes_stay (entry.D us) b g boxes = boxes_by_lowered us boxes
-boxes_stay (entry.T cs) b g boxes = boxes_by_counted cs boxes
-boxes_stay (entry.P file t ms us) b g boxes = boxes_by_purged file t ms us boxes
-boxes_stay (entry.E file) b g boxes = boxes_by_sealed file boxes
+pub adds_none : (e : MapEntry) → ((o c : ℕ) (u : MapUid) (file : FileNo) (a z : ℕ) (guid : Guid) (is : List InstRow) → e ≡ entry.S o c u file a z guid is → ⊥)
+    → ((b : BoxNo) (g : ℕ) (n : List ℕ) → e ≡ entry.B b g n → ⊥) → ((file : FileNo) → e ≡ entry.E file → ⊥) → TakesMemory e → ⊥
+adds_none (entry.H x) s b f t = t
+adds_none (entry.B n gen name) s b f t = b n gen name refl
+adds_none (entry.G n gen) s b f t = t
+adds_none (entry.S o c u file a z guid is) s b f t = s o c u file a z guid is refl
+adds_none (entry.U u) s b f t = t
+adds_none (entry.D us) s b f t = t
+adds_none (entry.T cs) s b f t = t
+adds_none (entry.P file t ms us) s b f h = h
+adds_none (entry.E file) s b f t = f file refl
 
-pub records_change : (e : MapEntry) → ((o c : ℕ) (u : MapUid) (file : FileNo) (a z : ℕ) (guid : Guid) (is : List InstRow) → e ≡ entry.S o c u file a z guid is → ⊥)
+pub boxes_stay : (e : MapEntry) → (TakesMemory e → ⊥) → ((b : BoxNo) (g : ℕ) → e ≡ entry.G b g → ⊥) → (boxes : List MapBox) → rows_by box_rules e boxes ≡ boxes
+boxes_stay (entry.H x) t g boxes = boxes_by_highest x boxes
+boxes_stay (entry.B n gen name) t g boxes = absurd (t tt)
+boxes_stay (entry.G n gen) t g boxes = absurd (g n gen refl)
+boxes_stay (entry.S o c u file a z guid is) t g boxes = boxes_by_stored o c u file a z guid is boxes
+boxes_stay (entry.U u) t g boxes = boxes_by_raised u boxes
+boxes_stay (entry.D us) t g boxes = boxes_by_lowered us boxes
+boxes_stay (entry.T cs) t g boxes = boxes_by_counted cs boxes
+boxes_stay (entry.P file x ms us) t g boxes = boxes_by_purged file x ms us boxes
+boxes_stay (entry.E file) t g boxes = boxes_by_sealed file boxes
+
+pub files_stay : (e : MapEntry) → (TakesMemory e → ⊥) → (files : List ℕ) → sealed_by e files ≡ files
+files_stay (entry.H x) t files = refl
+files_stay (entry.B n gen name) t files = refl
+files_stay (entry.G n gen) t files = refl
+files_stay (entry.S o c u file a z guid is) t files = refl
+files_stay (entry.U u) t files = refl
+files_stay (entry.D us) t files = refl
+files_stay (entry.T cs) t files = refl
+files_stay (entry.P file x ms us) t files = refl
+files_stay (entry.E file) t files = absurd (t tt)
+
+pub records_change : (e : MapEntry) → (TakesMemory e → ⊥)
     → ((file : FileNo) (t : ℕ) (ms : List MapPlace) (us : List MapUid) → e ≡ entry.P file t ms us → ⊥) → (rows : List MapRecord) → rows_by record_rules e rows ≡ map (record_changed e) rows
 records_change (entry.H x) s p rows = only_changes (record_changed (entry.H x)) rows
 records_change (entry.B n gen name) s p rows = only_changes (record_changed (entry.B n gen name)) rows
 records_change (entry.G n gen) s p rows = only_changes (record_changed (entry.G n gen)) rows
-records_change (entry.S o c u file a z guid is) s p rows = absurd (s o c u file a z guid is refl)
+records_change (entry.S o c u file a z guid is) s p rows = absurd (s tt)
 records_change (entry.U u) s p rows = only_changes (record_changed (entry.U u)) rows
 records_change (entry.D us) s p rows = only_changes (record_changed (entry.D us)) rows
 records_change (entry.T cs) s p rows = only_changes (record_changed (entry.T cs)) rows
 records_change (entry.P file t ms us) s p rows = absurd (p file t ms us refl)
 records_change (entry.E file) s p rows = only_changes (record_changed (entry.E file)) rows
+
+-- it needs no room
+pub no_room_for : (e : MapEntry) → (TakesMemory e → ⊥) → room_for e ≡ no_room
+no_room_for (entry.H x) t = refl
+no_room_for (entry.B n gen name) t = absurd (t tt)
+no_room_for (entry.G n gen) t = refl
+no_room_for (entry.S o c u file a z guid is) t = absurd (t tt)
+no_room_for (entry.U u) t = refl
+no_room_for (entry.D us) t = refl
+no_room_for (entry.T cs) t = refl
+no_room_for (entry.P file x ms us) t = refl
+no_room_for (entry.E file) t = absurd (t tt)
+
+-- ---- room
+
+abbrev of_room : ℕ → ℕ → ℕ → ℕ → MapRoom
+of_room a b c d = record { records = a; instances = b; boxes = c; files = d }
+
+same_room : (a b c d a' b' c' d' : ℕ) → a ≡ a' → b ≡ b' → c ≡ c' → d ≡ d' → of_room a b c d ≡ of_room a' b' c' d'
+same_room a b c d a' b' c' d' p q r s = cc (p, q, r, s)
+
+-- none is used of what there is at least
+pub left_of_none : (e : MapEntry) (room : MapRoom) → (TakesMemory e → ⊥) → room_left e (larger_room room (room_for e)) ≡ room
+left_of_none e room t = subst (λ (need : MapRoom). of_room (max room.records need.records - need.records) (max room.instances need.instances - need.instances) (max room.boxes need.boxes - need.boxes) (max room.files need.files - need.files) ≡ room) (sym (no_room_for e t))
+    (same_room _ _ _ _ _ _ _ _ (omega arith) (omega arith) (omega arith) (omega arith))
+
+pub larger_holds : (a b : MapRoom) → IsNoLessRoom b (larger_room a b)
+larger_holds a b = record { records = omega arith; instances = omega arith; boxes = omega arith; files = omega arith }
+
+pub larger_keeps : (a b : MapRoom) → IsNoLessRoom a (larger_room a b)
+larger_keeps a b = record { records = omega arith; instances = omega arith; boxes = omega arith; files = omega arith }
+
+pub itself_keeps : (a : MapRoom) → IsNoLessRoom a a
+itself_keeps a = record { records = omega arith; instances = omega arith; boxes = omega arith; files = omega arith }
+
+-- room that is left after an item was added
+pub space_left : (need size space size' space' room left : ℕ) → size + room ≤ space → size' ≤ size + need → space ≤ space' → need ≤ room → left ≡ room - need → size' + left ≤ space'
+space_left need size space size' space' room left a b c d e = omega (arith, a, b, c, d, e)
+
+pub space_kept : (size space size' space' room : ℕ) → size + room ≤ space → size' ≤ size → space' ≡ space → size' + room ≤ space'
+space_kept size space size' space' room a b c = omega (arith, a, b, c)

@@ -1,5 +1,5 @@
 -- What every index keeps.
-use Rattle.std.specs.Prelude.{◌≢◌, ◌≤◌, ◌<◌, ◌^◌, ℕ, List, length, All, AllPairs}
+use Rattle.std.specs.Prelude.{◌≢◌, ◌≤◌, ◌<◌, ◌+◌, ◌^◌, ℕ, List, length, All, AllPairs}
 use Rattle.model_meaning.specs.MapMeaning.{MapRecord, MapBox, MapMeaning}
 use Rattle.mdbox_base.specs.Words.{IsNumber}
 
@@ -28,3 +28,7 @@ pub record IsMapInOrder (m : MapMeaning) : Type 0 where
   pub boxes : AreKeptBoxes m.highest.mailbox m.boxes
   pub files : AreKeptFiles m.sealed
   pub fits : m.highest.map < 2 ^ 32
+
+-- a vector of this length and capacity has room for so many items more
+abbrev pub HasSpace : ℕ → ℕ → ℕ → Type 0
+HasSpace length capacity more = length + more ≤ capacity

@@ -1,3 +1,4 @@
 pub mod Shown
 pub mod Kept
 pub mod Has
+pub mod Value

@@ -1,5 +1,5 @@
 -- Records and mailboxes as the code has them, and what they stand for.
-use Rattle.std.specs.Prelude.{◌≡◌, ◌≤◌, All, ◌==◌, ◌&&◌, nat_le, if◌then◌else◌, ℕ, Bool, List, map, filter, find, fold, Option, None, Some}
+use Rattle.std.specs.Prelude.{◌≡◌, ◌≤◌, ◌+◌, All, position, ◌==◌, ◌&&◌, nat_le, if◌then◌else◌, ℕ, Bool, List, map, filter, find, fold, Option, None, Some}
 use Rattle.std.specs.List.{list_any}
 use Rattle.std.specs.Str.{bytes_eq}
 use Rattle.mdbox_base.specs.declared.entries.Highest.{Highest}
@@ -69,6 +69,23 @@ least rows = fold nearer None rows
 abbrev pub record_from : MapMeaning → ℕ → ℕ → Option MapRecord
 record_from m file from = least (filter (is_from file from) m.records)
 
+-- the place of the record of a map uid
+abbrev pub place_of_record : MapMeaning → ℕ → Option ℕ
+place_of_record m uid = position (λ row. row.uid == uid) m.records
+
+-- where a record's region ends, if it lies in this file, else 0
+abbrev pub region_end : ℕ → MapRecord → ℕ
+region_end file row = if row.file == file then row.offset + row.size else 0
+
+-- of two records the one whose region ends later
+abbrev pub later : Option MapRecord → MapRecord → Option MapRecord
+later None row = Some row
+later (Some last) row = if nat_le (row.offset + row.size) (last.offset + last.size) then Some last else Some row
+
+-- the record of this file whose region ends last
+abbrev pub last_record : MapMeaning → ℕ → Option MapRecord
+last_record m file = fold later None (filter (λ row. row.file == file) m.records)
+
 -- the mailbox of a name
 abbrev pub box_of_name : MapMeaning → List ℕ → Option MapBox
 box_of_name m name = find (λ box. bytes_eq box.name name) m.boxes
@@ -89,6 +106,10 @@ abbrev pub nearer_row : Option MapRow → MapRow → Option MapRow
 nearer_row None row = Some row
 nearer_row (Some first) row = if nat_le first.offset row.offset then Some first else Some row
 
+abbrev pub later_row : Option MapRow → MapRow → Option MapRow
+later_row None row = Some row
+later_row (Some last) row = if nat_le (row.offset + row.size) (last.offset + last.size) then Some last else Some row
+
 -- ---- what entries need and take
 
 -- an entry that raises the count of a record leaves it in its range
@@ -98,18 +119,6 @@ IsRisen other uid count = Unit {0}
 
 abbrev pub CanRise : MapEntry → List MapRecord → Type 0
 CanRise entry rows = All (λ row. IsRisen entry row.uid row.count) rows
-
-abbrev pub IsStoring : MapEntry → Type 0
-IsStoring (entry.S origin count uid file offset size guid instances) = Unit {0}
-IsStoring other = ⊥
-
-abbrev pub IsMaking : MapEntry → Type 0
-IsMaking (entry.B mailbox generation name) = Unit {0}
-IsMaking other = ⊥
-
-abbrev pub IsSealing : MapEntry → Type 0
-IsSealing (entry.E file) = Unit {0}
-IsSealing other = ⊥
 
 -- the entry makes a mailbox, stores a message or seals a file
 abbrev pub TakesMemory : MapEntry → Type 0

@@ -1,11 +1,12 @@
 // What an entry of the map log does to the records, the mailboxes and the sealed files.
-ghost use Rattle.std.specs.Prelude.{◌≡◌, ◌==◌, ℕ, List, map, filter, not, false, slice_get, IsErr, IfOk, OnOk, OnErr};
+ghost use Rattle.std.specs.Prelude.{◌≡◌, ◌==◌, ◌+◌, ◌<◌, ◌≤◌, ℕ, List, map, filter, not, false, slice_get, vec_len, vec_capacity, IsErr, IfOk, MatchOption};
 ghost use Rattle.std.specs.Option.{option_map_or};
 ghost use Rattle.model_meaning.specs.Rows.{rows_by};
 ghost use Rattle.model_meaning.specs.MapMeaning.{record_rules, record_changed, box_changed, box_rules, sealed_by, with_number, has_map_uid, moved_record};
 ghost use Rattle.mdbox_base.specs.declared.entries.InstRow.{InstRow};
 ghost use Rattle.mdbox_base.specs.declared.entries.MapEntry.TheVariants as entry;
-ghost use Rattle.map_index.specs.Shown.{meant_record, box_of, CanRise, IsRisen, IsStoring, IsMaking, IsSealing};
+ghost use Rattle.map_index.specs.Shown.{meant_record, box_of, CanRise, IsRisen, TakesMemory};
+ghost use Rattle.map_index.specs.Value.{room_for};
 
 use crate::named::{count_given, has_map_uid, place_given};
 use crate::rows::{BoxAt, Mailbox, MapRow, Record, place_of};
@@ -14,16 +15,23 @@ use mdbox_base::{
 };
 use std::alloc::Global;
 
-/// Changes the records as the entry says. Only a new record takes memory; without it they stay.
-pub fn change_records(
-    alloc: Global,
+/// Takes an entry into the records, the mailboxes and the sealed files, which have room for it.
+pub fn take_parts(
     records: &mut Vec<Record>,
-    entry: &MapEntry,
-) -> Result<(), NoMemory>
-    requires { CanRise entry.now (map meant_record records.old.items) }
-    ensures ok { OnOk result (map meant_record records.new.items ≡ rows_by record_rules entry.now (map meant_record records.old.items)) }
-    ensures err { OnErr result (records.new.items ≡ records.old.items) }
-    ensures stored_only { IsErr result → IsStoring entry.now }
+    boxes: &mut Vec<Mailbox>,
+    files: &mut Vec<FileNo>,
+    entry: MapEntry,
+)
+    requires rise { CanRise entry (map meant_record records.old.items) }
+    requires room_records { vec_len records.old + (room_for entry).records ≤ vec_capacity records.old }
+    requires room_boxes { vec_len boxes.old + (room_for entry).boxes ≤ vec_capacity boxes.old }
+    requires room_files { vec_len files.old + (room_for entry).files ≤ vec_capacity files.old }
+    ensures records { map meant_record records.new.items ≡ rows_by record_rules entry (map meant_record records.old.items) }
+    ensures boxes { map box_of boxes.new.items ≡ rows_by box_rules entry (map box_of boxes.old.items) }
+    ensures files { map (λ f. f.0) files.new.items ≡ sealed_by entry (map (λ f. f.0) files.old.items) }
+    ensures space_records { (vec_len records.new ≤ vec_len records.old + (room_for entry).records) × (vec_capacity records.old ≤ vec_capacity records.new) }
+    ensures space_boxes { (vec_len boxes.new ≤ vec_len boxes.old + (room_for entry).boxes) × (vec_capacity boxes.old ≤ vec_capacity boxes.new) }
+    ensures space_files { (vec_len files.new ≤ vec_len files.old + (room_for entry).files) × (vec_capacity files.old ≤ vec_capacity files.new) }
 {
     match entry {
         MapEntry::S {
@@ -37,24 +45,83 @@ pub fn change_records(
             instances,
         } => {
             let row = MapRow {
-                uid: *uid,
-                origin: *origin,
-                count: *count,
-                file: *file,
-                offset: *offset,
-                size: *size,
-                guid: *guid,
+                uid,
+                origin,
+                count,
+                file,
+                offset,
+                size,
+                guid,
             };
-            let instances = copied_instances(alloc, instances)?;
-            records.push(Record { row, instances })?;
+            records.push_reserved(Record { row, instances });
         }
-        MapEntry::P { dropped, .. } => {
-            drop_records(records, dropped.as_slice());
-            change_each(records, entry);
+        MapEntry::B {
+            mailbox,
+            generation,
+            name,
+        } => {
+            let at = BoxAt {
+                number: mailbox,
+                generation,
+            };
+            boxes.push_reserved(Mailbox { at, name });
         }
-        _ => change_each(records, entry),
+        MapEntry::E { file } => seal(files, file),
+        other => change_parts(records, boxes, &other),
     }
-    Ok(())
+}
+
+/// Changes the records and the mailboxes as an entry says that takes no memory.
+pub fn change_parts(records: &mut Vec<Record>, boxes: &mut Vec<Mailbox>, entry: &MapEntry)
+    requires rise { CanRise entry.now (map meant_record records.old.items) }
+    requires changes { TakesMemory entry.now → ⊥ }
+    ensures records { map meant_record records.new.items ≡ rows_by record_rules entry.now (map meant_record records.old.items) }
+    ensures boxes { map box_of boxes.new.items ≡ rows_by box_rules entry.now (map box_of boxes.old.items) }
+    ensures space_records { (vec_len records.new ≤ vec_len records.old) × (vec_capacity records.new ≡ vec_capacity records.old) }
+    ensures space_boxes { (vec_len boxes.new ≡ vec_len boxes.old) × (vec_capacity boxes.new ≡ vec_capacity boxes.old) }
+{
+    change_records(records, entry);
+    change_boxes(boxes, entry);
+}
+
+/// An entry that takes memory, once more. None for any other.
+pub fn copied(alloc: Global, entry: &MapEntry) -> Result<Option<MapEntry>, NoMemory>
+    ensures copy { IfOk result (λ o. MatchOption o (TakesMemory entry.now → ⊥) (λ copy. (copy ≡ entry.now) × TakesMemory entry.now)) }
+    ensures adding_only { IsErr result → TakesMemory entry.now }
+{
+    let copy = match entry {
+        MapEntry::S {
+            origin,
+            count,
+            uid,
+            file,
+            offset,
+            size,
+            guid,
+            instances,
+        } => MapEntry::S {
+            origin: *origin,
+            count: *count,
+            uid: *uid,
+            file: *file,
+            offset: *offset,
+            size: *size,
+            guid: *guid,
+            instances: copied_instances(alloc, instances)?,
+        },
+        MapEntry::B {
+            mailbox,
+            generation,
+            name,
+        } => MapEntry::B {
+            mailbox: *mailbox,
+            generation: *generation,
+            name: copied_name(alloc, name)?,
+        },
+        MapEntry::E { file } => MapEntry::E { file: *file },
+        _ => return Ok(None),
+    };
+    Ok(Some(copy))
 }
 
 /// The same instances once more.
@@ -64,10 +131,27 @@ fn copied_instances(alloc: Global, instances: &Seq<InstRow>) -> Result<Seq<InstR
     Ok(Seq::of(Vec::from_slice(alloc, instances.as_slice())?))
 }
 
+/// Changes the records as the entry says.
+fn change_records(records: &mut Vec<Record>, entry: &MapEntry)
+    requires rise { CanRise entry.now (map meant_record records.old.items) }
+    requires changes { TakesMemory entry.now → ⊥ }
+    ensures records { map meant_record records.new.items ≡ rows_by record_rules entry.now (map meant_record records.old.items) }
+    ensures space { (vec_len records.new ≤ vec_len records.old) × (vec_capacity records.new ≡ vec_capacity records.old) }
+{
+    match entry {
+        MapEntry::P { dropped, .. } => {
+            drop_records(records, dropped.as_slice());
+            change_each(records, entry);
+        }
+        _ => change_each(records, entry),
+    }
+}
+
 /// Changes each record as the entry says.
 fn change_each(records: &mut Vec<Record>, entry: &MapEntry)
     requires { CanRise entry.now (map meant_record records.old.items) }
-    ensures { map meant_record records.new.items ≡ map (record_changed entry.now) (map meant_record records.old.items) }
+    ensures changed { map meant_record records.new.items ≡ map (record_changed entry.now) (map meant_record records.old.items) }
+    ensures space { (vec_len records.new ≡ vec_len records.old) × (vec_capacity records.new ≡ vec_capacity records.old) }
 {
     for place in 0..records.len() {
         let row = changed(entry, records[place].row);
@@ -116,7 +200,8 @@ fn moved_record(row: MapRow, target: u32, place: Option<MapPlace>) -> MapRow
 
 /// Removes each record whose map uid is in the list.
 fn drop_records(records: &mut Vec<Record>, dropped: &[MapUid])
-    ensures { records.new.items ≡ filter (λ r. not (has_map_uid r.row.uid.0 dropped.now)) records.old.items }
+    ensures kept { records.new.items ≡ filter (λ r. not (has_map_uid r.row.uid.0 dropped.now)) records.old.items }
+    ensures space { (vec_len records.new ≤ vec_len records.old) × (vec_capacity records.new ≡ vec_capacity records.old) }
 {
     let mut place = 0;
     while place < records.len() {
@@ -128,36 +213,19 @@ fn drop_records(records: &mut Vec<Record>, dropped: &[MapUid])
     }
 }
 
-/// Changes the mailboxes as the entry says. Only a new mailbox takes memory; without it they stay.
-pub fn change_boxes(
-    alloc: Global,
-    boxes: &mut Vec<Mailbox>,
-    entry: &MapEntry,
-) -> Result<(), NoMemory>
-    ensures ok { OnOk result (map box_of boxes.new.items ≡ rows_by box_rules entry.now (map box_of boxes.old.items)) }
-    ensures err { OnErr result (boxes.new.items ≡ boxes.old.items) }
-    ensures made_only { IsErr result → IsMaking entry.now }
+/// Changes the mailboxes as the entry says.
+fn change_boxes(boxes: &mut Vec<Mailbox>, entry: &MapEntry)
+    requires changes { TakesMemory entry.now → ⊥ }
+    ensures boxes { map box_of boxes.new.items ≡ rows_by box_rules entry.now (map box_of boxes.old.items) }
+    ensures space { (vec_len boxes.new ≡ vec_len boxes.old) × (vec_capacity boxes.new ≡ vec_capacity boxes.old) }
 {
     match entry {
-        MapEntry::B {
-            mailbox,
-            generation,
-            name,
-        } => {
-            let at = BoxAt {
-                number: *mailbox,
-                generation: *generation,
-            };
-            let name = copied_name(alloc, name)?;
-            boxes.push(Mailbox { at, name })?;
-        }
         MapEntry::G {
             mailbox,
             generation,
         } => renew(boxes, *mailbox, *generation),
         _ => {}
     }
-    Ok(())
 }
 
 /// The same name once more.
@@ -169,7 +237,8 @@ fn copied_name(alloc: Global, name: &Name) -> Result<Name, NoMemory>
 
 /// Sets the generation of each mailbox with this number.
 fn renew(boxes: &mut Vec<Mailbox>, number: BoxNo, generation: u32)
-    ensures { map box_of boxes.new.items ≡ map (box_changed (entry.G number generation)) (map box_of boxes.old.items) }
+    ensures boxes { map box_of boxes.new.items ≡ map (box_changed (entry.G number generation)) (map box_of boxes.old.items) }
+    ensures space { (vec_len boxes.new ≡ vec_len boxes.old) × (vec_capacity boxes.new ≡ vec_capacity boxes.old) }
 {
     for place in 0..boxes.len() {
         let at = renewed(boxes[place].at, number, generation);
@@ -188,29 +257,20 @@ fn renewed(at: BoxAt, number: BoxNo, generation: u32) -> BoxAt
     }
 }
 
-/// Adds the file that the entry seals, if any. Only that takes memory; without it the files stay.
-pub fn change_files(files: &mut Vec<FileNo>, entry: &MapEntry) -> Result<(), NoMemory>
-    ensures ok { OnOk result (map (λ f. f.0) files.new.items ≡ sealed_by entry.now (map (λ f. f.0) files.old.items)) }
-    ensures err { OnErr result (files.new.items ≡ files.old.items) }
-    ensures sealed_only { IsErr result → IsSealing entry.now }
-{
-    match entry {
-        MapEntry::E { file } => seal(files, *file),
-        _ => Ok(()),
-    }
-}
-
-/// Adds a file to the rising list, unless it is there.
-fn seal(files: &mut Vec<FileNo>, file: FileNo) -> Result<(), NoMemory>
-    ensures ok { OnOk result (map (λ f. f.0) files.new.items ≡ with_number file.0 (map (λ f. f.0) files.old.items)) }
-    ensures err { OnErr result (files.new.items ≡ files.old.items) }
+/// Adds a file to the rising list, unless it is there. The list has room for one more.
+fn seal(files: &mut Vec<FileNo>, file: FileNo)
+    requires { vec_len files.old < vec_capacity files.old }
+    ensures files { map (λ f. f.0) files.new.items ≡ with_number file.0 (map (λ f. f.0) files.old.items) }
+    ensures space { (vec_len files.new ≤ vec_len files.old + 1) × (vec_capacity files.old ≤ vec_capacity files.new) }
 {
     let place = place_of(files, file);
     if is_at(files, place, file) {
-        return Ok(());
+        return;
     }
-    files.insert(place, file)?;
-    Ok(())
+    match files.insert(place, file) {
+        Ok(()) => {}
+        Err(_) => unreachable!(),
+    }
 }
 
 /// Whether the file stands at this place.

@@ -2,6 +2,7 @@
 #![tactic(auto)]
 
 pub use index::MapIndex;
+pub use room::MapRoom;
 pub use rows::{BoxAt, MapRow};
 
 mod changes;
@@ -9,4 +10,5 @@ mod fitting;
 mod index;
 mod named;
 mod numbers;
+mod room;
 mod rows;

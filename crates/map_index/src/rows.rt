@@ -1,9 +1,9 @@
 // Records and mailboxes of the map in vectors, and the look-ups that walk them.
-ghost use Rattle.std.specs.Prelude.{◌≡◌, ◌==◌, ◌&&◌, map, find, filter, fold, nat_le, Some, None};
+ghost use Rattle.std.specs.Prelude.{◌≡◌, ◌+◌, ◌==◌, ◌&&◌, map, find, filter, fold, nat_le, Some, None};
 ghost use Rattle.std.specs.Option.{option_copied};
 ghost use Rattle.std.specs.List.{list_any, position_or_len};
 ghost use Rattle.std.specs.Str.{bytes_eq};
-ghost use Rattle.map_index.specs.Shown.{nearer_row, is_row_from};
+ghost use Rattle.map_index.specs.Shown.{nearer_row, is_row_from, later_row};
 
 use mdbox_base::{BoxNo, FileNo, Guid, Hash, InstId, InstRow, MapUid, Name, Seq};
 
@@ -18,6 +18,15 @@ pub struct MapRow {
     pub offset: u32,
     pub size: u32,
     pub guid: Guid,
+}
+
+impl MapRow {
+    /// Where the region ends.
+    fn end(&self) -> u64
+        ensures { result ≡ self.now.offset + self.now.size }
+    {
+        self.offset as u64 + self.size as u64
+    }
 }
 
 /// A mailbox of the map: its log is the one of this number and generation.
@@ -83,6 +92,41 @@ fn nearer(best: Option<MapRow>, row: MapRow) -> MapRow
         Some(first) if first.offset <= row.offset => first,
         _ => row,
     }
+}
+
+/// The row of this file whose region ends last.
+pub fn last_in_file(records: &[Record], file: FileNo) -> Option<MapRow>
+    ensures { result ≡ fold later_row None (filter (λ r. r.file.0 == file.0) (map (λ r. r.row) records.now)) }
+{
+    let mut last: Option<MapRow> = None;
+    for record in records {
+        if record.row.file.0 == file.0 {
+            last = Some(later(last, record.row));
+        }
+    }
+    last
+}
+
+/// The row whose region ends later.
+fn later(last: Option<MapRow>, row: MapRow) -> MapRow
+    ensures { Some result ≡ later_row last row }
+{
+    match last {
+        Some(last) if row.end() <= last.end() => last,
+        _ => row,
+    }
+}
+
+/// The place of the first record with this map uid, else how many records there are.
+pub fn place_with_uid(records: &[Record], uid: MapUid) -> usize
+    ensures { result ≡ position_or_len (λ r. r.row.uid.0 == uid.0) records.now }
+{
+    for (place, record) in records.iter().enumerate() {
+        if record.row.uid.0 == uid.0 {
+            return place;
+        }
+    }
+    records.len()
 }
 
 /// Whether a record names this instance.

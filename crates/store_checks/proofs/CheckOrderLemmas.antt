@@ -71,27 +71,27 @@ logs_pass store generation entries m boxes logs old now new idle means has r =
 
 -- ---- counts
 
-listed_same : (uid : ℕ) (boxes : List CheckedBox) (logs : List (List BoxEntry)) → map (λ b. b.index) boxes ≡ map box_meaning logs → listed_in uid boxes ≡ listed_of logs uid
+listed_same : (uid : ℕ) (boxes : List CheckedBox) (logs : List (List BoxEntry)) → map (λ b. b.index.meaning) boxes ≡ map box_meaning logs → listed_in uid boxes ≡ listed_of logs uid
 listed_same uid boxes logs e = sums boxes logs e
   where
     sum_cons : {X : Type 0} → (f : X → ℕ) (x : X) (xs : List X) → sum_by f (x ∷ xs) ≡ f x + sum_by f xs
     sum_cons f x xs = sum_by-cons f x xs
 
-    sums : (bs : List CheckedBox) (ls : List (List BoxEntry)) → map (λ b. b.index) bs ≡ map box_meaning ls → listed_in uid bs ≡ listed_of ls uid
+    sums : (bs : List CheckedBox) (ls : List (List BoxEntry)) → map (λ b. b.index.meaning) bs ≡ map box_meaning ls → listed_in uid bs ≡ listed_of ls uid
     sums [] [] e = refl
     sums [] (l ∷ ls) e = absurd (cc e)
     sums (b ∷ bs) [] e = absurd (cc e)
     sums (b ∷ bs) (l ∷ ls) e =
-        let first : b.index ≡ box_meaning l = cc e in
-        let rest : map (λ (c : CheckedBox). c.index) bs ≡ map box_meaning ls = cc e in
-        sum_cons (λ (c : CheckedBox). listed_by uid c.index) b bs ∙ ap (λ (n : ℕ). n + listed_in uid bs) (ap (listed_by uid) first) ∙ ap (λ (n : ℕ). listed_by uid (box_meaning l) + n) (sums bs ls rest)
+        let first : b.index.meaning ≡ box_meaning l = cc e in
+        let rest : map (λ (c : CheckedBox). c.index.meaning) bs ≡ map box_meaning ls = cc e in
+        sum_cons (λ (c : CheckedBox). listed_by uid c.index.meaning) b bs ∙ ap (λ (n : ℕ). n + listed_in uid bs) (ap (listed_by uid) first) ∙ ap (λ (n : ℕ). listed_by uid (box_meaning l) + n) (sums bs ls rest)
         ∙ sym (sum_cons (λ (es : List BoxEntry). listed_by uid (box_meaning es)) l ls)
 
-pub counted : (m : MapMeaning) (boxes : List CheckedBox) (logs : List (List BoxEntry)) → map (λ b. b.index) boxes ≡ map box_meaning logs → All (IsCountedIn boxes) m.records → All (IsCounted logs) m.records
+pub counted : (m : MapMeaning) (boxes : List CheckedBox) (logs : List (List BoxEntry)) → map (λ b. b.index.meaning) boxes ≡ map box_meaning logs → All (IsCountedIn boxes) m.records → All (IsCounted logs) m.records
 counted m boxes logs e all = All-weaker (IsCountedIn boxes) (IsCounted logs) (λ row h. let s = listed_same row.uid boxes logs e in subst (λ (n : ℕ). n ≤ row.count) s h) m.records all
 
 pub counts_fail : (store : List ℕ) (generation : ℕ) (entries : List MapEntry) (m : MapMeaning) (boxes : List CheckedBox) (logs : List (List BoxEntry)) (old : Option History) → m ≡ map_meaning store entries
-    → map (λ b. b.index) boxes ≡ map box_meaning logs → IfTold old (LogsPass store generation entries logs) → IsMiscountedIn m boxes → IfTold old (λ disk. IsDamaged (files_of disk) (file.Map generation) 0)
+    → map (λ b. b.index.meaning) boxes ≡ map box_meaning logs → IfTold old (LogsPass store generation entries logs) → IsMiscountedIn m boxes → IfTold old (λ disk. IsDamaged (files_of disk) (file.Map generation) 0)
 counts_fail store generation entries m boxes logs old means e passed (row, held, less) =
     let s = listed_same row.uid boxes logs e in
     let bad : IsMiscounted (map_meaning store entries) logs = subst (λ (k : MapMeaning). IsMiscounted k logs) means (row, held, subst (λ (n : ℕ). row.count < n) s less) in

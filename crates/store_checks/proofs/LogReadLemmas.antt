@@ -6,6 +6,7 @@ use Rattle.disk_model.proofs.MomentLemmas.{if_told-map}
 use Rattle.model_logs.specs.declared.log_head.LogHead.{LogHead}
 use Rattle.model_logs.specs.LogFile.{log_end, IsLog}
 use Rattle.model_meaning.specs.BoxMeaning.{BoxMeaning}
+use Rattle.box_index.specs.State.{BoxState}
 use Rattle.model_meaning.specs.MapMeaning.{MapBox, MapMeaning}
 use Rattle.model_logs.specs.Entries.{box_text}
 use Rattle.model_store.specs.Settled.{files_of}
@@ -59,7 +60,14 @@ bad_log text AreGood IsReplay Refuses value head (Some octets) place tells (inr 
       is = r.is ∙ ap (λ (ts : List (List ℕ)). log_end ts + 1) t.texts_are;
     })
 
-box_tells : (value : BoxMeaning) (texts : List (List ℕ)) → IsBoxReplay value texts → Tells box_text AreBoxEntries RefusesBox value texts
+-- a mailbox log's entries make this value, and this text is refused behind them
+abbrev IsReplay : BoxState → List (List ℕ) → Type 0
+IsReplay value texts = IsBoxReplay value.meaning texts
+
+abbrev Refuses : BoxState → List ℕ → Type 0
+Refuses value text = RefusesBox value.meaning text
+
+box_tells : (value : BoxState) (texts : List (List ℕ)) → IsReplay value texts → Tells box_text AreBoxEntries Refuses value texts
 box_tells value texts f = record { entries = f.entries; texts_are = f.texts_are; good = f.good; none = λ bad refused entry is good. refused f.entries entry f.meaning is good }
 
 -- ---- mailboxes
@@ -68,14 +76,14 @@ at_box : (P : BoxAt → Type 0) (at : BoxAt) (mailbox : MapBox) → shown_box ma
 at_box P at mailbox e p = subst P (sym e) p
 
 -- why a mailbox log wasn't read
-pub box_cause : (m : MapMeaning) (store : List ℕ) (at : BoxAt) (value : BoxMeaning) (old : Option History) (error : CheckError) → m.store ≡ store
-    → IsLogCause IsBoxReplay RefusesBox value (box_file at) (box_head store at) old error → IsBoxCause m at old error
+pub box_cause : (m : MapMeaning) (store : List ℕ) (at : BoxAt) (value : BoxState) (old : Option History) (error : CheckError) → m.store ≡ store
+    → IsLogCause IsReplay Refuses value (box_file at) (box_head store at) old error → IsBoxCause m at old error
 box_cause m store at value old (check.Damaged name place) same (is, bad) = (
   is,
   λ mailbox e.
-      let bad' = at_box (λ (a : BoxAt). IfTold old (λ (disk : DiskState). IsBadReplay IsBoxReplay RefusesBox value (box_head store a) (reading (disk (box_file a))) place)) at mailbox e bad in
-      let bad'' = subst (λ (s : List ℕ). IfTold old (λ (disk : DiskState). IsBadReplay IsBoxReplay RefusesBox value (box_head s (shown_box mailbox)) (reading (disk (box_file (shown_box mailbox)))) place)) (sym same) bad' in
-      if_told-map _ _ old (λ disk b. inl (bad_log box_text AreBoxEntries IsBoxReplay RefusesBox value (box_head m.store (shown_box mailbox)) (reading (disk (box_file (shown_box mailbox)))) place (box_tells value) b)) bad'',
+      let bad' = at_box (λ (a : BoxAt). IfTold old (λ (disk : DiskState). IsBadReplay IsReplay Refuses value (box_head store a) (reading (disk (box_file a))) place)) at mailbox e bad in
+      let bad'' = subst (λ (s : List ℕ). IfTold old (λ (disk : DiskState). IsBadReplay IsReplay Refuses value (box_head s (shown_box mailbox)) (reading (disk (box_file (shown_box mailbox)))) place)) (sym same) bad' in
+      if_told-map _ _ old (λ disk b. inl (bad_log box_text AreBoxEntries IsReplay Refuses value (box_head m.store (shown_box mailbox)) (reading (disk (box_file (shown_box mailbox)))) place (box_tells value) b)) bad'',
 )
 box_cause m store at value old check.NoStore same c = c
 box_cause m store at value old check.DiskFault same c = c

@@ -86,7 +86,7 @@ one_read store m place o at boxes more logs b l old now new same e is idle next 
       box_entries = each_push AreBoxEntries logs l r.box_entries read.good;
       one_each = one_each_push logs (take place m.boxes) l x.0 r.one_each;
       records = each_push (λ (log : List BoxEntry). All (HasItsRecord m) (rows_after log)) logs l r.records read.records;
-      meanings = map-append (λ (c : CheckedBox). c.index) boxes (b ∷ []) ∙ ap (λ (ms : List BoxMeaning). ms ++ b.index ∷ []) r.meanings ∙ ap (λ (i : BoxMeaning). map box_meaning logs ++ i ∷ []) read.meaning ∙ sym (map-append box_meaning logs (l ∷ []));
+      meanings = map-append (λ (c : CheckedBox). c.index.meaning) boxes (b ∷ []) ∙ ap (λ (ms : List BoxMeaning). ms ++ b.index.meaning ∷ []) r.meanings ∙ ap (λ (i : BoxMeaning). map box_meaning logs ++ i ∷ []) read.meaning ∙ sym (map-append box_meaning logs (l ∷ []));
       found = found_push store (take place m.boxes) boxes logs new x.0 b l (are_found-then store (take place m.boxes) boxes logs now new next r.found) found';
     }))
 

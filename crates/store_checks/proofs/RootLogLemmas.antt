@@ -7,6 +7,7 @@ use Rattle.model_logs.specs.declared.log_head.LogHead.{LogHead}
 use Rattle.mdbox_base.specs.declared.entries.RootEntry.{RootEntry}
 use Rattle.mdbox_base.specs.declared.entries.MapEntry.{MapEntry}
 use Rattle.model_meaning.specs.MapMeaning.{MapMeaning, map_meaning}
+use Rattle.map_index.specs.Value.{MapIndexValue}
 use Rattle.mdbox_base.specs.Words.{IsNumber}
 use Rattle.model_logs.specs.LogFile.{head_octets, IsLog}
 use Rattle.model_logs.proofs.LogFileLemmas.{head_length}
@@ -95,7 +96,14 @@ root_read store last generation found octets read old now new idle r h f e told 
 
 -- ---- the map log
 
-map_tells : (store : List ℕ) (value : MapMeaning) (texts : List (List ℕ)) → value.store ≡ store → IsMapReplay value texts → Tells map_text (AreMapEntries store) RefusesMap value texts
+-- a map log's entries make this value, and this text is refused behind them
+abbrev IsMapReplayed : MapIndexValue → List (List ℕ) → Type 0
+IsMapReplayed value texts = IsMapReplay value.meaning texts
+
+abbrev RefusedByMap : MapIndexValue → List ℕ → Type 0
+RefusedByMap value text = RefusesMap value.meaning text
+
+map_tells : (store : List ℕ) (value : MapIndexValue) (texts : List (List ℕ)) → value.meaning.store ≡ store → IsMapReplayed value texts → Tells map_text (AreMapEntries store) RefusedByMap value texts
 map_tells store value texts same f = record {
   entries = f.entries;
   texts_are = f.texts_are;
@@ -104,12 +112,12 @@ map_tells store value texts same f = record {
 }
 
 -- why the map log wasn't read
-pub map_cause : (store : List ℕ) (generation : ℕ) (value : MapMeaning) (old : Option History) (error : CheckError) → IsNumber generation → value.store ≡ store
-    → IsLogCause IsMapReplay RefusesMap value (file.Map generation) (map_log_head store generation) old error → IsMapCause store generation old error
+pub map_cause : (store : List ℕ) (generation : ℕ) (value : MapIndexValue) (old : Option History) (error : CheckError) → IsNumber generation → value.meaning.store ≡ store
+    → IsLogCause IsMapReplayed RefusedByMap value (file.Map generation) (map_log_head store generation) old error → IsMapCause store generation old error
 map_cause store generation value old (check.Damaged name place) number same (is, bad) = (
   is,
   if_told-map _ _ old
-      (λ disk b. inr (number, bad_log map_text (AreMapEntries store) IsMapReplay RefusesMap value (map_log_head store generation) (reading (disk (file.Map generation))) place (λ texts f. map_tells store value texts same f) b)) bad,
+      (λ disk b. inr (number, bad_log map_text (AreMapEntries store) IsMapReplayed RefusedByMap value (map_log_head store generation) (reading (disk (file.Map generation))) place (λ texts f. map_tells store value texts same f) b)) bad,
 )
 map_cause store generation value old check.NoStore number same c = absurd c
 map_cause store generation value old check.DiskFault number same c = c

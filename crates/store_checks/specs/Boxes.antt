@@ -37,7 +37,7 @@ box_head store at = head_of store kind.Box at.number.0 at.generation
 -- A mailbox was read: its log has these entries, each listed message has its record, and the index is what they mean.
 pub record IsBoxRead (store : List ℕ) (m : MapMeaning) (at : BoxAt) (checked : CheckedBox) (entries : List BoxEntry) (old new : Option History) : Type 0 where
   pub good : AreBoxEntries entries
-  pub meaning : checked.index ≡ box_meaning entries
+  pub meaning : checked.index.meaning ≡ box_meaning entries
   pub records : All (HasItsRecord m) (rows_after entries)
   pub log : IfTold old (λ disk. HasLog (files_of disk) (box_file at) (box_head store at) (map box_text entries))
   pub found : IsFoundAs checked.log (box_file at) (box_head store at) (map box_text entries) new
@@ -68,7 +68,7 @@ pub record AreRead (store : List ℕ) (m : MapMeaning) (mailboxes : List MapBox)
   pub box_entries : AllByRecursion AreBoxEntries logs
   pub one_each : length logs ≡ length mailboxes
   pub records : AllByRecursion (λ log. All (HasItsRecord m) (rows_after log)) logs
-  pub meanings : map (λ b. b.index) boxes ≡ map box_meaning logs
+  pub meanings : map (λ b. b.index.meaning) boxes ≡ map box_meaning logs
   pub found : AreFound store mailboxes boxes logs new
 
 -- why mailboxes weren't read

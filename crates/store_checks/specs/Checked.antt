@@ -9,7 +9,7 @@ abbrev pub listed_by : ℕ → BoxMeaning → ℕ
 listed_by uid m = count_by (λ row. row.map_uid == uid) m.rows
 
 abbrev pub listed_in : ℕ → List CheckedBox → ℕ
-listed_in uid boxes = sum_by (λ mailbox. listed_by uid mailbox.index) boxes
+listed_in uid boxes = sum_by (λ mailbox. listed_by uid mailbox.index.meaning) boxes
 
 -- a record's count is at least its listed messages
 abbrev pub IsCountedIn : List CheckedBox → MapRecord → Type 0

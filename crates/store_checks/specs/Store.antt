@@ -22,11 +22,11 @@ use Rattle.store_checks.specs.declared.error.CheckError.TheVariants as check
 pub record IsChecked (c : Checked) (before : List RootEntry) (entries : List MapEntry) (logs : List (List BoxEntry)) (old new : Option History) : Type 0 where
   pub opens : IfTold old (λ disk. Opens (files_of disk) c.id.0 entries logs)
   pub good : AreGoodLogs c.id.0 entries logs
-  pub map_is : c.map ≡ map_meaning c.id.0 entries
-  pub boxes_are : map (λ b. b.index) c.boxes ≡ map box_meaning logs
+  pub map_is : c.map.meaning ≡ map_meaning c.id.0 entries
+  pub boxes_are : map (λ b. b.index.meaning) c.boxes ≡ map box_meaning logs
   pub root_log : IsFoundAs c.root_log file.Root (root_log_head c.id.0) (root_texts before c.generation) new
   pub map_log : IsFoundAs c.map_log (file.Map c.generation) (map_log_head c.id.0 c.generation) (map map_text entries) new
-  pub box_logs : AreFound c.id.0 c.map.boxes c.boxes logs new
+  pub box_logs : AreFound c.id.0 c.map.meaning.boxes c.boxes logs new
 
 -- Why a store doesn't pass.
 abbrev pub IsCheckCause : Option History → CheckError → Type 0

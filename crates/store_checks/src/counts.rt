@@ -9,7 +9,7 @@ use mdbox_base::MapUid;
 
 /// Whether each record's count is at least the number of its listed messages.
 pub fn are_counted(map: &MapIndex, boxes: &[CheckedBox]) -> bool
-    ensures { MatchBool result (All (IsCountedIn boxes.now) map.now.records) (IsMiscountedIn map.now boxes.now) }
+    ensures { MatchBool result (All (IsCountedIn boxes.now) map.now.meaning.records) (IsMiscountedIn map.now.meaning boxes.now) }
 {
     for place in 0..map.rows() {
         let row = map.row_at(place).unwrap();
@@ -36,7 +36,7 @@ fn is_counted(boxes: &[CheckedBox], uid: MapUid, count: u16) -> bool
 
 /// The count less the messages that the mailbox lists with this map uid. None if and only if they are more.
 fn take_off(index: &BoxIndex, uid: MapUid, count: u16) -> Option<u16>
-    ensures { MatchOption result (count < listed_by uid.0 index.now) (λ rest. rest + listed_by uid.0 index.now ≡ count) }
+    ensures { MatchOption result (count < listed_by uid.0 index.now.meaning) (λ rest. rest + listed_by uid.0 index.now.meaning ≡ count) }
 {
     let mut left = count;
     for place in 0..index.length() {

@@ -19,11 +19,11 @@ pub fn first_dangling(
     index: &BoxIndex,
     read: &LogRead,
 ) -> Result<Option<u64>, NoMemory>
-    requires replayed { IsBoxReplay index.now read.now.entries }
+    requires replayed { IsBoxReplay index.now.meaning read.now.entries }
     requires places { read.now.places ≡ record_places read.now.entries }
     ensures { IfOk result (λ dangling. MatchOption dangling
-        (All (HasItsRecord map.now) index.now.rows)
-        (IsFirstDangling map.now index.now read.now.entries)) }
+        (All (HasItsRecord map.now.meaning) index.now.meaning.rows)
+        (IsFirstDangling map.now.meaning index.now.meaning read.now.entries)) }
 {
     if each_has_record(map, index) {
         return Ok(None);
@@ -38,7 +38,7 @@ pub fn first_dangling(
 
 /// Whether each listed message has a record of its GUID.
 fn each_has_record(map: &MapIndex, index: &BoxIndex) -> bool
-    ensures { IsTrue result ↔ All (HasItsRecord map.now) index.now.rows }
+    ensures { IsTrue result ↔ All (HasItsRecord map.now.meaning) index.now.meaning.rows }
 {
     for place in 0..index.length() {
         let row = index.row_at(place).unwrap();
@@ -51,7 +51,7 @@ fn each_has_record(map: &MapIndex, index: &BoxIndex) -> bool
 
 /// Whether a row has a record of its GUID.
 fn has_record(map: &MapIndex, row: &BoxRow) -> bool
-    ensures { IsTrue result ↔ HasItsRecord map.now (row_of row.now) }
+    ensures { IsTrue result ↔ HasItsRecord map.now.meaning (row_of row.now) }
 {
     match map.row(row.map_uid) {
         Some(record) => record.guid == row.guid,
@@ -61,7 +61,7 @@ fn has_record(map: &MapIndex, row: &BoxRow) -> bool
 
 /// Whether the text adds a listed message without a record of its GUID.
 fn adds_dangling(map: &MapIndex, index: &BoxIndex, text: &[u8]) -> Result<bool, NoMemory>
-    ensures { IfOk result (λ dangling. MatchBool dangling (AddsDangling map.now index.now text.now) (AddsNoDangling map.now index.now text.now)) }
+    ensures { IfOk result (λ dangling. MatchBool dangling (AddsDangling map.now.meaning index.now.meaning text.now) (AddsNoDangling map.now.meaning index.now.meaning text.now)) }
 {
     let Some(entry) = read_box_entry(text)? else {
         return Ok(false);
@@ -74,7 +74,7 @@ fn adds_dangling(map: &MapIndex, index: &BoxIndex, text: &[u8]) -> Result<bool, 
 
 /// Whether a message with this UID is listed and has no record of its GUID.
 fn lacks_record(map: &MapIndex, index: &BoxIndex, uid: Uid) -> bool
-    ensures { MatchBool result (LacksRecordAt map.now index.now uid.0) (HasRecordAt map.now index.now uid.0) }
+    ensures { MatchBool result (LacksRecordAt map.now.meaning index.now.meaning uid.0) (HasRecordAt map.now.meaning index.now.meaning uid.0) }
 {
     match index.find(uid) {
         Some(row) => !has_record(map, &row),

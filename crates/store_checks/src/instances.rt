@@ -41,8 +41,8 @@ pub fn check_instances<D: Disk>(
     disk: &mut D,
     map: &MapIndex,
 ) -> Result<(), CheckError>
-    ensures passed { OnOk result (IfTold (D.history disk.old) (λ now. All (IsThereWhole (files_of now)) (named_instances map.now))) }
-    ensures refused { IfErr result (IsInstanceCause map.now (D.history disk.old)) }
+    ensures passed { OnOk result (IfTold (D.history disk.old) (λ now. All (IsThereWhole (files_of now)) (named_instances map.now.meaning))) }
+    ensures refused { IfErr result (IsInstanceCause map.now.meaning (D.history disk.old)) }
     ensures idle { IsIdle (D.history disk.old) (D.history disk.new) }
     ensures fault { ReadFaultCounted (IsErrOf result CheckError.DiskFault) (D.faults disk.old) (D.faults disk.new) }
     ensures unfailed { (IsErrOf result CheckError.DiskFault → ⊥) → NoFault (D.faults disk.old) (D.faults disk.new) }
@@ -61,7 +61,7 @@ pub fn check_instances<D: Disk>(
 
 /// The instances that records name, in order.
 fn instances_of(alloc: Global, map: &MapIndex) -> Result<Vec<Instance>, NoMemory>
-    ensures same { IfOk result (λ instances. IsPermutation (instances_in map.now) instances.items) }
+    ensures same { IfOk result (λ instances. IsPermutation (instances_in map.now.meaning) instances.items) }
     ensures order { IfOk result (λ instances. AllPairs IsNamedNoLater instances.items) }
 {
     map.known_facts();

@@ -30,9 +30,9 @@ pub fn read_boxes<D: Disk>(
     id: StoreId,
     map: &MapIndex,
 ) -> Result<Seq<CheckedBox>, CheckError>
-    requires { map.now.store ≡ id.0 }
-    ensures read { IfOk result (λ boxes. (logs : List (List BoxEntry)) × AreRead id.0 map.now map.now.boxes boxes logs (D.history disk.old) (D.history disk.new)) }
-    ensures refused { IfErr result (IsBoxesCause map.now (D.history disk.old)) }
+    requires { map.now.meaning.store ≡ id.0 }
+    ensures read { IfOk result (λ boxes. (logs : List (List BoxEntry)) × AreRead id.0 map.now.meaning map.now.meaning.boxes boxes logs (D.history disk.old) (D.history disk.new)) }
+    ensures refused { IfErr result (IsBoxesCause map.now.meaning (D.history disk.old)) }
     ensures idle { IsIdle (D.history disk.old) (D.history disk.new) }
     ensures fault { ReadFaultCounted (IsErrOf result CheckError.DiskFault) (D.faults disk.old) (D.faults disk.new) }
     ensures unfailed { (IsErrOf result CheckError.DiskFault → ⊥) → NoFault (D.faults disk.old) (D.faults disk.new) }
@@ -53,9 +53,9 @@ fn read_box<D: Disk>(
     map: &MapIndex,
     at: BoxAt,
 ) -> Result<CheckedBox, CheckError>
-    requires { map.now.store ≡ id.0 }
-    ensures read { IfOk result (λ checked. (entries : List BoxEntry) × IsBoxRead id.0 map.now at checked entries (D.history disk.old) (D.history disk.new)) }
-    ensures refused { IfErr result (IsBoxCause map.now at (D.history disk.old)) }
+    requires { map.now.meaning.store ≡ id.0 }
+    ensures read { IfOk result (λ checked. (entries : List BoxEntry) × IsBoxRead id.0 map.now.meaning at checked entries (D.history disk.old) (D.history disk.new)) }
+    ensures refused { IfErr result (IsBoxCause map.now.meaning at (D.history disk.old)) }
     ensures idle { IsIdle (D.history disk.old) (D.history disk.new) }
     ensures fault { ReadFaultCounted (IsErrOf result CheckError.DiskFault) (D.faults disk.old) (D.faults disk.new) }
     ensures unfailed { (IsErrOf result CheckError.DiskFault → ⊥) → NoFault (D.faults disk.old) (D.faults disk.new) }

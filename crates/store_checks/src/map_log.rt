@@ -22,7 +22,7 @@ pub fn read_map<D: Disk>(
     id: StoreId,
     generation: u32,
 ) -> Result<(FoundLog, MapIndex), CheckError>
-    ensures read { IfOk result (λ found. (entries : List MapEntry) × IsMapRead id.0 generation found.0 found.1 entries (D.history disk.old) (D.history disk.new)) }
+    ensures read { IfOk result (λ found. (entries : List MapEntry) × IsMapRead id.0 generation found.0 found.1.meaning entries (D.history disk.old) (D.history disk.new)) }
     ensures refused { IfErr result (IsMapCause id.0 generation (D.history disk.old)) }
     ensures idle { IsIdle (D.history disk.old) (D.history disk.new) }
     ensures fault { ReadFaultCounted (IsErrOf result CheckError.DiskFault) (D.faults disk.old) (D.faults disk.new) }

@@ -36,8 +36,8 @@ impl Region {
 /// Looks whether each record's region lies in its storage file. The first that doesn't, by file number and offset, is
 /// damaged.
 pub fn check_regions<D: Disk>(alloc: Global, disk: &mut D, map: &MapIndex) -> Result<(), CheckError>
-    ensures passed { OnOk result (IfTold (D.history disk.old) (λ now. All (LiesInFile (files_of now)) map.now.records)) }
-    ensures refused { IfErr result (IsRegionCause map.now (D.history disk.old)) }
+    ensures passed { OnOk result (IfTold (D.history disk.old) (λ now. All (LiesInFile (files_of now)) map.now.meaning.records)) }
+    ensures refused { IfErr result (IsRegionCause map.now.meaning (D.history disk.old)) }
     ensures idle { IsIdle (D.history disk.old) (D.history disk.new) }
     ensures fault { ReadFaultCounted (IsErrOf result CheckError.DiskFault) (D.faults disk.old) (D.faults disk.new) }
     ensures unfailed { (IsErrOf result CheckError.DiskFault → ⊥) → NoFault (D.faults disk.old) (D.faults disk.new) }
@@ -56,7 +56,7 @@ pub fn check_regions<D: Disk>(alloc: Global, disk: &mut D, map: &MapIndex) -> Re
 
 /// The regions of the records, in order.
 fn regions_of(alloc: Global, map: &MapIndex) -> Result<Vec<Region>, NoMemory>
-    ensures same { IfOk result (λ regions. IsPermutation (regions_in map.now) regions.items) }
+    ensures same { IfOk result (λ regions. IsPermutation (regions_in map.now.meaning) regions.items) }
     ensures order { IfOk result (λ regions. AllPairs IsNoLater regions.items) }
 {
     let mut regions = Vec::new(alloc);

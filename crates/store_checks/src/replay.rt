@@ -58,9 +58,9 @@ impl Replay for RootReplay {
 }
 
 impl Replay for BoxIndex {
-    ghost is_replay = { IsBoxReplay };
+    ghost is_replay = { λ index. IsBoxReplay index.meaning };
 
-    ghost refuses = { RefusesBox };
+    ghost refuses = { λ index. RefusesBox index.meaning };
 
     ghost store = { λ _. [] };
 
@@ -77,11 +77,11 @@ impl Replay for BoxIndex {
 }
 
 impl Replay for MapIndex {
-    ghost is_replay = { IsMapReplay };
+    ghost is_replay = { λ map. IsMapReplay map.meaning };
 
-    ghost refuses = { RefusesMap };
+    ghost refuses = { λ map. RefusesMap map.meaning };
 
-    ghost store = { λ map. map.store };
+    ghost store = { λ map. map.meaning.store };
 
     fn replay_entry(&mut self, alloc: Global, text: &[u8]) -> Result<bool, NoMemory> {
         let Some(entry) = read_map_entry(alloc, text)? else {

@@ -48,14 +48,14 @@ pub count_whole : (guid : List ℕ) (rows : List LogRow) (i : ℕ) → i ≡ len
 count_whole guid rows i e = ap (λ (n : ℕ). count_by (λ (row : LogRow). bytes_eq row.guid guid) (take n rows)) e ∙ ap (count_by (λ (row : LogRow). bytes_eq row.guid guid)) (take-length rows)
 
 -- the sum over mailboxes is that over what their logs mean
-summed : (guid : List ℕ) (boxes : List OpenBox) → sum_by (λ b. count_by (λ row. bytes_eq row.guid guid) b.index.rows) boxes ≡ refs_in (indexes_of boxes) guid
+summed : (guid : List ℕ) (boxes : List OpenBox) → sum_by (λ b. count_by (λ row. bytes_eq row.guid guid) b.index.meaning.rows) boxes ≡ refs_in (indexes_of boxes) guid
 summed guid [] = refl
 summed guid (b ∷ bs) =
-    sum_by-cons (λ (b : OpenBox). count_by (λ (row : LogRow). bytes_eq row.guid guid) b.index.rows) b bs
-    ∙ ap (λ (n : ℕ). count_by (λ (row : LogRow). bytes_eq row.guid guid) b.index.rows + n) (summed guid bs)
-    ∙ sym (sum_by-cons (λ (m : BoxMeaning). count_by (λ (row : LogRow). bytes_eq row.guid guid) m.rows) b.index (indexes_of bs))
+    sum_by-cons (λ (b : OpenBox). count_by (λ (row : LogRow). bytes_eq row.guid guid) b.index.meaning.rows) b bs
+    ∙ ap (λ (n : ℕ). count_by (λ (row : LogRow). bytes_eq row.guid guid) b.index.meaning.rows + n) (summed guid bs)
+    ∙ sym (sum_by-cons (λ (m : BoxMeaning). count_by (λ (row : LogRow). bytes_eq row.guid guid) m.rows) b.index.meaning (indexes_of bs))
 
-pub summed_in : (guid : List ℕ) (bs cs ds : List OpenBox) (n : ℕ) → bs ≡ cs → ds ≡ bs → n ≡ sum_by (λ b. count_by (λ row. bytes_eq row.guid guid) b.index.rows) ds → n ≡ refs_in (indexes_of cs) guid
+pub summed_in : (guid : List ℕ) (bs cs ds : List OpenBox) (n : ℕ) → bs ≡ cs → ds ≡ bs → n ≡ sum_by (λ b. count_by (λ row. bytes_eq row.guid guid) b.index.meaning.rows) ds → n ≡ refs_in (indexes_of cs) guid
 summed_in guid bs cs ds n same held e = e ∙ summed guid ds ∙ ap (λ (xs : List OpenBox). refs_in (indexes_of xs) guid) (held ∙ same)
 
 -- counts cover what is listed, where nothing is due

@@ -1,4 +1,5 @@
 pub mod CountingLemmas
 pub mod DueLemmas
 pub mod LookupLemmas
+pub mod RoomLemmas
 pub mod ShownLemmas

@@ -6,6 +6,7 @@ use Rattle.std.specs.Option.{option_map}
 use Rattle.std.proofs.lemmas.Bool.{cond-true, cond-false, ne_eqb, eq-eqb}
 use Rattle.std.proofs.lemmas.List.Elements.{All-head, All-tail}
 use Rattle.mdbox_base.specs.declared.ids.BoxNo.{BoxNo}
+use Rattle.box_index.specs.State.{BoxState}
 use Rattle.model_octets.proofs.PairLemmas.{pairs_head, pairs_tail}
 use Rattle.model_meaning.specs.BoxMeaning.{BoxMeaning}
 use Rattle.model_meaning.specs.MapMeaning.{MapBox, MapMeaning}
@@ -14,20 +15,20 @@ use Rattle.store_core.specs.Value.{indexes_of}
 use Rattle.store_core.specs.Running.{AreBoxLogs}
 use Rattle.store_core.specs.declared.store.OpenBox.{OpenBox}
 
-through : (b : Bool) (x : OpenBox) (rest : Option OpenBox) → option_map (λ (o : OpenBox). o.index) (cond b (Some x) rest) ≡ cond b (Some x.index) (option_map (λ (o : OpenBox). o.index) rest)
+through : (b : Bool) (x : OpenBox) (rest : Option OpenBox) → option_map (λ (o : OpenBox). o.index.meaning) (cond b (Some x) rest) ≡ cond b (Some x.index.meaning) (option_map (λ (o : OpenBox). o.index.meaning) rest)
 through true x rest = refl
 through false x rest = refl
 
 -- the mailbox with this number, among those that are open
 pub by_number : (number : ℕ) (store : List ℕ) (mailboxes : List MapBox) (boxes : List OpenBox) → AreBoxLogs store mailboxes boxes
-    → option_map (λ b. b.index) (find (λ b. b.number.0 == number) boxes) ≡ meaning_numbered number mailboxes (indexes_of boxes)
+    → option_map (λ b. b.index.meaning) (find (λ b. b.number.0 == number) boxes) ≡ meaning_numbered number mailboxes (indexes_of boxes)
 by_number number store [] [] h = refl
 by_number number store [] (b ∷ bs) h = absurd h
 by_number number store (m ∷ ms) [] h = absurd h
 by_number number store (m ∷ ms) (b ∷ bs) h =
     through (b.number.0 == number) b (find (λ (b : OpenBox). b.number.0 == number) bs)
-    ∙ ap (λ (n : ℕ). cond (n == number) (Some b.index) (option_map (λ (o : OpenBox). o.index) (find (λ (b : OpenBox). b.number.0 == number) bs))) h.0
-    ∙ ap (cond (m.number == number) (Some b.index)) (by_number number store ms bs h.3)
+    ∙ ap (λ (n : ℕ). cond (n == number) (Some b.index.meaning) (option_map (λ (o : OpenBox). o.index.meaning) (find (λ (b : OpenBox). b.number.0 == number) bs))) h.0
+    ∙ ap (cond (m.number == number) (Some b.index.meaning)) (by_number number store ms bs h.3)
 
 -- no mailbox with this name
 pub none_named : (name : List ℕ) (mailboxes : List MapBox) (meanings : List BoxMeaning) → None ≡ find (λ box. bytes_eq box.name name) mailboxes → None ≡ meaning_named name mailboxes meanings
@@ -80,10 +81,15 @@ abbrev the_number : MapBox → BoxNo
 the_number b = record { 0 = b.number }
 
 -- the same in a store, whose fields are known under two names
-pub numbered_in : (number : ℕ) (store : List ℕ) (m n : MapMeaning) (bs cs ds : List OpenBox) (r : Option BoxMeaning) → AreBoxLogs store m.boxes bs → m ≡ n → bs ≡ cs → ds ≡ bs
-    → r ≡ option_map (λ b. b.index) (find (λ b. b.number.0 == number) ds) → r ≡ meaning_numbered number n.boxes (indexes_of cs)
+meant : (o : Option OpenBox) → option_map (λ i. i.meaning) (option_map (λ (b : OpenBox). b.index) o) ≡ option_map (λ b. b.index.meaning) o
+meant None = refl
+meant (Some b) = refl
+
+pub numbered_in : (number : ℕ) (store : List ℕ) (m n : MapMeaning) (bs cs ds : List OpenBox) (r : Option BoxState) → AreBoxLogs store m.boxes bs → m ≡ n → bs ≡ cs → ds ≡ bs
+    → r ≡ option_map (λ b. b.index) (find (λ b. b.number.0 == number) ds) → option_map (λ i. i.meaning) r ≡ meaning_numbered number n.boxes (indexes_of cs)
 numbered_in number store m n bs cs ds r logs same_map same_boxes held e =
-    e ∙ ap (λ (xs : List OpenBox). option_map (λ (b : OpenBox). b.index) (find (λ (b : OpenBox). b.number.0 == number) xs)) held
+    ap (option_map (λ (i : BoxState). i.meaning)) e ∙ meant (find (λ (b : OpenBox). b.number.0 == number) ds)
+    ∙ ap (λ (xs : List OpenBox). option_map (λ (b : OpenBox). b.index.meaning) (find (λ (b : OpenBox). b.number.0 == number) xs)) held
     ∙ by_number number store m.boxes bs logs
     ∙ ap (λ (k : MapMeaning). meaning_numbered number k.boxes (indexes_of bs)) same_map
     ∙ ap (λ (xs : List OpenBox). meaning_numbered number n.boxes (indexes_of xs)) same_boxes

@@ -1,5 +1,5 @@
 -- What is true of every open store.
-use Rattle.std.specs.Prelude.{◌≡◌, ◌≤◌, ◌+◌, ℕ, false, List, [], ◌∷◌, map, Option}
+use Rattle.std.specs.Prelude.{◌≡◌, ◌≤◌, ◌+◌, ℕ, false, List, [], ◌∷◌, map, Option, All}
 use Rattle.disk_model.specs.Disk.{History, IfTold}
 use Rattle.disk_model.specs.declared.name.FileName.TheVariants as file
 use Rattle.model_logs.specs.declared.log_head.LogKind.TheVariants as kind
@@ -14,7 +14,7 @@ use Rattle.model_store.specs.Settled.{files_of}
 use Rattle.model_store.specs.Opening.{Opens, listed_of}
 use Rattle.model_store.specs.GoodLogs.{AreGoodLogs}
 use Rattle.gate_log.specs.Log.{Reads}
-use Rattle.store_core.specs.Value.{StoreValue, indexes_of}
+use Rattle.store_core.specs.Value.{StoreValue, indexes_of, entry_room}
 use Rattle.store_core.specs.declared.store.OpenBox.{OpenBox}
 
 -- ---- the logs
@@ -49,6 +49,13 @@ abbrev pub CoverDues : List (List BoxEntry) → List MapRecord → List ℕ → 
 CoverDues logs [] [] = Unit {0}
 CoverDues logs (row ∷ rows) (due ∷ dues) = (listed_of logs row.uid + due ≤ row.count) × CoverDues logs rows dues
 CoverDues logs rows dues = ⊥
+
+-- ---- room
+
+-- The map log and the log of each mailbox have room for an entry of 64 octets.
+pub record HasRoom {D : Type 0} (store : StoreValue D) : Type 0 where
+  pub map_log : entry_room ≤ store.map_log.room
+  pub box_logs : All (λ open_box. entry_room ≤ open_box.log.room) store.boxes
 
 -- ---- the store
 

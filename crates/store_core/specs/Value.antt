@@ -1,5 +1,5 @@
 -- What a caller sees of an open store.
-use Rattle.std.specs.Prelude.{ℕ, Bool, false, List, map, Option}
+use Rattle.std.specs.Prelude.{ℕ, max, Bool, false, List, map, Option}
 use Rattle.std.specs.declared.alloc.Global.{Global}
 use Rattle.gate_log.specs.State.{LogState}
 use Rattle.mdbox_base.specs.declared.entries.Highest.{Highest}
@@ -28,26 +28,48 @@ pub record StoreValue (D : Type 0) : Type 0 where
 abbrev pub none_due : List MapRecord → List ℕ
 none_due records = map (λ row. 0) records
 
--- A store as it is opened: the numbers drawn are the map's highest, no task holds or owes anything, and it isn't stopped.
+-- A store as its logs were opened: the numbers drawn are the map's highest, no task holds or owes anything, and it isn't stopped.
 abbrev pub newly_open : {D : Type 0} → Global → D → OpenLogs → ℕ → StoreValue D
 newly_open alloc disk logs lanes = record {
   alloc = alloc;
   disk = disk;
   root_log = logs.root_log;
   map_log = logs.map_log;
-  map = logs.map;
+  map = logs.map.meaning;
   boxes = logs.boxes.items;
-  drawn = logs.map.highest;
-  dues = none_due logs.map.records;
+  drawn = logs.map.meaning.highest;
+  dues = none_due logs.map.meaning.records;
   lanes = lanes;
   stopped = false;
 }
+
+-- ---- room
+
+-- how many octets of a log's room an entry of 64 octets takes: its length and a gate have 5 more
+abbrev pub entry_room : ℕ
+entry_room = 69
+
+-- a log with room for such an entry at least, and a mailbox whose log has it
+abbrev pub roomy_log : LogState → LogState
+roomy_log log = record log { room = max log.room entry_room }
+
+abbrev pub roomy_box : OpenBox → OpenBox
+roomy_box open_box = record open_box { log = roomy_log open_box.log }
+
+-- the store with room for such an entry in the map log and in the log of each mailbox
+abbrev pub with_entry_room : {D : Type 0} → StoreValue D → StoreValue D
+with_entry_room store = record store { map_log = roomy_log store.map_log; boxes = map roomy_box store.boxes }
+
+-- For how many mailboxes and records the memory was taken that a store has from the beginning.
+pub record RoomValue : Type 0 where
+  pub boxes : ℕ
+  pub records : ℕ
 
 -- ---- look-ups
 
 -- what the logs of the mailboxes mean
 abbrev pub indexes_of : List OpenBox → List BoxMeaning
-indexes_of boxes = map (λ b. b.index) boxes
+indexes_of boxes = map (λ b. b.index.meaning) boxes
 
 -- what the log of the mailbox with this name means, or of the one with this number
 abbrev pub list_named : {D : Type 0} → StoreValue D → List ℕ → Option BoxMeaning

@@ -7,9 +7,10 @@ ghost use Rattle.model_appends.specs.Amounts.{IsAccounted};
 ghost use Rattle.model_meaning.specs.BoxMeaning.{box_meaning};
 ghost use Rattle.model_meaning.specs.MapMeaning.{count_of};
 ghost use Rattle.store_core.specs.Dues.{due_at, leak_at};
-ghost use Rattle.store_core.specs.Value.{indexes_of, newly_open, list_named, list_numbered, references_to};
-ghost use Rattle.store_core.specs.Running.{IsStore};
+ghost use Rattle.store_core.specs.Value.{indexes_of, newly_open, with_entry_room, list_named, list_numbered, references_to};
+ghost use Rattle.store_core.specs.Running.{HasRoom, IsStore};
 
+use crate::room::{StoreRoom, give_rooms};
 use box_index::{BoxIndex, BoxRow};
 use disk_model::Disk;
 use gate_log::GateLog;
@@ -48,37 +49,47 @@ pub struct Store<D: Disk> {
     map: MapIndex,
     boxes: Vec<OpenBox>,
     drawn: Highest,
+    /// What is due of each record, in the order of the map's records.
+    dues: Vec<u32>,
     lanes: u32,
     stopped: bool,
 }
 
 impl<D: Disk> Model for Store<D> {
     ghost use Rattle.std.specs.Prelude.{◌≡◌};
-    ghost use Rattle.store_core.specs.Value.{StoreValue, none_due};
-    ghost use Rattle.store_core.specs.Running.{IsStore};
+    ghost use Rattle.store_core.specs.Value.{StoreValue};
+    ghost use Rattle.store_core.specs.Running.{HasRoom, IsStore};
 
     ghost Value = { StoreValue D };
 
-    // No task holds or owes anything yet.
-    ghost view = { λ s. record { alloc = s.alloc; disk = s.disk; root_log = s.root_log; map_log = s.map_log; map = s.map; boxes = s.boxes.items; drawn = s.drawn; dues = none_due s.map.records; lanes = s.lanes; stopped = s.stopped } };
+    ghost view = { λ s. record { alloc = s.alloc; disk = s.disk; root_log = s.root_log; map_log = s.map_log; map = s.map.meaning; boxes = s.boxes.items; drawn = s.drawn; dues = s.dues.items; lanes = s.lanes; stopped = s.stopped } };
 
-    ghost invariant = { λ s. (s.id.0 ≡ s.map.store) × IsStore (D.history s.disk) (record { alloc = s.alloc; disk = s.disk; root_log = s.root_log; map_log = s.map_log; map = s.map; boxes = s.boxes.items; drawn = s.drawn; dues = none_due s.map.records; lanes = s.lanes; stopped = s.stopped }) };
+    ghost invariant = { λ s. (s.id.0 ≡ s.map.meaning.store) × IsStore (D.history s.disk) (record { alloc = s.alloc; disk = s.disk; root_log = s.root_log; map_log = s.map_log; map = s.map.meaning; boxes = s.boxes.items; drawn = s.drawn; dues = s.dues.items; lanes = s.lanes; stopped = s.stopped }) × HasRoom (record { alloc = s.alloc; disk = s.disk; root_log = s.root_log; map_log = s.map_log; map = s.map.meaning; boxes = s.boxes.items; drawn = s.drawn; dues = s.dues.items; lanes = s.lanes; stopped = s.stopped }) };
 }
 
 impl<D: Disk> Store<D> {
-    /// A store whose logs were opened, for so many lanes.
-    pub fn of(alloc: Global, disk: D, logs: OpenLogs, lanes: u32) -> Store<D>
-        requires id { logs.map.store ≡ logs.id.0 }
+    /// A store whose logs were opened, for so many lanes, with the memory that was taken for it. It takes no more.
+    pub fn of(alloc: Global, disk: D, logs: OpenLogs, room: StoreRoom, lanes: u32) -> Store<D>
+        requires id { logs.map.meaning.store ≡ logs.id.0 }
         requires store { IsStore (D.history disk) (newly_open alloc disk logs lanes) }
-        ensures { result ≡ newly_open alloc disk logs lanes }
+        requires room { (room.boxes ≡ length logs.boxes.items) × (room.records ≡ length logs.map.meaning.records) }
+        ensures store { result ≡ with_entry_room (newly_open alloc disk logs lanes) }
+        ensures indexes { indexes_of result.boxes ≡ indexes_of logs.boxes.items }
     {
         let OpenLogs {
             id,
             root_log,
-            map_log,
+            mut map_log,
             map,
-            boxes,
+            mut boxes,
         } = logs;
+        let StoreRoom {
+            map_log: map_room,
+            box_logs: box_rooms,
+            dues,
+        } = room;
+        map_log.take_room(map_room);
+        give_rooms(&mut boxes, box_rooms);
         let drawn = map.highest();
         Store {
             alloc,
@@ -89,6 +100,7 @@ impl<D: Disk> Store<D> {
             map,
             boxes,
             drawn,
+            dues,
             lanes,
             stopped: false,
         }
@@ -96,7 +108,8 @@ impl<D: Disk> Store<D> {
 
     /// What is true of every open store.
     pub fn facts(&self)
-        ensures { IsStore (D.history self.now.disk) self.now }
+        ensures store { IsStore (D.history self.now.disk) self.now }
+        ensures room { HasRoom self.now }
     {
         let _ = &self.id;
     }
@@ -124,21 +137,21 @@ impl<D: Disk> Store<D> {
 
     /// What the map log means.
     pub fn map(&self) -> &MapIndex
-        ensures { result.now ≡ self.now.map }
+        ensures { result.now.meaning ≡ self.now.map }
     {
         &self.map
     }
 
     /// What the log of the mailbox with this number means. None if and only if the map has no such mailbox.
     pub fn mailbox(&self, number: BoxNo) -> Option<&BoxIndex>
-        ensures { option_copied result ≡ list_numbered self.now number.0 }
+        ensures { option_map (λ index. index.meaning) (option_copied result) ≡ list_numbered self.now number.0 }
     {
         index_of(&self.boxes, number)
     }
 
     /// What the log of the mailbox with this name means. None if and only if no mailbox has the name.
     pub fn list_of(&self, name: &Name) -> Option<&BoxIndex>
-        ensures { option_copied result ≡ list_named self.now name.now }
+        ensures { option_map (λ index. index.meaning) (option_copied result) ≡ list_named self.now name.now }
     {
         self.map.known_facts();
         let number = self.map.box_named(name)?;
@@ -187,6 +200,7 @@ impl<D: Disk> Store<D> {
             map: _map,
             boxes: _boxes,
             drawn: _,
+            dues: _dues,
             lanes: _,
             stopped: _,
         } = self;
@@ -211,7 +225,7 @@ fn with_number(boxes: &[OpenBox], number: BoxNo) -> Option<&OpenBox>
 /// How many messages of mailboxes have this GUID.
 fn listed_in_all(boxes: &[OpenBox], guid: Guid) -> u64
     requires { length boxes.now ≤ 1024 }
-    ensures { result ≡ sum_by (λ b. count_by (λ row. bytes_eq row.guid guid.0) b.index.rows) boxes.now }
+    ensures { result ≡ sum_by (λ b. count_by (λ row. bytes_eq row.guid guid.0) b.index.meaning.rows) boxes.now }
 {
     let mut count = 0;
     for open_box in boxes {
@@ -222,7 +236,7 @@ fn listed_in_all(boxes: &[OpenBox], guid: Guid) -> u64
 
 /// How many messages of a mailbox have this GUID.
 fn listed_in(index: &BoxIndex, guid: Guid) -> u64
-    ensures count { result ≡ count_by (λ row. bytes_eq row.guid guid.0) index.now.rows }
+    ensures count { result ≡ count_by (λ row. bytes_eq row.guid guid.0) index.now.meaning.rows }
     ensures short { result < 2 ^ 32 }
 {
     let mut count = 0;

@@ -18,12 +18,12 @@ use mdbox_base::FileNo;
 /// Cuts each storage file that isn't sealed and is longer than the end of its last region to that end, in order of number,
 /// and syncs it.
 pub fn cut_files<D: Disk>(disk: &mut D, map: &MapIndex) -> Result<(), DiskFault>
-    ensures images { (generation : ℕ) → ImagesCarry generation map.now (D.history disk.old) (D.history disk.new) }
-    ensures keeps { NoFailedChange (IsErr result) (D.faults disk.old) (D.faults disk.new) → (generation : ℕ) → KeepsStore generation map.now (D.history disk.old) (D.history disk.new) }
+    ensures images { (generation : ℕ) → ImagesCarry generation map.now.meaning (D.history disk.old) (D.history disk.new) }
+    ensures keeps { NoFailedChange (IsErr result) (D.faults disk.old) (D.faults disk.new) → (generation : ℕ) → KeepsStore generation map.now.meaning (D.history disk.old) (D.history disk.new) }
     ensures logs { OnOk result (SameWhere is_log (D.history disk.old) (D.history disk.new)) }
-    ensures mail { OnOk result (AreFitted map.now (D.history disk.old) (D.history disk.new)) }
+    ensures mail { OnOk result (AreFitted map.now.meaning (D.history disk.old) (D.history disk.new)) }
     ensures there { OnOk result (SameThere (D.history disk.old) (D.history disk.new)) }
-    ensures cut { OnOk result (IfTold (D.history disk.new) (λ now. (name : FileName) → IsThere (now name) → EndsByLastRegion map.now name (now name))) }
+    ensures cut { OnOk result (IfTold (D.history disk.new) (λ now. (name : FileName) → IsThere (now name) → EndsByLastRegion map.now.meaning name (now name))) }
     ensures fault { AnyFaultCounted (IsErr result) (D.faults disk.old) (D.faults disk.new) }
     ensures unfailed { OnOk result (NoFault (D.faults disk.old) (D.faults disk.new)) }
 {
@@ -38,13 +38,13 @@ pub fn cut_files<D: Disk>(disk: &mut D, map: &MapIndex) -> Result<(), DiskFault>
 
 /// Cuts the file of this name, if it is a storage file that isn't sealed and is longer than the end of its last region.
 fn fit_file<D: Disk>(disk: &mut D, name: FileName, map: &MapIndex) -> Result<(), DiskFault>
-    ensures images { (generation : ℕ) → ImagesCarry generation map.now (D.history disk.old) (D.history disk.new) }
-    ensures keeps { NoFailedChange (IsErr result) (D.faults disk.old) (D.faults disk.new) → (generation : ℕ) → KeepsStore generation map.now (D.history disk.old) (D.history disk.new) }
+    ensures images { (generation : ℕ) → ImagesCarry generation map.now.meaning (D.history disk.old) (D.history disk.new) }
+    ensures keeps { NoFailedChange (IsErr result) (D.faults disk.old) (D.faults disk.new) → (generation : ℕ) → KeepsStore generation map.now.meaning (D.history disk.old) (D.history disk.new) }
     ensures logs { OnOk result (SameWhere is_log (D.history disk.old) (D.history disk.new)) }
-    ensures mail { OnOk result (AreFitted map.now (D.history disk.old) (D.history disk.new)) }
+    ensures mail { OnOk result (AreFitted map.now.meaning (D.history disk.old) (D.history disk.new)) }
     ensures there { OnOk result (SameThere (D.history disk.old) (D.history disk.new)) }
     ensures others { OnOk result (SameButFor name (D.history disk.old) (D.history disk.new)) }
-    ensures cut { OnOk result (IfTold (D.history disk.new) (λ now. IsThere (now name) → EndsByLastRegion map.now name (now name))) }
+    ensures cut { OnOk result (IfTold (D.history disk.new) (λ now. IsThere (now name) → EndsByLastRegion map.now.meaning name (now name))) }
     ensures fault { AnyFaultCounted (IsErr result) (D.faults disk.old) (D.faults disk.new) }
     ensures unfailed { OnOk result (NoFault (D.faults disk.old) (D.faults disk.new)) }
 {

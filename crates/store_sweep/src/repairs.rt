@@ -22,13 +22,13 @@ pub fn repair_boxes<D: Disk>(
     map: &MapIndex,
     opened: &mut Vec<OpenBox>,
 ) -> Result<(), DiskFault>
-    requires logs { AreLogsOfBoxes map.now (found_logs found.items) }
+    requires logs { AreLogsOfBoxes map.now.meaning (found_logs found.items) }
     requires stand { IfTold (D.history disk.old) (λ now. All (StandsFound now) (found_logs found.items)) }
     requires empty { (opened.old.items ≡ []) × (vec_len opened.old ≡ 0) }
     requires room { (vec_len found ≡ length found.items) × (vec_len found ≤ vec_capacity opened.old) }
-    ensures images { (generation : ℕ) → ImagesCarry generation map.now (D.history disk.old) (D.history disk.new) }
-    ensures keeps { OnOk result ((generation : ℕ) → KeepsStore generation map.now (D.history disk.old) (D.history disk.new)) }
-    ensures indexes { OnOk result (HaveIndexes map.now found.items opened.new.items) }
+    ensures images { (generation : ℕ) → ImagesCarry generation map.now.meaning (D.history disk.old) (D.history disk.new) }
+    ensures keeps { OnOk result ((generation : ℕ) → KeepsStore generation map.now.meaning (D.history disk.old) (D.history disk.new)) }
+    ensures indexes { OnOk result (HaveIndexes map.now.meaning found.items opened.new.items) }
     ensures opened { OnOk result (AllZip (IsRepaired (D.history disk.old) (D.history disk.new)) (found_logs found.items) (opened_logs opened.new.items)) }
     ensures there { OnOk result (SameThere (D.history disk.old) (D.history disk.new)) }
     ensures others { OnOk result (SameWhere (is_outside (found_logs found.items)) (D.history disk.old) (D.history disk.new)) }

@@ -18,11 +18,11 @@ pub fn remove_strays<D: Disk>(
     generation: u32,
     map: &MapIndex,
 ) -> Result<bool, DiskFault>
-    ensures images { ImagesCarry generation map.now (D.history disk.old) (D.history disk.new) }
-    ensures keeps { NoFailedChange (IsErr result) (D.faults disk.old) (D.faults disk.new) → KeepsStore generation map.now (D.history disk.old) (D.history disk.new) }
-    ensures same { OnOk result (SameWhere (is_wanted generation map.now) (D.history disk.old) (D.history disk.new)) }
+    ensures images { ImagesCarry generation map.now.meaning (D.history disk.old) (D.history disk.new) }
+    ensures keeps { NoFailedChange (IsErr result) (D.faults disk.old) (D.faults disk.new) → KeepsStore generation map.now.meaning (D.history disk.old) (D.history disk.new) }
+    ensures same { OnOk result (SameWhere (is_wanted generation map.now.meaning) (D.history disk.old) (D.history disk.new)) }
     ensures none { IfOk result (λ removed. removed ≡ false → SameState (D.history disk.old) (D.history disk.new)) }
-    ensures gone { OnOk result (IfTold (D.history disk.new) (λ now. (name : FileName) → IsThere (now name) → is_wanted generation map.now name ≡ true)) }
+    ensures gone { OnOk result (IfTold (D.history disk.new) (λ now. (name : FileName) → IsThere (now name) → is_wanted generation map.now.meaning name ≡ true)) }
     ensures fault { AnyFaultCounted (IsErr result) (D.faults disk.old) (D.faults disk.new) }
     ensures unfailed { OnOk result (NoFault (D.faults disk.old) (D.faults disk.new)) }
 {
@@ -43,11 +43,11 @@ fn remove_stray<D: Disk>(
     generation: u32,
     map: &MapIndex,
 ) -> Result<bool, DiskFault>
-    ensures images { ImagesCarry generation map.now (D.history disk.old) (D.history disk.new) }
-    ensures same { OnOk result (SameWhere (is_wanted generation map.now) (D.history disk.old) (D.history disk.new)) }
+    ensures images { ImagesCarry generation map.now.meaning (D.history disk.old) (D.history disk.new) }
+    ensures same { OnOk result (SameWhere (is_wanted generation map.now.meaning) (D.history disk.old) (D.history disk.new)) }
     ensures others { OnOk result (SameButFor name (D.history disk.old) (D.history disk.new)) }
     ensures none { IfOk result (λ removed. removed ≡ false → SameState (D.history disk.old) (D.history disk.new)) }
-    ensures gone { OnOk result (IfTold (D.history disk.new) (λ now. IsThere (now name) → is_wanted generation map.now name ≡ true)) }
+    ensures gone { OnOk result (IfTold (D.history disk.new) (λ now. IsThere (now name) → is_wanted generation map.now.meaning name ≡ true)) }
     ensures fault { ChangeFaultCounted (IsErr result) (D.faults disk.old) (D.faults disk.new) }
     ensures unfailed { OnOk result (NoFault (D.faults disk.old) (D.faults disk.new)) }
 {

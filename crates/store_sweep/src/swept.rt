@@ -28,14 +28,14 @@ use store_core::{OpenBox, OpenLogs};
 /// Removes the files that the store doesn't need, cuts storage files behind their last regions, and syncs names where a
 /// file was removed.
 fn clear<D: Disk>(disk: &mut D, generation: u32, map: &MapIndex) -> Result<(), DiskFault>
-    ensures images { ImagesCarry generation map.now (D.history disk.old) (D.history disk.new) }
-    ensures keeps { NoFailedChange (IsErr result) (D.faults disk.old) (D.faults disk.new) → KeepsStore generation map.now (D.history disk.old) (D.history disk.new) }
-    ensures logs { OnOk result ((name : FileName) → is_log name ≡ true → is_wanted generation map.now name ≡ true → LogStays name (D.history disk.old) (D.history disk.new)) }
-    ensures mail { OnOk result (AreFitted map.now (D.history disk.old) (D.history disk.new)) }
-    ensures kept { OnOk result (KeepsWanted generation map.now (D.history disk.old) (D.history disk.new)) }
-    ensures names { OnOk result (NamesSynced generation map.now (D.history disk.old) (D.history disk.new)) }
-    ensures gone { OnOk result (IfTold (D.history disk.new) (λ now. (name : FileName) → IsThere (now name) → is_wanted generation map.now name ≡ true)) }
-    ensures cut { OnOk result (IfTold (D.history disk.new) (λ now. (name : FileName) → IsThere (now name) → EndsByLastRegion map.now name (now name))) }
+    ensures images { ImagesCarry generation map.now.meaning (D.history disk.old) (D.history disk.new) }
+    ensures keeps { NoFailedChange (IsErr result) (D.faults disk.old) (D.faults disk.new) → KeepsStore generation map.now.meaning (D.history disk.old) (D.history disk.new) }
+    ensures logs { OnOk result ((name : FileName) → is_log name ≡ true → is_wanted generation map.now.meaning name ≡ true → LogStays name (D.history disk.old) (D.history disk.new)) }
+    ensures mail { OnOk result (AreFitted map.now.meaning (D.history disk.old) (D.history disk.new)) }
+    ensures kept { OnOk result (KeepsWanted generation map.now.meaning (D.history disk.old) (D.history disk.new)) }
+    ensures names { OnOk result (NamesSynced generation map.now.meaning (D.history disk.old) (D.history disk.new)) }
+    ensures gone { OnOk result (IfTold (D.history disk.new) (λ now. (name : FileName) → IsThere (now name) → is_wanted generation map.now.meaning name ≡ true)) }
+    ensures cut { OnOk result (IfTold (D.history disk.new) (λ now. (name : FileName) → IsThere (now name) → EndsByLastRegion map.now.meaning name (now name))) }
     ensures fault { AnyFaultCounted (IsErr result) (D.faults disk.old) (D.faults disk.new) }
     ensures unfailed { OnOk result (NoFault (D.faults disk.old) (D.faults disk.new)) }
 {
@@ -61,13 +61,13 @@ fn repair_logs<D: Disk>(
 ) -> Result<(GateLog, GateLog), DiskFault>
     requires root { (root_log.name ≡ file.Root) × IfTold (D.history disk.old) (λ now. StandsFound now root_log) }
     requires map_log { ((generation : ℕ) × (map_log.name ≡ file.Map generation)) × IfTold (D.history disk.old) (λ now. StandsFound now map_log) }
-    requires box_logs { AreLogsOfBoxes map.now (found_logs boxes.items) }
+    requires box_logs { AreLogsOfBoxes map.now.meaning (found_logs boxes.items) }
     requires box_logs_stand { IfTold (D.history disk.old) (λ now. All (StandsFound now) (found_logs boxes.items)) }
     requires empty { (opened.old.items ≡ []) × (vec_len opened.old ≡ 0) }
     requires room { (vec_len boxes ≡ length boxes.items) × (vec_len boxes ≤ vec_capacity opened.old) }
-    ensures indexes { OnOk result (HaveIndexes map.now boxes.items opened.new.items) }
-    ensures images { (generation : ℕ) → map_log.name ≡ file.Map generation → ImagesCarry generation map.now (D.history disk.old) (D.history disk.new) }
-    ensures keeps { OnOk result ((generation : ℕ) → map_log.name ≡ file.Map generation → KeepsStore generation map.now (D.history disk.old) (D.history disk.new)) }
+    ensures indexes { OnOk result (HaveIndexes map.now.meaning boxes.items opened.new.items) }
+    ensures images { (generation : ℕ) → map_log.name ≡ file.Map generation → ImagesCarry generation map.now.meaning (D.history disk.old) (D.history disk.new) }
+    ensures keeps { OnOk result ((generation : ℕ) → map_log.name ≡ file.Map generation → KeepsStore generation map.now.meaning (D.history disk.old) (D.history disk.new)) }
     ensures there { OnOk result (SameThere (D.history disk.old) (D.history disk.new)) }
     ensures others { OnOk result (SameWhere (is_outside (root_log ∷ map_log ∷ found_logs boxes.items)) (D.history disk.old) (D.history disk.new)) }
     ensures root_log { IfOk result (λ logs. IsRepaired (D.history disk.old) (D.history disk.new) root_log logs.0) }
@@ -92,10 +92,10 @@ pub fn sweep<D: Disk>(
     checked: Checked,
     room: Vec<OpenBox>,
 ) -> Result<OpenLogs, DiskFault>
-    requires opened { IfTold (D.history disk.old) (OpensWith checked.generation checked.map) }
+    requires opened { IfTold (D.history disk.old) (OpensWith checked.generation checked.map.meaning) }
     requires root { (checked.root_log.name ≡ file.Root) × IfTold (D.history disk.old) (λ now. StandsFound now checked.root_log) }
     requires map_log { (checked.map_log.name ≡ file.Map checked.generation) × IfTold (D.history disk.old) (λ now. StandsFound now checked.map_log) }
-    requires box_logs { AreLogsOfBoxes checked.map (found_logs checked.boxes) }
+    requires box_logs { AreLogsOfBoxes checked.map.meaning (found_logs checked.boxes) }
     requires box_logs_stand { IfTold (D.history disk.old) (λ now. All (StandsFound now) (found_logs checked.boxes)) }
     requires room { (room.items ≡ []) × (vec_len room ≡ 0) × (length checked.boxes ≤ vec_capacity room) }
 
@@ -105,14 +105,14 @@ pub fn sweep<D: Disk>(
     // Whatever is answered, where no change failed a settled disk is settled for the same lists again, and of any disk what the
     // store reads is carried over.
     ensures settled_again { NoFailedChange (IsErr result) (D.faults disk.old) (D.faults disk.new) → (lists : Lists) → IsSettledFor lists (D.history disk.old) → IsSettledFor lists (D.history disk.new) }
-    ensures carried { NoFailedChange (IsErr result) (D.faults disk.old) (D.faults disk.new) → FilesCarry checked.generation checked.map (D.history disk.old) (D.history disk.new) }
+    ensures carried { NoFailedChange (IsErr result) (D.faults disk.old) (D.faults disk.new) → FilesCarry checked.generation checked.map.meaning (D.history disk.old) (D.history disk.new) }
 
     // After Ok the disk is swept, and each log is the one that was found, with its end repaired.
-    ensures swept { OnOk result (IsSwept checked.generation checked.map (D.history disk.old) (D.history disk.new)) }
+    ensures swept { OnOk result (IsSwept checked.generation checked.map.meaning (D.history disk.old) (D.history disk.new)) }
     ensures root_log { IfOk result (λ logs. IsOpened (D.history disk.old) (D.history disk.new) checked.root_log logs.root_log) }
     ensures map_log { IfOk result (λ logs. IsOpened (D.history disk.old) (D.history disk.new) checked.map_log logs.map_log) }
     ensures box_logs { IfOk result (λ logs. AllZip (IsOpened (D.history disk.old) (D.history disk.new)) (found_logs checked.boxes) (opened_logs logs.boxes.items)) }
-    ensures same { IfOk result (λ logs. (logs.id ≡ checked.id) × (logs.map ≡ checked.map) × HaveIndexes checked.map checked.boxes logs.boxes.items) }
+    ensures same { IfOk result (λ logs. (logs.id ≡ checked.id) × (logs.map ≡ checked.map) × HaveIndexes checked.map.meaning checked.boxes logs.boxes.items) }
 
     ensures fault { AnyFaultCounted (IsErr result) (D.faults disk.old) (D.faults disk.new) }
     ensures unfailed { OnOk result (NoFault (D.faults disk.old) (D.faults disk.new)) }

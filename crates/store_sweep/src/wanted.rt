@@ -9,7 +9,7 @@ use mdbox_base::{FileNo, Hash, InstId};
 
 /// Whether the store needs the file, or it is sealed. The generation is that of the map log in force.
 pub fn is_wanted(name: FileName, generation: u32, map: &MapIndex) -> bool
-    ensures { result ≡ is_wanted generation map.now name }
+    ensures { result ≡ is_wanted generation map.now.meaning name }
 {
     match name {
         FileName::Root => true,
@@ -22,7 +22,7 @@ pub fn is_wanted(name: FileName, generation: u32, map: &MapIndex) -> bool
 
 /// Whether a mailbox of the map has this log.
 fn has_box(map: &MapIndex, number: u32, generation: u32) -> bool
-    ensures { result ≡ has_box map.now number generation }
+    ensures { result ≡ has_box map.now.meaning number generation }
 {
     for place in 0..map.boxes() {
         if has_log(map.box_at(place), number, generation) {
@@ -43,7 +43,7 @@ fn has_log(mailbox: Option<BoxAt>, number: u32, generation: u32) -> bool
 
 /// Whether a record's region lies in this storage file.
 fn has_region(map: &MapIndex, number: u32) -> bool
-    ensures { result ≡ has_region map.now number }
+    ensures { result ≡ has_region map.now.meaning number }
 {
     for place in 0..map.rows() {
         if lies_in(map.row_at(place), number) {
@@ -64,14 +64,14 @@ fn lies_in(row: Option<MapRow>, number: u32) -> bool
 
 /// Whether a record names the instance of this hash and id.
 fn has_instance(map: &MapIndex, hash: Hash, id: InstId) -> bool
-    ensures { result ≡ has_instance map.now hash.0 id.0 }
+    ensures { result ≡ has_instance map.now.meaning hash.0 id.0 }
 {
     map.names_file(hash, id)
 }
 
 /// Where the last region of a storage file ends, or 0.
 pub fn end_of(map: &MapIndex, number: u32) -> u64
-    ensures { result ≡ end_of map.now number }
+    ensures { result ≡ end_of map.now.meaning number }
 {
     let mut end = 0;
     for place in 0..map.rows() {

@@ -22,7 +22,7 @@ const LAST_RAISED: u16 = 65_534;
 impl MapIndex {
     /// Whether an entry fits behind those so far.
     pub fn fits(&self, entry: &MapEntry) -> bool
-        ensures { IsTrue result ↔ MapFits self.now entry.now }
+        ensures { IsTrue result ↔ MapFits self.now.meaning entry.now }
     {
         match entry {
             MapEntry::H(highest) => self.can_raise(highest),
@@ -64,7 +64,7 @@ impl MapIndex {
     }
 
     fn can_raise(&self, highest: &Highest) -> bool
-        ensures { IsTrue result ↔ (IsRaised self.now.highest.file highest.now.file × IsRaised self.now.highest.map highest.now.map × IsRaised self.now.highest.instance highest.now.instance × IsRaised self.now.highest.mailbox highest.now.mailbox) }
+        ensures { IsTrue result ↔ (IsRaised self.now.meaning.highest.file highest.now.file × IsRaised self.now.meaning.highest.map highest.now.map × IsRaised self.now.meaning.highest.instance highest.now.instance × IsRaised self.now.meaning.highest.mailbox highest.now.mailbox) }
     {
         is_raised(self.most.file, highest.file)
             && is_raised(self.most.map, highest.map)
@@ -73,7 +73,7 @@ impl MapIndex {
     }
 
     fn can_make(&self, number: BoxNo, generation: u32, name: &Name) -> bool
-        ensures { IsTrue result ↔ FitsMade self.now number.0 generation name.now }
+        ensures { IsTrue result ↔ FitsMade self.now.meaning number.0 generation name.now }
     {
         is_number(number.0)
             && self.most.mailbox < number.0
@@ -83,7 +83,7 @@ impl MapIndex {
     }
 
     fn can_renew(&self, number: BoxNo, generation: u32) -> bool
-        ensures { IsTrue result ↔ (IsNumber number.0 × IsNumber generation × ((box : MapBox) × (box_at self.now number.0 ≡ Some box) × (box.generation < generation))) }
+        ensures { IsTrue result ↔ (IsNumber number.0 × IsNumber generation × ((box : MapBox) × (box_at self.now.meaning number.0 ≡ Some box) × (box.generation < generation))) }
     {
         is_number(number.0)
             && is_number(generation)
@@ -94,13 +94,13 @@ impl MapIndex {
     }
 
     fn has_room(&self, file: FileNo, offset: u32, size: u32) -> bool
-        ensures { IsTrue result ↔ FitsRegion self.now file.0 offset size }
+        ensures { IsTrue result ↔ FitsRegion self.now.meaning file.0 offset size }
     {
         is_number(file.0) && size >= 1 && ends(offset, size) && self.is_free(file.0, offset, size)
     }
 
     fn can_count_up(&self, uid: MapUid) -> bool
-        ensures { IsTrue result ↔ HasRecord self.now uid.0 (λ row. (1 ≤ row.count) × (row.count ≤ 65534)) }
+        ensures { IsTrue result ↔ HasRecord self.now.meaning uid.0 (λ row. (1 ≤ row.count) × (row.count ≤ 65534)) }
     {
         match self.find(uid) {
             Some(record) => 1 <= record.row.count && record.row.count <= LAST_RAISED,
@@ -110,33 +110,33 @@ impl MapIndex {
 
     #[tactic(auto, unfolding(crate::specs::Has::HasCount))]
     fn can_count_down(&self, uids: &[MapUid]) -> bool
-        ensures { IsTrue result ↔ (IsStrictlyIncreasing (map (λ u. u.0) uids.now) × All (λ u. HasRecord self.now u.0 (λ row. 1 ≤ row.count)) uids.now) }
+        ensures { IsTrue result ↔ (IsStrictlyIncreasing (map (λ u. u.0) uids.now) × All (λ u. HasRecord self.now.meaning u.0 (λ row. 1 ≤ row.count)) uids.now) }
     {
         rise(uids) && self.are_counted(uids)
     }
 
     fn are_counted(&self, uids: &[MapUid]) -> bool
-        ensures { IsTrue result ↔ All (λ u. HasCount self.now u.0) uids.now }
+        ensures { IsTrue result ↔ All (λ u. HasCount self.now.meaning u.0) uids.now }
     {
         uids.iter().all(|uid| self.is_counted(*uid))
     }
 
     fn are_known(&self, counts: &[MapCount]) -> bool
-        ensures { IsTrue result ↔ All (λ c. HasRow self.now c.uid.0) counts.now }
+        ensures { IsTrue result ↔ All (λ c. HasRow self.now.meaning c.uid.0) counts.now }
     {
         counts.iter().all(|given| self.is_known(given.uid))
     }
 
     #[tactic(auto, unfolding(crate::specs::Has::HasRow))]
     fn is_known(&self, uid: MapUid) -> bool
-        ensures { IsTrue result ↔ HasRow self.now uid.0 }
+        ensures { IsTrue result ↔ HasRow self.now.meaning uid.0 }
     {
         self.find(uid).is_some()
     }
 
     #[tactic(auto, unfolding(crate::specs::Has::HasCount))]
     fn is_counted(&self, uid: MapUid) -> bool
-        ensures { IsTrue result ↔ HasCount self.now uid.0 }
+        ensures { IsTrue result ↔ HasCount self.now.meaning uid.0 }
     {
         match self.find(uid) {
             Some(record) => 1 <= record.row.count,
@@ -146,53 +146,53 @@ impl MapIndex {
 
     #[tactic(auto, unfolding(crate::specs::Has::HasRow))]
     fn can_count(&self, counts: &[MapCount]) -> bool
-        ensures { IsTrue result ↔ (IsStrictlyIncreasing (map (λ c. c.uid.0) counts.now) × All (λ c. IsKnown self.now c.uid.0) counts.now) }
+        ensures { IsTrue result ↔ (IsStrictlyIncreasing (map (λ c. c.uid.0) counts.now) × All (λ c. IsKnown self.now.meaning c.uid.0) counts.now) }
     {
         rise(counts) && self.are_known(counts)
     }
 
     /// Whether no region of this file overlaps these octets.
     pub fn is_free(&self, file: u32, offset: u32, size: u32) -> bool
-        ensures { IsTrue result ↔ IsFree self.now file offset size }
+        ensures { IsTrue result ↔ IsFree self.now.meaning file offset size }
     {
         is_free(&self.records, file, offset, size)
     }
 
     /// Whether no record has had the map uid, and none has the GUID.
     fn is_new(&self, uid: MapUid, guid: Guid) -> bool
-        ensures { IsTrue result ↔ (IsNumber uid.0 × (self.now.highest.map < uid.0) × All (λ row. row.guid ≢ guid.0) self.now.records) }
+        ensures { IsTrue result ↔ (IsNumber uid.0 × (self.now.meaning.highest.map < uid.0) × All (λ row. row.guid ≢ guid.0) self.now.meaning.records) }
     {
         self.is_new_uid(uid) && self.is_new_guid(guid)
     }
 
     fn is_new_uid(&self, uid: MapUid) -> bool
-        ensures { IsTrue result ↔ (IsNumber uid.0 × (self.now.highest.map < uid.0)) }
+        ensures { IsTrue result ↔ (IsNumber uid.0 × (self.now.meaning.highest.map < uid.0)) }
     {
         is_number(uid.0) && self.most.map < uid.0
     }
 
     /// Whether a record may name these instances.
     fn can_name(&self, instances: &[InstRow]) -> bool
-        ensures { IsTrue result ↔ (All (λ row. All (λ i. All (AgreesOn i) row.instances) instances.now) self.now.records × AllPairs AgreesOn instances.now) }
+        ensures { IsTrue result ↔ (All (λ row. All (λ i. All (AgreesOn i) row.instances) instances.now) self.now.meaning.records × AllPairs AgreesOn instances.now) }
     {
         self.agrees(instances) && agree_among(instances)
     }
 
     fn is_new_guid(&self, guid: Guid) -> bool
-        ensures { IsTrue result ↔ All (λ row. row.guid ≢ guid.0) self.now.records }
+        ensures { IsTrue result ↔ All (λ row. row.guid ≢ guid.0) self.now.meaning.records }
     {
         is_new_guid(&self.records, guid)
     }
 
     fn is_new_name(&self, name: &Name) -> bool
-        ensures { IsTrue result ↔ All (λ box. box.name ≢ name.now) self.now.boxes }
+        ensures { IsTrue result ↔ All (λ box. box.name ≢ name.now) self.now.meaning.boxes }
     {
         is_new_name(&self.boxes, name.as_octets())
     }
 
     /// Whether these instances have the same hash and size wherever records name them.
     fn agrees(&self, instances: &[InstRow]) -> bool
-        ensures { IsTrue result ↔ All (λ row. All (λ i. All (AgreesOn i) row.instances) instances.now) self.now.records }
+        ensures { IsTrue result ↔ All (λ row. All (λ i. All (AgreesOn i) row.instances) instances.now) self.now.meaning.records }
     {
         agree_with_records(&self.records, instances)
     }

@@ -28,5 +28,5 @@ loop-place-preserved c =
           rw add-one (ap (λ v. v.items) w.rows-is ∙ c.loop-place.invariant ∙ changed_to-keep (flagged c.args.uid.0 c.args.flags) c.loop-place.place c.args.rows.now.items c.index.result.now (omega arith) (rw (← c.loop-place.invariant) c.index.ensures) (flagged-other _ _ _ w.if-uid-index.false))
     ]
 
-pub returns : goal.returns
-returns c = c.loop-place.invariant ∙ changed_to-full _ _ _ (omega arith)
+pub returns-clause-items : goal.returns-clause-items
+returns-clause-items c = c.loop-place.invariant ∙ changed_to-full _ _ _ (omega arith)

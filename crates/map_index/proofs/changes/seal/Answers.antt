@@ -5,8 +5,8 @@ use Rattle.mdbox_base.specs.declared.ids.FileNo.{FileNo}
 use Rattle.map_index.proofs.SealedFileLemmas.{added, there}
 use Rattle.map_index.proofs.changes.seal.Goals as goal
 
-pub returns-then-is_at-clause-ok : goal.returns-then-is_at-clause-ok
-returns-then-is_at-clause-ok c =
+pub returns-then-is_at-clause-files : goal.returns-then-is_at-clause-files
+returns-then-is_at-clause-files c =
     let found = rw (c.place_of-place.ensures, c.deref-2.ensures.value, c.deref.ensures.value) at (sym c.is_at.ensures ∙ c.if-is_at.true) in
     there c.args.file c.args.files.now.items found
 
@@ -16,7 +16,7 @@ insert-requires c =
     let size = c.deref.ensures.len in
     omega (arith, h, size, prefix_len-le-length (λ (f : FileNo). not (nat_le c.args.file.0 f.0)) c.deref.result.now)
 
-pub returns-clause-ok : goal.returns-clause-ok
-returns-clause-ok c =
+pub returns-clause-files : goal.returns-clause-files
+returns-clause-files c =
     let gone = rw (c.place_of-place.ensures, c.deref-2.ensures.value, c.deref.ensures.value) at (sym c.is_at.ensures ∙ c.if-is_at.false) in
-    rw (c.in_ok-insert.ensures.items, c.place_of-place.ensures, c.deref.ensures.value) (added c.args.file c.args.files.now.items gone)
+    rw (c.in-Ok.ensures.items, c.place_of-place.ensures, c.deref.ensures.value) (added c.args.file c.args.files.now.items gone)

@@ -24,8 +24,8 @@ pub returns-in_err-boxes-clause-refused : goal.returns-in_err-boxes-clause-refus
 returns-in_err-boxes-clause-refused g c =
     let p = err_from_is_err_and c.from_residual-in_err-boxes.result c.from_residual-in_err-boxes.ensures.1 in
     let m = c.in_ok-map_log.ensures.read in
-    let has = has_map c.in_ok-root.root.id.0 c.in_ok-root.root.generation c.in_ok-map_log.map_log c.in_ok-map_log.map m.0 _ _ _ c.in_ok-root.ensures.idle c.in_ok-root.ensures.read.1.root m.1 in
-    rw (p.1, p.2) (boxes_fail c.in_ok-root.root.id.0 c.in_ok-root.root.generation m.0 c.in_ok-map_log.map _ _ c.in_err-boxes.field-0.0 (idle-then _ _ _ c.in_ok-root.ensures.idle c.in_ok-map_log.ensures.idle) m.1.meaning has c.in_err-boxes.ensures.refused)
+    let has = has_map c.in_ok-root.root.id.0 c.in_ok-root.root.generation c.in_ok-map_log.map_log c.in_ok-map_log.map.meaning m.0 _ _ _ c.in_ok-root.ensures.idle c.in_ok-root.ensures.read.1.root m.1 in
+    rw (p.1, p.2) (boxes_fail c.in_ok-root.root.id.0 c.in_ok-root.root.generation m.0 c.in_ok-map_log.map.meaning _ _ c.in_err-boxes.field-0.0 (idle-then _ _ _ c.in_ok-root.ensures.idle c.in_ok-map_log.ensures.idle) m.1.meaning has c.in_err-boxes.ensures.refused)
 
 pub returns-in_err-boxes-clause-idle : goal.returns-in_err-boxes-clause-idle
 returns-in_err-boxes-clause-idle g c = idle-then _ _ _ (idle-then _ _ _ c.in_ok-root.ensures.idle c.in_ok-map_log.ensures.idle) c.read_boxes.ensures.idle
@@ -34,10 +34,10 @@ pub returns-then-not-are_counted-clause-refused : goal.returns-then-not-are_coun
 returns-then-not-are_counted-clause-refused g c =
     let m = c.in_ok-map_log.ensures.read in
     let b = c.in_ok-boxes.ensures.read in
-    let has = has_map c.in_ok-root.root.id.0 c.in_ok-root.root.generation c.in_ok-map_log.map_log c.in_ok-map_log.map m.0 _ _ _ c.in_ok-root.ensures.idle c.in_ok-root.ensures.read.1.root m.1 in
-    let passed = logs_pass c.in_ok-root.root.id.0 c.in_ok-root.root.generation m.0 c.in_ok-map_log.map c.in_ok-boxes.boxes b.0 _ _ _ (idle-then _ _ _ c.in_ok-root.ensures.idle c.in_ok-map_log.ensures.idle) m.1.meaning has b.1 in
-    counts_fail c.in_ok-root.root.id.0 c.in_ok-root.root.generation m.0 c.in_ok-map_log.map c.in_ok-boxes.boxes b.0 _ m.1.meaning b.1.meanings passed
-    (subst (λ (bs : List CheckedBox). IsMiscountedIn c.in_ok-map_log.map bs) c.as_slice.ensures c.if-not-are_counted.ensures)
+    let has = has_map c.in_ok-root.root.id.0 c.in_ok-root.root.generation c.in_ok-map_log.map_log c.in_ok-map_log.map.meaning m.0 _ _ _ c.in_ok-root.ensures.idle c.in_ok-root.ensures.read.1.root m.1 in
+    let passed = logs_pass c.in_ok-root.root.id.0 c.in_ok-root.root.generation m.0 c.in_ok-map_log.map.meaning c.in_ok-boxes.boxes b.0 _ _ _ (idle-then _ _ _ c.in_ok-root.ensures.idle c.in_ok-map_log.ensures.idle) m.1.meaning has b.1 in
+    counts_fail c.in_ok-root.root.id.0 c.in_ok-root.root.generation m.0 c.in_ok-map_log.map.meaning c.in_ok-boxes.boxes b.0 _ m.1.meaning b.1.meanings passed
+    (subst (λ (bs : List CheckedBox). IsMiscountedIn c.in_ok-map_log.map.meaning bs) c.as_slice.ensures c.if-not-are_counted.ensures)
 
 pub returns-then-not-are_counted-clause-idle : goal.returns-then-not-are_counted-clause-idle
 returns-then-not-are_counted-clause-idle g c = idle-then _ _ _ (idle-then _ _ _ c.in_ok-root.ensures.idle c.in_ok-map_log.ensures.idle) c.in_ok-boxes.ensures.idle
@@ -48,10 +48,10 @@ returns-in_err-check_regions-clause-refused g c =
     let m = c.in_ok-map_log.ensures.read in
     let b = c.in_ok-boxes.ensures.read in
     let idle = idle-then _ _ _ c.in_ok-root.ensures.idle c.in_ok-map_log.ensures.idle in
-    let has = has_map c.in_ok-root.root.id.0 c.in_ok-root.root.generation c.in_ok-map_log.map_log c.in_ok-map_log.map m.0 _ _ _ c.in_ok-root.ensures.idle c.in_ok-root.ensures.read.1.root m.1 in
-    let passed = logs_pass c.in_ok-root.root.id.0 c.in_ok-root.root.generation m.0 c.in_ok-map_log.map c.in_ok-boxes.boxes b.0 _ _ _ idle m.1.meaning has b.1 in
-    let counts = counted c.in_ok-map_log.map c.in_ok-boxes.boxes b.0 b.1.meanings (subst (λ (bs : List CheckedBox). All (IsCountedIn bs) c.in_ok-map_log.map.records) c.as_slice.ensures c.if-not-are_counted.ensures) in
-    rw (p.1, p.2) (regions_fail c.in_ok-root.root.id.0 c.in_ok-root.root.generation m.0 c.in_ok-map_log.map b.0 _ _ c.in_err-check_regions.field-0.0 (idle-then _ _ _ idle c.in_ok-boxes.ensures.idle) m.1.meaning passed counts c.in_err-check_regions.ensures.refused)
+    let has = has_map c.in_ok-root.root.id.0 c.in_ok-root.root.generation c.in_ok-map_log.map_log c.in_ok-map_log.map.meaning m.0 _ _ _ c.in_ok-root.ensures.idle c.in_ok-root.ensures.read.1.root m.1 in
+    let passed = logs_pass c.in_ok-root.root.id.0 c.in_ok-root.root.generation m.0 c.in_ok-map_log.map.meaning c.in_ok-boxes.boxes b.0 _ _ _ idle m.1.meaning has b.1 in
+    let counts = counted c.in_ok-map_log.map.meaning c.in_ok-boxes.boxes b.0 b.1.meanings (subst (λ (bs : List CheckedBox). All (IsCountedIn bs) c.in_ok-map_log.map.meaning.records) c.as_slice.ensures c.if-not-are_counted.ensures) in
+    rw (p.1, p.2) (regions_fail c.in_ok-root.root.id.0 c.in_ok-root.root.generation m.0 c.in_ok-map_log.map.meaning b.0 _ _ c.in_err-check_regions.field-0.0 (idle-then _ _ _ idle c.in_ok-boxes.ensures.idle) m.1.meaning passed counts c.in_err-check_regions.ensures.refused)
 
 pub returns-in_err-check_regions-clause-idle : goal.returns-in_err-check_regions-clause-idle
 returns-in_err-check_regions-clause-idle g c = idle-then _ _ _ (idle-then _ _ _ (idle-then _ _ _ c.in_ok-root.ensures.idle c.in_ok-map_log.ensures.idle) c.in_ok-boxes.ensures.idle) c.check_regions.ensures.idle
@@ -63,10 +63,10 @@ returns-in_err-check_instances-clause-refused g c =
     let b = c.in_ok-boxes.ensures.read in
     let idle = idle-then _ _ _ c.in_ok-root.ensures.idle c.in_ok-map_log.ensures.idle in
     let before = idle-then _ _ _ idle c.in_ok-boxes.ensures.idle in
-    let has = has_map c.in_ok-root.root.id.0 c.in_ok-root.root.generation c.in_ok-map_log.map_log c.in_ok-map_log.map m.0 _ _ _ c.in_ok-root.ensures.idle c.in_ok-root.ensures.read.1.root m.1 in
-    let passed = logs_pass c.in_ok-root.root.id.0 c.in_ok-root.root.generation m.0 c.in_ok-map_log.map c.in_ok-boxes.boxes b.0 _ _ _ idle m.1.meaning has b.1 in
-    let counts = counted c.in_ok-map_log.map c.in_ok-boxes.boxes b.0 b.1.meanings (subst (λ (bs : List CheckedBox). All (IsCountedIn bs) c.in_ok-map_log.map.records) c.as_slice.ensures c.if-not-are_counted.ensures) in
-    rw (p.1, p.2) (instances_fail c.in_ok-root.root.id.0 c.in_ok-root.root.generation m.0 c.in_ok-map_log.map b.0 _ _ _ c.in_err-check_instances.field-0.0 before (idle-then _ _ _ before c.in_ok-check_regions.ensures.idle) m.1.meaning passed counts c.in_ok-check_regions.ensures.passed c.in_err-check_instances.ensures.refused)
+    let has = has_map c.in_ok-root.root.id.0 c.in_ok-root.root.generation c.in_ok-map_log.map_log c.in_ok-map_log.map.meaning m.0 _ _ _ c.in_ok-root.ensures.idle c.in_ok-root.ensures.read.1.root m.1 in
+    let passed = logs_pass c.in_ok-root.root.id.0 c.in_ok-root.root.generation m.0 c.in_ok-map_log.map.meaning c.in_ok-boxes.boxes b.0 _ _ _ idle m.1.meaning has b.1 in
+    let counts = counted c.in_ok-map_log.map.meaning c.in_ok-boxes.boxes b.0 b.1.meanings (subst (λ (bs : List CheckedBox). All (IsCountedIn bs) c.in_ok-map_log.map.meaning.records) c.as_slice.ensures c.if-not-are_counted.ensures) in
+    rw (p.1, p.2) (instances_fail c.in_ok-root.root.id.0 c.in_ok-root.root.generation m.0 c.in_ok-map_log.map.meaning b.0 _ _ _ c.in_err-check_instances.field-0.0 before (idle-then _ _ _ before c.in_ok-check_regions.ensures.idle) m.1.meaning passed counts c.in_ok-check_regions.ensures.passed c.in_err-check_instances.ensures.refused)
 
 pub returns-in_err-check_instances-clause-idle : goal.returns-in_err-check_instances-clause-idle
 returns-in_err-check_instances-clause-idle g c = idle-then _ _ _ (idle-then _ _ _ (idle-then _ _ _ (idle-then _ _ _ c.in_ok-root.ensures.idle c.in_ok-map_log.ensures.idle) c.in_ok-boxes.ensures.idle) c.in_ok-check_regions.ensures.idle) c.check_instances.ensures.idle
@@ -81,21 +81,21 @@ returns-clause-checked g c =
     let b = c.in_ok-boxes.ensures.read in
     let idle = idle-then _ _ _ c.in_ok-root.ensures.idle c.in_ok-map_log.ensures.idle in
     let before = idle-then _ _ _ idle c.in_ok-boxes.ensures.idle in
-    let has = has_map c.in_ok-root.root.id.0 c.in_ok-root.root.generation c.in_ok-map_log.map_log c.in_ok-map_log.map m.0 _ _ _ c.in_ok-root.ensures.idle r.1.root m.1 in
-    let passed = logs_pass c.in_ok-root.root.id.0 c.in_ok-root.root.generation m.0 c.in_ok-map_log.map c.in_ok-boxes.boxes b.0 _ _ _ idle m.1.meaning has b.1 in
-    let counts = counted c.in_ok-map_log.map c.in_ok-boxes.boxes b.0 b.1.meanings (subst (λ (bs : List CheckedBox). All (IsCountedIn bs) c.in_ok-map_log.map.records) c.as_slice.ensures c.if-not-are_counted.ensures) in
+    let has = has_map c.in_ok-root.root.id.0 c.in_ok-root.root.generation c.in_ok-map_log.map_log c.in_ok-map_log.map.meaning m.0 _ _ _ c.in_ok-root.ensures.idle r.1.root m.1 in
+    let passed = logs_pass c.in_ok-root.root.id.0 c.in_ok-root.root.generation m.0 c.in_ok-map_log.map.meaning c.in_ok-boxes.boxes b.0 _ _ _ idle m.1.meaning has b.1 in
+    let counts = counted c.in_ok-map_log.map.meaning c.in_ok-boxes.boxes b.0 b.1.meanings (subst (λ (bs : List CheckedBox). All (IsCountedIn bs) c.in_ok-map_log.map.meaning.records) c.as_slice.ensures c.if-not-are_counted.ensures) in
     let last = idle-then _ _ _ c.in_ok-check_regions.ensures.idle c.in_ok-check_instances.ensures.idle in
     let from_boxes = idle-then _ _ _ c.in_ok-boxes.ensures.idle last in (
       r.0,
       m.0,
       b.0,
       record {
-        opens = opens c.in_ok-root.root.id.0 c.in_ok-root.root.generation m.0 c.in_ok-map_log.map b.0 _ _ _ before (idle-then _ _ _ before c.in_ok-check_regions.ensures.idle) m.1.meaning passed counts c.in_ok-check_regions.ensures.passed c.in_ok-check_instances.ensures.passed;
-        good = good_logs c.in_ok-root.root.id.0 m.0 c.in_ok-map_log.map c.in_ok-boxes.boxes b.0 _ _ m.1.meaning m.1.good b.1 counts;
+        opens = opens c.in_ok-root.root.id.0 c.in_ok-root.root.generation m.0 c.in_ok-map_log.map.meaning b.0 _ _ _ before (idle-then _ _ _ before c.in_ok-check_regions.ensures.idle) m.1.meaning passed counts c.in_ok-check_regions.ensures.passed c.in_ok-check_instances.ensures.passed;
+        good = good_logs c.in_ok-root.root.id.0 m.0 c.in_ok-map_log.map.meaning c.in_ok-boxes.boxes b.0 _ _ m.1.meaning m.1.good b.1 counts;
         map_is = m.1.meaning;
         boxes_are = b.1.meanings;
         root_log = found-then c.in_ok-root.root.log _ _ _ _ _ (idle-then _ _ _ c.in_ok-map_log.ensures.idle from_boxes) r.1.log;
         map_log = found-then c.in_ok-map_log.map_log _ _ _ _ _ from_boxes m.1.found;
-        box_logs = are_found-then c.in_ok-root.root.id.0 c.in_ok-map_log.map.boxes c.in_ok-boxes.boxes b.0 _ _ last b.1.found;
+        box_logs = are_found-then c.in_ok-root.root.id.0 c.in_ok-map_log.map.meaning.boxes c.in_ok-boxes.boxes b.0 _ _ last b.1.found;
       },
     )

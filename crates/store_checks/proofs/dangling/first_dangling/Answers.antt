@@ -10,15 +10,15 @@ bounds-as_slice-place-then-branch c = place_there c.args.read.now.entries c.args
 
 pub returns-then-branch : goal.returns-then-branch
 returns-then-branch c =
-    first_dangling c.args.map.now c.args.index.now c.args.read.now.entries c.as_slice-then-branch.result.now c.loop-place.place _ c.as_slice-in-loop-place.result.now
+    first_dangling c.args.map.now.meaning c.args.index.now.meaning c.args.read.now.entries c.as_slice-then-branch.result.now c.loop-place.place _ c.as_slice-in-loop-place.result.now
     (read_at c.args.read.now.entries c.as_slice.result.now c.loop-place.place c.length-place-end.result c.index-as_slice-place.result c.as_slice-in-loop-place.result.now c.as_slice.ensures c.length-place-end.ensures c.loop-place-test.true c.index-as_slice-place.is c.as_slice-in-loop-place.ensures)
     (when_true _ _ c.if-branch.true c.in_ok-adds_dangling.ensures) c.loop-place.invariant (c.as_slice-then-branch.ensures ∙ c.requires.places) refl
 
 pub loop-place-preserved : goal.loop-place-preserved
 loop-place-preserved c =
-    all_next (AddsNoDangling c.args.map.now c.args.index.now) c.args.read.now.entries c.loop-place.place c.as_slice-in-loop-place.result.now
+    all_next (AddsNoDangling c.args.map.now.meaning c.args.index.now.meaning) c.args.read.now.entries c.loop-place.place c.as_slice-in-loop-place.result.now
     (read_at c.args.read.now.entries c.as_slice.result.now c.loop-place.place c.length-place-end.result c.index-as_slice-place.result c.as_slice-in-loop-place.result.now c.as_slice.ensures c.length-place-end.ensures c.loop-place-test.true c.index-as_slice-place.is c.as_slice-in-loop-place.ensures)
     c.loop-place.invariant (when_false _ _ c.if-branch.false c.in_ok-adds_dangling.ensures)
 
 pub returns : goal.returns
-returns c = none_dangling c.args.map.now c.args.index.now c.args.read.now.entries c.requires.replayed (all_places (AddsNoDangling c.args.map.now c.args.index.now) c.args.read.now.entries c.loop-place.place c.loop-place.invariant (omega (arith, c.length-place-end.ensures)))
+returns c = none_dangling c.args.map.now.meaning c.args.index.now.meaning c.args.read.now.entries c.requires.replayed (all_places (AddsNoDangling c.args.map.now.meaning c.args.index.now.meaning) c.args.read.now.entries c.loop-place.place c.loop-place.invariant (omega (arith, c.length-place-end.ensures)))

@@ -17,7 +17,7 @@ returns-in_err-length-clause-idle g c = idle-then _ _ _ c.loop-inst.invariant.id
 pub returns-then-not-has_length-clause-refused : goal.returns-then-not-has_length-clause-refused
 returns-then-not-has_length-clause-refused g c = (
   refl,
-  instance_fails c.args.map.now c.in_ok-instances.instances.items c.deref-inst-items.result.now c.loop-inst.inst-index _ _ _ c.in_ok-length.length c.deref-inst-items.ensures.value c.loop-inst-test.true
+  instance_fails c.args.map.now.meaning c.in_ok-instances.instances.items c.deref-inst-items.result.now c.loop-inst.inst-index _ _ _ c.in_ok-length.length c.deref-inst-items.ensures.value c.loop-inst-test.true
       c.loop-inst.invariant.idle c.in_ok-length.ensures.length (λ h. let e : false ≡ true = c.if-not-has_length.ensures.1 h in cc e) c.in_ok-instances.ensures.same c.in_ok-instances.ensures.order c.loop-inst.invariant.whole,
 )
 
@@ -33,4 +33,4 @@ loop-inst-preserved g c = record {
 }
 
 pub returns-clause-passed : goal.returns-clause-passed
-returns-clause-passed g c = instances_done c.args.map.now c.in_ok-instances.instances.items c.deref-inst-items.result.now c.loop-inst.inst-index _ c.deref-inst-items.ensures.value c.loop-inst-test.false c.in_ok-instances.ensures.same c.loop-inst.invariant.whole
+returns-clause-passed g c = instances_done c.args.map.now.meaning c.in_ok-instances.instances.items c.deref-inst-items.result.now c.loop-inst.inst-index _ c.deref-inst-items.ensures.value c.loop-inst-test.false c.in_ok-instances.ensures.same c.loop-inst.invariant.whole

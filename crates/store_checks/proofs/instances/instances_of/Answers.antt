@@ -12,7 +12,7 @@ use Rattle.store_checks.proofs.instances.instances_of.Goals as goal
 
 pub unwrap-requires : goal.unwrap-requires
 unwrap-requires c =
-    let n = names_next c.args.map.now c.loop-place.place c.row_at.result c.unwrap-row.result c.known_facts.ensures.records.rising c.row_at.ensures c.unwrap-row.ensures in
+    let n = names_next c.args.map.now.meaning c.loop-place.place c.row_at.result c.unwrap-row.result c.known_facts.ensures.records.rising c.row_at.ensures c.unwrap-row.ensures in
     copied_some c.instances.result _ n.items c.instances.ensures n.found
 
 pub loop-inst-init : goal.loop-inst-init
@@ -26,9 +26,9 @@ loop-inst-preserved c = record {
 
 pub loop-place-preserved : goal.loop-place-preserved
 loop-place-preserved c =
-    let n = names_next c.args.map.now c.loop-place.place c.row_at.result c.unwrap-row.result c.known_facts.ensures.records.rising c.row_at.ensures c.unwrap-row.ensures in
+    let n = names_next c.args.map.now.meaning c.loop-place.place c.row_at.result c.unwrap-row.result c.known_facts.ensures.records.rising c.row_at.ensures c.unwrap-row.ensures in
     record {
-      same = named_next c.args.map.now c.loop-place.place c.unwrap-row.result.uid.0 n c.instances.result c.unwrap.result _ c.as_slice-inst-items.result.now c.loop-place.instances.items c.loop-inst.instances.items
+      same = named_next c.args.map.now.meaning c.loop-place.place c.unwrap-row.result.uid.0 n c.instances.result c.unwrap.result _ c.as_slice-inst-items.result.now c.loop-place.instances.items c.loop-inst.instances.items
           c.instances.ensures c.unwrap.ensures refl c.as_slice-inst-items.ensures c.loop-place.invariant.same
           (c.loop-inst.invariant.same ∙ ap (λ (l : List InstRow). c.loop-place.instances.items ++ map instance_of l) (take_all c.loop-inst.inst-index c.as_slice-inst-items.result.now c.loop-inst-test.false));
       sized = c.loop-inst.invariant.sized;
@@ -37,7 +37,7 @@ loop-place-preserved c =
 pub returns-clause-same : goal.returns-clause-same
 returns-clause-same c =
     subst (λ (is : List Instance). IsPermutation is c.sort_unstable.new.self.items)
-    (c.loop-place.invariant.same ∙ ap (λ (l : List MapRecord). map instance_of (flat_map (λ (r : MapRecord). r.instances) l)) (take_all c.loop-place.place c.args.map.now.records (omega (arith, c.rows-place-end.ensures)))) c.sort_unstable.ensures.permutation
+    (c.loop-place.invariant.same ∙ ap (λ (l : List MapRecord). map instance_of (flat_map (λ (r : MapRecord). r.instances) l)) (take_all c.loop-place.place c.args.map.now.meaning.records (omega (arith, c.rows-place-end.ensures)))) c.sort_unstable.ensures.permutation
 
 pub returns-clause-order : goal.returns-clause-order
 returns-clause-order c =

@@ -5,7 +5,7 @@ use Rattle.store_checks.proofs.instances.instances_of.Given as goal
 
 abbrev pub invariant-loop-place : goal.invariant-loop-place
 invariant-loop-place l = record {
-  same : l.instances.items ≡ map instance_of (flat_map (λ row. row.instances) (take l.place l.map.records));
+  same : l.instances.items ≡ map instance_of (flat_map (λ row. row.instances) (take l.place l.map.meaning.records));
   sized : All (λ inst. length inst.hash.0 ≡ 20) l.instances.items;
 }
 

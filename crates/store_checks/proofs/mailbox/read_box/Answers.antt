@@ -1,5 +1,6 @@
-use Rattle.std.proofs.Common.{All, refl, subst}
+use Rattle.std.proofs.Common.{All, [], refl, ap, subst}
 use Rattle.std.proofs.lemmas.Result.{err_from_is_err_and}
+use Rattle.box_index.specs.State.{BoxState}
 use Rattle.model_meaning.specs.BoxMeaning.{BoxMeaning}
 use Rattle.model_store.specs.Opening.{HasItsRecord}
 use Rattle.disk_model.proofs.IdleLemmas.{idle-begins}
@@ -11,15 +12,18 @@ use Rattle.store_checks.proofs.mailbox.read_box.Goals as goal
 pub returns-in_err-index-clause-idle : goal.returns-in_err-index-clause-idle
 returns-in_err-index-clause-idle g c = idle-begins _
 
+pub read_log-requires : goal.read_log-requires
+read_log-requires g c = record { entries = []; texts_are = refl; good = (tt, tt); meaning = ap (λ (index : BoxState). index.meaning) c.in_ok-index.ensures }
+
 pub returns-in_err-log-clause-refused : goal.returns-in_err-log-clause-refused
 returns-in_err-log-clause-refused g c =
     let p = err_from_is_err_and c.from_residual-in_err-log.result c.from_residual-in_err-log.ensures.1 in
-    rw (p.1, p.2) (box_cause c.args.map.now c.args.id.0 c.args.at c.read_log.new.replay _ c.in_err-log.field-0.0 c.requires c.in_err-log.ensures.refused)
+    rw (p.1, p.2) (box_cause c.args.map.now.meaning c.args.id.0 c.args.at c.read_log.new.replay _ c.in_err-log.field-0.0 c.requires c.in_err-log.ensures.refused)
 
 pub returns-in-Some-clause-refused : goal.returns-in-Some-clause-refused
 returns-in-Some-clause-refused g c = (
   refl,
-  lacks_record c.args.map.now c.args.id.0 c.args.at c.read_log.new.replay c.in_ok-log.read.entries c.in-Some.place _ c.requires c.in_ok-log.ensures.replayed (some_text _ _ _ _ c.in-Some.is c.in_ok-place.ensures)
+  lacks_record c.args.map.now.meaning c.args.id.0 c.args.at c.read_log.new.replay.meaning c.in_ok-log.read.entries c.in-Some.place _ c.requires c.in_ok-log.ensures.replayed (some_text _ _ _ _ c.in-Some.is c.in_ok-place.ensures)
       (has_log (box_file c.args.at) (box_head c.args.id.0 c.args.at) c.in_ok-log.ensures.octets.0 c.in_ok-log.read c.in_ok-log.read.entries _ c.in_ok-log.ensures.octets.1 c.in_ok-log.ensures.octets.2 refl c.in_ok-log.ensures.octets.3),
 )
 
@@ -30,7 +34,7 @@ returns-clause-read g c =
       record {
         good = f.good;
         meaning = f.meaning;
-        records = subst (λ (b : BoxMeaning). All (HasItsRecord c.args.map.now) b.rows) f.meaning (none_text _ _ _ c.in_default.is c.in_ok-place.ensures);
+        records = subst (λ (b : BoxMeaning). All (HasItsRecord c.args.map.now.meaning) b.rows) f.meaning (none_text _ _ _ c.in_default.is c.in_ok-place.ensures);
         log = has_log (box_file c.args.at) (box_head c.args.id.0 c.args.at) c.in_ok-log.ensures.octets.0 c.in_ok-log.read _ _ c.in_ok-log.ensures.octets.1 c.in_ok-log.ensures.octets.2 f.texts_are c.in_ok-log.ensures.octets.3;
         found = found_as c.in_ok-log.log (box_file c.args.at) (box_head c.args.id.0 c.args.at) c.in_ok-log.read.entries _ _ c.in_ok-log.ensures.log f.texts_are c.in_ok-log.ensures.stands;
       },

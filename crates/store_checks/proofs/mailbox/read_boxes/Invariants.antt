@@ -9,5 +9,5 @@ abbrev pub invariant-loop-place : goal.invariant-loop-place
 invariant-loop-place g l = record {
   idle : IsIdle (g.D.Disk.history l.fn.disk) (g.D.Disk.history l.disk);
   unfailed : NoFault (g.D.Disk.faults l.fn.disk) (g.D.Disk.faults l.disk);
-  read : (logs : List (List BoxEntry)) × AreRead l.id.0 l.map (take l.place l.map.boxes) l.boxes logs (g.D.Disk.history l.fn.disk) (g.D.Disk.history l.disk);
+  read : (logs : List (List BoxEntry)) × AreRead l.id.0 l.map.meaning (take l.place l.map.meaning.boxes) l.boxes logs (g.D.Disk.history l.fn.disk) (g.D.Disk.history l.disk);
 }

@@ -1,6 +1,6 @@
 use Rattle.std.proofs.Common.{◌≡◌, refl, true, false, ◌∙◌, ap}
 use Rattle.std.proofs.lemmas.Result.{err_from_is_err_and}
-use Rattle.model_meaning.specs.MapMeaning.{MapMeaning}
+use Rattle.map_index.specs.Value.{MapIndexValue}
 use Rattle.disk_model.proofs.IdleLemmas.{idle-begins}
 use Rattle.store_checks.proofs.RootLogLemmas.{map_cause, no_number, map_read, empty_map}
 use Rattle.store_checks.proofs.map_log.read_map.Goals as goal
@@ -15,14 +15,14 @@ pub returns-in_err-map-clause-idle : goal.returns-in_err-map-clause-idle
 returns-in_err-map-clause-idle g c = idle-begins _
 
 pub read_log-requires : goal.read_log-requires
-read_log-requires g c = empty_map c.args.id.0 c.in_ok-map.map c.in_ok-map.ensures
+read_log-requires g c = empty_map c.args.id.0 c.in_ok-map.map.meaning (ap (λ (m : MapIndexValue). m.meaning) c.in_ok-map.ensures)
 
 pub returns-in_err-log-clause-refused : goal.returns-in_err-log-clause-refused
 returns-in_err-log-clause-refused g c =
     let p = err_from_is_err_and c.from_residual-in_err-log.result c.from_residual-in_err-log.ensures.1 in
-    rw (p.1, p.2) (map_cause c.args.id.0 c.args.generation c.read_log.new.replay _ c.in_err-log.field-0.0 (c.if-not-is_number.ensures.0 refl) (c.in_err-log.ensures.store ∙ ap (λ (m : MapMeaning). m.store) c.in_ok-map.ensures) c.in_err-log.ensures.refused)
+    rw (p.1, p.2) (map_cause c.args.id.0 c.args.generation c.read_log.new.replay _ c.in_err-log.field-0.0 (c.if-not-is_number.ensures.0 refl) (c.in_err-log.ensures.store ∙ ap (λ (m : MapIndexValue). m.meaning.store) c.in_ok-map.ensures) c.in_err-log.ensures.refused)
 
 pub returns-clause-read : goal.returns-clause-read
 returns-clause-read g c =
-    map_read c.args.id.0 c.args.generation c.read_log.new.replay c.in_ok-log.log c.in_ok-log.ensures.octets.0 c.in_ok-log.field-0-1 _ _ (c.if-not-is_number.ensures.0 refl) (c.in_ok-log.ensures.store ∙ ap (λ (m : MapMeaning). m.store) c.in_ok-map.ensures)
+    map_read c.args.id.0 c.args.generation c.read_log.new.replay.meaning c.in_ok-log.log c.in_ok-log.ensures.octets.0 c.in_ok-log.field-0-1 _ _ (c.if-not-is_number.ensures.0 refl) (c.in_ok-log.ensures.store ∙ ap (λ (m : MapIndexValue). m.meaning.store) c.in_ok-map.ensures)
     c.in_ok-log.ensures.octets.1 c.in_ok-log.ensures.octets.2 c.in_ok-log.ensures.replayed c.in_ok-log.ensures.octets.3 c.in_ok-log.ensures.log c.in_ok-log.ensures.stands

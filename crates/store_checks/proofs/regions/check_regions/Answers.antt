@@ -16,7 +16,7 @@ returns-in_err-length-clause-idle g c = idle-then _ _ _ c.loop-region.invariant.
 
 pub returns-then-not-ends_within-clause-refused : goal.returns-then-not-ends_within-clause-refused
 returns-then-not-ends_within-clause-refused g c =
-    region_fails c.args.map.now c.in_ok-regions.regions.items c.deref-region-items.result.now c.loop-region.region-index _ _ _ c.in_ok-length.length c.deref-region-items.ensures.value c.loop-region-test.true
+    region_fails c.args.map.now.meaning c.in_ok-regions.regions.items c.deref-region-items.result.now c.loop-region.region-index _ _ _ c.in_ok-length.length c.deref-region-items.ensures.value c.loop-region-test.true
     c.loop-region.invariant.idle c.in_ok-length.ensures.length (λ h. absurd (let e : false ≡ true = c.if-not-ends_within.ensures.1 h in cc e)) c.in_ok-regions.ensures.same c.in_ok-regions.ensures.order c.loop-region.invariant.lie
 
 pub returns-then-not-ends_within-clause-idle : goal.returns-then-not-ends_within-clause-idle
@@ -31,4 +31,4 @@ loop-region-preserved g c = record {
 }
 
 pub returns-clause-passed : goal.returns-clause-passed
-returns-clause-passed g c = regions_done c.args.map.now c.in_ok-regions.regions.items c.deref-region-items.result.now c.loop-region.region-index _ c.deref-region-items.ensures.value c.loop-region-test.false c.in_ok-regions.ensures.same c.loop-region.invariant.lie
+returns-clause-passed g c = regions_done c.args.map.now.meaning c.in_ok-regions.regions.items c.deref-region-items.result.now c.loop-region.region-index _ c.deref-region-items.ensures.value c.loop-region-test.false c.in_ok-regions.ensures.same c.loop-region.invariant.lie

@@ -5,12 +5,12 @@ use Rattle.store_checks.proofs.SortLemmas.{region_next, chained, no_later, no_la
 use Rattle.store_checks.proofs.regions.regions_of.Goals as goal
 
 pub loop-place-preserved : goal.loop-place-preserved
-loop-place-preserved c = region_next c.args.map.now.records c.loop-place.place c.row_at.result c.unwrap-row.result c.loop-place.regions.items c.push.new.self.items c.row_at.ensures c.unwrap-row.ensures c.loop-place.invariant c.in_ok-push.ensures.items
+loop-place-preserved c = region_next c.args.map.now.meaning.records c.loop-place.place c.row_at.result c.unwrap-row.result c.loop-place.regions.items c.push.new.self.items c.row_at.ensures c.unwrap-row.ensures c.loop-place.invariant c.in_ok-push.ensures.items
 
 pub returns-clause-same : goal.returns-clause-same
 returns-clause-same c =
     subst (λ (rs : List Region). IsPermutation rs c.sort_unstable.new.self.items)
-    (c.loop-place.invariant ∙ ap (map region_of) (take_all c.loop-place.place c.args.map.now.records (omega (arith, c.rows-place-end.ensures)))) c.sort_unstable.ensures.permutation
+    (c.loop-place.invariant ∙ ap (map region_of) (take_all c.loop-place.place c.args.map.now.meaning.records (omega (arith, c.rows-place-end.ensures)))) c.sort_unstable.ensures.permutation
 
 pub returns-clause-order : goal.returns-clause-order
 returns-clause-order c =

@@ -4,4 +4,4 @@ use Rattle.std.specs.Str.{bytes_eq}
 use Rattle.store_core.proofs.store.listed_in.Given as goal
 
 abbrev pub invariant-loop-place : goal.invariant-loop-place
-invariant-loop-place l = (l.count ≡ count_by (λ row. bytes_eq row.guid l.guid.0) (take l.place l.index.rows)) × (l.count ≤ l.place)
+invariant-loop-place l = (l.count ≡ count_by (λ row. bytes_eq row.guid l.guid.0) (take l.place l.index.meaning.rows)) × (l.count ≤ l.place)

@@ -5,4 +5,4 @@ use Rattle.store_core.proofs.store.listed_in_all.Given as goal
 
 abbrev pub invariant-loop-open_box : goal.invariant-loop-open_box
 invariant-loop-open_box l =
-    (l.count ≡ sum_by (λ b. count_by (λ row. bytes_eq row.guid l.guid.0) b.index.rows) (take l.open_box-index l.boxes)) × (l.count ≤ l.open_box-index * 4294967296)
+    (l.count ≡ sum_by (λ b. count_by (λ row. bytes_eq row.guid l.guid.0) b.index.meaning.rows) (take l.open_box-index l.boxes)) × (l.count ≤ l.open_box-index * 4294967296)

@@ -17,18 +17,18 @@ use Rattle.store_sweep.proofs.cuts.cut_files.Goals as goal
 
 pub loop-name-init : goal.loop-name-init
 loop-name-init g c = record {
-  images = λ generation. images_now generation c.args.map.now (g.D.Disk.history c.args.disk.now);
-  keeps = λ generation. keeps_now generation c.args.map.now (g.D.Disk.history c.args.disk.now);
+  images = λ generation. images_now generation c.args.map.now.meaning (g.D.Disk.history c.args.disk.now);
+  keeps = λ generation. keeps_now generation c.args.map.now.meaning (g.D.Disk.history c.args.disk.now);
   logs = where_now is_log (g.D.Disk.history c.args.disk.now);
-  mail = fitted-begins c.args.map.now (g.D.Disk.history c.args.disk.now);
+  mail = fitted-begins c.args.map.now.meaning (g.D.Disk.history c.args.disk.now);
   there = there-begins (g.D.Disk.history c.args.disk.now);
-  cut = if_told-all _ (g.D.Disk.history c.args.disk.now) (λ disk. passed_none (EndsByLastRegion c.args.map.now) disk);
+  cut = if_told-all _ (g.D.Disk.history c.args.disk.now) (λ disk. passed_none (EndsByLastRegion c.args.map.now.meaning) disk);
   in_range = tt;
   faults = refl;
 }
 
 pub returns-in_err-name-clause-images : goal.returns-in_err-name-clause-images
-returns-in_err-name-clause-images g c = λ generation. images_unchanged generation c.args.map.now _ _ _ (c.loop-name.invariant.images generation) c.in_err-name.ensures.state
+returns-in_err-name-clause-images g c = λ generation. images_unchanged generation c.args.map.now.meaning _ _ _ (c.loop-name.invariant.images generation) c.in_err-name.ensures.state
 
 pub returns-in_err-name-clause-fault : goal.returns-in_err-name-clause-fault
 returns-in_err-name-clause-fault g c =
@@ -36,7 +36,7 @@ returns-in_err-name-clause-fault g c =
 
 pub returns-in_err-fit_file-clause-images : goal.returns-in_err-fit_file-clause-images
 returns-in_err-fit_file-clause-images g c = λ generation.
-    kept_images generation c.args.map.now _ _ _ _ (c.loop-name.invariant.images generation) (c.loop-name.invariant.keeps generation) c.in_ok-name.ensures.state (c.in_err-fit_file.ensures.images generation)
+    kept_images generation c.args.map.now.meaning _ _ _ _ (c.loop-name.invariant.images generation) (c.loop-name.invariant.keeps generation) c.in_ok-name.ensures.state (c.in_err-fit_file.ensures.images generation)
 
 pub loop-name-smaller : goal.loop-name-smaller
 loop-name-smaller g c =
@@ -45,12 +45,12 @@ loop-name-smaller g c =
 
 pub loop-name-preserved : goal.loop-name-preserved
 loop-name-preserved g c = record {
-  images = λ generation. kept_images generation c.args.map.now _ _ _ _ (c.loop-name.invariant.images generation) (c.loop-name.invariant.keeps generation) c.in_ok-name.ensures.state (c.in_ok-fit_file.ensures.images generation);
-  keeps = λ generation. kept_keeps generation c.args.map.now _ _ _ _ (c.loop-name.invariant.keeps generation) c.in_ok-name.ensures.state (c.in_ok-fit_file.ensures.keeps (λ err. absurd (false≢true err)) generation);
+  images = λ generation. kept_images generation c.args.map.now.meaning _ _ _ _ (c.loop-name.invariant.images generation) (c.loop-name.invariant.keeps generation) c.in_ok-name.ensures.state (c.in_ok-fit_file.ensures.images generation);
+  keeps = λ generation. kept_keeps generation c.args.map.now.meaning _ _ _ _ (c.loop-name.invariant.keeps generation) c.in_ok-name.ensures.state (c.in_ok-fit_file.ensures.keeps (λ err. absurd (false≢true err)) generation);
   logs = walk_same is_log _ _ _ _ c.loop-name.invariant.logs c.in_ok-name.ensures.state c.in_ok-fit_file.ensures.logs;
   mail = fitted-then _ _ _ _ (fitted-goes_on _ _ _ _ c.loop-name.invariant.mail c.in_ok-name.ensures.state) c.in_ok-fit_file.ensures.mail;
   there = there-then _ _ _ (there-goes_on _ _ _ c.loop-name.invariant.there c.in_ok-name.ensures.state) c.in_ok-fit_file.ensures.there;
-  cut = walk_more (EndsByLastRegion c.args.map.now) c.loop-name.last c.in-Some.name _ _ _ c.in_ok-name.ensures.state
+  cut = walk_more (EndsByLastRegion c.args.map.now.meaning) c.loop-name.last c.in-Some.name _ _ _ c.in_ok-name.ensures.state
       (let F : Option FileName → Type 0 = λ n. IfTold (g.D.Disk.history c.loop-name.disk) (IsNext ghosts.cmp c.loop-name.last n) in subst F c.in-Some.is c.in_ok-name.ensures.next)
       c.loop-name.invariant.cut c.in_ok-fit_file.ensures.others c.in_ok-fit_file.ensures.cut;
   in_range = c.known_range.ensures;
@@ -58,10 +58,10 @@ loop-name-preserved g c = record {
 }
 
 pub returns-clause-images : goal.returns-clause-images
-returns-clause-images g c = λ generation. images_unchanged generation c.args.map.now _ _ _ (c.loop-name.invariant.images generation) c.in_ok-name.ensures.state
+returns-clause-images g c = λ generation. images_unchanged generation c.args.map.now.meaning _ _ _ (c.loop-name.invariant.images generation) c.in_ok-name.ensures.state
 
 pub returns-clause-keeps : goal.returns-clause-keeps
-returns-clause-keeps g c = λ none generation. keeps_then generation c.args.map.now _ _ _ (c.loop-name.invariant.keeps generation) (keeps_unchanged generation c.args.map.now _ _ c.in_ok-name.ensures.state)
+returns-clause-keeps g c = λ none generation. keeps_then generation c.args.map.now.meaning _ _ _ (c.loop-name.invariant.keeps generation) (keeps_unchanged generation c.args.map.now.meaning _ _ c.in_ok-name.ensures.state)
 
 pub returns-clause-logs : goal.returns-clause-logs
 returns-clause-logs g c = where_then is_log _ _ _ c.loop-name.invariant.logs (where_unchanged is_log _ _ c.in_ok-name.ensures.state)
@@ -71,7 +71,7 @@ returns-clause-there g c = there-goes_on _ _ _ c.loop-name.invariant.there c.in_
 
 pub returns-clause-cut : goal.returns-clause-cut
 returns-clause-cut g c =
-    walk_ends (EndsByLastRegion c.args.map.now) c.loop-name.last _ _ c.in_ok-name.ensures.state
+    walk_ends (EndsByLastRegion c.args.map.now.meaning) c.loop-name.last _ _ c.in_ok-name.ensures.state
     (let F : Option FileName → Type 0 = λ n. IfTold (g.D.Disk.history c.loop-name.disk) (IsNext ghosts.cmp c.loop-name.last n) in subst F c.in_default.is c.in_ok-name.ensures.next)
     c.loop-name.invariant.cut
 
@@ -80,8 +80,8 @@ returns-clause-mail g c = fitted-goes_on _ _ _ _ c.loop-name.invariant.mail c.in
 
 pub returns-in_err-name-clause-keeps : goal.returns-in_err-name-clause-keeps
 returns-in_err-name-clause-keeps g c = λ none generation.
-    keeps_then generation c.args.map.now _ _ _ (c.loop-name.invariant.keeps generation) (keeps_unchanged generation c.args.map.now _ _ c.in_err-name.ensures.state)
+    keeps_then generation c.args.map.now.meaning _ _ _ (c.loop-name.invariant.keeps generation) (keeps_unchanged generation c.args.map.now.meaning _ _ c.in_err-name.ensures.state)
 
 pub returns-in_err-fit_file-clause-keeps : goal.returns-in_err-fit_file-clause-keeps
 returns-in_err-fit_file-clause-keeps g c = λ none generation.
-    kept_keeps generation c.args.map.now _ _ _ _ (c.loop-name.invariant.keeps generation) c.in_ok-name.ensures.state (c.in_err-fit_file.ensures.keeps (none_since (g.D.Disk.faults c.args.disk.now) (g.D.Disk.faults c.next_name.new.self) (g.D.Disk.faults c.fit_file.new.disk) (no_fault-then _ _ _ c.loop-name.invariant.faults (read_ok c.in_ok-name.field-0 _ _ c.in_ok-name.ensures.cause)) c.from_residual-in_err-fit_file.ensures.0 none) generation)
+    kept_keeps generation c.args.map.now.meaning _ _ _ _ (c.loop-name.invariant.keeps generation) c.in_ok-name.ensures.state (c.in_err-fit_file.ensures.keeps (none_since (g.D.Disk.faults c.args.disk.now) (g.D.Disk.faults c.next_name.new.self) (g.D.Disk.faults c.fit_file.new.disk) (no_fault-then _ _ _ c.loop-name.invariant.faults (read_ok c.in_ok-name.field-0 _ _ c.in_ok-name.ensures.cause)) c.from_residual-in_err-fit_file.ensures.0 none) generation)

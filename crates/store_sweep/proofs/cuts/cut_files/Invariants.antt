@@ -12,12 +12,12 @@ use Rattle.store_sweep.proofs.cuts.cut_files.Given as goal
 
 abbrev pub invariant-loop-name : goal.invariant-loop-name
 invariant-loop-name g l = record {
-  images : (generation : ℕ) → ImagesCarry generation l.map (g.D.Disk.history l.initial.disk) (g.D.Disk.history l.disk);
-  keeps : (generation : ℕ) → KeepsStore generation l.map (g.D.Disk.history l.initial.disk) (g.D.Disk.history l.disk);
+  images : (generation : ℕ) → ImagesCarry generation l.map.meaning (g.D.Disk.history l.initial.disk) (g.D.Disk.history l.disk);
+  keeps : (generation : ℕ) → KeepsStore generation l.map.meaning (g.D.Disk.history l.initial.disk) (g.D.Disk.history l.disk);
   logs : SameWhere is_log (g.D.Disk.history l.initial.disk) (g.D.Disk.history l.disk);
-  mail : AreFitted l.map (g.D.Disk.history l.initial.disk) (g.D.Disk.history l.disk);
+  mail : AreFitted l.map.meaning (g.D.Disk.history l.initial.disk) (g.D.Disk.history l.disk);
   there : SameThere (g.D.Disk.history l.initial.disk) (g.D.Disk.history l.disk);
-  cut : IfTold (g.D.Disk.history l.disk) (λ now. (name : FileName) → IsThere (now name) → (IsPast ghosts.cmp l.last name → ⊥) → EndsByLastRegion l.map name (now name));
+  cut : IfTold (g.D.Disk.history l.disk) (λ now. (name : FileName) → IsThere (now name) → (IsPast ghosts.cmp l.last name → ⊥) → EndsByLastRegion l.map.meaning name (now name));
   in_range : IfSome l.last IsNameInRange;
   faults : NoFault (g.D.Disk.faults l.initial.disk) (g.D.Disk.faults l.disk);
 }

@@ -24,8 +24,8 @@ pub loop-checked-init : goal.loop-checked-init
 loop-checked-init g c = record {
   whole = c.into_iter-checked-iterator.ensures.into_iter_gives.0;
   left = c.into_iter-checked-iterator.ensures.into_iter_gives.1 ∙ c.requires.room.0 ∙ sym (ap length c.into_iter-checked-iterator.ensures.into_iter_gives.0);
-  images = λ generation. images_now generation c.args.map.now (g.D.Disk.history c.args.disk.now);
-  keeps = λ generation. keeps_now generation c.args.map.now (g.D.Disk.history c.args.disk.now);
+  images = λ generation. images_now generation c.args.map.now.meaning (g.D.Disk.history c.args.disk.now);
+  keeps = λ generation. keeps_now generation c.args.map.now.meaning (g.D.Disk.history c.args.disk.now);
   outside = where_now (is_outside []) (g.D.Disk.history c.args.disk.now);
   opened = none_opened (g.D.Disk.history c.args.disk.now) (opened_logs c.args.opened.now.items) (ap opened_logs c.requires.empty.0);
   numbers = ap (map (λ (b : OpenBox). b.number.0)) c.requires.empty.0;
@@ -41,16 +41,16 @@ pub repair-requires : goal.repair-requires
 repair-requires g c =
     let whole = whole_next c.loop-checked.yielded c.in-Some.checked _ _ c.args.found.items c.in-Some.ensures.steps.0 c.loop-checked.invariant.whole in
     let logs = logs_whole c.loop-checked.yielded c.in-Some.checked _ c.args.found.items whole in
-    let next : Next c.args.map.now (found_logs c.loop-checked.yielded) c.in-Some.checked.log = next_log c.args.map.now (found_logs c.args.found.items) (found_logs c.loop-checked.yielded) c.in-Some.checked.log _ c.known_facts.ensures.boxes.rising c.requires.logs logs in
-    record { stands = next_stands c.args.map.now (found_logs c.args.found.items) (found_logs c.loop-checked.yielded) c.in-Some.checked.log _ _ _ next logs c.requires.stand c.loop-checked.invariant.outside }
+    let next : Next c.args.map.now.meaning (found_logs c.loop-checked.yielded) c.in-Some.checked.log = next_log c.args.map.now.meaning (found_logs c.args.found.items) (found_logs c.loop-checked.yielded) c.in-Some.checked.log _ c.known_facts.ensures.boxes.rising c.requires.logs logs in
+    record { stands = next_stands c.args.map.now.meaning (found_logs c.args.found.items) (found_logs c.loop-checked.yielded) c.in-Some.checked.log _ _ _ next logs c.requires.stand c.loop-checked.invariant.outside }
 
 pub returns-in_err-log-clause-images : goal.returns-in_err-log-clause-images
 returns-in_err-log-clause-images g c = λ generation.
     let whole = whole_next c.loop-checked.yielded c.in-Some.checked _ _ c.args.found.items c.in-Some.ensures.steps.0 c.loop-checked.invariant.whole in
     let logs = logs_whole c.loop-checked.yielded c.in-Some.checked _ c.args.found.items whole in
-    let next : Next c.args.map.now (found_logs c.loop-checked.yielded) c.in-Some.checked.log = next_log c.args.map.now (found_logs c.args.found.items) (found_logs c.loop-checked.yielded) c.in-Some.checked.log _ c.known_facts.ensures.boxes.rising c.requires.logs logs in
-    let stands = next_stands c.args.map.now (found_logs c.args.found.items) (found_logs c.loop-checked.yielded) c.in-Some.checked.log _ _ _ next logs c.requires.stand c.loop-checked.invariant.outside in
-    next_images generation c.args.map.now (found_logs c.loop-checked.yielded) c.in-Some.checked.log _ _ _ next stands (c.loop-checked.invariant.images generation) (c.loop-checked.invariant.keeps generation) c.in_err-log.ensures.any_moment
+    let next : Next c.args.map.now.meaning (found_logs c.loop-checked.yielded) c.in-Some.checked.log = next_log c.args.map.now.meaning (found_logs c.args.found.items) (found_logs c.loop-checked.yielded) c.in-Some.checked.log _ c.known_facts.ensures.boxes.rising c.requires.logs logs in
+    let stands = next_stands c.args.map.now.meaning (found_logs c.args.found.items) (found_logs c.loop-checked.yielded) c.in-Some.checked.log _ _ _ next logs c.requires.stand c.loop-checked.invariant.outside in
+    next_images generation c.args.map.now.meaning (found_logs c.loop-checked.yielded) c.in-Some.checked.log _ _ _ next stands (c.loop-checked.invariant.images generation) (c.loop-checked.invariant.keeps generation) c.in_err-log.ensures.any_moment
 
 pub push_box-requires : goal.push_box-requires
 push_box-requires g c =
@@ -61,20 +61,20 @@ pub loop-checked-preserved : goal.loop-checked-preserved
 loop-checked-preserved g c =
     let whole = whole_next c.loop-checked.yielded c.in-Some.checked _ _ c.args.found.items c.in-Some.ensures.steps.0 c.loop-checked.invariant.whole in
     let logs = logs_whole c.loop-checked.yielded c.in-Some.checked _ c.args.found.items whole in
-    let next : Next c.args.map.now (found_logs c.loop-checked.yielded) c.in-Some.checked.log = next_log c.args.map.now (found_logs c.args.found.items) (found_logs c.loop-checked.yielded) c.in-Some.checked.log _ c.known_facts.ensures.boxes.rising c.requires.logs logs in
-    let stands = next_stands c.args.map.now (found_logs c.args.found.items) (found_logs c.loop-checked.yielded) c.in-Some.checked.log _ _ _ next logs c.requires.stand c.loop-checked.invariant.outside in
+    let next : Next c.args.map.now.meaning (found_logs c.loop-checked.yielded) c.in-Some.checked.log = next_log c.args.map.now.meaning (found_logs c.args.found.items) (found_logs c.loop-checked.yielded) c.in-Some.checked.log _ c.known_facts.ensures.boxes.rising c.requires.logs logs in
+    let stands = next_stands c.args.map.now.meaning (found_logs c.args.found.items) (found_logs c.loop-checked.yielded) c.in-Some.checked.log _ _ _ next logs c.requires.stand c.loop-checked.invariant.outside in
     let r : IsRepaired (g.D.Disk.history c.loop-checked.disk) (g.D.Disk.history c.repair.new.disk) c.in-Some.checked.log c.in_ok-log.log = made_repaired _ _ c.in-Some.checked.log c.in_ok-log.log c.in_ok-log.ensures.log c.in_ok-log.ensures.reads c.in_ok-log.ensures.holds in
     record {
       whole = whole_more c.loop-checked.yielded c.in-Some.checked _ _ c.args.found.items c.in-Some.ensures.steps.0 c.loop-checked.invariant.whole;
       left = left_more c.in-Some.checked _ _ _ _ c.in-Some.ensures.steps.0 c.loop-checked.invariant.left c.in-Some.ensures.steps.1;
-      images = λ generation. next_images generation c.args.map.now (found_logs c.loop-checked.yielded) c.in-Some.checked.log _ _ _ next stands (c.loop-checked.invariant.images generation) (c.loop-checked.invariant.keeps generation) c.in_ok-log.ensures.any_moment;
-      keeps = λ generation. next_keeps generation c.args.map.now (found_logs c.loop-checked.yielded) c.in-Some.checked.log c.in_ok-log.log _ _ _ next stands (c.loop-checked.invariant.keeps generation) c.in_ok-log.ensures.others r;
+      images = λ generation. next_images generation c.args.map.now.meaning (found_logs c.loop-checked.yielded) c.in-Some.checked.log _ _ _ next stands (c.loop-checked.invariant.images generation) (c.loop-checked.invariant.keeps generation) c.in_ok-log.ensures.any_moment;
+      keeps = λ generation. next_keeps generation c.args.map.now.meaning (found_logs c.loop-checked.yielded) c.in-Some.checked.log c.in_ok-log.log _ _ _ next stands (c.loop-checked.invariant.keeps generation) c.in_ok-log.ensures.others r;
       outside = subst (λ (xs : List InspectedLog). SameWhere (is_outside xs) (g.D.Disk.history c.args.disk.now) (g.D.Disk.history c.repair.new.disk)) (sym (logs_more c.loop-checked.yielded c.in-Some.checked)) (next_outside (found_logs c.loop-checked.yielded) c.in-Some.checked.log _ _ _ c.loop-checked.invariant.outside c.in_ok-log.ensures.others);
       opened = subst (λ (xs : List InspectedLog). AllZip (IsRepaired (g.D.Disk.history c.args.disk.now) (g.D.Disk.history c.repair.new.disk)) xs (opened_logs c.push_box.new.boxes.items)) (sym (logs_more c.loop-checked.yielded c.in-Some.checked))
           (pushed_opened _ _ (found_logs c.loop-checked.yielded) c.in-Some.checked.log (opened_logs c.loop-checked.opened.items) _ c.in_ok-log.log (gates_more c.loop-checked.opened.items _ _ c.push_box.ensures.items)
-          (next_opened c.args.map.now (found_logs c.loop-checked.yielded) c.in-Some.checked.log (opened_logs c.loop-checked.opened.items) c.in_ok-log.log _ _ _ next c.loop-checked.invariant.outside c.in_ok-log.ensures.others r c.loop-checked.invariant.opened));
-      numbers = numbers_more c.args.map.now.boxes (length c.loop-checked.yielded) c.unwrap-at.result c.box_at.result c.loop-checked.opened.items _ _ (c.box_at.ensures ∙ ap (λ (k : ℕ). option_map shown_box (slice_get c.args.map.now.boxes k)) (let l = c.as_slice.ensures.len in let v = ap length c.as_slice.ensures.value in let i = c.loop-checked.invariant.items in omega (arith, l, v, i))) c.unwrap-at.ensures refl c.push_box.ensures.items c.loop-checked.invariant.numbers
-          ∙ ap (λ (k : ℕ). map (λ (b : MapBox). b.number) (take k c.args.map.now.boxes)) (sym (length-append c.loop-checked.yielded (c.in-Some.checked ∷ [])));
+          (next_opened c.args.map.now.meaning (found_logs c.loop-checked.yielded) c.in-Some.checked.log (opened_logs c.loop-checked.opened.items) c.in_ok-log.log _ _ _ next c.loop-checked.invariant.outside c.in_ok-log.ensures.others r c.loop-checked.invariant.opened));
+      numbers = numbers_more c.args.map.now.meaning.boxes (length c.loop-checked.yielded) c.unwrap-at.result c.box_at.result c.loop-checked.opened.items _ _ (c.box_at.ensures ∙ ap (λ (k : ℕ). option_map shown_box (slice_get c.args.map.now.meaning.boxes k)) (let l = c.as_slice.ensures.len in let v = ap length c.as_slice.ensures.value in let i = c.loop-checked.invariant.items in omega (arith, l, v, i))) c.unwrap-at.ensures refl c.push_box.ensures.items c.loop-checked.invariant.numbers
+          ∙ ap (λ (k : ℕ). map (λ (b : MapBox). b.number) (take k c.args.map.now.meaning.boxes)) (sym (length-append c.loop-checked.yielded (c.in-Some.checked ∷ [])));
       indexes = indexes_more c.loop-checked.yielded c.in-Some.checked c.loop-checked.opened.items _ _ c.push_box.ensures.items refl c.loop-checked.invariant.indexes;
       items = let l = ap length c.push_box.ensures.items in let i = c.loop-checked.invariant.items in omega (arith, l, i, length-append {A = OpenBox}, length-append {A = CheckedBox});
       len = one_longer c.loop-checked.yielded c.in-Some.checked _ _ c.push_box.ensures.len c.loop-checked.invariant.len;
@@ -116,8 +116,8 @@ returns-clause-unfailed g c = c.loop-checked.invariant.faults
 pub returns-clause-indexes : goal.returns-clause-indexes
 returns-clause-indexes g c =
     let e = whole_done c.loop-checked.yielded _ c.args.found.items _ c.in-None.ensures.steps.0 c.loop-checked.invariant.left c.loop-checked.invariant.whole in
-    let l : length c.loop-checked.yielded ≡ length c.args.map.now.boxes = ap length e ∙ sym (length-map c.args.found.items (λ (b : CheckedBox). b.log)) ∙ many c.args.map.now (found_logs c.args.found.items) c.requires.logs in
+    let l : length c.loop-checked.yielded ≡ length c.args.map.now.meaning.boxes = ap length e ∙ sym (length-map c.args.found.items (λ (b : CheckedBox). b.log)) ∙ many c.args.map.now.meaning (found_logs c.args.found.items) c.requires.logs in
     record {
-      numbers = c.loop-checked.invariant.numbers ∙ fold_over (map (λ (b : MapBox). b.number)) c.args.map.now.boxes (length c.loop-checked.yielded) (omega (arith, l));
+      numbers = c.loop-checked.invariant.numbers ∙ fold_over (map (λ (b : MapBox). b.number)) c.args.map.now.meaning.boxes (length c.loop-checked.yielded) (omega (arith, l));
       indexes = c.loop-checked.invariant.indexes ∙ ap (map (λ (b : CheckedBox). b.index)) e;
     }

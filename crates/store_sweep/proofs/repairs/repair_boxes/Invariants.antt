@@ -10,11 +10,11 @@ abbrev pub invariant-loop-checked : goal.invariant-loop-checked
 invariant-loop-checked g l = record {
   whole : l.yielded ++ l.checked-iterator.rest.items ≡ l.fn.found.items;
   left : l.checked-iterator.rest.len ≡ length l.checked-iterator.rest.items;
-  images : (generation : ℕ) → ImagesCarry generation l.map (g.D.Disk.history l.initial.disk) (g.D.Disk.history l.disk);
-  keeps : (generation : ℕ) → KeepsStore generation l.map (g.D.Disk.history l.initial.disk) (g.D.Disk.history l.disk);
+  images : (generation : ℕ) → ImagesCarry generation l.map.meaning (g.D.Disk.history l.initial.disk) (g.D.Disk.history l.disk);
+  keeps : (generation : ℕ) → KeepsStore generation l.map.meaning (g.D.Disk.history l.initial.disk) (g.D.Disk.history l.disk);
   outside : SameWhere (is_outside (found_logs l.yielded)) (g.D.Disk.history l.initial.disk) (g.D.Disk.history l.disk);
   opened : AllZip (IsRepaired (g.D.Disk.history l.initial.disk) (g.D.Disk.history l.disk)) (found_logs l.yielded) (opened_logs l.opened.items);
-  numbers : map (λ b. b.number.0) l.opened.items ≡ map (λ b. b.number) (take (length l.yielded) l.map.boxes);
+  numbers : map (λ b. b.number.0) l.opened.items ≡ map (λ b. b.number) (take (length l.yielded) l.map.meaning.boxes);
   indexes : map (λ b. b.index) l.opened.items ≡ map (λ b. b.index) l.yielded;
   len : vec_len l.opened ≡ length l.yielded;
   items : length l.opened.items ≡ length l.yielded;

@@ -10,20 +10,20 @@ use Rattle.disk_model.proofs.IdleLemmas.{same_state-begins}
 use Rattle.store_sweep.proofs.strays.remove_stray.Goals as goal
 
 pub returns-then-is_wanted-clause-images : goal.returns-then-is_wanted-clause-images
-returns-then-is_wanted-clause-images g c = images_now c.args.generation c.args.map.now (g.D.Disk.history c.args.disk.now)
+returns-then-is_wanted-clause-images g c = images_now c.args.generation c.args.map.now.meaning (g.D.Disk.history c.args.disk.now)
 
 pub returns-in_err-remove-clause-images : goal.returns-in_err-remove-clause-images
 returns-in_err-remove-clause-images g c =
-    images_fails c.args.generation c.args.map.now c.args.name half_removed _ _ c.in_err-remove.ensures.failed
-    (if_told-all _ (g.D.Disk.history c.args.disk.now) (λ disk found k. unwanted_holds c.args.generation c.args.map.now found c.args.name _ (sym c.is_wanted.ensures ∙ c.if-is_wanted.false)))
+    images_fails c.args.generation c.args.map.now.meaning c.args.name half_removed _ _ c.in_err-remove.ensures.failed
+    (if_told-all _ (g.D.Disk.history c.args.disk.now) (λ disk found k. unwanted_holds c.args.generation c.args.map.now.meaning found c.args.name _ (sym c.is_wanted.ensures ∙ c.if-is_wanted.false)))
 
 pub returns-clause-images : goal.returns-clause-images
 returns-clause-images g c =
-    images_goes_on c.args.generation c.args.map.now c.args.name removed _ _ c.in_ok-remove.ensures.state
-    (if_told-all _ (g.D.Disk.history c.args.disk.now) (λ disk found k. unwanted_holds c.args.generation c.args.map.now found c.args.name _ (sym c.is_wanted.ensures ∙ c.if-is_wanted.false)))
+    images_goes_on c.args.generation c.args.map.now.meaning c.args.name removed _ _ c.in_ok-remove.ensures.state
+    (if_told-all _ (g.D.Disk.history c.args.disk.now) (λ disk found k. unwanted_holds c.args.generation c.args.map.now.meaning found c.args.name _ (sym c.is_wanted.ensures ∙ c.if-is_wanted.false)))
 
 pub returns-clause-same : goal.returns-clause-same
-returns-clause-same g c = where_goes_on (is_wanted c.args.generation c.args.map.now) c.args.name removed _ _ c.in_ok-remove.ensures.state (sym c.is_wanted.ensures ∙ c.if-is_wanted.false)
+returns-clause-same g c = where_goes_on (is_wanted c.args.generation c.args.map.now.meaning) c.args.name removed _ _ c.in_ok-remove.ensures.state (sym c.is_wanted.ensures ∙ c.if-is_wanted.false)
 
 pub returns-clause-others : goal.returns-clause-others
 returns-clause-others g c = same-goes_on c.args.name removed (g.D.Disk.history c.args.disk.now) (g.D.Disk.history c.args.disk.now) _ (same-begins c.args.name (g.D.Disk.history c.args.disk.now)) c.in_ok-remove.ensures.state

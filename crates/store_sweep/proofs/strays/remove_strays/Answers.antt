@@ -16,16 +16,16 @@ use Rattle.store_sweep.proofs.strays.remove_strays.Goals as goal
 
 pub loop-name-init : goal.loop-name-init
 loop-name-init g c = record {
-  images = images_now c.args.generation c.args.map.now (g.D.Disk.history c.args.disk.now);
-  same = where_now (is_wanted c.args.generation c.args.map.now) (g.D.Disk.history c.args.disk.now);
-  gone = if_told-all _ (g.D.Disk.history c.args.disk.now) (λ disk. passed_none (λ (name : FileName) (f : FileState). is_wanted c.args.generation c.args.map.now name ≡ true) disk);
+  images = images_now c.args.generation c.args.map.now.meaning (g.D.Disk.history c.args.disk.now);
+  same = where_now (is_wanted c.args.generation c.args.map.now.meaning) (g.D.Disk.history c.args.disk.now);
+  gone = if_told-all _ (g.D.Disk.history c.args.disk.now) (λ disk. passed_none (λ (name : FileName) (f : FileState). is_wanted c.args.generation c.args.map.now.meaning name ≡ true) disk);
   none = λ e. same_state-begins (g.D.Disk.history c.args.disk.now);
   in_range = tt;
   faults = refl;
 }
 
 pub returns-in_err-name-clause-images : goal.returns-in_err-name-clause-images
-returns-in_err-name-clause-images g c = images_unchanged c.args.generation c.args.map.now _ _ _ c.loop-name.invariant.images c.in_err-name.ensures.state
+returns-in_err-name-clause-images g c = images_unchanged c.args.generation c.args.map.now.meaning _ _ _ c.loop-name.invariant.images c.in_err-name.ensures.state
 
 pub returns-in_err-name-clause-fault : goal.returns-in_err-name-clause-fault
 returns-in_err-name-clause-fault g c =
@@ -33,7 +33,7 @@ returns-in_err-name-clause-fault g c =
 
 pub returns-in_err-removed-clause-images : goal.returns-in_err-removed-clause-images
 returns-in_err-removed-clause-images g c =
-    walk_images c.args.generation c.args.map.now _ _ _ _ c.loop-name.invariant.images c.loop-name.invariant.same c.in_ok-name.ensures.state c.in_err-removed.ensures.images
+    walk_images c.args.generation c.args.map.now.meaning _ _ _ _ c.loop-name.invariant.images c.loop-name.invariant.same c.in_ok-name.ensures.state c.in_err-removed.ensures.images
 
 pub loop-name-smaller : goal.loop-name-smaller
 loop-name-smaller g c =
@@ -42,9 +42,9 @@ loop-name-smaller g c =
 
 pub loop-name-preserved : goal.loop-name-preserved
 loop-name-preserved g c = record {
-  images = walk_images c.args.generation c.args.map.now _ _ _ _ c.loop-name.invariant.images c.loop-name.invariant.same c.in_ok-name.ensures.state c.in_ok-removed.ensures.images;
-  same = walk_same (is_wanted c.args.generation c.args.map.now) _ _ _ _ c.loop-name.invariant.same c.in_ok-name.ensures.state c.in_ok-removed.ensures.same;
-  gone = walk_more (λ (name : FileName) (f : FileState). is_wanted c.args.generation c.args.map.now name ≡ true) c.loop-name.last c.in-Some.name _ _ _ c.in_ok-name.ensures.state
+  images = walk_images c.args.generation c.args.map.now.meaning _ _ _ _ c.loop-name.invariant.images c.loop-name.invariant.same c.in_ok-name.ensures.state c.in_ok-removed.ensures.images;
+  same = walk_same (is_wanted c.args.generation c.args.map.now.meaning) _ _ _ _ c.loop-name.invariant.same c.in_ok-name.ensures.state c.in_ok-removed.ensures.same;
+  gone = walk_more (λ (name : FileName) (f : FileState). is_wanted c.args.generation c.args.map.now.meaning name ≡ true) c.loop-name.last c.in-Some.name _ _ _ c.in_ok-name.ensures.state
       (let F : Option FileName → Type 0 = λ n. IfTold (g.D.Disk.history c.loop-name.disk) (IsNext ghosts.cmp c.loop-name.last n) in subst F c.in-Some.is c.in_ok-name.ensures.next)
       c.loop-name.invariant.gone c.in_ok-removed.ensures.others c.in_ok-removed.ensures.gone;
   none = λ e.
@@ -55,25 +55,25 @@ loop-name-preserved g c = record {
 }
 
 pub returns-clause-images : goal.returns-clause-images
-returns-clause-images g c = images_unchanged c.args.generation c.args.map.now _ _ _ c.loop-name.invariant.images c.in_ok-name.ensures.state
+returns-clause-images g c = images_unchanged c.args.generation c.args.map.now.meaning _ _ _ c.loop-name.invariant.images c.in_ok-name.ensures.state
 
 pub returns-clause-same : goal.returns-clause-same
 returns-clause-same g c =
-    where_then (is_wanted c.args.generation c.args.map.now) _ _ _ c.loop-name.invariant.same (where_unchanged (is_wanted c.args.generation c.args.map.now) _ _ c.in_ok-name.ensures.state)
+    where_then (is_wanted c.args.generation c.args.map.now.meaning) _ _ _ c.loop-name.invariant.same (where_unchanged (is_wanted c.args.generation c.args.map.now.meaning) _ _ c.in_ok-name.ensures.state)
 
 pub returns-clause-none : goal.returns-clause-none
 returns-clause-none g c = λ e. same_state-unchanged _ _ _ (c.loop-name.invariant.none e) c.in_ok-name.ensures.state
 
 pub returns-clause-gone : goal.returns-clause-gone
 returns-clause-gone g c =
-    walk_ends (λ (name : FileName) (f : FileState). is_wanted c.args.generation c.args.map.now name ≡ true) c.loop-name.last _ _ c.in_ok-name.ensures.state
+    walk_ends (λ (name : FileName) (f : FileState). is_wanted c.args.generation c.args.map.now.meaning name ≡ true) c.loop-name.last _ _ c.in_ok-name.ensures.state
     (let F : Option FileName → Type 0 = λ n. IfTold (g.D.Disk.history c.loop-name.disk) (IsNext ghosts.cmp c.loop-name.last n) in subst F c.in_default.is c.in_ok-name.ensures.next)
     c.loop-name.invariant.gone
 
 pub returns-in_err-name-clause-keeps : goal.returns-in_err-name-clause-keeps
 returns-in_err-name-clause-keeps g c = λ none.
-    keeps_where c.args.generation c.args.map.now _ _ (where_then (is_wanted c.args.generation c.args.map.now) _ _ _ c.loop-name.invariant.same (where_unchanged (is_wanted c.args.generation c.args.map.now) _ _ c.in_err-name.ensures.state))
+    keeps_where c.args.generation c.args.map.now.meaning _ _ (where_then (is_wanted c.args.generation c.args.map.now.meaning) _ _ _ c.loop-name.invariant.same (where_unchanged (is_wanted c.args.generation c.args.map.now.meaning) _ _ c.in_err-name.ensures.state))
 
 pub returns-clause-keeps : goal.returns-clause-keeps
 returns-clause-keeps g c = λ none.
-    keeps_where c.args.generation c.args.map.now _ _ (where_then (is_wanted c.args.generation c.args.map.now) _ _ _ c.loop-name.invariant.same (where_unchanged (is_wanted c.args.generation c.args.map.now) _ _ c.in_ok-name.ensures.state))
+    keeps_where c.args.generation c.args.map.now.meaning _ _ (where_then (is_wanted c.args.generation c.args.map.now.meaning) _ _ _ c.loop-name.invariant.same (where_unchanged (is_wanted c.args.generation c.args.map.now.meaning) _ _ c.in_ok-name.ensures.state))

@@ -12,9 +12,9 @@ use Rattle.store_sweep.proofs.strays.remove_strays.Given as goal
 
 abbrev pub invariant-loop-name : goal.invariant-loop-name
 invariant-loop-name g l = record {
-  images : ImagesCarry l.generation l.map (g.D.Disk.history l.initial.disk) (g.D.Disk.history l.disk);
-  same : SameWhere (is_wanted l.generation l.map) (g.D.Disk.history l.initial.disk) (g.D.Disk.history l.disk);
-  gone : IfTold (g.D.Disk.history l.disk) (λ now. (name : FileName) → IsThere (now name) → (IsPast ghosts.cmp l.last name → ⊥) → is_wanted l.generation l.map name ≡ true);
+  images : ImagesCarry l.generation l.map.meaning (g.D.Disk.history l.initial.disk) (g.D.Disk.history l.disk);
+  same : SameWhere (is_wanted l.generation l.map.meaning) (g.D.Disk.history l.initial.disk) (g.D.Disk.history l.disk);
+  gone : IfTold (g.D.Disk.history l.disk) (λ now. (name : FileName) → IsThere (now name) → (IsPast ghosts.cmp l.last name → ⊥) → is_wanted l.generation l.map.meaning name ≡ true);
   none : l.removed ≡ false → SameState (g.D.Disk.history l.initial.disk) (g.D.Disk.history l.disk);
   in_range : IfSome l.last IsNameInRange;
   faults : NoFault (g.D.Disk.faults l.initial.disk) (g.D.Disk.faults l.disk);

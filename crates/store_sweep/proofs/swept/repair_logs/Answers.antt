@@ -11,7 +11,7 @@ repair-requires g c = record { stands = found_of c.args.root_log (g.D.Disk.histo
 
 pub returns-in_err-root_log-clause-images : goal.returns-in_err-root_log-clause-images
 returns-in_err-root_log-clause-images g c = λ generation is.
-    log_images generation c.args.map.now c.args.root_log _ _ (root_at generation c.args.map.now c.args.root_log c.requires.root.0) c.requires.root.1 c.in_err-root_log.ensures.any_moment
+    log_images generation c.args.map.now.meaning c.args.root_log _ _ (root_at generation c.args.map.now.meaning c.args.root_log c.requires.root.0) c.requires.root.1 c.in_err-root_log.ensures.any_moment
 
 pub repair-requires-2 : goal.repair-requires-2
 repair-requires-2 g c = record {
@@ -21,46 +21,46 @@ repair-requires-2 g c = record {
 
 pub returns-in_err-map_log-clause-images : goal.returns-in_err-map_log-clause-images
 returns-in_err-map_log-clause-images g c = λ generation is.
-    let at = root_at generation c.args.map.now c.args.root_log c.requires.root.0 in
+    let at = root_at generation c.args.map.now.meaning c.args.root_log c.requires.root.0 in
     let r = made_repaired _ _ c.args.root_log _ c.in_ok-root_log.ensures.log c.in_ok-root_log.ensures.reads c.in_ok-root_log.ensures.holds in
-    images_then generation c.args.map.now _ _ _
-    (log_images generation c.args.map.now c.args.root_log _ _ at c.requires.root.1 c.in_ok-root_log.ensures.any_moment)
-    (log_keeps generation c.args.map.now c.args.root_log _ _ _ at c.requires.root.1 c.in_ok-root_log.ensures.others r).holds
-    (log_images generation c.args.map.now c.args.map_log _ _ (map_at generation c.args.map.now c.args.map_log is)
+    images_then generation c.args.map.now.meaning _ _ _
+    (log_images generation c.args.map.now.meaning c.args.root_log _ _ at c.requires.root.1 c.in_ok-root_log.ensures.any_moment)
+    (log_keeps generation c.args.map.now.meaning c.args.root_log _ _ _ at c.requires.root.1 c.in_ok-root_log.ensures.others r).holds
+    (log_images generation c.args.map.now.meaning c.args.map_log _ _ (map_at generation c.args.map.now.meaning c.args.map_log is)
     (stands_still c.args.map_log c.args.root_log.name _ _ (map_apart generation c.args.map_log c.args.root_log is c.requires.root.0) c.in_ok-root_log.ensures.others c.requires.map_log.1)
     c.in_err-map_log.ensures.any_moment)
 
 pub repair_boxes-requires-clause-stand : goal.repair_boxes-requires-clause-stand
 repair_boxes-requires-clause-stand g c =
-    boxes_still c.args.map.now (found_logs c.args.boxes.items) c.args.map_log.name _ _ c.requires.box_logs (no_box_map c.requires.map_log.0.0 c.args.map_log c.requires.map_log.0.1) c.in_ok-map_log.ensures.others
-    (boxes_still c.args.map.now (found_logs c.args.boxes.items) c.args.root_log.name _ _ c.requires.box_logs (no_box_root c.args.root_log c.requires.root.0) c.in_ok-root_log.ensures.others c.requires.box_logs_stand)
+    boxes_still c.args.map.now.meaning (found_logs c.args.boxes.items) c.args.map_log.name _ _ c.requires.box_logs (no_box_map c.requires.map_log.0.0 c.args.map_log c.requires.map_log.0.1) c.in_ok-map_log.ensures.others
+    (boxes_still c.args.map.now.meaning (found_logs c.args.boxes.items) c.args.root_log.name _ _ c.requires.box_logs (no_box_root c.args.root_log c.requires.root.0) c.in_ok-root_log.ensures.others c.requires.box_logs_stand)
 
 pub returns-in_err-repair_boxes-clause-images : goal.returns-in_err-repair_boxes-clause-images
 returns-in_err-repair_boxes-clause-images g c = λ generation is.
-    let at = root_at generation c.args.map.now c.args.root_log c.requires.root.0 in
-    let map_is = map_at generation c.args.map.now c.args.map_log is in
+    let at = root_at generation c.args.map.now.meaning c.args.root_log c.requires.root.0 in
+    let map_is = map_at generation c.args.map.now.meaning c.args.map_log is in
     let r = made_repaired _ _ c.args.root_log _ c.in_ok-root_log.ensures.log c.in_ok-root_log.ensures.reads c.in_ok-root_log.ensures.holds in
     let s = made_repaired _ _ c.args.map_log _ c.in_ok-map_log.ensures.log c.in_ok-map_log.ensures.reads c.in_ok-map_log.ensures.holds in
     let stands = stands_still c.args.map_log c.args.root_log.name _ _ (map_apart generation c.args.map_log c.args.root_log is c.requires.root.0) c.in_ok-root_log.ensures.others c.requires.map_log.1 in
-    let keeps = log_keeps generation c.args.map.now c.args.root_log _ _ _ at c.requires.root.1 c.in_ok-root_log.ensures.others r in
-    images_then generation c.args.map.now _ _ _
-    (images_then generation c.args.map.now _ _ _ (log_images generation c.args.map.now c.args.root_log _ _ at c.requires.root.1 c.in_ok-root_log.ensures.any_moment) keeps.holds
-    (log_images generation c.args.map.now c.args.map_log _ _ map_is stands c.in_ok-map_log.ensures.any_moment))
-    (keeps_then generation c.args.map.now _ _ _ keeps (log_keeps generation c.args.map.now c.args.map_log _ _ _ map_is stands c.in_ok-map_log.ensures.others s)).holds
+    let keeps = log_keeps generation c.args.map.now.meaning c.args.root_log _ _ _ at c.requires.root.1 c.in_ok-root_log.ensures.others r in
+    images_then generation c.args.map.now.meaning _ _ _
+    (images_then generation c.args.map.now.meaning _ _ _ (log_images generation c.args.map.now.meaning c.args.root_log _ _ at c.requires.root.1 c.in_ok-root_log.ensures.any_moment) keeps.holds
+    (log_images generation c.args.map.now.meaning c.args.map_log _ _ map_is stands c.in_ok-map_log.ensures.any_moment))
+    (keeps_then generation c.args.map.now.meaning _ _ _ keeps (log_keeps generation c.args.map.now.meaning c.args.map_log _ _ _ map_is stands c.in_ok-map_log.ensures.others s)).holds
     (c.in_err-repair_boxes.ensures.images generation)
 
 pub returns-clause-images : goal.returns-clause-images
 returns-clause-images g c = λ generation is.
-    let at = root_at generation c.args.map.now c.args.root_log c.requires.root.0 in
-    let map_is = map_at generation c.args.map.now c.args.map_log is in
+    let at = root_at generation c.args.map.now.meaning c.args.root_log c.requires.root.0 in
+    let map_is = map_at generation c.args.map.now.meaning c.args.map_log is in
     let r = made_repaired _ _ c.args.root_log _ c.in_ok-root_log.ensures.log c.in_ok-root_log.ensures.reads c.in_ok-root_log.ensures.holds in
     let s = made_repaired _ _ c.args.map_log _ c.in_ok-map_log.ensures.log c.in_ok-map_log.ensures.reads c.in_ok-map_log.ensures.holds in
     let stands = stands_still c.args.map_log c.args.root_log.name _ _ (map_apart generation c.args.map_log c.args.root_log is c.requires.root.0) c.in_ok-root_log.ensures.others c.requires.map_log.1 in
-    let keeps = log_keeps generation c.args.map.now c.args.root_log _ _ _ at c.requires.root.1 c.in_ok-root_log.ensures.others r in
-    images_then generation c.args.map.now _ _ _
-    (images_then generation c.args.map.now _ _ _ (log_images generation c.args.map.now c.args.root_log _ _ at c.requires.root.1 c.in_ok-root_log.ensures.any_moment) keeps.holds
-    (log_images generation c.args.map.now c.args.map_log _ _ map_is stands c.in_ok-map_log.ensures.any_moment))
-    (keeps_then generation c.args.map.now _ _ _ keeps (log_keeps generation c.args.map.now c.args.map_log _ _ _ map_is stands c.in_ok-map_log.ensures.others s)).holds
+    let keeps = log_keeps generation c.args.map.now.meaning c.args.root_log _ _ _ at c.requires.root.1 c.in_ok-root_log.ensures.others r in
+    images_then generation c.args.map.now.meaning _ _ _
+    (images_then generation c.args.map.now.meaning _ _ _ (log_images generation c.args.map.now.meaning c.args.root_log _ _ at c.requires.root.1 c.in_ok-root_log.ensures.any_moment) keeps.holds
+    (log_images generation c.args.map.now.meaning c.args.map_log _ _ map_is stands c.in_ok-map_log.ensures.any_moment))
+    (keeps_then generation c.args.map.now.meaning _ _ _ keeps (log_keeps generation c.args.map.now.meaning c.args.map_log _ _ _ map_is stands c.in_ok-map_log.ensures.others s)).holds
     (c.in_ok-repair_boxes.ensures.images generation)
 
 pub returns-clause-keeps : goal.returns-clause-keeps
@@ -68,22 +68,22 @@ returns-clause-keeps g c = λ generation is.
     let r = made_repaired _ _ c.args.root_log _ c.in_ok-root_log.ensures.log c.in_ok-root_log.ensures.reads c.in_ok-root_log.ensures.holds in
     let s = made_repaired _ _ c.args.map_log _ c.in_ok-map_log.ensures.log c.in_ok-map_log.ensures.reads c.in_ok-map_log.ensures.holds in
     let stands = stands_still c.args.map_log c.args.root_log.name _ _ (map_apart generation c.args.map_log c.args.root_log is c.requires.root.0) c.in_ok-root_log.ensures.others c.requires.map_log.1 in
-    keeps_then generation c.args.map.now _ _ _
-    (keeps_then generation c.args.map.now _ _ _
-    (log_keeps generation c.args.map.now c.args.root_log _ _ _ (root_at generation c.args.map.now c.args.root_log c.requires.root.0) c.requires.root.1 c.in_ok-root_log.ensures.others r)
-    (log_keeps generation c.args.map.now c.args.map_log _ _ _ (map_at generation c.args.map.now c.args.map_log is) stands c.in_ok-map_log.ensures.others s))
+    keeps_then generation c.args.map.now.meaning _ _ _
+    (keeps_then generation c.args.map.now.meaning _ _ _
+    (log_keeps generation c.args.map.now.meaning c.args.root_log _ _ _ (root_at generation c.args.map.now.meaning c.args.root_log c.requires.root.0) c.requires.root.1 c.in_ok-root_log.ensures.others r)
+    (log_keeps generation c.args.map.now.meaning c.args.map_log _ _ _ (map_at generation c.args.map.now.meaning c.args.map_log is) stands c.in_ok-map_log.ensures.others s))
     (c.in_ok-repair_boxes.ensures.keeps generation)
 
 pub returns-clause-map_log : goal.returns-clause-map_log
 returns-clause-map_log g c =
     let s = made_repaired _ _ c.args.map_log _ c.in_ok-map_log.ensures.log c.in_ok-map_log.ensures.reads c.in_ok-map_log.ensures.holds in
-    map_stays c.requires.map_log.0.0 c.args.map.now (found_logs c.args.boxes.items) c.args.map_log _ _ _ _ c.requires.map_log.0.1 c.requires.box_logs c.in_ok-repair_boxes.ensures.others
+    map_stays c.requires.map_log.0.0 c.args.map.now.meaning (found_logs c.args.boxes.items) c.args.map_log _ _ _ _ c.requires.map_log.0.1 c.requires.box_logs c.in_ok-repair_boxes.ensures.others
     (log_since c.args.map_log _ c.args.root_log.name _ _ _ (map_apart c.requires.map_log.0.0 c.args.map_log c.args.root_log c.requires.map_log.0.1 c.requires.root.0) c.in_ok-root_log.ensures.others s)
 
 pub returns-clause-box_logs : goal.returns-clause-box_logs
 returns-clause-box_logs g c =
-    boxes_since c.args.map.now (found_logs c.args.boxes.items) (opened_logs c.repair_boxes.new.opened.items) c.args.root_log.name _ _ _ c.requires.box_logs (no_box_root c.args.root_log c.requires.root.0) c.in_ok-root_log.ensures.others
-    (boxes_since c.args.map.now (found_logs c.args.boxes.items) (opened_logs c.repair_boxes.new.opened.items) c.args.map_log.name _ _ _ c.requires.box_logs (no_box_map c.requires.map_log.0.0 c.args.map_log c.requires.map_log.0.1) c.in_ok-map_log.ensures.others
+    boxes_since c.args.map.now.meaning (found_logs c.args.boxes.items) (opened_logs c.repair_boxes.new.opened.items) c.args.root_log.name _ _ _ c.requires.box_logs (no_box_root c.args.root_log c.requires.root.0) c.in_ok-root_log.ensures.others
+    (boxes_since c.args.map.now.meaning (found_logs c.args.boxes.items) (opened_logs c.repair_boxes.new.opened.items) c.args.map_log.name _ _ _ c.requires.box_logs (no_box_map c.requires.map_log.0.0 c.args.map_log c.requires.map_log.0.1) c.in_ok-map_log.ensures.others
     c.in_ok-repair_boxes.ensures.opened)
 
 pub returns-clause-others : goal.returns-clause-others
@@ -92,7 +92,7 @@ returns-clause-others g c = three_stay c.args.root_log c.args.map_log (found_log
 pub returns-clause-root_log : goal.returns-clause-root_log
 returns-clause-root_log g c =
     let r = made_repaired _ _ c.args.root_log _ c.in_ok-root_log.ensures.log c.in_ok-root_log.ensures.reads c.in_ok-root_log.ensures.holds in
-    root_stays c.requires.map_log.0.0 c.args.map.now (found_logs c.args.boxes.items) c.args.root_log c.args.map_log _ _ _ _ _ c.requires.root.0 c.requires.map_log.0.1 c.requires.box_logs c.in_ok-map_log.ensures.others c.in_ok-repair_boxes.ensures.others r
+    root_stays c.requires.map_log.0.0 c.args.map.now.meaning (found_logs c.args.boxes.items) c.args.root_log c.args.map_log _ _ _ _ _ c.requires.root.0 c.requires.map_log.0.1 c.requires.box_logs c.in_ok-map_log.ensures.others c.in_ok-repair_boxes.ensures.others r
 
 pub returns-clause-there : goal.returns-clause-there
 returns-clause-there g c =

@@ -15,59 +15,59 @@ use Rattle.store_sweep.proofs.swept.sweep.Goals as goal
 
 pub returns-in_err-root_log-clause-any_moment : goal.returns-in_err-root_log-clause-any_moment
 returns-in_err-root_log-clause-any_moment g c = λ lists s.
-    safe_images c.args.checked.generation c.args.checked.map lists _ _ (g.met.D.Disk.reads_image c.args.disk.now) c.requires.opened (c.in_err-root_log.ensures.images c.args.checked.generation c.requires.map_log.0) s
+    safe_images c.args.checked.generation c.args.checked.map.meaning lists _ _ (g.met.D.Disk.reads_image c.args.disk.now) c.requires.opened (c.in_err-root_log.ensures.images c.args.checked.generation c.requires.map_log.0) s
 
 pub returns-in_err-clear-clause-any_moment : goal.returns-in_err-clear-clause-any_moment
 returns-in_err-clear-clause-any_moment g c = λ lists s.
-    safe_images c.args.checked.generation c.args.checked.map lists _ _ (g.met.D.Disk.reads_image c.args.disk.now) c.requires.opened
-    (images_then c.args.checked.generation c.args.checked.map _ _ _ (c.in_ok-root_log.ensures.images c.args.checked.generation c.requires.map_log.0) (c.in_ok-root_log.ensures.keeps c.args.checked.generation c.requires.map_log.0).holds c.in_err-clear.ensures.images) s
+    safe_images c.args.checked.generation c.args.checked.map.meaning lists _ _ (g.met.D.Disk.reads_image c.args.disk.now) c.requires.opened
+    (images_then c.args.checked.generation c.args.checked.map.meaning _ _ _ (c.in_ok-root_log.ensures.images c.args.checked.generation c.requires.map_log.0) (c.in_ok-root_log.ensures.keeps c.args.checked.generation c.requires.map_log.0).holds c.in_err-clear.ensures.images) s
 
 pub returns-clause-any_moment : goal.returns-clause-any_moment
 returns-clause-any_moment g c = λ lists s.
-    safe_images c.args.checked.generation c.args.checked.map lists _ _ (g.met.D.Disk.reads_image c.args.disk.now) c.requires.opened
-    (images_then c.args.checked.generation c.args.checked.map _ _ _ (c.in_ok-root_log.ensures.images c.args.checked.generation c.requires.map_log.0) (c.in_ok-root_log.ensures.keeps c.args.checked.generation c.requires.map_log.0).holds c.in_ok-clear.ensures.images) s
+    safe_images c.args.checked.generation c.args.checked.map.meaning lists _ _ (g.met.D.Disk.reads_image c.args.disk.now) c.requires.opened
+    (images_then c.args.checked.generation c.args.checked.map.meaning _ _ _ (c.in_ok-root_log.ensures.images c.args.checked.generation c.requires.map_log.0) (c.in_ok-root_log.ensures.keeps c.args.checked.generation c.requires.map_log.0).holds c.in_ok-clear.ensures.images) s
 
 pub returns-clause-map_log : goal.returns-clause-map_log
 returns-clause-map_log g c =
-    opened_map c.args.checked.generation c.args.checked.map c.args.checked.map_log _ _ _ _ (g.met.D.Disk.reads_image c.args.disk.now) c.requires.opened c.requires.map_log.0 c.in_ok-clear.ensures.logs c.in_ok-root_log.ensures.map_log
+    opened_map c.args.checked.generation c.args.checked.map.meaning c.args.checked.map_log _ _ _ _ (g.met.D.Disk.reads_image c.args.disk.now) c.requires.opened c.requires.map_log.0 c.in_ok-clear.ensures.logs c.in_ok-root_log.ensures.map_log
 
 pub returns-clause-box_logs : goal.returns-clause-box_logs
 returns-clause-box_logs g c =
-    opened_boxes c.args.checked.generation c.args.checked.map (found_logs c.args.checked.boxes) _ _ _ _ (g.met.D.Disk.reads_image c.args.disk.now) c.requires.opened c.requires.box_logs c.in_ok-clear.ensures.logs (rw c.into_vec-boxes.ensures at c.in_ok-root_log.ensures.box_logs)
+    opened_boxes c.args.checked.generation c.args.checked.map.meaning (found_logs c.args.checked.boxes) _ _ _ _ (g.met.D.Disk.reads_image c.args.disk.now) c.requires.opened c.requires.box_logs c.in_ok-clear.ensures.logs (rw c.into_vec-boxes.ensures at c.in_ok-root_log.ensures.box_logs)
 
 pub returns-clause-root_log : goal.returns-clause-root_log
 returns-clause-root_log g c =
-    opened_root c.args.checked.generation c.args.checked.map c.args.checked.root_log _ _ _ _ (g.met.D.Disk.reads_image c.args.disk.now) c.requires.opened c.requires.root.0 c.in_ok-clear.ensures.logs c.in_ok-root_log.ensures.root_log
+    opened_root c.args.checked.generation c.args.checked.map.meaning c.args.checked.root_log _ _ _ _ (g.met.D.Disk.reads_image c.args.disk.now) c.requires.opened c.requires.root.0 c.in_ok-clear.ensures.logs c.in_ok-root_log.ensures.root_log
 
 -- what the store reads and holds, through both parts
 
-both_images : (g : Over) (c : In_ok-root_log g) → (new : Option History) → ImagesCarry c.args.checked.generation c.args.checked.map (g.D.Disk.history c.repair_logs.new.disk) new → ImagesCarry c.args.checked.generation c.args.checked.map (g.D.Disk.history c.args.disk.now) new
-both_images g c new images = images_then c.args.checked.generation c.args.checked.map _ _ _ (c.in_ok-root_log.ensures.images c.args.checked.generation c.requires.map_log.0) (c.in_ok-root_log.ensures.keeps c.args.checked.generation c.requires.map_log.0).holds images
+both_images : (g : Over) (c : In_ok-root_log g) → (new : Option History) → ImagesCarry c.args.checked.generation c.args.checked.map.meaning (g.D.Disk.history c.repair_logs.new.disk) new → ImagesCarry c.args.checked.generation c.args.checked.map.meaning (g.D.Disk.history c.args.disk.now) new
+both_images g c new images = images_then c.args.checked.generation c.args.checked.map.meaning _ _ _ (c.in_ok-root_log.ensures.images c.args.checked.generation c.requires.map_log.0) (c.in_ok-root_log.ensures.keeps c.args.checked.generation c.requires.map_log.0).holds images
 
-both_keep : (g : Over) (c : In_ok-root_log g) → (new : Option History) → KeepsStore c.args.checked.generation c.args.checked.map (g.D.Disk.history c.repair_logs.new.disk) new → KeepsStore c.args.checked.generation c.args.checked.map (g.D.Disk.history c.args.disk.now) new
-both_keep g c new keeps = keeps_then c.args.checked.generation c.args.checked.map _ _ _ (c.in_ok-root_log.ensures.keeps c.args.checked.generation c.requires.map_log.0) keeps
+both_keep : (g : Over) (c : In_ok-root_log g) → (new : Option History) → KeepsStore c.args.checked.generation c.args.checked.map.meaning (g.D.Disk.history c.repair_logs.new.disk) new → KeepsStore c.args.checked.generation c.args.checked.map.meaning (g.D.Disk.history c.args.disk.now) new
+both_keep g c new keeps = keeps_then c.args.checked.generation c.args.checked.map.meaning _ _ _ (c.in_ok-root_log.ensures.keeps c.args.checked.generation c.requires.map_log.0) keeps
 
 pub returns-in_err-clear-clause-settled_again : goal.returns-in_err-clear-clause-settled_again
 returns-in_err-clear-clause-settled_again g c = λ none lists s.
     let at = (goal.at.returns-in_err-clear-clause-settled_again g c).In_ok-root_log in
-    settled_after c.args.checked.generation c.args.checked.map lists _ _ (g.met.D.Disk.reads_image c.args.disk.now) c.requires.opened (both_images g at _ c.in_err-clear.ensures.images)
+    settled_after c.args.checked.generation c.args.checked.map.meaning lists _ _ (g.met.D.Disk.reads_image c.args.disk.now) c.requires.opened (both_images g at _ c.in_err-clear.ensures.images)
     (both_keep g at _ (c.in_err-clear.ensures.keeps (none_since (g.D.Disk.faults c.args.disk.now) (g.D.Disk.faults c.repair_logs.new.disk) (g.D.Disk.faults c.clear.new.disk) c.in_ok-root_log.ensures.unfailed c.from_residual-in_err-clear.ensures.0 none))) s
 
 pub returns-in_err-clear-clause-carried : goal.returns-in_err-clear-clause-carried
 returns-in_err-clear-clause-carried g c = λ none.
     let at = (goal.at.returns-in_err-clear-clause-carried g c).In_ok-root_log in
-    files_carry c.args.checked.generation c.args.checked.map _ _ c.requires.opened (both_images g at _ c.in_err-clear.ensures.images) (both_keep g at _ (c.in_err-clear.ensures.keeps (none_since (g.D.Disk.faults c.args.disk.now) (g.D.Disk.faults c.repair_logs.new.disk) (g.D.Disk.faults c.clear.new.disk) c.in_ok-root_log.ensures.unfailed c.from_residual-in_err-clear.ensures.0 none)))
+    files_carry c.args.checked.generation c.args.checked.map.meaning _ _ c.requires.opened (both_images g at _ c.in_err-clear.ensures.images) (both_keep g at _ (c.in_err-clear.ensures.keeps (none_since (g.D.Disk.faults c.args.disk.now) (g.D.Disk.faults c.repair_logs.new.disk) (g.D.Disk.faults c.clear.new.disk) c.in_ok-root_log.ensures.unfailed c.from_residual-in_err-clear.ensures.0 none)))
 
 pub returns-clause-settled_again : goal.returns-clause-settled_again
 returns-clause-settled_again g c = λ none lists s.
     let at = (goal.at.returns-clause-settled_again g c).In_ok-root_log in
-    settled_after c.args.checked.generation c.args.checked.map lists _ _ (g.met.D.Disk.reads_image c.args.disk.now) c.requires.opened (both_images g at _ c.in_ok-clear.ensures.images)
+    settled_after c.args.checked.generation c.args.checked.map.meaning lists _ _ (g.met.D.Disk.reads_image c.args.disk.now) c.requires.opened (both_images g at _ c.in_ok-clear.ensures.images)
     (both_keep g at _ (c.in_ok-clear.ensures.keeps (λ err. absurd (false≢true err)))) s
 
 pub returns-clause-carried : goal.returns-clause-carried
 returns-clause-carried g c = λ none.
     let at = (goal.at.returns-clause-carried g c).In_ok-root_log in
-    files_carry c.args.checked.generation c.args.checked.map _ _ c.requires.opened (both_images g at _ c.in_ok-clear.ensures.images) (both_keep g at _ (c.in_ok-clear.ensures.keeps (λ err. absurd (false≢true err))))
+    files_carry c.args.checked.generation c.args.checked.map.meaning _ _ c.requires.opened (both_images g at _ c.in_ok-clear.ensures.images) (both_keep g at _ (c.in_ok-clear.ensures.keeps (λ err. absurd (false≢true err))))
 
 pub returns-clause-swept : goal.returns-clause-swept
 returns-clause-swept g c =
@@ -75,14 +75,14 @@ returns-clause-swept g c =
     let images = both_images g at _ c.in_ok-clear.ensures.images in
     let keeps = both_keep g at _ (c.in_ok-clear.ensures.keeps (λ err. absurd (false≢true err))) in
     record {
-      reads = files_carry c.args.checked.generation c.args.checked.map _ _ c.requires.opened images keeps;
+      reads = files_carry c.args.checked.generation c.args.checked.map.meaning _ _ c.requires.opened images keeps;
       only = c.in_ok-clear.ensures.gone;
-      kept = kept-then c.args.checked.generation c.args.checked.map _ _ _ (kept-there c.args.checked.generation c.args.checked.map _ _ c.in_ok-root_log.ensures.there) c.in_ok-clear.ensures.kept;
+      kept = kept-then c.args.checked.generation c.args.checked.map.meaning _ _ _ (kept-there c.args.checked.generation c.args.checked.map.meaning _ _ c.in_ok-root_log.ensures.there) c.in_ok-clear.ensures.kept;
       mail = fitted-then _ _ _ _
-          (fitted-mail c.args.checked.map (is_outside (c.args.checked.root_log ∷ c.args.checked.map_log ∷ (found_logs c.args.checked.boxes))) _ _ (mail_outside c.args.checked.generation c.args.checked.map c.args.checked.root_log c.args.checked.map_log (found_logs c.args.checked.boxes) c.requires.root.0 c.requires.map_log.0 c.requires.box_logs) (rw c.into_vec-boxes.ensures at c.in_ok-root_log.ensures.others))
+          (fitted-mail c.args.checked.map.meaning (is_outside (c.args.checked.root_log ∷ c.args.checked.map_log ∷ (found_logs c.args.checked.boxes))) _ _ (mail_outside c.args.checked.generation c.args.checked.map.meaning c.args.checked.root_log c.args.checked.map_log (found_logs c.args.checked.boxes) c.requires.root.0 c.requires.map_log.0 c.requires.box_logs) (rw c.into_vec-boxes.ensures at c.in_ok-root_log.ensures.others))
           c.in_ok-clear.ensures.mail;
-      ends = end_with_regions c.args.checked.generation c.args.checked.map _ _ c.requires.opened images keeps c.in_ok-clear.ensures.cut;
-      names = names-since c.args.checked.generation c.args.checked.map _ _ _
-          (strays_stay c.args.checked.generation c.args.checked.map c.args.checked.root_log c.args.checked.map_log (found_logs c.args.checked.boxes) _ _ c.requires.root.0 c.requires.map_log.0 c.requires.box_logs (rw c.into_vec-boxes.ensures at c.in_ok-root_log.ensures.others))
+      ends = end_with_regions c.args.checked.generation c.args.checked.map.meaning _ _ c.requires.opened images keeps c.in_ok-clear.ensures.cut;
+      names = names-since c.args.checked.generation c.args.checked.map.meaning _ _ _
+          (strays_stay c.args.checked.generation c.args.checked.map.meaning c.args.checked.root_log c.args.checked.map_log (found_logs c.args.checked.boxes) _ _ c.requires.root.0 c.requires.map_log.0 c.requires.box_logs (rw c.into_vec-boxes.ensures at c.in_ok-root_log.ensures.others))
           c.in_ok-clear.ensures.names;
     }

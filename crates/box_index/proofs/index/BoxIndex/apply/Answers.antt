@@ -1,27 +1,31 @@
-use Rattle.std.proofs.Common.{refl}
+use Rattle.std.proofs.Common.{refl, arith}
 use Rattle.box_index.proofs.BoxAppliedLemmas.{applied-next, applied-added, applied-flagged, applied-removed, order-next, order-added, order-flagged, order-removed, pushed}
 use Rattle.box_index.proofs.index.BoxIndex.apply.Goals as goal
 
 pub invariant_of-self : goal.invariant_of-self
 invariant_of-self c = order-next _ _ c.self.invariant (rw (c.in-N.is, ← c.self.view_is) at c.requires)
 
-pub invariant_of-self-in-A : goal.invariant_of-self-in-A
-invariant_of-self-in-A c = order-added _ c.in-A.uid c.in-A.flags c.in-A.time c.in-A.size c.in-A.map_uid c.in-A.guid (record { uid = c.in-A.uid.0; flags = c.in-A.flags; time = c.in-A.time; size = c.in-A.size; map_uid = c.in-A.map_uid.0; guid = c.in-A.guid.0 }) _ c.self.invariant (rw (c.in-A.is, ← c.self.view_is) at c.requires) refl (pushed _ _ _ _ c.in_ok-push-in-A.ensures.items (rw c.known_flags.ensures refl))
-
 pub invariant_of-self-in-F : goal.invariant_of-self-in-F
-invariant_of-self-in-F c = order-flagged _ _ _ c.self.inside.rows.items c.flag_rows.new.rows.items c.self.invariant refl c.flag_rows.ensures
+invariant_of-self-in-F c = order-flagged _ _ _ c.self.inside.rows.items c.flag_rows.new.rows.items c.self.invariant refl c.flag_rows.ensures.items
 
 pub invariant_of-self-in-R : goal.invariant_of-self-in-R
-invariant_of-self-in-R c = order-removed _ _ _ _ c.self.invariant refl c.remove_rows.ensures
+invariant_of-self-in-R c = order-removed _ _ _ _ c.self.invariant refl c.remove_rows.ensures.items
 
 pub returns-in-N-clause-ok : goal.returns-in-N-clause-ok
 returns-in-N-clause-ok c = rw (c.in-N.is, ← c.self.view_is) (applied-next _ _ (rw (c.in-N.is, ← c.self.view_is) at c.requires))
 
-pub returns-in_ok-push-in-A-clause-ok : goal.returns-in_ok-push-in-A-clause-ok
-returns-in_ok-push-in-A-clause-ok c = rw (c.in-A.is, ← c.self.view_is) (applied-added _ _ _ _ _ _ _ _ (rw (c.in-A.is, ← c.self.view_is) at c.requires) (pushed _ _ _ _ c.in_ok-push-in-A.ensures.items (rw c.known_flags.ensures refl)))
-
 pub returns-in-F-clause-ok : goal.returns-in-F-clause-ok
-returns-in-F-clause-ok c = rw (c.in-F.is, ← c.self.view_is) (applied-flagged _ c.in-F.uid c.in-F.flags c.self.inside.rows.items c.flag_rows.new.rows.items c.self.invariant.some refl (rw c.known_flags-in-F.ensures at c.flag_rows.ensures))
+returns-in-F-clause-ok c = rw (c.in-F.is, ← c.self.view_is) (applied-flagged _ c.in-F.uid c.in-F.flags c.self.inside.rows.items c.flag_rows.new.rows.items c.self.invariant.some refl (rw c.known_flags-in-F.ensures at c.flag_rows.ensures.items))
 
 pub returns-in-R-clause-ok : goal.returns-in-R-clause-ok
-returns-in-R-clause-ok c = rw (c.in-R.is, ← c.self.view_is) (applied-removed _ c.in-R.uid c.self.inside.rows.items c.remove_rows.new.rows.items c.self.invariant.some refl c.remove_rows.ensures)
+returns-in-R-clause-ok c = rw (c.in-R.is, ← c.self.view_is) (applied-removed _ c.in-R.uid c.self.inside.rows.items c.remove_rows.new.rows.items c.self.invariant.some refl c.remove_rows.ensures.items)
+
+pub invariant_of-self-in-A : goal.invariant_of-self-in-A
+invariant_of-self-in-A c = order-added _ c.in-A.uid c.in-A.flags c.in-A.time c.in-A.size c.in-A.map_uid c.in-A.guid (record { uid = c.in-A.uid.0; flags = c.in-A.flags; time = c.in-A.time; size = c.in-A.size; map_uid = c.in-A.map_uid.0; guid = c.in-A.guid.0 }) _ c.self.invariant (rw (c.in-A.is, ← c.self.view_is) at c.requires) refl (pushed _ _ _ _ (rw c.reserve.ensures.items at c.push_reserved.ensures.items) (rw c.known_flags.ensures refl))
+
+pub returns-in_ok-reserve-in-A-clause-ok : goal.returns-in_ok-reserve-in-A-clause-ok
+returns-in_ok-reserve-in-A-clause-ok c = rw (c.in-A.is, ← c.self.view_is) (applied-added _ _ _ _ _ _ _ _ (rw (c.in-A.is, ← c.self.view_is) at c.requires) (pushed _ _ _ _ (rw c.reserve.ensures.items at c.push_reserved.ensures.items) (rw c.known_flags.ensures refl)))
+
+-- of as many places fewer are taken
+pub returns-in-R-clause-room : goal.returns-in-R-clause-room
+returns-in-R-clause-room c = let fewer = c.remove_rows.ensures.fewer in rw (← c.self.view_is, c.remove_rows.ensures.capacity) (omega arith)

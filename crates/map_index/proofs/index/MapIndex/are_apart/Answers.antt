@@ -7,14 +7,14 @@ pub returns-then-not-lies_apart : goal.returns-then-not-lies_apart
 returns-then-not-lies_apart c = (
   (λ h. absurd (let w : false ≡ true = h in cc w)),
   (λ p.
-      let all = (pairs_split (ArePlacedApart c.args.self.now) c.in-Some.first.now c.in-Some.behind.now c.loop-first.rest.now c.in-Some.ensures.cases.0 (c.loop-first.invariant.1 p)).0 in
+      let all = (pairs_split (ArePlacedApart c.args.self.now.meaning) c.in-Some.first.now c.in-Some.behind.now c.loop-first.rest.now c.in-Some.ensures.cases.0 (c.loop-first.invariant.1 p)).0 in
       sym c.if-not-lies_apart.true ∙ c.lies_apart.ensures.1 all),
 )
 
 pub loop-first-preserved : goal.loop-first-preserved
 loop-first-preserved c = (
-  (λ p. c.loop-first.invariant.0 (pairs_joined (ArePlacedApart c.args.self.now) c.in-Some.first.now c.in-Some.behind.now c.loop-first.rest.now c.in-Some.ensures.cases.0 (c.lies_apart.ensures.0 c.if-not-lies_apart.false) p)),
-  (λ p. (pairs_split (ArePlacedApart c.args.self.now) c.in-Some.first.now c.in-Some.behind.now c.loop-first.rest.now c.in-Some.ensures.cases.0 (c.loop-first.invariant.1 p)).1),
+  (λ p. c.loop-first.invariant.0 (pairs_joined (ArePlacedApart c.args.self.now.meaning) c.in-Some.first.now c.in-Some.behind.now c.loop-first.rest.now c.in-Some.ensures.cases.0 (c.lies_apart.ensures.0 c.if-not-lies_apart.false) p)),
+  (λ p. (pairs_split (ArePlacedApart c.args.self.now.meaning) c.in-Some.first.now c.in-Some.behind.now c.loop-first.rest.now c.in-Some.ensures.cases.0 (c.loop-first.invariant.1 p)).1),
 )
 
 pub returns : goal.returns

@@ -5,7 +5,7 @@ use Rattle.map_index.proofs.index.MapIndex.are_apart.Given as goal
 
 -- the places are apart if and only if the rest is
 abbrev pub invariant-loop-first : goal.invariant-loop-first
-invariant-loop-first l = AllPairs (ArePlacedApart l.self) l.rest ↔ AllPairs (ArePlacedApart l.self) l.fn.moved
+invariant-loop-first l = AllPairs (ArePlacedApart l.self.meaning) l.rest ↔ AllPairs (ArePlacedApart l.self.meaning) l.fn.moved
 
 abbrev pub decreases-loop-first : goal.decreases-loop-first
 decreases-loop-first l = length l.rest

@@ -1,9 +1,10 @@
 use Rattle.std.proofs.Common.{◌≢◌, ap}
-use Rattle.model_meaning.specs.MapMeaning.{MapBox, MapMeaning}
+use Rattle.model_meaning.specs.MapMeaning.{MapBox}
 use Rattle.map_index.specs.Shown.{box_of}
+use Rattle.map_index.specs.Value.{MapIndexValue}
 use Rattle.map_index.proofs.DerivedListLemmas.{all_in}
 use Rattle.map_index.proofs.index.MapIndex.is_new_name.Goals as goal
 
 pub returns : goal.returns
 returns c =
-    all_in (λ (box : MapBox). box.name ≢ c.args.name.now) box_of _ _ _ _ (rw c.as_octets.ensures.same at c.is_new_name.ensures) c.deref.ensures.value (ap (λ (m : MapMeaning). m.boxes) c.self.view_is)
+    all_in (λ (box : MapBox). box.name ≢ c.args.name.now) box_of _ _ _ _ (rw c.as_octets.ensures.same at c.is_new_name.ensures) c.deref.ensures.value (ap (λ (v : MapIndexValue). v.meaning.boxes) c.self.view_is)

@@ -1,0 +1,31 @@
+// Why a store was not changed.
+ghost use Rattle.std.specs.Prelude.{◌≡◌};
+ghost use Rattle.store_core.specs.declared.error.StepError.TheVariants as step_error;
+
+use gate_log::DiskFault;
+use mdbox_base::NoMemory;
+
+/// Why a store was not changed as asked.
+#[derive(Clone, Copy, Debug, PartialEq, Eq)]
+pub enum StepError {
+    /// A change of the disk failed: the store is stopped.
+    Stopped,
+    /// Out of memory: nothing has changed.
+    NoMemory,
+}
+
+impl From<DiskFault> for StepError {
+    ghost from_gives = { λ _ error. error ≡ step_error.Stopped };
+
+    fn from(_fault: DiskFault) -> StepError {
+        StepError::Stopped
+    }
+}
+
+impl From<NoMemory> for StepError {
+    ghost from_gives = { λ _ error. error ≡ step_error.NoMemory };
+
+    fn from(_error: NoMemory) -> StepError {
+        StepError::NoMemory
+    }
+}
