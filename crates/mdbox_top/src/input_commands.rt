@@ -7,8 +7,8 @@ ghost use Rattle.request_text.specs.declared.outcome.Outcome.TheVariants as outc
 
 use dbox_file::{ScanError, scan};
 use dump_text::{print_log, print_messages};
-use gate_log::{LogError, read_log};
-use mdbox_base::{InputError, Sink, Source, read_all};
+use gate_log::{LogError, check_log};
+use mdbox_base::{InputError, Octets, Sink, Source, read_all};
 use piece_writer::PrintError;
 use request_text::{FileRefusal, InputRefusal, Outcome};
 use std::alloc::Global;
@@ -77,7 +77,7 @@ pub fn logdump<I: Source, O: Sink>(alloc: Global, input: &mut I, output: &mut O)
     ensures counted { (I.faults input.old ≤ I.faults input.new) × (O.faults output.old ≤ O.faults output.new) }
 {
     match read_all(alloc, input, INPUT_LIMIT) {
-        Ok(log) => dump_log(alloc, log.as_slice(), output),
+        Ok(log) => dump_log(alloc, log, output),
         Err(InputError::TooLong(limit)) => Outcome::InputRefused(InputRefusal::TooLong(limit)),
         Err(InputError::Fault) => Outcome::ReadFault,
         Err(InputError::NoMemory) => Outcome::NoMemory,
@@ -85,16 +85,16 @@ pub fn logdump<I: Source, O: Sink>(alloc: Global, input: &mut I, output: &mut O)
 }
 
 /// Prints a log.
-fn dump_log<O: Sink>(alloc: Global, log: &[u8], output: &mut O) -> Outcome
-    requires { length log.now ≤ 268435456 }
-    ensures ends { InputOutcome LogDumpPrints LogDumpRefuses (Some log.now) (O.held output.old) (O.held output.new) result }
+fn dump_log<O: Sink>(alloc: Global, log: Octets, output: &mut O) -> Outcome
+    requires { length log ≤ 268435456 }
+    ensures ends { InputOutcome LogDumpPrints LogDumpRefuses (Some log) (O.held output.old) (O.held output.new) result }
     ensures read { result ≢ outcome.ReadFault }
     ensures write_fault { result ≡ outcome.WriteFault → Rose (O.faults output.old) (O.faults output.new) }
     ensures write_quiet { result ≢ outcome.WriteFault → O.faults output.new ≡ O.faults output.old }
     ensures counted { O.faults output.old ≤ O.faults output.new }
 {
-    match read_log(alloc, log) {
-        Ok(read) => printed(print_log(alloc, output, &read)),
+    match check_log(log) {
+        Ok(text) => printed(print_log(alloc, output, &text)),
         Err(LogError::LogDamaged(place)) => Outcome::InputRefused(InputRefusal::Log(place)),
         Err(_) => Outcome::NoMemory,
     }

@@ -6,7 +6,7 @@ use Rattle.mdbox_top.proofs.input_commands.logdump.Goals as goal
 pub returns-in-Ok-clause-ends : goal.returns-in-Ok-clause-ends
 returns-in-Ok-clause-ends g c =
     let told = read_told _ _ c.in-Ok.log c.in-Ok.ensures.octets c.in-Ok.ensures.end in
-    input_told LogDumpPrints LogDumpRefuses (g.I.Source.left c.args.input.now) _ _ c.in-Ok.log c.dump_log.result told (rw c.as_slice.ensures at c.dump_log.ensures.ends)
+    input_told LogDumpPrints LogDumpRefuses (g.I.Source.left c.args.input.now) _ _ c.in-Ok.log c.dump_log.result told c.dump_log.ensures.ends
 
 pub returns-in-Err-TooLong-clause-ends : goal.returns-in-Err-TooLong-clause-ends
 returns-in-Err-TooLong-clause-ends g c =
