@@ -1,14 +1,14 @@
 -- The first entry that adds a listed message without a record of its GUID.
-use Rattle.std.proofs.Common.{◌≡◌, ◌<◌, ◌≤◌, ◌+◌, ◌==◌, ℕ, suc, zero, List, [], ◌∷◌, ◌++◌, length, map, take, drop, get_or, slice_get, Some, All, find, inl, inr, refl, sym, ◌∙◌, ap, subst, arith, eqb-true}
+use Rattle.std.proofs.Common.{◌≡◌, ◌<◌, ◌≤◌, ◌+◌, ◌==◌, ℕ, suc, zero, List, [], ◌∷◌, ◌++◌, length, map, take, drop, slice_get, Some, None, All, find, inl, inr, refl, sym, ◌∙◌, ap, subst, arith, eqb-true}
 use Rattle.std.specs.Prelude.{Contains}
 use Rattle.std.specs.Option.{option_map}
 use Rattle.std.proofs.lemmas.Bool.{cases_lt}
 use Rattle.std.proofs.lemmas.List.{take-map, take_at}
-use Rattle.std.proofs.lemmas.Option.{slice_get-map, slice_get_within, slice_get_read}
+use Rattle.std.proofs.lemmas.Option.{slice_get-map}
 use Rattle.std.proofs.lemmas.List.Elements.{All-from_recursion, All-contains_itself}
 use Rattle.mdbox_base.specs.declared.entries.BoxEntry.{BoxEntry}
 use Rattle.mdbox_base.specs.declared.entries.BoxEntry.TheVariants as box
-use Rattle.model_logs.specs.LogFile.{end_from, log_end, record_places}
+use Rattle.model_logs.specs.LogFile.{end_from, log_end}
 use Rattle.model_meaning.specs.BoxMeaning.{LogRow, BoxMeaning, box_meaning, row_at, rows_after}
 use Rattle.model_meaning.proofs.BoxSoundLemmas.{box_sound}
 use Rattle.model_meaning.specs.MapMeaning.{MapMeaning}
@@ -17,10 +17,15 @@ use Rattle.model_logs.proofs.EntryLemmas.{box_one}
 use Rattle.model_octets.proofs.PairLemmas.{found_holds}
 use Rattle.model_store.specs.Opening.{AreBoxEntries, HasItsRecord, IsDangling}
 use Rattle.store_checks.specs.Replays.{IsBoxReplay}
+use Rattle.std.specs.Borrow.{Bor}
+use Rattle.std.proofs.Math.Seq.{take-append_seam}
+use Rattle.std.proofs.lemmas.List.Elements.{All-push}
+use Rattle.gate_log.specs.Text.{IsLogText}
+use Rattle.gate_log.specs.declared.text.LogText.{LogText}
+use Rattle.store_checks.proofs.TextWalkLemmas.{Walk, Step, Next, walk-more, walk-next, walk-end, same_texts}
 use Rattle.store_checks.specs.Dangling.{added_uid, AddsDangling, AddsNoDangling, IsFirstDangling}
 use Rattle.store_checks.proofs.AddedRowLemmas.{Added, added, HasAdded, rows_added}
-use Rattle.store_checks.proofs.RecordPlaceLemmas.{place_of, places_long, split_at}
-use Rattle.store_checks.proofs.WalkLemmas.{behind, at_place, before_place, place_in, find_self}
+use Rattle.store_checks.proofs.WalkLemmas.{split_at, behind, at_place, before_place, place_in, find_self}
 
 -- the entry whose text stands at a place
 pub entry_at : {E : Type 0} → (text : E → List ℕ) (entries : List E) (texts : List (List ℕ)) (k : ℕ) (one : List ℕ) → texts ≡ map text entries → slice_get texts k ≡ Some one → (entry : E) × (slice_get entries k ≡ Some entry) × (one ≡ text entry)
@@ -98,11 +103,18 @@ ends_rise gate (t ∷ ts) j zero le = ends_from gate (take j (t ∷ ts))
 ends_rise gate (t ∷ ts) zero (suc k) le = absurd (omega (arith, le))
 ends_rise gate (t ∷ ts) (suc j) (suc k) le = ends_rise (gate + 5 + length t) ts j k (omega (arith, le))
 
+seam : (done behind : List (List ℕ)) (text : List ℕ) → slice_get (done ++ text ∷ behind) (length done) ≡ Some text
+seam [] behind text = refl
+seam (d ∷ ds) behind text = seam ds behind text
+
 -- the first place of such an entry
-pub first_dangling : (m : MapMeaning) (b : BoxMeaning) (texts : List (List ℕ)) (places : List ℕ) (k place : ℕ) (text : List ℕ)
-    → slice_get texts k ≡ Some text → AddsDangling m b text → All (AddsNoDangling m b) (take k texts) → places ≡ record_places texts → place ≡ get_or places k 0 → IsFirstDangling m b texts place
-first_dangling m b texts places k place text at adds none places_are is entries texts_are good means =
-    let here : place ≡ log_end (take k texts) + 1 = is ∙ ap (λ (ps : List ℕ). get_or ps k 0) places_are ∙ place_of texts k (slice_get_within texts k text at) in (
+pub first_dangling : (m : MapMeaning) (b : BoxMeaning) (texts done : List (List ℕ)) (place : ℕ) (text : List ℕ) → Next texts done place text → AddsDangling m b text → All (AddsNoDangling m b) done → IsFirstDangling m b texts place
+first_dangling m b texts done place text n adds before entries texts_are good means =
+    let k : ℕ = length done in
+    let front_texts : take k texts ≡ done = ap (take k) n.split ∙ take-append_seam done (text ∷ n.behind) in
+    let at : slice_get texts k ≡ Some text = ap (λ (ts : List (List ℕ)). slice_get ts k) n.split ∙ seam done n.behind text in
+    let none : All (AddsNoDangling m b) (take k texts) = subst (All (AddsNoDangling m b)) (sym front_texts) before in
+    let here : place ≡ log_end (take k texts) + 1 = n.at ∙ ap (λ (ts : List (List ℕ)). log_end ts + 1) (sym front_texts) in (
       dangling_at m b texts k place text entries at adds here texts_are good means,
       λ other bare. elim (cases_lt (length bare.before) k) [
         | inl lt ↦ absurd (none_before m b texts k other entries none texts_are good means bare lt)
@@ -126,11 +138,29 @@ none_dangling m b texts f none =
         at_place (AddsNoDangling m b) texts h.0 (box_text h.1) (text_at box_text f.entries texts h.0 h.1 f.texts_are h.2) none h.1 row.uid
         (record { text = refl; in_range = in_range f.entries h.0 h.1 f.good h.2 }) h.3 row (subst (λ (z : BoxMeaning). row_at z row.uid ≡ Some row) (sym f.meaning) found)
 
--- the text that was read at a place
-pub read_at : (entries es : List (List ℕ)) (k n : ℕ) (item text : List ℕ) → es ≡ entries → n ≡ length entries → k < n → item ≡ get_or es k item → text ≡ item → slice_get entries k ≡ Some text
-read_at entries es k n item text e l lt is same =
-    ap (λ (ts : List (List ℕ)). slice_get ts k) (sym e) ∙ slice_get_read es n k item (l ∙ ap length (sym e)) lt is ∙ ap Some (sym same)
+-- the entries so far add none, and the others stand behind this gate
+pub record Searched (m : MapMeaning) (b : BoxMeaning) (text : LogText) (octets : List ℕ) (gate : ℕ) : Type 0 where
+  pub texts : List (List ℕ)
+  pub is : IsLogText text texts
+  pub replayed : IsBoxReplay b texts
+  pub walk : Walk texts octets gate
+  pub none : All (AddsNoDangling m b) walk.done
 
--- there is a place for each text
-pub place_there : (entries : List (List ℕ)) (places ps : List ℕ) (k n : ℕ) → ps ≡ places → places ≡ record_places entries → n ≡ length entries → k < n → k < length ps
-place_there entries places ps k n e is l lt = let h : length ps ≡ length (record_places entries) = ap length (e ∙ is) in let m = places_long 25 entries in omega (arith, h, m, l, lt)
+pub searched-more : (m : MapMeaning) (b : BoxMeaning) (text : LogText) (octets others : List ℕ) (gate next place : ℕ) (entry : Bor (List ℕ)) → Searched m b text octets gate → Step octets gate others next (Some (place, entry)) → AddsNoDangling m b entry.now → Searched m b text others next
+searched-more m b text octets others gate next place entry s step no_more = record {
+  texts = s.texts;
+  is = s.is;
+  replayed = s.replayed;
+  walk = walk-more s.texts octets others gate next place entry s.walk step;
+  none = All-push (AddsNoDangling m b) s.walk.done entry.now s.none no_more;
+}
+
+pub searched-found : (m : MapMeaning) (b : BoxMeaning) (text : LogText) (octets others : List ℕ) (gate next place : ℕ) (entry : Bor (List ℕ)) → Searched m b text octets gate → Step octets gate others next (Some (place, entry)) → AddsDangling m b entry.now
+    → (texts : List (List ℕ)) → IsLogText text texts → IsFirstDangling m b texts place
+searched-found m b text octets others gate next place entry s step adds texts is =
+    subst (λ (ts : List (List ℕ)). IsFirstDangling m b ts place) (same_texts text s.texts texts s.is is)
+    (first_dangling m b s.texts s.walk.done place entry.now (walk-next s.texts octets others gate next place entry s.walk step) adds s.none)
+
+pub searched-all : (m : MapMeaning) (b : BoxMeaning) (text : LogText) (octets others : List ℕ) (gate next : ℕ) → Searched m b text octets gate → Step octets gate others next None → All (HasItsRecord m) b.rows
+searched-all m b text octets others gate next s step =
+    none_dangling m b s.texts s.replayed (subst (All (AddsNoDangling m b)) (sym (walk-end s.texts octets others gate next s.walk step)) s.none)

@@ -6,10 +6,10 @@ pub mod FirstFailureLemmas
 pub mod LogReadLemmas
 pub mod MailboxLemmas
 pub mod NoEntryLemmas
-pub mod RecordPlaceLemmas
 pub mod RegionLengthLemmas
 pub mod ReplayLemmas
 pub mod RootHeadLemmas
 pub mod RootLogLemmas
 pub mod SortLemmas
+pub mod TextWalkLemmas
 pub mod WalkLemmas

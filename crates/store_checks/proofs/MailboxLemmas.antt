@@ -25,8 +25,7 @@ use Rattle.store_checks.specs.declared.mailbox.CheckedBox.{CheckedBox}
 use Rattle.store_checks.specs.declared.error.CheckError.{CheckError}
 use Rattle.store_checks.specs.declared.error.CheckError.TheVariants as check
 use Rattle.store_checks.specs.Boxes.{IsFoundAs, box_file, box_head, IsBoxRead, FailsBox, IsBoxCause, AreFound, AreRead, IsBoxesCause}
-use Rattle.store_checks.proofs.RecordPlaceLemmas.{split_at}
-use Rattle.store_checks.proofs.WalkLemmas.{behind, take_next}
+use Rattle.store_checks.proofs.WalkLemmas.{split_at, behind, take_next}
 
 -- a log that was found stands so after calls that change nothing
 pub found-then : (found : InspectedLog) (name : FileName) (head : LogHead) (entries : List (List ℕ)) (now new : Option History) → IsIdle now new → IsFoundAs found name head entries now → IsFoundAs found name head entries new

@@ -1,5 +1,5 @@
 -- Walks along a list, by places.
-use Rattle.std.proofs.Common.{◌≡◌, ◌<◌, ◌≤◌, ◌+◌, ◌==◌, ℕ, suc, zero, Bool, cond, List, [], ◌∷◌, ◌++◌, length, map, take, get_or, slice_get, Option, Some, None, All, AllPairs, find, refl, sym, ◌∙◌, ap, subst, arith, take_all, eq-eqb, ne_eqb, append_assoc}
+use Rattle.std.proofs.Common.{◌≡◌, ◌<◌, ◌≤◌, ◌+◌, ◌==◌, ℕ, suc, zero, Bool, cond, List, [], ◌∷◌, ◌++◌, length, map, take, drop, get_or, slice_get, Option, Some, None, All, AllPairs, find, refl, sym, ◌∙◌, ap, subst, arith, take_all, eq-eqb, ne_eqb, append_assoc, add-one}
 use Rattle.std.proofs.lemmas.List.{take_more, map-append}
 use Rattle.model_octets.proofs.PairLemmas.{pairs_head, pairs_tail}
 use Rattle.std.proofs.lemmas.Option.{slice_get_within, get_or_from_slice_get, slice_get-get_or}
@@ -86,3 +86,9 @@ pub grown : {X Y : Type 0} → (f : X → Y) (items : List X) (k : ℕ) (d : X) 
 grown f items k d y front old new lt e is more =
     more ∙ ap (λ (l : List _). l ++ y ∷ []) is ∙ append_assoc front (map f (take k items)) (y ∷ []) ∙ ap (λ (l : List _). front ++ l)
     (ap (λ (z : _). map f (take k items) ++ z ∷ []) e ∙ sym (map-append f (take k items) (get_or items k d ∷ [])) ∙ ap (map f) (sym (take_more items k d lt)))
+
+-- what a list has at a place, with what is before it and behind it
+pub split_at : {X : Type 0} → (xs : List X) (k : ℕ) (x : X) → slice_get xs k ≡ Some x → xs ≡ take k xs ++ x ∷ drop (k + 1) xs
+split_at [] k x e = absurd (let h : None ≡ Some x = e in cc h)
+split_at (y ∷ ys) zero x e = let h : y ≡ x = cc e in ap (λ (z : _). z ∷ ys) h
+split_at (y ∷ ys) (suc k) x e = simp add-one (ap (λ (zs : _). y ∷ zs) (simp add-one at (split_at ys k x e)))

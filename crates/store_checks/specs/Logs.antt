@@ -4,6 +4,10 @@ use Rattle.disk_model.specs.Disk.{History, IfTold, reading}
 use Rattle.disk_model.specs.declared.name.FileName.{FileName}
 use Rattle.model_logs.specs.declared.log_head.LogHead.{LogHead}
 use Rattle.model_logs.specs.LogFile.{log_end, IsLog, IsDamagedAt}
+use Rattle.gate_log.specs.State.{InspectedLog}
+use Rattle.gate_log.specs.Log.{IsFound}
+use Rattle.gate_log.specs.Text.{IsLogText}
+use Rattle.gate_log.specs.declared.text.LogText.{LogText}
 use Rattle.gate_log.specs.declared.error.LogError.{LogError}
 use Rattle.gate_log.specs.declared.error.LogError.TheVariants as log
 use Rattle.store_checks.specs.declared.error.CheckError.{CheckError}
@@ -25,6 +29,26 @@ pub record IsRefusedAt {V : Type 0} (IsReplay : V → List (List ℕ) → Type 0
   pub replayed : IsReplay value before
   pub refused : Refuses value bad
   pub is : place ≡ log_end before + 1
+
+-- Of the entries with these texts, the one whose record stands at this place is refused by the value of those before it.
+pub record IsFirstRefused {V : Type 0} (IsReplay : V → List (List ℕ) → Type 0) (Refuses : V → List ℕ → Type 0) (value : V) (texts : List (List ℕ)) (place : ℕ) : Type 0 where
+  pub before : List (List ℕ)
+  pub bad : List ℕ
+  pub behind : List (List ℕ)
+  pub texts_are : texts ≡ before ++ bad ∷ behind
+  pub replayed : IsReplay value before
+  pub refused : Refuses value bad
+  pub is : place ≡ log_end before + 1
+
+-- A log was read and replayed: the file has this text, a log of this head whose entries the value is made of, and stands as
+-- it was found.
+pub record IsLogReplayed {V : Type 0} (IsReplay : V → List (List ℕ) → Type 0) (value : V) (name : FileName) (head : LogHead) (found : InspectedLog) (text : LogText) (old new : Option History) : Type 0 where
+  pub texts : List (List ℕ)
+  pub text_is : IsLogText text texts
+  pub head_is : text.head ≡ head
+  pub replayed : IsReplay value texts
+  pub told : IfTold old (λ disk. reading (disk name) ≡ Some text.octets)
+  pub stands : IfTold new (IsFound found texts)
 
 -- a file is no log of this head whose entries can all be replayed
 abbrev pub IsBadReplay : {V : Type 0} → (V → List (List ℕ) → Type 0) → (V → List ℕ → Type 0) → V → LogHead → Option (List ℕ) → ℕ → Type 0

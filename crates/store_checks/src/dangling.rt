@@ -1,14 +1,14 @@
 // Listed messages without a record of their GUID.
-ghost use Rattle.std.specs.Prelude.{◌≡◌, ◌↔◌, All, IsTrue, IfOk, MatchOption, MatchBool};
+ghost use Rattle.std.specs.Prelude.{◌≡◌, ◌↔◌, All, List, ℕ, IsTrue, IfOk, MatchOption, MatchBool};
 ghost use Rattle.std.specs.Option.{option_map};
-ghost use Rattle.model_logs.specs.LogFile.{record_places};
+ghost use Rattle.gate_log.specs.Text.{IsLogText};
 ghost use Rattle.model_store.specs.Opening.{HasItsRecord};
 ghost use Rattle.box_index.specs.Row.{row_of};
 ghost use Rattle.store_checks.specs.Replays.{IsBoxReplay};
 ghost use Rattle.store_checks.specs.Dangling.{added_uid, LacksRecordAt, HasRecordAt, AddsDangling, AddsNoDangling, IsFirstDangling};
 
 use box_index::{BoxIndex, BoxRow};
-use gate_log::LogRead;
+use gate_log::LogText;
 use log_records::read_box_entry;
 use map_index::MapIndex;
 use mdbox_base::{BoxEntry, NoMemory, Uid};
@@ -17,20 +17,20 @@ use mdbox_base::{BoxEntry, NoMemory, Uid};
 pub fn first_dangling(
     map: &MapIndex,
     index: &BoxIndex,
-    read: &LogRead,
+    text: &LogText,
 ) -> Result<Option<u64>, NoMemory>
-    requires replayed { IsBoxReplay index.now.meaning read.now.entries }
-    requires places { read.now.places ≡ record_places read.now.entries }
+    requires { (texts : List (List ℕ)) × IsLogText text.now texts × IsBoxReplay index.now.meaning texts }
     ensures { IfOk result (λ dangling. MatchOption dangling
         (All (HasItsRecord map.now.meaning) index.now.meaning.rows)
-        (IsFirstDangling map.now.meaning index.now.meaning read.now.entries)) }
+        (λ place. (texts : List (List ℕ)) → IsLogText text.now texts → IsFirstDangling map.now.meaning index.now.meaning texts place)) }
 {
     if each_has_record(map, index) {
         return Ok(None);
     }
-    for place in 0..read.entries.length() {
-        if adds_dangling(map, index, read.entries.as_slice()[place].as_slice())? {
-            return Ok(Some(read.places.as_slice()[place]));
+    let mut entries = text.entries();
+    while let Some((place, entry)) = entries.next_entry() {
+        if adds_dangling(map, index, entry)? {
+            return Ok(Some(place));
         }
     }
     Ok(None)

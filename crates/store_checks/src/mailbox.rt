@@ -68,8 +68,8 @@ fn read_box<D: Disk>(
         generation: at.generation,
     };
     let mut index = BoxIndex::empty(alloc)?;
-    let (log, read) = read_log(alloc, disk, name, head, &mut index)?;
-    if let Some(place) = first_dangling(map, &index, &read)? {
+    let (log, text) = read_log(alloc, disk, name, head, &mut index)?;
+    if let Some(place) = first_dangling(map, &index, &text)? {
         return Err(CheckError::Damaged(name, place));
     }
     Ok(CheckedBox { log, index })

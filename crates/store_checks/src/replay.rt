@@ -1,11 +1,14 @@
 // Values to which the entries of a log are applied, one after another.
-ghost use Rattle.std.specs.Prelude.{◌≡◌, ◌<◌, ◌++◌, ◌∷◌, [], ℕ, List, length, take, slice_get, Some, IfOk, MatchOption, MatchBool};
+ghost use Rattle.std.specs.Prelude.{◌≡◌, ◌<◌, ◌++◌, ◌∷◌, [], ℕ, List, IfOk, MatchOption, MatchBool};
+ghost use Rattle.gate_log.specs.Text.{IsLogText};
+ghost use Rattle.store_checks.specs.Logs.{IsFirstRefused};
 ghost use Rattle.store_checks.specs.Replays.{IsRootReplay, IsBoxReplay, IsMapReplay, RefusesRoot, RefusesBox, RefusesMap, generation_of};
 
 use box_index::BoxIndex;
+use gate_log::LogText;
 use log_records::{read_box_entry, read_map_entry, read_root_entry};
 use map_index::MapIndex;
-use mdbox_base::{NoMemory, Octets, RootEntry};
+use mdbox_base::{NoMemory, RootEntry};
 use std::alloc::Global;
 
 /// What the entries of a log mean so far.
@@ -95,21 +98,22 @@ impl Replay for MapIndex {
     }
 }
 
-/// Takes in entries, up to the first that isn't good behind those before it, and answers the place of that one in the
-/// list. None where all are.
+/// Takes in the entries of a log, up to the first that isn't good behind those before it, and answers where the record of
+/// that one begins. None where all are.
 pub fn replay_entries<F: Replay>(
     alloc: Global,
     replay: &mut F,
-    entries: &[Octets],
-) -> Result<Option<usize>, NoMemory>
+    text: &LogText,
+) -> Result<Option<u64>, NoMemory>
     requires { F.is_replay replay.old [] }
-    ensures replayed { IfOk result (λ bad. MatchOption bad
-        (F.is_replay replay.new entries.now)
-        (λ place. (text : List ℕ) × (slice_get entries.now place ≡ Some text) × F.is_replay replay.new (take place entries.now) × F.refuses replay.new text)) }
+    ensures replayed { (texts : List (List ℕ)) → IsLogText text.now texts → IfOk result (λ bad. MatchOption bad
+        (F.is_replay replay.new texts)
+        (IsFirstRefused F.is_replay F.refuses replay.new texts)) }
     ensures store { F.store replay.new ≡ F.store replay.old }
 {
-    for place in 0..entries.len() {
-        if !replay.replay_entry(alloc, entries[place].as_slice())? {
+    let mut entries = text.entries();
+    while let Some((place, entry)) = entries.next_entry() {
+        if !replay.replay_entry(alloc, entry)? {
             return Ok(Some(place));
         }
     }

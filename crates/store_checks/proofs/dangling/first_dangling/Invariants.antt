@@ -1,6 +1,9 @@
-use Rattle.std.proofs.Common.{All, take}
-use Rattle.store_checks.specs.Dangling.{AddsNoDangling}
+use Rattle.std.proofs.Common.{◌-◌, length}
+use Rattle.store_checks.proofs.DanglingLemmas.{Searched}
 use Rattle.store_checks.proofs.dangling.first_dangling.Given as goal
 
 abbrev pub invariant-loop-place : goal.invariant-loop-place
-invariant-loop-place l = All (AddsNoDangling l.map.meaning l.index.meaning) (take l.place l.read.entries)
+invariant-loop-place l = Searched l.map.meaning l.index.meaning l.text l.entries.octets.now l.entries.gate
+
+abbrev pub decreases-loop-place : goal.decreases-loop-place
+decreases-loop-place l = length l.entries.octets.now - l.entries.gate

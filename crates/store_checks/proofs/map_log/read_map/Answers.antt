@@ -3,6 +3,7 @@ use Rattle.std.proofs.lemmas.Result.{err_from_is_err_and}
 use Rattle.map_index.specs.Value.{MapIndexValue}
 use Rattle.disk_model.proofs.IdleLemmas.{idle-begins}
 use Rattle.store_checks.proofs.RootLogLemmas.{map_cause, no_number, map_read, empty_map}
+use Rattle.store_checks.proofs.TextWalkLemmas.{read_of, text_reading}
 use Rattle.store_checks.proofs.map_log.read_map.Goals as goal
 
 pub returns-then-not-is_number-clause-refused : goal.returns-then-not-is_number-clause-refused
@@ -24,5 +25,5 @@ returns-in_err-log-clause-refused g c =
 
 pub returns-clause-read : goal.returns-clause-read
 returns-clause-read g c =
-    map_read c.args.id.0 c.args.generation c.read_log.new.replay.meaning c.in_ok-log.log c.in_ok-log.ensures.octets.0 c.in_ok-log.field-0-1 _ _ (c.if-not-is_number.ensures.0 refl) (c.in_ok-log.ensures.store ∙ ap (λ (m : MapIndexValue). m.meaning.store) c.in_ok-map.ensures)
-    c.in_ok-log.ensures.octets.1 c.in_ok-log.ensures.octets.2 c.in_ok-log.ensures.replayed c.in_ok-log.ensures.octets.3 c.in_ok-log.ensures.log c.in_ok-log.ensures.stands
+    map_read c.args.id.0 c.args.generation c.read_log.new.replay.meaning c.in_ok-log.log c.in_ok-log.field-0-1.octets (read_of c.in_ok-log.field-0-1 c.in_ok-log.ensures.read.texts) _ _ (c.if-not-is_number.ensures.0 refl) (c.in_ok-log.ensures.store ∙ ap (λ (m : MapIndexValue). m.meaning.store) c.in_ok-map.ensures)
+    (text_reading c.in_ok-log.field-0-1 _ c.in_ok-log.ensures.read.text_is) c.in_ok-log.ensures.read.head_is c.in_ok-log.ensures.read.replayed c.in_ok-log.ensures.read.told c.in_ok-log.ensures.log c.in_ok-log.ensures.read.stands
