@@ -5,11 +5,11 @@ use Rattle.std.specs.Option.{option_map, option_map_or, option_and_then}
 use Rattle.std.proofs.lemmas.Option.{slice_get-get_or}
 use Rattle.mdbox_base.specs.declared.ids.FileNo.{FileNo}
 use Rattle.storage_files.specs.declared.file.MailFile.{MailFile}
-use Rattle.storage_files.specs.Files.{file_in, end_in, is_taken_in, changed_in, with_taken, file_begun, HasRoomFor}
+use Rattle.storage_files.specs.Files.{file_in, end_in, is_taken_in, changed_in, with_taken, file_begun, MayBeTakenFor}
 use Rattle.storage_files.proofs.SearchLemmas.{Rise}
 use Rattle.storage_files.proofs.FileListLemmas.{file-none, file-found, file-here, file-begun}
 
-pub given-known : (size n : ℕ) (files : List MailFile) (f : MailFile) → Rise files → Contains files f → f.file.0 ≡ n → HasRoomFor size f
+pub given-known : (size n : ℕ) (files : List MailFile) (f : MailFile) → Rise files → Contains files f → f.file.0 ≡ n → MayBeTakenFor size f
     → (is_taken_in n (changed_in n (with_taken true) files) ≡ true) × ((end : ℕ) × (end_in n (changed_in n (with_taken true) files) ≡ Some end) × (end + size ≤ 10485760))
 given-known size n files f rise at same room =
     let get : slice_get files at.0 ≡ Some f = slice_get-get_or files at.0 f at.1 ∙ ap Some at.2 in

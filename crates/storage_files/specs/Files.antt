@@ -76,7 +76,7 @@ released_in number files = if is_some (end_in number files) then changed_in numb
 
 -- The file is there, nobody has taken it, messages may be added to it, and there is room for so many octets: a file is
 -- filled up to 10,485,760 octets.
-pub record HasRoomFor (size : ℕ) (f : MailFile) : Type 0 where
+pub record MayBeTakenFor (size : ℕ) (f : MailFile) : Type 0 where
   pub end : ℕ
   pub ends : f.end ≡ Some end
   pub room : end + size ≤ 10485760
@@ -87,9 +87,9 @@ pub record HasRoomFor (size : ℕ) (f : MailFile) : Type 0 where
 -- Which file is taken for so many octets: of those that have room, the one with the greatest number. Where none has room
 -- a new one, with the next number; and where all numbers are used up, none.
 abbrev pub IsTakeFor : ℕ → FilesValue → Take → Type 0
-IsTakeFor size value (Known file) = (f : MailFile) × Contains value.files f × (f.file ≡ file) × HasRoomFor size f × All (λ g. HasRoomFor size g → g.file.0 ≤ file.0) value.files
-IsTakeFor size value (New file) = All (λ g. HasRoomFor size g → ⊥) value.files × (file.0 ≡ value.highest + 1) × (value.highest < 4294967294)
-IsTakeFor size value Full = All (λ g. HasRoomFor size g → ⊥) value.files × (value.highest ≡ 4294967294)
+IsTakeFor size value (Known file) = (f : MailFile) × Contains value.files f × (f.file ≡ file) × MayBeTakenFor size f × All (λ g. MayBeTakenFor size g → g.file.0 ≤ file.0) value.files
+IsTakeFor size value (New file) = All (λ g. MayBeTakenFor size g → ⊥) value.files × (file.0 ≡ value.highest + 1) × (value.highest < 4294967294)
+IsTakeFor size value Full = All (λ g. MayBeTakenFor size g → ⊥) value.files × (value.highest ≡ 4294967294)
 
 -- The file is the taker's. A known one has room for so many octets, and a new one is to be made.
 abbrev pub IsGiven : ℕ → List MailFile → Take → Type 0

@@ -1,6 +1,6 @@
 // What is known of one storage file.
 ghost use Rattle.std.specs.Prelude.{◌≡◌, ◌↔◌, IsTrue, IsSome};
-ghost use Rattle.storage_files.specs.Files.{HasRoomFor};
+ghost use Rattle.storage_files.specs.Files.{MayBeTakenFor};
 
 use mdbox_base::FileNo;
 
@@ -43,7 +43,7 @@ pub enum Take {
 impl MailFile {
     /// Whether nobody has taken the file and it has room for so many octets.
     pub(crate) fn has_room(&self, size: u32) -> bool
-        ensures { IsTrue result ↔ HasRoomFor size self.now }
+        ensures { IsTrue result ↔ MayBeTakenFor size self.now }
     {
         let is_open = !self.taken && !self.sealed && !self.barred;
         match self.end {

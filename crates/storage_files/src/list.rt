@@ -1,7 +1,7 @@
 // Storage files in order of number, and the look-ups among them.
 ghost use Rattle.std.specs.Prelude.{◌≡◌, ◌≢◌, ◌+◌, ◌<◌, ◌≤◌, true, false, length, take, drop, slice_get, All, AllPairs, Contains, Some, IfSome, IsNone, vec_len, vec_capacity};
 ghost use Rattle.storage_files.specs.declared.file.MailFile.{MailFile};
-ghost use Rattle.storage_files.specs.Files.{HasRoomFor, is_number_past, file_in, changed_in, with_taken, ending_at, without_file};
+ghost use Rattle.storage_files.specs.Files.{MayBeTakenFor, is_number_past, file_in, changed_in, with_taken, ending_at, without_file};
 
 use crate::file::{FULL, MailFile};
 use mdbox_base::FileNo;
@@ -80,8 +80,8 @@ pub(crate) fn place_past(files: &[MailFile], after: Option<FileNo>) -> usize
 /// The file with the greatest number of those that have room for so many octets.
 pub(crate) fn greatest_with_room(files: &[MailFile], size: u32) -> Option<FileNo>
     requires rising { AllPairs (λ a b. a.file.0 < b.file.0) files.now }
-    ensures some { IfSome result (λ file. (f : MailFile) × Contains files.now f × (f.file ≡ file) × HasRoomFor size f × All (λ g. HasRoomFor size g → g.file.0 ≤ file.0) files.now) }
-    ensures none { IsNone result → All (λ g. HasRoomFor size g → ⊥) files.now }
+    ensures some { IfSome result (λ file. (f : MailFile) × Contains files.now f × (f.file ≡ file) × MayBeTakenFor size f × All (λ g. MayBeTakenFor size g → g.file.0 ≤ file.0) files.now) }
+    ensures none { IsNone result → All (λ g. MayBeTakenFor size g → ⊥) files.now }
 {
     if u64::from(size) > FULL {
         return None; // no file is filled so far
@@ -94,9 +94,9 @@ pub(crate) fn greatest_with_room(files: &[MailFile], size: u32) -> Option<FileNo
 
 /// The place of the last file that has room for so many octets. It looks from the last one down, and no further.
 fn last_with_room(files: &[MailFile], size: u32) -> Option<usize>
-    ensures some { IfSome result (λ at. (f : MailFile) × (slice_get files.now at ≡ Some f) × HasRoomFor size f) }
-    ensures last { IfSome result (λ at. All (λ f. HasRoomFor size f → ⊥) (drop (at + 1) files.now)) }
-    ensures none { IsNone result → All (λ f. HasRoomFor size f → ⊥) files.now }
+    ensures some { IfSome result (λ at. (f : MailFile) × (slice_get files.now at ≡ Some f) × MayBeTakenFor size f) }
+    ensures last { IfSome result (λ at. All (λ f. MayBeTakenFor size f → ⊥) (drop (at + 1) files.now)) }
+    ensures none { IsNone result → All (λ f. MayBeTakenFor size f → ⊥) files.now }
 {
     let mut place = files.len();
     while place > 0 {
