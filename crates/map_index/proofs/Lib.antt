@@ -4,5 +4,6 @@ pub mod MapAppliedLemmas
 pub mod MapOrderLemmas
 pub mod NearestLemmas
 pub mod RisingLemmas
+pub mod SearchLemmas
 pub mod SealedFileLemmas
 pub mod TargetLemmas
