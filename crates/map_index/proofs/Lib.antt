@@ -1,8 +1,11 @@
+pub mod CountLemmas
 pub mod DerivedListLemmas
 pub mod LastLemmas
 pub mod MapAppliedLemmas
 pub mod MapOrderLemmas
 pub mod NearestLemmas
+pub mod PurgeLemmas
 pub mod RisingLemmas
+pub mod SearchLemmas
 pub mod SealedFileLemmas
 pub mod TargetLemmas

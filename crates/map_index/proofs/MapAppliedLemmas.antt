@@ -6,14 +6,16 @@ use Rattle.mdbox_base.specs.declared.ids.Guid.{Guid}
 use Rattle.mdbox_base.specs.declared.ids.MapUid.{MapUid}
 use Rattle.mdbox_base.specs.declared.entries.InstRow.{InstRow}
 use Rattle.mdbox_base.specs.declared.entries.MapPlace.{MapPlace}
+use Rattle.mdbox_base.specs.declared.entries.MapCount.{MapCount}
 use Rattle.mdbox_base.specs.declared.entries.Highest.{Highest}
 use Rattle.mdbox_base.specs.declared.entries.MapEntry.{MapEntry}
 use Rattle.mdbox_base.specs.declared.entries.MapEntry.TheVariants as entry
 use Rattle.model_meaning.specs.Rows.{rows_by}
-use Rattle.model_meaning.specs.MapMeaning.{MapRecord, MapBox, MapMeaning, record_rules, record_changed, box_rules, sealed_by}
-use Rattle.model_meaning.proofs.AppliedLemmas.{boxes_by_highest, boxes_by_stored, boxes_by_raised, boxes_by_lowered, boxes_by_counted, boxes_by_purged, boxes_by_sealed, only_changes}
+use Rattle.model_meaning.specs.MapMeaning.{MapRecord, MapBox, MapMeaning, record_rules, box_rules, sealed_by}
+use Rattle.model_meaning.specs.MapFits.{MapFits}
+use Rattle.model_meaning.proofs.AppliedLemmas.{records_by_highest, records_by_generation, boxes_by_highest, boxes_by_stored, boxes_by_raised, boxes_by_lowered, boxes_by_counted, boxes_by_purged, boxes_by_sealed}
 use Rattle.map_index.specs.declared.room.MapRoom.{MapRoom}
-use Rattle.map_index.specs.Shown.{TakesMemory}
+use Rattle.map_index.specs.Shown.{TakesMemory, HasRisingList}
 use Rattle.map_index.specs.Value.{no_room, larger_room, room_for, room_left, IsNoLessRoom}
 
 filter_step : {X Y : Type 0} → (f : X → Y) (b : Bool) (x : X) (xs : List X) (ys : List Y) → map f xs ≡ ys → map f (cond b (x ∷ xs) xs) ≡ cond b (f x ∷ ys) ys
@@ -69,17 +71,30 @@ files_stay (entry.T cs) t files = refl
 files_stay (entry.P file x ms us) t files = refl
 files_stay (entry.E file) t files = absurd (t tt)
 
-pub records_change : (e : MapEntry) → (TakesMemory e → ⊥)
-    → ((file : FileNo) (t : ℕ) (ms : List MapPlace) (us : List MapUid) → e ≡ entry.P file t ms us → ⊥) → (rows : List MapRecord) → rows_by record_rules e rows ≡ map (record_changed e) rows
-records_change (entry.H x) s p rows = only_changes (record_changed (entry.H x)) rows
-records_change (entry.B n gen name) s p rows = only_changes (record_changed (entry.B n gen name)) rows
-records_change (entry.G n gen) s p rows = only_changes (record_changed (entry.G n gen)) rows
-records_change (entry.S o c u file a z guid is) s p rows = absurd (s tt)
-records_change (entry.U u) s p rows = only_changes (record_changed (entry.U u)) rows
-records_change (entry.D us) s p rows = only_changes (record_changed (entry.D us)) rows
-records_change (entry.T cs) s p rows = only_changes (record_changed (entry.T cs)) rows
-records_change (entry.P file t ms us) s p rows = absurd (p file t ms us refl)
-records_change (entry.E file) s p rows = only_changes (record_changed (entry.E file)) rows
+pub records_stay : (e : MapEntry) → (TakesMemory e → ⊥)
+    → ((file : FileNo) (t : ℕ) (ms : List MapPlace) (us : List MapUid) → e ≡ entry.P file t ms us → ⊥) → ((u : MapUid) → e ≡ entry.U u → ⊥) → ((us : List MapUid) → e ≡ entry.D us → ⊥) → ((cs : List MapCount) → e ≡ entry.T cs → ⊥)
+    → (rows : List MapRecord) → rows_by record_rules e rows ≡ rows
+records_stay (entry.H x) s p u d t rows = records_by_highest x rows
+records_stay (entry.B n gen name) s p u d t rows = absurd (s tt)
+records_stay (entry.G n gen) s p u d t rows = records_by_generation n gen rows
+records_stay (entry.S o c v file a z guid is) s p u d t rows = absurd (s tt)
+records_stay (entry.U v) s p u d t rows = absurd (u v refl)
+records_stay (entry.D us) s p u d t rows = absurd (d us refl)
+records_stay (entry.T cs) s p u d t rows = absurd (t cs refl)
+records_stay (entry.P file x ms us) s p u d t rows = absurd (p file x ms us refl)
+records_stay (entry.E file) s p u d t rows = absurd (s tt)
+
+-- lists of counts that fit rise
+pub list_rises : (m : MapMeaning) (e : MapEntry) → MapFits m e → HasRisingList e
+list_rises m (entry.H x) f = tt
+list_rises m (entry.B n gen name) f = tt
+list_rises m (entry.G n gen) f = tt
+list_rises m (entry.S o c v file a z guid is) f = tt
+list_rises m (entry.U v) f = tt
+list_rises m (entry.D us) f = f.0
+list_rises m (entry.T cs) f = f.0
+list_rises m (entry.P file x ms us) f = f.moved_rising
+list_rises m (entry.E file) f = tt
 
 -- it needs no room
 pub no_room_for : (e : MapEntry) → (TakesMemory e → ⊥) → room_for e ≡ no_room

@@ -1,6 +1,7 @@
 -- Records and mailboxes as the code has them, and what they stand for.
 use Rattle.std.specs.Prelude.{◌≡◌, ◌≤◌, ◌+◌, All, position, ◌==◌, ◌&&◌, nat_le, if◌then◌else◌, ℕ, Bool, List, map, filter, find, fold, Option, None, Some}
 use Rattle.std.specs.List.{list_any}
+use Rattle.std.specs.List.Sorted.{IsStrictlyIncreasing}
 use Rattle.std.specs.Str.{bytes_eq}
 use Rattle.mdbox_base.specs.declared.entries.Highest.{Highest}
 use Rattle.mdbox_base.specs.declared.entries.MapEntry.{MapEntry}
@@ -126,3 +127,10 @@ TakesMemory (entry.B mailbox generation name) = Unit {0}
 TakesMemory (entry.S origin count uid file offset size guid instances) = Unit {0}
 TakesMemory (entry.E file) = Unit {0}
 TakesMemory other = ⊥
+
+-- lists of counts and of new places name their records in order of map uid
+abbrev pub HasRisingList : MapEntry → Type 0
+HasRisingList (entry.D uids) = IsStrictlyIncreasing (map (λ u. u.0) uids)
+HasRisingList (entry.T counts) = IsStrictlyIncreasing (map (λ c. c.uid.0) counts)
+HasRisingList (entry.P file target moved dropped) = IsStrictlyIncreasing (map (λ p. p.uid.0) moved)
+HasRisingList other = Unit {0}

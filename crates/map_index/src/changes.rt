@@ -1,18 +1,17 @@
 // What an entry of the map log does to the records, the mailboxes and the sealed files.
-ghost use Rattle.std.specs.Prelude.{◌≡◌, ◌==◌, ◌+◌, ◌<◌, ◌≤◌, ℕ, List, map, filter, not, false, slice_get, vec_len, vec_capacity, IsErr, IfOk, MatchOption};
+ghost use Rattle.std.specs.Prelude.{◌≡◌, ◌==◌, ◌+◌, ◌<◌, ◌≤◌, ℕ, List, map, filter, not, false, slice_get, vec_len, vec_capacity, IsErr, IfOk, MatchOption, AllPairs};
 ghost use Rattle.std.specs.Option.{option_map_or};
 ghost use Rattle.model_meaning.specs.Rows.{rows_by};
 ghost use Rattle.model_meaning.specs.MapMeaning.{record_rules, record_changed, box_changed, box_rules, sealed_by, with_number, has_map_uid, moved_record};
 ghost use Rattle.mdbox_base.specs.declared.entries.InstRow.{InstRow};
 ghost use Rattle.mdbox_base.specs.declared.entries.MapEntry.TheVariants as entry;
-ghost use Rattle.map_index.specs.Shown.{meant_record, box_of, CanRise, IsRisen, TakesMemory};
+ghost use Rattle.map_index.specs.Shown.{meant_record, box_of, CanRise, IsRisen, HasRisingList, TakesMemory};
 ghost use Rattle.map_index.specs.Value.{room_for};
 
-use crate::named::{count_given, has_map_uid, place_given};
+use crate::counts::{lower_each, raise, set_counts};
+use crate::purged::{drop_each, move_each};
 use crate::rows::{BoxAt, Mailbox, MapRow, Record, place_of};
-use mdbox_base::{
-    BoxNo, FileNo, InstRow, MapEntry, MapPlace, MapUid, Name, NoMemory, Seq, name_of,
-};
+use mdbox_base::{BoxNo, FileNo, InstRow, MapEntry, Name, NoMemory, Seq, name_of};
 use std::alloc::Global;
 
 /// Takes an entry into the records, the mailboxes and the sealed files, which have room for it.
@@ -22,6 +21,8 @@ pub fn take_parts(
     files: &mut Vec<FileNo>,
     entry: MapEntry,
 )
+    requires rising { AllPairs (λ a b. a.row.uid.0 < b.row.uid.0) records.old.items }
+    requires list { HasRisingList entry }
     requires rise { CanRise entry (map meant_record records.old.items) }
     requires room_records { vec_len records.old + (room_for entry).records ≤ vec_capacity records.old }
     requires room_boxes { vec_len boxes.old + (room_for entry).boxes ≤ vec_capacity boxes.old }
@@ -73,6 +74,8 @@ pub fn take_parts(
 
 /// Changes the records and the mailboxes as an entry says that takes no memory.
 pub fn change_parts(records: &mut Vec<Record>, boxes: &mut Vec<Mailbox>, entry: &MapEntry)
+    requires rising { AllPairs (λ a b. a.row.uid.0 < b.row.uid.0) records.old.items }
+    requires list { HasRisingList entry.now }
     requires rise { CanRise entry.now (map meant_record records.old.items) }
     requires changes { TakesMemory entry.now → ⊥ }
     ensures records { map meant_record records.new.items ≡ rows_by record_rules entry.now (map meant_record records.old.items) }
@@ -133,83 +136,27 @@ fn copied_instances(alloc: Global, instances: &Seq<InstRow>) -> Result<Seq<InstR
 
 /// Changes the records as the entry says.
 fn change_records(records: &mut Vec<Record>, entry: &MapEntry)
+    requires rising { AllPairs (λ a b. a.row.uid.0 < b.row.uid.0) records.old.items }
+    requires list { HasRisingList entry.now }
     requires rise { CanRise entry.now (map meant_record records.old.items) }
     requires changes { TakesMemory entry.now → ⊥ }
     ensures records { map meant_record records.new.items ≡ rows_by record_rules entry.now (map meant_record records.old.items) }
     ensures space { (vec_len records.new ≤ vec_len records.old) × (vec_capacity records.new ≡ vec_capacity records.old) }
 {
     match entry {
-        MapEntry::P { dropped, .. } => {
-            drop_records(records, dropped.as_slice());
-            change_each(records, entry);
+        MapEntry::P {
+            target,
+            moved,
+            dropped,
+            ..
+        } => {
+            drop_each(records, dropped.as_slice());
+            move_each(records, *target, moved.as_slice());
         }
-        _ => change_each(records, entry),
-    }
-}
-
-/// Changes each record as the entry says.
-fn change_each(records: &mut Vec<Record>, entry: &MapEntry)
-    requires { CanRise entry.now (map meant_record records.old.items) }
-    ensures changed { map meant_record records.new.items ≡ map (record_changed entry.now) (map meant_record records.old.items) }
-    ensures space { (vec_len records.new ≡ vec_len records.old) × (vec_capacity records.new ≡ vec_capacity records.old) }
-{
-    for place in 0..records.len() {
-        let row = changed(entry, records[place].row);
-        records[place].row = row;
-    }
-}
-
-/// The record as the entry changes it.
-fn changed(entry: &MapEntry, row: MapRow) -> MapRow
-    requires { IsRisen entry.now row.uid.0 row.count }
-    ensures { (instances : List InstRow) → meant_record (record { row = result; instances = instances }) ≡ record_changed entry.now (meant_record (record { row = row; instances = instances })) }
-{
-    match entry {
-        MapEntry::U { uid } if uid.0 == row.uid.0 => MapRow {
-            count: row.count.saturating_add(1),
-            ..row
-        },
-        MapEntry::D { uids } if has_map_uid(uids.as_slice(), row.uid) => MapRow {
-            count: row.count.saturating_sub(1),
-            ..row
-        },
-        MapEntry::T { counts } => MapRow {
-            count: count_given(counts.as_slice(), row.uid, row.count),
-            ..row
-        },
-        MapEntry::P { target, moved, .. } => {
-            moved_record(row, *target, place_given(moved.as_slice(), row.uid))
-        }
-        _ => row,
-    }
-}
-
-/// The record at another place, if it is given one.
-fn moved_record(row: MapRow, target: u32, place: Option<MapPlace>) -> MapRow
-    ensures { (instances : List InstRow) → meant_record (record { row = result; instances = instances }) ≡ moved_record (meant_record (record { row = row; instances = instances })) target place }
-{
-    match place {
-        Some(place) => MapRow {
-            file: FileNo(target),
-            offset: place.offset,
-            ..row
-        },
-        None => row,
-    }
-}
-
-/// Removes each record whose map uid is in the list.
-fn drop_records(records: &mut Vec<Record>, dropped: &[MapUid])
-    ensures kept { records.new.items ≡ filter (λ r. not (has_map_uid r.row.uid.0 dropped.now)) records.old.items }
-    ensures space { (vec_len records.new ≤ vec_len records.old) × (vec_capacity records.new ≡ vec_capacity records.old) }
-{
-    let mut place = 0;
-    while place < records.len() {
-        if has_map_uid(dropped, records[place].row.uid) {
-            records.remove(place);
-        } else {
-            place += 1;
-        }
+        MapEntry::U { uid } => raise(records, *uid),
+        MapEntry::D { uids } => lower_each(records, uids.as_slice()),
+        MapEntry::T { counts } => set_counts(records, counts.as_slice()),
+        _ => {}
     }
 }
 

@@ -67,9 +67,10 @@ pub fn is_new_name(boxes: &[Mailbox], name: &[u8]) -> bool
 pub fn agree_with_records(records: &[Record], instances: &[InstRow]) -> bool
     ensures { IsTrue result ↔ All (λ r. All (λ i. All (AgreesOn i) r.instances) instances.now) records.now }
 {
-    records
-        .iter()
-        .all(|record| agree(instances, record.instances.as_slice()))
+    instances.is_empty()
+        || records
+            .iter()
+            .all(|record| agree(instances, record.instances.as_slice()))
 }
 
 /// Whether instances of one id have one hash and one size, wherever the list names them.

@@ -6,9 +6,11 @@ pub use room::MapRoom;
 pub use rows::{BoxAt, MapRow};
 
 mod changes;
+mod counts;
 mod fitting;
 mod index;
 mod named;
 mod numbers;
+mod purged;
 mod room;
 mod rows;

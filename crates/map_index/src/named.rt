@@ -1,47 +1,20 @@
 // Records that the lists of an entry name.
-ghost use Rattle.std.specs.Prelude.{◌≡◌, ◌==◌, map, find, not, All, IsTrue, ◌↔◌};
+ghost use Rattle.std.specs.Prelude.{◌≡◌, ◌==◌, map, not, All, IsTrue, ◌↔◌};
 ghost use Rattle.std.specs.List.{list_any};
-ghost use Rattle.std.specs.Option.{option_copied};
 ghost use Rattle.std.specs.List.Sorted.{IsStrictlyIncreasing};
-ghost use Rattle.model_meaning.specs.MapMeaning.{has_map_uid, count_given, place_given};
+ghost use Rattle.model_meaning.specs.MapMeaning.{has_map_uid};
 ghost use Rattle.model_meaning.specs.MapFits.{IsMovedOrDropped};
 ghost use Rattle.map_index.specs.Shown.{meant_record};
 
 use crate::numbers::NamesRecord;
 use crate::rows::Record;
-use mdbox_base::{FileNo, MapCount, MapPlace, MapUid};
+use mdbox_base::{FileNo, MapPlace, MapUid};
 
 /// Whether the list has this map uid.
 pub fn has_map_uid(uids: &[MapUid], uid: MapUid) -> bool
     ensures { result ≡ has_map_uid uid.0 uids.now }
 {
     uids.iter().any(|other| other.0 == uid.0)
-}
-
-/// The count that the list gives this map uid, else the old one.
-pub fn count_given(counts: &[MapCount], uid: MapUid, old: u16) -> u16
-    ensures { result ≡ count_given uid.0 counts.now old }
-{
-    find_count(counts, uid).map_or(old, |given| given.count)
-}
-
-fn find_count(counts: &[MapCount], uid: MapUid) -> Option<&MapCount>
-    ensures { option_copied result ≡ find (λ c. c.uid.0 == uid.0) counts.now }
-{
-    counts.iter().find(|given| given.uid.0 == uid.0)
-}
-
-/// The place that the list gives this map uid.
-pub fn place_given(moved: &[MapPlace], uid: MapUid) -> Option<MapPlace>
-    ensures { result ≡ place_given uid.0 moved.now }
-{
-    find_place(moved, uid).copied()
-}
-
-fn find_place(moved: &[MapPlace], uid: MapUid) -> Option<&MapPlace>
-    ensures { option_copied result ≡ find (λ p. p.uid.0 == uid.0) moved.now }
-{
-    moved.iter().find(|place| place.uid.0 == uid.0)
 }
 
 /// Whether the list has a place for this map uid.

@@ -1,5 +1,5 @@
 // Records and mailboxes of the map in vectors, and the look-ups that walk them.
-ghost use Rattle.std.specs.Prelude.{◌≡◌, ◌+◌, ◌==◌, ◌&&◌, map, find, filter, fold, nat_le, Some, None};
+ghost use Rattle.std.specs.Prelude.{◌≡◌, ◌+◌, ◌<◌, ◌==◌, ◌&&◌, AllPairs, map, find, filter, fold, nat_le, Some, None};
 ghost use Rattle.std.specs.Option.{option_copied};
 ghost use Rattle.std.specs.List.{list_any, position_or_len};
 ghost use Rattle.std.specs.Str.{bytes_eq};
@@ -50,11 +50,17 @@ pub struct Mailbox {
     pub name: Name,
 }
 
-/// The first record with this map uid.
+/// The record with this map uid, by search.
 pub fn with_uid(records: &[Record], uid: MapUid) -> Option<&Record>
+    requires { AllPairs (λ a b. a.row.uid.0 < b.row.uid.0) records.now }
     ensures { option_copied result ≡ find (λ r. r.row.uid.0 == uid.0) records.now }
 {
-    records.iter().find(|record| record.row.uid.0 == uid.0)
+    let place = place_with_uid(records, uid);
+    if place < records.len() {
+        Some(&records[place])
+    } else {
+        None
+    }
 }
 
 /// The first record with this GUID.
@@ -117,16 +123,15 @@ fn later(last: Option<MapRow>, row: MapRow) -> MapRow
     }
 }
 
-/// The place of the first record with this map uid, else how many records there are.
+/// The place of the record with this map uid, by search; else how many records there are.
 pub fn place_with_uid(records: &[Record], uid: MapUid) -> usize
+    requires { AllPairs (λ a b. a.row.uid.0 < b.row.uid.0) records.now }
     ensures { result ≡ position_or_len (λ r. r.row.uid.0 == uid.0) records.now }
 {
-    for (place, record) in records.iter().enumerate() {
-        if record.row.uid.0 == uid.0 {
-            return place;
-        }
+    match records.binary_search_by_key(&uid.0, |record| record.row.uid.0) {
+        Ok(place) => place,
+        Err(_) => records.len(),
     }
-    records.len()
 }
 
 /// Whether a record names this instance.

@@ -33,4 +33,4 @@ pub returns-in-E-clause-files : goal.returns-in-E-clause-files
 returns-in-E-clause-files c = rw c.in-E.is c.seal.ensures.files
 
 pub change_parts-requires : goal.change_parts-requires
-change_parts-requires c = record { rise = c.requires.rise; changes = adds_none c.args.entry c.in_default.not-S c.in_default.not-B c.in_default.not-E }
+change_parts-requires c = record { rising = c.requires.rising; list = c.requires.list; rise = c.requires.rise; changes = adds_none c.args.entry c.in_default.not-S c.in_default.not-B c.in_default.not-E }

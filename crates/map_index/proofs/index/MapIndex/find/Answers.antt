@@ -1,4 +1,7 @@
-use Rattle.std.proofs.Common.{◌==◌, ap}
+use Rattle.std.specs.Prelude.{AllPairs}
+use Rattle.std.proofs.Common.{◌==◌, ◌<◌, List, ap, sym, subst}
+use Rattle.map_index.specs.declared.rows.Record.{Record}
+use Rattle.map_index.proofs.SearchLemmas.{pairs_unmap}
 use Rattle.model_meaning.specs.MapMeaning.{MapRecord}
 use Rattle.map_index.specs.Shown.{meant_record}
 use Rattle.map_index.specs.Value.{MapIndexValue}
@@ -8,3 +11,8 @@ use Rattle.map_index.proofs.index.MapIndex.find.Goals as goal
 pub returns : goal.returns
 returns c =
     found_in (λ (row : MapRecord). row.uid == c.args.uid.0) meant_record _ _ _ _ c.with_uid.ensures c.deref.ensures.value (ap (λ (v : MapIndexValue). v.meaning.records) c.self.view_is)
+
+pub with_uid-requires : goal.with_uid-requires
+with_uid-requires c =
+    subst (λ (rs : List Record). AllPairs (λ a b. a.row.uid.0 < b.row.uid.0) rs) (sym c.deref.ensures.value)
+    (pairs_unmap (λ (a b : MapRecord). a.uid < b.uid) meant_record c.self.inside.records.items c.self.invariant.0.records.rising)

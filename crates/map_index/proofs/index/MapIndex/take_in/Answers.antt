@@ -1,15 +1,23 @@
 use Rattle.std.proofs.Common.{◌<◌, ◌^◌, ◌∙◌, sym, ap, subst, arith}
 use Rattle.mdbox_base.specs.declared.entries.Highest.{Highest}
-use Rattle.model_meaning.specs.MapMeaning.{higher}
+use Rattle.model_meaning.specs.MapMeaning.{MapRecord, higher}
 use Rattle.map_index.specs.declared.room.MapRoom.{MapRoom}
 use Rattle.map_index.specs.Kept.{IsMapInOrder}
 use Rattle.map_index.specs.Value.{MapIndexValue, HasRoomFor}
+use Rattle.map_index.specs.Shown.{meant_record}
+use Rattle.map_index.proofs.SearchLemmas.{pairs_unmap}
 use Rattle.map_index.proofs.MapOrderLemmas.{kept_more, can_rise}
-use Rattle.map_index.proofs.MapAppliedLemmas.{same_parts, space_left}
+use Rattle.map_index.proofs.MapAppliedLemmas.{list_rises, same_parts, space_left}
 use Rattle.map_index.proofs.index.MapIndex.take_in.Goals as goal
 
 pub take_parts-requires-clause-rise : goal.take_parts-requires-clause-rise
 take_parts-requires-clause-rise c = can_rise _ c.args.entry c.self.invariant.0 (rw (← c.self.view_is) at c.requires.fits)
+
+pub take_parts-requires-clause-rising : goal.take_parts-requires-clause-rising
+take_parts-requires-clause-rising c = pairs_unmap (λ (a b : MapRecord). a.uid < b.uid) meant_record c.self.inside.records.items c.self.invariant.0.records.rising
+
+pub take_parts-requires-clause-list : goal.take_parts-requires-clause-list
+take_parts-requires-clause-list c = list_rises c.args.self.now.meaning c.args.entry c.requires.fits
 
 pub invariant_of-self : goal.invariant_of-self
 invariant_of-self c =
