@@ -1,5 +1,5 @@
 -- What a caller sees of a log: its file's name, its head, where its last gate stands, and its room, which is how many
--- octets of a record with two gates it can lay out without memory.
+-- octets of records, each with the gate after it, it can lay out without memory.
 use Rattle.std.specs.Prelude.{◌≡◌, ℕ}
 use Rattle.disk_model.specs.declared.name.FileName.{FileName}
 use Rattle.model_logs.specs.declared.log_head.LogHead.{LogHead}

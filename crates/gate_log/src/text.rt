@@ -1,5 +1,5 @@
 // Logs whose octets are kept as they were read.
-ghost use Rattle.std.specs.Prelude.{◌≡◌, ◌<◌, ◌+◌, ℕ, List, Option, length, take, IfOk, IfErr, IfSome};
+ghost use Rattle.std.specs.Prelude.{◌≡◌, ◌<◌, ◌+◌, ℕ, List, Option, length, take, IfOk, IfErr, IfSome, IsNone};
 ghost use Rattle.model_logs.specs.declared.log_head.LogHead.{LogHead};
 ghost use Rattle.model_logs.specs.LogFile.{HeadFits, head_octets, IsTaken, IsDamagedAt};
 ghost use Rattle.gate_log.specs.Reading.{IsDamage};
@@ -48,6 +48,7 @@ impl<'a> LogCursor<'a> {
     pub fn next_entry(&mut self) -> Option<(u64, &'a [u8])>
         ensures next { (entries : List (List ℕ)) → HasEntriesAt self.old.octets.now self.old.gate entries → IsNextEntry self.old.gate entries self.new.octets.now self.new.gate result }
         ensures same { self.new.octets.now ≡ self.old.octets.now }
+        ensures done { IsNone result → self.new.gate ≡ self.old.gate }
         ensures goes_on { IfSome result (λ _. (self.old.gate < self.new.gate) × (self.new.gate < length self.old.octets.now)) }
     {
         let (gate, behind) = self.octets.get(self.gate..)?.split_first()?;
