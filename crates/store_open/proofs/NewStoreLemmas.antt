@@ -71,11 +71,11 @@ pub record HasNewLogs (store : List ℕ) (root_log map_log box_log : LogState) (
 abbrev opened_with : {D : Type 0} → Global → D → OpenLogs → MapMeaning → List OpenBox → StoreValue D
 opened_with alloc disk o m boxes = record { alloc = alloc; disk = disk; root_log = o.root_log; map_log = o.map_log; map = m; boxes = boxes; drawn = m.highest; dues = none_due m.records; lanes = 1; stopped = false }
 
-pub new_store : {D : Type 0} (alloc : Global) (disk : D) (store : List ℕ) (box : OpenBox) (o : OpenLogs) (new : Option History) → o.map ≡ map_meaning store (first_box ∷ []) → HasNewLogs store o.root_log o.map_log box.log new
-    → box.number.0 ≡ 1 → box.index ≡ box_meaning [] → o.boxes.items ≡ box ∷ [] → IsStore new (newly_open alloc disk o 1)
+pub new_store : {D : Type 0} (alloc : Global) (disk : D) (store : List ℕ) (box : OpenBox) (o : OpenLogs) (new : Option History) → o.map.meaning ≡ map_meaning store (first_box ∷ []) → HasNewLogs store o.root_log o.map_log box.log new
+    → box.number.0 ≡ 1 → box.index.meaning ≡ box_meaning [] → o.boxes.items ≡ box ∷ [] → IsStore new (newly_open alloc disk o 1)
 new_store alloc disk store box o new is l number index one =
     let n = is_new store box.log new (ap (λ (s : LogState). s.head) l.box_is) l.made l.box_held in
-    let F : List OpenBox → Type 0 = λ bs. IsStore new (opened_with alloc disk o o.map bs) in
+    let F : List OpenBox → Type 0 = λ bs. IsStore new (opened_with alloc disk o o.map.meaning bs) in
     let G : MapMeaning → Type 0 = λ k. IsStore new (opened_with alloc disk o k (box ∷ [])) in
     subst F (sym one) (subst G (sym is) (record {
       entries = first_box ∷ [];

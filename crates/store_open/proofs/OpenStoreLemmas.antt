@@ -1,12 +1,14 @@
 -- The store that was opened.
-use Rattle.std.proofs.Common.{◌≡◌, ◌≤◌, ℕ, List, [], ◌∷◌, map, All, Option, refl, sym, ◌∙◌, ap, subst, arith}
+use Rattle.std.proofs.Common.{◌≡◌, ◌≤◌, ℕ, List, [], ◌∷◌, length, map, All, Option, refl, sym, ◌∙◌, ap, subst, arith}
 use Rattle.std.specs.List.{AllZip}
+use Rattle.std.proofs.lemmas.List.{length-map}
 use Rattle.disk_model.specs.Disk.{History, IfTold, IsIdle}
 use Rattle.disk_model.specs.declared.name.FileName.TheVariants as file
 use Rattle.disk_model.proofs.MomentLemmas.{if_told-map}
 use Rattle.mdbox_base.specs.declared.entries.BoxEntry.{BoxEntry}
 use Rattle.mdbox_base.specs.declared.entries.MapEntry.{MapEntry}
 use Rattle.mdbox_base.specs.declared.entries.RootEntry.{RootEntry}
+use Rattle.box_index.specs.State.{BoxState}
 use Rattle.model_meaning.specs.BoxMeaning.{BoxMeaning, box_meaning}
 use Rattle.model_logs.specs.Entries.{map_text}
 use Rattle.model_store.specs.GoodLogs.{AreGoodLogs}
@@ -80,7 +82,7 @@ record IsKnown (store : List ℕ) (generation : ℕ) (entries : List MapEntry) (
   opens : IfTold new (OpensAt store generation entries logs)
 
 is_store : {D : Type 0} (alloc : Global) (disk : D) (generation : ℕ) (entries : List MapEntry) (logs : List (List BoxEntry)) (root log : InspectedLog) (texts : List (List ℕ)) (boxes : List CheckedBox) (o : OpenLogs) (lanes : ℕ) (now new : Option History)
-    → CountsCover → IsKnown o.map.store generation entries logs o.map root log texts boxes now new → IsOpened now new root o.root_log → IsOpened now new log o.map_log → Opened now new boxes o.boxes.items → map (λ b. b.number.0) o.boxes.items ≡ map (λ b. b.number) o.map.boxes → indexes_of o.boxes.items ≡ map box_meaning logs
+    → CountsCover → IsKnown o.map.meaning.store generation entries logs o.map.meaning root log texts boxes now new → IsOpened now new root o.root_log → IsOpened now new log o.map_log → Opened now new boxes o.boxes.items → map (λ b. b.number.0) o.boxes.items ≡ map (λ b. b.number) o.map.meaning.boxes → indexes_of o.boxes.items ≡ map box_meaning logs
     → 1 ≤ lanes → lanes ≤ 64 → IsStore new (newly_open alloc disk o lanes)
 is_store alloc disk generation entries logs root log texts boxes o lanes now new cover k root_opened map_opened zip numbers indexes some few = record {
   entries = entries;
@@ -89,41 +91,50 @@ is_store alloc disk generation entries logs root log texts boxes o lanes now new
   good = k.good;
   map_is = k.map_is;
   boxes_are = indexes;
-  counts = cover logs o.map.records (subst (λ (n : MapMeaning). All (IsCounted logs) n.records) (sym k.map_is) k.good.counts);
+  counts = cover logs o.map.meaning.records (subst (λ (n : MapMeaning). All (IsCounted logs) n.records) (sym k.map_is) k.good.counts);
   drawn = record { file = omega arith; map = omega arith; instance = omega arith; mailbox = omega arith };
   root_name = ap (λ (l : LogState). l.name) root_opened.is ∙ k.root_found.name_is;
   root_head = ap (λ (l : LogState). l.head) root_opened.is ∙ k.root_found.head_is;
   map_name = ap (λ (l : LogState). l.name) map_opened.is ∙ k.map_found.name_is;
   map_head = ap (λ (l : LogState). l.head) map_opened.is ∙ k.map_found.head_is;
-  box_logs = box_logs o.map.store o.map.boxes boxes logs o.boxes.items now new k.found zip numbers;
+  box_logs = box_logs o.map.meaning.store o.map.meaning.boxes boxes logs o.boxes.items now new k.found zip numbers;
   some_lanes = some;
   few_lanes = few;
   running = λ _. record {
     opens = if_told-map _ _ new (λ disk o. o.0) k.opens;
-    root = if_told-map _ _ new (λ disk q. has_root o.map.store generation entries logs disk q) k.opens;
+    root = if_told-map _ _ new (λ disk q. has_root o.map.meaning.store generation entries logs disk q) k.opens;
     root_entries = texts;
     root_log_reads = root_opened.reads texts k.root_found.stands;
     map_log_reads = map_opened.reads (map map_text entries) k.map_found.stands;
-    box_logs_read = read_logs o.map.store o.map.boxes boxes logs o.boxes.items now new k.found zip;
+    box_logs_read = read_logs o.map.meaning.store o.map.meaning.boxes boxes logs o.boxes.items now new k.found zip;
   };
 }
 
+-- what the indexes mean
+opened_meanings : (boxes : List OpenBox) → map (λ (i : BoxState). i.meaning) (map (λ (b : OpenBox). b.index) boxes) ≡ indexes_of boxes
+opened_meanings [] = refl
+opened_meanings (b ∷ bs) = ap (λ (ms : List BoxMeaning). b.index.meaning ∷ ms) (opened_meanings bs)
+
+checked_meanings : (boxes : List CheckedBox) → map (λ (i : BoxState). i.meaning) (map (λ (b : CheckedBox). b.index) boxes) ≡ map (λ b. b.index.meaning) boxes
+checked_meanings [] = refl
+checked_meanings (b ∷ bs) = ap (λ (ms : List BoxMeaning). b.index.meaning ∷ ms) (checked_meanings bs)
+
 -- the indexes are what the logs mean
-pub indexes_are : (c : Checked) (before : List RootEntry) (entries : List MapEntry) (logs : List (List BoxEntry)) (opened : List OpenBox) (old now : Option History) → IsChecked c before entries logs old now → HaveIndexes c.map c.boxes opened → indexes_of opened ≡ map box_meaning logs
-indexes_are c before entries logs opened old now k h = h.indexes ∙ k.boxes_are
+pub indexes_are : (c : Checked) (before : List RootEntry) (entries : List MapEntry) (logs : List (List BoxEntry)) (opened : List OpenBox) (old now : Option History) → IsChecked c before entries logs old now → HaveIndexes c.map.meaning c.boxes opened → indexes_of opened ≡ map box_meaning logs
+indexes_are c before entries logs opened old now k h = sym (opened_meanings opened) ∙ ap (map (λ (i : BoxState). i.meaning)) h.indexes ∙ checked_meanings c.boxes ∙ k.boxes_are
 
 pub opened_store : {D : Type 0} (alloc : Global) (disk : D) (c : Checked) (before : List RootEntry) (entries : List MapEntry) (logs : List (List BoxEntry)) (o : OpenLogs) (lanes : ℕ) (old now new : Option History) → CountsCover → IsIdle old now
-    → IsChecked c before entries logs old now → FilesCarry c.generation c.map now new → o.map ≡ c.map → IsOpened now new c.root_log o.root_log → IsOpened now new c.map_log o.map_log → Opened now new c.boxes o.boxes.items → HaveIndexes c.map c.boxes o.boxes.items
+    → IsChecked c before entries logs old now → FilesCarry c.generation c.map.meaning now new → o.map.meaning ≡ c.map.meaning → IsOpened now new c.root_log o.root_log → IsOpened now new c.map_log o.map_log → Opened now new c.boxes o.boxes.items → HaveIndexes c.map.meaning c.boxes o.boxes.items
     → 1 ≤ lanes → lanes ≤ 64 → IsStore new (newly_open alloc disk o lanes)
 opened_store alloc disk c before entries logs o lanes old now new cover idle k carry same root_opened map_opened zip h some few =
-    let known : IsKnown c.map.store c.generation entries logs c.map c.root_log c.map_log (root_texts before c.generation) c.boxes now new =
-    subst (λ (s : List ℕ). IsKnown s c.generation entries logs c.map c.root_log c.map_log (root_texts before c.generation) c.boxes now new) (store_is c.map c.id.0 entries k.map_is) (record {
+    let known : IsKnown c.map.meaning.store c.generation entries logs c.map.meaning c.root_log c.map_log (root_texts before c.generation) c.boxes now new =
+    subst (λ (s : List ℕ). IsKnown s c.generation entries logs c.map.meaning c.root_log c.map_log (root_texts before c.generation) c.boxes now new) (store_is c.map.meaning c.id.0 entries k.map_is) (record {
       good = k.good;
       map_is = k.map_is;
       root_found = k.root_log;
       map_found = k.map_log;
       found = k.box_logs;
-      opens = still_opens c.id.0 c.generation entries logs c.map now new k.map_is (opens_at c before entries logs old now idle k) carry;
+      opens = still_opens c.id.0 c.generation entries logs c.map.meaning now new k.map_is (opens_at c before entries logs old now idle k) carry;
     }) in
     is_store alloc disk c.generation entries logs c.root_log c.map_log (root_texts before c.generation) c.boxes o lanes now new cover
     (subst (λ (m : MapMeaning). IsKnown m.store c.generation entries logs m c.root_log c.map_log (root_texts before c.generation) c.boxes now new) (sym same) known)
@@ -146,11 +157,15 @@ opened_checked store entries logs m meanings old own good opens is are = record 
   meanings_are = are;
 }
 
-pub opened_as : (c : Checked) (before : List RootEntry) (entries : List MapEntry) (logs : List (List BoxEntry)) (o : OpenLogs) (old now : Option History) → IsChecked c before entries logs old now → o.map ≡ c.map → HaveIndexes c.map c.boxes o.boxes.items → IsOpenedAs old o.map (indexes_of o.boxes.items)
+pub opened_as : (c : Checked) (before : List RootEntry) (entries : List MapEntry) (logs : List (List BoxEntry)) (o : OpenLogs) (old now : Option History) → IsChecked c before entries logs old now → o.map.meaning ≡ c.map.meaning → HaveIndexes c.map.meaning c.boxes o.boxes.items → IsOpenedAs old o.map.meaning (indexes_of o.boxes.items)
 opened_as c before entries logs o old now k same h =
     subst (λ (m : MapMeaning). IsOpenedAs old m (indexes_of o.boxes.items)) (sym same)
-    (opened_checked c.id.0 entries logs c.map (indexes_of o.boxes.items) old (store_is c.map c.id.0 entries k.map_is) k.good k.opens k.map_is (indexes_are c before entries logs o.boxes.items old now k h))
+    (opened_checked c.id.0 entries logs c.map.meaning (indexes_of o.boxes.items) old (store_is c.map.meaning c.id.0 entries k.map_is) k.good k.opens k.map_is (indexes_are c before entries logs o.boxes.items old now k h))
 
 -- its id
-pub id_is : (c : Checked) (before : List RootEntry) (entries : List MapEntry) (logs : List (List BoxEntry)) (o : OpenLogs) (old now : Option History) → IsChecked c before entries logs old now → o.id ≡ c.id → o.map ≡ c.map → o.map.store ≡ o.id.0
-id_is c before entries logs o old now k id same = ap (λ (m : MapMeaning). m.store) same ∙ sym (store_is c.map c.id.0 entries k.map_is) ∙ ap (λ (i : StoreId). i.0) (sym id)
+pub id_is : (c : Checked) (before : List RootEntry) (entries : List MapEntry) (logs : List (List BoxEntry)) (o : OpenLogs) (old now : Option History) → IsChecked c before entries logs old now → o.id ≡ c.id → o.map.meaning ≡ c.map.meaning → o.map.meaning.store ≡ o.id.0
+id_is c before entries logs o old now k id same = ap (λ (m : MapMeaning). m.store) same ∙ sym (store_is c.map.meaning c.id.0 entries k.map_is) ∙ ap (λ (i : StoreId). i.0) (sym id)
+
+-- as many mailboxes as the map has
+pub many_boxes : (m : MapMeaning) (boxes : List CheckedBox) (opened : List OpenBox) → HaveIndexes m boxes opened → length m.boxes ≡ length opened
+many_boxes m boxes opened h = sym (length-map m.boxes (λ (b : MapBox). b.number)) ∙ sym (ap length h.numbers) ∙ length-map opened (λ (b : OpenBox). b.number.0)

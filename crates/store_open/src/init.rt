@@ -1,5 +1,5 @@
 // Making a store and opening it.
-ghost use Rattle.std.specs.Prelude.{◌≡◌, ◌<◌, ◌++◌, ◌∷◌, [], false, vec_len, vec_capacity, IfOk, IfErr, IsErrOf, OnOk};
+ghost use Rattle.std.specs.Prelude.{◌≡◌, ◌<◌, ◌++◌, ◌∷◌, [], false, length, vec_len, vec_capacity, IfOk, IfErr, IsErrOf, OnOk};
 ghost use Rattle.disk_model.specs.Disk.{IfTold, EachImage, IsIdle};
 ghost use Rattle.disk_model.specs.FaultCounts.{NoFault, AnyFaultCounted};
 ghost use Rattle.model_meaning.specs.BoxMeaning.{box_meaning};
@@ -20,7 +20,7 @@ use disk_model::Disk;
 use map_index::MapIndex;
 use mdbox_base::{BoxNo, NoMemory, StoreId};
 use std::alloc::Global;
-use store_core::{OpenBox, OpenLogs, Store};
+use store_core::{OpenBox, OpenLogs, Store, StoreRoom};
 
 /// Makes an empty store with INBOX, as opened for one lane.
 ///
@@ -50,16 +50,21 @@ pub fn init_store<D: Disk>(alloc: Global, disk: D, id: StoreId) -> Result<Store<
 {
     let mut disk = disk;
     match new_logs(alloc, &mut disk, id) {
-        Ok(logs) => Ok(Store::of(alloc, disk, logs, 1)),
+        Ok((logs, room)) => Ok(Store::of(alloc, disk, logs, room, 1)),
         Err(error) => Err(OpenRefused { error, disk }),
     }
 }
 
 /// Makes the logs of a new store, with what they mean. Nothing wants memory once they are made.
-fn new_logs<D: Disk>(alloc: Global, disk: &mut D, id: StoreId) -> Result<OpenLogs, OpenError>
-    ensures id { IfOk result (λ logs. logs.map.store ≡ logs.id.0) }
-    ensures store { IfOk result (λ logs. IsStore (D.history disk.new) (newly_open alloc disk.new logs 1)) }
-    ensures made { IfOk result (λ logs. (logs.map ≡ map_meaning id.0 (first_box ∷ [])) × (indexes_of logs.boxes.items ≡ box_meaning [] ∷ [])) }
+fn new_logs<D: Disk>(
+    alloc: Global,
+    disk: &mut D,
+    id: StoreId,
+) -> Result<(OpenLogs, StoreRoom), OpenError>
+    ensures id { IfOk result (λ opened. opened.0.map.meaning.store ≡ opened.0.id.0) }
+    ensures store { IfOk result (λ opened. IsStore (D.history disk.new) (newly_open alloc disk.new opened.0 1)) }
+    ensures room { IfOk result (λ opened. (opened.1.boxes ≡ length opened.0.boxes.items) × (opened.1.records ≡ length opened.0.map.meaning.records)) }
+    ensures made { IfOk result (λ opened. (opened.0.map.meaning ≡ map_meaning id.0 (first_box ∷ [])) × (indexes_of opened.0.boxes.items ≡ box_meaning [] ∷ [])) }
     ensures settled { OnOk result (IfTold (D.history disk.new) (λ now. IsSettled now empty_inbox)) }
     ensures there { OnOk result (IfTold (D.history disk.new) (IsMadeStore id.0)) }
     ensures any_moment { NeverHasStore (D.history disk.old) → EachImage (λ _ image. HasNothingOrInbox image) (D.history disk.old) (D.history disk.new) }
@@ -74,6 +79,7 @@ fn new_logs<D: Disk>(alloc: Global, disk: &mut D, id: StoreId) -> Result<OpenLog
     let map = new_map(alloc, id)?;
     let index = BoxIndex::empty(alloc)?;
     let mut boxes = Vec::with_capacity(alloc, 1)?;
+    let room = StoreRoom::of(alloc, 1, 0)?;
     let made = make_files(alloc, disk, id)?;
     push_box(
         &mut boxes,
@@ -83,18 +89,19 @@ fn new_logs<D: Disk>(alloc: Global, disk: &mut D, id: StoreId) -> Result<OpenLog
             index,
         },
     );
-    Ok(OpenLogs {
+    let logs = OpenLogs {
         id,
         root_log: made.root_log,
         map_log: made.map_log,
         map,
         boxes,
-    })
+    };
+    Ok((logs, room))
 }
 
 /// What the map log of a new store means.
 fn new_map(alloc: Global, id: StoreId) -> Result<MapIndex, NoMemory>
-    ensures { IfOk result (λ map. map ≡ map_meaning id.0 (first_box ∷ [])) }
+    ensures { IfOk result (λ map. map.meaning ≡ map_meaning id.0 (first_box ∷ [])) }
 {
     let inbox = inbox(alloc)?;
     let mut map = MapIndex::empty(alloc, id)?;

@@ -1,5 +1,5 @@
 // Opening a store.
-ghost use Rattle.std.specs.Prelude.{◌≡◌, ◌≤◌, false, ℕ, IfOk, IfErr, IsErrOf};
+ghost use Rattle.std.specs.Prelude.{◌≡◌, ◌≤◌, false, ℕ, length, IfOk, IfErr, IsErrOf};
 ghost use Rattle.disk_model.specs.Disk.{EachImage, IfTold, IsIdle};
 ghost use Rattle.disk_model.specs.declared.name.FileName.TheVariants as file;
 ghost use Rattle.disk_model.specs.FaultCounts.{NoFault, AnyFaultCounted};
@@ -18,7 +18,7 @@ use crate::error::{OpenError, OpenRefused};
 use disk_model::Disk;
 use std::alloc::Global;
 use store_checks::check_store;
-use store_core::{OpenLogs, Store, counts_cover_listings, listings_are_shown};
+use store_core::{OpenLogs, Store, StoreRoom, counts_cover_listings, listings_are_shown};
 use store_sweep::sweep;
 
 /// Opens the store: makes the checks, and then sweeps the disk.
@@ -53,20 +53,21 @@ pub fn open_store<D: Disk>(alloc: Global, disk: D, lanes: u32) -> Result<Store<D
 {
     let mut disk = disk;
     match open_logs(alloc, &mut disk) {
-        Ok(logs) => Ok(Store::of(alloc, disk, logs, lanes)),
+        Ok((logs, room)) => Ok(Store::of(alloc, disk, logs, room, lanes)),
         Err(error) => Err(OpenRefused { error, disk }),
     }
 }
 
-/// Makes the checks and sweeps the disk. Behind the checks nothing wants memory once the disk changes.
-fn open_logs<D: Disk>(alloc: Global, disk: &mut D) -> Result<OpenLogs, OpenError>
-    ensures id { IfOk result (λ logs. logs.map.store ≡ logs.id.0) }
-    ensures store { IfOk result (λ logs. (lanes : ℕ) → 1 ≤ lanes → lanes ≤ 64 → IsStore (D.history disk.new) (newly_open alloc disk.new logs lanes)) }
-    ensures opened { IfOk result (λ logs. IsOpenedAs (D.history disk.old) logs.map (indexes_of logs.boxes.items)) }
-    ensures shows { IfOk result (λ logs. (lists : Lists) → IsSettledFor lists (D.history disk.old) → ShowLists logs.map.boxes (indexes_of logs.boxes.items) lists) }
+/// Makes the checks, takes the memory that the store wants, and sweeps the disk. Nothing wants memory once the disk changes.
+fn open_logs<D: Disk>(alloc: Global, disk: &mut D) -> Result<(OpenLogs, StoreRoom), OpenError>
+    ensures id { IfOk result (λ opened. opened.0.map.meaning.store ≡ opened.0.id.0) }
+    ensures store { IfOk result (λ opened. (lanes : ℕ) → 1 ≤ lanes → lanes ≤ 64 → IsStore (D.history disk.new) (newly_open alloc disk.new opened.0 lanes)) }
+    ensures room { IfOk result (λ opened. (opened.1.boxes ≡ length opened.0.boxes.items) × (opened.1.records ≡ length opened.0.map.meaning.records)) }
+    ensures opened { IfOk result (λ opened. IsOpenedAs (D.history disk.old) opened.0.map.meaning (indexes_of opened.0.boxes.items)) }
+    ensures shows { IfOk result (λ opened. (lists : Lists) → IsSettledFor lists (D.history disk.old) → ShowLists opened.0.map.meaning.boxes (indexes_of opened.0.boxes.items) lists) }
     ensures settled_again { NoFailedChange (IsErrOf result OpenError.DiskFault) (D.faults disk.old) (D.faults disk.new) → (lists : Lists) → IsSettledFor lists (D.history disk.old) → IsSettledFor lists (D.history disk.new) }
     ensures carried { NoFailedChange (IsErrOf result OpenError.DiskFault) (D.faults disk.old) (D.faults disk.new) → StoreCarries (D.history disk.old) (D.history disk.new) }
-    ensures swept { IfOk result (λ logs. (generation : ℕ) × (logs.map_log.name ≡ file.Map generation) × IsSwept generation logs.map (D.history disk.old) (D.history disk.new)) }
+    ensures swept { IfOk result (λ opened. (generation : ℕ) × (opened.0.map_log.name ≡ file.Map generation) × IsSwept generation opened.0.map.meaning (D.history disk.old) (D.history disk.new)) }
     ensures any_moment { (lists : Lists) → IsSettledFor lists (D.history disk.old) → EachImage (λ _ image. Safe image lists) (D.history disk.old) (D.history disk.new) }
     ensures refused { IfErr result (IsOpeningError (D.history disk.old)) }
     ensures idle { IfErr result (λ error. (error ≡ OpenError.DiskFault → ⊥) → IsIdle (D.history disk.old) (D.history disk.new)) }
@@ -75,9 +76,10 @@ fn open_logs<D: Disk>(alloc: Global, disk: &mut D) -> Result<OpenLogs, OpenError
     ensures unfailed { (IsErrOf result OpenError.DiskFault → ⊥) → NoFault (D.faults disk.old) (D.faults disk.new) }
 {
     let checked = check_store(alloc, disk)?;
-    let room = Vec::with_capacity(alloc, checked.boxes.as_slice().len())?;
-    let opened = sweep(alloc, disk, checked, room)?;
+    let boxes = Vec::with_capacity(alloc, checked.boxes.as_slice().len())?;
+    let room = StoreRoom::of(alloc, checked.map.boxes(), checked.map.rows())?;
+    let opened = sweep(alloc, disk, checked, boxes)?;
     listings_are_shown();
     counts_cover_listings();
-    Ok(opened)
+    Ok((opened, room))
 }

@@ -1,5 +1,6 @@
 use Rattle.std.proofs.Common.{◌++◌, ◌∷◌, [], refl, List, ◌∙◌, ap}
 use Rattle.disk_model.proofs.IdleLemmas.{idle-begins}
+use Rattle.box_index.specs.State.{BoxState}
 use Rattle.store_core.specs.declared.store.OpenBox.{OpenBox}
 use Rattle.store_open.specs.Making.{IsFreeForStore}
 use Rattle.store_open.proofs.IdleUnlessLemmas.{stays}
@@ -31,7 +32,7 @@ returns-clause-store g c =
       map_head_is = e.map_log.2;
       box_held = e.box_log.0;
       box_is = e.box_log.1;
-    }) refl c.in_ok-index.ensures
+    }) refl (ap (λ (i : BoxState). i.meaning) c.in_ok-index.ensures)
     (c.push_box.ensures ∙ ap (λ (bs : List OpenBox). bs ++ box ∷ []) c.in_ok-boxes.ensures.items)
 
 pub returns-in_err-map-clause-untouched : goal.returns-in_err-map-clause-untouched
@@ -42,3 +43,9 @@ returns-in_err-index-clause-untouched g c = stays IsFreeForStore _ _ (idle-begin
 
 pub returns-in_err-boxes-clause-untouched : goal.returns-in_err-boxes-clause-untouched
 returns-in_err-boxes-clause-untouched g c = stays IsFreeForStore _ _ (idle-begins _)
+
+pub returns-in_err-room-clause-any_moment : goal.returns-in_err-room-clause-any_moment
+returns-in_err-room-clause-any_moment g c = checked-images _ _ (idle-begins _)
+
+pub returns-in_err-room-clause-untouched : goal.returns-in_err-room-clause-untouched
+returns-in_err-room-clause-untouched g c = stays IsFreeForStore _ _ (idle-begins _)

@@ -1,12 +1,14 @@
-use Rattle.std.proofs.Common.{sym, ◌∙◌, ap, subst}
+use Rattle.std.proofs.Common.{length, sym, ◌∙◌, ap, subst}
 use Rattle.std.proofs.lemmas.Bool.{false≢true}
 use Rattle.gate_log.specs.State.{LogState}
+use Rattle.map_index.specs.Value.{MapIndexValue}
 use Rattle.model_meaning.specs.MapMeaning.{MapMeaning}
+use Rattle.store_core.specs.Value.{RoomValue}
 use Rattle.store_sweep.specs.Swept.{IsSwept}
 use Rattle.store_open.specs.Opened.{Opening}
 use Rattle.store_open.proofs.IdleUnlessLemmas.{stays, has_it, opening}
 use Rattle.store_open.proofs.CheckedLemmas.{names_are, all_stand, opens_at, opens_with}
-use Rattle.store_open.proofs.OpenStoreLemmas.{indexes_are, opened_store, opened_as, id_is}
+use Rattle.store_open.proofs.OpenStoreLemmas.{indexes_are, opened_store, opened_as, id_is, many_boxes}
 use Rattle.store_open.proofs.SweptStoreLemmas.{idle_settled, idle_safe, swept_safe, swept_since, carries-idle, carries-swept, shown}
 use Rattle.store_open.proofs.FaultLemmas.{fault_is, none_swept}
 use Rattle.store_open.proofs.open.open_logs.Goals as goal
@@ -16,17 +18,17 @@ use Rattle.store_open.proofs.open.open_logs.Goals as goal
 pub sweep-requires-clause-opened : goal.sweep-requires-clause-opened
 sweep-requires-clause-opened g c =
     let k = c.in_ok-checked.ensures.checked in
-    opens_with c.in_ok-checked.checked.id.0 c.in_ok-checked.checked.generation k.1 k.2 c.in_ok-checked.checked.map _ k.3.map_is (opens_at c.in_ok-checked.checked k.0 k.1 k.2 _ _ c.in_ok-checked.ensures.idle k.3)
+    opens_with c.in_ok-checked.checked.id.0 c.in_ok-checked.checked.generation k.1 k.2 c.in_ok-checked.checked.map.meaning _ k.3.map_is (opens_at c.in_ok-checked.checked k.0 k.1 k.2 _ _ c.in_ok-checked.ensures.idle k.3)
 
 pub sweep-requires-clause-box_logs : goal.sweep-requires-clause-box_logs
 sweep-requires-clause-box_logs g c =
     let k = c.in_ok-checked.ensures.checked in
-    names_are c.in_ok-checked.checked.id.0 c.in_ok-checked.checked.map.boxes c.in_ok-checked.checked.boxes k.2 _ k.3.box_logs
+    names_are c.in_ok-checked.checked.id.0 c.in_ok-checked.checked.map.meaning.boxes c.in_ok-checked.checked.boxes k.2 _ k.3.box_logs
 
 pub sweep-requires-clause-box_logs_stand : goal.sweep-requires-clause-box_logs_stand
 sweep-requires-clause-box_logs_stand g c =
     let k = c.in_ok-checked.ensures.checked in
-    all_stand c.in_ok-checked.checked.id.0 c.in_ok-checked.checked.map.boxes c.in_ok-checked.checked.boxes k.2 _ k.3.box_logs
+    all_stand c.in_ok-checked.checked.id.0 c.in_ok-checked.checked.map.meaning.boxes c.in_ok-checked.checked.boxes k.2 _ k.3.box_logs
 
 -- at every moment
 
@@ -35,6 +37,9 @@ returns-in_err-checked-clause-any_moment g c = λ lists s. idle_safe lists _ _ c
 
 pub returns-in_err-room-clause-any_moment : goal.returns-in_err-room-clause-any_moment
 returns-in_err-room-clause-any_moment g c = λ lists s. idle_safe lists _ _ c.in_ok-checked.ensures.idle s
+
+pub returns-in_err-boxes-clause-any_moment : goal.returns-in_err-boxes-clause-any_moment
+returns-in_err-boxes-clause-any_moment g c = λ lists s. idle_safe lists _ _ c.in_ok-checked.ensures.idle s
 
 pub returns-in_err-opened-clause-any_moment : goal.returns-in_err-opened-clause-any_moment
 returns-in_err-opened-clause-any_moment g c = λ lists s. swept_safe lists _ _ _ c.in_ok-checked.ensures.idle s (c.in_err-opened.ensures.any_moment lists)
@@ -47,23 +52,23 @@ returns-clause-any_moment g c = λ lists s. swept_safe lists _ _ _ c.in_ok-check
 pub returns-clause-id : goal.returns-clause-id
 returns-clause-id g c =
     let k = c.in_ok-checked.ensures.checked in
-    id_is c.in_ok-checked.checked k.0 k.1 k.2 c.in_ok-opened.opened _ _ k.3 c.in_ok-opened.ensures.same.0 c.in_ok-opened.ensures.same.1
+    id_is c.in_ok-checked.checked k.0 k.1 k.2 c.in_ok-opened.opened _ _ k.3 c.in_ok-opened.ensures.same.0 (ap (λ (m : MapIndexValue). m.meaning) c.in_ok-opened.ensures.same.1)
 
 pub returns-clause-store : goal.returns-clause-store
 returns-clause-store g c = λ lanes some few.
     let k = c.in_ok-checked.ensures.checked in
     let e = c.in_ok-opened.ensures in
-    opened_store c.args.alloc c.sweep.new.disk c.in_ok-checked.checked k.0 k.1 k.2 c.in_ok-opened.opened lanes _ _ _ c.counts_cover_listings.ensures.nothing_due c.in_ok-checked.ensures.idle k.3 e.swept.reads e.same.1 e.root_log e.map_log e.box_logs e.same.2 some few
+    opened_store c.args.alloc c.sweep.new.disk c.in_ok-checked.checked k.0 k.1 k.2 c.in_ok-opened.opened lanes _ _ _ c.counts_cover_listings.ensures.nothing_due c.in_ok-checked.ensures.idle k.3 e.swept.reads (ap (λ (m : MapIndexValue). m.meaning) e.same.1) e.root_log e.map_log e.box_logs e.same.2 some few
 
 pub returns-clause-opened : goal.returns-clause-opened
 returns-clause-opened g c =
     let k = c.in_ok-checked.ensures.checked in
-    opened_as c.in_ok-checked.checked k.0 k.1 k.2 c.in_ok-opened.opened _ _ k.3 c.in_ok-opened.ensures.same.1 c.in_ok-opened.ensures.same.2
+    opened_as c.in_ok-checked.checked k.0 k.1 k.2 c.in_ok-opened.opened _ _ k.3 (ap (λ (m : MapIndexValue). m.meaning) c.in_ok-opened.ensures.same.1) c.in_ok-opened.ensures.same.2
 
 pub returns-clause-shows : goal.returns-clause-shows
 returns-clause-shows g c = λ lists s.
     let k = c.in_ok-checked.ensures.checked in
-    shown c.in_ok-checked.checked.id.0 k.1 k.2 c.in_ok-opened.opened.map _ lists _ c.listings_are_shown.ensures.logs (c.in_ok-opened.ensures.same.1 ∙ k.3.map_is)
+    shown c.in_ok-checked.checked.id.0 k.1 k.2 c.in_ok-opened.opened.map.meaning _ lists _ c.listings_are_shown.ensures.logs ((ap (λ (m : MapIndexValue). m.meaning) c.in_ok-opened.ensures.same.1) ∙ k.3.map_is)
     (indexes_are c.in_ok-checked.checked k.0 k.1 k.2 c.in_ok-opened.opened.boxes.items _ _ k.3 c.in_ok-opened.ensures.same.2) k.3.opens s
 
 pub returns-clause-swept : goal.returns-clause-swept
@@ -71,7 +76,7 @@ returns-clause-swept g c =
     let F : MapMeaning → Type 0 = λ m. IsSwept c.in_ok-checked.checked.generation m (g.D.Disk.history c.args.disk.now) (g.D.Disk.history c.sweep.new.disk) in (
       c.in_ok-checked.checked.generation,
       ap (λ (l : LogState). l.name) c.in_ok-opened.ensures.map_log.is ∙ c.in_ok-checked.ensures.checked.3.map_log.name_is,
-      subst F (sym c.in_ok-opened.ensures.same.1) (swept_since c.in_ok-checked.checked.generation c.in_ok-checked.checked.map _ _ _ c.in_ok-checked.ensures.idle.same c.in_ok-opened.ensures.swept),
+      subst F (sym (ap (λ (m : MapIndexValue). m.meaning) c.in_ok-opened.ensures.same.1)) (swept_since c.in_ok-checked.checked.generation c.in_ok-checked.checked.map.meaning _ _ _ c.in_ok-checked.ensures.idle.same c.in_ok-opened.ensures.swept),
     )
 
 -- where no change failed
@@ -81,6 +86,9 @@ returns-in_err-checked-clause-settled_again g c = λ none lists s. idle_settled 
 
 pub returns-in_err-room-clause-settled_again : goal.returns-in_err-room-clause-settled_again
 returns-in_err-room-clause-settled_again g c = λ none lists s. idle_settled lists _ _ c.in_ok-checked.ensures.idle s
+
+pub returns-in_err-boxes-clause-settled_again : goal.returns-in_err-boxes-clause-settled_again
+returns-in_err-boxes-clause-settled_again g c = λ none lists s. idle_settled lists _ _ c.in_ok-checked.ensures.idle s
 
 pub returns-in_err-opened-clause-settled_again : goal.returns-in_err-opened-clause-settled_again
 returns-in_err-opened-clause-settled_again g c = λ none lists s.
@@ -97,17 +105,20 @@ returns-in_err-checked-clause-carried g c = λ none. carries-idle _ _ c.in_err-c
 pub returns-in_err-room-clause-carried : goal.returns-in_err-room-clause-carried
 returns-in_err-room-clause-carried g c = λ none. carries-idle _ _ c.in_ok-checked.ensures.idle
 
+pub returns-in_err-boxes-clause-carried : goal.returns-in_err-boxes-clause-carried
+returns-in_err-boxes-clause-carried g c = λ none. carries-idle _ _ c.in_ok-checked.ensures.idle
+
 pub returns-in_err-opened-clause-carried : goal.returns-in_err-opened-clause-carried
 returns-in_err-opened-clause-carried g c = λ none.
     let k = c.in_ok-checked.ensures.checked in
-    carries-swept c.in_ok-checked.checked.generation c.in_ok-checked.checked.map c.in_ok-checked.checked.id.0 k.1 k.2 _ _ _ c.in_ok-checked.ensures.idle.same k.3.map_is (opens_at c.in_ok-checked.checked k.0 k.1 k.2 _ _ c.in_ok-checked.ensures.idle k.3)
+    carries-swept c.in_ok-checked.checked.generation c.in_ok-checked.checked.map.meaning c.in_ok-checked.checked.id.0 k.1 k.2 _ _ _ c.in_ok-checked.ensures.idle.same k.3.map_is (opens_at c.in_ok-checked.checked k.0 k.1 k.2 _ _ c.in_ok-checked.ensures.idle k.3)
     (c.in_err-opened.ensures.carried
     (none_swept (g.D.Disk.faults c.args.disk.now) (g.D.Disk.faults c.check_store.new.disk) (g.D.Disk.faults c.sweep.new.disk) (c.in_ok-checked.ensures.unfailed (λ e. cc e)) (λ e. fault_is c.from_residual-in_err-opened.result c.from_residual-in_err-opened.ensures.1) none))
 
 pub returns-clause-carried : goal.returns-clause-carried
 returns-clause-carried g c = λ none.
     let k = c.in_ok-checked.ensures.checked in
-    carries-swept c.in_ok-checked.checked.generation c.in_ok-checked.checked.map c.in_ok-checked.checked.id.0 k.1 k.2 _ _ _ c.in_ok-checked.ensures.idle.same k.3.map_is (opens_at c.in_ok-checked.checked k.0 k.1 k.2 _ _ c.in_ok-checked.ensures.idle k.3) c.in_ok-opened.ensures.swept.reads
+    carries-swept c.in_ok-checked.checked.generation c.in_ok-checked.checked.map.meaning c.in_ok-checked.checked.id.0 k.1 k.2 _ _ _ c.in_ok-checked.ensures.idle.same k.3.map_is (opens_at c.in_ok-checked.checked k.0 k.1 k.2 _ _ c.in_ok-checked.ensures.idle k.3) c.in_ok-opened.ensures.swept.reads
 
 -- files that don't open
 
@@ -117,8 +128,20 @@ returns-in_err-checked-clause-untouched g c = stays Opening _ _ c.in_err-checked
 pub returns-in_err-room-clause-untouched : goal.returns-in_err-room-clause-untouched
 returns-in_err-room-clause-untouched g c = let k = c.in_ok-checked.ensures.checked in has_it Opening _ _ (opening _ c.in_ok-checked.checked.id.0 k.1 k.2 k.3.opens)
 
+pub returns-in_err-boxes-clause-untouched : goal.returns-in_err-boxes-clause-untouched
+returns-in_err-boxes-clause-untouched g c = let k = c.in_ok-checked.ensures.checked in has_it Opening _ _ (opening _ c.in_ok-checked.checked.id.0 k.1 k.2 k.3.opens)
+
 pub returns-in_err-opened-clause-untouched : goal.returns-in_err-opened-clause-untouched
 returns-in_err-opened-clause-untouched g c = let k = c.in_ok-checked.ensures.checked in has_it Opening _ _ (opening _ c.in_ok-checked.checked.id.0 k.1 k.2 k.3.opens)
 
 pub returns-clause-untouched : goal.returns-clause-untouched
 returns-clause-untouched g c = let k = c.in_ok-checked.ensures.checked in has_it Opening _ _ (opening _ c.in_ok-checked.checked.id.0 k.1 k.2 k.3.opens)
+
+-- the room for it
+
+pub returns-clause-room : goal.returns-clause-room
+returns-clause-room g c =
+    let same = ap (λ (m : MapIndexValue). m.meaning) c.in_ok-opened.ensures.same.1 in (
+      ap (λ (r : RoomValue). r.boxes) c.in_ok-room.ensures ∙ c.boxes.ensures ∙ many_boxes c.in_ok-checked.checked.map.meaning c.in_ok-checked.checked.boxes c.in_ok-opened.opened.boxes.items c.in_ok-opened.ensures.same.2,
+      ap (λ (r : RoomValue). r.records) c.in_ok-room.ensures ∙ c.rows.ensures ∙ ap (λ (m : MapMeaning). length m.records) (sym same),
+    )

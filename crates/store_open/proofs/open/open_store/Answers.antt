@@ -1,13 +1,13 @@
 use Rattle.store_open.proofs.open.open_store.Goals as goal
 
 pub returns-in-Ok-clause-swept : goal.returns-in-Ok-clause-swept
-returns-in-Ok-clause-swept g c = rw c.of.ensures c.in-Ok.ensures.swept
+returns-in-Ok-clause-swept g c = rw c.of.ensures.store c.in-Ok.ensures.swept
 
 pub returns-in-Ok-clause-untouched : goal.returns-in-Ok-clause-untouched
-returns-in-Ok-clause-untouched g c = rw c.of.ensures c.in-Ok.ensures.untouched
+returns-in-Ok-clause-untouched g c = rw c.of.ensures.store c.in-Ok.ensures.untouched
 
 pub returns-in-Ok-clause-settled_again : goal.returns-in-Ok-clause-settled_again
-returns-in-Ok-clause-settled_again g c = λ none lists s. rw c.of.ensures (c.in-Ok.ensures.settled_again (λ fault. absurd (cc fault)) lists s)
+returns-in-Ok-clause-settled_again g c = λ none lists s. rw c.of.ensures.store (c.in-Ok.ensures.settled_again (λ fault. absurd (cc fault)) lists s)
 
 pub returns-in-Err-clause-settled_again : goal.returns-in-Err-clause-settled_again
 returns-in-Err-clause-settled_again g c = λ none lists s. c.in-Err.ensures.settled_again (λ fault. none (cc fault)) lists s
