@@ -1,2 +1,4 @@
 pub mod BoxAppliedLemmas
+pub mod PiecesLemmas
+pub mod RisingLemmas
 pub mod RowLemmas

@@ -1,6 +1,7 @@
 -- Rows of a mailbox, as the model has them.
 use Rattle.std.proofs.lemmas.Bool.Decides.{nat_tests}
-use Rattle.std.proofs.Common.{eq-eqb, ◌≡◌, ◌+◌, ◌==◌, ℕ, ◌≤◌, List, [], ◌∷◌, ◌++◌, map, filter, not, refl, ap, arith, Bool, true, false, cond}
+use Rattle.std.proofs.Common.{eq-eqb, ◌≡◌, ◌+◌, ◌==◌, ℕ, ◌≤◌, List, [], ◌∷◌, ◌++◌, map, filter, not, refl, ap, arith, Bool, true, false, cond, find, Option, Some}
+use Rattle.std.specs.Option.{option_map}
 use Rattle.model_meaning.specs.BoxMeaning.{LogRow, row_changed, row_removed}
 use Rattle.mdbox_base.specs.declared.ids.Uid.{Uid}
 use Rattle.mdbox_base.specs.declared.entries.BoxEntry.TheVariants as entry
@@ -66,3 +67,11 @@ rise-removed low next keep [] h = h
 rise-removed low next keep (row ∷ rows) h =
     let rest : UidsRise (row.uid + 1) (filter keep rows) next = rise-removed (row.uid + 1) next keep rows h.1 in
     elim (keep row) as (λ (b : Bool). UidsRise low (cond b (row ∷ filter keep rows) (filter keep rows)) next) [ true ↦ (h.0, rest) | false ↦ rise-lower (row.uid + 1) low next (filter keep rows) rest (let first = h.0 in omega arith) ]
+
+-- a row is found as the model has it
+found-row : (uid : ℕ) (row : BoxRow) (rest : Option BoxRow) (more : Option LogRow) → option_map row_of rest ≡ more → option_map row_of (cond (row.uid.0 == uid) (Some row) rest) ≡ cond (row.uid.0 == uid) (Some (row_of row)) more
+found-row uid row rest more e = elim (row.uid.0 == uid) as (λ (b : Bool). option_map row_of (cond b (Some row) rest) ≡ cond b (Some (row_of row)) more) [ true ↦ refl | false ↦ e ]
+
+pub found-rows : (uid : ℕ) (rows : List BoxRow) → option_map row_of (find (λ row. row.uid.0 == uid) rows) ≡ find (λ row. row.uid == uid) (map row_of rows)
+found-rows uid [] = refl
+found-rows uid (row ∷ rows) = found-row uid row _ _ (found-rows uid rows)

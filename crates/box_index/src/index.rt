@@ -5,12 +5,14 @@ ghost use Rattle.model_meaning.specs.BoxMeaning.{LogRow, box_meaning, box_applie
 ghost use Rattle.mdbox_base.specs.declared.entries.BoxEntry.TheVariants as entry;
 ghost use Rattle.box_index.specs.Row.{row_of, flagged};
 
+use crate::pieces::Pieces;
+use crate::rows::BoxRows;
 use mdbox_base::{BoxEntry, Flags, Guid, MapUid, NoMemory, Uid, flags_of};
 use std::alloc::Global;
 use std::marker::Model;
 
 /// How many messages a mailbox has at the most.
-const MOST_ROWS: usize = 1_000_000;
+const MOST_ROWS: u32 = 1_000_000;
 
 /// The greatest UID.
 const LAST_UID: u32 = 4_294_967_294;
@@ -32,12 +34,12 @@ pub struct BoxRow {
 /// What the entries of a mailbox log mean so far.
 #[derive(Drop)]
 pub struct BoxIndex {
-    rows: Vec<BoxRow>,
+    rows: Pieces,
     next: u32,
 }
 
 impl Model for BoxIndex {
-    ghost use Rattle.std.specs.Prelude.{◌-◌, map, vec_len, vec_capacity};
+    ghost use Rattle.std.specs.Prelude.{map};
     ghost use Rattle.model_meaning.specs.BoxMeaning.{BoxMeaning};
     ghost use Rattle.box_index.specs.State.{BoxState};
 
@@ -45,9 +47,9 @@ impl Model for BoxIndex {
 
     ghost use Rattle.box_index.specs.Row.{row_of, IsInOrder};
 
-    ghost view = { λ index. record { meaning = record { rows = map row_of index.rows.items; next = index.next }; room = vec_capacity index.rows - vec_len index.rows } };
+    ghost view = { λ index. record { meaning = record { rows = map row_of index.rows.rows; next = index.next }; room = index.rows.room } };
 
-    ghost invariant = { λ index. IsInOrder (record { rows = map row_of index.rows.items; next = index.next }) };
+    ghost invariant = { λ index. IsInOrder (record { rows = map row_of index.rows.rows; next = index.next }) };
 }
 
 impl BoxIndex {
@@ -58,7 +60,7 @@ impl BoxIndex {
         ensures { IfOk result (λ index. index ≡ record { meaning = box_meaning []; room = 0 }) }
     {
         Ok(BoxIndex {
-            rows: Vec::new(alloc),
+            rows: Pieces::empty(alloc),
             next: 1,
         })
     }
@@ -74,7 +76,7 @@ impl BoxIndex {
     pub fn length(&self) -> u32
         ensures { result ≡ length self.now.meaning.rows }
     {
-        self.rows.len() as u32
+        self.rows.length()
     }
 
     /// The UID that the next message gets. None exactly after the greatest UID, 4,294,967,294.
@@ -93,14 +95,21 @@ impl BoxIndex {
     pub fn row_at(&self, place: u32) -> Option<BoxRow>
         ensures { option_map row_of result ≡ slice_get self.now.meaning.rows place }
     {
-        self.rows.get(place as usize).copied()
+        self.rows.row_at(place as usize)
+    }
+
+    /// The listed messages in UID order.
+    pub fn rows(&self) -> BoxRows<'_>
+        ensures { map row_of result ≡ self.now.meaning.rows }
+    {
+        self.rows.rows()
     }
 
     /// The listed message with this UID. None if and only if there is none.
     pub fn find(&self, uid: Uid) -> Option<BoxRow>
         ensures { option_map row_of result ≡ row_at self.now.meaning uid.0 }
     {
-        row_with(&self.rows, uid)
+        self.rows.find(uid)
     }
 
     /// Whether an entry fits behind those so far.
@@ -119,7 +128,7 @@ impl BoxIndex {
                     && uid.0 <= LAST_UID
                     && flags <= 31
                     && size <= MOST_OCTETS
-                    && self.rows.len() < MOST_ROWS
+                    && self.rows.length() < MOST_ROWS
             }
             BoxEntry::F { uid, flags } => self.find(uid).is_some() && flags <= 31,
             BoxEntry::R { uid } => self.find(uid).is_some(),
@@ -136,8 +145,7 @@ impl BoxIndex {
         ensures no_less { self.old.room ≤ self.new.room }
         ensures same { self.new.meaning ≡ self.old.meaning }
     {
-        self.rows.reserve(1)?;
-        Ok(())
+        self.rows.reserve()
     }
 
     /// Takes in an entry that fits. Only one that adds a message takes memory, and only if there is no room for it;
@@ -171,15 +179,15 @@ impl BoxIndex {
                     guid,
                     map_uid,
                 };
-                self.rows.reserve(1)?;
-                self.rows.push_reserved(row);
+                self.rows.reserve()?;
+                self.rows.push(row);
                 self.next = uid.0 + 1;
             }
             BoxEntry::F { uid, flags } => {
-                flag_rows(&mut self.rows, uid, known_flags(flags));
+                self.rows.flag(uid, known_flags(flags));
             }
             BoxEntry::R { uid } => {
-                remove_rows(&mut self.rows, uid);
+                self.rows.remove(uid);
             }
         }
         Ok(())
@@ -192,44 +200,4 @@ fn known_flags(bits: u8) -> Flags
     ensures { result ≡ bits }
 {
     flags_of(bits).unwrap()
-}
-
-/// The row with this UID.
-fn row_with(rows: &[BoxRow], uid: Uid) -> Option<BoxRow>
-    ensures { option_map row_of result ≡ find (λ row. row.uid == uid.0) (map row_of rows.now) }
-{
-    for row in rows {
-        if row.uid.0 == uid.0 {
-            return Some(*row);
-        }
-    }
-    None
-}
-
-/// Sets the flags of each row with this UID.
-fn flag_rows(rows: &mut Vec<BoxRow>, uid: Uid, flags: Flags)
-    ensures items { rows.new.items ≡ map (flagged uid.0 flags) rows.old.items }
-    ensures capacity { vec_capacity rows.new ≡ vec_capacity rows.old }
-{
-    for place in 0..rows.len() {
-        if uid.0 == rows[place].uid.0 {
-            rows[place].flags = flags;
-        }
-    }
-}
-
-/// Removes each row with this UID.
-fn remove_rows(rows: &mut Vec<BoxRow>, uid: Uid)
-    ensures items { rows.new.items ≡ filter (λ row. not (uid.0 == row.uid.0)) rows.old.items }
-    ensures fewer { vec_len rows.new ≤ vec_len rows.old }
-    ensures capacity { vec_capacity rows.new ≡ vec_capacity rows.old }
-{
-    let mut place = 0;
-    while place < rows.len() {
-        if uid.0 == rows[place].uid.0 {
-            rows.remove(place);
-        } else {
-            place += 1;
-        }
-    }
 }

@@ -2,5 +2,9 @@
 #![tactic(auto)]
 
 pub use index::{BoxIndex, BoxRow};
+pub use rows::BoxRows;
 
 mod index;
+mod piece;
+mod pieces;
+mod rows;
