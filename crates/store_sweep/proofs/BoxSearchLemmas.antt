@@ -1,6 +1,5 @@
 -- The log of a mailbox, found by a search for the mailbox's number.
-use Rattle.std.proofs.Common.{◌≡◌, ◌≢◌, ℕ, ◌+◌, ◌<◌, ◌≤◌, ◌==◌, ◌&&◌, ◌||◌, zero, suc, Bool, true, false, not, cond, List, [], ◌∷◌, length, get_or, slice_get, Option, Some, None, All, AllPairs, inl, inr, refl, sym, ◌∙◌, ap, subst, arith, nat_le}
-use Rattle.std.specs.Prelude.{IsSome}
+use Rattle.std.proofs.Common.{◌≡◌, ◌≢◌, ℕ, ◌+◌, ◌<◌, ◌≤◌, ◌==◌, ◌&&◌, ◌||◌, zero, suc, Bool, true, false, not, cond, List, [], ◌∷◌, length, get_or, slice_get, Option, Some, All, AllPairs, inl, inr, refl, sym, ◌∙◌, ap, subst, arith, nat_le}
 use Rattle.std.specs.List.{list_any, position_or_len}
 use Rattle.std.specs.Option.{option_map, option_map_or}
 use Rattle.std.proofs.lemmas.Bool.{cases_order, le-leb, lt-leb, ne_eqb, or_from}
@@ -14,11 +13,6 @@ use Rattle.map_index.specs.declared.rows.BoxAt.{BoxAt}
 -- ---- the search
 
 -- what is shown of a place within a list
-pub shown_there : {X Y : Type 0} → (show : X → Y) (xs : List X) (k n : ℕ) (o : Option Y) → o ≡ option_map show (slice_get xs k) → n ≡ length xs → k < n → IsSome o
-shown_there show [] k n o e is lt = absurd (omega (arith, is, lt))
-shown_there show (x ∷ xs) zero n o e is lt = subst IsSome (sym e) refl
-shown_there show (x ∷ xs) (suc k) n o e is lt = shown_there show xs k (length xs) o e refl (omega (arith, is, lt))
-
 shown_is : {X Y : Type 0} → (show : X → Y) (xs : List X) (k : ℕ) (d : X) (o : Option Y) (y : Y) → o ≡ option_map show (slice_get xs k) → o ≡ Some y → k < length xs → y ≡ show (get_or xs k d)
 shown_is show [] k d o y e is lt = absurd (omega (arith, lt))
 shown_is show (x ∷ xs) zero d o y e is lt = let h : Some y ≡ Some (show x) = sym is ∙ e in cc h

@@ -1,7 +1,7 @@
 -- A walk over the names of storage files, which stand after those of logs and before those of instances.
 use Rattle.std.proofs.Common.{◌≡◌, ℕ, List, Option, Some, refl, subst}
 use Rattle.std.specs.declared.cmp.Ordering.TheVariants.{Less}
-use Rattle.disk_model.specs.Disk.{DiskState, History, FileState, IsThere, IfTold, IsPast, IsNext, Unchanged}
+use Rattle.disk_model.specs.Disk.{DiskState, History, FileState, IsThere, IfTold, IsNext, Unchanged}
 use Rattle.disk_model.specs.contracts.name.FileNameOrd.TheImpl.{ghosts}
 use Rattle.disk_model.specs.declared.name.FileName.{FileName}
 use Rattle.disk_model.specs.declared.name.FileName.TheVariants as file

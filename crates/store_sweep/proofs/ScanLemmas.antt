@@ -1,11 +1,9 @@
 -- Lists that a loop walks by place, and tests of them.
-use Rattle.std.proofs.Common.{◌≡◌, ℕ, ◌+◌, ◌<◌, ◌≤◌, zero, suc, max, Bool, true, false, List, [], ◌∷◌, ◌++◌, length, take, slice_get, Option, Some, None, All, refl, sym, ◌∙◌, ap, arith, add-one}
-use Rattle.std.specs.Prelude.{fold}
+use Rattle.std.proofs.Common.{◌≡◌, ℕ, ◌≤◌, zero, suc, Bool, false, List, [], ◌∷◌, length, take, Option, Some, None, All, refl, ◌∙◌, ap, arith}
 use Rattle.std.specs.List.{list_any}
 use Rattle.std.specs.Option.{option_map, option_map_or}
 use Rattle.std.proofs.lemmas.List.Elements.{All-nil, All-cons}
-use Rattle.std.proofs.lemmas.Bool.{or_parts, or_left, or_right, or_from, false≢true}
-use Rattle.model_meaning.specs.MapMeaning.{greatest}
+use Rattle.std.proofs.lemmas.Bool.{or_parts}
 
 take_whole : {X : Type 0} → (xs : List X) (n : ℕ) → length xs ≤ n → take n xs ≡ xs
 take_whole [] zero l = refl

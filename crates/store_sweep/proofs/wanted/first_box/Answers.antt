@@ -1,4 +1,4 @@
-use Rattle.std.proofs.Common.{◌+◌, ◌-◌, ◌/◌, ◌≡◌, ◌<◌, ◌≤◌, ℕ, length, subst, arith}
+use Rattle.std.proofs.Common.{◌+◌, ◌-◌, ◌/◌, ◌≡◌, ℕ, subst, arith}
 use Rattle.store_sweep.proofs.BoxSearchLemmas.{AreFrom, below_more, from_less, first_is}
 use Rattle.store_sweep.proofs.wanted.first_box.Goals as goal
 
