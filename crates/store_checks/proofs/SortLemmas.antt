@@ -11,12 +11,12 @@ use Rattle.std.specs.List.{flat_map}
 use Rattle.std.specs.Prelude.{IsSome}
 use Rattle.std.proofs.lemmas.List.{map-append}
 use Rattle.mdbox_base.specs.declared.entries.InstRow.{InstRow}
-use Rattle.model_meaning.specs.MapMeaning.{MapRecord, MapMeaning, record_at}
+use Rattle.model_meaning.specs.MapMeaning.{MapRecord, MapMeaning}
 use Rattle.map_index.specs.Shown.{shown_record}
 use Rattle.map_index.specs.declared.rows.MapRow.{MapRow}
 use Rattle.store_checks.specs.declared.regions.Region.{Region}
 use Rattle.store_checks.specs.Lengths.{region_of, IsNoLater, instance_of, IsNamedNoLater}
-use Rattle.store_checks.proofs.WalkLemmas.{behind, map_next, take_next, at_place, find_self}
+use Rattle.store_checks.proofs.WalkLemmas.{behind, map_next, take_next, there_seen}
 
 -- the region of a row
 abbrev shown_region : MapRow → Region
@@ -109,33 +109,17 @@ flat_map_push f (y ∷ xs) x = ap (λ (l : List _). f y ++ l) (flat_map_push f x
 abbrev pub first_named : MapMeaning → ℕ → List InstRow
 first_named m n = flat_map (λ r. r.instances) (take n m.records)
 
--- a row's instances are found by its map uid, and come next
-pub record NamesNext (m : MapMeaning) (place uid : ℕ) : Type 0 where
-  pub items : List InstRow
-  pub found : option_map (λ r. r.instances) (record_at m uid) ≡ Some items
-  pub more : first_named m (place + 1) ≡ first_named m place ++ items
+-- there are instances at a place within the records
+pub instances_there : (m : MapMeaning) (place n : ℕ) (r : Option (Bor (List InstRow))) → option_copied r ≡ option_map (λ x. x.instances) (slice_get m.records place) → n ≡ length m.records → place < n → IsSome r
+instances_there m place n r e is lt = copied r (there_seen (λ (x : MapRecord). x.instances) (option_copied r) m.records place n e is lt)
+  where
+    copied : (r : Option (Bor (List InstRow))) → IsSome (option_copied r) → IsSome r
+    copied None s = s
+    copied (Some b) s = refl
 
-pub names_next : (m : MapMeaning) (place : ℕ) (o : Option MapRow) (row : MapRow) → AllPairs (λ a b. a.uid < b.uid) m.records → o ≡ option_map shown_record (slice_get m.records place) → o ≡ Some row → NamesNext m place row.uid.0
-names_next m place o row rising e is =
-    let b = behind shown_record (slice_get m.records place) row (sym is ∙ e) in
-    let self : record_at m b.0.uid ≡ Some b.0 = at_place (λ (x : MapRecord). record_at m x.uid ≡ Some x) m.records place b.0 b.1 (find_self (λ (r : MapRecord). r.uid) m.records rising) in
-    let uid : row.uid.0 ≡ b.0.uid = ap (λ (r : MapRow). r.uid.0) b.2 in
-    record {
-      items = b.0.instances;
-      found = ap (λ (n : ℕ). option_map (λ (r : MapRecord). r.instances) (record_at m n)) uid ∙ ap (option_map (λ (r : MapRecord). r.instances)) self;
-      more = ap (flat_map (λ (r : MapRecord). r.instances)) (take_next m.records place b.0 b.1) ∙ flat_map_push (λ (r : MapRecord). r.instances) (take place m.records) b.0;
-    }
-
-pub copied_some : {X : Type 0} → (r : Option (Bor X)) (o : Option X) (x : X) → option_copied r ≡ o → o ≡ Some x → IsSome r
-copied_some None o x e f = absurd (let h : None ≡ Some x = e ∙ f in cc h)
-copied_some (Some b) o x e f = refl
-
-copied_is : {X : Type 0} → (r : Option (Bor X)) (b : Bor X) (o : Option X) (x : X) → option_copied r ≡ o → r ≡ Some b → o ≡ Some x → b.now ≡ x
-copied_is r b o x e f g = let h : Some b.now ≡ Some x = sym (ap option_copied f) ∙ e ∙ g in cc h
-
-pub named_next : (m : MapMeaning) (place uid : ℕ) (n : NamesNext m place uid) (r : Option (Bor (List InstRow))) (b : Bor (List InstRow)) (o : Option (List InstRow)) (items : List InstRow) (old new : List Instance)
-    → option_copied r ≡ o → r ≡ Some b → o ≡ option_map (λ x. x.instances) (record_at m uid) → items ≡ b.now
+pub named_next : (m : MapMeaning) (place : ℕ) (r : Option (Bor (List InstRow))) (b : Bor (List InstRow)) (items : List InstRow) (old new : List Instance) → option_copied r ≡ option_map (λ x. x.instances) (slice_get m.records place) → r ≡ Some b → items ≡ b.now
     → old ≡ map instance_of (first_named m place) → new ≡ old ++ map instance_of items → new ≡ map instance_of (first_named m (place + 1))
-named_next m place uid n r b o items old new e f look as_slice same more =
-    let t : items ≡ n.items = as_slice ∙ copied_is r b o n.items e f (look ∙ n.found) in
-    more ∙ ap (λ (l : List Instance). l ++ map instance_of items) same ∙ sym (map-append instance_of (first_named m place) items) ∙ ap (map instance_of) (ap (λ (l : List InstRow). first_named m place ++ l) t ∙ sym n.more)
+named_next m place r b items old new look is as_slice same push =
+    let x = behind (λ (y : MapRecord). y.instances) (slice_get m.records place) b.now (sym (ap option_copied is) ∙ look) in
+    let more : first_named m (place + 1) ≡ first_named m place ++ x.0.instances = ap (flat_map (λ (y : MapRecord). y.instances)) (take_next m.records place x.0 x.1) ∙ flat_map_push (λ (y : MapRecord). y.instances) (take place m.records) x.0 in
+    push ∙ ap (λ (l : List Instance). l ++ map instance_of items) same ∙ sym (map-append instance_of (first_named m place) items) ∙ ap (map instance_of) (ap (λ (l : List InstRow). first_named m place ++ l) (as_slice ∙ x.2) ∙ sym more)

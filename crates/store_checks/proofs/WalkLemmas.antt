@@ -35,6 +35,11 @@ behind f (Some x) y e = (x, refl, let h : y ≡ f x = cc e in h)
 pub all_next : {X : Type 0} → (P : X → Type 0) (xs : List X) (k : ℕ) (x : X) → slice_get xs k ≡ Some x → All P (take k xs) → P x → All P (take (k + 1) xs)
 all_next P xs k x e a p = All-more P xs k x (slice_get_within xs k x e) a (subst P (sym (get_or_from_slice_get xs k x x e)) p)
 
+-- no place yet
+pub none_of : {X : Type 0} → (P : X → Type 0) (xs : List X) → All P (take 0 xs)
+none_of P [] = All-nil P
+none_of P (x ∷ xs) = All-nil P
+
 -- all places
 pub all_places : {X : Type 0} → (P : X → Type 0) (xs : List X) (n : ℕ) → All P (take n xs) → length xs ≤ n → All P xs
 all_places P xs n a le = subst (All P) (take_all n xs le) a

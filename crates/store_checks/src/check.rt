@@ -46,7 +46,8 @@ pub fn check_store<D: Disk>(alloc: Global, disk: &mut D) -> Result<Checked, Chec
     let root = read_root(alloc, disk)?;
     let (map_log, map) = read_map(alloc, disk, root.id, root.generation)?;
     let boxes = read_boxes(alloc, disk, root.id, &map)?;
-    if !are_counted(&map, boxes.as_slice()) {
+    let counted = are_counted(alloc, &map, boxes.as_slice())?;
+    if !counted {
         return Err(CheckError::Damaged(FileName::Map(root.generation), 0));
     }
     check_regions(alloc, disk, &map)?;

@@ -40,8 +40,7 @@ pub fn first_dangling(
 fn each_has_record(map: &MapIndex, index: &BoxIndex) -> bool
     ensures { IsTrue result ↔ All (HasItsRecord map.now.meaning) index.now.meaning.rows }
 {
-    for place in 0..index.length() {
-        let row = index.row_at(place).unwrap();
+    for row in index.rows() {
         if !has_record(map, &row) {
             return false;
         }

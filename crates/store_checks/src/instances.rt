@@ -64,11 +64,9 @@ fn instances_of(alloc: Global, map: &MapIndex) -> Result<Vec<Instance>, NoMemory
     ensures same { IfOk result (λ instances. IsPermutation (instances_in map.now.meaning) instances.items) }
     ensures order { IfOk result (λ instances. AllPairs IsNamedNoLater instances.items) }
 {
-    map.known_facts();
     let mut instances = Vec::new(alloc);
     for place in 0..map.rows() {
-        let row = map.row_at(place).unwrap();
-        for inst in map.instances(row.uid).unwrap().as_slice() {
+        for inst in map.instances_at(place).unwrap().as_slice() {
             instances.push(instance_of(inst))?;
         }
     }

@@ -12,8 +12,9 @@ use Rattle.disk_model.specs.declared.name.FileName.TheVariants as file
 use Rattle.disk_model.proofs.MomentLemmas.{if_told-all, if_told-map, if_told-unchanged, told-after}
 use Rattle.disk_model.proofs.OneFileLemmas.{same-begins, same-goes_on}
 use Rattle.disk_model.proofs.ChangeAndSyncLemmas.{changed_state, state}
+use Rattle.map_index.specs.Shown.{region_end}
 use Rattle.model_meaning.specs.MapMeaning.{MapRecord, MapMeaning}
-use Rattle.store_sweep.specs.Wanted.{EndBy, EndsByLastRegion, end_of, ends_at}
+use Rattle.store_sweep.specs.Wanted.{EndBy, EndsByLastRegion, end_of}
 use Rattle.store_sweep.specs.Moments.{ImagesCarry, KeepsStore, SameThere}
 use Rattle.store_sweep.proofs.HeldLemmas.{half_cut_holds, cut_holds, synced_holds, cut_carries, reads_there}
 use Rattle.store_sweep.proofs.SweepStepLemmas.{Keeping, images_goes_on, images_fails, images_fails_still, images_then, holds_goes_on, reads_goes_on}
@@ -32,9 +33,9 @@ most_each f from (x ∷ xs) =
 
 pub end_by : (m : MapMeaning) (n : ℕ) → EndBy m n (end_of m n)
 end_by m n =
-    All-weaker (λ (row : MapRecord). ends_at n row ≤ end_of m n) (λ (row : MapRecord). row.file ≡ n → row.offset + row.size ≤ end_of m n)
-    (λ row below own. let e : ends_at n row ≡ row.offset + row.size = cond-true (row.file == n) (row.offset + row.size) 0 (eq-eqb row.file n own) in omega (arith, below, e))
-    m.records (most_each (ends_at n) 0 m.records)
+    All-weaker (λ (row : MapRecord). region_end n row ≤ end_of m n) (λ (row : MapRecord). row.file ≡ n → row.offset + row.size ≤ end_of m n)
+    (λ row below own. let e : region_end n row ≡ row.offset + row.size = cond-true (row.file == n) (row.offset + row.size) 0 (eq-eqb row.file n own) in omega (arith, below, e))
+    m.records (most_each (region_end n) 0 m.records)
 
 -- ---- the calls
 

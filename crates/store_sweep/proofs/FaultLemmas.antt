@@ -1,6 +1,5 @@
 -- Counts of faults behind calls that did not fail.
-use Rattle.std.proofs.Common.{◌≡◌, true, false, Result, Ok, Err, refl, sym, ◌∙◌, ap, subst}
-use Rattle.std.proofs.lemmas.Bool.{false≢true}
+use Rattle.std.proofs.Common.{Ok, Err, refl, sym, subst}
 use Rattle.std.specs.Prelude.{IsErrOf}
 use Rattle.disk_model.specs.Disk.{Faults, ReadCause}
 use Rattle.disk_model.specs.FaultCounts.{NoFault, ChangeFaultCounted, AnyFaultCounted}

@@ -1,13 +1,14 @@
 pub mod BoxLogLemmas
+pub mod BoxSearchLemmas
 pub mod ClearLemmas
 pub mod CutLemmas
+pub mod CutWalkLemmas
 pub mod FaultLemmas
 pub mod FirmRegionLemmas
 pub mod FittedLemmas
 pub mod HeldLemmas
 pub mod HeldStoreLemmas
 pub mod LogsInForceLemmas
-pub mod RegionEndLemmas
 pub mod RepairLemmas
 pub mod ScanLemmas
 pub mod SweepLemmas

@@ -11,6 +11,7 @@ use Rattle.disk_model.specs.declared.name.FileName.TheVariants as file
 use Rattle.disk_model.proofs.MomentLemmas.{each_image-map}
 use Rattle.model_lists.specs.Lists.{Lists}
 use Rattle.model_store.specs.Safe.{Safe}
+use Rattle.map_index.specs.Shown.{region_end}
 use Rattle.model_meaning.specs.MapMeaning.{MapRecord, MapMeaning}
 use Rattle.model_store.specs.Settled.{files_of, IsSameRegion, IsSettled, IsSettledFor}
 use Rattle.model_store.specs.Carrying.{CarryOver}
@@ -22,7 +23,7 @@ use Rattle.store_sweep.specs.Moments.{ImagesCarry, KeepsStore, LogStays}
 use Rattle.store_sweep.specs.Repaired.{IsRepaired, AreLogsOfBoxes}
 use Rattle.store_sweep.specs.Swept.{OpensWith, FilesCarry, IsOpened, EndWithRegions}
 use Rattle.disk_model.specs.Name.{is_log}
-use Rattle.store_sweep.specs.Wanted.{is_wanted, EndsByLastRegion, end_of, ends_at}
+use Rattle.store_sweep.specs.Wanted.{is_wanted, EndsByLastRegion, end_of}
 use Rattle.store_sweep.proofs.HeldLemmas.{reads_there}
 use Rattle.store_sweep.proofs.RepairLemmas.{IsLogAt, repair_kept, repaired_stays}
 use Rattle.store_sweep.proofs.LogsInForceLemmas.{IsBoxLog, box_logs, box_at, box_is_log, box_is_wanted, root_at, root_is_log, root_is_wanted, map_at, map_is_log, map_is_wanted}
@@ -101,16 +102,16 @@ region_ends found row f there s =
     let e : s.second ≡ f.octets = same_Some _ _ (sym s.in_second ∙ reads_there f there) in
     subst (λ (o : List ℕ). row.offset + row.size ≤ length o) e s.second_holds
 
-ends_below : (n bound : ℕ) (row : MapRecord) → (row.file ≡ n → row.offset + row.size ≤ bound) → ends_at n row ≤ bound
+ends_below : (n bound : ℕ) (row : MapRecord) → (row.file ≡ n → row.offset + row.size ≤ bound) → region_end n row ≤ bound
 ends_below n bound row h = elim (cases_Bool (row.file == n)) [
-  | inl same ↦ let e : ends_at n row ≡ row.offset + row.size = cond-true (row.file == n) (row.offset + row.size) 0 same in let b = h (eqb-true row.file n same) in omega (arith, e, b)
-  | inr apart ↦ let e : ends_at n row ≡ 0 = cond-false (row.file == n) (row.offset + row.size) 0 apart in omega (arith, e)
+  | inl same ↦ let e : region_end n row ≡ row.offset + row.size = cond-true (row.file == n) (row.offset + row.size) 0 same in let b = h (eqb-true row.file n same) in omega (arith, e, b)
+  | inr apart ↦ let e : region_end n row ≡ 0 = cond-false (row.file == n) (row.offset + row.size) 0 apart in omega (arith, e)
 ]
 
 end_reached : (g : ℕ) (m : MapMeaning) (found : Files) (n : ℕ) (disk : DiskState) → IsReadStore g m found disk → IsThere (disk (file.Mail n)) → end_of m n ≤ length (disk (file.Mail n)).octets
 end_reached g m found n disk r there =
-    most_below (ends_at n) 0 (length (disk (file.Mail n)).octets) m.records (omega arith)
-    (All-weaker (λ (row : MapRecord). row.file ≡ n → IsSameRegion (found (file.Mail n)) (reading (disk (file.Mail n))) row) (λ (row : MapRecord). ends_at n row ≤ length (disk (file.Mail n)).octets)
+    most_below (region_end n) 0 (length (disk (file.Mail n)).octets) m.records (omega arith)
+    (All-weaker (λ (row : MapRecord). row.file ≡ n → IsSameRegion (found (file.Mail n)) (reading (disk (file.Mail n))) row) (λ (row : MapRecord). region_end n row ≤ length (disk (file.Mail n)).octets)
     (λ row h. ends_below n (length (disk (file.Mail n)).octets) row (λ own. region_ends (found (file.Mail n)) row (disk (file.Mail n)) there (h own))) m.records (r (file.Mail n)))
 
 pub end_with_regions : (g : ℕ) (m : MapMeaning) (old new : Option History) → IfTold old (OpensWith g m) → ImagesCarry g m old new → KeepsStore g m old new

@@ -27,7 +27,7 @@ behind_next last next name before behind = elim (order_cases next name) [
   | inr (inr same) ↦ same
 ]
 
-past_or : (last : Option FileName) (name : FileName) (X : Type 0) → (IsPast ghosts.cmp last name → X) → ((IsPast ghosts.cmp last name → ⊥) → X) → X
+pub past_or : (last : Option FileName) (name : FileName) (X : Type 0) → (IsPast ghosts.cmp last name → X) → ((IsPast ghosts.cmp last name → ⊥) → X) → X
 past_or None name X yes_past not_past = yes_past tt
 past_or (Some last) name X yes_past not_past = elim (order_cases last name) [
   | inl less ↦ yes_past less

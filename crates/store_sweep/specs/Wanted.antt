@@ -1,10 +1,11 @@
 -- Which files a store needs, and where its storage files end.
-use Rattle.std.specs.Prelude.{◌≡◌, ◌+◌, ◌==◌, ◌&&◌, ◌||◌, ◌≤◌, ℕ, Bool, true, false, List, length, if◌then◌else◌, All}
+use Rattle.std.specs.Prelude.{◌≡◌, ◌+◌, ◌==◌, ◌&&◌, ◌||◌, ◌≤◌, ℕ, Bool, true, false, List, length, All}
 use Rattle.std.specs.List.{list_any}
 use Rattle.std.specs.Str.{bytes_eq}
 use Rattle.disk_model.specs.Disk.{FileState}
 use Rattle.disk_model.specs.declared.name.FileName.{FileName}
 use Rattle.disk_model.specs.declared.name.FileName.TheVariants as file
+use Rattle.map_index.specs.Shown.{region_end}
 use Rattle.model_meaning.specs.MapMeaning.{MapRecord, MapMeaning, greatest, is_sealed}
 
 -- a mailbox of the map has this log
@@ -31,13 +32,9 @@ is_wanted generation m (file.Box number g) = has_box m number g
 is_wanted generation m (file.Mail number) = is_sealed m number || has_region m number
 is_wanted generation m (file.Inst hash id) = has_instance m hash id
 
--- where a record's region ends, if it lies in this storage file
-abbrev pub ends_at : ℕ → MapRecord → ℕ
-ends_at number row = if row.file == number then row.offset + row.size else 0
-
 -- where the last region of a storage file ends, or 0
 abbrev pub end_of : MapMeaning → ℕ → ℕ
-end_of m number = greatest (ends_at number) m.records
+end_of m number = greatest (region_end number) m.records
 
 -- each region of the storage file ends there or before
 abbrev pub EndBy : MapMeaning → ℕ → ℕ → Type 0

@@ -15,8 +15,11 @@ use gate_log::DiskFault;
 use map_index::MapIndex;
 use mdbox_base::FileNo;
 
+/// The greatest of the names that stand before those of storage files.
+const LAST_LOG: FileName = FileName::Box(u32::MAX, u32::MAX);
+
 /// Cuts each storage file that isn't sealed and is longer than the end of its last region to that end, in order of number,
-/// and syncs it.
+/// and syncs it. Of the names only those of storage files are listed, and the first instance's.
 pub fn cut_files<D: Disk>(disk: &mut D, map: &MapIndex) -> Result<(), DiskFault>
     ensures images { (generation : ℕ) → ImagesCarry generation map.now.meaning (D.history disk.old) (D.history disk.new) }
     ensures keeps { NoFailedChange (IsErr result) (D.faults disk.old) (D.faults disk.new) → (generation : ℕ) → KeepsStore generation map.now.meaning (D.history disk.old) (D.history disk.new) }
@@ -27,9 +30,12 @@ pub fn cut_files<D: Disk>(disk: &mut D, map: &MapIndex) -> Result<(), DiskFault>
     ensures fault { AnyFaultCounted (IsErr result) (D.faults disk.old) (D.faults disk.new) }
     ensures unfailed { OnOk result (NoFault (D.faults disk.old) (D.faults disk.new)) }
 {
-    let mut last = None;
+    let mut last = Some(LAST_LOG);
     while let Some(name) = disk.next_name(last)? {
         known_range(name);
+        if let FileName::Inst(_, _) = name {
+            return Ok(());
+        }
         fit_file(disk, name, map)?;
         last = Some(name);
     }

@@ -1,10 +1,11 @@
 // Which files a store needs.
-ghost use Rattle.std.specs.Prelude.{◌≡◌, ◌==◌, ◌&&◌, false, ◌+◌, max, if◌then◌else◌};
+ghost use Rattle.std.specs.Prelude.{◌≡◌, ◌==◌, ◌&&◌, false, nat_le};
+ghost use Rattle.std.specs.List.{position_or_len};
 ghost use Rattle.std.specs.Option.{option_map_or};
 ghost use Rattle.store_sweep.specs.Wanted.{has_box, has_region, has_instance, is_wanted, end_of};
 
 use disk_model::FileName;
-use map_index::{BoxAt, MapIndex, MapRow};
+use map_index::{BoxAt, MapIndex};
 use mdbox_base::{FileNo, Hash, InstId};
 
 /// Whether the store needs the file, or it is sealed. The generation is that of the map log in force.
@@ -24,12 +25,8 @@ pub fn is_wanted(name: FileName, generation: u32, map: &MapIndex) -> bool
 fn has_box(map: &MapIndex, number: u32, generation: u32) -> bool
     ensures { result ≡ has_box map.now.meaning number generation }
 {
-    for place in 0..map.boxes() {
-        if has_log(map.box_at(place), number, generation) {
-            return true;
-        }
-    }
-    false
+    map.known_facts();
+    has_log(map.box_at(first_box(map, number)), number, generation)
 }
 
 fn has_log(mailbox: Option<BoxAt>, number: u32, generation: u32) -> bool
@@ -41,25 +38,29 @@ fn has_log(mailbox: Option<BoxAt>, number: u32, generation: u32) -> bool
     }
 }
 
+/// The place of the first mailbox whose number is this one or greater, else their number.
+fn first_box(map: &MapIndex, number: u32) -> u32
+    ensures { result ≡ position_or_len (λ box. nat_le number box.number) map.now.meaning.boxes }
+{
+    map.known_facts();
+    let mut low = 0;
+    let mut high = map.boxes();
+    while low < high {
+        let middle = low + (high - low) / 2;
+        if map.box_at(middle).unwrap().number.0 < number {
+            low = middle + 1;
+        } else {
+            high = middle;
+        }
+    }
+    low
+}
+
 /// Whether a record's region lies in this storage file.
 fn has_region(map: &MapIndex, number: u32) -> bool
     ensures { result ≡ has_region map.now.meaning number }
 {
-    for place in 0..map.rows() {
-        if lies_in(map.row_at(place), number) {
-            return true;
-        }
-    }
-    false
-}
-
-fn lies_in(row: Option<MapRow>, number: u32) -> bool
-    ensures { result ≡ option_map_or (λ row. row.file.0 == number) row false }
-{
-    match row {
-        Some(row) => row.file.0 == number,
-        None => false,
-    }
+    map.last_in_file(FileNo(number)).is_some()
 }
 
 /// Whether a record names the instance of this hash and id.
@@ -73,19 +74,8 @@ fn has_instance(map: &MapIndex, hash: Hash, id: InstId) -> bool
 pub fn end_of(map: &MapIndex, number: u32) -> u64
     ensures { result ≡ end_of map.now.meaning number }
 {
-    let mut end = 0;
-    for place in 0..map.rows() {
-        end = end_in(map.row_at(place), number, end);
-    }
-    end
-}
-
-/// The greater of this end and that of the record's region, if it lies in this storage file.
-fn end_in(row: Option<MapRow>, number: u32, end: u64) -> u64
-    ensures { result ≡ option_map_or (λ row. max end (if row.file.0 == number then row.offset + row.size else 0)) row end }
-{
-    match row {
-        Some(row) if row.file.0 == number => end.max(row.offset as u64 + row.size as u64),
-        _ => end,
+    match map.last_in_file(FileNo(number)) {
+        Some(row) => row.offset as u64 + row.size as u64,
+        None => 0,
     }
 }

@@ -1,4 +1,5 @@
 use Rattle.std.proofs.Common.{List, All, subst}
+use Rattle.std.proofs.lemmas.Bool.Decides.{when_true, when_false}
 use Rattle.std.proofs.lemmas.Result.{err_from_is_err_and}
 use Rattle.store_checks.specs.Checked.{IsCountedIn, IsMiscountedIn}
 use Rattle.store_checks.specs.declared.mailbox.CheckedBox.{CheckedBox}
@@ -30,17 +31,17 @@ returns-in_err-boxes-clause-refused g c =
 pub returns-in_err-boxes-clause-idle : goal.returns-in_err-boxes-clause-idle
 returns-in_err-boxes-clause-idle g c = idle-then _ _ _ (idle-then _ _ _ c.in_ok-root.ensures.idle c.in_ok-map_log.ensures.idle) c.read_boxes.ensures.idle
 
-pub returns-then-not-are_counted-clause-refused : goal.returns-then-not-are_counted-clause-refused
-returns-then-not-are_counted-clause-refused g c =
+pub returns-then-not-counted-clause-refused : goal.returns-then-not-counted-clause-refused
+returns-then-not-counted-clause-refused g c =
     let m = c.in_ok-map_log.ensures.read in
     let b = c.in_ok-boxes.ensures.read in
     let has = has_map c.in_ok-root.root.id.0 c.in_ok-root.root.generation c.in_ok-map_log.map_log c.in_ok-map_log.map.meaning m.0 _ _ _ c.in_ok-root.ensures.idle c.in_ok-root.ensures.read.1.root m.1 in
     let passed = logs_pass c.in_ok-root.root.id.0 c.in_ok-root.root.generation m.0 c.in_ok-map_log.map.meaning c.in_ok-boxes.boxes b.0 _ _ _ (idle-then _ _ _ c.in_ok-root.ensures.idle c.in_ok-map_log.ensures.idle) m.1.meaning has b.1 in
     counts_fail c.in_ok-root.root.id.0 c.in_ok-root.root.generation m.0 c.in_ok-map_log.map.meaning c.in_ok-boxes.boxes b.0 _ m.1.meaning b.1.meanings passed
-    (subst (λ (bs : List CheckedBox). IsMiscountedIn c.in_ok-map_log.map.meaning bs) c.as_slice.ensures c.if-not-are_counted.ensures)
+    (subst (λ (bs : List CheckedBox). IsMiscountedIn c.in_ok-map_log.map.meaning bs) c.as_slice.ensures (when_false _ _ c.if-not-counted.true c.in_ok-counted.ensures))
 
-pub returns-then-not-are_counted-clause-idle : goal.returns-then-not-are_counted-clause-idle
-returns-then-not-are_counted-clause-idle g c = idle-then _ _ _ (idle-then _ _ _ c.in_ok-root.ensures.idle c.in_ok-map_log.ensures.idle) c.in_ok-boxes.ensures.idle
+pub returns-then-not-counted-clause-idle : goal.returns-then-not-counted-clause-idle
+returns-then-not-counted-clause-idle g c = idle-then _ _ _ (idle-then _ _ _ c.in_ok-root.ensures.idle c.in_ok-map_log.ensures.idle) c.in_ok-boxes.ensures.idle
 
 pub returns-in_err-check_regions-clause-refused : goal.returns-in_err-check_regions-clause-refused
 returns-in_err-check_regions-clause-refused g c =
@@ -50,7 +51,7 @@ returns-in_err-check_regions-clause-refused g c =
     let idle = idle-then _ _ _ c.in_ok-root.ensures.idle c.in_ok-map_log.ensures.idle in
     let has = has_map c.in_ok-root.root.id.0 c.in_ok-root.root.generation c.in_ok-map_log.map_log c.in_ok-map_log.map.meaning m.0 _ _ _ c.in_ok-root.ensures.idle c.in_ok-root.ensures.read.1.root m.1 in
     let passed = logs_pass c.in_ok-root.root.id.0 c.in_ok-root.root.generation m.0 c.in_ok-map_log.map.meaning c.in_ok-boxes.boxes b.0 _ _ _ idle m.1.meaning has b.1 in
-    let counts = counted c.in_ok-map_log.map.meaning c.in_ok-boxes.boxes b.0 b.1.meanings (subst (λ (bs : List CheckedBox). All (IsCountedIn bs) c.in_ok-map_log.map.meaning.records) c.as_slice.ensures c.if-not-are_counted.ensures) in
+    let counts = counted c.in_ok-map_log.map.meaning c.in_ok-boxes.boxes b.0 b.1.meanings (subst (λ (bs : List CheckedBox). All (IsCountedIn bs) c.in_ok-map_log.map.meaning.records) c.as_slice.ensures (when_true _ _ c.if-not-counted.false c.in_ok-counted.ensures)) in
     rw (p.1, p.2) (regions_fail c.in_ok-root.root.id.0 c.in_ok-root.root.generation m.0 c.in_ok-map_log.map.meaning b.0 _ _ c.in_err-check_regions.field-0.0 (idle-then _ _ _ idle c.in_ok-boxes.ensures.idle) m.1.meaning passed counts c.in_err-check_regions.ensures.refused)
 
 pub returns-in_err-check_regions-clause-idle : goal.returns-in_err-check_regions-clause-idle
@@ -65,7 +66,7 @@ returns-in_err-check_instances-clause-refused g c =
     let before = idle-then _ _ _ idle c.in_ok-boxes.ensures.idle in
     let has = has_map c.in_ok-root.root.id.0 c.in_ok-root.root.generation c.in_ok-map_log.map_log c.in_ok-map_log.map.meaning m.0 _ _ _ c.in_ok-root.ensures.idle c.in_ok-root.ensures.read.1.root m.1 in
     let passed = logs_pass c.in_ok-root.root.id.0 c.in_ok-root.root.generation m.0 c.in_ok-map_log.map.meaning c.in_ok-boxes.boxes b.0 _ _ _ idle m.1.meaning has b.1 in
-    let counts = counted c.in_ok-map_log.map.meaning c.in_ok-boxes.boxes b.0 b.1.meanings (subst (λ (bs : List CheckedBox). All (IsCountedIn bs) c.in_ok-map_log.map.meaning.records) c.as_slice.ensures c.if-not-are_counted.ensures) in
+    let counts = counted c.in_ok-map_log.map.meaning c.in_ok-boxes.boxes b.0 b.1.meanings (subst (λ (bs : List CheckedBox). All (IsCountedIn bs) c.in_ok-map_log.map.meaning.records) c.as_slice.ensures (when_true _ _ c.if-not-counted.false c.in_ok-counted.ensures)) in
     rw (p.1, p.2) (instances_fail c.in_ok-root.root.id.0 c.in_ok-root.root.generation m.0 c.in_ok-map_log.map.meaning b.0 _ _ _ c.in_err-check_instances.field-0.0 before (idle-then _ _ _ before c.in_ok-check_regions.ensures.idle) m.1.meaning passed counts c.in_ok-check_regions.ensures.passed c.in_err-check_instances.ensures.refused)
 
 pub returns-in_err-check_instances-clause-idle : goal.returns-in_err-check_instances-clause-idle
@@ -83,7 +84,7 @@ returns-clause-checked g c =
     let before = idle-then _ _ _ idle c.in_ok-boxes.ensures.idle in
     let has = has_map c.in_ok-root.root.id.0 c.in_ok-root.root.generation c.in_ok-map_log.map_log c.in_ok-map_log.map.meaning m.0 _ _ _ c.in_ok-root.ensures.idle r.1.root m.1 in
     let passed = logs_pass c.in_ok-root.root.id.0 c.in_ok-root.root.generation m.0 c.in_ok-map_log.map.meaning c.in_ok-boxes.boxes b.0 _ _ _ idle m.1.meaning has b.1 in
-    let counts = counted c.in_ok-map_log.map.meaning c.in_ok-boxes.boxes b.0 b.1.meanings (subst (λ (bs : List CheckedBox). All (IsCountedIn bs) c.in_ok-map_log.map.meaning.records) c.as_slice.ensures c.if-not-are_counted.ensures) in
+    let counts = counted c.in_ok-map_log.map.meaning c.in_ok-boxes.boxes b.0 b.1.meanings (subst (λ (bs : List CheckedBox). All (IsCountedIn bs) c.in_ok-map_log.map.meaning.records) c.as_slice.ensures (when_true _ _ c.if-not-counted.false c.in_ok-counted.ensures)) in
     let last = idle-then _ _ _ c.in_ok-check_regions.ensures.idle c.in_ok-check_instances.ensures.idle in
     let from_boxes = idle-then _ _ _ c.in_ok-boxes.ensures.idle last in (
       r.0,
@@ -99,3 +100,6 @@ returns-clause-checked g c =
         box_logs = are_found-then c.in_ok-root.root.id.0 c.in_ok-map_log.map.meaning.boxes c.in_ok-boxes.boxes b.0 _ _ last b.1.found;
       },
     )
+
+pub returns-in_err-counted-clause-idle : goal.returns-in_err-counted-clause-idle
+returns-in_err-counted-clause-idle g c = idle-then _ _ _ (idle-then _ _ _ c.in_ok-root.ensures.idle c.in_ok-map_log.ensures.idle) c.in_ok-boxes.ensures.idle

@@ -1,6 +1,6 @@
-use Rattle.std.proofs.Common.{All, take}
-use Rattle.store_checks.specs.Checked.{IsCountedIn}
+use Rattle.std.proofs.Common.{take}
+use Rattle.store_checks.specs.Checked.{listed_in, counts_in, AreTakenOff}
 use Rattle.store_checks.proofs.counts.are_counted.Given as goal
 
-abbrev pub invariant-loop-place : goal.invariant-loop-place
-invariant-loop-place l = All (IsCountedIn l.boxes) (take l.place l.map.meaning.records)
+abbrev pub invariant-loop-mailbox : goal.invariant-loop-mailbox
+invariant-loop-mailbox l = AreTakenOff (λ uid. listed_in uid (take l.mailbox-index l.boxes)) l.map.meaning.records (counts_in l.map.meaning) l.left

@@ -7,13 +7,11 @@ use Rattle.std.specs.List.{flat_map}
 use Rattle.model_meaning.specs.MapMeaning.{MapRecord}
 use Rattle.mdbox_base.specs.declared.entries.InstRow.{InstRow}
 use Rattle.store_checks.proofs.WalkLemmas.{grown}
-use Rattle.store_checks.proofs.SortLemmas.{names_next, named_next, copied_some, chained, named_no_later, named_trans}
+use Rattle.store_checks.proofs.SortLemmas.{instances_there, named_next, chained, named_no_later, named_trans}
 use Rattle.store_checks.proofs.instances.instances_of.Goals as goal
 
 pub unwrap-requires : goal.unwrap-requires
-unwrap-requires c =
-    let n = names_next c.args.map.now.meaning c.loop-place.place c.row_at.result c.unwrap-row.result c.known_facts.ensures.records.rising c.row_at.ensures c.unwrap-row.ensures in
-    copied_some c.instances.result _ n.items c.instances.ensures n.found
+unwrap-requires c = instances_there c.args.map.now.meaning c.loop-place.place c.rows-place-end.result c.instances_at.result c.instances_at.ensures c.rows-place-end.ensures c.loop-place-test.true
 
 pub loop-inst-init : goal.loop-inst-init
 loop-inst-init c = record { same = sym (append-nil c.loop-place.instances.items); sized = c.loop-place.invariant.sized }
@@ -25,14 +23,11 @@ loop-inst-preserved c = record {
 }
 
 pub loop-place-preserved : goal.loop-place-preserved
-loop-place-preserved c =
-    let n = names_next c.args.map.now.meaning c.loop-place.place c.row_at.result c.unwrap-row.result c.known_facts.ensures.records.rising c.row_at.ensures c.unwrap-row.ensures in
-    record {
-      same = named_next c.args.map.now.meaning c.loop-place.place c.unwrap-row.result.uid.0 n c.instances.result c.unwrap.result _ c.as_slice-inst-items.result.now c.loop-place.instances.items c.loop-inst.instances.items
-          c.instances.ensures c.unwrap.ensures refl c.as_slice-inst-items.ensures c.loop-place.invariant.same
-          (c.loop-inst.invariant.same ∙ ap (λ (l : List InstRow). c.loop-place.instances.items ++ map instance_of l) (take_all c.loop-inst.inst-index c.as_slice-inst-items.result.now c.loop-inst-test.false));
-      sized = c.loop-inst.invariant.sized;
-    }
+loop-place-preserved c = record {
+  same = named_next c.args.map.now.meaning c.loop-place.place c.instances_at.result c.unwrap.result c.as_slice-inst-items.result.now c.loop-place.instances.items c.loop-inst.instances.items c.instances_at.ensures c.unwrap.ensures c.as_slice-inst-items.ensures c.loop-place.invariant.same
+      (c.loop-inst.invariant.same ∙ ap (λ (l : List InstRow). c.loop-place.instances.items ++ map instance_of l) (take_all c.loop-inst.inst-index c.as_slice-inst-items.result.now c.loop-inst-test.false));
+  sized = c.loop-inst.invariant.sized;
+}
 
 pub returns-clause-same : goal.returns-clause-same
 returns-clause-same c =

@@ -1,4 +1,4 @@
-use Rattle.std.proofs.Common.{Option, refl, subst}
+use Rattle.std.proofs.Common.{Option, lit<, refl, subst}
 use Rattle.std.specs.Prelude.{IfSome}
 use Rattle.disk_model.specs.Disk.{IfTold, IsPast, IsNext}
 use Rattle.disk_model.specs.contracts.name.FileNameOrd.TheImpl.{ghosts}
@@ -7,7 +7,8 @@ use Rattle.disk_model.proofs.MomentLemmas.{if_told-all}
 use Rattle.disk_model.specs.Name.{is_log}
 use Rattle.store_sweep.specs.Wanted.{EndsByLastRegion}
 use Rattle.disk_model.proofs.NameOrderLemmas.{walk_shrinks}
-use Rattle.store_sweep.proofs.WalkLemmas.{passed_none, walk_more, walk_ends}
+use Rattle.store_sweep.proofs.CutWalkLemmas.{passed_logs, mails_end}
+use Rattle.store_sweep.proofs.WalkLemmas.{walk_more, walk_ends}
 use Rattle.store_sweep.proofs.SweepStepLemmas.{images_now, images_unchanged, keeps_now, keeps_then, keeps_unchanged, where_now, where_then, where_unchanged, kept_images, kept_keeps, walk_same}
 use Rattle.store_sweep.proofs.FittedLemmas.{fitted-begins, fitted-then, fitted-goes_on, there-begins, there-then, there-goes_on}
 use Rattle.store_sweep.proofs.FaultLemmas.{name_since, none_since, read_ok}
@@ -22,8 +23,8 @@ loop-name-init g c = record {
   logs = where_now is_log (g.D.Disk.history c.args.disk.now);
   mail = fitted-begins c.args.map.now.meaning (g.D.Disk.history c.args.disk.now);
   there = there-begins (g.D.Disk.history c.args.disk.now);
-  cut = if_told-all _ (g.D.Disk.history c.args.disk.now) (λ disk. passed_none (EndsByLastRegion c.args.map.now.meaning) disk);
-  in_range = tt;
+  cut = if_told-all _ (g.D.Disk.history c.args.disk.now) (λ disk. passed_logs c.args.map.now.meaning 4294967295 4294967295 disk);
+  in_range = (lit< tt, lit< tt);
   faults = refl;
 }
 
@@ -85,3 +86,26 @@ returns-in_err-name-clause-keeps g c = λ none generation.
 pub returns-in_err-fit_file-clause-keeps : goal.returns-in_err-fit_file-clause-keeps
 returns-in_err-fit_file-clause-keeps g c = λ none generation.
     kept_keeps generation c.args.map.now.meaning _ _ _ _ (c.loop-name.invariant.keeps generation) c.in_ok-name.ensures.state (c.in_err-fit_file.ensures.keeps (none_since (g.D.Disk.faults c.args.disk.now) (g.D.Disk.faults c.next_name.new.self) (g.D.Disk.faults c.fit_file.new.disk) (no_fault-then _ _ _ c.loop-name.invariant.faults (read_ok c.in_ok-name.field-0 _ _ c.in_ok-name.ensures.cause)) c.from_residual-in_err-fit_file.ensures.0 none) generation)
+
+-- the first instance ends the walk
+
+pub returns-in-Inst-clause-images : goal.returns-in-Inst-clause-images
+returns-in-Inst-clause-images g c = λ generation. images_unchanged generation c.args.map.now.meaning _ _ _ (c.loop-name.invariant.images generation) c.in_ok-name.ensures.state
+
+pub returns-in-Inst-clause-keeps : goal.returns-in-Inst-clause-keeps
+returns-in-Inst-clause-keeps g c = λ none generation. keeps_then generation c.args.map.now.meaning _ _ _ (c.loop-name.invariant.keeps generation) (keeps_unchanged generation c.args.map.now.meaning _ _ c.in_ok-name.ensures.state)
+
+pub returns-in-Inst-clause-logs : goal.returns-in-Inst-clause-logs
+returns-in-Inst-clause-logs g c = where_then is_log _ _ _ c.loop-name.invariant.logs (where_unchanged is_log _ _ c.in_ok-name.ensures.state)
+
+pub returns-in-Inst-clause-there : goal.returns-in-Inst-clause-there
+returns-in-Inst-clause-there g c = there-goes_on _ _ _ c.loop-name.invariant.there c.in_ok-name.ensures.state
+
+pub returns-in-Inst-clause-mail : goal.returns-in-Inst-clause-mail
+returns-in-Inst-clause-mail g c = fitted-goes_on _ _ _ _ c.loop-name.invariant.mail c.in_ok-name.ensures.state
+
+pub returns-in-Inst-clause-cut : goal.returns-in-Inst-clause-cut
+returns-in-Inst-clause-cut g c =
+    mails_end c.args.map.now.meaning c.loop-name.last c.in-Some.name _ _ _ _ c.in_ok-name.ensures.state
+    (let F : Option FileName → Type 0 = λ n. IfTold (g.D.Disk.history c.loop-name.disk) (IsNext ghosts.cmp c.loop-name.last n) in subst F c.in-Some.is c.in_ok-name.ensures.next)
+    c.in-Inst.is c.loop-name.invariant.cut
