@@ -9,14 +9,14 @@ use Rattle.std.proofs.lemmas.List.Elements.{All-nil, All-cons, All-head, All-tai
 use Rattle.std.proofs.lemmas.List.Quantifiers.{position-Some}
 use Rattle.std.proofs.lemmas.List.Sums.{sum_by_more, sum_by_more_le}
 use Rattle.model_octets.proofs.PairLemmas.{pairs_head, pairs_tail}
-use Rattle.model_meaning.specs.BoxMeaning.{LogRow, BoxMeaning}
+use Rattle.model_meaning.specs.BoxMeaning.{LogRow}
 use Rattle.model_meaning.specs.MapMeaning.{MapRecord, MapMeaning, record_at}
 use Rattle.box_index.specs.Row.{row_of}
 use Rattle.box_index.specs.declared.index.BoxRow.{BoxRow}
 use Rattle.map_index.specs.Shown.{shown_record, place_of_record}
 use Rattle.map_index.specs.declared.rows.MapRow.{MapRow}
 use Rattle.store_checks.specs.declared.mailbox.CheckedBox.{CheckedBox}
-use Rattle.store_checks.specs.Checked.{listed_by, listed_in, once, IsCountedIn, IsMiscountedIn, AreTakenOff, IsUsedUp}
+use Rattle.store_checks.specs.Checked.{listed_by, listed_in, once, IsCountedIn, AreTakenOff, IsUsedUp}
 use Rattle.store_checks.proofs.WalkLemmas.{behind, map_next, contained, place_in}
 
 -- ---- the counts themselves

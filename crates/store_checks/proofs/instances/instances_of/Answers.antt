@@ -1,4 +1,4 @@
-use Rattle.std.proofs.Common.{◌≡◌, ◌+◌, ◌++◌, map, refl, sym, ◌∙◌, ap, subst, List, IsPermutation, take_all, get_or, length, append-nil, arith}
+use Rattle.std.proofs.Common.{◌≡◌, ◌+◌, ◌++◌, map, sym, ◌∙◌, ap, subst, List, IsPermutation, take_all, get_or, length, append-nil, arith}
 use Rattle.std.proofs.lemmas.List.Elements.{All-push}
 use Rattle.std.proofs.lemmas.List.Sorted.{All-permutation}
 use Rattle.store_checks.specs.declared.instances.Instance.{Instance}
