@@ -1,7 +1,8 @@
 -- One event more, whatever task it is of.
 use Rattle.std.proofs.Common.{inl, inr, ◌⊎◌, ◌≡◌, ◌<◌, ◌≤◌, ◌+◌, ◌-◌, ◌^◌, ◌==◌, ℕ, Bool, true, false, cond, List, [], ◌∷◌, ◌++◌, Option, Some, None, refl, sym, ◌∙◌, ap, subst, arith, All, map}
-use Rattle.std.specs.Prelude.{◌≢◌, min, is_some, length, filter, count_by, slice_get, nat_le}
+use Rattle.std.specs.Prelude.{◌≢◌, zero, suc, min, nat_lt, take, is_some, length, filter, count_by, slice_get, nat_le}
 use Rattle.std.proofs.lemmas.Grind.{common_steps}
+use Rattle.std.proofs.Math.Seq.{take-append_seam}
 use Rattle.std.proofs.lemmas.List.{append-nil, length-append, map-append, take-append-le}
 use Rattle.std.proofs.lemmas.List.Elements.{All-nil, All-cons, All-append, All-weaker, filter-append}
 use Rattle.std.proofs.lemmas.List.Sums.{sum_by-append, sum_by-cons}
@@ -15,8 +16,8 @@ use Rattle.mdbox_base.specs.declared.replies.Refusal.TheVariants as refusal
 use Rattle.mdbox_base.specs.declared.replies.Reply.{Reply}
 use Rattle.mdbox_base.specs.declared.replies.Reply.TheVariants as reply
 use Rattle.model_lists.specs.Lists.{Lists}
-use Rattle.list_machine.specs.Run.{RunEvent, Run, and_then}
-use Rattle.journal.specs.Journal.{Requests, half_of, halves_of, JournalStep, IsStep, AreSteps, left_by, IsLegal, Broken, no_broken, AreBroken, Reached, HasReply, RoseBy, steps_of, IsFirstPart}
+use Rattle.list_machine.specs.Run.{RunEvent, Run, before, and_then}
+use Rattle.journal.specs.Journal.{Requests, half_of, halves_of, JournalStep, IsStep, AreSteps, left_by, IsLegal, Broken, no_broken, as_if, AreBroken, Reached, HasReply, RoseBy, steps_of, IsFirstPart}
 use Rattle.mdbox_base.specs.declared.script.Half.{Half}
 use Rattle.journal.proofs.JournalLemmas.{steps_within}
 use Rattle.journal.specs.GoesOn.{broken_by, AllMayCome}
@@ -24,8 +25,8 @@ use Rattle.journal.proofs.LegalLemmas.{legal_faults}
 use Rattle.journal.proofs.ReachedLemmas.{reached_last, reached_quiet, reached_step}
 use Rattle.journal.proofs.BrokenLemmas.{broken_is, none_failed, failure_is, failure_still, reached_fails, reached_broken}
 use Rattle.journal.proofs.StoppedLemmas.{stopped_is_replied}
-use Rattle.journal.specs.Events.{Around, is_faulted}
-use Rattle.journal.specs.Makes.{StepOf, WouldMake, steps_made}
+use Rattle.journal.specs.Events.{Around, DidPart, is_faulted}
+use Rattle.journal.specs.Makes.{StepOf, WouldDo, WouldMake, lists_before, steps_made}
 use Rattle.journal.proofs.MakesLemmas.{made_is_step, legal_by_task}
 use Rattle.model_store.specs.Safe.{Safe}
 use Rattle.model_store.proofs.SettledLemmas.{settled_safe}
@@ -191,6 +192,57 @@ broken_stays run script start journal broken event le b =
 more_events : (run : Run) (event : RunEvent) (n : ℕ) → n ≤ length run.events → n ≤ length (run.events ++ event ∷ [])
 more_events run event n le = let h = length-append run.events (event ∷ []) in omega (arith, h, le)
 
+-- what a failed append would have done, in a run that goes on
+would_stays : (script : Requests) (start : Lists) (run : Run) (journal : List JournalStep) (broken : Broken) (event : RunEvent) → broken.place ≤ length run.events → WouldDo script start run journal broken → WouldDo script start (and_then run event) journal broken
+would_stays script start run journal broken event le d = λ n e asked around there is unrefused.
+    subst (λ (es : List RunEvent). DidPart around (before (broken.place + n) (record run { events = es ++ broken.events })) (lists_before (left_by start journal) broken.steps (broken.place + n)) asked.1 e e.part)
+    (sym (take-append-le broken.place run.events (event ∷ []) le)) (d n e asked around there is unrefused)
+
+unmade_would : (script : Requests) (start : Lists) (run : Run) (request : Request) (journal : List JournalStep) (broken : Broken) (event : RunEvent) (answer : Option Reply) (left : Lists) → broken.place ≤ length run.events → answer ≡ None
+    → WouldDo script start run journal broken → WouldDo script start (and_then run event) (journal_by run request journal event answer left) broken
+unmade_would script start run request journal broken event answer left le none d =
+    subst (λ (j : List JournalStep). WouldDo script start (and_then run event) j broken) (sym (unmade run request journal event answer left none)) (would_stays script start run journal broken event le d)
+
+none_would : (script : Requests) (start : Lists) (run : Run) (journal : List JournalStep) → WouldDo script start run journal no_broken
+none_would script start run journal = λ n event asked around there is unrefused. absurd (let k : None ≡ Some event = there in cc k)
+
+-- a step that was made at this place or later isn't before it
+none_before : (lists : Lists) (step : JournalStep) (n : ℕ) → n ≤ step.event → lists_before lists (step ∷ []) n ≡ lists
+none_before lists step n le = ap (λ (b : Bool). left_by lists (cond b (step ∷ []) [])) (past step.event n le)
+  where
+    past : (a b : ℕ) → b ≤ a → nat_lt a b ≡ false
+    past a b k = grind (arith, common_steps, k)
+
+-- the run as it would have been, before the event that failed
+before_failed : (run : Run) (event would : RunEvent) (began : ℕ) (step : JournalStep) → before (length run.events + 0) (as_if (and_then run event) (broken_by run would began step)) ≡ run
+before_failed run event would began step =
+    let whole : take (length run.events) (run.events ++ event ∷ []) ≡ run.events = take-append_seam run.events (event ∷ []) in
+    let again : take (length run.events) (run.events ++ would ∷ []) ≡ run.events = take-append_seam run.events (would ∷ []) in
+    let n : length run.events + 0 ≡ length run.events = omega arith in
+    ap (λ (es : List RunEvent). record run { events = es })
+    ((ap (λ (k : ℕ). take k (take (length run.events) (run.events ++ event ∷ []) ++ would ∷ [])) n ∙ ap (λ (es : List RunEvent). take (length run.events) (es ++ would ∷ [])) whole) ∙ again)
+
+-- an append that failed in this event would have done what its event would have
+would_made : (script : Requests) (start : Lists) (run : Run) (journal : List JournalStep) (lane place : ℕ) (request : Request) (event : RunEvent) (w : WouldMake run request (left_by start journal) event) (began : ℕ) (step : JournalStep)
+    → slice_get script place ≡ Some (lane, request) → event.request ≡ place → step.event ≡ length run.events → WouldDo script start (and_then run event) journal (broken_by run w.would began step)
+would_made script start run journal lane place request event w began step asked at is = does
+  where
+    here : (x : RunEvent) (q : ℕ × Request) (around : Around) → Some w.would ≡ Some x → slice_get script x.request ≡ Some q → x.refused ≡ None
+        → DidPart around (before (length run.events + 0) (as_if (and_then run event) (broken_by run w.would began step))) (lists_before (left_by start journal) (step ∷ []) (length run.events + 0)) q.1 x x.part
+    here x q around there is_asked unrefused =
+        let x_is : w.would ≡ x = cc there in
+        let unrefused_would : w.would.refused ≡ None = ap (λ (y : RunEvent). y.refused) x_is ∙ unrefused in
+        let place_is : x.request ≡ place = sym (ap (λ (y : RunEvent). y.request) x_is) ∙ (w.request_is ∙ at) in
+        let q_is : q ≡ (lane, request) = some_ask q (lane, request) ((sym is_asked ∙ ap (λ (n : ℕ). slice_get script n) place_is) ∙ asked) in
+        subst (λ (y : RunEvent). DidPart around (before (length run.events + 0) (as_if (and_then run event) (broken_by run w.would began step))) (lists_before (left_by start journal) (step ∷ []) (length run.events + 0)) q.1 y y.part) x_is
+        (subst (λ (o : ℕ × Request). DidPart around (before (length run.events + 0) (as_if (and_then run event) (broken_by run w.would began step))) (lists_before (left_by start journal) (step ∷ []) (length run.events + 0)) o.1 w.would w.would.part) (sym q_is)
+        (subst (λ (ls : Lists). DidPart around (before (length run.events + 0) (as_if (and_then run event) (broken_by run w.would began step))) ls request w.would w.would.part) (sym (none_before (left_by start journal) step (length run.events + 0) (omega (arith, is))))
+        (subst (λ (r : Run). DidPart around r (left_by start journal) request w.would w.would.part) (sym (before_failed run event w.would began step)) (w.did around unrefused_would))))
+
+    does : WouldDo script start (and_then run event) journal (broken_by run w.would began step)
+    does zero x q around there is_asked unrefused = here x q around there is_asked unrefused
+    does (suc n) x q around there is_asked unrefused = absurd (let k : None ≡ Some x = there in cc k)
+
 -- ---- one event more
 
 -- What all ways have in common: but for the images, the broken step, and what the disk is settled for.
@@ -212,8 +264,10 @@ record Told (start : Lists) (script : Requests) (run : Run) (journal : List Jour
   pub still : now.stopped ≡ true → new ≡ now
   pub faults : FaultsGrow (IsFault did) now.faults new.faults
 
-abbrev Going : Lists → Requests → Run → List JournalStep → List (Option Reply) → Seen → Seen → Type 0
-Going start script run journal replies began new = (broken : Broken) × Serves start script run journal broken replies began new
+-- the run goes on from one with this journal and these broken steps, and what the broken ones would have done follows too
+abbrev Going : Lists → Requests → Run → List JournalStep → Broken → Run → List JournalStep → List (Option Reply) → Seen → Seen → Type 0
+Going start script old steps before run journal replies began new =
+    (broken : Broken) × Serves start script run journal broken replies began new × (WouldDo script start old steps before → WouldDo script start run journal broken)
 
 -- no step: the images are safe for the lists that stay
 quiet_images : (start : Lists) (run : Run) (journal : List JournalStep) (broken : Broken) (began now new : Seen) (event : RunEvent) → All (λ s. s.event < length run.events) journal
@@ -246,9 +300,10 @@ step_reached start run request journal began now new event (Some answer) left so
     made = record { lane = event.lane; request = event.request; half = half_of request event.part; event = length run.events; answer = answer; left = left }
 
 quiet_on : (start : Lists) (script : Requests) (run : Run) (journal : List JournalStep) (broken : Broken) (replies : List (Option Reply)) (began now new : Seen) (request : Request) (event : RunEvent) (answer : Option Reply) (left : Lists) → Serves start script run journal broken replies began now
-    → Told start script run journal replies began now new request event answer left did.Quiet → answer ≡ None → new.stopped ≡ now.stopped → Leads (left_by start journal) (left_by start journal) now new → Going start script (and_then run event) (journal_by run request journal event answer left) replies began new
+    → Told start script run journal replies began now new request event answer left did.Quiet → answer ≡ None → new.stopped ≡ now.stopped → Leads (left_by start journal) (left_by start journal) now new → Going start script run journal broken (and_then run event) (journal_by run request journal event answer left) replies began new
 quiet_on start script run journal broken replies began now new request event answer left s t none same leads =
-    (broken, subst (λ (j : List JournalStep). Kept start script (and_then run event) j replies began new → Serves start script (and_then run event) j broken replies began new) (sym (unmade run request journal event answer left none)) all t.kept)
+    (broken, subst (λ (j : List JournalStep). Kept start script (and_then run event) j replies began new → Serves start script (and_then run event) j broken replies began new) (sym (unmade run request journal event answer left none)) all t.kept,
+      unmade_would script start run request journal broken event answer left s.within none)
   where
     crash : IsSettledFor start began.history → (b : Bool) → now.stopped ≡ b → EachImage (IsReached start (and_then run event) journal broken) began.history new.history
     crash at true e = still_images start run journal broken began now new event t.within (t.still e) (s.crash at)
@@ -274,7 +329,7 @@ quiet_on start script run journal broken replies began now new request event ans
     }
 
 step_on : (start : Lists) (script : Requests) (run : Run) (journal : List JournalStep) (broken : Broken) (replies : List (Option Reply)) (began now new : Seen) (request : Request) (event : RunEvent) (answer : Option Reply) (left : Lists) (how : Did) → Serves start script run journal broken replies began now
-    → Told start script run journal replies began now new request event answer left how → is_some answer ≡ true → new.stopped ≡ false → now.stopped ≡ false → Leads (left_by start journal) left now new → Going start script (and_then run event) (journal_by run request journal event answer left) replies began new
+    → Told start script run journal replies began now new request event answer left how → is_some answer ≡ true → new.stopped ≡ false → now.stopped ≡ false → Leads (left_by start journal) left now new → Going start script run journal broken (and_then run event) (journal_by run request journal event answer left) replies began new
 step_on start script run journal broken replies began now new request event answer left how s t some runs ran leads = (
   no_broken,
   record {
@@ -295,12 +350,14 @@ step_on start script run journal broken replies began now new request event answ
     halted = t.kept.halted;
     unrefused = t.kept.unrefused;
   },
+  λ d. none_would script start (and_then run event) (journal_by run request journal event answer left),
 )
 
 failed_on : (start : Lists) (script : Requests) (run : Run) (journal : List JournalStep) (broken : Broken) (replies : List (Option Reply)) (began now new : Seen) (request : Request) (event : RunEvent) (answer : Option Reply) (left : Lists) → Serves start script run journal broken replies began now
-    → Told start script run journal replies began now new request event answer left did.Failed → Fell event answer now new → Stops (left_by start journal) (left_by start journal) now new → Going start script (and_then run event) (journal_by run request journal event answer left) replies began new
+    → Told start script run journal replies began now new request event answer left did.Failed → Fell event answer now new → Stops (left_by start journal) (left_by start journal) now new → Going start script run journal broken (and_then run event) (journal_by run request journal event answer left) replies began new
 failed_on start script run journal broken replies began now new request event answer left s t f stops =
-    (broken, subst (λ (j : List JournalStep). Kept start script (and_then run event) j replies began new → Serves start script (and_then run event) j broken replies began new) (sym (unmade run request journal event answer left f.unanswered)) all t.kept)
+    (broken, subst (λ (j : List JournalStep). Kept start script (and_then run event) j replies began new → Serves start script (and_then run event) j broken replies began new) (sym (unmade run request journal event answer left f.unanswered)) all t.kept,
+      unmade_would script start run request journal broken event answer left s.within f.unanswered)
   where
     all : Kept start script (and_then run event) journal replies began new → Serves start script (and_then run event) journal broken replies began new
     all k = record {
@@ -323,9 +380,11 @@ failed_on start script run journal broken replies began now new request event an
 
 broken_on : (start : Lists) (script : Requests) (run : Run) (journal : List JournalStep) (broken : Broken) (replies : List (Option Reply)) (began now new : Seen) (lane place : ℕ) (request : Request) (event : RunEvent) (answer : Option Reply) (left : Lists) (how : Did)
     → slice_get script place ≡ Some (lane, request) → event.lane ≡ lane → event.request ≡ place → IsFault how → Serves start script run journal broken replies began now
-    → Told start script run journal replies began now new request event answer left how → Fell event answer now new → (w : WouldMake run request (left_by start journal) event) → Stops (left_by start journal) w.left now new → Going start script (and_then run event) (journal_by run request journal event answer left) replies began new
+    → Told start script run journal replies began now new request event answer left how → Fell event answer now new → (w : WouldMake run request (left_by start journal) event) → Stops (left_by start journal) w.left now new → Going start script run journal broken (and_then run event) (journal_by run request journal event answer left) replies began new
 broken_on start script run journal broken replies began now new lane place request event answer left how asked on at fault s t f w stops =
-    (next, subst (λ (j : List JournalStep). Kept start script (and_then run event) j replies began new → Serves start script (and_then run event) j next replies began new) (sym (unmade run request journal event answer left f.unanswered)) all t.kept)
+    (next, subst (λ (j : List JournalStep). Kept start script (and_then run event) j replies began new → Serves start script (and_then run event) j next replies began new) (sym (unmade run request journal event answer left f.unanswered)) all t.kept,
+      λ d. subst (λ (j : List JournalStep). WouldDo script start (and_then run event) j next) (sym (unmade run request journal event answer left f.unanswered))
+          (would_made script start run journal lane place request event w (told_calls now.history) step asked at refl))
   where
     step : JournalStep
     step = record { lane = w.would.lane; request = w.would.request; half = half_of request w.would.part; event = length run.events; answer = w.answer; left = w.left }
@@ -375,7 +434,7 @@ ran_on now new runs still = by_test now.stopped refl
 
 by_way : (start : Lists) (script : Requests) (run : Run) (journal : List JournalStep) (broken : Broken) (replies : List (Option Reply)) (began now new : Seen) (lane place : ℕ) (request : Request) (event : RunEvent) (answer : Option Reply) (left : Lists) (how : Did)
     → slice_get script place ≡ Some (lane, request) → event.lane ≡ lane → event.request ≡ place → Serves start script run journal broken replies began now
-    → Told start script run journal replies began now new request event answer left how → Went how request run (left_by start journal) left event answer now new → Going start script (and_then run event) (journal_by run request journal event answer left) replies began new
+    → Told start script run journal replies began now new request event answer left how → Went how request run (left_by start journal) left event answer now new → Going start script run journal broken (and_then run event) (journal_by run request journal event answer left) replies began new
 by_way start script run journal broken replies began now new lane place request event answer left did.Quiet asked on at s t w = quiet_on start script run journal broken replies began now new request event answer left s t w.0 w.1 w.2
 by_way start script run journal broken replies began now new lane place request event answer left (did.Step half) asked on at s t w =
     step_on start script run journal broken replies began now new request event answer left (did.Step half) s t w.0 w.2 (ran_on now new w.2 t.still) w.3
@@ -394,6 +453,7 @@ makes_running request run lists left event answer now new (did.Broken half) w so
 pub serves_on : (start : Lists) (script : Requests) (run : Run) (journal : List JournalStep) (broken : Broken) (replies : List (Option Reply)) (began now new : Seen) (around after : Around) (lane place : ℕ) (request : Request) (how : Did) (ended : Option Reply) → Serves start script run journal broken replies began now
     → IsTurn script journal replies lane place request → (d : DidEvent around after run lane place (map (λ s. s.answer) (steps_of place journal)) request (left_by start journal) now new how ended)
     → (next : Broken) × Serves start script (and_then run d.makes.event) (journal ++ steps_made run request d.makes.event d.makes.answer d.left) next replies began new
+        × (WouldDo script start run journal broken → WouldDo script start (and_then run d.makes.event) (journal ++ steps_made run request d.makes.event d.makes.answer d.left) next)
 serves_on start script run journal broken replies began now new around after lane place request how ended s turn d =
     by_way start script run journal broken replies began now new lane place request d.makes.event d.makes.answer d.left how turn.asked d.makes.lane_is d.makes.request_is s told d.went
   where

@@ -8,7 +8,7 @@ ghost use Rattle.list_machine.specs.Run.{First, RunEvent, Run, and_then, own_eve
 ghost use Rattle.journal.specs.Journal.{Requests, JournalStep, left_by, Broken, no_broken, HasReply, is_read_fault, steps_of};
 ghost use Rattle.journal.specs.Events.{Around, IsRecord, makes_step, is_faulted, begun_in, ended_in, due_of, number_of, was_pinned};
 ghost use Rattle.journal.specs.Found.{AgreesWithRun};
-ghost use Rattle.journal.specs.Makes.{HasCome, steps_made, AreReplies, AreTold};
+ghost use Rattle.journal.specs.Makes.{HasCome, WouldDo, steps_made, AreReplies, AreTold};
 ghost use Rattle.journal.specs.GoesOn.{RepliesAlso};
 ghost use Rattle.disk_model.specs.Disk.{History, Faults, told_calls, Grows};
 ghost use Rattle.mdbox_base.specs.declared.ids.Uid.{Uid};
@@ -32,7 +32,8 @@ pub fn events_go_on()
         → ((i : ℕ) (given : Reply) → HasReply replies i given → ⊥) → count_by is_read_fault replies ≡ 0 → Serves start script run [] no_broken replies now now }
     ensures on { (start : Lists) (script : Requests) (run : Run) (journal : List JournalStep) (broken : Broken) (replies : List (Option Reply)) (began now new : Seen) (around after : Around) (lane place : ℕ) (request : Request) (how : Did) (ended : Option Reply) → Serves start script run journal broken replies began now
         → IsTurn script journal replies lane place request → (d : DidEvent around after run lane place (map (λ s. s.answer) (steps_of place journal)) request (left_by start journal) now new how ended)
-        → (next : Broken) × Serves start script (and_then run d.makes.event) (journal ++ steps_made run request d.makes.event d.makes.answer d.left) next replies began new }
+        → (next : Broken) × Serves start script (and_then run d.makes.event) (journal ++ steps_made run request d.makes.event d.makes.answer d.left) next replies began new
+            × (WouldDo script start run journal broken → WouldDo script start (and_then run d.makes.event) (journal ++ steps_made run request d.makes.event d.makes.answer d.left) next) }
 
     ensures next { (start : Lists) (script : Requests) (run : Run) (journal : List JournalStep) (broken : Broken) (replies : List (Option Reply)) (began now new : Seen) (around after : Around) (lane place : ℕ) (request : Request) (how : Did) (ended : Option Reply) → Serves start script run journal broken replies began now
         → IsTurn script journal replies lane place request → AreReplies script run replies → ((i : ℕ) (q : ℕ × Request) → i < place → slice_get script i ≡ Some q → q.0 ≡ lane → reply_of i run ≢ None) → place < length script
