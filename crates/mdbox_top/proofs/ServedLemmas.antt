@@ -44,7 +44,7 @@ use Rattle.task_steps.proofs.GoingLemmas.{serves_on}
 use Rattle.task_steps.proofs.ReplyingLemmas.{reply_on, serves_start}
 use Rattle.store_core.specs.Running.{IsStore}
 use Rattle.store_open.specs.Opened.{IsOpenedAs}
-use Rattle.mail_ops.specs.Listing.{Replies}
+use Rattle.mail_ops.specs.Requests.{Replies}
 use Rattle.mail_ops.specs.Task.{TaskValue, IsAt, seen_of}
 use Rattle.mail_ops.specs.declared.task.TaskStage.TheVariants as stage
 use Rattle.mdbox_top.specs.ListRun.{ListMoments}
@@ -259,12 +259,12 @@ step_alone history faults name given old new task next answer is same done does 
     let third = subst (λ (a : Progress). (around after : Around) → Steps (IsAt stage.First) (IsAt next.stage) around after (request.List name) (seen_of old (history old.disk) (faults old.disk)) (seen_of old (history old.disk) (faults old.disk)) next.did (ended_by a)) done second in
     λ around after run lists come shows begun. (third around after run 1 0 [] lists come shows begun).0
 
-pub replies_alone : {D : Type 0} → (name : List ℕ) (given : Reply) (old : StoreValue D) (task : TaskValue) (answer : Progress) → task ≡ list_task name → old.stopped ≡ false → answer ≡ progress.Done given
-    → (x : Reply) × (answer ≡ progress.Done x) × Replies task.request old x → (given ≡ listing_of (list_named old name)) ⊎ (given ≡ reply.Refused refusal.NoMemory)
-replies_alone name given old task answer is running done r =
+pub replies_alone : {D : Type 0} → (name : List ℕ) (given : Reply) (old new : StoreValue D) (task : TaskValue) (answer : Progress) → task ≡ list_task name → old.stopped ≡ false → answer ≡ progress.Done given
+    → (x : Reply) × (answer ≡ progress.Done x) × Replies task.request old new x → (given ≡ listing_of (list_named old name)) ⊎ (given ≡ reply.Refused refusal.NoMemory)
+replies_alone name given old new task answer is running done r =
     let same : progress.Done r.0 ≡ progress.Done given = sym r.1 ∙ done in
     let x : r.0 ≡ given = cc same in
-    let replies = subst (λ (t : TaskValue). Replies t.request old r.0) is r.2 in
+    let replies = subst (λ (t : TaskValue). Replies t.request old new r.0) is r.2 in
     elim replies [
       | inl e ↦ inl (sym x ∙ e ∙ ap (λ (b : Bool). if b then reply.Refused refusal.Stopped else listing_of (list_named old name)) running)
       | inr e ↦ inr (sym x ∙ e)

@@ -22,7 +22,7 @@ returns-in-Ok-clause-ends g c =
         m = c.in-Ok.store.map;
         meanings = indexes_of c.in-Ok.store.boxes;
         opened = c.in-Ok.ensures.opened;
-        again = subst (λ d. IsOpenedAs (g.D.Disk.history d) c.in-Ok.store.map (indexes_of c.in-Ok.store.boxes)) back (opens_again _ c.in-Ok.store c.facts.ensures c.in-Ok.ensures.state.1);
+        again = subst (λ d. IsOpenedAs (g.D.Disk.history d) c.in-Ok.store.map (indexes_of c.in-Ok.store.boxes)) back (opens_again _ c.in-Ok.store c.facts.ensures.store c.in-Ok.ensures.state.1);
         given_is = shown.2;
         answers = λ run event lists safe. answers_safe c.args.name _ c.in-Ok.store.map _ c.in-Ok.ensures.opened c.listings_are_shown.ensures.logs c.listings_are_answered.ensures run event lists safe;
         settled = λ lists s. subst (λ d. IsSettledFor lists (g.D.Disk.history d)) back (c.in-Ok.ensures.settled_again (λ f. absurd f) lists s);
@@ -31,7 +31,7 @@ returns-in-Ok-clause-ends g c =
       };
       serves = λ lists safe. subst (λ d. ServesRequest (request.List c.args.name) lists shown.0 (g.D.Disk.faults c.args.disk) (g.D.Disk.faults d) (g.D.Disk.history c.args.disk) (g.D.Disk.history d)) back
           (subst (λ n. ServesRequest (request.List c.args.name) lists shown.0 n (g.D.Disk.faults c.in-Ok.store.disk) (g.D.Disk.history c.args.disk) (g.D.Disk.history c.in-Ok.store.disk)) (c.in-Ok.ensures.unfailed (λ f. f))
-          (list_served c.args.name lists shown.0 (g.D.Disk.history c.args.disk) (g.D.Disk.history c.in-Ok.store.disk) (g.D.Disk.faults c.in-Ok.store.disk) c.in-Ok.store shown.1 c.in-Ok.ensures.opened c.facts.ensures c.in-Ok.ensures.state.3 c.in-Ok.ensures.state.4 c.in-Ok.ensures.state.1
+          (list_served c.args.name lists shown.0 (g.D.Disk.history c.args.disk) (g.D.Disk.history c.in-Ok.store.disk) (g.D.Disk.faults c.in-Ok.store.disk) c.in-Ok.store shown.1 c.in-Ok.ensures.opened c.facts.ensures.store c.in-Ok.ensures.state.3 c.in-Ok.ensures.state.4 c.in-Ok.ensures.state.1
           c.listings_are_shown.ensures.logs safe (unfaulted _ shown.0 shown.2) shown.3 c.in-Ok.ensures.any_moment (λ s. c.in-Ok.ensures.settled_again (λ f. absurd f) lists s)));
       printed = shown.4;
     })
