@@ -44,7 +44,7 @@ pub returns-in_err-boxes-clause-untouched : goal.returns-in_err-boxes-clause-unt
 returns-in_err-boxes-clause-untouched g c = stays IsFreeForStore _ _ (idle-begins _)
 
 pub returns-in_err-room-clause-any_moment : goal.returns-in_err-room-clause-any_moment
-returns-in_err-room-clause-any_moment g c = checked-images _ _ (idle-begins _)
+returns-in_err-room-clause-any_moment g c = checked-images _ _ _ (idle-begins _)
 
 pub returns-in_err-room-clause-untouched : goal.returns-in_err-room-clause-untouched
 returns-in_err-room-clause-untouched g c = stays IsFreeForStore _ _ (idle-begins _)
