@@ -301,9 +301,11 @@ step_reached start run request journal began now new event (Some answer) left so
 
 quiet_on : (start : Lists) (script : Requests) (run : Run) (journal : List JournalStep) (broken : Broken) (replies : List (Option Reply)) (began now new : Seen) (request : Request) (event : RunEvent) (answer : Option Reply) (left : Lists) → Serves start script run journal broken replies began now
     → Told start script run journal replies began now new request event answer left did.Quiet → answer ≡ None → new.stopped ≡ now.stopped → Leads (left_by start journal) (left_by start journal) now new → Going start script run journal broken (and_then run event) (journal_by run request journal event answer left) replies began new
-quiet_on start script run journal broken replies began now new request event answer left s t none same leads =
-    (broken, subst (λ (j : List JournalStep). Kept start script (and_then run event) j replies began new → Serves start script (and_then run event) j broken replies began new) (sym (unmade run request journal event answer left none)) all t.kept,
-      unmade_would script start run request journal broken event answer left s.within none)
+quiet_on start script run journal broken replies began now new request event answer left s t none same leads = (
+  broken,
+  subst (λ (j : List JournalStep). Kept start script (and_then run event) j replies began new → Serves start script (and_then run event) j broken replies began new) (sym (unmade run request journal event answer left none)) all t.kept,
+  unmade_would script start run request journal broken event answer left s.within none,
+)
   where
     crash : IsSettledFor start began.history → (b : Bool) → now.stopped ≡ b → EachImage (IsReached start (and_then run event) journal broken) began.history new.history
     crash at true e = still_images start run journal broken began now new event t.within (t.still e) (s.crash at)
@@ -355,9 +357,11 @@ step_on start script run journal broken replies began now new request event answ
 
 failed_on : (start : Lists) (script : Requests) (run : Run) (journal : List JournalStep) (broken : Broken) (replies : List (Option Reply)) (began now new : Seen) (request : Request) (event : RunEvent) (answer : Option Reply) (left : Lists) → Serves start script run journal broken replies began now
     → Told start script run journal replies began now new request event answer left did.Failed → Fell event answer now new → Stops (left_by start journal) (left_by start journal) now new → Going start script run journal broken (and_then run event) (journal_by run request journal event answer left) replies began new
-failed_on start script run journal broken replies began now new request event answer left s t f stops =
-    (broken, subst (λ (j : List JournalStep). Kept start script (and_then run event) j replies began new → Serves start script (and_then run event) j broken replies began new) (sym (unmade run request journal event answer left f.unanswered)) all t.kept,
-      unmade_would script start run request journal broken event answer left s.within f.unanswered)
+failed_on start script run journal broken replies began now new request event answer left s t f stops = (
+  broken,
+  subst (λ (j : List JournalStep). Kept start script (and_then run event) j replies began new → Serves start script (and_then run event) j broken replies began new) (sym (unmade run request journal event answer left f.unanswered)) all t.kept,
+  unmade_would script start run request journal broken event answer left s.within f.unanswered,
+)
   where
     all : Kept start script (and_then run event) journal replies began new → Serves start script (and_then run event) journal broken replies began new
     all k = record {
@@ -381,10 +385,12 @@ failed_on start script run journal broken replies began now new request event an
 broken_on : (start : Lists) (script : Requests) (run : Run) (journal : List JournalStep) (broken : Broken) (replies : List (Option Reply)) (began now new : Seen) (lane place : ℕ) (request : Request) (event : RunEvent) (answer : Option Reply) (left : Lists) (how : Did)
     → slice_get script place ≡ Some (lane, request) → event.lane ≡ lane → event.request ≡ place → IsFault how → Serves start script run journal broken replies began now
     → Told start script run journal replies began now new request event answer left how → Fell event answer now new → (w : WouldMake run request (left_by start journal) event) → Stops (left_by start journal) w.left now new → Going start script run journal broken (and_then run event) (journal_by run request journal event answer left) replies began new
-broken_on start script run journal broken replies began now new lane place request event answer left how asked on at fault s t f w stops =
-    (next, subst (λ (j : List JournalStep). Kept start script (and_then run event) j replies began new → Serves start script (and_then run event) j next replies began new) (sym (unmade run request journal event answer left f.unanswered)) all t.kept,
-      λ d. subst (λ (j : List JournalStep). WouldDo script start (and_then run event) j next) (sym (unmade run request journal event answer left f.unanswered))
-          (would_made script start run journal lane place request event w (told_calls now.history) step asked at refl))
+broken_on start script run journal broken replies began now new lane place request event answer left how asked on at fault s t f w stops = (
+  next,
+  subst (λ (j : List JournalStep). Kept start script (and_then run event) j replies began new → Serves start script (and_then run event) j next replies began new) (sym (unmade run request journal event answer left f.unanswered)) all t.kept,
+  λ d. subst (λ (j : List JournalStep). WouldDo script start (and_then run event) j next) (sym (unmade run request journal event answer left f.unanswered))
+      (would_made script start run journal lane place request event w (told_calls now.history) step asked at refl),
+)
   where
     step : JournalStep
     step = record { lane = w.would.lane; request = w.would.request; half = half_of request w.would.part; event = length run.events; answer = w.answer; left = w.left }
@@ -453,7 +459,7 @@ makes_running request run lists left event answer now new (did.Broken half) w so
 pub serves_on : (start : Lists) (script : Requests) (run : Run) (journal : List JournalStep) (broken : Broken) (replies : List (Option Reply)) (began now new : Seen) (around after : Around) (lane place : ℕ) (request : Request) (how : Did) (ended : Option Reply) → Serves start script run journal broken replies began now
     → IsTurn script journal replies lane place request → (d : DidEvent around after run lane place (map (λ s. s.answer) (steps_of place journal)) request (left_by start journal) now new how ended)
     → (next : Broken) × Serves start script (and_then run d.makes.event) (journal ++ steps_made run request d.makes.event d.makes.answer d.left) next replies began new
-        × (WouldDo script start run journal broken → WouldDo script start (and_then run d.makes.event) (journal ++ steps_made run request d.makes.event d.makes.answer d.left) next)
+    × (WouldDo script start run journal broken → WouldDo script start (and_then run d.makes.event) (journal ++ steps_made run request d.makes.event d.makes.answer d.left) next)
 serves_on start script run journal broken replies began now new around after lane place request how ended s turn d =
     by_way start script run journal broken replies began now new lane place request d.makes.event d.makes.answer d.left how turn.asked d.makes.lane_is d.makes.request_is s told d.went
   where
