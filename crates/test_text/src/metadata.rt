@@ -1,5 +1,5 @@
 // Metadata lines, references and the written form of storage files.
-use dbox_file::{message_at, push_file_header, push_message, scan};
+use dbox_file::{push_file_header, scan};
 use dbox_metadata::{MetaError, push_metadata, push_refs, read_metadata, read_refs};
 use mdbox_base::{ExtRef, Guid, Hash, InstId, LineForm, Octets, Seq};
 use std::test::Fail;
@@ -34,23 +34,11 @@ fn reference() -> ExtRef {
 }
 
 #[test]
-fn a_message_is_written_as_it_is_read(rt: HostRuntime) -> Result<(), Fail> {
+fn a_header_line_is_written_as_it_is_read(rt: HostRuntime) -> Result<(), Fail> {
     let mut file = Octets::empty(rt.alloc());
     push_file_header(rt.alloc(), &mut file, 1_694_498_816)?;
     assert_eq!(rt; file.as_slice(), b"2 M1e C65000000\n".as_slice());
-    push_message(rt.alloc(), &mut file, b"Hello world", LINES)?;
-    let message =
-        b"\x01\x02N          000000000000000B\nHello world\n\x01\x03\nR65000001\nVb\nG00112233445566770000000100000010\nPabc\n\n";
-    assert_eq!(rt; file.as_slice().get(16..), Some(message.as_slice()));
-    let place = message_at(file.as_slice(), 16)?;
-    assert_eq!(rt;
-        (place.body, place.size, place.lines, place.end),
-        (46, 11, 61, 114)
-    );
-    assert_eq!(rt;
-        scan(rt.alloc(), file.as_slice())?.as_slice(),
-        [place].as_slice()
-    );
+    assert_eq!(rt; scan(rt.alloc(), file.as_slice())?.length(), 0);
     Ok(())
 }
 
