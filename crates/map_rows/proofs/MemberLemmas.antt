@@ -5,16 +5,7 @@ use Rattle.std.proofs.lemmas.Bool.Decides.{nat_tests}
 use Rattle.std.proofs.lemmas.List.Elements.{All-head, All-tail, All-weaker}
 use Rattle.model_octets.proofs.PairLemmas.{pairs_head, pairs_tail, found_holds}
 use Rattle.map_rows.specs.declared.order.OrderKey.{OrderKey}
-use Rattle.map_rows.specs.Orders.{NumbersRise, with_key, without_number}
-
--- how many items pass
-abbrev pub times : {X : Type 0} → (X → Bool) → List X → ℕ
-times p [] = 0
-times p (x ∷ xs) = cond (p x) (1 + times p xs) (times p xs)
-
--- the keys of the order are those of the rows
-abbrev pub AreKeysOf : {R : Type 0} → (R → OrderKey) → List OrderKey → List R → Type 0
-AreKeysOf key keys rows = (p : OrderKey → Bool) → times p keys ≡ times (λ r. p (key r)) rows
+use Rattle.map_rows.specs.Orders.{NumbersRise, with_key, without_number, times, AreKeysOf}
 
 -- ---- counts and searches
 
