@@ -1,12 +1,14 @@
 -- Changes of one record among those in order of map uid.
-use Rattle.std.specs.Prelude.{AllPairs, remove}
+use Rattle.std.specs.Prelude.{AllPairs, remove, slice_get}
 use Rattle.std.proofs.Common.{◌≡◌, ◌≢◌, ℕ, zero, suc, ◌+◌, ◌-◌, ◌<◌, ◌≤◌, ◌==◌, ◌||◌, Bool, true, false, not, cond, List, [], ◌∷◌, length, get_or, set, map, filter, find, drop, Option, Some, None, All, refl, sym, ◌∙◌, ap, subst, arith}
 use Rattle.std.specs.Prelude.{if◌then◌else◌}
 use Rattle.std.specs.List.{position_or_len}
-use Rattle.std.specs.Option.{option_map_or}
+use Rattle.std.specs.Option.{option_map, option_map_or}
 use Rattle.std.proofs.lemmas.Bool.Decides.{nat_tests}
 use Rattle.std.proofs.lemmas.List.{get_or_default}
 use Rattle.std.proofs.lemmas.List.Elements.{All-head, All-tail, All-weaker}
+use Rattle.std.proofs.lemmas.List.Folds.{find_at}
+use Rattle.std.proofs.lemmas.Option.{slice_get-get_or, slice_get_past}
 use Rattle.std.proofs.lemmas.List.Sums.{passes_at_first, fails_before_first}
 use Rattle.model_octets.proofs.PairLemmas.{pairs_head, pairs_tail}
 use Rattle.mdbox_base.specs.declared.ids.MapUid.{MapUid}
@@ -17,7 +19,7 @@ use Rattle.model_meaning.specs.MapMeaning.{MapRecord, record_changed, has_map_ui
 use Rattle.model_meaning.proofs.MapPlaceLemmas.{equal_is}
 use Rattle.map_rows.specs.declared.rows.Record.{Record}
 use Rattle.map_rows.specs.Lookups.{meant_record}
-use Rattle.map_rows.proofs.DerivedListLemmas.{All-unmap}
+use Rattle.map_rows.proofs.DerivedListLemmas.{All-unmap, find-map}
 
 abbrev pub Rise : List Record → Type 0
 Rise records = AllPairs (λ a b. a.row.uid.0 < b.row.uid.0) records
@@ -133,6 +135,17 @@ dropped_nowhere uid records at e past =
   where
     differs : (a b : ℕ) → (a == b) ≡ false → a ≡ b → ⊥
     differs a b h e = grind (arith, nat_tests, h, e)
+
+-- the record that was taken out
+pub taken_at : (uid : ℕ) (records : List Record) (at : ℕ) (r : Record) → at ≡ position_or_len (λ (r : Record). r.row.uid.0 == uid) records → at < length records → r ≡ get_or records at r → Some (meant_record r) ≡ find (λ row. row.uid == uid) (map meant_record records)
+taken_at uid records at r e within is =
+    ap (option_map meant_record) (ap Some is ∙ sym (slice_get-get_or records at r within) ∙ ap (slice_get records) e ∙ sym (find_at (λ (x : Record). x.row.uid.0 == uid) records))
+    ∙ sym (find-map (λ (row : MapRecord). row.uid == uid) meant_record records)
+
+pub not_taken : (uid : ℕ) (records : List Record) (at : ℕ) → at ≡ position_or_len (λ (r : Record). r.row.uid.0 == uid) records → length records ≤ at → None ≡ find (λ row. row.uid == uid) (map meant_record records)
+not_taken uid records at e past =
+    ap (option_map meant_record) (sym (slice_get_past records at past) ∙ ap (slice_get records) e ∙ sym (find_at (λ (x : Record). x.row.uid.0 == uid) records))
+    ∙ sym (find-map (λ (row : MapRecord). row.uid == uid) meant_record records)
 
 -- ---- records that are moved
 

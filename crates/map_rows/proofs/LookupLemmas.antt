@@ -132,7 +132,7 @@ pub record IsRowOf (rows : List MapRecord) (k : OrderKey) (u : MapUid) (r : MapR
 row_of_key : (rows : List MapRecord) (keys : List OrderKey) (p : OrderKey → Bool) (k : OrderKey) (u : MapUid) → AllPairs (λ a b. a.uid < b.uid) rows → AreKeysOf place_key keys rows → find p keys ≡ Some k → k.uid ≡ u → (r : MapRecord) × IsRowOf rows k u r
 row_of_key rows keys p k u rising are e same =
     let row = key_row place_key keys rows p k are (uid_once k.uid.0 rows rising) e in
-    (row.0, record { found = subst (λ (v : MapUid). find (λ x. x.uid == v.0) rows ≡ Some row.0) same row.1.0; number = row.1.1 })
+    (row.0, record { found = subst (λ (v : MapUid). find (λ x. x.uid == v.0) rows ≡ Some row.0) same row.1; number = row.2 })
 
 same_row : (rows : List MapRecord) (u : ℕ) (r s : MapRecord) → find (λ x. x.uid == u) rows ≡ Some r → find (λ x. x.uid == u) rows ≡ Some s → r ≡ s
 same_row rows u r s e f = let w : Some r ≡ Some s = sym e ∙ f in cc w
@@ -251,8 +251,8 @@ last_here rows keys file offset u r kept are rise e found here =
     let a = answered u (last_of (filter (λ k. nat_lt k.number n) keys)) e in
     let last = last_key n keys a.key rise a.is in
     let number = the_number rows keys (λ k. k.number == a.key.number) a.key u r kept.rising are last.0 a.uid found in
-    let below = last.1.0 in
-    let all = all_rows place_key keys rows (λ k. nat_le n k.number || nat_le k.number a.key.number) are last.1.1 in
+    let below = last.1 in
+    let all = all_rows place_key keys rows (λ k. nat_le n k.number || nat_le k.number a.key.number) are last.2 in
     let only = place_only_one rows keys u.0 r are rise found in
     let uid = uid_is rows u.0 r found in
     record {
@@ -286,8 +286,8 @@ last_elsewhere rows keys file offset u r kept are rise most e found other =
     let a = answered u (last_of (filter (λ k. nat_lt k.number n) keys)) e in
     let last = last_key n keys a.key rise a.is in
     let number = the_number rows keys (λ k. k.number == a.key.number) a.key u r kept.rising are last.0 a.uid found in
-    let below = last.1.0 in
-    let all = all_rows place_key keys rows (λ k. nat_le n k.number || nat_le k.number a.key.number) are last.1.1 in
+    let below = last.1 in
+    let all = all_rows place_key keys rows (λ k. nat_le n k.number || nat_le k.number a.key.number) are last.2 in
     let short : r.offset + r.size ≤ 4294967295 = (found_among (λ x. x.uid == u.0) rows r IsTableRow found kept.each).ends in
     λ i d lt. behind a.key.number r _ number below (omega (arith, short)) other (all i d lt)
   where

@@ -11,6 +11,11 @@ use Rattle.map_rows.proofs.MemberLemmas.{some_counted, find_counted, none_counte
 
 -- ---- what all keys have, all rows have
 
+-- where no element passes, nothing is found
+pub none_found : {X : Type 0} → (p : X → Bool) (xs : List X) → All (λ x. p x ≡ false) xs → find p xs ≡ None
+none_found p [] a = refl
+none_found p (x ∷ xs) a = let h : p x ≡ false = All-head (λ y. p y ≡ false) x xs a in rw h (none_found p xs (All-tail (λ y. p y ≡ false) x xs a))
+
 none_fails : {X : Type 0} → (p : X → Bool) (xs : List X) → All (λ x. p x ≡ true) xs → times (λ x. not (p x)) xs ≡ 0
 none_fails p [] a = refl
 none_fails p (x ∷ xs) a = let h : p x ≡ true = All-head (λ y. p y ≡ true) x xs a in rw h (none_fails p xs (All-tail (λ y. p y ≡ true) x xs a))

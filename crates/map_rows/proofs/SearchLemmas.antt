@@ -20,7 +20,7 @@ use Rattle.map_rows.specs.Lookups.{meant_record}
 use Rattle.map_rows.proofs.DerivedListLemmas.{All-unmap}
 
 -- the answers of a search rise along the items
-answers_rise : {X : Type 0} → (f : X → ℕ) (xs : List X) (n : ℕ) → AllPairs (λ a b. f a < f b) xs → IsNonDecreasingBy (λ x. ordering_index (nat_cmp (f x) n)) xs
+pub answers_rise : {X : Type 0} → (f : X → ℕ) (xs : List X) (n : ℕ) → AllPairs (λ a b. f a < f b) xs → IsNonDecreasingBy (λ x. ordering_index (nat_cmp (f x) n)) xs
 answers_rise f xs n rise i j d le lt =
     let up : f (get_or xs i d) ≤ f (get_or xs j d) = elim (cases_eq i j) [
       | inl same ↦ let e : f (get_or xs i d) ≡ f (get_or xs j d) = ap (λ (k : ℕ). f (get_or xs k d)) same in omega (arith, e)

@@ -22,6 +22,7 @@ use Rattle.map_rows.specs.TableValue.{TableValue}
 use Rattle.map_rows.proofs.KeyLemmas.{guid_only, place_only}
 use Rattle.model_octets.proofs.SearchLemmas.{found_none}
 use Rattle.map_rows.proofs.LookupLemmas.{uid_once, uid_only}
+use Rattle.map_rows.proofs.NearLemmas.{none_found}
 use Rattle.map_rows.proofs.MemberLemmas.{keys_added, keys_removed, keys_mapped, key_missing, some_counted, find_counted, count_append, count_filter, without_one, one, equal_is, same_number}
 
 equal : (a b : ℕ) → a ≡ b → (a == b) ≡ true
@@ -32,10 +33,6 @@ unequal a b h = grind (arith, nat_tests, h)
 
 unequal_is : (a b : ℕ) → (a == b) ≡ false → a ≢ b
 unequal_is a b h e = grind (arith, nat_tests, h, e)
-
-none_found : {X : Type 0} → (p : X → Bool) (xs : List X) → All (λ x. p x ≡ false) xs → find p xs ≡ None
-none_found p [] a = refl
-none_found p (x ∷ xs) a = let h : p x ≡ false = All-head (λ y. p y ≡ false) x xs a in rw h (none_found p xs (All-tail (λ y. p y ≡ false) x xs a))
 
 -- ---- no records
 

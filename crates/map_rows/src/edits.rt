@@ -1,5 +1,6 @@
 // Changes of one record in a vector, which is found by search.
-ghost use Rattle.std.specs.Prelude.{◌≡◌, ◌<◌, ◌≤◌, ◌∷◌, [], map, filter, not, All, AllPairs, vec_len, vec_capacity};
+ghost use Rattle.std.specs.Prelude.{◌≡◌, ◌<◌, ◌≤◌, ◌==◌, ◌∷◌, [], map, filter, find, not, All, AllPairs, vec_len, vec_capacity};
+ghost use Rattle.std.specs.Option.{option_map};
 ghost use Rattle.model_meaning.specs.MapMeaning.{record_changed, has_map_uid, place_given, moved_record};
 ghost use Rattle.mdbox_base.specs.declared.entries.MapEntry.TheVariants as entry;
 ghost use Rattle.map_rows.specs.Lookups.{meant_record};
@@ -59,15 +60,18 @@ pub fn set_count(records: &mut Vec<Record>, given: MapCount)
     }
 }
 
-/// Removes a record, if there is one of this map uid.
-pub fn drop_one(records: &mut Vec<Record>, uid: MapUid)
+/// Takes out the record of this map uid. None if and only if there is none.
+pub fn take_out(records: &mut Vec<Record>, uid: MapUid) -> Option<Record>
     requires { AllPairs (λ a b. a.row.uid.0 < b.row.uid.0) records.old.items }
+    ensures taken { option_map meant_record result ≡ find (λ row. row.uid == uid.0) (map meant_record records.old.items) }
     ensures records { map meant_record records.new.items ≡ filter (λ row. not (has_map_uid row.uid (uid ∷ []))) (map meant_record records.old.items) }
     ensures space { (vec_len records.new ≤ vec_len records.old) × (vec_capacity records.new ≡ vec_capacity records.old) }
 {
     let place = place_with_uid(records, uid);
     if place < records.len() {
-        let _ = records.remove(place);
+        Some(records.remove(place))
+    } else {
+        None
     }
 }
 

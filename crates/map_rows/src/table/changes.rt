@@ -21,8 +21,6 @@ impl Table {
         requires instance_room { length record.instances ≤ self.old.instance_room }
         ensures { self.new ≡ record { records = self.old.records ++ meant_record record ∷ []; record_room = self.old.record_room - 1; instance_room = self.old.instance_room - length record.instances } }
     {
-        self.by_guid.known_facts();
-        self.by_place.known_facts();
         self.by_guid.add(guid_key(&record));
         self.by_place.add(place_key(&record));
         self.instance_room -= record.instances.length();
@@ -56,14 +54,11 @@ impl Table {
     pub fn drop_one(&mut self, uid: MapUid)
         ensures { self.new ≡ record self.old { records = filter (λ row. not (has_map_uid row.uid (uid ∷ []))) self.old.records } }
     {
-        if let Some(record) = self.find(uid) {
-            let guid = guid_key(record).number;
-            let place = place_key(record).number;
-            self.by_guid.known_facts();
-            self.by_place.known_facts();
-            self.by_guid.remove(guid);
-            self.by_place.remove(place);
-            edits::drop_one(&mut self.records, uid);
+        self.by_guid.known_facts();
+        self.by_place.known_facts();
+        if let Some(record) = edits::take_out(&mut self.records, uid) {
+            self.by_guid.remove(guid_key(&record).number);
+            self.by_place.remove(place_key(&record).number);
         }
     }
 

@@ -15,14 +15,14 @@ lower-requires c = pairs_unmap (λ (a b : MapRecord). a.uid < b.uid) meant_recor
 pub invariant_of-self : goal.invariant_of-self
 invariant_of-self c =
     let i = c.self.invariant in
-    let space = i.1.0 in
+    let space = i.1 in
     let l = c.lower.ensures.space.0 in
     let k = c.lower.ensures.space.1 in (
       subst (λ (rows : List MapRecord). AreIndexed rows c.self.inside.by_guid.keys c.self.inside.by_place.keys) (sym c.lower.ensures.records)
       (counted_indexed (record_changed (entry.D (c.args.uid ∷ []))) (lowers_count (c.args.uid ∷ [])) (map meant_record c.self.inside.records.items) c.self.inside.by_guid.keys c.self.inside.by_place.keys i.0),
       omega (arith, space, l, k),
-      i.1.1.0,
-      i.1.1.1,
+      i.2,
+      i.3,
     )
 
 pub returns : goal.returns
