@@ -3,7 +3,7 @@ use Rattle.std.specs.Prelude.{◌⊎◌, nat_le, nat_lt, AllPairs}
 use Rattle.std.specs.Prelude.{◌↔◌, IsTrue, is_none}
 use Rattle.std.specs.Option.{option_map, option_copied}
 use Rattle.std.specs.Str.{bytes_eq}
-use Rattle.std.proofs.Common.{◌≡◌, ◌≢◌, ◌+◌, ◌*◌, ◌<◌, ◌≤◌, ◌==◌, ◌&&◌, ◌||◌, ℕ, Bool, true, false, cond, Option, Some, None, List, [], ◌∷◌, length, filter, find, All, refl, sym, ◌∙◌, ap, subst, inl, inr, arith}
+use Rattle.std.proofs.Common.{◌≡◌, ◌≢◌, ◌+◌, ◌*◌, ◌<◌, ◌≤◌, ◌==◌, ◌&&◌, ◌||◌, ℕ, Bool, true, false, cond, Option, Some, None, List, [], ◌∷◌, length, get_or, filter, find, All, refl, sym, ◌∙◌, ap, subst, inl, inr, arith}
 use Rattle.std.proofs.lemmas.Bool.{cases_lt, cases_eq}
 use Rattle.std.proofs.lemmas.Bool.Decides.{nat_tests}
 use Rattle.std.proofs.lemmas.List.Elements.{All-nil, All-cons, All-head, All-tail, All-weaker}
@@ -234,7 +234,7 @@ pub first_none : (rows : List MapRecord) (keys : List OrderKey) (file from : ℕ
 first_none rows keys file from are e =
     let n = place_number file from in
     let none = no_row place_key keys rows (λ k. nat_le n k.number) are (unanswered (find (λ k. nat_le n k.number) keys) e) in
-    none_kept nearer (is_from file from) rows (λ i d lt. below _ (none i d lt))
+    none_kept nearer (is_from file from) rows (λ i d lt. below (get_or rows i d) (none i d lt))
   where
     below : (x : MapRecord) → nat_le (place_number file from) (number_of x) ≡ false → is_from file from x ≡ false
     below x h = passes_not file from x (λ f o. let l = not_le_is (place_number file from) (number_of x) h in omega (arith, l, f, o))
@@ -257,7 +257,7 @@ last_here rows keys file offset u r kept are rise e found here =
     let uid = uid_is rows u.0 r found in
     record {
       there = subst (λ (v : ℕ). find (λ x. x.uid == v) rows ≡ Some r) (sym uid) found;
-      file = here;
+      in_file = here;
       below = omega (arith, below, number, here);
       others = λ i d lt. lesser a.key.number r _ here number (all i d lt) (only i d lt);
     }
@@ -289,7 +289,7 @@ last_elsewhere rows keys file offset u r kept are rise most e found other =
     let below = last.1 in
     let all = all_rows place_key keys rows (λ k. nat_le n k.number || nat_le k.number a.key.number) are last.2 in
     let short : r.offset + r.size ≤ 4294967295 = (found_among (λ x. x.uid == u.0) rows r IsTableRow found kept.each).ends in
-    λ i d lt. behind a.key.number r _ number below (omega (arith, short)) other (all i d lt)
+    λ i d lt. behind a.key.number r (get_or rows i d) number below (omega (arith, short)) other (all i d lt)
   where
     behind : (m : ℕ) (r x : MapRecord) → number_of r ≡ m → m < place_number file offset → r.offset < 4294967296 → r.file ≢ file → (nat_le (place_number file offset) (number_of x) || nat_le (number_of x) m) ≡ true → x.file ≡ file → offset ≤ x.offset
     behind m r x number below short other all f = elim (cases_lt x.offset offset) [
@@ -301,7 +301,7 @@ pub last_none : (rows : List MapRecord) (keys : List OrderKey) (file offset : �
 last_none rows keys file offset are e =
     let n = place_number file offset in
     let all = all_rows place_key keys rows (λ k. nat_le n k.number) are (none_below n keys (unanswered (last_of (filter (λ k. nat_lt k.number n) keys)) e)) in
-    λ i d lt. behind _ (all i d lt)
+    λ i d lt. behind (get_or rows i d) (all i d lt)
   where
     behind : (x : MapRecord) → nat_le (place_number file offset) (number_of x) ≡ true → x.file ≡ file → offset ≤ x.offset
     behind x h f = let l = le_is (place_number file offset) (number_of x) h in omega (arith, l, f)

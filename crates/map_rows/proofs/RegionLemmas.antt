@@ -1,5 +1,7 @@
 -- Regions of one file that lie apart: the one that ends last, and whether octets are free.
 use Rattle.std.specs.Prelude.{◌⊎◌, min, nat_le, AllPairs, IfSome, IfNone}
+use Rattle.std.specs.Borrow.{Bor}
+use Rattle.std.specs.Option.{option_map, option_copied}
 use Rattle.std.proofs.Common.{◌≡◌, ◌≢◌, ◌+◌, ◌<◌, ◌≤◌, ◌==◌, ℕ, Bool, true, false, cond, Option, Some, None, List, [], ◌∷◌, filter, find, All, refl, sym, ◌∙◌, ap, subst, inl, inr, arith}
 use Rattle.std.proofs.lemmas.Bool.{cases_lt, cases_eq}
 use Rattle.std.proofs.lemmas.Bool.Decides.{nat_tests}
@@ -7,7 +9,8 @@ use Rattle.std.proofs.lemmas.List.Elements.{All-nil, All-cons, All-head, All-tai
 use Rattle.model_octets.proofs.PairLemmas.{pairs_head, pairs_tail, found_among}
 use Rattle.model_meaning.specs.MapMeaning.{MapRecord}
 use Rattle.model_meaning.specs.MapFits.{IsApart}
-use Rattle.map_rows.specs.Lookups.{later, last_ending, IsLastBefore}
+use Rattle.map_rows.specs.declared.rows.Record.{Record}
+use Rattle.map_rows.specs.Lookups.{meant_record, later, last_ending, IsLastBefore}
 use Rattle.map_rows.specs.TableKept.{IsTableRow, LieApart, AreTableRows}
 use Rattle.map_rows.proofs.BestLemmas.{IsKeeping, IsNoBetter, best_kept, none_kept}
 use Rattle.map_rows.proofs.LookupLemmas.{uid_only}
@@ -78,8 +81,8 @@ last_ends rows file r kept last =
     let apart = lies_apart (λ x. x.uid == r.uid) rows r kept.apart last.there in
     let only = uid_only rows r.uid r kept.rising last.there in
     let row = found_among (λ x. x.uid == r.uid) rows r IsTableRow last.there kept.each in
-    best_kept (λ (a y : MapRecord). nat_le (y.offset + y.size) (a.offset + a.size)) later (λ y. y.file == file) (λ x. x.uid == r.uid) r rows None later_keeps tt last.there (equal r.file file last.file)
-    (λ i d lt. no_later file r _ last.file row (kept.each i d lt) (only i d lt) (last.others i d lt) (apart i d lt))
+    best_kept (λ (a y : MapRecord). nat_le (y.offset + y.size) (a.offset + a.size)) later (λ y. y.file == file) (λ x. x.uid == r.uid) r rows None later_keeps tt last.there (equal r.file file last.in_file)
+    (λ i d lt. no_later file r _ last.in_file row (kept.each i d lt) (only i d lt) (last.others i d lt) (apart i d lt))
 
 pub none_ends : (rows : List MapRecord) (file : ℕ) → AreTableRows rows → All (λ x. x.file ≡ file → 4294967296 ≤ x.offset) rows → last_ending file rows ≡ None
 none_ends rows file kept none =
@@ -89,9 +92,9 @@ none_ends rows file kept none =
     elsewhere : (x : MapRecord) → IsTableRow x → (x.file ≡ file → 4294967296 ≤ x.offset) → (x.file == file) ≡ false
     elsewhere x row h = unequal x.file file (λ e. let ends = row.ends in let l = h e in omega (arith, ends, l))
 
-pub last_in : (rows : List MapRecord) (file : ℕ) (o : Option MapRecord) → AreTableRows rows → IfSome o (IsLastBefore rows file 4294967296) → IfNone o (All (λ x. x.file ≡ file → 4294967296 ≤ x.offset) rows) → o ≡ last_ending file rows
+pub last_in : (rows : List MapRecord) (file : ℕ) (o : Option (Bor Record)) → AreTableRows rows → IfSome o (λ x. IsLastBefore rows file 4294967296 (meant_record x.now)) → IfNone o (All (λ x. x.file ≡ file → 4294967296 ≤ x.offset) rows) → option_map meant_record (option_copied o) ≡ last_ending file rows
 last_in rows file None kept some none = sym (none_ends rows file kept none)
-last_in rows file (Some r) kept some none = sym (last_ends rows file r kept some)
+last_in rows file (Some x) kept some none = sym (last_ends rows file (meant_record x.now) kept some)
 
 -- ---- free octets
 
@@ -127,11 +130,11 @@ free_from rows file offset size end last kept is before ends =
     let apart = lies_apart (λ x. x.uid == last.uid) rows last kept.apart before.there in
     let only = uid_only rows last.uid last kept.rising before.there in
     let row = found_among (λ x. x.uid == last.uid) rows last IsTableRow before.there kept.each in
-    λ i d lt. free_before rows file offset size end last _ is row (kept.each i d lt) before.file (only i d lt) (before.others i d lt) (apart i d lt) ends
+    λ i d lt. free_before rows file offset size end last _ is row (kept.each i d lt) before.in_file (only i d lt) (before.others i d lt) (apart i d lt) ends
 
 -- where they are free, it does
 pub free_ends : (rows : List MapRecord) (file offset size end : ℕ) (last : MapRecord) → end ≤ offset + size → IsLastBefore rows file end last → All (AreFree file offset size) rows → last.offset + last.size ≤ offset
-free_ends rows file offset size end last le before free = apart (found_among (λ x. x.uid == last.uid) rows last (AreFree file offset size) before.there free before.file)
+free_ends rows file offset size end last le before free = apart (found_among (λ x. x.uid == last.uid) rows last (AreFree file offset size) before.there free before.in_file)
   where
     apart : IsApart offset size last → last.offset + last.size ≤ offset
     apart (inl l) = absurd (let below = before.below in omega (arith, l, le, below))

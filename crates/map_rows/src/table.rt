@@ -171,7 +171,7 @@ impl Table {
     /// The record of this file with the greatest offset below this one. None if and only if there is none.
     fn last_before(&self, file: u32, offset: u64) -> Option<&Record>
         requires { offset ≤ 4294967296 }
-        ensures some { IfSome (option_map meant_record (option_copied result)) (IsLastBefore self.now.records file offset) }
+        ensures some { IfSome result (λ last. IsLastBefore self.now.records file offset (meant_record last.now)) }
         ensures none { IfNone result (All (λ row. row.file ≡ file → offset ≤ row.offset) self.now.records) }
     {
         self.by_place.known_facts();
