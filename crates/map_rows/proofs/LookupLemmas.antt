@@ -1,6 +1,6 @@
 -- What a search in an order of the table finds is what the definitions name.
 use Rattle.std.specs.Prelude.{◌⊎◌, nat_le, nat_lt, AllPairs}
-use Rattle.std.specs.Prelude.{◌↔◌, IsTrue, is_none}
+use Rattle.std.specs.Prelude.{◌↔◌, IsTrue, is_some, not}
 use Rattle.std.specs.Option.{option_map, option_copied}
 use Rattle.std.specs.Str.{bytes_eq}
 use Rattle.std.proofs.Common.{◌≡◌, ◌≢◌, ◌+◌, ◌*◌, ◌<◌, ◌≤◌, ◌==◌, ◌&&◌, ◌||◌, ℕ, Bool, true, false, cond, Option, Some, None, List, [], ◌∷◌, length, get_or, filter, find, All, refl, sym, ◌∙◌, ap, subst, inl, inr, arith}
@@ -103,12 +103,14 @@ guid_missing rows keys guid kept are long octets e =
     ∙ row_missing guid_key keys rows (guid_number guid) are (unanswered (find (λ k. k.number == guid_number guid) keys) e)
 
 -- whether a GUID is new
-pub guid_is_new : (rows : List MapRecord) (guid : List ℕ) (o : Option (Bor Record)) (b : Bool) → option_map meant_record (option_copied o) ≡ find (λ r. bytes_eq r.guid guid) rows → b ≡ is_none o → (IsTrue b ↔ All (λ r. r.guid ≢ guid) rows)
-guid_is_new rows guid None b e h =
-    ((λ _. All-weaker (λ r. bytes_eq r.guid guid ≡ false) (λ r. r.guid ≢ guid) (λ r no same. (let w : false ≡ true = sym no ∙ text_yes r.guid guid same in cc w)) rows (found_none (λ r. bytes_eq r.guid guid) rows (sym e))), λ _. h)
-guid_is_new rows guid (Some x) b e h =
+pub guid_is_new : (rows : List MapRecord) (guid : List ℕ) (o : Option (Bor Record)) (b : Bool) → option_map meant_record (option_copied o) ≡ find (λ r. bytes_eq r.guid guid) rows → is_some o ≡ not b → (IsTrue b ↔ All (λ r. r.guid ≢ guid) rows)
+guid_is_new rows guid None true e h =
+    ((λ _. All-weaker (λ r. bytes_eq r.guid guid ≡ false) (λ r. r.guid ≢ guid) (λ r none same. (let w : false ≡ true = sym none ∙ text_yes r.guid guid same in cc w)) rows (found_none (λ r. bytes_eq r.guid guid) rows (sym e))), λ _. refl)
+guid_is_new rows guid None false e h = absurd (let w : false ≡ true = h in cc w)
+guid_is_new rows guid (Some x) true e h = absurd (let w : true ≡ false = h in cc w)
+guid_is_new rows guid (Some x) false e h =
     let hit = found_holds (λ r. bytes_eq r.guid guid) rows (meant_record x.now) (λ r. r.guid ≢ guid) (sym e) in
-    ((λ t. absurd (let w : false ≡ true = sym h ∙ t in cc w)), λ a. absurd ((hit a).0 (text_is (meant_record x.now).guid guid (hit a).1)))
+    ((λ t. absurd (let w : false ≡ true = t in cc w)), λ a. absurd ((hit a).0 (text_is (meant_record x.now).guid guid (hit a).1)))
 
 -- ---- places
 

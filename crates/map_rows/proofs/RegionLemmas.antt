@@ -1,5 +1,5 @@
 -- Regions of one file that lie apart: the one that ends last, and whether octets are free.
-use Rattle.std.specs.Prelude.{◌⊎◌, min, nat_le, AllPairs, IfSome, IfNone}
+use Rattle.std.specs.Prelude.{◌⊎◌, min, nat_le, AllPairs, IfSome, IfNone, IsTrue, ◌↔◌}
 use Rattle.std.specs.Borrow.{Bor}
 use Rattle.std.specs.Option.{option_map, option_copied}
 use Rattle.std.proofs.Common.{◌≡◌, ◌≢◌, ◌+◌, ◌<◌, ◌≤◌, ◌==◌, ℕ, Bool, true, false, cond, Option, Some, None, List, [], ◌∷◌, filter, find, All, refl, sym, ◌∙◌, ap, subst, inl, inr, arith}
@@ -152,3 +152,13 @@ free_none rows file offset size end kept e all = free_behind rows file offset si
 pub free_some : (rows : List MapRecord) (file offset size end : ℕ) (last : MapRecord) → AreTableRows rows → end ≡ min (offset + size) 4294967296 → IsLastBefore rows file end last → (last.offset + last.size ≤ offset → All (AreFree file offset size) rows) × (All (AreFree file offset size) rows → last.offset + last.size ≤ offset)
 free_some rows file offset size end last kept e before =
     ((λ ends. free_from rows file offset size end last kept (end_is (offset + size) end e) before ends), λ free. free_ends rows file offset size end last (omega (arith, e)) before free)
+
+pub free_test : (rows : List MapRecord) (file offset size end : ℕ) (last : MapRecord) (ends from : ℕ) → AreTableRows rows → end ≡ min (offset + size) 4294967296 → IsLastBefore rows file end last → ends ≡ last.offset + last.size → from ≡ offset → (IsTrue (nat_le ends from) ↔ All (AreFree file offset size) rows)
+free_test rows file offset size end last ends from kept e before p q =
+    let both = free_some rows file offset size end last kept e before in
+    ((λ t. both.0 (ends_is ends from last.offset last.size offset p q t)), (λ free. is_true ends from last.offset last.size offset p q (both.1 free)))
+  where
+    ends_is : (m n a b c : ℕ) → m ≡ a + b → n ≡ c → nat_le m n ≡ true → a + b ≤ c
+    ends_is m n a b c p q h = grind (arith, nat_tests, h, p, q)
+    is_true : (m n a b c : ℕ) → m ≡ a + b → n ≡ c → a + b ≤ c → nat_le m n ≡ true
+    is_true m n a b c p q h = grind (arith, nat_tests, h, p, q)

@@ -15,6 +15,8 @@ use Rattle.model_octets.proofs.PairLemmas.{pairs_head, pairs_tail, pairs_nil, pa
 use Rattle.model_meaning.specs.MapMeaning.{MapRecord, record_changed, has_map_uid, place_given, moved_record}
 use Rattle.model_meaning.specs.MapFits.{IsApart, AgreesOn}
 use Rattle.map_rows.specs.declared.order.OrderKey.{OrderKey}
+use Rattle.map_rows.specs.declared.rows.Record.{Record}
+use Rattle.map_rows.specs.Lookups.{meant_record}
 use Rattle.map_rows.specs.Keys.{guid_number, guid_key, place_number, place_key}
 use Rattle.map_rows.specs.Orders.{NumbersRise, times, AreKeysOf, with_key, without_number}
 use Rattle.map_rows.specs.TableKept.{IsTableRow, LieApart, NameAlike, AreTableRows, FitsBehind, FitsMoved, AreIndexed}
@@ -360,13 +362,24 @@ moved_indexed rows guids places target given r are rise can = record {
 
 -- a record that is to be moved is there
 pub moved_there : (rows : List MapRecord) (target : ℕ) (given : MapPlace) → FitsMoved rows target given → find (λ x. x.uid == given.uid.0) rows ≡ None → ⊥
-moved_there rows target given (row, e, rest) none = let w : None ≡ Some row = sym none ∙ e in cc w
+moved_there rows target given (row, e, ends, free) none = let w : None ≡ Some row = sym none ∙ e in cc w
 
 -- where no record has the map uid, none is dropped
 pub none_dropped : (uid : MapUid) (rows : List MapRecord) → find (λ x. x.uid == uid.0) rows ≡ None → filter (λ x. not (has_map_uid x.uid (uid ∷ []))) rows ≡ rows
 none_dropped uid rows e = sym (filter_agree (λ x. not (x.uid == uid.0)) (λ x. not (has_map_uid x.uid (uid ∷ []))) (kept_same uid) rows) ∙ all_kept uid rows (found_none (λ x. x.uid == uid.0) rows e)
 
 -- ---- for the calls
+
+pub same_indexed : (rows rows' : List MapRecord) (guids guids' places places' : List OrderKey) → rows ≡ rows' → guids ≡ guids' → places ≡ places' → AreIndexed rows' guids' places' → AreIndexed rows guids places
+same_indexed rows rows' guids guids' places places' p q r are =
+    subst (λ (xs : List MapRecord). AreIndexed xs guids places) (sym p) (subst (λ (xs : List OrderKey). AreIndexed rows' xs places) (sym q) (subst (λ (xs : List OrderKey). AreIndexed rows' guids' xs) (sym r) are))
+
+pub found_shown : (rows : List MapRecord) (v : TableValue) (u : ℕ) (r : MapRecord) → rows ≡ v.records → Some r ≡ find (λ x. x.uid == u) v.records → find (λ x. x.uid == u) rows ≡ Some r
+found_shown rows v u r same e = ap (find (λ (x : MapRecord). x.uid == u)) same ∙ sym e
+
+pub mapped_push : (records : List Record) (r : Record) → map meant_record (records ++ r ∷ []) ≡ map meant_record records ++ meant_record r ∷ []
+mapped_push [] r = refl
+mapped_push (x ∷ records) r = ap (λ (rows : List MapRecord). meant_record x ∷ rows) (mapped_push records r)
 
 abbrev of_table : List MapRecord → ℕ → ℕ → TableValue
 of_table records room instances = record { records = records; record_room = room; instance_room = instances }

@@ -56,9 +56,12 @@ impl Table {
     {
         self.by_guid.known_facts();
         self.by_place.known_facts();
-        if let Some(record) = edits::take_out(&mut self.records, uid) {
-            self.by_guid.remove(guid_key(&record).number);
-            self.by_place.remove(place_key(&record).number);
+        match edits::take_out(&mut self.records, uid) {
+            Some(record) => {
+                self.by_guid.remove(guid_key(&record).number);
+                self.by_place.remove(place_key(&record).number);
+            }
+            None => {}
         }
     }
 
