@@ -1,29 +1,28 @@
 -- What a search in an order of the table finds is what the definitions name.
-use Rattle.std.specs.Prelude.{◌⊎◌, nat_le, nat_lt, AllPairs}
+use Rattle.std.specs.Prelude.{nat_le, nat_lt, AllPairs}
 use Rattle.std.specs.Prelude.{◌↔◌, IsTrue, is_some, not}
 use Rattle.std.specs.Option.{option_map, option_copied}
 use Rattle.std.specs.Str.{bytes_eq}
-use Rattle.std.proofs.Common.{◌≡◌, ◌≢◌, ◌+◌, ◌*◌, ◌<◌, ◌≤◌, ◌==◌, ◌&&◌, ◌||◌, ℕ, Bool, true, false, cond, Option, Some, None, List, [], ◌∷◌, length, get_or, filter, find, All, refl, sym, ◌∙◌, ap, subst, inl, inr, arith}
+use Rattle.std.proofs.Common.{◌≡◌, ◌≢◌, ◌+◌, ◌<◌, ◌≤◌, ◌==◌, ◌&&◌, ◌||◌, ℕ, Bool, true, false, cond, Option, Some, None, List, [], ◌∷◌, length, get_or, filter, find, All, refl, sym, ◌∙◌, ap, subst, inl, inr, arith}
 use Rattle.std.proofs.lemmas.Bool.{cases_lt, cases_eq}
 use Rattle.std.proofs.lemmas.Bool.Decides.{nat_tests}
-use Rattle.std.proofs.lemmas.List.Elements.{All-nil, All-cons, All-head, All-tail, All-weaker}
+use Rattle.std.proofs.lemmas.List.Elements.{All-head, All-tail, All-weaker}
 use Rattle.mdbox_base.specs.Words.{IsOctets}
 use Rattle.mdbox_base.specs.declared.ids.MapUid.{MapUid}
 use Rattle.std.specs.Borrow.{Bor}
 use Rattle.model_octets.proofs.PairLemmas.{pairs_head, pairs_tail, found_holds, found_among}
 use Rattle.model_octets.proofs.SearchLemmas.{found_none, text_is, text_yes}
 use Rattle.model_meaning.specs.MapMeaning.{MapRecord}
-use Rattle.model_meaning.specs.MapFits.{IsApart}
 use Rattle.map_rows.specs.declared.order.OrderKey.{OrderKey}
 use Rattle.map_rows.specs.declared.rows.Record.{Record}
 use Rattle.map_rows.specs.Keys.{guid_number, guid_key, place_number, place_key}
-use Rattle.map_rows.specs.Lookups.{meant_record, is_from, nearer, least, later, last_ending, IsLastBefore}
+use Rattle.map_rows.specs.Lookups.{meant_record, is_from, nearer, least, IsLastBefore}
 use Rattle.map_rows.specs.Orders.{NumbersRise, times, AreKeysOf, last_of}
-use Rattle.map_rows.specs.TableKept.{IsTableRow, LieApart, AreTableRows}
+use Rattle.map_rows.specs.TableKept.{IsTableRow, AreTableRows}
 use Rattle.map_rows.proofs.BestLemmas.{IsKeeping, IsNoBetter, best_kept, none_kept}
 use Rattle.map_rows.proofs.KeyLemmas.{guid_test}
-use Rattle.map_rows.proofs.MemberLemmas.{row_found, row_missing, rise_once, found_by, none_counted, both, equal_is, same_number}
-use Rattle.map_rows.proofs.NearLemmas.{all_rows, no_row, key_row, only_one, first_key, last_key, none_below, IsLastKey}
+use Rattle.map_rows.proofs.MemberLemmas.{row_found, row_missing, rise_once, found_by, both, equal_is, same_number}
+use Rattle.map_rows.proofs.NearLemmas.{all_rows, no_row, key_row, only_one, first_key, last_key, none_below}
 
 equal : (a b : ℕ) → a ≡ b → (a == b) ≡ true
 equal a b h = grind (arith, nat_tests, h)
@@ -228,9 +227,9 @@ first_elsewhere rows keys file from u r kept are rise e found other =
     beyond : (m : ℕ) (r x : MapRecord) → number_of r ≡ m → place_number file from ≤ m → r.offset < 4294967296 → r.file ≢ file → (nat_lt (number_of x) (place_number file from) || nat_le m (number_of x)) ≡ true → IsTableRow x → is_from file from x ≡ false
     beyond m r x number low short other first row =
         passes_not file from x (λ f o.
-          let l : m ≤ number_of x = from_first (number_of x) m (place_number file from) first (omega (arith, f, o)) in
-          let ends = row.ends in
-          omega (arith, number, low, short, other, l, f, ends))
+        let l : m ≤ number_of x = from_first (number_of x) m (place_number file from) first (omega (arith, f, o)) in
+        let ends = row.ends in
+        omega (arith, number, low, short, other, l, f, ends))
 
 pub first_none : (rows : List MapRecord) (keys : List OrderKey) (file from : ℕ) → AreKeysOf place_key keys rows → None ≡ option_map (λ (k : OrderKey). k.uid) (find (λ k. nat_le (place_number file from) k.number) keys) → least (filter (is_from file from) rows) ≡ None
 first_none rows keys file from are e =

@@ -2,10 +2,10 @@
 use Rattle.std.specs.Prelude.{◌⊎◌, min, nat_le, AllPairs, IfSome, IfNone, IsTrue, ◌↔◌}
 use Rattle.std.specs.Borrow.{Bor}
 use Rattle.std.specs.Option.{option_map, option_copied}
-use Rattle.std.proofs.Common.{◌≡◌, ◌≢◌, ◌+◌, ◌<◌, ◌≤◌, ◌==◌, ℕ, Bool, true, false, cond, Option, Some, None, List, [], ◌∷◌, filter, find, All, refl, sym, ◌∙◌, ap, subst, inl, inr, arith}
+use Rattle.std.proofs.Common.{◌≡◌, ◌≢◌, ◌+◌, ◌<◌, ◌≤◌, ◌==◌, ℕ, Bool, true, false, cond, Option, Some, None, List, [], ◌∷◌, find, All, refl, sym, ◌∙◌, ap, subst, inl, inr, arith}
 use Rattle.std.proofs.lemmas.Bool.{cases_lt, cases_eq}
 use Rattle.std.proofs.lemmas.Bool.Decides.{nat_tests}
-use Rattle.std.proofs.lemmas.List.Elements.{All-nil, All-cons, All-head, All-tail, All-weaker}
+use Rattle.std.proofs.lemmas.List.Elements.{All-cons, All-weaker}
 use Rattle.model_octets.proofs.PairLemmas.{pairs_head, pairs_tail, found_among}
 use Rattle.model_meaning.specs.MapMeaning.{MapRecord}
 use Rattle.model_meaning.specs.MapFits.{IsApart}
@@ -114,9 +114,9 @@ free_before : (rows : List MapRecord) (file offset size end : ℕ) (last x : Map
 free_before rows file offset size end last x is row other here only others apart ends f =
     elim (cases_lt x.offset end) [
       | inl less ↦ inr (elim (cases_eq x.uid last.uid) [
-          | inl same ↦ (let k = only (equal x.uid last.uid same) in subst (λ (y : MapRecord). y.offset + y.size ≤ offset) (sym k) ends)
-          | inr differ ↦ (let some = row.some in let before = ends_before last x apart (here ∙ sym f) some (others f less differ) in omega (arith, before, ends))
-        ])
+        | inl same ↦ (let k = only (equal x.uid last.uid same) in subst (λ (y : MapRecord). y.offset + y.size ≤ offset) (sym k) ends)
+        | inr differ ↦ (let some = row.some in let before = ends_before last x apart (here ∙ sym f) some (others f less differ) in omega (arith, before, ends))
+      ])
       | inr le ↦ behind is le
     ]
   where
@@ -160,5 +160,6 @@ free_test rows file offset size end last ends from kept e before p q =
   where
     ends_is : (m n a b c : ℕ) → m ≡ a + b → n ≡ c → nat_le m n ≡ true → a + b ≤ c
     ends_is m n a b c p q h = grind (arith, nat_tests, h, p, q)
+
     is_true : (m n a b c : ℕ) → m ≡ a + b → n ≡ c → a + b ≤ c → nat_le m n ≡ true
     is_true m n a b c p q h = grind (arith, nat_tests, h, p, q)

@@ -1,17 +1,15 @@
 -- What each change leaves of a table: its records in order, and the keys of its orders.
-use Rattle.std.specs.Prelude.{◌⊎◌, AllPairs, IsSome}
-use Rattle.std.specs.Option.{is_some}
+use Rattle.std.specs.Prelude.{AllPairs, IsSome}
 use Rattle.std.proofs.Common.{◌≡◌, ◌≢◌, ◌+◌, ◌<◌, ◌≤◌, ◌==◌, ◌&&◌, ◌||◌, ◌++◌, ◌-◌, ℕ, Bool, true, false, not, cond, Option, Some, None, List, [], ◌∷◌, length, map, filter, find, All, refl, sym, ◌∙◌, ap, subst, inl, inr, arith}
-use Rattle.std.proofs.lemmas.Bool.{cases_eq}
 use Rattle.std.proofs.lemmas.Bool.Decides.{nat_tests}
-use Rattle.std.proofs.lemmas.List.Elements.{All-nil, All-cons, All-head, All-tail, All-weaker, All-filter, All-push, filter_agree}
+use Rattle.std.proofs.lemmas.List.Elements.{All-nil, All-head, All-tail, All-weaker, All-filter, All-push, filter_agree}
 use Rattle.std.proofs.lemmas.List.Kept.{AllPairs-filter}
 use Rattle.mdbox_base.specs.Words.{IsOctets}
 use Rattle.mdbox_base.specs.declared.ids.MapUid.{MapUid}
 use Rattle.mdbox_base.specs.declared.entries.MapCount.{MapCount}
 use Rattle.mdbox_base.specs.declared.entries.MapPlace.{MapPlace}
 use Rattle.mdbox_base.specs.declared.entries.MapEntry.TheVariants as entry
-use Rattle.model_octets.proofs.PairLemmas.{pairs_head, pairs_tail, pairs_nil, pairs_push, pairs_map, all_map, found_holds, found_among}
+use Rattle.model_octets.proofs.PairLemmas.{pairs_nil, pairs_push, pairs_map, all_map, found_holds, found_among}
 use Rattle.model_meaning.specs.MapMeaning.{MapRecord, record_changed, has_map_uid, place_given, moved_record}
 use Rattle.model_meaning.specs.MapFits.{IsApart, AgreesOn}
 use Rattle.map_rows.specs.declared.order.OrderKey.{OrderKey}
@@ -70,13 +68,14 @@ new_place rows file offset size each free some fits =
     overlaps : (x : MapRecord) → IsTableRow x → x.offset ≡ offset → IsApart offset size x → ⊥
     overlaps x row e (inl l) = omega (arith, e, l, some)
     overlaps x row e (inr l) = let more = row.some in omega (arith, e, l, more)
+
     differs : (x : MapRecord) → IsTableRow x → (x.file ≡ file → IsApart offset size x) → (place_number x.file x.offset == place_number file offset) ≡ false
     differs x row apart =
         let ends = row.ends in
         let more = row.some in
         unequal (place_number x.file x.offset) (place_number file offset) (λ e.
-          let same = place_only x.file x.offset file offset (omega (arith, ends, more)) fits e in
-          overlaps x row same.1 (apart same.0))
+        let same = place_only x.file x.offset file offset (omega (arith, ends, more)) fits e in
+        overlaps x row same.1 (apart same.0))
 
 pub guid_key_new : (rows : List MapRecord) (keys : List OrderKey) (r : MapRecord) → AreTableRows rows → AreKeysOf guid_key keys rows → FitsBehind rows r → length r.guid ≡ 16 → IsOctets r.guid → find (λ k. k.number == guid_number r.guid) keys ≡ None
 guid_key_new rows keys r kept are fits long octets = key_missing guid_key keys rows (guid_number r.guid) are (new_guid rows r kept.each fits.guid_new long octets)
@@ -260,6 +259,7 @@ moved_rows rows target given r kept ends before = record {
   where
     pairs : AllPairs (ArePair target given r) rows
     pairs i j d lt le = record { rising = kept.rising i j d lt le; apart = kept.apart i j d lt le; first = before i d (omega (arith, lt, le)); second = before j d le }
+
     alike : (a b : MapRecord) → (moves target given a).instances ≡ a.instances → (moves target given b).instances ≡ b.instances → NameAlike a b → NameAlike (moves target given a) (moves target given b)
     alike a b p q h = subst (λ (is : List _). All (λ i. All (AgreesOn i) (moves target given a).instances) is) (sym q) (subst (λ (is : List _). All (λ i. All (AgreesOn i) is) b.instances) (sym p) h)
 

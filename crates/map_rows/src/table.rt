@@ -151,7 +151,9 @@ impl Table {
         ensures { option_map meant_record (option_copied result) ≡ least (filter (is_from file.0 from) self.now.records) }
     {
         self.by_place.known_facts();
-        let uid = self.by_place.first_from(place_number(file.0, u64::from(from)))?;
+        let uid = self
+            .by_place
+            .first_from(place_number(file.0, u64::from(from)))?;
         let record = self.find(uid)?;
         if record.row.file.0 == file.0 {
             Some(record)

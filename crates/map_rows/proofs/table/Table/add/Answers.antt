@@ -1,6 +1,5 @@
-use Rattle.std.proofs.Common.{◌≡◌, ◌+◌, ◌-◌, ◌≤◌, ◌==◌, ◌∙◌, List, None, map, find, ap, sym, subst, arith}
+use Rattle.std.proofs.Common.{◌≡◌, ◌≤◌, ◌==◌, ◌∙◌, None, map, find, ap, sym, subst, arith}
 use Rattle.map_rows.specs.declared.order.OrderKey.{OrderKey}
-use Rattle.map_rows.specs.Keys.{guid_key, place_key}
 use Rattle.map_rows.specs.Lookups.{meant_record}
 use Rattle.map_rows.specs.Orders.{with_key}
 use Rattle.map_rows.specs.TableKept.{FitsBehind}

@@ -1,5 +1,5 @@
 use Rattle.std.specs.Prelude.{IsSome}
-use Rattle.std.proofs.Common.{◌≡◌, ◌+◌, ◌<◌, ◌≤◌, ◌==◌, ◌∙◌, List, map, find, ap, sym, subst, refl, arith}
+use Rattle.std.proofs.Common.{◌<◌, ◌==◌, ◌∙◌, map, find, ap, sym, subst, refl, arith}
 use Rattle.model_meaning.specs.MapMeaning.{MapRecord}
 use Rattle.map_rows.specs.declared.order.OrderKey.{OrderKey}
 use Rattle.map_rows.specs.Keys.{guid_key, place_key}

@@ -1,7 +1,6 @@
 use Rattle.std.specs.Prelude.{IsSome}
-use Rattle.std.proofs.Common.{◌≡◌, ◌+◌, ◌-◌, ◌<◌, ◌≤◌, ◌==◌, ◌∙◌, ℕ, List, None, map, find, ap, sym, subst, refl, arith}
+use Rattle.std.proofs.Common.{◌≡◌, ◌<◌, ◌==◌, ◌∙◌, ℕ, List, None, map, find, ap, sym, subst, refl, arith}
 use Rattle.model_meaning.specs.MapMeaning.{MapRecord}
-use Rattle.mdbox_base.specs.declared.ids.MapUid.{MapUid}
 use Rattle.map_rows.specs.declared.order.OrderKey.{OrderKey}
 use Rattle.map_rows.specs.Keys.{place_number, place_key}
 use Rattle.map_rows.specs.Lookups.{meant_record}
