@@ -163,7 +163,7 @@ key_there key keys rows p r are e =
     let found = find_counted (λ k. k.number == n) keys (subst (λ (c : ℕ). 1 ≤ c) (sym (are (λ (k : OrderKey). k.number == n))) some) in
     some_key (find (λ k. k.number == n) keys) found.0 found.1
 
-kept_same : (uid : MapUid) (r : MapRecord) → not (r.uid == uid.0) ≡ not (has_map_uid r.uid (uid ∷ []))
+pub kept_same : (uid : MapUid) (r : MapRecord) → not (r.uid == uid.0) ≡ not (has_map_uid r.uid (uid ∷ []))
 kept_same uid r = turn r.uid uid.0
   where
     turn : (a b : ℕ) → not (a == b) ≡ not ((b == a) || false)
@@ -297,6 +297,9 @@ guid_key_stays target (Some place) r = refl
 
 not_moved : (target : ℕ) (given : MapPlace) (x : MapRecord) → (x.uid == given.uid.0) ≡ false → moves target given x ≡ x
 not_moved target given x h = let f : (given.uid.0 == x.uid) ≡ false = unequal given.uid.0 x.uid (λ e. unequal_is x.uid given.uid.0 h (sym e)) in rw f refl
+
+pub moves_names : (target : ℕ) (given : MapPlace) (r : MapRecord) → (moved_record r target (place_given r.uid (given ∷ []))).instances ≡ r.instances
+moves_names target given r = names_stay target (place_given r.uid (given ∷ [])) r
 
 -- the key of the moved record
 abbrev pub moved_key : ℕ → MapPlace → OrderKey

@@ -23,7 +23,8 @@ impl Table {
     {
         self.by_guid.add(guid_key(&added));
         self.by_place.add(place_key(&added));
-        self.instance_room -= added.instances.length();
+        self.names.known_facts();
+        self.names.add_each(added.instances.as_slice());
         self.room -= 1;
         self.records.push_reserved(added);
     }
@@ -60,6 +61,7 @@ impl Table {
             Some(record) => {
                 self.by_guid.remove(guid_key(&record).number);
                 self.by_place.remove(place_key(&record).number);
+                self.names.remove_each(record.instances.as_slice());
             }
             None => {}
         }

@@ -1,7 +1,13 @@
-use Rattle.std.proofs.Common.{◌≡◌, ◌≤◌, ◌==◌, ◌∙◌, None, map, find, ap, sym, subst, arith}
+use Rattle.std.specs.Prelude.{AllPairs}
+use Rattle.std.proofs.Common.{◌≡◌, ◌≤◌, ◌==◌, ◌∙◌, List, All, None, map, find, ap, sym, subst, arith}
 use Rattle.map_rows.specs.declared.order.OrderKey.{OrderKey}
 use Rattle.map_rows.specs.Lookups.{meant_record}
+use Rattle.map_rows.specs.Named.{AreNamesOf, IsOnlyNaming, instances_of}
 use Rattle.map_rows.specs.Orders.{with_key}
+use Rattle.map_rows.proofs.NameLemmas.{names_added, names_new}
+use Rattle.model_meaning.specs.MapMeaning.{MapRecord}
+use Rattle.model_meaning.specs.MapFits.{AgreesOn}
+use Rattle.mdbox_base.specs.declared.entries.InstRow.{InstRow}
 use Rattle.map_rows.specs.TableKept.{FitsBehind}
 use Rattle.map_rows.specs.TableValue.{TableValue}
 use Rattle.map_rows.specs.Value.{OrderValue}
@@ -43,4 +49,15 @@ invariant_of-self c =
       omega (arith, space, l, k, room),
       omega (arith, p, a),
       omega (arith, q, b),
+      subst (λ (ms : List MapRecord). AreNamesOf c.add_each.new.self.named (instances_of ms)) (sym (ap (map meant_record) c.push_reserved.ensures.items ∙ mapped_push c.self.inside.records.items c.args.added))
+          (names_added c.self.inside.names.named c.add_each.new.self.named rows (meant_record c.args.added) i.4 (rw c.as_slice.ensures at c.add_each.ensures.names)),
     )
+
+pub add_each-requires-clause-only : goal.add_each-requires-clause-only
+add_each-requires-clause-only c =
+    let fits = subst (λ (v : TableValue). FitsBehind v.records (meant_record c.args.added)) (sym c.self.view_is) c.requires.fits in
+    subst (λ (is : List InstRow). All (λ i. All (IsOnlyNaming i) c.self.inside.names.named) is) (sym c.as_slice.ensures)
+    (names_new c.self.inside.names.named (map meant_record c.self.inside.records.items) c.args.added.instances c.known_facts.ensures c.self.invariant.4 fits.known)
+
+pub add_each-requires-clause-agree : goal.add_each-requires-clause-agree
+add_each-requires-clause-agree c = subst (λ (is : List InstRow). AllPairs AgreesOn is) (sym c.as_slice.ensures) c.requires.fits.earlier

@@ -1,10 +1,13 @@
 use Rattle.std.specs.Prelude.{IsSome}
-use Rattle.std.proofs.Common.{◌<◌, ◌==◌, ◌∙◌, map, find, ap, sym, subst, refl, arith}
+use Rattle.std.proofs.Common.{◌<◌, ◌==◌, ◌∙◌, List, map, find, ap, sym, subst, refl, arith}
 use Rattle.model_meaning.specs.MapMeaning.{MapRecord}
 use Rattle.map_rows.specs.declared.order.OrderKey.{OrderKey}
 use Rattle.map_rows.specs.Keys.{guid_key, place_key}
 use Rattle.map_rows.specs.Lookups.{meant_record}
+use Rattle.map_rows.specs.Named.{AreNamesOf, instances_of}
 use Rattle.map_rows.specs.Orders.{without_number}
+use Rattle.map_rows.proofs.NameLemmas.{dropped_names, names_there}
+use Rattle.map_rows.proofs.LookupLemmas.{uid_once}
 use Rattle.map_rows.specs.Value.{OrderValue}
 use Rattle.map_rows.proofs.SearchLemmas.{pairs_unmap}
 use Rattle.map_rows.proofs.TableLemmas.{key_there, dropped_indexed, none_dropped, same_indexed}
@@ -42,6 +45,7 @@ invariant_of-self c =
       omega (arith, space, l, k),
       omega (arith, p, a),
       omega (arith, q, b),
+      dropped_names c.self.inside.names.named c.remove_each.new.self.named rows _ c.args.uid (meant_record c.in-Some.record) i.4 i.0.kept.rising (sym c.in-Some.ensures.taken) (rw c.as_slice.ensures at c.remove_each.ensures.names) c.in-Some.ensures.records,
     )
 
 pub invariant_of-self-in-None : goal.invariant_of-self-in-None
@@ -55,4 +59,10 @@ invariant_of-self-in-None c =
       omega (arith, space, l, k),
       i.2,
       i.3,
+      subst (λ (ms : List MapRecord). AreNamesOf c.self.inside.names.named (instances_of ms)) (sym (c.in-None.ensures.records ∙ none_dropped c.args.uid rows (sym c.in-None.ensures.taken))) i.4,
     )
+
+pub remove_each-requires : goal.remove_each-requires
+remove_each-requires c =
+    rw c.as_slice.ensures
+    (names_there c.self.inside.names.named (map meant_record c.self.inside.records.items) c.args.uid.0 (meant_record c.in-Some.record) c.self.invariant.4 (uid_once c.args.uid.0 (map meant_record c.self.inside.records.items) c.self.invariant.0.kept.rising) (sym c.in-Some.ensures.taken))

@@ -1,6 +1,8 @@
 use Rattle.std.proofs.Common.{map, ap, arith}
 use Rattle.map_rows.specs.Lookups.{meant_record}
+use Rattle.map_rows.specs.Named.{NamesValue}
 use Rattle.map_rows.specs.Value.{OrderValue}
+use Rattle.map_rows.proofs.NameLemmas.{no_names}
 use Rattle.map_rows.proofs.TableLemmas.{empty_indexed, same_indexed}
 use Rattle.map_rows.proofs.table.Table.empty.Goals as goal
 
@@ -10,4 +12,5 @@ invariant_of-result c = (
   omega arith,
   omega arith,
   omega arith,
+  no_names c.empty-3.result.named c.new.result.items (ap (λ (v : NamesValue). v.named) c.empty-3.ensures) c.new.ensures.items,
 )

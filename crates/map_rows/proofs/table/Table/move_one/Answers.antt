@@ -1,6 +1,6 @@
 use Rattle.std.specs.Prelude.{IsSome}
-use Rattle.std.proofs.Common.{◌≡◌, ◌<◌, ◌==◌, ◌∙◌, ℕ, List, None, map, find, ap, sym, subst, refl, arith}
-use Rattle.model_meaning.specs.MapMeaning.{MapRecord}
+use Rattle.std.proofs.Common.{◌≡◌, ◌<◌, ◌==◌, ◌∙◌, ◌∷◌, [], ℕ, List, None, map, find, ap, sym, subst, refl, arith}
+use Rattle.model_meaning.specs.MapMeaning.{MapRecord, moved_record, place_given}
 use Rattle.map_rows.specs.declared.order.OrderKey.{OrderKey}
 use Rattle.map_rows.specs.Keys.{place_number, place_key}
 use Rattle.map_rows.specs.Lookups.{meant_record}
@@ -8,8 +8,9 @@ use Rattle.map_rows.specs.Orders.{with_key, without_number}
 use Rattle.map_rows.specs.TableKept.{FitsMoved}
 use Rattle.map_rows.specs.TableValue.{TableValue}
 use Rattle.map_rows.specs.Value.{OrderValue}
+use Rattle.map_rows.proofs.NameLemmas.{names_changed}
 use Rattle.map_rows.proofs.SearchLemmas.{pairs_unmap}
-use Rattle.map_rows.proofs.TableLemmas.{key_there, movable, moved_key, moved_new, moved_indexed, same_indexed, found_shown}
+use Rattle.map_rows.proofs.TableLemmas.{key_there, movable, moved_key, moved_new, moved_indexed, moves_names, same_indexed, found_shown}
 use Rattle.map_rows.proofs.table.Table.move_one.Goals as goal
 
 pub remove-requires : goal.remove-requires
@@ -60,4 +61,5 @@ invariant_of-self c =
       omega (arith, space, l, k),
       i.2,
       omega (arith, q, a, b),
+      names_changed c.self.inside.names.named rows _ (λ (row : MapRecord). moved_record row c.args.target (place_given row.uid (c.args.given ∷ []))) c.move_one.ensures.records (moves_names c.args.target c.args.given) i.4,
     )

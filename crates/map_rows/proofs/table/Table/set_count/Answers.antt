@@ -4,6 +4,7 @@ use Rattle.model_meaning.specs.MapMeaning.{MapRecord, record_changed}
 use Rattle.map_rows.specs.Lookups.{meant_record}
 use Rattle.map_rows.specs.TableKept.{AreIndexed}
 use Rattle.map_rows.specs.TableValue.{TableValue}
+use Rattle.map_rows.proofs.NameLemmas.{names_changed}
 use Rattle.map_rows.proofs.SearchLemmas.{pairs_unmap}
 use Rattle.map_rows.proofs.TableLemmas.{counted_indexed, sets_count, same_table}
 use Rattle.map_rows.proofs.table.Table.set_count.Goals as goal
@@ -22,6 +23,7 @@ invariant_of-self c =
       omega (arith, space, l, k),
       i.2,
       i.3,
+      names_changed c.self.inside.names.named (map meant_record c.self.inside.records.items) _ (record_changed (entry.T (c.args.given ∷ []))) c.set_count.ensures.records (λ r. ap (λ (row : MapRecord). row.instances) (sets_count (c.args.given ∷ []) r)) i.4,
     )
 
 pub returns : goal.returns
