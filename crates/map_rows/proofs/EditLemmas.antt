@@ -1,6 +1,6 @@
 -- Changes of one record among those in order of map uid.
 use Rattle.std.specs.Prelude.{AllPairs, remove, slice_get}
-use Rattle.std.proofs.Common.{◌≡◌, ◌≢◌, ℕ, zero, suc, ◌+◌, ◌-◌, ◌<◌, ◌≤◌, ◌==◌, ◌||◌, Bool, true, false, not, List, [], ◌∷◌, length, get_or, set, map, filter, find, drop, Some, None, All, refl, sym, ◌∙◌, ap, subst, arith}
+use Rattle.std.proofs.Common.{◌≡◌, ◌≢◌, ℕ, zero, suc, ◌+◌, ◌-◌, ◌<◌, ◌≤◌, ◌==◌, Bool, true, false, not, List, [], ◌∷◌, length, get_or, set, map, filter, find, drop, Some, None, All, refl, sym, ◌∙◌, ap, subst, arith}
 use Rattle.std.specs.List.{position_or_len}
 use Rattle.std.specs.Option.{option_map}
 use Rattle.std.proofs.lemmas.Bool.Decides.{nat_tests}
@@ -69,10 +69,6 @@ unequal a b h = grind (arith, nat_tests, h)
 
 equal : (a b : ℕ) → a ≡ b → (a == b) ≡ true
 equal a b h = grind (arith, nat_tests, h)
-
-or_none : (b : Bool) → (b || false) ≡ b
-or_none true = refl
-or_none false = refl
 
 pub raises_only : (uid : MapUid) → ChangesOnly uid.0 (record_changed (entry.U uid))
 raises_only uid row apart = rw (unequal uid.0 row.uid (λ e. apart (sym e))) refl

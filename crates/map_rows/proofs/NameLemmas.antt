@@ -11,10 +11,9 @@ use Rattle.std.proofs.lemmas.Cmp.{ranked}
 use Rattle.mdbox_base.specs.Words.{IsOctets}
 use Rattle.std.proofs.Common.{Result, Ok, Err, ◌≡◌, ◌+◌, ◌<◌, ◌≤◌, ◌==◌, ◌&&◌, ◌||◌, ◌++◌, ℕ, zero, suc, Bool, true, false, not, cond, Option, Some, None, List, [], ◌∷◌, length, get_or, set, take, drop, find, filter, map, All, refl, sym, ◌∙◌, ap, subst, inl, inr, arith, add-one}
 use Rattle.std.proofs.lemmas.Bool.{cases_lt}
-use Rattle.std.proofs.lemmas.List.Elements.{All-nil, All-cons, All-head, All-tail, All-weaker, All-set, All-append, All-take, All-drop, Contains-get_or, filter_agree}
+use Rattle.std.proofs.lemmas.List.Elements.{All-nil, All-cons, All-head, All-tail, All-weaker, All-append, All-take, All-drop, Contains-get_or, filter_agree}
 use Rattle.std.proofs.lemmas.List.Folds.{list_any_none}
 use Rattle.std.proofs.lemmas.List.Kept.{AllPairs-cons}
-use Rattle.std.proofs.lemmas.List.Quantifiers.{all_pairs_remove}
 use Rattle.mdbox_base.specs.declared.ids.Hash.{Hash}
 use Rattle.mdbox_base.specs.declared.ids.InstId.{InstId}
 use Rattle.mdbox_base.specs.declared.entries.InstRow.{InstRow}
@@ -431,24 +430,6 @@ row_there named row at are some gap =
 
 -- ---- in order after a change
 
-rises_set : (named : List NamedInstance) (at : ℕ) (new : NamedInstance) → at < length named → ((d : NamedInstance) → (get_or named at d).number ≡ new.number) → AllPairs (λ a b. a.number < b.number) named → AllPairs (λ a b. a.number < b.number) (set named at new)
-rises_set [] at new lt e rise = absurd (omega (arith, lt))
-rises_set (x ∷ named) zero new lt e rise =
-    let same : x.number ≡ new.number = e x in
-    AllPairs-cons (λ a b. a.number < b.number) new named (All-weaker (λ b. x.number < b.number) (λ b. new.number < b.number) (λ b l. omega (arith, l, same)) named (pairs_head (λ a b. a.number < b.number) x named rise)) (pairs_tail (λ a b. a.number < b.number) x named rise)
-rises_set (x ∷ named) (suc at) new lt e rise =
-    let above = pairs_head (λ a b. a.number < b.number) x named rise in
-    let l : x.number < (get_or named at x).number = above at x (omega (arith, lt)) in
-    let same : (get_or named at x).number ≡ new.number = e x in
-    AllPairs-cons (λ a b. a.number < b.number) x (set named at new) (All-set (λ b. x.number < b.number) named at new (omega (arith, l, same)) above)
-    (rises_set named at new (omega (arith, lt)) (λ d. e d) (pairs_tail (λ a b. a.number < b.number) x named rise))
-
-pub set_are : (named : List NamedInstance) (at : ℕ) (new : NamedInstance) → AreNamings named → at < length named → ((d : NamedInstance) → (get_or named at d).number ≡ new.number) → IsNaming new → AreNamings (set named at new)
-set_are named at new are lt e naming = record {
-  rising = rises_set named at new lt e are.rising;
-  each = All-set IsNaming named at new naming are.each;
-}
-
 rises_insert : (named : List NamedInstance) (at : ℕ) (new : NamedInstance) → IsGapFor named new.number at → AllPairs (λ a b. a.number < b.number) named → AllPairs (λ a b. a.number < b.number) (insert named at new)
 rises_insert [] zero new gap rise = AllPairs-cons (λ a b. a.number < b.number) new [] (All-nil (λ b. new.number < b.number)) (pairs_nil (λ a b. a.number < b.number))
 rises_insert [] (suc at) new gap rise = absurd (let w = gap.within in omega (arith, w))
@@ -471,12 +452,6 @@ pub insert_are : (named : List NamedInstance) (at : ℕ) (new : NamedInstance) �
 insert_are named at new are gap naming = record {
   rising = rises_insert named at new gap are.rising;
   each = All-append IsNaming (take at named) (new ∷ drop at named) (All-take IsNaming at named are.each) (All-cons IsNaming new (drop at named) naming (All-drop IsNaming at named are.each));
-}
-
-pub remove_are : (named : List NamedInstance) (at : ℕ) → AreNamings named → at < length named → AreNamings (remove named at)
-remove_are named at are lt = record {
-  rising = all_pairs_remove (λ a b. a.number < b.number) named at lt are.rising;
-  each = All-append IsNaming (take at named) (drop (suc at) named) (All-take IsNaming at named are.each) (All-drop IsNaming (suc at) named are.each);
 }
 
 -- ---- for the calls

@@ -146,9 +146,6 @@ end_is sum end e = elim (cases_lt sum 4294967296) [
   | inr le ↦ inr (omega (arith, e, le))
 ]
 
-pub free_none : (rows : List MapRecord) (file offset size end : ℕ) → AreTableRows rows → end ≡ min (offset + size) 4294967296 → All (λ x. x.file ≡ file → end ≤ x.offset) rows → All (AreFree file offset size) rows
-free_none rows file offset size end kept e all = free_behind rows file offset size end kept (end_is (offset + size) end e) all
-
 pub free_some : (rows : List MapRecord) (file offset size end : ℕ) (last : MapRecord) → AreTableRows rows → end ≡ min (offset + size) 4294967296 → IsLastBefore rows file end last → (last.offset + last.size ≤ offset → All (AreFree file offset size) rows) × (All (AreFree file offset size) rows → last.offset + last.size ≤ offset)
 free_some rows file offset size end last kept e before =
     ((λ ends. free_from rows file offset size end last kept (end_is (offset + size) end e) before ends), λ free. free_ends rows file offset size end last (omega (arith, e)) before free)

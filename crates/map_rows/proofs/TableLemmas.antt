@@ -363,10 +363,6 @@ moved_indexed rows guids places target given r are rise can = record {
   by_place = moved_keys rows places target given r are.kept are.by_place rise can;
 }
 
--- a record that is to be moved is there
-pub moved_there : (rows : List MapRecord) (target : ℕ) (given : MapPlace) → FitsMoved rows target given → find (λ x. x.uid == given.uid.0) rows ≡ None → ⊥
-moved_there rows target given (row, e, ends, free) none = let w : None ≡ Some row = sym none ∙ e in cc w
-
 -- where no record has the map uid, none is dropped
 pub none_dropped : (uid : MapUid) (rows : List MapRecord) → find (λ x. x.uid == uid.0) rows ≡ None → filter (λ x. not (has_map_uid x.uid (uid ∷ []))) rows ≡ rows
 none_dropped uid rows e = sym (filter_agree (λ x. not (x.uid == uid.0)) (λ x. not (has_map_uid x.uid (uid ∷ []))) (kept_same uid) rows) ∙ all_kept uid rows (found_none (λ x. x.uid == uid.0) rows e)
