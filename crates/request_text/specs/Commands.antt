@@ -20,7 +20,7 @@ words_of command.Version = codes "--version" ∷ []
 abbrev pub IsInRange : Command → Type 0
 IsInRange (command.Init id) = (length id.0 ≡ 8) × IsOctets id.0
 IsInRange (command.List name) = IsName name
-IsInRange (command.Flag name uid flags) = IsName name × (IsNumber uid.0 × (flags ≤ 31))
+IsInRange (command.Flag name uid flags) = IsName name × IsNumber uid.0 × (flags ≤ 31)
 IsInRange command.Dump = Unit {0}
 IsInRange command.LogDump = Unit {0}
 IsInRange command.Help = Unit {0}

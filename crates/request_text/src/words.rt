@@ -1,5 +1,5 @@
 // The command that words say.
-ghost use Rattle.std.specs.Prelude.{◌≡◌, ◌≢◌, ◌≤◌, ◌∷◌, [], ℕ, map, codes, string_bytes, IsErr, IsErrOf, IfOk, IfSome, IsNone};
+ghost use Rattle.std.specs.Prelude.{◌≡◌, ◌≢◌, ◌≤◌, ◌∷◌, [], ℕ, map, codes, string_bytes, IsErr, IsErrOf, IfOk, IfSome, IfNone};
 ghost use Rattle.mdbox_base.specs.Numbers.{decimal_text};
 ghost use Rattle.mdbox_base.specs.Words.{IsName, IsNumber};
 ghost use Rattle.request_text.specs.Commands.{Says, SaysOnly, SayNothing, NamesMailbox};
@@ -24,7 +24,7 @@ pub enum WordsError {
 pub fn read_words(alloc: Global, words: &[String]) -> Result<Command, WordsError>
     ensures says { IfOk result (SaysOnly (map string_bytes words.now)) }
     ensures usage { IsErrOf result words_error.Usage → SayNothing (map string_bytes words.now) }
-    ensures memory { IsErrOf result words_error.NoMemory → (command : Command) × (NamesMailbox command × SaysOnly (map string_bytes words.now) command) }
+    ensures memory { IsErrOf result words_error.NoMemory → (command : Command) × NamesMailbox command × SaysOnly (map string_bytes words.now) command }
 {
     match words {
         [word] => read_one(word.as_str()),
@@ -59,7 +59,7 @@ fn read_one(word: &str) -> Result<Command, WordsError>
 fn read_two(alloc: Global, verb: &str, word: &[u8]) -> Result<Command, WordsError>
     ensures says { IfOk result (Says (verb.now ∷ word.now ∷ [])) }
     ensures usage { IsErrOf result words_error.Usage → SayNothing (verb.now ∷ word.now ∷ []) }
-    ensures memory { IsErrOf result words_error.NoMemory → (command : Command) × (NamesMailbox command × Says (verb.now ∷ word.now ∷ []) command) }
+    ensures memory { IsErrOf result words_error.NoMemory → (command : Command) × NamesMailbox command × Says (verb.now ∷ word.now ∷ []) command }
 {
     match verb {
         "init" => read_init(word),
@@ -100,7 +100,7 @@ fn read_four(
 ) -> Result<Command, WordsError>
     ensures says { IfOk result (Says (verb.now ∷ name.now ∷ uid.now ∷ flags.now ∷ [])) }
     ensures usage { IsErrOf result words_error.Usage → SayNothing (verb.now ∷ name.now ∷ uid.now ∷ flags.now ∷ []) }
-    ensures memory { IsErrOf result words_error.NoMemory → (command : Command) × (NamesMailbox command × Says (verb.now ∷ name.now ∷ uid.now ∷ flags.now ∷ []) command) }
+    ensures memory { IsErrOf result words_error.NoMemory → (command : Command) × NamesMailbox command × Says (verb.now ∷ name.now ∷ uid.now ∷ flags.now ∷ []) command }
 {
     match verb {
         "flag" => read_flag(alloc, name, uid, flags),
@@ -112,7 +112,7 @@ fn read_four(
 fn read_flag(alloc: Global, name: &[u8], uid: &[u8], flags: &[u8]) -> Result<Command, WordsError>
     ensures says { IfOk result (Says (codes "flag" ∷ name.now ∷ uid.now ∷ flags.now ∷ [])) }
     ensures usage { IsErrOf result words_error.Usage → SayNothing (codes "flag" ∷ name.now ∷ uid.now ∷ flags.now ∷ []) }
-    ensures memory { IsErrOf result words_error.NoMemory → (command : Command) × (NamesMailbox command × Says (codes "flag" ∷ name.now ∷ uid.now ∷ flags.now ∷ []) command) }
+    ensures memory { IsErrOf result words_error.NoMemory → (command : Command) × NamesMailbox command × Says (codes "flag" ∷ name.now ∷ uid.now ∷ flags.now ∷ []) command }
 {
     let Some(uid) = read_uid(uid) else {
         return Err(WordsError::Usage);
@@ -124,23 +124,19 @@ fn read_flag(alloc: Global, name: &[u8], uid: &[u8], flags: &[u8]) -> Result<Com
     Ok(Command::Flag { name, uid, flags })
 }
 
-/// The UID that this word names.
+/// The UID that this word names, from 1 to 4,294,967,294.
 fn read_uid(word: &[u8]) -> Option<Uid>
-    ensures some { IfSome result (λ uid. (word.now ≡ decimal_text uid.0) × IsNumber uid.0) }
-    ensures none { IsNone result → (uid : ℕ) → IsNumber uid → word.now ≢ decimal_text uid }
+    ensures some { IfSome result (λ uid. IsNumber uid.0 × (word.now ≡ decimal_text uid.0)) }
+    ensures none { IfNone result ((uid : ℕ) → IsNumber uid → word.now ≢ decimal_text uid) }
 {
     let number = u32::try_from(read_decimal(word)?).ok()?;
-    if is_number(number) {
-        Some(Uid(number))
-    } else {
-        None
-    }
+    is_number(number).then_some(Uid(number))
 }
 
-/// The flags whose bits this word names.
+/// The flags whose bits this word names, 0 to 31.
 fn read_flags(word: &[u8]) -> Option<Flags>
-    ensures some { IfSome result (λ flags. (word.now ≡ decimal_text flags) × (flags ≤ 31)) }
-    ensures none { IsNone result → (flags : ℕ) → flags ≤ 31 → word.now ≢ decimal_text flags }
+    ensures some { IfSome result (λ flags. (flags ≤ 31) × (word.now ≡ decimal_text flags)) }
+    ensures none { IfNone result ((flags : ℕ) → flags ≤ 31 → word.now ≢ decimal_text flags) }
 {
     let bits = u8::try_from(read_decimal(word)?).ok()?;
     flags_of(bits)
