@@ -1,2 +1,11 @@
+pub mod BestLemmas
+pub mod DerivedListLemmas
+pub mod EditLemmas
+pub mod KeyLemmas
+pub mod LookupLemmas
 pub mod MemberLemmas
+pub mod NearLemmas
 pub mod OrderLemmas
+pub mod RegionLemmas
+pub mod SearchLemmas
+pub mod TableLemmas

@@ -5,6 +5,7 @@ pub use order::{Order, OrderKey};
 pub use rows::{MapRow, Record};
 pub use table::Table;
 
+mod edits;
 mod keys;
 mod named;
 mod order;

@@ -135,10 +135,8 @@ impl Table {
         ensures { option_map meant_record (option_copied result) ≡ find (λ row. bytes_eq row.guid guid.0) self.now.records }
     {
         self.by_guid.known_facts();
-        match self.by_guid.uid_of(guid_number(guid)) {
-            Some(uid) => self.find(uid),
-            None => None,
-        }
+        let uid = self.by_guid.uid_of(guid_number(guid))?;
+        self.find(uid)
     }
 
     /// Whether no record has this GUID.
@@ -154,9 +152,11 @@ impl Table {
     {
         self.by_place.known_facts();
         let uid = self.by_place.first_from(place_number(file.0, u64::from(from)))?;
-        match self.find(uid) {
-            Some(record) if record.row.file.0 == file.0 => Some(record),
-            _ => None,
+        let record = self.find(uid)?;
+        if record.row.file.0 == file.0 {
+            Some(record)
+        } else {
+            None
         }
     }
 
@@ -164,6 +164,7 @@ impl Table {
     pub fn last_in_file(&self, file: FileNo) -> Option<&Record>
         ensures { option_map meant_record (option_copied result) ≡ last_ending file.0 self.now.records }
     {
+        self.known_facts();
         self.last_before(file.0, OFFSETS)
     }
 
@@ -175,9 +176,11 @@ impl Table {
     {
         self.by_place.known_facts();
         let uid = self.by_place.last_below(place_number(file, offset))?;
-        match self.find(uid) {
-            Some(record) if record.row.file.0 == file => Some(record),
-            _ => None,
+        let record = self.find(uid)?;
+        if record.row.file.0 == file {
+            Some(record)
+        } else {
+            None
         }
     }
 
@@ -185,6 +188,7 @@ impl Table {
     pub fn is_free(&self, file: u32, offset: u32, size: u32) -> bool
         ensures { IsTrue result ↔ All (λ row. row.file ≡ file → IsApart offset size row) self.now.records }
     {
+        self.known_facts();
         let end = (u64::from(offset) + u64::from(size)).min(OFFSETS);
         match self.last_before(file, end) {
             Some(record) => record.row.end() <= u64::from(offset),

@@ -1,13 +1,15 @@
-// Changes of the records. None can fail.
+// Changes of the records, none of which can fail.
 ghost use Rattle.std.specs.Prelude.{◌≡◌, ◌-◌, ◌≤◌, ◌∷◌, ◌++◌, [], length, map, filter, not, All};
 ghost use Rattle.model_meaning.specs.MapMeaning.{record_changed, has_map_uid, moved_record, place_given};
 ghost use Rattle.mdbox_base.specs.declared.entries.MapEntry.TheVariants as entry;
 ghost use Rattle.map_rows.specs.Lookups.{meant_record};
 
 use super::Table;
-use crate::keys::{guid_key, place_key};
-use crate::rows::{MapRow, Record, place_with_uid};
-use mdbox_base::{FileNo, MapCount, MapPlace, MapUid};
+use crate::edits;
+use crate::keys::{guid_key, place_key, place_number};
+use crate::order::OrderKey;
+use crate::rows::Record;
+use mdbox_base::{MapCount, MapPlace, MapUid};
 
 impl Table {
     ghost use Rattle.map_rows.specs.TableKept.{FitsBehind, FitsMoved};
@@ -19,10 +21,8 @@ impl Table {
         requires instance_room { length record.instances ≤ self.old.instance_room }
         ensures { self.new ≡ record { records = self.old.records ++ meant_record record ∷ []; record_room = self.old.record_room - 1; instance_room = self.old.instance_room - length record.instances } }
     {
-        let key = guid_key(&record);
-        self.by_guid.add(key);
-        let place = place_key(&record);
-        self.by_place.add(place);
+        self.by_guid.add(guid_key(&record));
+        self.by_place.add(place_key(&record));
         self.instance_room -= record.instances.length();
         self.room -= 1;
         self.records.push_reserved(record);
@@ -33,44 +33,30 @@ impl Table {
         requires { All (λ row. uid.0 ≡ row.uid → row.count ≤ 65534) self.old.records }
         ensures { self.new ≡ record self.old { records = map (record_changed (entry.U uid)) self.old.records } }
     {
-        if let Some(record) = self.find(uid) {
-            let count = record.row.count.saturating_add(1);
-            self.set_count(MapCount { uid, count });
-        }
+        edits::raise(&mut self.records, uid);
     }
 
     /// Lowers the count of a record by one, if there is one of this map uid.
     pub fn lower(&mut self, uid: MapUid)
         ensures { self.new ≡ record self.old { records = map (record_changed (entry.D (uid ∷ []))) self.old.records } }
     {
-        if let Some(record) = self.find(uid) {
-            let count = record.row.count.saturating_sub(1);
-            self.set_count(MapCount { uid, count });
-        }
+        edits::lower(&mut self.records, uid);
     }
 
     /// Sets the count of a record, if there is one of this map uid.
     pub fn set_count(&mut self, given: MapCount)
         ensures { self.new ≡ record self.old { records = map (record_changed (entry.T (given ∷ []))) self.old.records } }
     {
-        let place = place_with_uid(&self.records, given.uid);
-        if place < self.records.len() {
-            let old = self.records[place].row;
-            let row = MapRow {
-                count: given.count,
-                ..old
-            };
-            self.records[place].row = row;
-        }
+        edits::set_count(&mut self.records, given);
     }
 
     /// Removes a record, if there is one of this map uid. Room stays.
     pub fn drop_one(&mut self, uid: MapUid)
         ensures { self.new ≡ record self.old { records = filter (λ row. not (has_map_uid row.uid (uid ∷ []))) self.old.records } }
     {
-        let place = place_with_uid(&self.records, uid);
-        if place < self.records.len() {
-            let record = self.records.remove(place);
+        self.by_guid.known_facts();
+        self.by_place.known_facts();
+        if let Some(record) = edits::take_out(&mut self.records, uid) {
             self.by_guid.remove(guid_key(&record).number);
             self.by_place.remove(place_key(&record).number);
         }
@@ -81,17 +67,16 @@ impl Table {
         requires { FitsMoved self.old.records target given }
         ensures { self.new ≡ record self.old { records = map (λ row. moved_record row target (place_given row.uid (given ∷ []))) self.old.records } }
     {
-        let place = place_with_uid(&self.records, given.uid);
-        if place < self.records.len() {
-            let old = self.records[place].row;
-            let row = MapRow {
-                file: FileNo(target),
-                offset: given.offset,
-                ..old
+        if let Some(record) = self.find(given.uid) {
+            let old = place_key(record).number;
+            let new = OrderKey {
+                number: place_number(target, u64::from(given.offset)),
+                uid: given.uid,
             };
-            self.by_place.remove(place_key(&self.records[place]).number);
-            self.records[place].row = row;
-            self.by_place.add(place_key(&self.records[place]));
+            self.by_place.known_facts();
+            self.by_place.remove(old);
+            self.by_place.add(new);
+            edits::move_one(&mut self.records, target, given);
         }
     }
 }
