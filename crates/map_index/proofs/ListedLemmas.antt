@@ -33,9 +33,15 @@ fold_end F rows [] (suc k) le = refl
 fold_end F rows (x ∷ xs) zero le = absurd (omega (arith, le))
 fold_end F rows (x ∷ xs) (suc k) le = fold_end F rows xs k (omega (arith, le))
 
+abbrev table_of : List MapRecord → ℕ → ℕ → TableValue
+table_of rows records instances = record { records = rows; record_room = records; instance_room = instances }
+
+tables_same : (rows others : List MapRecord) (a b c d : ℕ) → rows ≡ others → a ≡ b → c ≡ d → table_of rows a c ≡ table_of others b d
+tables_same rows others a b c d p q r = cc (p, q, r)
+
 -- the table with other records, and room as before
 pub same_table : (t u : TableValue) (rows : List MapRecord) → t.records ≡ rows → t.record_room ≡ u.record_room → t.instance_room ≡ u.instance_room → t ≡ record u { records = rows }
-same_table t u rows p q r = cc (p, q, r)
+same_table t u rows p q r = tables_same t.records rows t.record_room u.record_room t.instance_room u.instance_room p q r
 
 unequal : (a b : ℕ) → a ≢ b → (a == b) ≡ false
 unequal a b h = grind (arith, nat_tests, h)
@@ -137,8 +143,5 @@ dropped_each (uid ∷ uids) rows = dropped_each uids (filter (keeps uid) rows) �
 
 -- ---- for the calls
 
-abbrev table_of : List MapRecord → ℕ → ℕ → TableValue
-table_of rows records instances = record { records = rows; record_room = records; instance_room = instances }
-
 pub table_is : (t : TableValue) (rows : List MapRecord) (records instances : ℕ) → t.records ≡ rows → t.record_room ≡ records → t.instance_room ≡ instances → t ≡ record { records = rows; record_room = records; instance_room = instances }
-table_is t rows records instances p q r = cc (p, q, r)
+table_is t rows records instances p q r = tables_same t.records rows t.record_room records t.instance_room instances p q r

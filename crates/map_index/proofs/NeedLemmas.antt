@@ -108,9 +108,9 @@ still_fits rows target p q rise fp fq less apart =
     ] in (
       fq.0,
       found,
-      fq.2.0,
+      fq.2,
       All-map (λ (o : MapRecord). o.file ≡ target → IsApart q.offset fq.0.size o) (moves target p) rows
-          (λ k d lt. free_step target p q fp.0.size fq.0.size _ (p.uid.0 == _) (fq.2.1 k d lt) (λ e. ap (λ (r : MapRecord). r.size) (only k d lt (equal _ p.uid.0 (sym (equal_is p.uid.0 _ e))))) away),
+          (λ k d lt. free_step target p q fp.0.size fq.0.size _ (p.uid.0 == _) (fq.3 k d lt) (λ e. ap (λ (r : MapRecord). r.size) (only k d lt (equal _ p.uid.0 (sym (equal_is p.uid.0 _ e))))) away),
     )
 
 -- places that are free and apart can be given one after another
@@ -130,7 +130,7 @@ can_move_each rows target (p ∷ places) rise list fit apart =
 
 target_fits : (m : MapMeaning) (file target : ℕ) (places : List MapPlace) → AllPairs Rises m.records → AllPairs (λ a b. a < b) (map (λ (p : MapPlace). p.uid.0) places) → FitsTarget m file target places → CanMoveEach m.records target places
 target_fits m file target [] rise list f = tt
-target_fits m file target (p ∷ places) rise list f = can_move_each m.records target (p ∷ places) rise list f.2 f.3
+target_fits m file target (p ∷ places) rise list f = can_move_each m.records target (p ∷ places) rise list (λ k d lt. let h = f.2 k d lt in (h.0, h.1, h.2.0, h.2.1)) f.3
 
 -- ---- each entry
 

@@ -203,6 +203,12 @@ impl MapIndex {
         ensures end { option_map_or (λ row. row.offset + row.size) result 0 ≡ greatest (region_end file.0) self.now.meaning.records }
         ensures some { is_some result ≡ list_any (λ row. row.file == file.0) self.now.meaning.records }
     {
+        self.last_row(file)
+    }
+
+    fn last_row(&self, file: FileNo) -> Option<MapRow>
+        ensures { result ≡ option_map shown_record (last_record self.now.meaning file.0) }
+    {
         self.records.last_in_file(file).map(|record| record.row)
     }
 

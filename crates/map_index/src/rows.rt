@@ -36,7 +36,12 @@ pub fn with_number(boxes: &[Mailbox], number: BoxNo) -> Option<&Mailbox>
     requires { AllPairs (λ a b. a.at.number.0 < b.at.number.0) boxes.now }
     ensures { option_copied result ≡ find (λ b. b.at.number.0 == number.0) boxes.now }
 {
-    boxes.get(place_with_number(boxes, number))
+    let place = place_with_number(boxes, number);
+    if place < boxes.len() {
+        Some(&boxes[place])
+    } else {
+        None
+    }
 }
 
 /// The first mailbox with this name.

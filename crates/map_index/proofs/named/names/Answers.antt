@@ -8,4 +8,4 @@ pub returns : goal.returns
 returns g c =
     let by_key = c.binary_search_by_key.ensures.position g.T.NamesRecord.uid_of (answers_always _ _ _ (λ f a r h called. search rules)) in
     let rise = pairs_unmap (λ (a b : ℕ). a < b) g.T.NamesRecord.uid_of c.args.items.now (AllPairs-from_increasing _ c.requires) in
-    c.is_ok.ensures ∙ any_searched g.T.NamesRecord.uid_of c.args.items.now c.args.uid.0 rise c.binary_search_by_key.result c.binary_search_by_key.ensures.bound by_key
+    c.is_ok.ensures.value ∙ any_searched g.T.NamesRecord.uid_of c.args.items.now c.args.uid.0 rise c.binary_search_by_key.result c.binary_search_by_key.ensures.bound by_key

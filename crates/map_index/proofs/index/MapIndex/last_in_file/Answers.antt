@@ -1,17 +1,13 @@
-use Rattle.std.proofs.Common.{◌≡◌, ◌+◌, ◌∙◌, ap, Option, None}
-use Rattle.std.specs.Option.{is_some, option_map, option_map_or}
+use Rattle.std.proofs.Common.{◌+◌, ◌∙◌, ap, Option, None}
+use Rattle.std.specs.Option.{is_some, option_map_or}
 use Rattle.map_rows.specs.declared.rows.MapRow.{MapRow}
-use Rattle.map_index.specs.Shown.{shown_record, last_record}
+use Rattle.map_index.specs.Shown.{last_record}
 use Rattle.map_index.proofs.LastLemmas.{end_shown, last_ends, some_shown, last_is_some}
-use Rattle.map_index.proofs.ShownLemmas.{row_shown}
-use Rattle.map_index.specs.Value.{MapIndexValue}
 use Rattle.map_index.proofs.index.MapIndex.last_in_file.Goals as goal
 
 pub returns : goal.returns
-returns c =
-    let row : c.map.result ≡ option_map shown_record (last_record c.args.self.now.meaning c.args.file.0) = c.map.ensures ∙ row_shown _ _ (c.last_in_file.ensures ∙ ap (λ (v : MapIndexValue). last_record v.meaning c.args.file.0) c.self.view_is) in
-    record {
-      row = row;
-      end = ap (λ (o : Option MapRow). option_map_or (λ (r : MapRow). r.offset + r.size) o 0) row ∙ end_shown (last_record c.args.self.now.meaning c.args.file.0) ∙ last_ends c.args.file.0 c.args.self.now.meaning.records None;
-      some = ap (λ (o : Option MapRow). is_some o) row ∙ some_shown (last_record c.args.self.now.meaning c.args.file.0) ∙ last_is_some c.args.file.0 c.args.self.now.meaning.records None;
-    }
+returns c = record {
+  row = c.last_row.ensures;
+  end = ap (λ (o : Option MapRow). option_map_or (λ (r : MapRow). r.offset + r.size) o 0) c.last_row.ensures ∙ end_shown (last_record c.args.self.now.meaning c.args.file.0) ∙ last_ends c.args.file.0 c.args.self.now.meaning.records None;
+  some = ap (λ (o : Option MapRow). is_some o) c.last_row.ensures ∙ some_shown (last_record c.args.self.now.meaning c.args.file.0) ∙ last_is_some c.args.file.0 c.args.self.now.meaning.records None;
+}
