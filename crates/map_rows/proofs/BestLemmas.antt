@@ -22,8 +22,8 @@ stays_at keeps step best x k (inr h) = k.more best x ∙ ap (λ (b : Bool). cond
 
 stay_step : {X : Type 0} → (keeps : X → X → Bool) (step : Option X → X → Option X) (p : X → Bool) (best x : X) (xs : List X) (b : Bool) → p x ≡ b → IsKeeping keeps step → IsNoBetter keeps p best x
     → fold step (Some best) (filter p xs) ≡ Some best → fold step (Some best) (cond b (x ∷ filter p xs) (filter p xs)) ≡ Some best
-stay_step keeps step p best x xs true h k no rest = ap (λ (o : Option _). fold step o (filter p xs)) (stays_at keeps step best x k (no h)) ∙ rest
-stay_step keeps step p best x xs false h k no rest = rest
+stay_step keeps step p best x xs true h k less rest = ap (λ (o : Option _). fold step o (filter p xs)) (stays_at keeps step best x k (less h)) ∙ rest
+stay_step keeps step p best x xs false h k less rest = rest
 
 stays : {X : Type 0} → (keeps : X → X → Bool) (step : Option X → X → Option X) (p : X → Bool) (best : X) (xs : List X) → IsKeeping keeps step → All (IsNoBetter keeps p best) xs → fold step (Some best) (filter p xs) ≡ Some best
 stays keeps step p best [] k a = refl
@@ -57,10 +57,10 @@ other_comes keeps step best x ys o k w (inr h) stay rest = rest (step o x) (wors
 best_step : {X : Type 0} → (keeps : X → X → Bool) (step : Option X → X → Option X) (p q : X → Bool) (best x : X) (xs : List X) (o : Option X) (b c : Bool) → q x ≡ b → p x ≡ c → IsKeeping keeps step → IsWorse keeps best o → p best ≡ true → IsNoBetter keeps p best x
     → fold step (Some best) (filter p xs) ≡ Some best → (find q xs ≡ Some best → (r : Option X) → IsWorse keeps best r → fold step r (filter p xs) ≡ Some best)
     → cond b (Some x) (find q xs) ≡ Some best → fold step o (cond c (x ∷ filter p xs) (filter p xs)) ≡ Some best
-best_step keeps step p q best x xs o true true hq hp k w pb no stay rest f = it_comes keeps step best x (filter p xs) o k w (let e : Some x ≡ Some best = f in cc e) stay
-best_step keeps step p q best x xs o true false hq hp k w pb no stay rest f = let e : x ≡ best = cc f in absurd (let h : true ≡ false = sym pb ∙ ap p (sym e) ∙ hp in cc h)
-best_step keeps step p q best x xs o false true hq hp k w pb no stay rest f = other_comes keeps step best x (filter p xs) o k w (no hp) stay (rest f)
-best_step keeps step p q best x xs o false false hq hp k w pb no stay rest f = rest f o w
+best_step keeps step p q best x xs o true true hq hp k w pb less stay rest f = it_comes keeps step best x (filter p xs) o k w (let e : Some x ≡ Some best = f in cc e) stay
+best_step keeps step p q best x xs o true false hq hp k w pb less stay rest f = let e : x ≡ best = cc f in absurd (let h : true ≡ false = sym pb ∙ ap p (sym e) ∙ hp in cc h)
+best_step keeps step p q best x xs o false true hq hp k w pb less stay rest f = other_comes keeps step best x (filter p xs) o k w (less hp) stay (rest f)
+best_step keeps step p q best x xs o false false hq hp k w pb less stay rest f = rest f o w
 
 -- the best of what passes is what the fold keeps
 pub best_kept : {X : Type 0} → (keeps : X → X → Bool) (step : Option X → X → Option X) (p q : X → Bool) (best : X) (xs : List X) (o : Option X) → IsKeeping keeps step → IsWorse keeps best o → find q xs ≡ Some best → p best ≡ true → All (IsNoBetter keeps p best) xs → fold step o (filter p xs) ≡ Some best

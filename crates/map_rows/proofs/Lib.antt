@@ -4,6 +4,7 @@ pub mod EditLemmas
 pub mod KeyLemmas
 pub mod LookupLemmas
 pub mod MemberLemmas
+pub mod NameLemmas
 pub mod NearLemmas
 pub mod OrderLemmas
 pub mod RegionLemmas

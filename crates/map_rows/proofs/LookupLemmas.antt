@@ -1,29 +1,28 @@
 -- What a search in an order of the table finds is what the definitions name.
-use Rattle.std.specs.Prelude.{◌⊎◌, nat_le, nat_lt, AllPairs}
-use Rattle.std.specs.Prelude.{◌↔◌, IsTrue, is_none}
+use Rattle.std.specs.Prelude.{nat_le, nat_lt, AllPairs}
+use Rattle.std.specs.Prelude.{◌↔◌, IsTrue, is_some, not}
 use Rattle.std.specs.Option.{option_map, option_copied}
 use Rattle.std.specs.Str.{bytes_eq}
-use Rattle.std.proofs.Common.{◌≡◌, ◌≢◌, ◌+◌, ◌*◌, ◌<◌, ◌≤◌, ◌==◌, ◌&&◌, ◌||◌, ℕ, Bool, true, false, cond, Option, Some, None, List, [], ◌∷◌, length, filter, find, All, refl, sym, ◌∙◌, ap, subst, inl, inr, arith}
+use Rattle.std.proofs.Common.{◌≡◌, ◌≢◌, ◌+◌, ◌<◌, ◌≤◌, ◌==◌, ◌&&◌, ◌||◌, ℕ, Bool, true, false, cond, Option, Some, None, List, [], ◌∷◌, length, get_or, filter, find, All, refl, sym, ◌∙◌, ap, subst, inl, inr, arith}
 use Rattle.std.proofs.lemmas.Bool.{cases_lt, cases_eq}
 use Rattle.std.proofs.lemmas.Bool.Decides.{nat_tests}
-use Rattle.std.proofs.lemmas.List.Elements.{All-nil, All-cons, All-head, All-tail, All-weaker}
+use Rattle.std.proofs.lemmas.List.Elements.{All-head, All-tail, All-weaker}
 use Rattle.mdbox_base.specs.Words.{IsOctets}
 use Rattle.mdbox_base.specs.declared.ids.MapUid.{MapUid}
 use Rattle.std.specs.Borrow.{Bor}
 use Rattle.model_octets.proofs.PairLemmas.{pairs_head, pairs_tail, found_holds, found_among}
 use Rattle.model_octets.proofs.SearchLemmas.{found_none, text_is, text_yes}
 use Rattle.model_meaning.specs.MapMeaning.{MapRecord}
-use Rattle.model_meaning.specs.MapFits.{IsApart}
 use Rattle.map_rows.specs.declared.order.OrderKey.{OrderKey}
 use Rattle.map_rows.specs.declared.rows.Record.{Record}
 use Rattle.map_rows.specs.Keys.{guid_number, guid_key, place_number, place_key}
-use Rattle.map_rows.specs.Lookups.{meant_record, is_from, nearer, least, later, last_ending, IsLastBefore}
+use Rattle.map_rows.specs.Lookups.{meant_record, is_from, nearer, least, IsLastBefore}
 use Rattle.map_rows.specs.Orders.{NumbersRise, times, AreKeysOf, last_of}
-use Rattle.map_rows.specs.TableKept.{IsTableRow, LieApart, AreTableRows}
+use Rattle.map_rows.specs.TableKept.{IsTableRow, AreTableRows}
 use Rattle.map_rows.proofs.BestLemmas.{IsKeeping, IsNoBetter, best_kept, none_kept}
 use Rattle.map_rows.proofs.KeyLemmas.{guid_test}
-use Rattle.map_rows.proofs.MemberLemmas.{row_found, row_missing, rise_once, found_by, none_counted, both, equal_is, same_number}
-use Rattle.map_rows.proofs.NearLemmas.{all_rows, no_row, key_row, only_one, first_key, last_key, none_below, IsLastKey}
+use Rattle.map_rows.proofs.MemberLemmas.{row_found, row_missing, rise_once, found_by, both, equal_is, same_number}
+use Rattle.map_rows.proofs.NearLemmas.{all_rows, no_row, key_row, only_one, first_key, last_key, none_below}
 
 equal : (a b : ℕ) → a ≡ b → (a == b) ≡ true
 equal a b h = grind (arith, nat_tests, h)
@@ -103,12 +102,14 @@ guid_missing rows keys guid kept are long octets e =
     ∙ row_missing guid_key keys rows (guid_number guid) are (unanswered (find (λ k. k.number == guid_number guid) keys) e)
 
 -- whether a GUID is new
-pub guid_is_new : (rows : List MapRecord) (guid : List ℕ) (o : Option (Bor Record)) (b : Bool) → option_map meant_record (option_copied o) ≡ find (λ r. bytes_eq r.guid guid) rows → b ≡ is_none o → (IsTrue b ↔ All (λ r. r.guid ≢ guid) rows)
-guid_is_new rows guid None b e h =
-    ((λ _. All-weaker (λ r. bytes_eq r.guid guid ≡ false) (λ r. r.guid ≢ guid) (λ r no same. (let w : false ≡ true = sym no ∙ text_yes r.guid guid same in cc w)) rows (found_none (λ r. bytes_eq r.guid guid) rows (sym e))), λ _. h)
-guid_is_new rows guid (Some x) b e h =
+pub guid_is_new : (rows : List MapRecord) (guid : List ℕ) (o : Option (Bor Record)) (b : Bool) → option_map meant_record (option_copied o) ≡ find (λ r. bytes_eq r.guid guid) rows → is_some o ≡ not b → (IsTrue b ↔ All (λ r. r.guid ≢ guid) rows)
+guid_is_new rows guid None true e h =
+    ((λ _. All-weaker (λ r. bytes_eq r.guid guid ≡ false) (λ r. r.guid ≢ guid) (λ r none same. (let w : false ≡ true = sym none ∙ text_yes r.guid guid same in cc w)) rows (found_none (λ r. bytes_eq r.guid guid) rows (sym e))), λ _. refl)
+guid_is_new rows guid None false e h = absurd (let w : false ≡ true = h in cc w)
+guid_is_new rows guid (Some x) true e h = absurd (let w : true ≡ false = h in cc w)
+guid_is_new rows guid (Some x) false e h =
     let hit = found_holds (λ r. bytes_eq r.guid guid) rows (meant_record x.now) (λ r. r.guid ≢ guid) (sym e) in
-    ((λ t. absurd (let w : false ≡ true = sym h ∙ t in cc w)), λ a. absurd ((hit a).0 (text_is (meant_record x.now).guid guid (hit a).1)))
+    ((λ t. absurd (let w : false ≡ true = t in cc w)), λ a. absurd ((hit a).0 (text_is (meant_record x.now).guid guid (hit a).1)))
 
 -- ---- places
 
@@ -226,15 +227,15 @@ first_elsewhere rows keys file from u r kept are rise e found other =
     beyond : (m : ℕ) (r x : MapRecord) → number_of r ≡ m → place_number file from ≤ m → r.offset < 4294967296 → r.file ≢ file → (nat_lt (number_of x) (place_number file from) || nat_le m (number_of x)) ≡ true → IsTableRow x → is_from file from x ≡ false
     beyond m r x number low short other first row =
         passes_not file from x (λ f o.
-          let l : m ≤ number_of x = from_first (number_of x) m (place_number file from) first (omega (arith, f, o)) in
-          let ends = row.ends in
-          omega (arith, number, low, short, other, l, f, ends))
+        let l : m ≤ number_of x = from_first (number_of x) m (place_number file from) first (omega (arith, f, o)) in
+        let ends = row.ends in
+        omega (arith, number, low, short, other, l, f, ends))
 
 pub first_none : (rows : List MapRecord) (keys : List OrderKey) (file from : ℕ) → AreKeysOf place_key keys rows → None ≡ option_map (λ (k : OrderKey). k.uid) (find (λ k. nat_le (place_number file from) k.number) keys) → least (filter (is_from file from) rows) ≡ None
 first_none rows keys file from are e =
     let n = place_number file from in
     let none = no_row place_key keys rows (λ k. nat_le n k.number) are (unanswered (find (λ k. nat_le n k.number) keys) e) in
-    none_kept nearer (is_from file from) rows (λ i d lt. below _ (none i d lt))
+    none_kept nearer (is_from file from) rows (λ i d lt. below (get_or rows i d) (none i d lt))
   where
     below : (x : MapRecord) → nat_le (place_number file from) (number_of x) ≡ false → is_from file from x ≡ false
     below x h = passes_not file from x (λ f o. let l = not_le_is (place_number file from) (number_of x) h in omega (arith, l, f, o))
@@ -257,7 +258,7 @@ last_here rows keys file offset u r kept are rise e found here =
     let uid = uid_is rows u.0 r found in
     record {
       there = subst (λ (v : ℕ). find (λ x. x.uid == v) rows ≡ Some r) (sym uid) found;
-      file = here;
+      in_file = here;
       below = omega (arith, below, number, here);
       others = λ i d lt. lesser a.key.number r _ here number (all i d lt) (only i d lt);
     }
@@ -289,7 +290,7 @@ last_elsewhere rows keys file offset u r kept are rise most e found other =
     let below = last.1 in
     let all = all_rows place_key keys rows (λ k. nat_le n k.number || nat_le k.number a.key.number) are last.2 in
     let short : r.offset + r.size ≤ 4294967295 = (found_among (λ x. x.uid == u.0) rows r IsTableRow found kept.each).ends in
-    λ i d lt. behind a.key.number r _ number below (omega (arith, short)) other (all i d lt)
+    λ i d lt. behind a.key.number r (get_or rows i d) number below (omega (arith, short)) other (all i d lt)
   where
     behind : (m : ℕ) (r x : MapRecord) → number_of r ≡ m → m < place_number file offset → r.offset < 4294967296 → r.file ≢ file → (nat_le (place_number file offset) (number_of x) || nat_le (number_of x) m) ≡ true → x.file ≡ file → offset ≤ x.offset
     behind m r x number below short other all f = elim (cases_lt x.offset offset) [
@@ -301,7 +302,7 @@ pub last_none : (rows : List MapRecord) (keys : List OrderKey) (file offset : �
 last_none rows keys file offset are e =
     let n = place_number file offset in
     let all = all_rows place_key keys rows (λ k. nat_le n k.number) are (none_below n keys (unanswered (last_of (filter (λ k. nat_lt k.number n) keys)) e)) in
-    λ i d lt. behind _ (all i d lt)
+    λ i d lt. behind (get_or rows i d) (all i d lt)
   where
     behind : (x : MapRecord) → nat_le (place_number file offset) (number_of x) ≡ true → x.file ≡ file → offset ≤ x.offset
     behind x h f = let l = le_is (place_number file offset) (number_of x) h in omega (arith, l, f)

@@ -1,5 +1,5 @@
 -- Namings of instances: how many there are after a change, and what is named.
-use Rattle.std.specs.Prelude.{◌⊎◌, AllPairs, insert, remove, flat_map, is_some, ◌↔◌, IsTrue}
+use Rattle.std.specs.Prelude.{AllPairs, insert, remove, flat_map, is_some, ◌↔◌, IsTrue}
 use Rattle.std.specs.Borrow.{Bor}
 use Rattle.std.specs.List.{list_any}
 use Rattle.std.specs.Option.{option_map, option_copied}
@@ -9,19 +9,26 @@ use Rattle.std.specs.List.Sorted.{IsSearchInRange, IsBinarySearchResult}
 use Rattle.std.specs.Ordering.{nat_cmp}
 use Rattle.std.proofs.lemmas.Cmp.{ranked}
 use Rattle.mdbox_base.specs.Words.{IsOctets}
-use Rattle.std.proofs.Common.{Result, Ok, Err, ◌≡◌, ◌≢◌, ◌+◌, ◌-◌, ◌<◌, ◌≤◌, ◌==◌, ◌&&◌, ◌||◌, ◌++◌, ℕ, zero, suc, Bool, true, false, not, cond, Option, Some, None, List, [], ◌∷◌, length, get_or, set, take, drop, find, filter, map, slice_get, All, refl, sym, ◌∙◌, ap, subst, inl, inr, arith}
-use Rattle.std.proofs.lemmas.Bool.{cases_lt, cases_eq}
-use Rattle.std.proofs.lemmas.Bool.Decides.{nat_tests}
-use Rattle.std.proofs.lemmas.List.Elements.{All-nil, All-cons, All-head, All-tail, All-weaker, All-set, All-append, All-take, All-drop, Contains-get_or}
+use Rattle.std.proofs.Common.{Result, Ok, Err, ◌≡◌, ◌+◌, ◌<◌, ◌≤◌, ◌==◌, ◌&&◌, ◌||◌, ◌++◌, ℕ, zero, suc, Bool, true, false, not, cond, Option, Some, None, List, [], ◌∷◌, length, get_or, set, take, drop, find, filter, map, All, refl, sym, ◌∙◌, ap, subst, inl, inr, arith, add-one}
+use Rattle.std.proofs.lemmas.Bool.{cases_lt}
+use Rattle.std.proofs.lemmas.List.Elements.{All-nil, All-cons, All-head, All-tail, All-weaker, All-set, All-append, All-take, All-drop, Contains-get_or, filter_agree}
 use Rattle.std.proofs.lemmas.List.Folds.{list_any_none}
 use Rattle.std.proofs.lemmas.List.Kept.{AllPairs-cons}
 use Rattle.std.proofs.lemmas.List.Quantifiers.{all_pairs_remove}
+use Rattle.mdbox_base.specs.declared.ids.Hash.{Hash}
 use Rattle.mdbox_base.specs.declared.ids.InstId.{InstId}
 use Rattle.mdbox_base.specs.declared.entries.InstRow.{InstRow}
 use Rattle.model_octets.proofs.PairLemmas.{NotBoth, pairs_head, pairs_tail, pairs_nil, found_among, found_holds, found_only}
 use Rattle.model_octets.proofs.SearchLemmas.{found_is, found_none, text_is, text_yes}
 use Rattle.model_meaning.specs.MapMeaning.{MapRecord}
 use Rattle.model_meaning.specs.MapFits.{AgreesOn}
+use Rattle.mdbox_base.specs.declared.ids.MapUid.{MapUid}
+use Rattle.model_meaning.specs.MapMeaning.{has_map_uid}
+use Rattle.map_rows.specs.declared.rows.Record.{Record}
+use Rattle.map_rows.specs.Lookups.{meant_record}
+use Rattle.map_rows.proofs.DerivedListLemmas.{list_any-flat_map}
+use Rattle.map_rows.proofs.LookupLemmas.{uid_once}
+use Rattle.map_rows.proofs.TableLemmas.{kept_same}
 use Rattle.map_rows.specs.declared.names.NamedInstance.{NamedInstance}
 use Rattle.map_rows.specs.Keys.{guid_number}
 use Rattle.map_rows.specs.Named.{namings_of, all_namings, AreNamesOf, is_instance, IsOnlyNaming, IsNaming, AreNamings, IsNamedAt, IsGapFor, instances_of}
@@ -33,8 +40,24 @@ use Rattle.map_rows.proofs.MemberLemmas.{find_counted, none_counted, count_appen
 
 -- ---- one instance
 
+-- some instance, for lists that have none
+abbrev pub no_row : InstRow
+no_row = record { hash = record { 0 = [] }; id = record { 0 = [] }; size = 0 }
+
 abbrev pub worth : (InstRow → Bool) → NamedInstance → ℕ
 worth p n = cond (p n.row) n.namings 0
+
+abbrev row_of : Hash → InstId → ℕ → InstRow
+row_of hash id size = record { hash = hash; id = id; size = size }
+
+abbrev hash_of : List ℕ → Hash
+hash_of octets = record { 0 = octets }
+
+abbrev id_of : List ℕ → InstId
+id_of octets = record { 0 = octets }
+
+same_parts : (a b : InstRow) → b.hash ≡ a.hash → b.id ≡ a.id → b.size ≡ a.size → b ≡ a
+same_parts a b h i s = ap (λ (x : Hash). row_of x b.id b.size) h ∙ ap (λ (x : InstId). row_of a.hash x b.size) i ∙ ap (λ (x : ℕ). row_of a.hash a.id x) s
 
 pub instance_is : (a b : InstRow) → is_instance a b ≡ true → b ≡ a
 instance_is a b h =
@@ -43,7 +66,7 @@ instance_is a b h =
     let i : b.id.0 ≡ a.id.0 = text_is b.id.0 a.id.0 p.0 in
     let k : b.hash.0 ≡ a.hash.0 = text_is b.hash.0 a.hash.0 q.0 in
     let s : b.size ≡ a.size = equal_is b.size a.size q.1 in
-    cc (i, k, s)
+    same_parts a b (ap hash_of k) (ap id_of i) s
 
 pub is_itself : (a : InstRow) → is_instance a a ≡ true
 is_itself a = rw (text_yes a.id.0 a.id.0 refl) (rw (text_yes a.hash.0 a.hash.0 refl) (same_number a.size))
@@ -62,7 +85,7 @@ namings_set p (x ∷ named) (suc at) new d lt = let h = namings_set p named at n
 split_at : (p : InstRow → Bool) (named : List NamedInstance) (at : ℕ) → namings_of p (take at named) + namings_of p (drop at named) ≡ namings_of p named
 split_at p [] zero = refl
 split_at p [] (suc at) = refl
-split_at p (x ∷ named) zero = refl
+split_at p (x ∷ named) zero = omega arith
 split_at p (x ∷ named) (suc at) = let h = split_at p named at in omega (arith, h)
 
 pub namings_insert : (p : InstRow → Bool) (named : List NamedInstance) (at : ℕ) (new : NamedInstance) → namings_of p (insert named at new) ≡ namings_of p named + worth p new
@@ -85,7 +108,7 @@ namings_remove p (x ∷ named) (suc at) d lt = let h = namings_remove p named at
 naming_step : (p : InstRow → Bool) (n : NamedInstance) (named : List NamedInstance) (b : Bool) → p n.row ≡ b → (1 ≤ namings_of p named → (m : NamedInstance) × (find (λ x. p x.row) named ≡ Some m) × (p m.row ≡ true)) → 1 ≤ cond b n.namings 0 + namings_of p named
     → (m : NamedInstance) × (cond b (Some n) (find (λ x. p x.row) named) ≡ Some m) × (p m.row ≡ true)
 naming_step p n named true h rest some = (n, refl, h)
-naming_step p n named false h rest some = rest some
+naming_step p n named false h rest some = rest (omega (arith, some))
 
 pub naming_found : (p : InstRow → Bool) (named : List NamedInstance) → 1 ≤ namings_of p named → (m : NamedInstance) × (find (λ x. p x.row) named ≡ Some m) × (p m.row ≡ true)
 naming_found p [] some = absurd (omega (arith, some))
@@ -279,7 +302,7 @@ agree_turned rows is b h = (
 )
 
 flat_append : {X Y : Type 0} → (p : Y → Bool) (f : X → List Y) (xs : List X) (x : X) → times p (flat_map f (xs ++ x ∷ [])) ≡ times p (flat_map f xs) + times p (f x)
-flat_append p f [] x = count_append p (f x) []
+flat_append p f [] x = let a = count_append p (f x) [] in omega (arith, a)
 flat_append p f (y ∷ xs) x =
     let a = count_append p (f y) (flat_map f (xs ++ x ∷ [])) in
     let b = count_append p (f y) (flat_map f xs) in
@@ -338,11 +361,9 @@ names_kept change (r ∷ rows) same = let h = same r in let t = names_kept chang
 
 only_one_id : (i j : InstRow) → AgreesOn i j → j.id.0 ≡ i.id.0 → j ≡ i
 only_one_id i j agree e =
-    let id : i.id ≡ j.id = ap (λ (o : List ℕ). record { 0 = o }) (sym e) in
+    let id : i.id ≡ j.id = ap id_of (sym e) in
     let a = agree id in
-    let h : i.hash ≡ j.hash = a.0 in
-    let s : i.size ≡ j.size = a.1 in
-    cc (id, h, s)
+    same_parts i j (sym a.0) (sym id) (sym a.1)
 
 -- the instances of a record that fits have no other's id
 pub names_new : (named : List NamedInstance) (rows : List MapRecord) (is : List InstRow) → AreNamings named → AreNamesOf named (instances_of rows) → All (λ other. All (λ i. All (AgreesOn i) other.instances) is) rows → All (λ i. All (IsOnlyNaming i) named) is
@@ -350,6 +371,9 @@ names_new named rows is are names known = λ k d lt.
     all_named (λ j. j.id.0 ≡ (get_or is k d).id.0 → j ≡ get_or is k d) named [] (instances_of rows) are.each (λ p. let a = names p in omega (arith, a)) (All-nil (λ m. m.row.id.0 ≡ (get_or is k d).id.0 → m.row ≡ get_or is k d))
     (All-weaker (AgreesOn (get_or is k d)) (λ j. j.id.0 ≡ (get_or is k d).id.0 → j ≡ get_or is k d) (λ j agree. only_one_id (get_or is k d) j agree) (instances_of rows)
     (all_flat (AgreesOn (get_or is k d)) (λ (row : MapRecord). row.instances) rows (λ m e le. known m e le k d lt)))
+
+pub none_named : (named : List NamedInstance) → named ≡ [] → AreNamings named × (all_namings named ≡ 0)
+none_named named e = subst (λ (xs : List NamedInstance). AreNamings xs × (all_namings xs ≡ 0)) (sym e) (record { rising = pairs_nil (λ a b. a.number < b.number); each = All-nil IsNaming }, refl)
 
 -- ---- places
 
@@ -379,11 +403,11 @@ pub named_gap : (named : List NamedInstance) (id : List ℕ) (at : ℕ) → AreN
 named_gap named id at are gap =
     none_found (λ m. bytes_eq m.row.id.0 id) named
     (λ k d lt. not_true (bytes_eq (get_or named k d).row.id.0 id) (λ e.
-      let same : (get_or named k d).number ≡ guid_number id = (are.each k d lt).number ∙ ap guid_number (text_is (get_or named k d).row.id.0 id e) in
-      elim (cases_lt k at) [
-        | inl before ↦ let l = gap.before k d before in omega (arith, l, same)
-        | inr behind ↦ let l = gap.behind k d behind lt in omega (arith, l, same)
-      ]))
+    let same : (get_or named k d).number ≡ guid_number id = (are.each k d lt).number ∙ ap guid_number (text_is (get_or named k d).row.id.0 id e) in
+    elim (cases_lt k at) [
+      | inl before ↦ let l = gap.before k d before in omega (arith, l, same)
+      | inr behind ↦ let l = gap.behind k d behind lt in omega (arith, l, same)
+    ]))
   where
     not_true : (b : Bool) → (b ≡ true → ⊥) → b ≡ false
     not_true true h = absurd (h refl)
@@ -508,3 +532,91 @@ some_worth p (x ∷ named) (suc at) d lt = let h = some_worth p named at d (omeg
 -- no instance has more namings than there are
 pub namings_within : (named : List NamedInstance) (at : ℕ) (old : NamedInstance) → at < length named → old ≡ get_or named at old → old.namings ≤ all_namings named
 namings_within named at old lt is = let h = some_worth (λ row. true) named at old lt in let e : (get_or named at old).namings ≡ old.namings = ap (λ (n : NamedInstance). n.namings) (sym is) in omega (arith, h, e)
+
+pub same_at : (named : List NamedInstance) (row : InstRow) (at : ℕ) (old : NamedInstance) → AreNamings named → All (IsOnlyNaming row) named → length row.id.0 ≡ 16 → IsOctets row.id.0 → IsNamedAt named (guid_number row.id.0) at → old ≡ get_or named at old → old.row ≡ row
+same_at named row at old are only long octets there is =
+    ap (λ (n : NamedInstance). n.row) is ∙ only at old there.within (id_at row.id.0 (get_or named at old) (are.each at old there.within) long octets (there.is old))
+
+-- ---- one after another
+
+times_more : (p : InstRow → Bool) (xs : List InstRow) (k : ℕ) (d : InstRow) → k < length xs → times p (take (suc k) xs) ≡ times p (take k xs) + times p (get_or xs k d ∷ [])
+times_more p [] k d lt = absurd (omega (arith, lt))
+times_more p (x ∷ xs) zero d lt = omega arith
+times_more p (x ∷ xs) (suc k) d lt = step (p x) _ _ _ (times_more p xs k d (omega (arith, lt)))
+  where
+    step : (b : Bool) (m n o : ℕ) → m ≡ n + o → cond b (1 + m) m ≡ cond b (1 + n) n + o
+    step true m n o e = omega (arith, e)
+    step false m n o e = e
+
+pub one_further : (p : InstRow → Bool) (xs : List InstRow) (k : ℕ) (d : InstRow) → k < length xs → times p (take (k + 1) xs) ≡ times p (take k xs) + times p (get_or xs k d ∷ [])
+one_further p xs k d lt = rw add-one (times_more p xs k d lt)
+
+times_within : (p : InstRow → Bool) (xs : List InstRow) (k : ℕ) → times p (take k xs) ≤ times p xs
+times_within p xs zero = omega arith
+times_within p [] (suc k) = omega arith
+times_within p (x ∷ xs) (suc k) = step (p x) _ _ (times_within p xs k)
+  where
+    step : (b : Bool) (m n : ℕ) → m ≤ n → cond b (1 + m) m ≤ cond b (1 + n) n
+    step true m n e = omega (arith, e)
+    step false m n e = e
+
+pub all_taken : (xs : List InstRow) (k : ℕ) → length xs ≤ k → take k xs ≡ xs
+all_taken [] zero le = refl
+all_taken [] (suc k) le = refl
+all_taken (x ∷ xs) zero le = absurd (omega (arith, le))
+all_taken (x ∷ xs) (suc k) le = ap (λ (ys : List InstRow). x ∷ ys) (all_taken xs k (omega (arith, le)))
+
+front_alike : (rows : List InstRow) (k : ℕ) (d : InstRow) → AllPairs AgreesOn rows → k < length rows → All (λ j. j.id.0 ≡ (get_or rows k d).id.0 → j ≡ get_or rows k d) (take k rows)
+front_alike [] k d agree lt = absurd (omega (arith, lt))
+front_alike (x ∷ rows) zero d agree lt = All-nil (λ j. j.id.0 ≡ x.id.0 → j ≡ x)
+front_alike (x ∷ rows) (suc k) d agree lt =
+    All-cons (λ j. j.id.0 ≡ (get_or rows k d).id.0 → j ≡ get_or rows k d) x (take k rows) (λ e. sym (only_one_id x (get_or rows k d) (pairs_head AgreesOn x rows agree k d (omega (arith, lt))) (sym e)))
+    (front_alike rows k d (pairs_tail AgreesOn x rows agree) (omega (arith, lt)))
+
+-- the next of these instances has no other's id
+pub next_only : (named old : List NamedInstance) (rows : List InstRow) (k : ℕ) (d : InstRow) → AreNamings named → ((p : InstRow → Bool) → namings_of p named ≡ namings_of p old + times p (take k rows)) → All (λ row. All (IsOnlyNaming row) old) rows → AllPairs AgreesOn rows → k < length rows → All (IsOnlyNaming (get_or rows k d)) named
+next_only named old rows k d are names only agree lt =
+    all_named (λ j. j.id.0 ≡ (get_or rows k d).id.0 → j ≡ get_or rows k d) named old (take k rows) are.each (λ p. let e = names p in omega (arith, e)) (only k d lt) (front_alike rows k d agree lt)
+
+-- the next of these instances is still named
+pub next_there : (named old : List NamedInstance) (rows : List InstRow) (k : ℕ) (d : InstRow) → ((p : InstRow → Bool) → namings_of p named + times p (take k rows) ≡ namings_of p old) → ((p : InstRow → Bool) → times p rows ≤ namings_of p old) → k < length rows → 1 ≤ namings_of (is_instance (get_or rows k d)) named
+next_there named old rows k d names within lt =
+    let p = is_instance (get_or rows k d) in
+    let a = names p in
+    let b = within p in
+    let c = times_more p rows k d lt in
+    let e = times_within p rows (suc k) in
+    let one : times p (get_or rows k d ∷ []) ≡ 1 = rw (is_itself (get_or rows k d)) refl in
+    omega (arith, a, b, c, e, one)
+
+-- ---- for the table
+
+pub no_names : (named : List NamedInstance) (records : List Record) → named ≡ [] → records ≡ [] → AreNamesOf named (instances_of (map meant_record records))
+no_names named records e f p = ap (namings_of p) e ∙ sym (ap (λ (rs : List Record). times p (instances_of (map meant_record rs))) f)
+
+-- a change that keeps what each record names
+pub names_changed : (named : List NamedInstance) (rows new : List MapRecord) (change : MapRecord → MapRecord) → new ≡ map change rows → ((r : MapRecord) → (change r).instances ≡ r.instances) → AreNamesOf named (instances_of rows) → AreNamesOf named (instances_of new)
+names_changed named rows new change e same names = subst (AreNamesOf named) (sym (ap instances_of e ∙ names_kept change rows same)) names
+
+pub id_in_records : (named : List NamedInstance) (rows ms : List MapRecord) (id : List ℕ) (o : Option (Bor InstRow)) (b : Bool) → rows ≡ ms → AreNamings named → AreNamesOf named (instances_of rows) → option_copied o ≡ option_map (λ n. n.row) (find (λ m. bytes_eq m.row.id.0 id) named) → b ≡ is_some o → b ≡ list_any (λ row. list_any (λ i. bytes_eq i.id.0 id) row.instances) ms
+id_in_records named rows ms id o b view are names e h =
+    id_named named (instances_of rows) id o b are names e h ∙ list_any-flat_map (λ (i : InstRow). bytes_eq i.id.0 id) (λ (row : MapRecord). row.instances) rows
+    ∙ ap (list_any (λ (row : MapRecord). list_any (λ (i : InstRow). bytes_eq i.id.0 id) row.instances)) view
+
+pub file_in_records : (named : List NamedInstance) (rows ms : List MapRecord) (hash id : List ℕ) (x : InstRow) → rows ≡ ms → AreNamings named → AreNamesOf named (instances_of rows) → Some x ≡ option_map (λ n. n.row) (find (λ m. bytes_eq m.row.id.0 id) named)
+    → bytes_eq x.hash.0 hash ≡ list_any (λ row. list_any (λ i. bytes_eq i.hash.0 hash && bytes_eq i.id.0 id) row.instances) ms
+file_in_records named rows ms hash id x view are names e =
+    file_named named (instances_of rows) id hash x are names e ∙ list_any-flat_map (λ (i : InstRow). bytes_eq i.hash.0 hash && bytes_eq i.id.0 id) (λ (row : MapRecord). row.instances) rows
+    ∙ ap (list_any (λ (row : MapRecord). list_any (λ (i : InstRow). bytes_eq i.hash.0 hash && bytes_eq i.id.0 id) row.instances)) view
+
+pub no_file_in_records : (named : List NamedInstance) (rows ms : List MapRecord) (hash id : List ℕ) → rows ≡ ms → AreNamesOf named (instances_of rows) → None ≡ option_map (λ (n : NamedInstance). n.row) (find (λ m. bytes_eq m.row.id.0 id) named)
+    → false ≡ list_any (λ row. list_any (λ i. bytes_eq i.hash.0 hash && bytes_eq i.id.0 id) row.instances) ms
+no_file_in_records named rows ms hash id view names e =
+    no_file_named named (instances_of rows) id hash names e ∙ list_any-flat_map (λ (i : InstRow). bytes_eq i.hash.0 hash && bytes_eq i.id.0 id) (λ (row : MapRecord). row.instances) rows
+    ∙ ap (list_any (λ (row : MapRecord). list_any (λ (i : InstRow). bytes_eq i.hash.0 hash && bytes_eq i.id.0 id) row.instances)) view
+
+pub dropped_names : (named new : List NamedInstance) (rows left : List MapRecord) (uid : MapUid) (r : MapRecord) → AreNamesOf named (instances_of rows) → AllPairs (λ a b. a.uid < b.uid) rows → find (λ x. x.uid == uid.0) rows ≡ Some r → ((p : InstRow → Bool) → namings_of p new + times p r.instances ≡ namings_of p named)
+    → left ≡ filter (λ x. not (has_map_uid x.uid (uid ∷ []))) rows → AreNamesOf new (instances_of left)
+dropped_names named new rows left uid r names rising e less is =
+    subst (λ (ms : List MapRecord). AreNamesOf new (instances_of ms)) (filter_agree (λ x. not (x.uid == uid.0)) (λ x. not (has_map_uid x.uid (uid ∷ []))) (kept_same uid) rows ∙ sym is)
+    (names_dropped named new rows uid.0 r names (uid_once uid.0 rows rising) e less)

@@ -1,6 +1,6 @@
 -- The record of the first key from a number on, and of the last below one.
 use Rattle.std.specs.Prelude.{◌⊎◌, nat_le, nat_lt}
-use Rattle.std.proofs.Common.{◌≡◌, ◌≢◌, ◌+◌, ◌<◌, ◌≤◌, ◌==◌, ◌&&◌, ◌||◌, ℕ, Bool, true, false, not, cond, Option, Some, None, List, [], ◌∷◌, filter, find, fold, All, refl, sym, ◌∙◌, ap, subst, inl, inr, arith}
+use Rattle.std.proofs.Common.{◌≡◌, ◌+◌, ◌<◌, ◌≤◌, ◌==◌, ◌&&◌, ◌||◌, ℕ, Bool, true, false, not, cond, Option, Some, None, List, [], ◌∷◌, filter, find, fold, All, refl, sym, ◌∙◌, ap, subst, inl, inr, arith}
 use Rattle.std.proofs.lemmas.Bool.Decides.{nat_tests}
 use Rattle.std.proofs.lemmas.List.Elements.{All-nil, All-cons, All-head, All-tail, All-weaker}
 use Rattle.model_octets.proofs.PairLemmas.{pairs_head, pairs_tail, found_holds}
@@ -123,11 +123,12 @@ behind_less n x k keys l above (inl (e, from)) =
       here (x.number == k.number) (same_is x.number k.number same) e,
       omega (arith, same, l),
       All-cons (λ y. (nat_le n y.number || nat_le y.number k.number) ≡ true) x keys (or_most x.number k.number n (omega (arith, same)))
-      (All-weaker (λ y. n ≤ y.number) (λ y. (nat_le n y.number || nat_le y.number k.number) ≡ true) (λ y h. from_or y.number k.number n h) keys from),
+          (All-weaker (λ y. n ≤ y.number) (λ y. (nat_le n y.number || nat_le y.number k.number) ≡ true) (λ y h. from_or y.number k.number n h) keys from),
     )
   where
     same_is : (a b : ℕ) → a ≡ b → (a == b) ≡ true
     same_is a b h = grind (arith, nat_tests, h)
+
     here : (b : Bool) → b ≡ true → Some x ≡ Some k → cond b (Some x) (find (λ y. y.number == k.number) keys) ≡ Some k
     here b h e = rw h e
 behind_less n x k keys l above (inr (f, below, all)) =

@@ -1,13 +1,16 @@
 -- Regions of one file that lie apart: the one that ends last, and whether octets are free.
-use Rattle.std.specs.Prelude.{◌⊎◌, min, nat_le, AllPairs, IfSome, IfNone}
-use Rattle.std.proofs.Common.{◌≡◌, ◌≢◌, ◌+◌, ◌<◌, ◌≤◌, ◌==◌, ℕ, Bool, true, false, cond, Option, Some, None, List, [], ◌∷◌, filter, find, All, refl, sym, ◌∙◌, ap, subst, inl, inr, arith}
+use Rattle.std.specs.Prelude.{◌⊎◌, min, nat_le, AllPairs, IfSome, IfNone, IsTrue, ◌↔◌}
+use Rattle.std.specs.Borrow.{Bor}
+use Rattle.std.specs.Option.{option_map, option_copied}
+use Rattle.std.proofs.Common.{◌≡◌, ◌≢◌, ◌+◌, ◌<◌, ◌≤◌, ◌==◌, ℕ, Bool, true, false, cond, Option, Some, None, List, [], ◌∷◌, find, All, refl, sym, ◌∙◌, ap, subst, inl, inr, arith}
 use Rattle.std.proofs.lemmas.Bool.{cases_lt, cases_eq}
 use Rattle.std.proofs.lemmas.Bool.Decides.{nat_tests}
-use Rattle.std.proofs.lemmas.List.Elements.{All-nil, All-cons, All-head, All-tail, All-weaker}
+use Rattle.std.proofs.lemmas.List.Elements.{All-cons, All-weaker}
 use Rattle.model_octets.proofs.PairLemmas.{pairs_head, pairs_tail, found_among}
 use Rattle.model_meaning.specs.MapMeaning.{MapRecord}
 use Rattle.model_meaning.specs.MapFits.{IsApart}
-use Rattle.map_rows.specs.Lookups.{later, last_ending, IsLastBefore}
+use Rattle.map_rows.specs.declared.rows.Record.{Record}
+use Rattle.map_rows.specs.Lookups.{meant_record, later, last_ending, IsLastBefore}
 use Rattle.map_rows.specs.TableKept.{IsTableRow, LieApart, AreTableRows}
 use Rattle.map_rows.proofs.BestLemmas.{IsKeeping, IsNoBetter, best_kept, none_kept}
 use Rattle.map_rows.proofs.LookupLemmas.{uid_only}
@@ -78,8 +81,8 @@ last_ends rows file r kept last =
     let apart = lies_apart (λ x. x.uid == r.uid) rows r kept.apart last.there in
     let only = uid_only rows r.uid r kept.rising last.there in
     let row = found_among (λ x. x.uid == r.uid) rows r IsTableRow last.there kept.each in
-    best_kept (λ (a y : MapRecord). nat_le (y.offset + y.size) (a.offset + a.size)) later (λ y. y.file == file) (λ x. x.uid == r.uid) r rows None later_keeps tt last.there (equal r.file file last.file)
-    (λ i d lt. no_later file r _ last.file row (kept.each i d lt) (only i d lt) (last.others i d lt) (apart i d lt))
+    best_kept (λ (a y : MapRecord). nat_le (y.offset + y.size) (a.offset + a.size)) later (λ y. y.file == file) (λ x. x.uid == r.uid) r rows None later_keeps tt last.there (equal r.file file last.in_file)
+    (λ i d lt. no_later file r _ last.in_file row (kept.each i d lt) (only i d lt) (last.others i d lt) (apart i d lt))
 
 pub none_ends : (rows : List MapRecord) (file : ℕ) → AreTableRows rows → All (λ x. x.file ≡ file → 4294967296 ≤ x.offset) rows → last_ending file rows ≡ None
 none_ends rows file kept none =
@@ -89,9 +92,9 @@ none_ends rows file kept none =
     elsewhere : (x : MapRecord) → IsTableRow x → (x.file ≡ file → 4294967296 ≤ x.offset) → (x.file == file) ≡ false
     elsewhere x row h = unequal x.file file (λ e. let ends = row.ends in let l = h e in omega (arith, ends, l))
 
-pub last_in : (rows : List MapRecord) (file : ℕ) (o : Option MapRecord) → AreTableRows rows → IfSome o (IsLastBefore rows file 4294967296) → IfNone o (All (λ x. x.file ≡ file → 4294967296 ≤ x.offset) rows) → o ≡ last_ending file rows
+pub last_in : (rows : List MapRecord) (file : ℕ) (o : Option (Bor Record)) → AreTableRows rows → IfSome o (λ x. IsLastBefore rows file 4294967296 (meant_record x.now)) → IfNone o (All (λ x. x.file ≡ file → 4294967296 ≤ x.offset) rows) → option_map meant_record (option_copied o) ≡ last_ending file rows
 last_in rows file None kept some none = sym (none_ends rows file kept none)
-last_in rows file (Some r) kept some none = sym (last_ends rows file r kept some)
+last_in rows file (Some x) kept some none = sym (last_ends rows file (meant_record x.now) kept some)
 
 -- ---- free octets
 
@@ -111,9 +114,9 @@ free_before : (rows : List MapRecord) (file offset size end : ℕ) (last x : Map
 free_before rows file offset size end last x is row other here only others apart ends f =
     elim (cases_lt x.offset end) [
       | inl less ↦ inr (elim (cases_eq x.uid last.uid) [
-          | inl same ↦ (let k = only (equal x.uid last.uid same) in subst (λ (y : MapRecord). y.offset + y.size ≤ offset) (sym k) ends)
-          | inr differ ↦ (let some = row.some in let before = ends_before last x apart (here ∙ sym f) some (others f less differ) in omega (arith, before, ends))
-        ])
+        | inl same ↦ (let k = only (equal x.uid last.uid same) in subst (λ (y : MapRecord). y.offset + y.size ≤ offset) (sym k) ends)
+        | inr differ ↦ (let some = row.some in let before = ends_before last x apart (here ∙ sym f) some (others f less differ) in omega (arith, before, ends))
+      ])
       | inr le ↦ behind is le
     ]
   where
@@ -127,11 +130,11 @@ free_from rows file offset size end last kept is before ends =
     let apart = lies_apart (λ x. x.uid == last.uid) rows last kept.apart before.there in
     let only = uid_only rows last.uid last kept.rising before.there in
     let row = found_among (λ x. x.uid == last.uid) rows last IsTableRow before.there kept.each in
-    λ i d lt. free_before rows file offset size end last _ is row (kept.each i d lt) before.file (only i d lt) (before.others i d lt) (apart i d lt) ends
+    λ i d lt. free_before rows file offset size end last _ is row (kept.each i d lt) before.in_file (only i d lt) (before.others i d lt) (apart i d lt) ends
 
 -- where they are free, it does
 pub free_ends : (rows : List MapRecord) (file offset size end : ℕ) (last : MapRecord) → end ≤ offset + size → IsLastBefore rows file end last → All (AreFree file offset size) rows → last.offset + last.size ≤ offset
-free_ends rows file offset size end last le before free = apart (found_among (λ x. x.uid == last.uid) rows last (AreFree file offset size) before.there free before.file)
+free_ends rows file offset size end last le before free = apart (found_among (λ x. x.uid == last.uid) rows last (AreFree file offset size) before.there free before.in_file)
   where
     apart : IsApart offset size last → last.offset + last.size ≤ offset
     apart (inl l) = absurd (let below = before.below in omega (arith, l, le, below))
@@ -149,3 +152,14 @@ free_none rows file offset size end kept e all = free_behind rows file offset si
 pub free_some : (rows : List MapRecord) (file offset size end : ℕ) (last : MapRecord) → AreTableRows rows → end ≡ min (offset + size) 4294967296 → IsLastBefore rows file end last → (last.offset + last.size ≤ offset → All (AreFree file offset size) rows) × (All (AreFree file offset size) rows → last.offset + last.size ≤ offset)
 free_some rows file offset size end last kept e before =
     ((λ ends. free_from rows file offset size end last kept (end_is (offset + size) end e) before ends), λ free. free_ends rows file offset size end last (omega (arith, e)) before free)
+
+pub free_test : (rows : List MapRecord) (file offset size end : ℕ) (last : MapRecord) (ends from : ℕ) → AreTableRows rows → end ≡ min (offset + size) 4294967296 → IsLastBefore rows file end last → ends ≡ last.offset + last.size → from ≡ offset → (IsTrue (nat_le ends from) ↔ All (AreFree file offset size) rows)
+free_test rows file offset size end last ends from kept e before p q =
+    let both = free_some rows file offset size end last kept e before in
+    ((λ t. both.0 (ends_is ends from last.offset last.size offset p q t)), (λ free. is_true ends from last.offset last.size offset p q (both.1 free)))
+  where
+    ends_is : (m n a b c : ℕ) → m ≡ a + b → n ≡ c → nat_le m n ≡ true → a + b ≤ c
+    ends_is m n a b c p q h = grind (arith, nat_tests, h, p, q)
+
+    is_true : (m n a b c : ℕ) → m ≡ a + b → n ≡ c → a + b ≤ c → nat_le m n ≡ true
+    is_true m n a b c p q h = grind (arith, nat_tests, h, p, q)

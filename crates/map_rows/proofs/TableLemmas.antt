@@ -1,20 +1,20 @@
 -- What each change leaves of a table: its records in order, and the keys of its orders.
-use Rattle.std.specs.Prelude.{◌⊎◌, AllPairs, IsSome}
-use Rattle.std.specs.Option.{is_some}
+use Rattle.std.specs.Prelude.{AllPairs, IsSome}
 use Rattle.std.proofs.Common.{◌≡◌, ◌≢◌, ◌+◌, ◌<◌, ◌≤◌, ◌==◌, ◌&&◌, ◌||◌, ◌++◌, ◌-◌, ℕ, Bool, true, false, not, cond, Option, Some, None, List, [], ◌∷◌, length, map, filter, find, All, refl, sym, ◌∙◌, ap, subst, inl, inr, arith}
-use Rattle.std.proofs.lemmas.Bool.{cases_eq}
 use Rattle.std.proofs.lemmas.Bool.Decides.{nat_tests}
-use Rattle.std.proofs.lemmas.List.Elements.{All-nil, All-cons, All-head, All-tail, All-weaker, All-filter, All-push, filter_agree}
+use Rattle.std.proofs.lemmas.List.Elements.{All-nil, All-head, All-tail, All-weaker, All-filter, All-push, filter_agree}
 use Rattle.std.proofs.lemmas.List.Kept.{AllPairs-filter}
 use Rattle.mdbox_base.specs.Words.{IsOctets}
 use Rattle.mdbox_base.specs.declared.ids.MapUid.{MapUid}
 use Rattle.mdbox_base.specs.declared.entries.MapCount.{MapCount}
 use Rattle.mdbox_base.specs.declared.entries.MapPlace.{MapPlace}
 use Rattle.mdbox_base.specs.declared.entries.MapEntry.TheVariants as entry
-use Rattle.model_octets.proofs.PairLemmas.{pairs_head, pairs_tail, pairs_nil, pairs_push, pairs_map, all_map, found_holds, found_among}
+use Rattle.model_octets.proofs.PairLemmas.{pairs_nil, pairs_push, pairs_map, all_map, found_holds, found_among}
 use Rattle.model_meaning.specs.MapMeaning.{MapRecord, record_changed, has_map_uid, place_given, moved_record}
 use Rattle.model_meaning.specs.MapFits.{IsApart, AgreesOn}
 use Rattle.map_rows.specs.declared.order.OrderKey.{OrderKey}
+use Rattle.map_rows.specs.declared.rows.Record.{Record}
+use Rattle.map_rows.specs.Lookups.{meant_record}
 use Rattle.map_rows.specs.Keys.{guid_number, guid_key, place_number, place_key}
 use Rattle.map_rows.specs.Orders.{NumbersRise, times, AreKeysOf, with_key, without_number}
 use Rattle.map_rows.specs.TableKept.{IsTableRow, LieApart, NameAlike, AreTableRows, FitsBehind, FitsMoved, AreIndexed}
@@ -68,13 +68,14 @@ new_place rows file offset size each free some fits =
     overlaps : (x : MapRecord) → IsTableRow x → x.offset ≡ offset → IsApart offset size x → ⊥
     overlaps x row e (inl l) = omega (arith, e, l, some)
     overlaps x row e (inr l) = let more = row.some in omega (arith, e, l, more)
+
     differs : (x : MapRecord) → IsTableRow x → (x.file ≡ file → IsApart offset size x) → (place_number x.file x.offset == place_number file offset) ≡ false
     differs x row apart =
         let ends = row.ends in
         let more = row.some in
         unequal (place_number x.file x.offset) (place_number file offset) (λ e.
-          let same = place_only x.file x.offset file offset (omega (arith, ends, more)) fits e in
-          overlaps x row same.1 (apart same.0))
+        let same = place_only x.file x.offset file offset (omega (arith, ends, more)) fits e in
+        overlaps x row same.1 (apart same.0))
 
 pub guid_key_new : (rows : List MapRecord) (keys : List OrderKey) (r : MapRecord) → AreTableRows rows → AreKeysOf guid_key keys rows → FitsBehind rows r → length r.guid ≡ 16 → IsOctets r.guid → find (λ k. k.number == guid_number r.guid) keys ≡ None
 guid_key_new rows keys r kept are fits long octets = key_missing guid_key keys rows (guid_number r.guid) are (new_guid rows r kept.each fits.guid_new long octets)
@@ -162,7 +163,7 @@ key_there key keys rows p r are e =
     let found = find_counted (λ k. k.number == n) keys (subst (λ (c : ℕ). 1 ≤ c) (sym (are (λ (k : OrderKey). k.number == n))) some) in
     some_key (find (λ k. k.number == n) keys) found.0 found.1
 
-kept_same : (uid : MapUid) (r : MapRecord) → not (r.uid == uid.0) ≡ not (has_map_uid r.uid (uid ∷ []))
+pub kept_same : (uid : MapUid) (r : MapRecord) → not (r.uid == uid.0) ≡ not (has_map_uid r.uid (uid ∷ []))
 kept_same uid r = turn r.uid uid.0
   where
     turn : (a b : ℕ) → not (a == b) ≡ not ((b == a) || false)
@@ -258,6 +259,7 @@ moved_rows rows target given r kept ends before = record {
   where
     pairs : AllPairs (ArePair target given r) rows
     pairs i j d lt le = record { rising = kept.rising i j d lt le; apart = kept.apart i j d lt le; first = before i d (omega (arith, lt, le)); second = before j d le }
+
     alike : (a b : MapRecord) → (moves target given a).instances ≡ a.instances → (moves target given b).instances ≡ b.instances → NameAlike a b → NameAlike (moves target given a) (moves target given b)
     alike a b p q h = subst (λ (is : List _). All (λ i. All (AgreesOn i) (moves target given a).instances) is) (sym q) (subst (λ (is : List _). All (λ i. All (AgreesOn i) is) b.instances) (sym p) h)
 
@@ -295,6 +297,9 @@ guid_key_stays target (Some place) r = refl
 
 not_moved : (target : ℕ) (given : MapPlace) (x : MapRecord) → (x.uid == given.uid.0) ≡ false → moves target given x ≡ x
 not_moved target given x h = let f : (given.uid.0 == x.uid) ≡ false = unequal given.uid.0 x.uid (λ e. unequal_is x.uid given.uid.0 h (sym e)) in rw f refl
+
+pub moves_names : (target : ℕ) (given : MapPlace) (r : MapRecord) → (moved_record r target (place_given r.uid (given ∷ []))).instances ≡ r.instances
+moves_names target given r = names_stay target (place_given r.uid (given ∷ [])) r
 
 -- the key of the moved record
 abbrev pub moved_key : ℕ → MapPlace → OrderKey
@@ -360,13 +365,24 @@ moved_indexed rows guids places target given r are rise can = record {
 
 -- a record that is to be moved is there
 pub moved_there : (rows : List MapRecord) (target : ℕ) (given : MapPlace) → FitsMoved rows target given → find (λ x. x.uid == given.uid.0) rows ≡ None → ⊥
-moved_there rows target given (row, e, rest) none = let w : None ≡ Some row = sym none ∙ e in cc w
+moved_there rows target given (row, e, ends, free) none = let w : None ≡ Some row = sym none ∙ e in cc w
 
 -- where no record has the map uid, none is dropped
 pub none_dropped : (uid : MapUid) (rows : List MapRecord) → find (λ x. x.uid == uid.0) rows ≡ None → filter (λ x. not (has_map_uid x.uid (uid ∷ []))) rows ≡ rows
 none_dropped uid rows e = sym (filter_agree (λ x. not (x.uid == uid.0)) (λ x. not (has_map_uid x.uid (uid ∷ []))) (kept_same uid) rows) ∙ all_kept uid rows (found_none (λ x. x.uid == uid.0) rows e)
 
 -- ---- for the calls
+
+pub same_indexed : (rows rows' : List MapRecord) (guids guids' places places' : List OrderKey) → rows ≡ rows' → guids ≡ guids' → places ≡ places' → AreIndexed rows' guids' places' → AreIndexed rows guids places
+same_indexed rows rows' guids guids' places places' p q r are =
+    subst (λ (xs : List MapRecord). AreIndexed xs guids places) (sym p) (subst (λ (xs : List OrderKey). AreIndexed rows' xs places) (sym q) (subst (λ (xs : List OrderKey). AreIndexed rows' guids' xs) (sym r) are))
+
+pub found_shown : (rows : List MapRecord) (v : TableValue) (u : ℕ) (r : MapRecord) → rows ≡ v.records → Some r ≡ find (λ x. x.uid == u) v.records → find (λ x. x.uid == u) rows ≡ Some r
+found_shown rows v u r same e = ap (find (λ (x : MapRecord). x.uid == u)) same ∙ sym e
+
+pub mapped_push : (records : List Record) (r : Record) → map meant_record (records ++ r ∷ []) ≡ map meant_record records ++ meant_record r ∷ []
+mapped_push [] r = refl
+mapped_push (x ∷ records) r = ap (λ (rows : List MapRecord). meant_record x ∷ rows) (mapped_push records r)
 
 abbrev of_table : List MapRecord → ℕ → ℕ → TableValue
 of_table records room instances = record { records = records; record_room = room; instance_room = instances }

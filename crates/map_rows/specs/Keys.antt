@@ -1,5 +1,5 @@
 -- The keys of records: their GUIDs and their places as numbers.
-use Rattle.std.specs.Prelude.{◌≡◌, ◌+◌, ◌*◌, ◌≤◌, ◌<◌, ◌==◌, ℕ, Bool, List, [], ◌∷◌, Option, Some, None, All, if◌then◌else◌}
+use Rattle.std.specs.Prelude.{◌+◌, ◌*◌, ℕ, List}
 use Rattle.std.specs.Int.{w128, from_be_bytes}
 use Rattle.model_meaning.specs.MapMeaning.{MapRecord}
 use Rattle.map_rows.specs.declared.order.OrderKey.{OrderKey}

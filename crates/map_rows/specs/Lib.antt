@@ -1,5 +1,6 @@
 pub mod Keys
 pub mod Lookups
+pub mod Named
 pub mod Orders
 pub mod TableKept
 pub mod TableValue

@@ -41,6 +41,6 @@ last_ending file rows = fold later None (filter (λ row. row.file == file) rows)
 -- of the records of this file with an offset below this one, the one with the greatest
 pub record IsLastBefore (rows : List MapRecord) (file offset : ℕ) (last : MapRecord) : Type 0 where
   pub there : find (λ row. row.uid == last.uid) rows ≡ Some last
-  pub file : last.file ≡ file
+  pub in_file : last.file ≡ file
   pub below : last.offset < offset
   pub others : All (λ row. row.file ≡ file → row.offset < offset → row.uid ≢ last.uid → row.offset < last.offset) rows

@@ -23,7 +23,7 @@ AreNamesOf named instances = (p : InstRow → Bool) → namings_of p named ≡ t
 
 -- an instance is this one
 abbrev pub is_instance : InstRow → InstRow → Bool
-is_instance a b = bytes_eq b.id.0 a.id.0 && bytes_eq b.hash.0 a.hash.0 && (b.size == a.size)
+is_instance a b = bytes_eq b.id.0 a.id.0 && (bytes_eq b.hash.0 a.hash.0 && (b.size == a.size))
 
 -- no other instance has this one's id
 abbrev pub IsOnlyNaming : InstRow → NamedInstance → Type 0

@@ -17,7 +17,15 @@ pub fn guid_number(guid: Guid) -> u128
     ensures long { length guid.0 ≡ 16 }
     ensures octets { IsOctets guid.0 }
 {
+    known_octets(&guid.0);
     u128::from_be_bytes(guid.0)
+}
+
+/// Octets are below 256.
+fn known_octets(octets: &[u8])
+    ensures { IsOctets octets.now }
+{
+    let _length = octets.len();
 }
 
 /// A place in a file as a number.
@@ -28,23 +36,23 @@ pub fn place_number(file: u32, offset: u64) -> u128
 }
 
 /// The key of a record in the order by GUID.
-pub fn guid_key(record: &Record) -> OrderKey
-    ensures key { result ≡ guid_key (meant_record record.now) }
-    ensures long { length record.now.row.guid.0 ≡ 16 }
-    ensures octets { IsOctets record.now.row.guid.0 }
+pub fn guid_key(of: &Record) -> OrderKey
+    ensures key { result ≡ guid_key (meant_record of.now) }
+    ensures long { length of.now.row.guid.0 ≡ 16 }
+    ensures octets { IsOctets of.now.row.guid.0 }
 {
     OrderKey {
-        number: guid_number(record.row.guid),
-        uid: record.row.uid,
+        number: guid_number(of.row.guid),
+        uid: of.row.uid,
     }
 }
 
 /// The key of a record in the order by place.
-pub fn place_key(record: &Record) -> OrderKey
-    ensures { result ≡ place_key (meant_record record.now) }
+pub fn place_key(of: &Record) -> OrderKey
+    ensures { result ≡ place_key (meant_record of.now) }
 {
     OrderKey {
-        number: place_number(record.row.file.0, u64::from(record.row.offset)),
-        uid: record.row.uid,
+        number: place_number(of.row.file.0, u64::from(of.row.offset)),
+        uid: of.row.uid,
     }
 }

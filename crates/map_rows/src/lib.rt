@@ -7,7 +7,7 @@ pub use table::Table;
 
 mod edits;
 mod keys;
-mod named;
+mod names;
 mod order;
 mod rows;
 mod table;

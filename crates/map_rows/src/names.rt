@@ -1,5 +1,5 @@
 // The instances that records name.
-ghost use Rattle.std.specs.Prelude.{◌≡◌, ◌+◌, ◌-◌, ◌^◌, ◌<◌, ◌≤◌, Bool, [], ◌∷◌, length, insert, max, find, All, AllPairs, IfOk, IfErr, OnOk, OnErr, vec_len, vec_capacity};
+ghost use Rattle.std.specs.Prelude.{◌≡◌, ◌+◌, ◌-◌, ◌^◌, ◌<◌, ◌≤◌, ◌↔◌, Bool, [], ◌∷◌, length, insert, max, find, All, AllPairs, IsTrue, IfOk, IfErr, OnOk, OnErr, vec_len, vec_capacity};
 ghost use Rattle.std.specs.Option.{option_copied, option_map};
 ghost use Rattle.std.specs.Str.{bytes_eq};
 ghost use Rattle.mdbox_base.specs.Words.{IsOctets};
@@ -100,6 +100,7 @@ impl InstanceNames {
     pub fn add(&mut self, row: &InstRow)
         requires only { All (IsOnlyNaming row.now) self.old.named }
         requires room { 1 ≤ self.old.room }
+        ensures are { AreNamings self.new.named }
         ensures names { (p : InstRow → Bool) → namings_of p self.new.named ≡ namings_of p self.old.named + times p (row.now ∷ []) }
         ensures room { self.new.room ≡ self.old.room - 1 }
     {
@@ -126,6 +127,7 @@ impl InstanceNames {
         ensures names { (p : InstRow → Bool) → namings_of p self.new.named ≡ namings_of p self.old.named + times p rows.now }
         ensures room { self.new.room ≡ self.old.room - length rows.now }
     {
+        self.known_facts();
         for row in rows {
             self.add(row);
         }
@@ -179,11 +181,15 @@ fn add_naming(named: &mut Vec<NamedInstance>, row: InstRow)
             let namings = old.namings + 1;
             named[place] = NamedInstance { namings, ..old };
         }
-        Err(place) => insert_naming(named, place, NamedInstance {
-            number,
-            row,
-            namings: 1,
-        }),
+        Err(place) => insert_naming(
+            named,
+            place,
+            NamedInstance {
+                number,
+                row,
+                namings: 1,
+            },
+        ),
     }
 }
 
@@ -222,4 +228,11 @@ fn remove_naming(named: &mut Vec<NamedInstance>, row: &InstRow)
         }
         Err(_) => unreachable!(),
     }
+}
+
+/// Whether two namings of one instance have one hash and one size.
+pub fn agree_on(a: &InstRow, b: &InstRow) -> bool
+    ensures { IsTrue result ↔ AgreesOn a.now b.now }
+{
+    a.id != b.id || (a.hash == b.hash && a.size == b.size)
 }

@@ -4,10 +4,11 @@ ghost use Rattle.std.specs.List.{list_any};
 ghost use Rattle.std.specs.Option.{option_map, option_map_or, option_copied};
 ghost use Rattle.std.specs.Str.{bytes_eq};
 ghost use Rattle.model_meaning.specs.MapFits.{IsApart, AgreesOn};
+ghost use Rattle.map_rows.specs.Named.{instances_of};
 ghost use Rattle.map_rows.specs.Lookups.{meant_record, is_from, least, last_ending, IsLastBefore};
 
 use crate::keys::{OFFSETS, guid_number, place_number};
-use crate::named::{agree_with_records, names_file, names_instance};
+use crate::names::{InstanceNames, agree_on};
 use crate::order::Order;
 use crate::rows::{Record, place_with_uid, with_uid};
 use mdbox_base::{FileNo, Guid, Hash, InstId, InstRow, MapUid, NoMemory};
@@ -22,10 +23,9 @@ pub struct Table {
     records: Vec<Record>,
     by_guid: Order,
     by_place: Order,
+    names: InstanceNames,
     /// How many records can be added without memory.
     room: usize,
-    /// How many namings of instances can be added without memory.
-    instance_room: usize,
 }
 
 impl Model for Table {
@@ -35,14 +35,16 @@ impl Model for Table {
     ghost Value = { TableValue };
 
     ghost use Rattle.map_rows.specs.Lookups.{meant_record};
+    ghost use Rattle.map_rows.specs.Named.{AreNamesOf, instances_of};
     ghost use Rattle.map_rows.specs.TableKept.{AreIndexed};
 
-    ghost view = { λ table. record { records = map meant_record table.records.items; record_room = table.room; instance_room = table.instance_room } };
+    ghost view = { λ table. record { records = map meant_record table.records.items; record_room = table.room; instance_room = table.names.room } };
 
     ghost invariant = { λ table. AreIndexed (map meant_record table.records.items) table.by_guid.keys table.by_place.keys
         × (vec_len table.records + table.room ≤ vec_capacity table.records)
         × (table.room ≤ table.by_guid.room)
-        × (table.room ≤ table.by_place.room) };
+        × (table.room ≤ table.by_place.room)
+        × AreNamesOf table.names.named (instances_of (map meant_record table.records.items)) };
 }
 
 impl Table {
@@ -56,8 +58,8 @@ impl Table {
             records: Vec::new(alloc),
             by_guid: Order::empty(alloc),
             by_place: Order::empty(alloc),
+            names: InstanceNames::empty(alloc),
             room: 0,
-            instance_room: 0,
         }
     }
 
@@ -86,7 +88,7 @@ impl Table {
     pub fn instance_room(&self) -> usize
         ensures { result ≡ self.now.instance_room }
     {
-        self.instance_room
+        self.names.room()
     }
 
     /// Makes room: for so many records and namings of instances at least. What there was stays.
@@ -98,7 +100,7 @@ impl Table {
         self.records.reserve(room)?;
         self.by_guid.reserve(room)?;
         self.by_place.reserve(room)?;
-        self.instance_room = self.instance_room.max(instances);
+        self.names.reserve(instances)?;
         self.room = room;
         Ok(())
     }
@@ -151,7 +153,9 @@ impl Table {
         ensures { option_map meant_record (option_copied result) ≡ least (filter (is_from file.0 from) self.now.records) }
     {
         self.by_place.known_facts();
-        let uid = self.by_place.first_from(place_number(file.0, u64::from(from)))?;
+        let uid = self
+            .by_place
+            .first_from(place_number(file.0, u64::from(from)))?;
         let record = self.find(uid)?;
         if record.row.file.0 == file.0 {
             Some(record)
@@ -171,7 +175,7 @@ impl Table {
     /// The record of this file with the greatest offset below this one. None if and only if there is none.
     fn last_before(&self, file: u32, offset: u64) -> Option<&Record>
         requires { offset ≤ 4294967296 }
-        ensures some { IfSome (option_map meant_record (option_copied result)) (IsLastBefore self.now.records file offset) }
+        ensures some { IfSome result (λ last. IsLastBefore self.now.records file offset (meant_record last.now)) }
         ensures none { IfNone result (All (λ row. row.file ≡ file → offset ≤ row.offset) self.now.records) }
     {
         self.by_place.known_facts();
@@ -200,20 +204,43 @@ impl Table {
     pub fn is_instance_named(&self, id: InstId) -> bool
         ensures { result ≡ list_any (λ row. list_any (λ i. bytes_eq i.id.0 id.0) row.instances) self.now.records }
     {
-        names_instance(&self.records, id)
+        self.names.known_facts();
+        self.names.find(id).is_some()
     }
 
     /// Whether a record names the instance of this hash and id.
     pub fn names_file(&self, hash: Hash, id: InstId) -> bool
         ensures { result ≡ list_any (λ row. list_any (λ i. bytes_eq i.hash.0 hash.0 && bytes_eq i.id.0 id.0) row.instances) self.now.records }
     {
-        names_file(&self.records, hash, id)
+        self.names.known_facts();
+        match self.names.find(id) {
+            Some(row) => row.hash.0 == hash.0,
+            None => false,
+        }
     }
 
     /// Whether these instances have the same hash and size wherever records name them.
     pub fn agrees(&self, instances: &[InstRow]) -> bool
         ensures { IsTrue result ↔ All (λ row. All (λ i. All (AgreesOn i) row.instances) instances.now) self.now.records }
     {
-        agree_with_records(&self.records, instances)
+        self.agree(instances)
+    }
+
+    /// The same, instance by instance.
+    fn agree(&self, instances: &[InstRow]) -> bool
+        ensures { IsTrue result ↔ All (λ i. All (AgreesOn i) (instances_of self.now.records)) instances.now }
+    {
+        instances.iter().all(|instance| self.agrees_on(instance))
+    }
+
+    /// Whether an instance has the same hash and size wherever records name it.
+    fn agrees_on(&self, instance: &InstRow) -> bool
+        ensures { IsTrue result ↔ All (AgreesOn instance.now) (instances_of self.now.records) }
+    {
+        self.names.known_facts();
+        match self.names.find(instance.id) {
+            Some(row) => agree_on(instance, row),
+            None => true,
+        }
     }
 }

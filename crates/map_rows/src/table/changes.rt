@@ -15,17 +15,18 @@ impl Table {
     ghost use Rattle.map_rows.specs.TableKept.{FitsBehind, FitsMoved};
 
     /// Adds a record behind the others.
-    pub fn add(&mut self, record: Record)
-        requires fits { FitsBehind self.old.records (meant_record record) }
+    pub fn add(&mut self, added: Record)
+        requires fits { FitsBehind self.old.records (meant_record added) }
         requires room { 1 ≤ self.old.record_room }
-        requires instance_room { length record.instances ≤ self.old.instance_room }
-        ensures { self.new ≡ record { records = self.old.records ++ meant_record record ∷ []; record_room = self.old.record_room - 1; instance_room = self.old.instance_room - length record.instances } }
+        requires instance_room { length added.instances ≤ self.old.instance_room }
+        ensures { self.new ≡ record { records = self.old.records ++ meant_record added ∷ []; record_room = self.old.record_room - 1; instance_room = self.old.instance_room - length added.instances } }
     {
-        self.by_guid.add(guid_key(&record));
-        self.by_place.add(place_key(&record));
-        self.instance_room -= record.instances.length();
+        self.by_guid.add(guid_key(&added));
+        self.by_place.add(place_key(&added));
+        self.names.known_facts();
+        self.names.add_each(added.instances.as_slice());
         self.room -= 1;
-        self.records.push_reserved(record);
+        self.records.push_reserved(added);
     }
 
     /// Raises the count of a record by one, if there is one of this map uid.
@@ -56,9 +57,13 @@ impl Table {
     {
         self.by_guid.known_facts();
         self.by_place.known_facts();
-        if let Some(record) = edits::take_out(&mut self.records, uid) {
-            self.by_guid.remove(guid_key(&record).number);
-            self.by_place.remove(place_key(&record).number);
+        match edits::take_out(&mut self.records, uid) {
+            Some(record) => {
+                self.by_guid.remove(guid_key(&record).number);
+                self.by_place.remove(place_key(&record).number);
+                self.names.remove_each(record.instances.as_slice());
+            }
+            None => {}
         }
     }
 

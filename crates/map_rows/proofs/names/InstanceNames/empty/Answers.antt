@@ -1,9 +1,6 @@
-use Rattle.std.specs.Prelude.{◌<◌}
-use Rattle.std.proofs.Common.{refl, arith}
-use Rattle.std.proofs.lemmas.List.Elements.{All-nil}
-use Rattle.model_octets.proofs.PairLemmas.{pairs_nil}
-use Rattle.map_rows.specs.Named.{IsNaming}
+use Rattle.std.proofs.Common.{arith}
+use Rattle.map_rows.proofs.NameLemmas.{none_named}
 use Rattle.map_rows.proofs.names.InstanceNames.empty.Goals as goal
 
 pub invariant_of-result : goal.invariant_of-result
-invariant_of-result c = (record { rising = pairs_nil (λ a b. a.number < b.number); each = All-nil IsNaming }, refl, omega arith, omega arith)
+invariant_of-result c = let none = none_named _ c.new.ensures.items in (none.0, none.1, omega arith, omega arith)

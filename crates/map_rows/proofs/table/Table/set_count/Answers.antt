@@ -1,10 +1,10 @@
-use Rattle.std.specs.Prelude.{AllPairs}
-use Rattle.std.proofs.Common.{◌≡◌, ◌<◌, ◌≤◌, ◌+◌, ◌∷◌, [], List, map, ap, sym, subst, ◌∙◌, arith}
+use Rattle.std.proofs.Common.{◌<◌, ◌∷◌, [], List, map, ap, sym, subst, ◌∙◌, arith}
 use Rattle.mdbox_base.specs.declared.entries.MapEntry.TheVariants as entry
 use Rattle.model_meaning.specs.MapMeaning.{MapRecord, record_changed}
 use Rattle.map_rows.specs.Lookups.{meant_record}
 use Rattle.map_rows.specs.TableKept.{AreIndexed}
 use Rattle.map_rows.specs.TableValue.{TableValue}
+use Rattle.map_rows.proofs.NameLemmas.{names_changed}
 use Rattle.map_rows.proofs.SearchLemmas.{pairs_unmap}
 use Rattle.map_rows.proofs.TableLemmas.{counted_indexed, sets_count, same_table}
 use Rattle.map_rows.proofs.table.Table.set_count.Goals as goal
@@ -19,10 +19,11 @@ invariant_of-self c =
     let l = c.set_count.ensures.space.0 in
     let k = c.set_count.ensures.space.1 in (
       subst (λ (rows : List MapRecord). AreIndexed rows c.self.inside.by_guid.keys c.self.inside.by_place.keys) (sym c.set_count.ensures.records)
-      (counted_indexed (record_changed (entry.T (c.args.given ∷ []))) (sets_count (c.args.given ∷ [])) (map meant_record c.self.inside.records.items) c.self.inside.by_guid.keys c.self.inside.by_place.keys i.0),
+          (counted_indexed (record_changed (entry.T (c.args.given ∷ []))) (sets_count (c.args.given ∷ [])) (map meant_record c.self.inside.records.items) c.self.inside.by_guid.keys c.self.inside.by_place.keys i.0),
       omega (arith, space, l, k),
       i.2,
       i.3,
+      names_changed c.self.inside.names.named (map meant_record c.self.inside.records.items) _ (record_changed (entry.T (c.args.given ∷ []))) c.set_count.ensures.records (λ r. ap (λ (row : MapRecord). row.instances) (sets_count (c.args.given ∷ []) r)) i.4,
     )
 
 pub returns : goal.returns
