@@ -24,8 +24,7 @@ none_yet m places = subst (λ (ps : List MapPlace). AreBefore m ps 0) (sym (no_i
 
 pub one_follows : (m : MapMeaning) (places : List MapPlace) (k : ℕ) (d place : MapPlace) (end last : ℕ) → k < length places → place ≡ get_or places k d → end ≤ place.offset → AreBefore m (take k places) end → last ≡ place.offset + size_at m place.uid.0 → AreBefore m (take (k + 1) places) last
 one_follows m places k d place end last lt is le before ends =
-    subst (λ (ps : List MapPlace). AreBefore m ps last) (sym (take_more places k d lt ∙ ap (λ (p : MapPlace). take k places ++ p ∷ []) (sym is)))
-    (
+    subst (λ (ps : List MapPlace). AreBefore m ps last) (sym (take_more places k d lt ∙ ap (λ (p : MapPlace). take k places ++ p ∷ []) (sym is))) (
       All-push (λ p. p.offset + size_at m p.uid.0 ≤ last) (take k places) place (All-weaker (λ p. p.offset + size_at m p.uid.0 ≤ end) (λ p. p.offset + size_at m p.uid.0 ≤ last) (λ p h. omega (arith, h, le, ends)) (take k places) before.0) (omega (arith, ends)),
       pairs_push (ArePlacedApart m) (take k places) place before.1 (All-weaker (λ p. p.offset + size_at m p.uid.0 ≤ end) (λ p. ArePlacedApart m p place) (λ p h. inl (omega (arith, h, le))) (take k places) before.0),
     )

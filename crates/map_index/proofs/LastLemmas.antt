@@ -1,5 +1,5 @@
 -- The record of a file whose region ends last, and the place of a record.
-use Rattle.std.proofs.Common.{◌≡◌, ◌+◌, ◌==◌, ◌||◌, ◌<◌, ◌≤◌, ℕ, max, Bool, true, false, cond, Option, Some, None, List, [], ◌∷◌, length, filter, fold, find, refl, ap, sym, ◌∙◌, arith}
+use Rattle.std.proofs.Common.{◌≡◌, ◌+◌, ◌==◌, ◌||◌, ◌<◌, ℕ, max, Bool, true, false, cond, Option, Some, None, List, [], ◌∷◌, length, filter, fold, find, refl, ap, sym, ◌∙◌, arith}
 use Rattle.std.specs.Prelude.{nat_le, nat_lt, position, slice_get}
 use Rattle.std.specs.List.{list_any, position_or_len}
 use Rattle.std.specs.Option.{is_some, option_map, option_map_or}

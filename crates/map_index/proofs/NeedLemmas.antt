@@ -1,5 +1,5 @@
 -- What an entry that fits says of the records.
-use Rattle.std.proofs.Common.{◌≡◌, ◌≢◌, inl, inr, ◌+◌, ◌<◌, ◌≤◌, ◌==◌, ℕ, Bool, true, false, not, cond, List, [], ◌∷◌, map, filter, find, Option, Some, None, All, refl, sym, ◌∙◌, ap, subst, arith}
+use Rattle.std.proofs.Common.{◌≡◌, ◌≢◌, inl, inr, ◌+◌, ◌<◌, ◌≤◌, ◌==◌, ℕ, Bool, true, false, not, cond, List, [], ◌∷◌, map, filter, find, Option, Some, None, All, refl, sym, ◌∙◌, ap, arith}
 use Rattle.std.specs.Prelude.{AllPairs, ◌⊎◌}
 use Rattle.std.specs.Option.{option_map, option_map_or}
 use Rattle.std.proofs.lemmas.Bool.Decides.{nat_tests}
@@ -13,8 +13,8 @@ use Rattle.mdbox_base.specs.declared.entries.MapEntry.{MapEntry}
 use Rattle.mdbox_base.specs.declared.entries.MapEntry.TheVariants as entry
 use Rattle.model_meaning.specs.MapMeaning.{MapRecord, MapMeaning, moved_record, place_given, has_map_uid}
 use Rattle.model_meaning.specs.MapFits.{MapFits, FitsTarget, IsApart}
-use Rattle.model_meaning.proofs.MapPlaceLemmas.{turned, equal_is}
-use Rattle.map_rows.specs.TableKept.{FitsBehind, FitsMoved}
+use Rattle.model_meaning.proofs.MapPlaceLemmas.{equal_is}
+use Rattle.map_rows.specs.TableKept.{FitsMoved}
 use Rattle.map_index.specs.Kept.{IsMapInOrder}
 use Rattle.map_index.specs.Needs.{FitsTable, CanMoveEach}
 use Rattle.map_index.proofs.DerivedListLemmas.{find-map, All-unmap}

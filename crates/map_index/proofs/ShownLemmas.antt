@@ -1,5 +1,5 @@
 -- Records as look-ups show them.
-use Rattle.std.proofs.Common.{◌≡◌, Option, Some, None, refl, sym, ap, ◌∙◌}
+use Rattle.std.proofs.Common.{◌≡◌, Option, Some, None, refl, ap, ◌∙◌}
 use Rattle.std.specs.Option.{option_map}
 use Rattle.model_meaning.specs.MapMeaning.{MapRecord}
 use Rattle.map_rows.specs.declared.rows.MapRow.{MapRow}

@@ -1,6 +1,5 @@
 use Rattle.std.proofs.Common.{◌≡◌, ◌∙◌, sym, ap, List, map, filter, not}
-use Rattle.mdbox_base.specs.declared.entries.MapEntry.TheVariants as entry
-use Rattle.model_meaning.specs.MapMeaning.{MapRecord, record_changed, has_map_uid, moved_record, place_given}
+use Rattle.model_meaning.specs.MapMeaning.{MapRecord, has_map_uid, moved_record, place_given}
 use Rattle.model_meaning.proofs.AppliedLemmas.{records_by_purged, records_by_raised, records_by_lowered, records_by_counted}
 use Rattle.map_rows.specs.TableValue.{TableValue}
 use Rattle.map_index.proofs.MapAppliedLemmas.{records_stay}

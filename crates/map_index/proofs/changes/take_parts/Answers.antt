@@ -1,4 +1,4 @@
-use Rattle.std.proofs.Common.{◌≡◌, ◌-◌, ◌∙◌, sym, ap, map, arith}
+use Rattle.std.proofs.Common.{◌∙◌, sym, ap, map, arith}
 use Rattle.std.proofs.lemmas.List.{map_push}
 use Rattle.model_meaning.proofs.AppliedLemmas.{records_by_stored, records_by_mailbox, records_by_sealed, boxes_by_stored, boxes_by_mailbox, boxes_by_sealed}
 use Rattle.map_rows.specs.TableValue.{TableValue}

@@ -1,4 +1,4 @@
-use Rattle.std.proofs.Common.{◌≡◌, ◌∷◌, [], List, not, filter, fold, drop, ◌≤◌, ◌+◌, length, ap, refl, sym, ◌∙◌}
+use Rattle.std.proofs.Common.{◌∷◌, [], List, not, filter, fold, drop, ◌≤◌, ◌+◌, length, ap, refl, sym, ◌∙◌}
 use Rattle.mdbox_base.specs.declared.ids.MapUid.{MapUid}
 use Rattle.model_meaning.specs.MapMeaning.{MapRecord, has_map_uid}
 use Rattle.map_rows.specs.TableValue.{TableValue}

@@ -1,4 +1,4 @@
-use Rattle.std.proofs.Common.{◌≡◌, ◌≤◌, ◌+◌, ◌∷◌, [], List, length, fold, map, drop, ap, refl, subst, sym, ◌∙◌}
+use Rattle.std.proofs.Common.{◌≤◌, ◌+◌, ◌∷◌, [], List, length, fold, map, drop, ap, refl, subst, sym, ◌∙◌}
 use Rattle.std.proofs.lemmas.List.Kept.{AllPairs-from_increasing}
 use Rattle.mdbox_base.specs.declared.entries.MapPlace.{MapPlace}
 use Rattle.model_meaning.specs.MapMeaning.{MapRecord, place_given, moved_record}

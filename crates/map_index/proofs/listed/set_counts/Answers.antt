@@ -1,4 +1,4 @@
-use Rattle.std.proofs.Common.{◌≡◌, ◌∷◌, [], List, fold, map, drop, ◌≤◌, ◌+◌, length, ap, refl, sym, ◌∙◌}
+use Rattle.std.proofs.Common.{◌∷◌, [], List, fold, map, drop, ◌≤◌, ◌+◌, length, ap, refl, sym, ◌∙◌}
 use Rattle.std.proofs.lemmas.List.Kept.{AllPairs-from_increasing}
 use Rattle.mdbox_base.specs.declared.entries.MapCount.{MapCount}
 use Rattle.mdbox_base.specs.declared.entries.MapEntry.TheVariants as entry

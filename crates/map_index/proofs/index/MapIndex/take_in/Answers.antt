@@ -1,4 +1,4 @@
-use Rattle.std.proofs.Common.{◌≡◌, ◌≤◌, ◌<◌, ◌^◌, ◌∙◌, ℕ, sym, ap, subst, arith}
+use Rattle.std.proofs.Common.{◌<◌, ◌^◌, ◌∙◌, ℕ, sym, ap, subst, arith}
 use Rattle.mdbox_base.specs.declared.entries.Highest.{Highest}
 use Rattle.model_meaning.specs.MapMeaning.{MapBox, higher}
 use Rattle.map_rows.specs.TableValue.{TableValue}
