@@ -10,8 +10,7 @@ use Rattle.model_meaning.specs.MapMeaning.{MapRecord, guid_file}
 use Rattle.model_store.specs.Safe.{LiesInFile}
 use Rattle.model_store.specs.Settled.{files_of, HasSameRegion}
 use Rattle.store_core.specs.Append.{change_beside}
-use Rattle.store_core.specs.Dues.{due_at, listed_at}
-use Rattle.store_core.specs.Value.{StoreValue, entry_room}
+use Rattle.store_core.specs.Value.{entry_room}
 
 -- ---- what it asks
 
@@ -24,17 +23,17 @@ IsAppendable (map_entry.T counts) = Unit {0}
 IsAppendable (map_entry.S origin count uid file offset size guid instances) = (origin ≡ 1) × (count ≡ 1) × (instances ≡ [])
 IsAppendable entry = ⊥
 
--- A message that is stored gets the next map uid, which is drawn by the append. Its file is drawn, and so is that of its GUID.
--- The map uids that other entries name are those of records.
-abbrev pub HasDrawnNumbers : {D : Type 0} → MapEntry → StoreValue D → Type 0
-HasDrawnNumbers (map_entry.S origin count uid file offset size guid instances) store = (uid.0 ≡ store.drawn.map + 1) × (file.0 ≤ store.drawn.file) × (guid_file store.map.store guid.0 ≤ store.drawn.file)
-HasDrawnNumbers entry store = Unit {0}
+-- A message that is stored gets the next map uid, which is drawn by the append. Its file is drawn, and so is that of its GUID,
+-- in the store with this id. The map uids that other entries name are those of records.
+abbrev pub HasDrawnNumbers : MapEntry → List ℕ → Highest → Type 0
+HasDrawnNumbers (map_entry.S origin count uid file offset size guid instances) store drawn = (uid.0 ≡ drawn.map + 1) × (file.0 ≤ drawn.file) × (guid_file store guid.0 ≤ drawn.file)
+HasDrawnNumbers entry store drawn = Unit {0}
 
 -- Something is due of each record whose count falls. A count that is set is what is listed and due.
-abbrev pub FitsDue : {D : Type 0} → MapEntry → StoreValue D → Type 0
-FitsDue (map_entry.D uids) store = All (λ uid. 1 ≤ due_at uid.0 store) uids
-FitsDue (map_entry.T counts) store = All (λ given. given.count ≡ listed_at given.uid.0 store + due_at given.uid.0 store) counts
-FitsDue entry store = Unit {0}
+abbrev pub FitsDue : MapEntry → (ℕ → ℕ) → (ℕ → ℕ) → Type 0
+FitsDue (map_entry.D uids) due listed = All (λ uid. 1 ≤ due uid.0) uids
+FitsDue (map_entry.T counts) due listed = All (λ given. given.count ≡ listed given.uid.0 + due given.uid.0) counts
+FitsDue entry due listed = Unit {0}
 
 -- the region of a message that is stored lies in its file, as the disk reads it
 abbrev pub HasRegion : MapEntry → Option History → Type 0

@@ -11,7 +11,7 @@ ghost use Rattle.model_logs.specs.Entries.{map_text, MapInRange};
 ghost use Rattle.model_meaning.specs.MapFits.{MapFits};
 ghost use Rattle.model_meaning.specs.MapMeaning.{MapRecord, map_applied, record_at, record_made};
 ghost use Rattle.model_store.specs.Settled.{IsSettledFor, Leaves};
-ghost use Rattle.store_core.specs.Dues.{due_at, leak_at, IsSpared, KeepsStored};
+ghost use Rattle.store_core.specs.Dues.{due_at, listed_at, leak_at, IsSpared, KeepsStored};
 ghost use Rattle.store_core.specs.MapAppend.{IsAppendable, HasDrawnNumbers, FitsDue, HasRegion, HasSyncedRegion, drawn_by, IsLongEntry};
 ghost use Rattle.store_core.specs.declared.error.StepError.TheVariants as step_error;
 
@@ -51,8 +51,8 @@ impl<D: Disk> Store<D> {
         requires range { MapInRange entry.now }
         requires kind { IsAppendable entry.now }
         requires fits { MapFits self.old.map entry.now }
-        requires drawn { HasDrawnNumbers entry.now self.old }
-        requires due { FitsDue entry.now self.old }
+        requires drawn { HasDrawnNumbers entry.now self.old.map.store self.old.drawn }
+        requires due { FitsDue entry.now (λ uid. due_at uid self.old) (λ uid. listed_at uid self.old) }
         requires region { HasRegion entry.now (D.history self.old.disk) }
 
         // Of a settled disk each image at every moment is safe for its lists, whichever call fails; and after Ok it is settled
@@ -98,8 +98,8 @@ impl<D: Disk> Store<D> {
         requires range { MapInRange entry.now }
         requires kind { IsAppendable entry.now }
         requires fits { MapFits self.old.map entry.now }
-        requires drawn { HasDrawnNumbers entry.now self.old }
-        requires due { FitsDue entry.now self.old }
+        requires drawn { HasDrawnNumbers entry.now self.old.map.store self.old.drawn }
+        requires due { FitsDue entry.now (λ uid. due_at uid self.old) (λ uid. listed_at uid self.old) }
         requires region { HasRegion entry.now (D.history self.old.disk) }
         requires text { text.now ≡ map_text entry.now }
         ensures any_moment { (lists : Lists) → HasSyncedRegion entry.now (D.history self.old.disk) → IsSettledFor lists (D.history self.old.disk) → Leaves lists lists (D.history self.old.disk) (D.history self.new.disk) }
