@@ -1,6 +1,9 @@
 -- What an append to the map log asks, and what it leaves.
-use Rattle.std.specs.Prelude.{◌≡◌, ◌≤◌, ◌<◌, ◌+◌, ◌-◌, ℕ, List, [], ◌∷◌, ◌++◌, length, fold, All}
+use Rattle.std.specs.Prelude.{◌≡◌, ◌≤◌, ◌<◌, ◌+◌, ◌-◌, ℕ, List, [], ◌∷◌, ◌++◌, length, fold, All, Option, MatchOption}
 use Rattle.disk_model.specs.Disk.{Files, History, IfTold, IsImage}
+use Rattle.map_index.specs.Shown.{TakesMemory}
+use Rattle.map_index.specs.Value.{HasRoomFor}
+use Rattle.map_index.specs.declared.room.MapRoom.{MapRoom}
 use Rattle.mdbox_base.specs.declared.entries.Highest.{Highest}
 use Rattle.mdbox_base.specs.declared.entries.MapEntry.{MapEntry}
 use Rattle.mdbox_base.specs.declared.entries.MapEntry.TheVariants as map_entry
@@ -58,6 +61,14 @@ abbrev pub IsLongEntry : MapEntry → Type 0
 IsLongEntry entry = entry_room < length (map_text entry) + 5
 
 -- ---- within the crate
+
+-- the octets of an entry; none where it is short
+abbrev pub IsLaidOut : Option (List ℕ) → MapEntry → Type 0
+IsLaidOut text entry = MatchOption text (length (map_text entry) ≤ 64) (λ octets. octets ≡ map_text entry)
+
+-- an entry that makes something once more, for which there is so much room; none where it makes nothing
+abbrev pub IsCopied : Option MapEntry → MapEntry → MapRoom → Type 0
+IsCopied copy entry room = MatchOption copy (TakesMemory entry → ⊥) (λ same. (same ≡ entry) × HasRoomFor entry room)
 
 -- what is due with the entry, as numbers at the records: a record that is made is the last
 abbrev pub dues_with : MapEntry → List MapRecord → List ℕ → List ℕ
