@@ -90,7 +90,7 @@ each_changed k f (r ∷ rs) (n ∷ ns) each = by_test (r.uid == k) (each_changed
     by_test true rest = each
     by_test false rest = rest
 
-pub length_changed : (k : ℕ) (f : ℕ → ℕ) (rows : List MapRecord) (ns : List ℕ) → length (change_beside k f rows ns) ≡ length ns
+length_changed : (k : ℕ) (f : ℕ → ℕ) (rows : List MapRecord) (ns : List ℕ) → length (change_beside k f rows ns) ≡ length ns
 length_changed k f [] ns = refl
 length_changed k f (r ∷ rs) [] = refl
 length_changed k f (r ∷ rs) (n ∷ ns) = by_test (r.uid == k) (length_changed k f rs ns)
@@ -98,6 +98,9 @@ length_changed k f (r ∷ rs) (n ∷ ns) = by_test (r.uid == k) (length_changed 
     by_test : (t : Bool) → length (change_beside k f rs ns) ≡ length ns → length (cond t (f n ∷ ns) (n ∷ change_beside k f rs ns)) ≡ length (n ∷ ns)
     by_test true rest = refl
     by_test false rest = ap suc rest
+
+pub length_after : (k : ℕ) (f : ℕ → ℕ) (rows : List MapRecord) (ns ms : List ℕ) → ms ≡ change_beside k f rows ns → length ns ≡ length rows → length ms ≡ length rows
+length_after k f rows ns ms is size = ap length is ∙ length_changed k f rows ns ∙ size
 
 pub as_many : (rows : List MapRecord) (ns : List ℕ) → OneEach rows ns → length ns ≡ length rows
 as_many [] [] each = refl

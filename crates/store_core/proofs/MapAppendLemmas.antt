@@ -7,6 +7,7 @@ use Rattle.disk_model.specs.Disk.{Files, History, IfTold, SameButFor, Between, r
 use Rattle.disk_model.specs.declared.name.FileName.TheVariants as file
 use Rattle.gate_log.specs.State.{LogState, IsSameLog}
 use Rattle.gate_log.specs.Log.{IsLogRead, Reads}
+use Rattle.log_records.proofs.EntrySizeLemmas.{lowered_size, counted_size, stored_size}
 use Rattle.mdbox_base.specs.declared.entries.BoxEntry.{BoxEntry}
 use Rattle.mdbox_base.specs.declared.entries.Highest.{Highest}
 use Rattle.mdbox_base.specs.declared.entries.InstRow.{InstRow}
@@ -319,24 +320,62 @@ store_stopped old new v disk log s same = record {
   running = λ runs. absurd (cc runs);
 }
 
-pub room_with : {D : Type 0} → (v w : StoreValue D) → HasEntryRoom v → v.map_log.room ≤ w.map_log.room → w.boxes ≡ v.boxes → HasEntryRoom w
-room_with v w room more boxes = record {
-  map_log = let a : entry_room ≤ v.map_log.room = room.map_log in omega (arith, a, more);
+-- by what the code has at hand
+pub store_as : {D : Type 0} → (h : Option History) (v : StoreValue D) (disk : D) (log : LogState) (e : MapEntry) (m : MapMeaning) (drawn : Highest) (dues : List ℕ) → m ≡ map_applied e v.map → drawn ≡ drawn_by e v.drawn → dues ≡ dues_with e v.map.records v.dues
+    → IsStore h (with_entry v disk log e) → IsStore h (record v { disk = disk; map_log = log; map = m; drawn = drawn; dues = dues })
+store_as h v disk log e m drawn dues a b c s =
+    subst (λ (x : MapMeaning). IsStore h (record v { disk = disk; map_log = log; map = x; drawn = drawn; dues = dues })) (sym a)
+    (subst (λ (x : Highest). IsStore h (record v { disk = disk; map_log = log; map = map_applied e v.map; drawn = x; dues = dues })) (sym b)
+    (subst (λ (x : List ℕ). IsStore h (record v { disk = disk; map_log = log; map = map_applied e v.map; drawn = drawn_by e v.drawn; dues = x })) (sym c) s))
+
+pub room_after : {D : Type 0} → (v w : StoreValue D) (log : LogState) → HasEntryRoom v → v.map_log.room ≤ log.room → w.map_log.room ≡ log.room → w.boxes ≡ v.boxes → HasEntryRoom w
+room_after v w log room more same boxes = record {
+  map_log = let a : entry_room ≤ v.map_log.room = room.map_log in omega (arith, a, more, same);
   box_logs = subst (λ (bs : List OpenBox). All (λ (o : OpenBox). entry_room ≤ o.log.room) bs) (sym boxes) room.box_logs;
 }
+
+pub unchanged : {D : Type 0} → (v : StoreValue D) (log : LogState) (m : MapMeaning) (dues : List ℕ) → log ≡ v.map_log → m ≡ v.map → dues ≡ v.dues → prepared v log m dues ≡ v
+unchanged v log m dues a b c = ap (λ (l : LogState). prepared v l m dues) a ∙ ap (λ (n : MapMeaning). prepared v v.map_log n dues) b ∙ ap (λ (ns : List ℕ). prepared v v.map_log v.map ns) c
+
+pub due_seen : {D : Type 0} → (h : Option History) (w now : StoreValue D) (log : LogState) (e : MapEntry) (m : MapMeaning) (dues : List ℕ) (uid : ℕ) → Readied h w e → w ≡ record now { map_log = log } → m ≡ map_applied e w.map → dues ≡ dues_with e w.map.records w.dues
+    → number_beside uid m.records dues ≡ due_by e (λ other. due_at other now) uid
+due_seen h w now log e m dues uid r is a b =
+    ap (λ (x : MapMeaning). number_beside uid x.records dues) a ∙ ap (number_beside uid (map_applied e w.map).records) b ∙ due_with h w e uid r ∙ ap (λ (x : StoreValue _). due_by e (λ other. due_at other x) uid) is
+
+pub leak_seen : {D : Type 0} → (h : Option History) (w now : StoreValue D) (log : LogState) (e : MapEntry) (m : MapMeaning) (dues : List ℕ) (uid : ℕ) → Readied h w e → w ≡ record now { map_log = log } → m ≡ map_applied e w.map → dues ≡ dues_with e w.map.records w.dues
+    → number_beside uid m.records (map (λ row. row.count) m.records) - (listed_at uid w + number_beside uid m.records dues) ≡ leak_by e (λ other. leak_at other now) uid
+leak_seen h w now log e m dues uid r is a b =
+    ap (λ (x : MapMeaning). number_beside uid x.records (map (λ (row : MapRecord). row.count) x.records) - (listed_at uid w + number_beside uid x.records dues)) a
+    ∙ ap (λ (ns : List ℕ). number_beside uid (map_applied e w.map).records (map (λ (row : MapRecord). row.count) (map_applied e w.map).records) - (listed_at uid w + number_beside uid (map_applied e w.map).records ns)) b
+    ∙ leak_with h w e uid r ∙ ap (λ (x : StoreValue _). leak_by e (λ other. leak_at other x) uid) is
+
+pub made_with : {D : Type 0} → (h : Option History) (w : StoreValue D) (e : MapEntry) (m : MapMeaning) → Readied h w e → m ≡ map_applied e w.map → All (λ row. record_at m row.uid ≡ Some row) (record_made e)
+made_with h w e m r is = subst (λ (x : MapMeaning). All (λ row. record_at x row.uid ≡ Some row) (record_made e)) (sym is) (found_made e r.kind w.map (store_sound h w r.store) r.fits)
 
 -- ---- the map's log
 
 pub read_with : {D : Type 0} → (h : Option History) (v : StoreValue D) (e : MapEntry) → Readied h v e → (texts : List (List ℕ)) × Reads v.map_log texts h
 read_with h v e r = (map map_text r.store.entries, (r.store.running r.running).map_log_reads)
 
-pub some_octets : (e : MapEntry) → IsAppendable e → 1 ≤ length (map_text e)
-some_octets (entry.U u) k = omega arith
-some_octets (entry.D us) k = omega arith
-some_octets (entry.T cs) k = omega arith
-some_octets (entry.S o c u f p z g is) k = omega arith
-some_octets (entry.H h) k = absurd k
-some_octets (entry.B b g n) k = absurd k
-some_octets (entry.G b g) k = absurd k
-some_octets (entry.P f t ms us) k = absurd k
-some_octets (entry.E f) k = absurd k
+-- the text of an entry is some octets, and far fewer than a number counts
+pub some_octets : (e : MapEntry) → 1 ≤ length (map_text e)
+some_octets (entry.U u) = omega arith
+some_octets (entry.D us) = omega arith
+some_octets (entry.T cs) = omega arith
+some_octets (entry.S o c u f p z g is) = omega arith
+some_octets (entry.H h) = omega arith
+some_octets (entry.B b g n) = omega arith
+some_octets (entry.G b g) = omega arith
+some_octets (entry.P f t ms us) = omega arith
+some_octets (entry.E f) = omega arith
+
+pub few_octets : (e : MapEntry) → IsAppendable e → MapInRange e → length (map_text e) ≤ 2 ^ 40
+few_octets (entry.U u) k r = omega arith
+few_octets (entry.D us) k r = let size = lowered_size (entry.D us) us refl r in let few = r.0 in omega (arith, size, few)
+few_octets (entry.T cs) k r = let size = counted_size (entry.T cs) cs refl r in let few = r.0 in omega (arith, size, few)
+few_octets (entry.S o c u f p z g is) k r = let size = stored_size (entry.S o c u f p z g is) o c u f p z g is refl r in let none = ap (λ (xs : List InstRow). length xs) k.2 in omega (arith, size, none)
+few_octets (entry.H h) k r = absurd k
+few_octets (entry.B b g n) k r = absurd k
+few_octets (entry.G b g) k r = absurd k
+few_octets (entry.P f t ms us) k r = absurd k
+few_octets (entry.E f) k r = absurd k

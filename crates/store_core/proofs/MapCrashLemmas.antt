@@ -212,15 +212,10 @@ stored_with None new v e r same = same
 stored_with (Some old) None v e r same = absurd same
 stored_with (Some old) (Some new) v e r same = λ row octets stores. kept_as (files_of old.now) (files_of new.now) row row octets (stored_as old new v e r same) (count_itself row) stores
 
-pub spared_with : {D : Type 0} → (old new : Option History) (v w : StoreValue D) (e : MapEntry) (uid : ℕ) (row : MapRecord) → Readied old v e → SameButFor v.map_log.name old new → w.map ≡ map_applied e v.map → record_at v.map uid ≡ Some row → IsSpared uid row w old new
-spared_with old new v w e uid row r same is found = record {
-  now = record_changed e row;
-  there = ap (λ (m : MapMeaning). record_at m uid) is ∙ found_with e r.kind v.map uid row found;
-  guid = (same_record e (adds e r.kind) row).guid;
-  stores = λ octets. as_stored old new r same octets;
-}
-  where
-    as_stored : (old new : Option History) → Readied old v e → SameButFor v.map_log.name old new → (octets : List ℕ) → Between (λ a b. StoresMessage (files_of a) row octets → StoresMessage (files_of b) (record_changed e row) octets) old new
-    as_stored None new r same octets = same
-    as_stored (Some old) None r same octets = absurd same
-    as_stored (Some old) (Some new) r same octets = λ stores. kept_as (files_of old.now) (files_of new.now) row (record_changed e row) octets (stored_as old new v e r same) (same_record e (adds e r.kind) row) stores
+-- a record that is found still stores what it did
+pub still_stored : {D : Type 0} → (old new : Option History) (v : StoreValue D) (e : MapEntry) (row : MapRecord) (octets : List ℕ) → Readied old v e → SameButFor v.map_log.name old new
+    → Between (λ a b. StoresMessage (files_of a) row octets → StoresMessage (files_of b) (record_changed e row) octets) old new
+still_stored None new v e row octets r same = same
+still_stored (Some old) None v e row octets r same = absurd same
+still_stored (Some old) (Some new) v e row octets r same = λ stores.
+    kept_as (files_of old.now) (files_of new.now) row (record_changed e row) octets (stored_as old new v e r same) (same_record e (adds e r.kind) row) stores

@@ -261,11 +261,11 @@ map_dues_are e k m ns sound fits rising each =
 
 named_due : (due : ℕ → ℕ) (us : List MapUid) (uid : ℕ) → All (λ u. 1 ≤ due u.0) us → has_map_uid uid us ≡ true → 1 ≤ due uid
 named_due due [] uid all has = absurd (let e : false ≡ true = has in cc e)
-named_due due (u ∷ us) uid all has = by_test (u.0 == uid) refl has
+named_due due (u ∷ us) uid all has = by_test (u.0 == uid) refl has (λ h. named_due due us uid (All-tail (λ (v : MapUid). 1 ≤ due v.0) u us all) h)
   where
-    by_test : (t : Bool) → (u.0 == uid) ≡ t → (t || has_map_uid uid us) ≡ true → 1 ≤ due uid
-    by_test true is h = subst (λ (n : ℕ). 1 ≤ due n) (equal_is u.0 uid is) (All-head (λ (v : MapUid). 1 ≤ due v.0) u us all)
-    by_test false is h = named_due due us uid (All-tail (λ (v : MapUid). 1 ≤ due v.0) u us all) h
+    by_test : (t : Bool) → (u.0 == uid) ≡ t → (t || has_map_uid uid us) ≡ true → (has_map_uid uid us ≡ true → 1 ≤ due uid) → 1 ≤ due uid
+    by_test true is h rest = subst (λ (n : ℕ). 1 ≤ due n) (equal_is u.0 uid is) (All-head (λ (v : MapUid). 1 ≤ due v.0) u us all)
+    by_test false is h rest = rest h
 
 -- In terms of logs: of a record that is stored nothing is due yet, nor does it leak.
 pub may_change : (e : MapEntry) → IsAppendable e → (due leak listed : ℕ → ℕ) (logs : List (List BoxEntry)) → FitsDue e due listed → ((uid : ℕ) → listed uid ≡ listed_of logs uid) → All (λ row. (due row.uid ≡ 0) × (leak row.uid ≡ 0)) (record_made e) → MayChange e due leak logs

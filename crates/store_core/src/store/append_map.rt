@@ -209,6 +209,7 @@ fn reserve_for(
 /// Makes room in a log for the record of an entry, where it has too little.
 fn reserve_log(log: &mut GateLog, entry: &MapEntry) -> Result<(), NoMemory>
     requires range { MapInRange entry.now }
+    requires kind { IsAppendable entry.now }
     ensures room { OnOk result (length (map_text entry.now) + 5 ≤ log.new.room) }
     ensures no_less { log.old.room ≤ log.new.room }
     ensures same { log.new ≡ record log.old { room = log.new.room } }
