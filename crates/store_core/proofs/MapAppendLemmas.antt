@@ -276,7 +276,7 @@ runs_with old new v w e r store root_log boxes log others added =
 abbrev pub with_entry : {D : Type 0} → StoreValue D → D → LogState → MapEntry → StoreValue D
 with_entry v disk log e = record v { disk = disk; map_log = log; map = map_applied e v.map; drawn = drawn_by e v.drawn; dues = dues_with e v.map.records v.dues }
 
-pub store_with : {D : Type 0} → (old new : Option History) (v : StoreValue D) (disk : D) (log : LogState) (e : MapEntry) → Readied old v e → IsSameLog v.map_log log → SameButFor v.map_log.name old new
+store_with : {D : Type 0} → (old new : Option History) (v : StoreValue D) (disk : D) (log : LogState) (e : MapEntry) → Readied old v e → IsSameLog v.map_log log → SameButFor v.map_log.name old new
     → ((texts : List (List ℕ)) → Reads v.map_log texts old → Reads log (texts ++ map_text e ∷ []) new) → IsStore new (with_entry v disk log e)
 store_with old new v disk log e r same others added =
     let s = r.store in
@@ -321,12 +321,17 @@ store_stopped old new v disk log s same = record {
 }
 
 -- by what the code has at hand
-pub store_as : {D : Type 0} → (h : Option History) (v : StoreValue D) (disk : D) (log : LogState) (e : MapEntry) (m : MapMeaning) (drawn : Highest) (dues : List ℕ) → m ≡ map_applied e v.map → drawn ≡ drawn_by e v.drawn → dues ≡ dues_with e v.map.records v.dues
+store_as : {D : Type 0} → (h : Option History) (v : StoreValue D) (disk : D) (log : LogState) (e : MapEntry) (m : MapMeaning) (drawn : Highest) (dues : List ℕ) → m ≡ map_applied e v.map → drawn ≡ drawn_by e v.drawn → dues ≡ dues_with e v.map.records v.dues
     → IsStore h (with_entry v disk log e) → IsStore h (record v { disk = disk; map_log = log; map = m; drawn = drawn; dues = dues })
 store_as h v disk log e m drawn dues a b c s =
     subst (λ (x : MapMeaning). IsStore h (record v { disk = disk; map_log = log; map = x; drawn = drawn; dues = dues })) (sym a)
     (subst (λ (x : Highest). IsStore h (record v { disk = disk; map_log = log; map = map_applied e v.map; drawn = x; dues = dues })) (sym b)
     (subst (λ (x : List ℕ). IsStore h (record v { disk = disk; map_log = log; map = map_applied e v.map; drawn = drawn_by e v.drawn; dues = x })) (sym c) s))
+
+pub store_after : {D : Type 0} → (old new : Option History) (v : StoreValue D) (disk : D) (log : LogState) (e : MapEntry) (m : MapMeaning) (drawn : Highest) (dues : List ℕ) → Readied old v e → IsSameLog v.map_log log → SameButFor v.map_log.name old new
+    → ((texts : List (List ℕ)) → Reads v.map_log texts old → Reads log (texts ++ map_text e ∷ []) new) → m ≡ map_applied e v.map → drawn ≡ drawn_by e v.drawn → dues ≡ dues_with e v.map.records v.dues
+    → IsStore new (record v { disk = disk; map_log = log; map = m; drawn = drawn; dues = dues })
+store_after old new v disk log e m drawn dues r same others added a b c = store_as new v disk log e m drawn dues a b c (store_with old new v disk log e r same others added)
 
 pub room_after : {D : Type 0} → (v w : StoreValue D) (log : LogState) → HasEntryRoom v → v.map_log.room ≤ log.room → w.map_log.room ≡ log.room → w.boxes ≡ v.boxes → HasEntryRoom w
 room_after v w log room more same boxes = record {

@@ -8,10 +8,11 @@ use Rattle.model_store.specs.Stands.{StoresMessage}
 use Rattle.store_core.specs.Dues.{KeepsStored}
 use Rattle.store_core.specs.MapAppend.{HasRegion, HasSyncedRegion}
 use Rattle.store_core.proofs.BoxCrashLemmas.{leaves_none}
-use Rattle.store_core.proofs.MapAppendLemmas.{readied, seen_prepared, store_with, store_as, room_after, read_with, size_with, room_to_rise, due_seen, leak_seen, made_with}
+use Rattle.store_core.proofs.MapAppendLemmas.{readied, seen_prepared, store_after, room_after, read_with, size_with, room_to_rise, due_seen, leak_seen, made_with}
 use Rattle.store_core.proofs.MapCrashLemmas.{leaves_with, settled_with, stored_with, still_stored}
 use Rattle.store_core.proofs.MapDueLemmas.{adds, mailboxes_stay, found_with}
 use Rattle.store_core.proofs.store.Store.append_map.Goals as goal
+use Rattle.store_core.proofs.store.Store.append_map.Goals.{in-Some+in-B-1, in-Some+in-S-1, in-Some+in-D-1, in-Some+in-T-1, in-Some+in-P-1, in-Some+in-H-1, in-None-1}
 
 pub append_entry-requires-clause-read : goal.append_entry-requires-clause-read
 append_entry-requires-clause-read g c = read_with _ _ c.args.entry.now (readied _ _ c.args.self.now c.take_room.new.log c.take_room.new.map.meaning c.take_room.new.dues.items c.args.entry.now c.self.invariant.1 c.self.view_is c.take_room.ensures.log c.take_room.ensures.map c.take_room.ensures.dues c.requires.running c.requires.range c.requires.kind c.requires.fits c.requires.drawn c.requires.due (subst (λ v. HasRegion c.args.entry.now (g.D.Disk.history v.disk)) (sym c.self.view_is) c.requires.region))
@@ -25,8 +26,7 @@ change_dues-requires-clause-room g c = λ uid is. room_to_rise _ _ c.args.entry.
 pub invariant_of-self-in-Ok : goal.invariant_of-self-in-Ok
 invariant_of-self-in-Ok g c = (
   c.self.invariant.0 ∙ ap (λ (m : MapMeaning). m.store) (sym (c.take_in.ensures ∙ ap (map_applied c.args.entry.now) c.take_room.ensures.map)),
-  store_as _ _ c.append_entry.new.disk c.append_entry.new.log c.args.entry.now c.take_in.new.map.meaning c.drawn_with-self-inside.result c.change_dues.new.dues.items c.take_in.ensures c.drawn_with-self-inside.ensures c.change_dues.ensures
-      (store_with _ _ _ c.append_entry.new.disk c.append_entry.new.log c.args.entry.now (readied _ _ c.args.self.now c.take_room.new.log c.take_room.new.map.meaning c.take_room.new.dues.items c.args.entry.now c.self.invariant.1 c.self.view_is c.take_room.ensures.log c.take_room.ensures.map c.take_room.ensures.dues c.requires.running c.requires.range c.requires.kind c.requires.fits c.requires.drawn c.requires.due (subst (λ v. HasRegion c.args.entry.now (g.D.Disk.history v.disk)) (sym c.self.view_is) c.requires.region)) c.in-Ok.ensures.log c.in-Ok.ensures.others c.in-Ok.ensures.added),
+  store_after _ _ _ c.append_entry.new.disk c.append_entry.new.log c.args.entry.now c.take_in.new.map.meaning c.drawn_with-self-inside.result c.change_dues.new.dues.items (readied _ _ c.args.self.now c.take_room.new.log c.take_room.new.map.meaning c.take_room.new.dues.items c.args.entry.now c.self.invariant.1 c.self.view_is c.take_room.ensures.log c.take_room.ensures.map c.take_room.ensures.dues c.requires.running c.requires.range c.requires.kind c.requires.fits c.requires.drawn c.requires.due (subst (λ v. HasRegion c.args.entry.now (g.D.Disk.history v.disk)) (sym c.self.view_is) c.requires.region)) c.in-Ok.ensures.log c.in-Ok.ensures.others c.in-Ok.ensures.added c.take_in.ensures c.drawn_with-self-inside.ensures c.change_dues.ensures,
   room_after _ _ c.take_room.new.log c.self.invariant.2 c.take_room.ensures.no_less c.in-Ok.ensures.log.room refl,
 )
 
@@ -42,8 +42,18 @@ returns-in-Ok-clause-any_moment g c =
 
 pub returns-in-Err-clause-any_moment : goal.returns-in-Err-clause-any_moment
 returns-in-Err-clause-any_moment g c =
+    let left : (lists : Lists) → HasSyncedRegion c.args.entry.now (g.D.Disk.history c.args.self.now.disk) → IsSettledFor lists (g.D.Disk.history c.args.self.now.disk) → Leaves lists lists (g.D.Disk.history c.args.self.now.disk) (g.D.Disk.history c.append_entry.new.disk) =
     subst (λ v. (lists : Lists) → HasSyncedRegion c.args.entry.now (g.D.Disk.history v.disk) → IsSettledFor lists (g.D.Disk.history v.disk) → Leaves lists lists (g.D.Disk.history v.disk) (g.D.Disk.history c.append_entry.new.disk)) c.self.view_is
-    (leaves_with _ _ _ c.args.entry.now (readied _ _ c.args.self.now c.take_room.new.log c.take_room.new.map.meaning c.take_room.new.dues.items c.args.entry.now c.self.invariant.1 c.self.view_is c.take_room.ensures.log c.take_room.ensures.map c.take_room.ensures.dues c.requires.running c.requires.range c.requires.kind c.requires.fits c.requires.drawn c.requires.due (subst (λ v. HasRegion c.args.entry.now (g.D.Disk.history v.disk)) (sym c.self.view_is) c.requires.region)) (g.met.D.Disk.reads_image c.self.inside.disk) c.append_entry.ensures.any_moment)
+    (leaves_with _ _ _ c.args.entry.now (readied _ _ c.args.self.now c.take_room.new.log c.take_room.new.map.meaning c.take_room.new.dues.items c.args.entry.now c.self.invariant.1 c.self.view_is c.take_room.ensures.log c.take_room.ensures.map c.take_room.ensures.dues c.requires.running c.requires.range c.requires.kind c.requires.fits c.requires.drawn c.requires.due (subst (λ v. HasRegion c.args.entry.now (g.D.Disk.history v.disk)) (sym c.self.view_is) c.requires.region)) (g.met.D.Disk.reads_image c.self.inside.disk) c.append_entry.ensures.any_moment) in
+    elim c.match-copy.branch [
+      | in-Some+in-B-1 w ↦ subst (λ s. (lists : Lists) → HasSyncedRegion c.args.entry.now (g.D.Disk.history c.args.self.now.disk) → IsSettledFor lists (g.D.Disk.history c.args.self.now.disk) → Leaves lists lists (g.D.Disk.history c.args.self.now.disk) (g.D.Disk.history s.disk)) (sym w.self-is) left
+      | in-Some+in-S-1 w ↦ subst (λ s. (lists : Lists) → HasSyncedRegion c.args.entry.now (g.D.Disk.history c.args.self.now.disk) → IsSettledFor lists (g.D.Disk.history c.args.self.now.disk) → Leaves lists lists (g.D.Disk.history c.args.self.now.disk) (g.D.Disk.history s.disk)) (sym w.self-is) left
+      | in-Some+in-D-1 w ↦ subst (λ s. (lists : Lists) → HasSyncedRegion c.args.entry.now (g.D.Disk.history c.args.self.now.disk) → IsSettledFor lists (g.D.Disk.history c.args.self.now.disk) → Leaves lists lists (g.D.Disk.history c.args.self.now.disk) (g.D.Disk.history s.disk)) (sym w.self-is) left
+      | in-Some+in-T-1 w ↦ subst (λ s. (lists : Lists) → HasSyncedRegion c.args.entry.now (g.D.Disk.history c.args.self.now.disk) → IsSettledFor lists (g.D.Disk.history c.args.self.now.disk) → Leaves lists lists (g.D.Disk.history c.args.self.now.disk) (g.D.Disk.history s.disk)) (sym w.self-is) left
+      | in-Some+in-P-1 w ↦ subst (λ s. (lists : Lists) → HasSyncedRegion c.args.entry.now (g.D.Disk.history c.args.self.now.disk) → IsSettledFor lists (g.D.Disk.history c.args.self.now.disk) → Leaves lists lists (g.D.Disk.history c.args.self.now.disk) (g.D.Disk.history s.disk)) (sym w.self-is) left
+      | in-Some+in-H-1 w ↦ subst (λ s. (lists : Lists) → HasSyncedRegion c.args.entry.now (g.D.Disk.history c.args.self.now.disk) → IsSettledFor lists (g.D.Disk.history c.args.self.now.disk) → Leaves lists lists (g.D.Disk.history c.args.self.now.disk) (g.D.Disk.history s.disk)) (sym w.self-is) left
+      | in-None-1 w ↦ subst (λ s. (lists : Lists) → HasSyncedRegion c.args.entry.now (g.D.Disk.history c.args.self.now.disk) → IsSettledFor lists (g.D.Disk.history c.args.self.now.disk) → Leaves lists lists (g.D.Disk.history c.args.self.now.disk) (g.D.Disk.history s.disk)) (sym w.self-is) left
+    ]
 
 pub returns-in-Ok-clause-settled : goal.returns-in-Ok-clause-settled
 returns-in-Ok-clause-settled g c =
