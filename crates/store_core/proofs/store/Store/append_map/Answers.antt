@@ -1,4 +1,4 @@
-use Rattle.std.proofs.Common.{◌≡◌, ℕ, List, sym, ◌∙◌, ap, subst, refl}
+use Rattle.std.proofs.Common.{rules, ◌≡◌, ℕ, List, sym, ◌∙◌, ap, subst, refl}
 use Rattle.disk_model.specs.Disk.{Between}
 use Rattle.model_lists.specs.Lists.{Lists}
 use Rattle.model_appends.proofs.AppendMapOpenLemmas.{same_record}
@@ -12,7 +12,6 @@ use Rattle.store_core.proofs.MapAppendLemmas.{readied, seen_prepared, store_afte
 use Rattle.store_core.proofs.MapCrashLemmas.{leaves_with, settled_with, stored_with, still_stored}
 use Rattle.store_core.proofs.MapDueLemmas.{adds, mailboxes_stay, found_with}
 use Rattle.store_core.proofs.store.Store.append_map.Goals as goal
-use Rattle.store_core.proofs.store.Store.append_map.Goals.{in-Some+in-B-1, in-Some+in-S-1, in-Some+in-D-1, in-Some+in-T-1, in-Some+in-P-1, in-Some+in-H-1, in-None-1}
 
 pub append_entry-requires-clause-read : goal.append_entry-requires-clause-read
 append_entry-requires-clause-read g c = read_with _ _ c.args.entry.now (readied _ _ c.args.self.now c.take_room.new.log c.take_room.new.map.meaning c.take_room.new.dues.items c.args.entry.now c.self.invariant.1 c.self.view_is c.take_room.ensures.log c.take_room.ensures.map c.take_room.ensures.dues c.requires.running c.requires.range c.requires.kind c.requires.fits c.requires.drawn c.requires.due (subst (λ v. HasRegion c.args.entry.now (g.D.Disk.history v.disk)) (sym c.self.view_is) c.requires.region))
@@ -45,15 +44,8 @@ returns-in-Err-clause-any_moment g c =
     let left : (lists : Lists) → HasSyncedRegion c.args.entry.now (g.D.Disk.history c.args.self.now.disk) → IsSettledFor lists (g.D.Disk.history c.args.self.now.disk) → Leaves lists lists (g.D.Disk.history c.args.self.now.disk) (g.D.Disk.history c.append_entry.new.disk) =
     subst (λ v. (lists : Lists) → HasSyncedRegion c.args.entry.now (g.D.Disk.history v.disk) → IsSettledFor lists (g.D.Disk.history v.disk) → Leaves lists lists (g.D.Disk.history v.disk) (g.D.Disk.history c.append_entry.new.disk)) c.self.view_is
     (leaves_with _ _ _ c.args.entry.now (readied _ _ c.args.self.now c.take_room.new.log c.take_room.new.map.meaning c.take_room.new.dues.items c.args.entry.now c.self.invariant.1 c.self.view_is c.take_room.ensures.log c.take_room.ensures.map c.take_room.ensures.dues c.requires.running c.requires.range c.requires.kind c.requires.fits c.requires.drawn c.requires.due (subst (λ v. HasRegion c.args.entry.now (g.D.Disk.history v.disk)) (sym c.self.view_is) c.requires.region)) (g.met.D.Disk.reads_image c.self.inside.disk) c.append_entry.ensures.any_moment) in
-    elim c.match-copy.branch [
-      | in-Some+in-B-1 w ↦ subst (λ s. (lists : Lists) → HasSyncedRegion c.args.entry.now (g.D.Disk.history c.args.self.now.disk) → IsSettledFor lists (g.D.Disk.history c.args.self.now.disk) → Leaves lists lists (g.D.Disk.history c.args.self.now.disk) (g.D.Disk.history s.disk)) (sym w.self-is) left
-      | in-Some+in-S-1 w ↦ subst (λ s. (lists : Lists) → HasSyncedRegion c.args.entry.now (g.D.Disk.history c.args.self.now.disk) → IsSettledFor lists (g.D.Disk.history c.args.self.now.disk) → Leaves lists lists (g.D.Disk.history c.args.self.now.disk) (g.D.Disk.history s.disk)) (sym w.self-is) left
-      | in-Some+in-D-1 w ↦ subst (λ s. (lists : Lists) → HasSyncedRegion c.args.entry.now (g.D.Disk.history c.args.self.now.disk) → IsSettledFor lists (g.D.Disk.history c.args.self.now.disk) → Leaves lists lists (g.D.Disk.history c.args.self.now.disk) (g.D.Disk.history s.disk)) (sym w.self-is) left
-      | in-Some+in-T-1 w ↦ subst (λ s. (lists : Lists) → HasSyncedRegion c.args.entry.now (g.D.Disk.history c.args.self.now.disk) → IsSettledFor lists (g.D.Disk.history c.args.self.now.disk) → Leaves lists lists (g.D.Disk.history c.args.self.now.disk) (g.D.Disk.history s.disk)) (sym w.self-is) left
-      | in-Some+in-P-1 w ↦ subst (λ s. (lists : Lists) → HasSyncedRegion c.args.entry.now (g.D.Disk.history c.args.self.now.disk) → IsSettledFor lists (g.D.Disk.history c.args.self.now.disk) → Leaves lists lists (g.D.Disk.history c.args.self.now.disk) (g.D.Disk.history s.disk)) (sym w.self-is) left
-      | in-Some+in-H-1 w ↦ subst (λ s. (lists : Lists) → HasSyncedRegion c.args.entry.now (g.D.Disk.history c.args.self.now.disk) → IsSettledFor lists (g.D.Disk.history c.args.self.now.disk) → Leaves lists lists (g.D.Disk.history c.args.self.now.disk) (g.D.Disk.history s.disk)) (sym w.self-is) left
-      | in-None-1 w ↦ subst (λ s. (lists : Lists) → HasSyncedRegion c.args.entry.now (g.D.Disk.history c.args.self.now.disk) → IsSettledFor lists (g.D.Disk.history c.args.self.now.disk) → Leaves lists lists (g.D.Disk.history c.args.self.now.disk) (g.D.Disk.history s.disk)) (sym w.self-is) left
-    ]
+    let same : c.match-copy.self.disk ≡ c.append_entry.new.disk = search rules in
+    subst (λ d. (lists : Lists) → HasSyncedRegion c.args.entry.now (g.D.Disk.history c.args.self.now.disk) → IsSettledFor lists (g.D.Disk.history c.args.self.now.disk) → Leaves lists lists (g.D.Disk.history c.args.self.now.disk) (g.D.Disk.history d)) (sym same) left
 
 pub returns-in-Ok-clause-settled : goal.returns-in-Ok-clause-settled
 returns-in-Ok-clause-settled g c =
