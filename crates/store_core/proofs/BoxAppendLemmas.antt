@@ -104,7 +104,7 @@ disk_more a b texts text old new name head r q =
     more_log (reading (old a.name)) (reading (new a.name)) a.head texts text (is_log a texts old r)
     (subst (λ (n : FileName). IsLogFile (reading (new n)) a.head (texts ++ text ∷ [])) name (subst (λ (h : LogHead). IsLogFile (reading (new b.name)) h (texts ++ text ∷ [])) head after))
 
-root_stays : (log : FileName) (id : List ℕ) (generation : ℕ) (old new : Option History) → SameButFor log old new → file.Root ≢ log → IfTold old (λ now. HasRoot (files_of now) id generation) → IfTold new (λ now. HasRoot (files_of now) id generation)
+pub root_stays : (log : FileName) (id : List ℕ) (generation : ℕ) (old new : Option History) → SameButFor log old new → file.Root ≢ log → IfTold old (λ now. HasRoot (files_of now) id generation) → IfTold new (λ now. HasRoot (files_of now) id generation)
 root_stays log id generation None new same apart h = subst (λ (o : Option History). IfTold o (λ now. HasRoot (files_of now) id generation)) (sym same) tt
 root_stays log id generation (Some old) None same apart h = absurd same
 root_stays log id generation (Some old) (Some new) same apart h =

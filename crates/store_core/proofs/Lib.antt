@@ -4,6 +4,9 @@ pub mod CountingLemmas
 pub mod DueChangeLemmas
 pub mod DueLemmas
 pub mod LookupLemmas
+pub mod MapAppendLemmas
+pub mod MapCrashLemmas
+pub mod MapDueLemmas
 pub mod PickingLemmas
 pub mod PlacingLemmas
 pub mod RoomLemmas

@@ -32,6 +32,8 @@ use mdbox_base::{BoxEntry, BoxNo, Guid, Highest, Name, StoreId};
 use std::alloc::Global;
 use std::marker::Model;
 
+mod append_map;
+
 /// A mailbox of an open store: its log, and what that means.
 #[derive(Drop)]
 pub struct OpenBox {
