@@ -8,7 +8,7 @@ use Rattle.model_store.specs.Settled.{IsSettledFor, Leaves}
 use Rattle.task_steps.proofs.OneEventLemmas.{does_nothing, does_refuse, never_more, when_stopped, not_true, ok_is_none, not_reading, leaves_none}
 use Rattle.mail_ops.specs.Task.{seen_of}
 use Rattle.mail_ops.proofs.FlagEventLemmas.{flag_is_plain, flags_known, brings_none, due_kept, flag_done, flag_broken, none_of, some_of}
-use Rattle.mail_ops.proofs.SettledFlagLemmas.{settled_by, counted_for, uncounted, not_both}
+use Rattle.mail_ops.proofs.SettledFlagLemmas.{settled_by, counted_for, not_both}
 use Rattle.mail_ops.proofs.flagging.flag.Goals as goal
 
 pub returns-then-stopped-clause-does : goal.returns-then-stopped-clause-does
