@@ -4,19 +4,13 @@
 #[cfg(test)]
 mod appends;
 #[cfg(test)]
-mod beside;
-#[cfg(test)]
 mod indexes;
 #[cfg(test)]
 mod large;
 #[cfg(test)]
-mod made;
-#[cfg(test)]
 mod octets;
 #[cfg(test)]
 mod pieces;
-#[cfg(test)]
-mod plain_map;
 #[cfg(test)]
 mod reading;
 #[cfg(test)]

@@ -1,5 +1,4 @@
 // The index of a mailbox beside a plain vector of rows, and at its limits.
-use crate::made::Made;
 use box_index::{BoxIndex, BoxRow};
 use mdbox_base::{BoxEntry, Guid, MapUid, Uid, flags_of};
 use std::alloc::Global;
@@ -7,6 +6,9 @@ use std::process::Abort;
 use std::test::Fail;
 
 const GUID: Guid = Guid(*b"\x00\x11\x22\x33\x44\x55\x66\x77\0\0\0\x01\0\0\0\x10");
+
+/// The least prime above a million.
+const PRIME: u64 = 1_000_003;
 
 fn added(uid: u32) -> BoxEntry {
     BoxEntry::A {
@@ -63,6 +65,22 @@ impl PlainIndex {
 
     fn find(&self, uid: Uid) -> Option<BoxRow> {
         self.rows.iter().copied().find(|row| row.uid == uid)
+    }
+}
+
+/// A made row of numbers.
+#[derive(Drop)]
+struct Made(u64);
+
+impl Made {
+    /// The next one, below this number.
+    fn below(&mut self, limit: u32) -> u32 {
+        self.0 = (self.0 % PRIME) * 48_271 % PRIME;
+        if limit == 0 {
+            0
+        } else {
+            (self.0 % limit as u64) as u32
+        }
     }
 }
 
