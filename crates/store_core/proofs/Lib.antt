@@ -3,8 +3,12 @@ pub mod BoxCrashLemmas
 pub mod CountingLemmas
 pub mod DueChangeLemmas
 pub mod DueLemmas
+pub mod HighestFileLemmas
+pub mod KeptFileLemmas
 pub mod LookupLemmas
+pub mod MailChangeLemmas
 pub mod PickingLemmas
 pub mod PlacingLemmas
 pub mod RoomLemmas
 pub mod ShownLemmas
+pub mod StoreFileLemmas

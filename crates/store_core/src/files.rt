@@ -65,6 +65,7 @@ impl<D: Disk> Store<D> {
         ensures same { self.new ≡ record self.old { files = after_take result self.old.files; drawn = record self.old.drawn { file = (after_take result self.old.files).highest } } }
         ensures ends { (number : ℕ) → end_in number self.new.files.files ≡ end_in number self.old.files.files }
     {
+        self.files.known_facts();
         let take = self.files.take_for(size);
         if let Take::New(file) = take {
             self.drawn.file = file.0;
