@@ -1,7 +1,7 @@
 -- A store whose storage files have changed, or of whose disk one of them has.
 use Rattle.std.specs.Prelude.{◌⊎◌, Contains}
 use Rattle.std.specs.List.{list_any}
-use Rattle.std.proofs.Common.{inl, inr, ◌≡◌, ◌≢◌, ◌<◌, ◌≤◌, ◌+◌, ◌==◌, ℕ, max, true, false, List, [], ◌∷◌, ◌++◌, map, length, take, Option, Some, None, All, refl, sym, ◌∙◌, ap, subst, arith}
+use Rattle.std.proofs.Common.{inl, inr, ◌≡◌, ◌≢◌, ◌<◌, ◌≤◌, ◌+◌, ◌==◌, ℕ, ◌-◌, Bool, true, false, List, [], ◌∷◌, ◌++◌, map, length, take, Option, Some, None, All, refl, sym, ◌∙◌, ap, subst, arith}
 use Rattle.std.specs.Option.{option_map, option_and_then}
 use Rattle.std.proofs.lemmas.Option.{same_Some}
 use Rattle.std.proofs.lemmas.Bool.{cases_Bool, cases_eq, cond-true, cond-false, false≢true, true≢false}
@@ -29,16 +29,18 @@ use Rattle.model_store.specs.Stands.{HasRoot, StoresMessage}
 use Rattle.model_store.proofs.StandsLemmas.{map_same}
 use Rattle.model_appends.specs.Appending.{LeavesAsRead}
 use Rattle.storage_files.specs.declared.file.MailFile.{MailFile}
-use Rattle.storage_files.specs.Files.{FilesValue, AreFilesInOrder, file_in, end_in, file_begun}
+use Rattle.storage_files.specs.declared.file.Take.{Take}
+use Rattle.storage_files.specs.declared.file.Take.TheVariants.{Known, New, Full}
+use Rattle.storage_files.specs.Files.{FilesValue, AreFilesInOrder, IsTakeFor, after_take, file_in, end_in, file_begun, changed_in, ending_at, released_in}
 use Rattle.storage_files.specs.OnDisk.{IsAsKnown, FrontStays, IsAddedTo, IsNewOrNone, OthersAreNamed}
 use Rattle.store_core.specs.Dues.{KeepsStored}
 use Rattle.store_core.specs.Files.{MayGrow, AreFilesKept, StayThere, EndsWith}
 use Rattle.store_core.specs.Value.{StoreValue}
-use Rattle.store_core.specs.Running.{AreBoxLogs, ReadBoxLogs, IsRunning, IsUpTo, IsStore}
+use Rattle.store_core.specs.Running.{AreBoxLogs, ReadBoxLogs, IsRunning, IsUpTo, HasEntryRoom, IsStore}
 use Rattle.store_core.specs.declared.store.OpenBox.{OpenBox}
 use Rattle.store_core.proofs.BoxAppendLemmas.{store_sound}
 use Rattle.store_core.proofs.HighestFileLemmas.{NamesUpTo, names_up_to}
-use Rattle.store_core.proofs.KeptFileLemmas.{CameAll, HasFile, grew, kept_on, kept_begun, none_begun, begun_or_before}
+use Rattle.store_core.proofs.KeptFileLemmas.{CameAll, HasFile, came_itself, came_longer, came_made, came_taken, came_released, grew, kept_on, kept_begun, none_begun, begun_or_before}
 use Rattle.store_core.proofs.MailChangeLemmas.{Own, MailChange, mail_added, mail_made, mail_same, region_firm, added_as_read, opens_on, root_on, settled_on, stored_on, front_safe, absent_safe}
 
 -- ---- files that no crash takes away
@@ -369,3 +371,68 @@ pub held_then : {D : Type 0} → (n offset : ℕ) (octets : List ℕ) (old new :
 held_then n offset octets None new v s runs h own added lists settled = absurd settled
 held_then n offset octets (Some old) None v s runs h own added lists settled = absurd added
 held_then n offset octets (Some old) (Some new) v s runs h own added lists settled = held_now n offset octets old new v lists s runs h own added settled
+
+-- ---- by what the calls have at hand
+
+pub room_kept : {D : Type 0} → (v : StoreValue D) (disk : D) (files : FilesValue) (drawn : Highest) (stopped : Bool) → HasEntryRoom v → HasEntryRoom (record v { disk = disk; files = files; drawn = drawn; stopped = stopped })
+room_kept v disk files drawn stopped r = record { map_log = r.map_log; box_logs = r.box_logs }
+
+-- the storage files with one of them changed so
+abbrev pub with_change : ℕ → (MailFile → MailFile) → FilesValue → FilesValue
+with_change n step files = record files { files = changed_in n step files.files }
+
+pub placed_store : {D : Type 0} → (n offset : ℕ) (octets : List ℕ) (old new : Option History) (v : StoreValue D) (disk : D) (files : FilesValue) → IsStore old v → v.stopped ≡ false → IfTold old Own → end_in n v.files.files ≡ Some offset
+    → files ≡ with_change n (ending_at (offset + length octets)) v.files → SameButFor (file.Mail n) old new → Between (λ a b. IsAddedTo octets (a (file.Mail n)) (b (file.Mail n))) old new
+    → ((number : ℕ) → IsAsKnown v.files.files number old → IsAsKnown files.files number new) → IsStore new (record v { disk = disk; files = files })
+placed_store n offset octets old new v disk files s runs own ends is same added still =
+    let later : FilesValue = with_change n (ending_at (offset + length octets)) v.files in
+    let r = s.running runs in
+    let came : CameAll v.files.files later.files = came_longer n offset (length octets) v.files.files ends in
+    subst (λ (f : FilesValue). IsStore new (record v { disk = disk; files = f })) (sym is)
+    (store_on n old new v disk later s runs (change_added n octets old new own same added)
+    (λ number. subst (λ (f : FilesValue). IsAsKnown f.files number new) is (still number (r.files_known number)))
+    (stay_placed v.files.files later.files v.map.records n octets old new came same added r.files_stay)
+    (kept_on v.files later v.drawn v.map came refl s.files))
+
+pub made_store : {D : Type 0} → (n : ℕ) (header : List ℕ) (old new : Option History) (v : StoreValue D) (disk : D) (files : FilesValue) → IsStore old v → v.stopped ≡ false → IfTold old Own → end_in n v.files.files ≡ None
+    → files ≡ with_change n (ending_at (length header)) v.files → OthersAreNamed (file.Mail n) old new → IfTold new (λ now. Keeps (now (file.Mail n)) header)
+    → ((number : ℕ) → IsAsKnown v.files.files number old → IsAsKnown files.files number new) → IsStore new (record v { disk = disk; files = files })
+made_store n header old new v disk files s runs own none is same keeps still =
+    let later : FilesValue = with_change n (ending_at (length header)) v.files in
+    let r = s.running runs in
+    let came : CameAll v.files.files later.files = came_made n (length header) v.files.files none in
+    subst (λ (f : FilesValue). IsStore new (record v { disk = disk; files = f })) (sym is)
+    (store_on n old new v disk later s runs (change_made n old new own (absent_there n v.files.files old none (r.files_known n)) same)
+    (λ number. subst (λ (f : FilesValue). IsAsKnown f.files number new) is (still number (r.files_known number)))
+    (stay_new v.files.files later.files v.map.records n header old new came same keeps r.files_stay)
+    (kept_on v.files later v.drawn v.map came refl s.files))
+
+-- room for more files
+pub spare_store : {D : Type 0} → (h : Option History) (v : StoreValue D) (files : FilesValue) (spare : ℕ) → files ≡ record v.files { spare = spare } → IsStore h v → IsStore h (record v { files = files })
+spare_store h v files spare is s =
+    subst (λ (f : FilesValue). IsStore h (record v { files = f })) (sym is)
+    (store_came h v (record v.files { spare = spare }) (λ number now found. came_itself v.files.files number now found) refl (λ number. refl) s)
+
+-- a file that is given back
+pub released_store : {D : Type 0} → (h : Option History) (v : StoreValue D) (files : FilesValue) (n : ℕ) → files ≡ record v.files { files = released_in n v.files.files } → ((number : ℕ) → end_in number files.files ≡ end_in number v.files.files)
+    → IsStore h v → IsStore h (record v { files = files })
+released_store h v files n is ends s =
+    subst (λ (f : FilesValue). IsStore h (record v { files = f })) (sym is)
+    (store_came h v (record v.files { files = released_in n v.files.files }) (came_released n v.files.files) refl (λ number. subst (λ (f : FilesValue). end_in number f.files ≡ end_in number v.files.files) is (ends number)) s)
+
+-- a file that is taken: the number of a new one is drawn
+pub taken_store : {D : Type 0} → (h : Option History) (v : StoreValue D) (files : FilesValue) (size : ℕ) (take : Take) → AreFilesInOrder v.files → IsTakeFor size v.files take → files ≡ after_take take v.files → ((number : ℕ) → end_in number files.files ≡ end_in number v.files.files)
+    → IsStore h v → IsStore h (record v { files = files; drawn = record v.drawn { file = (after_take take v.files).highest } })
+taken_store h v files size (Known file_no) order is after ends s =
+    let same : v.files.highest ≡ v.drawn.file = s.files.highest in
+    subst (λ (f : FilesValue). IsStore h (record v { files = f; drawn = record v.drawn { file = v.files.highest } })) (sym after)
+    (subst (λ (k : ℕ). IsStore h (record v { files = after_take (Known file_no) v.files; drawn = record v.drawn { file = k } })) (sym same)
+    (store_came h v (after_take (Known file_no) v.files) (came_taken size file_no.0 v.files is.0 order is.1 (ap (λ (f : FileNo). f.0) is.2) is.3) refl
+    (λ number. subst (λ (f : FilesValue). end_in number f.files ≡ end_in number v.files.files) after (ends number)) s))
+taken_store h v files size (New file_no) order is after ends s =
+    subst (λ (f : FilesValue). IsStore h (record v { files = f; drawn = record v.drawn { file = file_no.0 } })) (sym after)
+    (store_begun h v file_no (v.files.spare - 1) order is.1 is.2 (λ number. subst (λ (f : FilesValue). end_in number f.files ≡ end_in number v.files.files) after (ends number)) s)
+taken_store h v files size Full order is after ends s =
+    let same : v.files.highest ≡ v.drawn.file = s.files.highest in
+    subst (λ (f : FilesValue). IsStore h (record v { files = f; drawn = record v.drawn { file = v.files.highest } })) (sym after)
+    (subst (λ (k : ℕ). IsStore h (record v { drawn = record v.drawn { file = k } })) (sym same) s)

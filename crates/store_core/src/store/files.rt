@@ -12,8 +12,8 @@ ghost use Rattle.storage_files.specs.OnDisk.{OthersAreNamed, piece_read};
 ghost use Rattle.store_core.specs.Dues.{KeepsStored};
 ghost use Rattle.store_core.specs.Files.{IsNewPlace, EndsWith};
 
+use super::Store;
 use crate::error::Stopped;
-use crate::store::Store;
 use disk_model::Disk;
 use mdbox_base::{FileNo, NoMemory};
 use storage_files::{DiskFault, Take};
@@ -107,13 +107,11 @@ impl<D: Disk> Store<D> {
         ensures fault { ChangeFaultCounted (IsErr result) (D.faults self.old.disk) (D.faults self.new.disk) }
         ensures unfailed { OnOk result (NoFault (D.faults self.old.disk) (D.faults self.new.disk)) }
     {
-        match self.files.make_file(&mut self.disk, file, header) {
-            Ok(()) => Ok(()),
-            Err(_fault) => {
-                self.stopped = true;
-                Err(Stopped)
-            }
+        if let Err(_fault) = self.files.make_file(&mut self.disk, file, header) {
+            self.stopped = true;
+            return Err(Stopped);
         }
+        Ok(())
     }
 
     /// Adds octets at the end of a storage file that was taken, syncs it, and answers the offset where they begin. A change of
