@@ -3,6 +3,7 @@ pub mod BoxCrashLemmas
 pub mod CountingLemmas
 pub mod DueChangeLemmas
 pub mod DueLemmas
+pub mod EntryFileLemmas
 pub mod HighestFileLemmas
 pub mod KeptFileLemmas
 pub mod LookupLemmas
