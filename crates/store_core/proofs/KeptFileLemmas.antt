@@ -202,8 +202,8 @@ kept_begun old file spare drawn m order next last up rows names k =
           record {
             region = behind_begun file old.files row.file (row.offset + row.size) none (λ e. absurd (omega (arith, in_file, e, next, high, up))) b.region;
             guid = λ own. behind_begun file old.files (number_at 8 row.guid) (number_at 12 row.guid + 1) none (λ e.
-            let l : number_at 8 row.guid ≤ m.highest.file = guid_low m.store row.guid m.highest.file named own (λ same. absurd (omega (arith, same, e, next, last))) in
-            absurd (omega (arith, l, e, next, high, up))) (b.guid own);
+                let l : number_at 8 row.guid ≤ m.highest.file = guid_low m.store row.guid m.highest.file named own (λ same. absurd (omega (arith, same, e, next, last))) in
+                absurd (omega (arith, l, e, next, high, up))) (b.guid own);
           };
     }
 

@@ -207,9 +207,9 @@ store_idle old new v disk same s = record {
   running = λ runs.
       let r = s.running runs in
       let ran = running_on 0 old new v disk v.files s (same_change old new same)
-          (λ number. between-on (λ a b. b ≡ a) (λ d. option_map length (reading (d (file.Mail number))) ≡ end_in number v.files.files) (λ d. option_map length (reading (d (file.Mail number))) ≡ end_in number v.files.files) old new
-          (λ a b e k. subst (λ (d : DiskState). option_map length (reading (d (file.Mail number))) ≡ end_in number v.files.files) (sym e) k) same (r.files_known number))
-          (between-on (λ a b. b ≡ a) (StayThere v.files.files v.map.records) (StayThere v.files.files v.map.records) old new (λ a b e k. subst (λ (d : DiskState). StayThere v.files.files v.map.records d) (sym e) k) same r.files_stay) r in
+      (λ number. between-on (λ a b. b ≡ a) (λ d. option_map length (reading (d (file.Mail number))) ≡ end_in number v.files.files) (λ d. option_map length (reading (d (file.Mail number))) ≡ end_in number v.files.files) old new
+      (λ a b e k. subst (λ (d : DiskState). option_map length (reading (d (file.Mail number))) ≡ end_in number v.files.files) (sym e) k) same (r.files_known number))
+      (between-on (λ a b. b ≡ a) (StayThere v.files.files v.map.records) (StayThere v.files.files v.map.records) old new (λ a b e k. subst (λ (d : DiskState). StayThere v.files.files v.map.records d) (sym e) k) same r.files_stay) r in
       record {
         opens = ran.opens;
         root = ran.root;

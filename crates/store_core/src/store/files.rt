@@ -154,7 +154,12 @@ impl<D: Disk> Store<D> {
 
     /// Reads a storage file from an offset on into the front of `into`, to the end of either, and answers how many octets: 0
     /// if it isn't there. After a fault `into` may hold any octets, and the store goes on.
-    pub fn read_piece(&mut self, file: FileNo, offset: u64, into: &mut [u8]) -> Result<usize, DiskFault>
+    pub fn read_piece(
+        &mut self,
+        file: FileNo,
+        offset: u64,
+        into: &mut [u8],
+    ) -> Result<usize, DiskFault>
         ensures count { IfOk result (λ n. n ≤ length into.new) }
         ensures piece { IfOk result (λ n. IfTold (D.history self.old.disk) (λ now. take n into.new ≡ piece_read offset (length into.old) (reading (now (Mail file.0))))) }
         ensures rest { IfOk result (λ n. drop n into.new ≡ drop n into.old) }
