@@ -12,7 +12,7 @@ use Rattle.model_meaning.specs.MapMeaning.{MapRecord, MapMeaning, is_own, number
 use Rattle.model_meaning.specs.MapFits.{IsApart, IsFree}
 use Rattle.storage_files.specs.declared.file.MailFile.{MailFile}
 use Rattle.storage_files.specs.Files.{FilesValue, AreFilesInOrder, MayBeTakenFor, file_in, end_in, is_taken_in, changed_in, without_file, released_in, ending_at, with_taken, file_begun}
-use Rattle.storage_files.proofs.FileListLemmas.{KeepsNumber, file-none, file-found, file-here, file-other, file-gone, file-without, file-begun, file-before_begun}
+use Rattle.storage_files.proofs.FileListLemmas.{KeepsNumber, file-none, file-found, file-here, file-other, file-gone, file-without, file-begun, file-before_begun, ends-here}
 use Rattle.storage_files.proofs.KnownLemmas.{taken-there}
 use Rattle.store_core.specs.Files.{MayGrow, EndsBehind, LiesBelowEnd, AreFilesKept, IsNewPlace}
 use Rattle.store_core.proofs.HighestFileLemmas.{NamesUpTo, sealed_low, guid_low}
@@ -230,3 +230,22 @@ new_behind n end value drawn m h k = λ at d lt own number offset.
     let is : e.0 ≡ end = same_Some _ _ (sym e.1 ∙ h.ends) in
     let le : number_at 12 row.guid + 1 ≤ e.0 = e.2 in
     omega (arith, is, le, offset)
+
+-- ---- where it ends afterwards
+
+abbrev pub with_change : ℕ → (MailFile → MailFile) → FilesValue → FilesValue
+with_change n step files = record files { files = changed_in n step files.files }
+
+some_file : (o : Option MailFile) (end : ℕ) → option_and_then (λ f. f.end) o ≡ Some end → (f : MailFile) × (o ≡ Some f)
+some_file None end e = absurd (let w : None ≡ Some end = e in cc w)
+some_file (Some f) end e = (f, refl)
+
+pub ends_longer : (n end more : ℕ) (old new : FilesValue) → end_in n old.files ≡ Some end → new ≡ with_change n (ending_at (end + more)) old → end_in n new.files ≡ Some (end + more)
+ends_longer n end more old new ends is =
+    let there = some_file (file_in n old.files) end ends in
+    ap (λ (v : FilesValue). end_in n v.files) is ∙ ends-here n (end + more) old.files there.0 there.1
+
+pub ends_made : (n end : ℕ) (old new : FilesValue) → is_taken_in n old.files ≡ true → new ≡ with_change n (ending_at end) old → end_in n new.files ≡ Some end
+ends_made n end old new taken is =
+    let there = taken-there old.files n taken in
+    ap (λ (v : FilesValue). end_in n v.files) is ∙ ends-here n end old.files there.0 there.1

@@ -40,7 +40,7 @@ use Rattle.store_core.specs.Running.{AreBoxLogs, ReadBoxLogs, IsRunning, IsUpTo,
 use Rattle.store_core.specs.declared.store.OpenBox.{OpenBox}
 use Rattle.store_core.proofs.BoxAppendLemmas.{store_sound}
 use Rattle.store_core.proofs.HighestFileLemmas.{NamesUpTo, names_up_to}
-use Rattle.store_core.proofs.KeptFileLemmas.{CameAll, HasFile, came_itself, came_longer, came_made, came_taken, came_released, grew, kept_on, kept_begun, none_begun, begun_or_before}
+use Rattle.store_core.proofs.KeptFileLemmas.{with_change, CameAll, HasFile, came_itself, came_longer, came_made, came_taken, came_released, grew, kept_on, kept_begun, none_begun, begun_or_before}
 use Rattle.store_core.proofs.MailChangeLemmas.{Own, MailChange, mail_added, mail_made, mail_same, region_firm, added_as_read, opens_on, root_on, settled_on, stored_on, front_safe, absent_safe}
 
 -- ---- files that no crash takes away
@@ -377,10 +377,6 @@ held_then n offset octets (Some old) (Some new) v s runs h own added lists settl
 pub room_kept : {D : Type 0} → (v : StoreValue D) (disk : D) (files : FilesValue) (drawn : Highest) (stopped : Bool) → HasEntryRoom v → HasEntryRoom (record v { disk = disk; files = files; drawn = drawn; stopped = stopped })
 room_kept v disk files drawn stopped r = record { map_log = r.map_log; box_logs = r.box_logs }
 
--- the storage files with one of them changed so
-abbrev pub with_change : ℕ → (MailFile → MailFile) → FilesValue → FilesValue
-with_change n step files = record files { files = changed_in n step files.files }
-
 pub placed_store : {D : Type 0} → (n offset : ℕ) (octets : List ℕ) (old new : Option History) (v : StoreValue D) (disk : D) (files : FilesValue) → IsStore old v → v.stopped ≡ false → IfTold old Own → end_in n v.files.files ≡ Some offset
     → files ≡ with_change n (ending_at (offset + length octets)) v.files → SameButFor (file.Mail n) old new → Between (λ a b. IsAddedTo octets (a (file.Mail n)) (b (file.Mail n))) old new
     → ((number : ℕ) → IsAsKnown v.files.files number old → IsAsKnown files.files number new) → IsStore new (record v { disk = disk; files = files })
@@ -420,19 +416,19 @@ released_store h v files n is ends s =
     subst (λ (f : FilesValue). IsStore h (record v { files = f })) (sym is)
     (store_came h v (record v.files { files = released_in n v.files.files }) (came_released n v.files.files) refl (λ number. subst (λ (f : FilesValue). end_in number f.files ≡ end_in number v.files.files) is (ends number)) s)
 
--- a file that is taken: the number of a new one is drawn
-pub taken_store : {D : Type 0} → (h : Option History) (v : StoreValue D) (files : FilesValue) (size : ℕ) (take : Take) → AreFilesInOrder v.files → IsTakeFor size v.files take → files ≡ after_take take v.files → ((number : ℕ) → end_in number files.files ≡ end_in number v.files.files)
-    → IsStore h v → IsStore h (record v { files = files; drawn = record v.drawn { file = (after_take take v.files).highest } })
-taken_store h v files size (Known file_no) order is after ends s =
-    let same : v.files.highest ≡ v.drawn.file = s.files.highest in
-    subst (λ (f : FilesValue). IsStore h (record v { files = f; drawn = record v.drawn { file = v.files.highest } })) (sym after)
-    (subst (λ (k : ℕ). IsStore h (record v { files = after_take (Known file_no) v.files; drawn = record v.drawn { file = k } })) (sym same)
-    (store_came h v (after_take (Known file_no) v.files) (came_taken size file_no.0 v.files is.0 order is.1 (ap (λ (f : FileNo). f.0) is.2) is.3) refl
-    (λ number. subst (λ (f : FilesValue). end_in number f.files ≡ end_in number v.files.files) after (ends number)) s))
-taken_store h v files size (New file_no) order is after ends s =
+-- a new file, whose number is drawn
+pub new_store : {D : Type 0} → (h : Option History) (v : StoreValue D) (files : FilesValue) (size : ℕ) (file_no : FileNo) → AreFilesInOrder v.files → IsTakeFor size v.files (New file_no) → files ≡ after_take (New file_no) v.files
+    → ((number : ℕ) → end_in number files.files ≡ end_in number v.files.files) → IsStore h v → IsStore h (record v { files = files; drawn = record v.drawn { file = file_no.0 } })
+new_store h v files size file_no order is after ends s =
     subst (λ (f : FilesValue). IsStore h (record v { files = f; drawn = record v.drawn { file = file_no.0 } })) (sym after)
     (store_begun h v file_no (v.files.spare - 1) order is.1 is.2 (λ number. subst (λ (f : FilesValue). end_in number f.files ≡ end_in number v.files.files) after (ends number)) s)
-taken_store h v files size Full order is after ends s =
-    let same : v.files.highest ≡ v.drawn.file = s.files.highest in
-    subst (λ (f : FilesValue). IsStore h (record v { files = f; drawn = record v.drawn { file = v.files.highest } })) (sym after)
-    (subst (λ (k : ℕ). IsStore h (record v { drawn = record v.drawn { file = k } })) (sym same) s)
+
+-- a file that was there, or none
+pub known_store : {D : Type 0} → (h : Option History) (v : StoreValue D) (files : FilesValue) (size : ℕ) (take : Take) → ((file_no : FileNo) → take ≡ New file_no → ⊥) → AreFilesInOrder v.files → IsTakeFor size v.files take → files ≡ after_take take v.files
+    → ((number : ℕ) → end_in number files.files ≡ end_in number v.files.files) → IsStore h v → IsStore h (record v { files = files })
+known_store h v files size (Known file_no) other order is after ends s =
+    subst (λ (f : FilesValue). IsStore h (record v { files = f })) (sym after)
+    (store_came h v (after_take (Known file_no) v.files) (came_taken size file_no.0 v.files is.0 order is.1 (ap (λ (f : FileNo). f.0) is.2) is.3) refl
+    (λ number. subst (λ (f : FilesValue). end_in number f.files ≡ end_in number v.files.files) after (ends number)) s)
+known_store h v files size (New file_no) other order is after ends s = absurd (other file_no refl)
+known_store h v files size Full other order is after ends s = subst (λ (f : FilesValue). IsStore h (record v { files = f })) (sym after) s
