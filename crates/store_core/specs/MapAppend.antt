@@ -67,8 +67,8 @@ abbrev pub IsLaidOut : Option (List ℕ) → MapEntry → Type 0
 IsLaidOut text entry = MatchOption text (length (map_text entry) ≤ 64) (λ octets. octets ≡ map_text entry)
 
 -- an entry that makes something once more, for which there is so much room; none where it makes nothing
-abbrev pub IsCopied : Option MapEntry → MapEntry → MapRoom → Type 0
-IsCopied copy entry room = MatchOption copy (TakesMemory entry → ⊥) (λ same. (same ≡ entry) × HasRoomFor entry room)
+abbrev pub IsSpareCopy : Option MapEntry → MapEntry → MapRoom → Type 0
+IsSpareCopy copy entry room = MatchOption copy (TakesMemory entry → ⊥) (λ same. (same ≡ entry) × HasRoomFor entry room)
 
 -- what is due with the entry, as numbers at the records: a record that is made is the last
 abbrev pub dues_with : MapEntry → List MapRecord → List ℕ → List ℕ

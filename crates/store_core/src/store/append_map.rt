@@ -14,7 +14,8 @@ ghost use Rattle.model_meaning.specs.MapMeaning.{MapRecord, map_applied, record_
 ghost use Rattle.model_store.specs.Settled.{IsSettledFor, Leaves};
 ghost use Rattle.store_core.specs.Append.{AddsText};
 ghost use Rattle.store_core.specs.Dues.{due_at, listed_at, leak_at, IsSpared, KeepsStored};
-ghost use Rattle.store_core.specs.MapAppend.{IsAppendable, HasDrawnNumbers, FitsDue, HasRegion, HasSyncedRegion, drawn_by, IsLongEntry, IsLaidOut, IsCopied};
+ghost use Rattle.store_core.specs.Files.{LiesBelowEnd};
+ghost use Rattle.store_core.specs.MapAppend.{IsAppendable, HasDrawnNumbers, FitsDue, HasRegion, HasSyncedRegion, drawn_by, IsLongEntry, IsLaidOut, IsSpareCopy};
 ghost use Rattle.store_core.specs.Value.{entry_room};
 ghost use Rattle.store_core.specs.declared.error.StepError.TheVariants as step_error;
 
@@ -72,6 +73,7 @@ impl<D: Disk> Store<D> {
         requires fits { MapFits self.old.map entry.now }
         requires drawn { HasDrawnNumbers entry.now self.old.map.store self.old.drawn }
         requires due { FitsDue entry.now (λ uid. due_at uid self.old) (λ uid. listed_at uid self.old) }
+        requires below { All (LiesBelowEnd self.old.map.store self.old.files.files) (record_made entry.now) }
         requires region { HasRegion entry.now (D.history self.old.disk) }
 
         // Of a settled disk each image at every moment is safe for its lists, whichever call fails; and after Ok it is settled
@@ -133,7 +135,7 @@ fn take_room(
     requires kind { IsAppendable entry.now }
     requires room { entry_room ≤ log.old.room }
     ensures text { IfOk result (λ room. IsLaidOut room.text entry.now) }
-    ensures copy { IfOk result (λ room. IsCopied room.copy entry.now map.new.room) }
+    ensures copy { IfOk result (λ room. IsSpareCopy room.copy entry.now map.new.room) }
     ensures space { OnOk result (TakesMemory entry.now → vec_len dues.new < vec_capacity dues.new) }
     ensures room { OnOk result (length (map_text entry.now) + 5 ≤ log.new.room) }
     ensures no_less { log.old.room ≤ log.new.room }
@@ -172,7 +174,7 @@ fn reserve_for(
     entry: &MapEntry,
 ) -> Result<Option<MapEntry>, NoMemory>
     requires kind { IsAppendable entry.now }
-    ensures copy { IfOk result (λ copy. IsCopied copy entry.now map.new.room) }
+    ensures copy { IfOk result (λ copy. IsSpareCopy copy entry.now map.new.room) }
     ensures space { OnOk result (TakesMemory entry.now → vec_len dues.new < vec_capacity dues.new) }
     ensures map { map.new.meaning ≡ map.old.meaning }
     ensures dues { dues.new.items ≡ dues.old.items }
@@ -257,7 +259,7 @@ fn append_entry<D: Disk>(
 /// Takes in an entry that fits: by its copy where it makes something, for which there is room.
 fn take_in(map: &mut MapIndex, entry: &MapEntry, copy: Option<MapEntry>)
     requires fits { MapFits map.old.meaning entry.now }
-    requires copy { IsCopied copy entry.now map.old.room }
+    requires copy { IsSpareCopy copy entry.now map.old.room }
     ensures { map.new.meaning ≡ map_applied entry.now map.old.meaning }
 {
     match copy {
