@@ -1,48 +1,45 @@
 -- A store with one entry more in the map log.
-use Rattle.std.proofs.Common.{◌≡◌, ◌≢◌, ◌<◌, ◌≤◌, ◌+◌, ◌-◌, ◌^◌, ◌==◌, ℕ, true, false, List, [], ◌∷◌, ◌++◌, map, length, find, Option, Some, None, All, refl, sym, ◌∙◌, ap, subst, arith}
-use Rattle.std.specs.Prelude.{AllPairs, count_by, sum_by}
+use Rattle.std.proofs.Common.{◌≡◌, ◌<◌, ◌≤◌, ◌+◌, ◌-◌, ◌^◌, ◌==◌, ℕ, true, false, List, [], ◌∷◌, ◌++◌, map, length, Option, Some, None, All, refl, sym, ◌∙◌, ap, subst, arith}
+use Rattle.std.specs.Prelude.{count_by, sum_by}
 use Rattle.std.proofs.lemmas.List.{map-append}
 use Rattle.std.proofs.lemmas.List.Elements.{All-nil, All-cons, All-weaker}
-use Rattle.disk_model.specs.Disk.{Files, History, IfTold, SameButFor, Between, reading}
+use Rattle.disk_model.specs.Disk.{History, IfTold, SameButFor, reading}
 use Rattle.disk_model.specs.declared.name.FileName.TheVariants as file
 use Rattle.gate_log.specs.State.{LogState, IsSameLog}
-use Rattle.gate_log.specs.Log.{IsLogRead, Reads}
+use Rattle.gate_log.specs.Log.{Reads}
 use Rattle.log_records.proofs.EntrySizeLemmas.{lowered_size, counted_size, stored_size}
 use Rattle.mdbox_base.specs.declared.entries.BoxEntry.{BoxEntry}
 use Rattle.mdbox_base.specs.declared.entries.Highest.{Highest}
 use Rattle.mdbox_base.specs.declared.entries.InstRow.{InstRow}
 use Rattle.mdbox_base.specs.declared.entries.MapEntry.{MapEntry}
 use Rattle.mdbox_base.specs.declared.entries.MapEntry.TheVariants as entry
-use Rattle.mdbox_base.specs.declared.ids.MapUid.{MapUid}
-use Rattle.model_appends.specs.Amounts.{IsAccounted, due_by, leak_by, MayChange}
-use Rattle.model_appends.specs.Appending.{HasOneMore, SameBut}
-use Rattle.model_appends.specs.MapAppending.{OnlyAdds, logs_made, stored_row}
+use Rattle.model_appends.specs.Amounts.{IsAccounted, due_by, leak_by}
+use Rattle.model_appends.specs.Appending.{HasOneMore}
+use Rattle.model_appends.specs.MapAppending.{logs_made, stored_row}
 use Rattle.model_appends.proofs.AmountLemmas.{accounted_by_map_entry, accounted_counted}
-use Rattle.model_appends.proofs.AppendFileLemmas.{SameStored, kept_as, map_stored}
-use Rattle.model_appends.proofs.AppendMapOpenLemmas.{good_by_map_entry, opens_by_map_entry, same_record}
+use Rattle.model_appends.proofs.AppendMapOpenLemmas.{good_by_map_entry, opens_by_map_entry}
 use Rattle.model_logs.specs.Entries.{map_text, box_text, MapInRange}
-use Rattle.model_meaning.proofs.FitLemmas.{each_more, map_fit_more}
 use Rattle.model_meaning.proofs.MapLemmas.{map_more}
 use Rattle.model_meaning.proofs.MapSoundLemmas.{map_sound_more}
-use Rattle.model_meaning.specs.BoxMeaning.{BoxMeaning, box_meaning}
+use Rattle.model_meaning.specs.BoxMeaning.{BoxMeaning}
 use Rattle.model_meaning.specs.MapFits.{MapFits}
-use Rattle.model_meaning.specs.MapMeaning.{MapRecord, MapBox, MapMeaning, map_meaning, map_applied, record_at, record_changed, record_made, box_made}
+use Rattle.model_meaning.specs.MapMeaning.{MapRecord, MapBox, MapMeaning, map_meaning, map_applied, record_at, record_made}
 use Rattle.model_meaning.specs.Sound.{IsSoundMap}
 use Rattle.model_store.proofs.StandsLemmas.{root_same}
 use Rattle.model_store.specs.GoodLogs.{AreGoodLogs}
 use Rattle.model_store.specs.Opening.{Opens, IsCounted, listed_of}
 use Rattle.model_store.specs.Safe.{LiesInFile, IsThereWhole}
 use Rattle.model_store.specs.Settled.{files_of}
-use Rattle.model_store.specs.Stands.{HasRoot, HasBox, StoresMessage}
-use Rattle.store_core.specs.Dues.{number_beside, due_at, listed_at, leak_at, IsSpared}
+use Rattle.model_store.specs.Stands.{HasRoot, HasBox}
+use Rattle.store_core.specs.Dues.{number_beside, due_at, listed_at, leak_at}
 use Rattle.store_core.specs.MapAppend.{IsAppendable, HasDrawnNumbers, FitsDue, HasRegion, drawn_by, dues_with}
-use Rattle.store_core.specs.Running.{AreBoxLogs, ReadBoxLogs, IsRunning, CoverDues, IsUpTo, IsStore, HasEntryRoom}
-use Rattle.store_core.specs.Value.{StoreValue, indexes_of, entry_room}
+use Rattle.store_core.specs.Running.{AreBoxLogs, ReadBoxLogs, IsRunning, CoverDues, IsStore, HasEntryRoom}
+use Rattle.store_core.specs.Value.{StoreValue, entry_room}
 use Rattle.store_core.specs.declared.store.OpenBox.{OpenBox}
-use Rattle.store_core.proofs.BoxAppendLemmas.{dues_of, sound_map, store_sound, disk_more, root_stays}
-use Rattle.store_core.proofs.DueLemmas.{OneEach, RecordsRise, dues_each, listed_meant, covered_by, store_counts}
+use Rattle.store_core.proofs.BoxAppendLemmas.{dues_of, store_sound, disk_more, root_stays}
+use Rattle.store_core.proofs.DueLemmas.{OneEach, dues_each, listed_meant, covered_by, store_counts}
 use Rattle.store_core.proofs.DueChangeLemmas.{as_many, number_few}
-use Rattle.store_core.proofs.MapDueLemmas.{adds, no_box, logs_stay, mailboxes_stay, found_with, found_made, map_due_is, map_dues_are, may_change, new_record, beside_none, leak_is, no_leak, leak_none, lost_with, drawn_up_to}
+use Rattle.store_core.proofs.MapDueLemmas.{adds, no_box, logs_stay, mailboxes_stay, found_made, map_due_is, map_dues_are, may_change, new_record, beside_none, leak_is, no_leak, leak_none, lost_with, drawn_up_to}
 use Rattle.store_core.proofs.PickingLemmas.{reads_other}
 use Rattle.store_core.proofs.EntryFileLemmas.{LeavesPlaces, kept_applied, stay_applied}
 use Rattle.store_core.proofs.MailChangeLemmas.{known_beside, stay_beside}

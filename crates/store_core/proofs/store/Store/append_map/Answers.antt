@@ -1,4 +1,4 @@
-use Rattle.std.proofs.Common.{rules, ◌≡◌, ℕ, List, sym, ◌∙◌, ap, subst, refl}
+use Rattle.std.proofs.Common.{rules, ◌≡◌, sym, ◌∙◌, ap, subst, refl}
 use Rattle.disk_model.specs.Disk.{Between}
 use Rattle.model_lists.specs.Lists.{Lists}
 use Rattle.model_appends.proofs.AppendMapOpenLemmas.{same_record}
