@@ -1,49 +1,52 @@
 -- A store with one entry more in the map log.
-use Rattle.std.proofs.Common.{◌≡◌, ◌≢◌, ◌<◌, ◌≤◌, ◌+◌, ◌-◌, ◌^◌, ◌==◌, ℕ, true, false, List, [], ◌∷◌, ◌++◌, map, length, find, Option, Some, None, All, refl, sym, ◌∙◌, ap, subst, arith}
-use Rattle.std.specs.Prelude.{AllPairs, count_by, sum_by}
+use Rattle.std.proofs.Common.{◌≡◌, ◌<◌, ◌≤◌, ◌+◌, ◌-◌, ◌^◌, ◌==◌, ℕ, true, false, List, [], ◌∷◌, ◌++◌, map, length, Option, Some, None, All, refl, sym, ◌∙◌, ap, subst, arith}
+use Rattle.std.specs.Prelude.{count_by, sum_by}
 use Rattle.std.proofs.lemmas.List.{map-append}
 use Rattle.std.proofs.lemmas.List.Elements.{All-nil, All-cons, All-weaker}
-use Rattle.disk_model.specs.Disk.{Files, History, IfTold, SameButFor, Between, reading}
+use Rattle.disk_model.specs.Disk.{History, IfTold, SameButFor, reading}
 use Rattle.disk_model.specs.declared.name.FileName.TheVariants as file
 use Rattle.gate_log.specs.State.{LogState, IsSameLog}
-use Rattle.gate_log.specs.Log.{IsLogRead, Reads}
+use Rattle.gate_log.specs.Log.{Reads}
 use Rattle.log_records.proofs.EntrySizeLemmas.{lowered_size, counted_size, stored_size}
 use Rattle.mdbox_base.specs.declared.entries.BoxEntry.{BoxEntry}
 use Rattle.mdbox_base.specs.declared.entries.Highest.{Highest}
 use Rattle.mdbox_base.specs.declared.entries.InstRow.{InstRow}
 use Rattle.mdbox_base.specs.declared.entries.MapEntry.{MapEntry}
 use Rattle.mdbox_base.specs.declared.entries.MapEntry.TheVariants as entry
-use Rattle.mdbox_base.specs.declared.ids.MapUid.{MapUid}
-use Rattle.model_appends.specs.Amounts.{IsAccounted, due_by, leak_by, MayChange}
-use Rattle.model_appends.specs.Appending.{HasOneMore, SameBut}
-use Rattle.model_appends.specs.MapAppending.{OnlyAdds, logs_made, stored_row}
+use Rattle.model_appends.specs.Amounts.{IsAccounted, due_by, leak_by}
+use Rattle.model_appends.specs.Appending.{HasOneMore}
+use Rattle.model_appends.specs.MapAppending.{logs_made, stored_row}
 use Rattle.model_appends.proofs.AmountLemmas.{accounted_by_map_entry, accounted_counted}
-use Rattle.model_appends.proofs.AppendFileLemmas.{SameStored, kept_as, map_stored}
-use Rattle.model_appends.proofs.AppendMapOpenLemmas.{good_by_map_entry, opens_by_map_entry, same_record}
+use Rattle.model_appends.proofs.AppendMapOpenLemmas.{good_by_map_entry, opens_by_map_entry}
 use Rattle.model_logs.specs.Entries.{map_text, box_text, MapInRange}
-use Rattle.model_meaning.proofs.FitLemmas.{each_more, map_fit_more}
 use Rattle.model_meaning.proofs.MapLemmas.{map_more}
 use Rattle.model_meaning.proofs.MapSoundLemmas.{map_sound_more}
-use Rattle.model_meaning.specs.BoxMeaning.{BoxMeaning, box_meaning}
+use Rattle.model_meaning.specs.BoxMeaning.{BoxMeaning}
 use Rattle.model_meaning.specs.MapFits.{MapFits}
-use Rattle.model_meaning.specs.MapMeaning.{MapRecord, MapBox, MapMeaning, map_meaning, map_applied, record_at, record_changed, record_made, box_made}
+use Rattle.model_meaning.specs.MapMeaning.{MapRecord, MapBox, MapMeaning, map_meaning, map_applied, record_at, record_made}
 use Rattle.model_meaning.specs.Sound.{IsSoundMap}
 use Rattle.model_store.proofs.StandsLemmas.{root_same}
 use Rattle.model_store.specs.GoodLogs.{AreGoodLogs}
 use Rattle.model_store.specs.Opening.{Opens, IsCounted, listed_of}
 use Rattle.model_store.specs.Safe.{LiesInFile, IsThereWhole}
 use Rattle.model_store.specs.Settled.{files_of}
-use Rattle.model_store.specs.Stands.{HasRoot, HasBox, StoresMessage}
-use Rattle.store_core.specs.Dues.{number_beside, due_at, listed_at, leak_at, IsSpared}
+use Rattle.model_store.specs.Stands.{HasRoot, HasBox}
+use Rattle.store_core.specs.Dues.{number_beside, due_at, listed_at, leak_at}
 use Rattle.store_core.specs.MapAppend.{IsAppendable, HasDrawnNumbers, FitsDue, HasRegion, drawn_by, dues_with}
-use Rattle.store_core.specs.Running.{AreBoxLogs, ReadBoxLogs, IsRunning, CoverDues, IsUpTo, IsStore, HasEntryRoom}
-use Rattle.store_core.specs.Value.{StoreValue, indexes_of, entry_room}
+use Rattle.store_core.specs.Running.{AreBoxLogs, ReadBoxLogs, IsRunning, CoverDues, IsStore, HasEntryRoom}
+use Rattle.store_core.specs.Value.{StoreValue, entry_room}
 use Rattle.store_core.specs.declared.store.OpenBox.{OpenBox}
-use Rattle.store_core.proofs.BoxAppendLemmas.{dues_of, sound_map, store_sound, disk_more, root_stays}
-use Rattle.store_core.proofs.DueLemmas.{OneEach, RecordsRise, dues_each, listed_meant, covered_by, store_counts}
+use Rattle.store_core.proofs.BoxAppendLemmas.{dues_of, store_sound, disk_more, root_stays}
+use Rattle.store_core.proofs.DueLemmas.{OneEach, dues_each, listed_meant, covered_by, store_counts}
 use Rattle.store_core.proofs.DueChangeLemmas.{as_many, number_few}
-use Rattle.store_core.proofs.MapDueLemmas.{adds, no_box, logs_stay, mailboxes_stay, found_with, found_made, map_due_is, map_dues_are, may_change, new_record, beside_none, leak_is, no_leak, leak_none, lost_with, drawn_up_to}
+use Rattle.store_core.proofs.MapDueLemmas.{adds, no_box, logs_stay, mailboxes_stay, found_made, map_due_is, map_dues_are, may_change, new_record, beside_none, leak_is, no_leak, leak_none, lost_with, drawn_up_to}
 use Rattle.store_core.proofs.PickingLemmas.{reads_other}
+use Rattle.store_core.proofs.EntryFileLemmas.{LeavesPlaces, kept_applied, stay_applied}
+use Rattle.store_core.proofs.MailChangeLemmas.{known_beside, stay_beside}
+use Rattle.store_core.specs.Files.{LiesBelowEnd, StayThere}
+use Rattle.storage_files.specs.Files.{FilesValue}
+use Rattle.storage_files.specs.OnDisk.{IsAsKnown}
+use Rattle.disk_model.proofs.MomentLemmas.{if_told-map}
 
 -- ---- an entry for the map log
 
@@ -55,7 +58,31 @@ pub record Readied {D : Type 0} (h : Option History) (v : StoreValue D) (e : Map
   pub fits : MapFits v.map e
   pub drawn : HasDrawnNumbers e v.map.store v.drawn
   pub due : FitsDue e (λ uid. due_at uid v) (λ uid. listed_at uid v)
+  pub below : All (LiesBelowEnd v.map.store v.files.files) (record_made e)
   pub region : HasRegion e h
+
+-- such an entry leaves each record where it is, seals nothing, and draws no file number
+leaves_places : (e : MapEntry) → IsAppendable e → LeavesPlaces e
+leaves_places (entry.U u) k = tt
+leaves_places (entry.D us) k = tt
+leaves_places (entry.T cs) k = tt
+leaves_places (entry.S o c u f p z g is) k = tt
+leaves_places (entry.H h) k = tt
+leaves_places (entry.B b g n) k = tt
+leaves_places (entry.G b g) k = tt
+leaves_places (entry.P f t ms us) k = absurd k
+leaves_places (entry.E f) k = absurd k
+
+same_file_drawn : (e : MapEntry) (drawn : Highest) → (drawn_by e drawn).file ≡ drawn.file
+same_file_drawn (entry.U u) drawn = refl
+same_file_drawn (entry.D us) drawn = refl
+same_file_drawn (entry.T cs) drawn = refl
+same_file_drawn (entry.S o c u f p z g is) drawn = refl
+same_file_drawn (entry.H h) drawn = refl
+same_file_drawn (entry.B b g n) drawn = refl
+same_file_drawn (entry.G b g) drawn = refl
+same_file_drawn (entry.P f t ms us) drawn = refl
+same_file_drawn (entry.E f) drawn = refl
 
 -- a log that has more room is read as before
 read_roomier : (log : LogState) (room : ℕ) (entries : List (List ℕ)) (h : Option History) → Reads log entries h → Reads (record log { room = room }) entries h
@@ -79,6 +106,7 @@ roomier h v room s = record {
   box_logs = s.box_logs;
   some_lanes = s.some_lanes;
   few_lanes = s.few_lanes;
+  files = s.files;
   running = λ runs. let r = s.running runs in record {
     opens = r.opens;
     root = r.root;
@@ -86,6 +114,8 @@ roomier h v room s = record {
     root_log_reads = r.root_log_reads;
     map_log_reads = read_roomier v.map_log room (map map_text s.entries) h r.map_log_reads;
     box_logs_read = r.box_logs_read;
+    files_known = r.files_known;
+    files_stay = r.files_stay;
   };
 }
 
@@ -105,8 +135,8 @@ pub seen_prepared : {D : Type 0} → (v now : StoreValue D) (log : LogState) (m 
 seen_prepared v now log m dues is a b c = prepared_is v log m dues a b c ∙ ap (λ (x : StoreValue _). record x { map_log = record x.map_log { room = log.room } }) is
 
 pub readied : {D : Type 0} → (h : Option History) (v now : StoreValue D) (log : LogState) (m : MapMeaning) (dues : List ℕ) (e : MapEntry) → IsStore h v → v ≡ now → log ≡ record v.map_log { room = log.room } → m ≡ v.map → dues ≡ v.dues
-    → now.stopped ≡ false → MapInRange e → IsAppendable e → MapFits now.map e → HasDrawnNumbers e now.map.store now.drawn → FitsDue e (λ uid. due_at uid now) (λ uid. listed_at uid now) → HasRegion e h → Readied h (prepared v log m dues) e
-readied h v now log m dues e s is a b c running in_range kind fits drawn due region =
+    → now.stopped ≡ false → MapInRange e → IsAppendable e → MapFits now.map e → HasDrawnNumbers e now.map.store now.drawn → FitsDue e (λ uid. due_at uid now) (λ uid. listed_at uid now) → All (LiesBelowEnd now.map.store now.files.files) (record_made e) → HasRegion e h → Readied h (prepared v log m dues) e
+readied h v now log m dues e s is a b c running in_range kind fits drawn due below region =
     subst (λ (x : StoreValue _). Readied h x e) (sym (seen_prepared v now log m dues is a b c)) (record {
       store = roomier h now log.room (subst (λ (x : StoreValue _). IsStore h x) is s);
       running = running;
@@ -115,6 +145,7 @@ readied h v now log m dues e s is a b c running in_range kind fits drawn due reg
       fits = fits;
       drawn = drawn;
       due = due;
+      below = below;
       region = region;
     })
 
@@ -253,13 +284,18 @@ opens_with (Some old) (Some new) id entries logs generation a b e o root kind in
 
 -- ---- the store
 
-runs_with : {D : Type 0} → (old new : Option History) (v : StoreValue D) (w : StoreValue D) (e : MapEntry) → (r : Readied old v e) → w.map.store ≡ v.map.store → w.root_log ≡ v.root_log → w.boxes ≡ v.boxes → IsSameLog v.map_log w.map_log → SameButFor v.map_log.name old new
+runs_with : {D : Type 0} → (old new : Option History) (v : StoreValue D) (w : StoreValue D) (e : MapEntry) → (r : Readied old v e) → w.map ≡ map_applied e v.map → w.files ≡ v.files → w.map.store ≡ v.map.store → w.root_log ≡ v.root_log → w.boxes ≡ v.boxes → IsSameLog v.map_log w.map_log → SameButFor v.map_log.name old new
     → ((texts : List (List ℕ)) → Reads v.map_log texts old → Reads w.map_log (texts ++ map_text e ∷ []) new) → IsRunning new r.store.generation w (r.store.entries ++ e ∷ []) r.store.logs
-runs_with old new v w e r store root_log boxes log others added =
+runs_with old new v w e r applied files store root_log boxes log others added =
     let s = r.store in
     let runs = s.running r.running in
     let same : SameButFor (file.Map s.generation) old new = subst (λ (n : _). SameButFor n old new) s.map_name others in
+    let no_mail : (mail : ℕ) → file.Mail mail ≢ v.map_log.name = λ mail q. absurd (let p : file.Mail mail ≡ file.Map s.generation = q ∙ s.map_name in cc p) in
     record {
+      files_known = subst (λ (fs : FilesValue). (number : ℕ) → IsAsKnown fs.files number new) (sym files) (known_beside v.map_log.name v.files.files old new no_mail others runs.files_known);
+      files_stay = subst (λ (m : MapMeaning). IfTold new (StayThere w.files.files m.records)) (sym applied)
+          (subst (λ (fs : FilesValue). IfTold new (StayThere fs.files (map_applied e v.map).records)) (sym files)
+          (if_told-map _ _ new (λ disk stay. stay_applied v.files.files v.map e disk (leaves_places e r.kind) stay) (stay_beside v.map_log.name v.files.files v.map.records old new no_mail others runs.files_stay)));
       opens = subst (λ (id : List ℕ). IfTold new (λ now. Opens (files_of now) id (s.entries ++ e ∷ []) s.logs)) (sym store)
           (opens_with old new v.map.store s.entries s.logs s.generation v.map_log w.map_log e runs.opens runs.root r.kind r.in_range (fits_there old v e r) r.region (good_made old v e r).counts s.map_name log others runs.map_log_reads
           (added (map map_text s.entries) runs.map_log_reads));
@@ -296,7 +332,8 @@ store_with old new v disk log e r same others added =
       box_logs = subst (λ (bs : List MapBox). AreBoxLogs v.map.store bs v.boxes) (sym (mailboxes_stay e r.kind v.map)) s.box_logs;
       some_lanes = s.some_lanes;
       few_lanes = s.few_lanes;
-      running = λ runs. runs_with old new v (with_entry v disk log e) e r refl refl refl same others added;
+      files = kept_applied v.files v.drawn (drawn_by e v.drawn) v.map e (leaves_places e r.kind) (same_file_drawn e v.drawn) r.below s.files;
+      running = λ runs. runs_with old new v (with_entry v disk log e) e r refl refl refl refl refl same others added;
     }
 
 -- where the append failed, it is a store that is stopped
@@ -317,6 +354,7 @@ store_stopped old new v disk log s same = record {
   box_logs = s.box_logs;
   some_lanes = s.some_lanes;
   few_lanes = s.few_lanes;
+  files = s.files;
   running = λ runs. absurd (cc runs);
 }
 

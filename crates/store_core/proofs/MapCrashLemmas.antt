@@ -1,8 +1,8 @@
 -- What a crash within an append to the map log leaves, what the append leaves of a settled disk, and what records store then.
 use Rattle.std.proofs.Common.{inl, inr, ◌≡◌, ℕ, List, [], ◌∷◌, ◌++◌, map, Option, Some, None, All, refl, sym, ◌∙◌, ap, subst, ◌⊎◌, append-nil}
-use Rattle.std.specs.Prelude.{Contains, ◌≤◌, ◌≢◌}
+use Rattle.std.specs.Prelude.{Contains, ◌≤◌}
 use Rattle.std.proofs.lemmas.List.Elements.{All-nil, All-cons, All-head, All-contains, Contains-append_cases}
-use Rattle.disk_model.specs.Disk.{Files, DiskState, History, IsImage, MayLeave, IfTold, OthersStay, SameButFor, Between, reading}
+use Rattle.disk_model.specs.Disk.{Files, DiskState, History, MayLeave, IfTold, OthersStay, SameButFor, Between, reading}
 use Rattle.disk_model.specs.declared.name.FileName.{FileName}
 use Rattle.disk_model.specs.declared.name.FileName.TheVariants as file
 use Rattle.disk_model.proofs.MomentLemmas.{each_image-map}
@@ -13,23 +13,22 @@ use Rattle.mdbox_base.specs.declared.entries.InstRow.{InstRow}
 use Rattle.mdbox_base.specs.declared.entries.MapEntry.{MapEntry}
 use Rattle.mdbox_base.specs.declared.entries.MapEntry.TheVariants as entry
 use Rattle.model_appends.specs.Appending.{HasOneMore, LeftBut, LeavesAsRead}
-use Rattle.model_appends.specs.MapAppending.{ChangesCounts, logs_made, lists_made, stored_row, IsMapAppend, AddsSynced, LeavesAlike}
+use Rattle.model_appends.specs.MapAppending.{logs_made, lists_made, stored_row, IsMapAppend, AddsSynced, LeavesAlike}
 use Rattle.model_appends.proofs.AppendCountLemmas.{counts_by_map_entry}
 use Rattle.model_appends.proofs.AppendFileLemmas.{SameStored, kept_as, map_stored, count_itself}
 use Rattle.model_appends.proofs.AppendMapOpenLemmas.{same_record}
 use Rattle.model_appends.proofs.AppendSafeLemmas.{same_log, more_log, safe_without}
 use Rattle.model_appends.proofs.AppendSafeMapLemmas.{counts_append, stored_append, counts_synced, leaves_added, safe_with_map_entry, settled_by_map_append}
 use Rattle.model_appends.proofs.HeldLogLemmas.{holds_map}
-use Rattle.model_lists.specs.Lists.{Lists, Mailbox, refs_of, empty_mailbox}
+use Rattle.model_lists.specs.Lists.{Lists, refs_of, empty_mailbox}
 use Rattle.model_logs.specs.Entries.{map_text, MapInRange}
 use Rattle.model_logs.specs.LogFile.{IsLogFile}
 use Rattle.model_logs.specs.declared.log_head.LogHead.{LogHead}
 use Rattle.model_meaning.proofs.AppliedLemmas.{records_by_stored}
 use Rattle.model_meaning.proofs.MapLemmas.{map_more}
 use Rattle.model_meaning.specs.MapFits.{MapFits}
-use Rattle.model_meaning.specs.MapMeaning.{MapRecord, MapBox, MapMeaning, map_meaning, map_applied, record_at, record_changed, record_made, box_made, count_of}
+use Rattle.model_meaning.specs.MapMeaning.{MapRecord, MapBox, MapMeaning, map_meaning, record_changed, record_made, count_of}
 use Rattle.model_octets.proofs.SearchLemmas.{among}
-use Rattle.model_store.proofs.SettledLemmas.{settled_safe}
 use Rattle.model_store.proofs.StandsLemmas.{map_same, root_same}
 use Rattle.model_store.specs.GoodLogs.{AreGoodLogs}
 use Rattle.model_store.specs.Opening.{Opens}
@@ -37,13 +36,13 @@ use Rattle.model_store.specs.Safe.{LiesInFile, IsThereWhole, SafeBy, Safe}
 use Rattle.model_store.specs.Settled.{files_of, IsSettled, IsSettledFor, Leaves, HasSameRegion, HasSameInstance}
 use Rattle.model_store.specs.Stands.{NamesOwn, NamesAny, StoredOnce, KeepsDetached, StoresMessage}
 use Rattle.store_core.specs.Append.{AddsText}
-use Rattle.store_core.specs.Dues.{KeepsStored, IsSpared}
-use Rattle.store_core.specs.MapAppend.{IsAppendable, HasRegion, HasSyncedRegion}
+use Rattle.store_core.specs.Dues.{KeepsStored}
+use Rattle.store_core.specs.MapAppend.{IsAppendable, HasSyncedRegion}
 use Rattle.store_core.specs.Value.{StoreValue}
 use Rattle.store_core.proofs.BoxAppendLemmas.{is_log, disk_more}
 use Rattle.store_core.proofs.BoxCrashLemmas.{ReadsImage}
 use Rattle.store_core.proofs.MapAppendLemmas.{Readied, fits_there, good_made, lies_there, no_instances}
-use Rattle.store_core.proofs.MapDueLemmas.{adds, no_box, found_with}
+use Rattle.store_core.proofs.MapDueLemmas.{adds, no_box}
 
 -- ---- the entry can be appended to a settled disk
 

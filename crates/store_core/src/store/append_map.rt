@@ -14,6 +14,7 @@ ghost use Rattle.model_meaning.specs.MapMeaning.{MapRecord, map_applied, record_
 ghost use Rattle.model_store.specs.Settled.{IsSettledFor, Leaves};
 ghost use Rattle.store_core.specs.Append.{AddsText};
 ghost use Rattle.store_core.specs.Dues.{due_at, listed_at, leak_at, IsSpared, KeepsStored};
+ghost use Rattle.store_core.specs.Files.{LiesBelowEnd};
 ghost use Rattle.store_core.specs.MapAppend.{IsAppendable, HasDrawnNumbers, FitsDue, HasRegion, HasSyncedRegion, drawn_by, IsLongEntry, IsLaidOut, IsSpareCopy};
 ghost use Rattle.store_core.specs.Value.{entry_room};
 ghost use Rattle.store_core.specs.declared.error.StepError.TheVariants as step_error;
@@ -72,6 +73,7 @@ impl<D: Disk> Store<D> {
         requires fits { MapFits self.old.map entry.now }
         requires drawn { HasDrawnNumbers entry.now self.old.map.store self.old.drawn }
         requires due { FitsDue entry.now (λ uid. due_at uid self.old) (λ uid. listed_at uid self.old) }
+        requires below { All (LiesBelowEnd self.old.map.store self.old.files.files) (record_made entry.now) }
         requires region { HasRegion entry.now (D.history self.old.disk) }
 
         // Of a settled disk each image at every moment is safe for its lists, whichever call fails; and after Ok it is settled

@@ -1,4 +1,4 @@
-use Rattle.std.proofs.Common.{◌-◌, ℕ, List, fold, sym, ◌∙◌, ap}
+use Rattle.std.proofs.Common.{◌-◌, ℕ, List, sym, ◌∙◌, ap}
 use Rattle.std.proofs.lemmas.List.Sums.{fold_more}
 use Rattle.mdbox_base.specs.declared.ids.MapUid.{MapUid}
 use Rattle.store_core.specs.Append.{change_beside}
