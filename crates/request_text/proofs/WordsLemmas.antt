@@ -1,5 +1,5 @@
 -- The words of the commands: which command they say.
-use Rattle.std.specs.Prelude.{◌≡◌, ◌≤◌, ◌<◌, ◌^◌, ◌+◌, ◌*◌, ℕ, nat_eq, false, List, [], ◌∷◌, length, map, get_or, Ok, Err, Result, MatchResult, IfOk}
+use Rattle.std.specs.Prelude.{◌≡◌, ◌≤◌, ◌<◌, ◌^◌, ◌+◌, ◌*◌, ℕ, nat_eq, false, List, [], ◌∷◌, length, map, get_or, codes, Ok, Err, Result, MatchResult, IfOk}
 use Rattle.std.proofs.Common.{sym, inl, inr, ◌∙◌, ap, subst, arith, refl}
 use Rattle.std.proofs.lemmas.Bool.{cases_lt, eqb-false}
 use Rattle.std.proofs.lemmas.Fmt.{decimal_injective}
@@ -8,10 +8,10 @@ use Rattle.hex.specs.Hex.{IsBytes, encode_lower, decode_of, decode_sized}
 use Rattle.hex.specs.declared.error.FromHexError.{FromHexError}
 use Rattle.hex.proofs.HexLemmas.{decode_of-encode_lower, decode_sized-encode_lower}
 use Rattle.mdbox_base.specs.Numbers.{decimal_text}
-use Rattle.mdbox_base.specs.Words.{IsOctets, IsNumber}
+use Rattle.mdbox_base.specs.Words.{IsOctets, IsNumber, IsName}
 use Rattle.mdbox_base.specs.declared.ids.StoreId.{StoreId}
 use Rattle.mdbox_base.specs.declared.ids.Uid.{Uid}
-use Rattle.request_text.specs.Commands.{words_of, IsInRange, Says, SaysOnly}
+use Rattle.request_text.specs.Commands.{words_of, IsInRange, Says, SaysOnly, NamesMailbox}
 use Rattle.request_text.specs.declared.command.Command.{Command}
 use Rattle.request_text.specs.declared.command.Command.TheVariants as command
 
@@ -111,6 +111,10 @@ pub said_only : {X : Type 0} → (r : Result Command X) (words two : List (List 
 said_only (Ok command) words two p e = says_only words command (p.0, e ∙ p.1)
 said_only (Err x) words two p e = tt
 
--- words that say a command of a kind
-pub said_some : {P : Command → Type 0} → (words some : List (List ℕ)) → ((command : Command) × P command × Says some command) → words ≡ some → (command : Command) × P command × SaysOnly words command
+-- words that say a command which names a mailbox
+pub said_some : (words some : List (List ℕ)) → ((command : Command) × NamesMailbox command × Says some command) → words ≡ some → (command : Command) × NamesMailbox command × SaysOnly words command
 said_some words some s e = (s.0, s.1, says_only words s.0 (s.2.0, e ∙ s.2.1))
+
+-- words that name a mailbox, a UID and flags
+pub flag_says : (name uid flags : List ℕ) (u : Uid) (f : ℕ) → IsName name → IsNumber u.0 × (uid ≡ decimal_text u.0) → (f ≤ 31) × (flags ≡ decimal_text f) → Says (codes "flag" ∷ name ∷ uid ∷ flags ∷ []) (command.Flag name u f)
+flag_says name uid flags u f n p q = ((n, p.0, q.0), ap (λ (t : List ℕ). codes "flag" ∷ name ∷ t ∷ flags ∷ []) p.1 ∙ ap (λ (t : List ℕ). codes "flag" ∷ name ∷ decimal_text u.0 ∷ t ∷ []) q.1)
