@@ -1,5 +1,5 @@
 -- What is said of a request alone, by its kind.
-use Rattle.std.specs.Prelude.{◌≡◌, ◌≢◌, ℕ, List, [], ◌∷◌, Option}
+use Rattle.std.specs.Prelude.{◌≡◌, ◌≢◌, ℕ, [], ◌∷◌, Option}
 use Rattle.disk_model.specs.Disk.{History, Faults, EachImage, IsIdle}
 use Rattle.disk_model.specs.FaultCounts.{NoFault, AnyFaultCounted, ChangeFaultCounted}
 use Rattle.mdbox_base.specs.declared.replies.Refusal.TheVariants as refusal
