@@ -70,7 +70,7 @@ impl OpsTask {
 
     /// Does the next event. Each of these requests has one, and is answered by it.
     pub fn step<D: Disk>(&mut self, store: &mut Store<D>) -> Progress
-        // Of every run that has come to the store: which event it was, what it answered, and what a crash may leave.
+        // Of every run that has come to the store: which event it was, what it answered, and which crash images it leaves.
         ensures does { (around after : Around) → Steps (IsAt self.old.stage) (IsAt self.new.stage) around after self.old.request (seen_of store.old (D.history store.old.disk) (D.faults store.old.disk)) (seen_of store.new (D.history store.new.disk) (D.faults store.new.disk)) self.new.did (ended_by result) }
 
         // Of a settled disk each crash image at every moment is safe for its lists, or for those that the request makes of them,
@@ -84,7 +84,8 @@ impl OpsTask {
         ensures fault { store.old.stopped ≡ false → ChangeFaultCounted (result ≡ progress.Done (reply.Refused refusal.Stopped)) (D.faults store.old.disk) (D.faults store.new.disk) }
         ensures unfailed { result ≢ progress.Done (reply.Refused refusal.Stopped) → NoFault (D.faults store.old.disk) (D.faults store.new.disk) }
 
-        // What it holds and owes it does in the store, and what others do it leaves to them, unless a failed change stops the store.
+        // What is due of each record grows or shrinks in the store by as much as in this task; and records of which something is due
+        // for other tasks are kept, unless a failed change stops the store.
         ensures moves { Moves (amounts_of self.old) (amounts_of self.new) (amounts_in store.old) (amounts_in store.new) }
         ensures spares { store.new.stopped ≡ store.old.stopped → Spares (amounts_of self.old) store.old store.new (D.history store.old.disk) (D.history store.new.disk) }
         ensures replies { (reply : Reply) × (result ≡ progress.Done reply) × Replies self.old.request store.old store.new reply }

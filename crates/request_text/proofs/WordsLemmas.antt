@@ -1,12 +1,11 @@
 -- The words of the commands: which command they say.
-use Rattle.std.specs.Prelude.{◌≡◌, ◌≤◌, ◌<◌, ◌^◌, ◌+◌, ◌*◌, ℕ, nat_eq, false, List, [], ◌∷◌, length, map, get_or, codes, Ok, Err, Result, MatchResult, IfOk}
-use Rattle.std.proofs.Common.{sym, inl, inr, ◌∙◌, ap, subst, arith, refl}
+use Rattle.std.specs.Prelude.{◌≡◌, ◌≤◌, ◌<◌, ◌^◌, ◌+◌, ◌*◌, ℕ, nat_eq, false, List, [], ◌∷◌, length, map, get_or, codes, Ok, Err, Result, IfOk}
+use Rattle.std.proofs.Common.{sym, inl, inr, ◌∙◌, ap, arith, refl}
 use Rattle.std.proofs.lemmas.Bool.{cases_lt, eqb-false}
 use Rattle.std.proofs.lemmas.Fmt.{decimal_injective}
 use Rattle.std.proofs.lemmas.List.{get_or_past}
-use Rattle.hex.specs.Hex.{IsBytes, encode_lower, decode_of, decode_sized}
-use Rattle.hex.specs.declared.error.FromHexError.{FromHexError}
-use Rattle.hex.proofs.HexLemmas.{decode_of-encode_lower, decode_sized-encode_lower}
+use Rattle.hex.specs.Hex.{IsBytes, encode_lower, decode_of}
+use Rattle.hex.proofs.HexLemmas.{decode_of-encode_lower}
 use Rattle.mdbox_base.specs.Numbers.{decimal_text}
 use Rattle.mdbox_base.specs.Words.{IsOctets, IsNumber, IsName}
 use Rattle.mdbox_base.specs.declared.ids.StoreId.{StoreId}
