@@ -19,6 +19,12 @@ length_on disk number = option_map length (reading (disk (Mail number)))
 abbrev pub end_found : ℕ → List FileState → Option ℕ
 end_found number states = option_map (λ s. s.end) (find (λ s. s.file.0 == number) states)
 
+-- Where the storage file with this number ends once the disk is swept, None if it isn't there then: one that isn't sealed ends
+-- with its last region, and a sealed one where it does on the disk.
+pub record IsFoundEnd (m : MapMeaning) (history : Option History) (number : ℕ) (end : Option ℕ) : Type 0 where
+  pub unsealed : is_sealed m number ≡ false → end ≡ last_end m number
+  pub sealed : is_sealed m number ≡ true → IfTold history (λ disk. end ≡ length_on disk number)
+
 -- the file is sealed as the map says, and isn't barred yet
 abbrev pub IsUnbarred : MapMeaning → FileState → Type 0
 IsUnbarred m s = (s.sealed ≡ is_sealed m s.file.0) × (s.barred ≡ false)
@@ -27,12 +33,10 @@ IsUnbarred m s = (s.sealed ≡ is_sealed m s.file.0) × (s.barred ≡ false)
 abbrev pub IsMarked : MapMeaning → FileState → Type 0
 IsMarked m s = (s.sealed ≡ is_sealed m s.file.0) × (s.barred ≡ is_barred m s.file.0 s.end)
 
--- The storage files that are there once the disk is swept, in order of number: those that aren't sealed and in which a record
--- has its region, cut to where the last one ends, and those sealed ones that are on the disk, as long as they are.
+-- The storage files that are there once the disk is swept, in order of number.
 pub record AreFilesFound (m : MapMeaning) (history : Option History) (states : List FileState) : Type 0 where
   pub rising : AllPairs (λ a b. a.file.0 < b.file.0) states
-  pub unsealed : (number : ℕ) → is_sealed m number ≡ false → end_found number states ≡ last_end m number
-  pub sealed : (number : ℕ) → is_sealed m number ≡ true → IfTold history (λ disk. end_found number states ≡ length_on disk number)
+  pub ends : (number : ℕ) → IsFoundEnd m history number (end_found number states)
   pub marks : All (IsMarked m) states
 
 -- What an opening makes of them: nobody has taken a file, the greatest number drawn is that of the map, and there is no room

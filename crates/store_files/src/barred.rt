@@ -15,7 +15,8 @@ pub(crate) fn bar_files(states: &mut [FileState], id: StoreId, map: &MapIndex)
     ensures { states.new ≡ map (barred_in map.now.meaning) states.old }
 {
     for place in 0..map.rows() {
-        bar_file(states, id, map.row_at(place).unwrap().guid);
+        let row = map.row_at(place).unwrap();
+        bar_file(states, id, row.guid);
     }
 }
 

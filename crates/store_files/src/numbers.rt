@@ -26,7 +26,8 @@ fn region_files(alloc: Global, map: &MapIndex) -> Result<Vec<u32>, NoMemory>
 {
     let mut numbers = Vec::with_capacity(alloc, map.rows() as usize)?;
     for place in 0..map.rows() {
-        numbers.push(map.row_at(place).unwrap().file.0)?;
+        let row = map.row_at(place).unwrap();
+        numbers.push(row.file.0)?;
     }
     Ok(numbers)
 }
@@ -36,7 +37,8 @@ fn add_sealed(numbers: &mut Vec<u32>, map: &MapIndex) -> Result<(), NoMemory>
     ensures { OnOk result (numbers.new.items ≡ numbers.old.items ++ map.now.meaning.sealed) }
 {
     for place in 0..map.sealed() {
-        numbers.push(map.sealed_at(place).unwrap().0)?;
+        let file = map.sealed_at(place).unwrap();
+        numbers.push(file.0)?;
     }
     Ok(())
 }

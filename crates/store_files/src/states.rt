@@ -1,10 +1,9 @@
 // Where storage files end.
-ghost use Rattle.std.specs.Prelude.{◌≡◌, ◌<◌, true, false, ℕ, AllPairs, All, IfOk, IfSome, OnOk, IsErr, IsErrOf};
+ghost use Rattle.std.specs.Prelude.{◌≡◌, ◌<◌, AllPairs, All, Contains, IfOk, IfSome, OnOk, IsErr, IsErrOf};
 ghost use Rattle.std.specs.Option.{option_map};
 ghost use Rattle.disk_model.specs.Disk.{IfTold, IsIdle};
 ghost use Rattle.disk_model.specs.FaultCounts.{NoFault, ReadFaultCounted};
-ghost use Rattle.model_meaning.specs.MapMeaning.{is_sealed};
-ghost use Rattle.store_files.specs.Found.{end_found, length_on, IsUnbarred};
+ghost use Rattle.store_files.specs.Found.{end_found, length_on, IsFoundEnd, IsUnbarred};
 ghost use Rattle.store_files.specs.Regions.{last_end};
 
 use crate::error::FilesError;
@@ -23,9 +22,9 @@ pub(crate) fn file_states<D: Disk>(
 ) -> Result<Vec<FileState>, FilesError>
     requires rising { AllPairs (λ a b. a < b) numbers.now }
     ensures rising { IfOk result (λ states. AllPairs (λ a b. a.file.0 < b.file.0) states.items) }
+    ensures only { IfOk result (λ states. All (λ s. Contains numbers.now s.file.0) states.items) }
+    ensures ends { IfOk result (λ states. All (λ number. IsFoundEnd map.now.meaning (D.history disk.old) number (end_found number states.items)) numbers.now) }
     ensures marks { IfOk result (λ states. All (IsUnbarred map.now.meaning) states.items) }
-    ensures unsealed { IfOk result (λ states. All (λ number. is_sealed map.now.meaning number ≡ false → end_found number states.items ≡ last_end map.now.meaning number) numbers.now) }
-    ensures sealed { IfOk result (λ states. All (λ number. is_sealed map.now.meaning number ≡ true → IfTold (D.history disk.old) (λ now. end_found number states.items ≡ length_on now number)) numbers.now) }
     ensures idle { IsIdle (D.history disk.old) (D.history disk.new) }
     ensures fault { ReadFaultCounted (IsErrOf result FilesError.DiskFault) (D.faults disk.old) (D.faults disk.new) }
     ensures unfailed { (IsErrOf result FilesError.DiskFault → ⊥) → NoFault (D.faults disk.old) (D.faults disk.new) }
@@ -46,8 +45,7 @@ fn state_of<D: Disk>(
     file: FileNo,
 ) -> Result<Option<FileState>, DiskFault>
     ensures state { IfOk result (λ found. IfSome found (λ state. (state.file ≡ file) × IsUnbarred map.now.meaning state)) }
-    ensures unsealed { IfOk result (λ found. is_sealed map.now.meaning file.0 ≡ false → option_map (λ s. s.end) found ≡ last_end map.now.meaning file.0) }
-    ensures sealed { IfOk result (λ found. is_sealed map.now.meaning file.0 ≡ true → IfTold (D.history disk.old) (λ now. option_map (λ s. s.end) found ≡ length_on now file.0)) }
+    ensures end { IfOk result (λ found. IsFoundEnd map.now.meaning (D.history disk.old) file.0 (option_map (λ s. s.end) found)) }
     ensures idle { IsIdle (D.history disk.old) (D.history disk.new) }
     ensures fault { ReadFaultCounted (IsErr result) (D.faults disk.old) (D.faults disk.new) }
     ensures unfailed { OnOk result (NoFault (D.faults disk.old) (D.faults disk.new)) }
