@@ -1,4 +1,5 @@
 pub mod Append
 pub mod Dues
+pub mod Files
 pub mod Running
 pub mod Value

@@ -14,6 +14,8 @@ use Rattle.model_store.specs.Settled.{files_of}
 use Rattle.model_store.specs.Opening.{Opens, listed_of}
 use Rattle.model_store.specs.GoodLogs.{AreGoodLogs}
 use Rattle.gate_log.specs.Log.{Reads}
+use Rattle.storage_files.specs.OnDisk.{IsAsKnown}
+use Rattle.store_core.specs.Files.{AreFilesKept, StayThere}
 use Rattle.store_core.specs.Value.{StoreValue, indexes_of, entry_room}
 use Rattle.store_core.specs.declared.store.OpenBox.{OpenBox}
 
@@ -33,7 +35,7 @@ ReadBoxLogs history (open_box ∷ boxes) (entries ∷ logs) = Reads open_box.log
 ReadBoxLogs history boxes logs = ⊥
 
 -- The disk opens with these entries, under a root log that names this generation, and reads each log, which ends with a
--- closed gate.
+-- closed gate. It has each storage file as it is known.
 pub record IsRunning {D : Type 0} (history : Option History) (generation : ℕ) (store : StoreValue D) (entries : List MapEntry) (logs : List (List BoxEntry)) : Type 0 where
   pub opens : IfTold history (λ now. Opens (files_of now) store.map.store entries logs)
   pub root : IfTold history (λ now. HasRoot (files_of now) store.map.store generation)
@@ -41,6 +43,8 @@ pub record IsRunning {D : Type 0} (history : Option History) (generation : ℕ) 
   pub root_log_reads : Reads store.root_log root_entries history
   pub map_log_reads : Reads store.map_log (map map_text entries) history
   pub box_logs_read : ReadBoxLogs history store.boxes logs
+  pub files_known : (number : ℕ) → IsAsKnown store.files.files number history
+  pub files_stay : IfTold history (StayThere store.files.files store.map.records)
 
 -- ---- counts
 
@@ -66,9 +70,10 @@ pub record IsUpTo (drawn highest : Highest) : Type 0 where
   pub instance : highest.instance ≤ drawn.instance
   pub mailbox : highest.mailbox ≤ drawn.mailbox
 
--- A store's indexes are what good logs mean, its logs stand under the names and heads that the root log and the map say, and
--- each count covers what is listed and due. Unless it is stopped, its disk, which tells this, opens with these logs, and reads
--- them. What a failed change leaves on the disk of a stopped store is said by the clauses of the call that made it.
+-- A store's indexes are what good logs mean, its logs stand under the names and heads that the root log and the map say,
+-- each count covers what is listed and due, and all that records name lies in the storage files as they are known. Unless it
+-- is stopped, its disk, which tells this, opens with these logs, and reads them. What a failed change leaves on the disk of a
+-- stopped store is said by the clauses of the call that made it.
 pub record IsStore {D : Type 0} (history : Option History) (store : StoreValue D) : Type 0 where
   pub entries : List MapEntry
   pub logs : List (List BoxEntry)
@@ -78,6 +83,7 @@ pub record IsStore {D : Type 0} (history : Option History) (store : StoreValue D
   pub boxes_are : indexes_of store.boxes ≡ map box_meaning logs
   pub counts : CoverDues logs store.map.records store.dues
   pub drawn : IsUpTo store.drawn store.map.highest
+  pub files : AreFilesKept store.files store.drawn store.map
   pub root_name : store.root_log.name ≡ file.Root
   pub root_head : store.root_log.head ≡ head_of store.map.store kind.Root 0 0
   pub map_name : store.map_log.name ≡ file.Map generation

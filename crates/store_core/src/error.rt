@@ -14,6 +14,10 @@ pub enum StepError {
     NoMemory,
 }
 
+/// A change of the disk failed: the store is stopped. It is the only error of a call that takes no memory.
+#[derive(Clone, Copy, Debug, PartialEq, Eq)]
+pub struct Stopped;
+
 impl From<DiskFault> for StepError {
     ghost from_gives = { λ _ error. error ≡ step_error.Stopped };
 

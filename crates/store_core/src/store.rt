@@ -14,6 +14,7 @@ ghost use Rattle.model_meaning.specs.BoxMeaning.{BoxMeaning, box_meaning, row_ma
 ghost use Rattle.model_meaning.specs.MapMeaning.{count_of};
 ghost use Rattle.model_store.specs.Opening.{HasItsRecord};
 ghost use Rattle.model_store.specs.Settled.{IsSettledFor, Leaves};
+ghost use Rattle.storage_files.specs.Files.{AreFilesInOrder};
 ghost use Rattle.store_core.specs.Append.{FitsBox, Brings};
 ghost use Rattle.store_core.specs.Dues.{due_at, leak_at, KeepsStored};
 ghost use Rattle.store_core.specs.Value.{indexes_of, newly_open, with_entry_room, list_named, list_numbered, references_to};
@@ -31,6 +32,7 @@ use map_index::MapIndex;
 use mdbox_base::{BoxEntry, BoxNo, Guid, Highest, Name, StoreId};
 use std::alloc::Global;
 use std::marker::Model;
+use storage_files::MailFiles;
 
 /// A mailbox of an open store: its log, and what that means.
 #[derive(Drop)]
@@ -55,17 +57,18 @@ pub struct OpenLogs {
 /// A store that is open. It has its disk until that is asked back.
 pub struct Store<D: Disk> {
     alloc: Global,
-    disk: D,
+    pub(crate) disk: D,
     id: StoreId,
     root_log: GateLog,
     map_log: GateLog,
     map: MapIndex,
     boxes: Vec<OpenBox>,
-    drawn: Highest,
+    pub(crate) files: MailFiles,
+    pub(crate) drawn: Highest,
     /// What is due of each record, in the order of the map's records.
     dues: Vec<u32>,
     lanes: u32,
-    stopped: bool,
+    pub(crate) stopped: bool,
 }
 
 impl<D: Disk> Model for Store<D> {
@@ -75,18 +78,27 @@ impl<D: Disk> Model for Store<D> {
 
     ghost Value = { StoreValue D };
 
-    ghost view = { λ s. record { alloc = s.alloc; disk = s.disk; root_log = s.root_log; map_log = s.map_log; map = s.map.meaning; boxes = s.boxes.items; drawn = s.drawn; dues = s.dues.items; lanes = s.lanes; stopped = s.stopped } };
+    ghost view = { λ s. record { alloc = s.alloc; disk = s.disk; root_log = s.root_log; map_log = s.map_log; map = s.map.meaning; boxes = s.boxes.items; files = s.files; drawn = s.drawn; dues = s.dues.items; lanes = s.lanes; stopped = s.stopped } };
 
-    ghost invariant = { λ s. (s.id.0 ≡ s.map.meaning.store) × IsStore (D.history s.disk) (record { alloc = s.alloc; disk = s.disk; root_log = s.root_log; map_log = s.map_log; map = s.map.meaning; boxes = s.boxes.items; drawn = s.drawn; dues = s.dues.items; lanes = s.lanes; stopped = s.stopped }) × HasEntryRoom (record { alloc = s.alloc; disk = s.disk; root_log = s.root_log; map_log = s.map_log; map = s.map.meaning; boxes = s.boxes.items; drawn = s.drawn; dues = s.dues.items; lanes = s.lanes; stopped = s.stopped }) };
+    ghost invariant = { λ s. (s.id.0 ≡ s.map.meaning.store) × IsStore (D.history s.disk) (record { alloc = s.alloc; disk = s.disk; root_log = s.root_log; map_log = s.map_log; map = s.map.meaning; boxes = s.boxes.items; files = s.files; drawn = s.drawn; dues = s.dues.items; lanes = s.lanes; stopped = s.stopped }) × HasEntryRoom (record { alloc = s.alloc; disk = s.disk; root_log = s.root_log; map_log = s.map_log; map = s.map.meaning; boxes = s.boxes.items; files = s.files; drawn = s.drawn; dues = s.dues.items; lanes = s.lanes; stopped = s.stopped }) };
 }
 
 impl<D: Disk> Store<D> {
-    /// A store whose logs were opened, for so many lanes, with the memory that was taken for it. It takes no more.
-    pub fn of(alloc: Global, disk: D, logs: OpenLogs, room: StoreRoom, lanes: u32) -> Store<D>
+    /// A store whose logs were opened, with its storage files as they were found, for so many lanes, with the memory that was
+    /// taken for it. It takes no more.
+    pub fn of(
+        alloc: Global,
+        disk: D,
+        logs: OpenLogs,
+        files: MailFiles,
+        room: StoreRoom,
+        lanes: u32,
+    ) -> Store<D>
         requires id { logs.map.meaning.store ≡ logs.id.0 }
-        requires store { IsStore (D.history disk) (newly_open alloc disk logs lanes) }
+        requires store { IsStore (D.history disk) (newly_open alloc disk logs files lanes) }
+        requires untaken { All (λ f. f.taken ≡ false) files.files }
         requires room { (room.boxes ≡ length logs.boxes.items) × (room.records ≡ length logs.map.meaning.records) }
-        ensures store { result ≡ with_entry_room (newly_open alloc disk logs lanes) }
+        ensures store { result ≡ with_entry_room (newly_open alloc disk logs files lanes) }
         ensures indexes { indexes_of result.boxes ≡ indexes_of logs.boxes.items }
     {
         let OpenLogs {
@@ -112,6 +124,7 @@ impl<D: Disk> Store<D> {
             map_log,
             map,
             boxes,
+            files,
             drawn,
             dues,
             lanes,
@@ -123,8 +136,9 @@ impl<D: Disk> Store<D> {
     pub fn facts(&self)
         ensures store { IsStore (D.history self.now.disk) self.now }
         ensures room { HasEntryRoom self.now }
+        ensures files { AreFilesInOrder self.now.files }
     {
-        let _ = &self.id;
+        self.files.known_facts();
     }
 
     /// Each count is made up of the listed messages, what is due of the record, and its leak.
@@ -270,6 +284,7 @@ impl<D: Disk> Store<D> {
             map_log: _map_log,
             map: _map,
             boxes: _boxes,
+            files: _files,
             drawn: _,
             dues: _dues,
             lanes: _,
