@@ -23,7 +23,7 @@ use Rattle.store_sweep.specs.Wanted.{is_wanted}
 
 -- ---- as a store knows it
 
-found_in : (number : ℕ) (states : List FileState) → file_in number (map file_found states) ≡ option_map file_found (find (λ s. s.file.0 == number) states)
+pub found_in : (number : ℕ) (states : List FileState) → file_in number (map file_found states) ≡ option_map file_found (find (λ s. s.file.0 == number) states)
 found_in number [] = refl
 found_in number (s ∷ ss) = ap (λ (o : Option MailFile). cond (s.file.0 == number) (Some (file_found s)) o) (found_in number ss) ∙ step (s.file.0 == number) (find (λ t. t.file.0 == number) ss)
   where
