@@ -39,17 +39,17 @@ end_at m history numbers states number g c = All-contains (λ n. IsFoundEnd m hi
 -- a file without a region that is not sealed is not there
 no_region : (m : MapMeaning) (history : Option History) (numbers : List ℕ) (states : List FileState) (number : ℕ) (o : Option FileState) → state_in number states ≡ o → IsGathered m history numbers states → is_sealed m number ≡ false → has_region m number ≡ false
     → end_found number states ≡ last_end m number
-no_region m history numbers states number None e g open none = ap (option_map (λ s. s.end)) e ∙ sym (cond-false (has_region m number) (Some (end_of m number)) None none)
-no_region m history numbers states number (Some s) e g open none =
+no_region m history numbers states number None e g is_not none = ap (option_map (λ s. s.end)) e ∙ sym (cond-false (has_region m number) (Some (end_of m number)) None none)
+no_region m history numbers states number (Some s) e g is_not none =
     let f = found_holds (λ t. t.file.0 == number) states s (λ t. Contains numbers t.file.0) e g.only in
     let c : Contains numbers number = subst (Contains numbers) (same_number s.file.0 number f.1) f.0 in
-    (end_at m history numbers states number g c).unsealed open
+    (end_at m history numbers states number g c).unsealed is_not
 
 each_end : (m : MapMeaning) (history : Option History) (numbers : List ℕ) (states : List FileState) → IsGathered m history numbers states → (number : ℕ) → IsFoundEnd m history number (end_found number states)
 each_end m history numbers states g number = record {
-  unsealed = λ open. elim (cases_Bool (has_region m number)) [
-    | inl some ↦ (end_at m history numbers states number g (g.regions number some)).unsealed open
-    | inr none ↦ no_region m history numbers states number (state_in number states) refl g open none
+  unsealed = λ is_not. elim (cases_Bool (has_region m number)) [
+    | inl some ↦ (end_at m history numbers states number g (g.regions number some)).unsealed is_not
+    | inr none ↦ no_region m history numbers states number (state_in number states) refl g is_not none
   ];
   sealed = λ is. (end_at m history numbers states number g (g.sealed number is)).sealed is;
 }
@@ -130,7 +130,7 @@ files_below m history states h f = λ k d lt.
     let here : end_found s.file.0 states ≡ Some s.end = ap (option_map (λ t. t.end)) (found_self states f.rising k d lt) in
     elim (cases_Bool (is_sealed m s.file.0)) [
       | inl is ↦ tested_below (λ n. n) m.sealed s.file.0 m.highest.file h.sealed is
-      | inr open ↦ tested_below (λ row. row.file) m.records s.file.0 m.highest.file h.regions (has_some m s.file.0 s.end (sym ((f.ends s.file.0).unsealed open) ∙ here))
+      | inr is_not ↦ tested_below (λ row. row.file) m.records s.file.0 m.highest.file h.regions (has_some m s.file.0 s.end (sym ((f.ends s.file.0).unsealed is_not) ∙ here))
     ]
 
 -- ---- one way
@@ -138,7 +138,7 @@ files_below m history states h f = λ k d lt.
 one_end : (m : MapMeaning) (disk : History) (number : ℕ) (a b : Option ℕ) → IsFoundEnd m (Some disk) number a → IsFoundEnd m (Some disk) number b → a ≡ b
 one_end m disk number a b p q = elim (cases_Bool (is_sealed m number)) [
   | inl is ↦ p.sealed is ∙ sym (q.sealed is)
-  | inr open ↦ p.unsealed open ∙ sym (q.unsealed open)
+  | inr is_not ↦ p.unsealed is_not ∙ sym (q.unsealed is_not)
 ]
 
 -- the first file is found by its number, and no file behind it is
@@ -175,10 +175,10 @@ same_files m (x ∷ xs) (y ∷ ys) p q r s same = elim (cases_order x.file.0 y.f
       let end : Some x.end ≡ Some y.end = sym (first_end x xs x.file.0 refl) ∙ same x.file.0 ∙ first_end y ys x.file.0 (sym number) in
       let first : x ≡ y = same_state m x y number (let h : x.end ≡ y.end = cc end in h) (All-head (IsMarked m) x xs r) (All-head (IsMarked m) y ys s) in
       let rest : xs ≡ ys = same_files m xs ys (pairs_tail (λ a b. a.file.0 < b.file.0) x xs p) (pairs_tail (λ a b. a.file.0 < b.file.0) y ys q) (All-tail (IsMarked m) x xs r) (All-tail (IsMarked m) y ys s)
-          (λ n. elim (cases_eq x.file.0 n) [
-            | inl here ↦ past_end x xs n p (omega (arith, here)) ∙ sym (past_end y ys n q (omega (arith, here, number)))
-            | inr apart ↦ sym (behind_end x xs n apart) ∙ same n ∙ behind_end y ys n (λ e. apart (number ∙ e))
-          ]) in
+      (λ n. elim (cases_eq x.file.0 n) [
+        | inl here ↦ past_end x xs n p (omega (arith, here)) ∙ sym (past_end y ys n q (omega (arith, here, number)))
+        | inr apart ↦ sym (behind_end x xs n apart) ∙ same n ∙ behind_end y ys n (λ e. apart (number ∙ e))
+      ]) in
       ap (λ (z : FileState). z ∷ xs) first ∙ ap (λ (zs : List FileState). y ∷ zs) rest
   | inr other ↦ elim other [
     | inl less ↦ absurd (none_some x.end (end_found x.file.0 (y ∷ ys)) (before_end y ys x.file.0 q less) (sym (same x.file.0) ∙ first_end x xs x.file.0 refl))

@@ -58,11 +58,7 @@ pub fn init_store<D: Disk>(alloc: Global, disk: D, id: StoreId) -> Result<Store<
 }
 
 /// Makes the logs of a new store, with what they mean. Nothing wants memory once they are made.
-fn new_logs<D: Disk>(
-    alloc: Global,
-    disk: &mut D,
-    id: StoreId,
-) -> Result<OpenParts, OpenError>
+fn new_logs<D: Disk>(alloc: Global, disk: &mut D, id: StoreId) -> Result<OpenParts, OpenError>
     ensures id { IfOk result (λ opened. opened.logs.map.meaning.store ≡ opened.logs.id.0) }
     ensures store { IfOk result (λ opened. IsStore (D.history disk.new) (newly_open alloc disk.new opened.logs opened.files 1)) }
     ensures files { IfOk result (λ opened. opened.files ≡ no_files) }

@@ -105,12 +105,12 @@ region_there m number a lie some =
 open_ends : (generation : ℕ) (m : MapMeaning) (number : ℕ) (a b : DiskState) → is_sealed m number ≡ false → All (LiesInFile (files_of a)) m.records → Kept generation m a b
     → ((n : ℕ) → IsThere (b (file.Mail n)) → is_wanted generation m (file.Mail n) ≡ true) → ((n : ℕ) → IsThere (b (file.Mail n)) → is_sealed m n ≡ false → length (b (file.Mail n)).octets ≡ end_of m n)
     → length_on b number ≡ last_end m number
-open_ends generation m number a b open lie kept only ends = elim (cases_Bool (has_region m number)) [
+open_ends generation m number a b is_not lie kept only ends = elim (cases_Bool (has_region m number)) [
   | inl some ↦
       let there : IsThere (b (file.Mail number)) = kept number (or_right (is_sealed m number) (has_region m number) some) (region_there m number a lie some) in
-      long_there (b (file.Mail number)) there ∙ ap Some (ends number there open) ∙ sym (cond-true (has_region m number) (Some (end_of m number)) None some)
+      long_there (b (file.Mail number)) there ∙ ap Some (ends number there is_not) ∙ sym (cond-true (has_region m number) (Some (end_of m number)) None some)
   | inr none ↦ elim (cases_Bool (b (file.Mail number)).is_there) [
-    | inl there ↦ absurd (or_none (is_sealed m number) (has_region m number) open none (only number there))
+    | inl there ↦ absurd (or_none (is_sealed m number) (has_region m number) is_not none (only number there))
     | inr gone ↦ long_gone (b (file.Mail number)) gone ∙ sym (cond-false (has_region m number) (Some (end_of m number)) None none)
   ]
 ]
@@ -126,6 +126,6 @@ swept_known generation m states None (Some b) opens found swept number = absurd 
 swept_known generation m states (Some a) (Some b) opens found swept number =
     let long : length_on b.now number ≡ end_found number states = elim (cases_Bool (is_sealed m number)) [
       | inl is ↦ sealed_stays generation m number a.now b.now is (λ n. swept.kept (file.Mail n)) swept.mail ∙ sym ((found.ends number).sealed is)
-      | inr open ↦ open_ends generation m number a.now b.now open (regions_lie generation m a.now opens) (λ n. swept.kept (file.Mail n)) (λ n. swept.only (file.Mail n)) swept.ends ∙ sym ((found.ends number).unsealed open)
+      | inr is_not ↦ open_ends generation m number a.now b.now is_not (regions_lie generation m a.now opens) (λ n. swept.kept (file.Mail n)) (λ n. swept.only (file.Mail n)) swept.ends ∙ sym ((found.ends number).unsealed is_not)
     ] in
     long ∙ sym (end_known number states)
