@@ -43,7 +43,8 @@ pub fn init_store<D: Disk>(alloc: Global, disk: D, id: StoreId) -> Result<Store<
     // After Ok the disk has the new store and no other file, and the store is that, for one lane.
     ensures settled { IfOk result (λ store. IfTold (D.history store.disk) (λ now. IsSettled now empty_inbox)) }
     ensures store { IfOk result (λ store. IfTold (D.history store.disk) (IsMadeStore id.0)) }
-    ensures made { IfOk result (λ store. (store.map ≡ map_meaning id.0 (first_box ∷ [])) × (indexes_of store.boxes ≡ box_meaning [] ∷ []) × (store.lanes ≡ 1) × (store.stopped ≡ false) × (store.alloc ≡ alloc) × (store.drawn ≡ store.map.highest) × (store.files ≡ no_files)) }
+    ensures made { IfOk result (λ store. (store.map ≡ map_meaning id.0 (first_box ∷ [])) × (indexes_of store.boxes ≡ box_meaning [] ∷ []) × (store.lanes ≡ 1) × (store.stopped ≡ false) × (store.alloc ≡ alloc) × (store.drawn ≡ store.map.highest)) }
+    ensures files { IfOk result (λ store. store.files ≡ no_files) }
 
     // Out of memory means that no store was made.
     ensures unmade { IfErr result (λ refused. refused.error ≡ OpenError.NoMemory → NeverHasStore (D.history disk) → NeverHasStore (D.history refused.disk)) }
