@@ -1,10 +1,11 @@
 -- Which files are barred.
-use Rattle.std.proofs.Common.{◌≡◌, ◌≢◌, ◌<◌, ◌≤◌, ◌+◌, ◌==◌, ◌&&◌, ◌||◌, ℕ, Bool, true, false, cond, nat_le, List, [], ◌∷◌, ◌++◌, length, map, take, drop, set, get_or, slice_get, Option, Some, All, AllPairs, refl, sym, ◌∙◌, ap, subst, arith}
+use Rattle.std.proofs.Common.{◌≡◌, ◌≢◌, ◌<◌, ◌≤◌, ◌+◌, ◌==◌, ◌&&◌, ◌||◌, ℕ, Bool, true, false, cond, nat_le, List, [], ◌∷◌, ◌++◌, length, map, take, drop, set, get_or, slice_get, Option, Some, All, AllPairs, if◌then◌else◌, refl, sym, ◌∙◌, ap, subst, arith}
 use Rattle.std.specs.List.{list_any}
 use Rattle.std.specs.Option.{option_map}
 use Rattle.std.proofs.lemmas.Bool.{cond-true, cond-false, eq-eqb, ne_eqb}
 use Rattle.std.proofs.lemmas.Grind.{common_steps}
-use Rattle.std.proofs.lemmas.List.{set-get_or, take-append_seam}
+use Rattle.std.proofs.Math.Seq.{take-append_seam}
+use Rattle.std.proofs.lemmas.List.{set-get_or}
 use Rattle.std.proofs.lemmas.List.Folds.{list_any-append}
 use Rattle.std.proofs.lemmas.Option.{get_or_from_slice_get}
 use Rattle.model_octets.proofs.PairLemmas.{pairs_map}
@@ -18,6 +19,9 @@ use Rattle.store_files.proofs.PlaceLemmas.{seen_next, map_fixed, set_is_map}
 
 abbrev Rise : List FileState → Type 0
 Rise states = AllPairs (λ a b. a.file.0 < b.file.0) states
+
+abbrev pub number_key : FileState → ℕ
+number_key s = s.file.0
 
 abbrev pub bar : FileState → FileState
 bar s = record s { barred = true }
@@ -69,21 +73,21 @@ le_false : (a b : ℕ) → b < a → nat_le a b ≡ false
 le_false a b h = grind (arith, common_steps, h)
 
 -- the file that it names, at its end or past it
-pub bars_one : (store guid : List ℕ) (states : List FileState) (at : ℕ) (s d : FileState) → Rise states → slice_get states at ≡ Some s → s.file.0 ≡ number_at 8 guid → is_own store guid ≡ true → (get_or states at d).end ≤ number_at 12 guid
+pub bars_one : (store guid : List ℕ) (states : List FileState) (at offset : ℕ) (s d : FileState) → Rise states → slice_get states at ≡ Some s → s.file.0 ≡ number_at 8 guid → is_own store guid ≡ true → offset ≡ number_at 12 guid → (get_or states at d).end ≤ offset
     → set states at (bar (get_or states at d)) ≡ map (barred_by store guid) states
-bars_one store guid states at s d rise e same own past =
+bars_one store guid states at offset s d rise e same own is past =
     let got : get_or states at d ≡ s = get_or_from_slice_get states at s d e in
-    let le : s.end ≤ number_at 12 guid = subst (λ (t : FileState). t.end ≤ number_at 12 guid) got past in
+    let le : s.end ≤ number_at 12 guid = subst (λ (n : ℕ). s.end ≤ n) is (subst (λ (t : FileState). t.end ≤ offset) got past) in
     let passes : names_past store s.file.0 s.end guid ≡ true =
     all_pass (is_own store guid) (number_at 8 guid == s.file.0) (nat_le s.end (number_at 12 guid)) own (eq-eqb (number_at 8 guid) s.file.0 (sym same)) (le_true s.end (number_at 12 guid) le) in
     ap (λ (t : FileState). set states at (bar t)) got ∙ ap (set states at) (sym (cond-true (names_past store s.file.0 s.end guid) (bar s) s passes)) ∙ set_barred store guid states at s rise e same
 
 -- and below its end
-pub bars_no_end : (store guid : List ℕ) (states : List FileState) (at : ℕ) (s d : FileState) → Rise states → slice_get states at ≡ Some s → s.file.0 ≡ number_at 8 guid → number_at 12 guid < (get_or states at d).end
+pub bars_no_end : (store guid : List ℕ) (states : List FileState) (at offset : ℕ) (s d : FileState) → Rise states → slice_get states at ≡ Some s → s.file.0 ≡ number_at 8 guid → offset ≡ number_at 12 guid → offset < (get_or states at d).end
     → states ≡ map (barred_by store guid) states
-bars_no_end store guid states at s d rise e same below =
+bars_no_end store guid states at offset s d rise e same is below =
     let got : get_or states at d ≡ s = get_or_from_slice_get states at s d e in
-    let lt : number_at 12 guid < s.end = subst (λ (t : FileState). number_at 12 guid < t.end) got below in
+    let lt : number_at 12 guid < s.end = subst (λ (n : ℕ). n < s.end) is (subst (λ (t : FileState). offset < t.end) got below) in
     let stays : barred_by store guid s ≡ s = unbarred store guid s (third_fails (is_own store guid) (number_at 8 guid == s.file.0) (nat_le s.end (number_at 12 guid)) (le_false s.end (number_at 12 guid) lt)) in
     sym (set-get_or states at d) ∙ ap (set states at) (got ∙ sym stays) ∙ set_barred store guid states at s rise e same
 

@@ -7,7 +7,10 @@ use Rattle.std.proofs.lemmas.List.Elements.{All-nil, All-cons, All-head, All-tai
 use Rattle.std.proofs.lemmas.Option.{slice_get_within, get_or_from_slice_get}
 use Rattle.model_octets.proofs.PairLemmas.{pairs_head, pairs_tail, pairs_nil, pairs_push}
 use Rattle.storage_files.specs.declared.file.FileState.{FileState}
-use Rattle.store_files.specs.Found.{end_found}
+use Rattle.disk_model.specs.Disk.{DiskState, History, IsIdle}
+use Rattle.disk_model.proofs.IdleLemmas.{idle-back}
+use Rattle.model_meaning.specs.MapMeaning.{MapMeaning}
+use Rattle.store_files.specs.Found.{length_on, end_found, IsFoundEnd}
 
 -- ---- the file with a number
 
@@ -111,3 +114,10 @@ gathered_skip Q numbers k n states rise e g q = record {
 
 pub gathered_all : (Q : ℕ → Option ℕ → Type 0) (numbers : List ℕ) (k : ℕ) (states : List FileState) → length numbers ≤ k → Gathered Q numbers k states → All (λ n. Q n (end_found n states)) numbers
 gathered_all Q numbers k states le g = subst (All (λ n. Q n (end_found n states))) (take_all k numbers le) g.ends
+
+-- what was found of a file after calls that change nothing
+pub idle-end : (m : MapMeaning) (old new : Option History) (number : ℕ) (end : Option ℕ) → IsIdle old new → IsFoundEnd m new number end → IsFoundEnd m old number end
+idle-end m old new number end idle f = record {
+  unsealed = f.unsealed;
+  sealed = λ is. idle-back (λ (disk : DiskState). end ≡ length_on disk number) old new idle (f.sealed is);
+}

@@ -1,6 +1,6 @@
 -- The storage files that an opening finds, and that there is one way to find them.
 use Rattle.std.specs.Prelude.{find, Contains}
-use Rattle.std.proofs.Common.{◌≡◌, ◌≢◌, ◌<◌, ◌≤◌, ◌==◌, ◌⊎◌, inl, inr, ℕ, Bool, true, false, cond, List, [], ◌∷◌, length, map, get_or, Option, Some, None, All, AllPairs, refl, sym, ◌∙◌, ap, subst, arith}
+use Rattle.std.proofs.Common.{◌≡◌, ◌≢◌, ◌<◌, ◌≤◌, ◌==◌, ◌⊎◌, inl, inr, ℕ, Bool, true, false, cond, List, [], ◌∷◌, length, map, get_or, Option, Some, None, All, AllPairs, if◌then◌else◌, refl, sym, ◌∙◌, ap, subst, arith}
 use Rattle.std.specs.List.{list_any}
 use Rattle.std.specs.Option.{option_map}
 use Rattle.std.proofs.lemmas.Bool.{cases_Bool, cases_eq, cases_order, cond-true, cond-false, eq-eqb, ne_eqb}
@@ -86,13 +86,17 @@ marked m s u = by_test (is_barred m s.file.0 s.end) refl
     by_test true e = (u.0, sym e)
     by_test false e = (u.0, u.1 ∙ sym e)
 
+pub bars_rise : (m : MapMeaning) (states : List FileState) → Rise states → Rise (map (barred_in m) states)
+bars_rise m states rising =
+    pairs_map (λ a b. a.file.0 < b.file.0) (λ a b. a.file.0 < b.file.0) (barred_in m) (λ a b less. let x = number_same m a in let y = number_same m b in omega (arith, x, y, less)) states rising
+
 -- what was gathered and barred is what an opening finds
 pub found_files : (m : MapMeaning) (history : Option History) (numbers : List ℕ) (states : List FileState)
     → ((number : ℕ) → has_region m number ≡ true → Contains numbers number) → ((number : ℕ) → is_sealed m number ≡ true → Contains numbers number)
     → Rise states → All (λ s. Contains numbers s.file.0) states → All (λ number. IsFoundEnd m history number (end_found number states)) numbers → All (IsUnbarred m) states
     → AreFilesFound m history (map (barred_in m) states)
 found_files m history numbers states regions sealed rising only ends marks = record {
-  rising = pairs_map (λ a b. a.file.0 < b.file.0) (λ a b. a.file.0 < b.file.0) (barred_in m) (λ a b less. let x = number_same m a in let y = number_same m b in omega (arith, x, y, less)) states rising;
+  rising = bars_rise m states rising;
   ends = λ number. subst (IsFoundEnd m history number) (sym (ends_kept m number states)) (each_end m history numbers states (record { regions = regions; sealed = sealed; only = only; ends = ends }) number);
   marks = all_map (IsUnbarred m) (IsMarked m) (barred_in m) (marked m) states marks;
 }

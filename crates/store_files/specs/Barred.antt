@@ -1,7 +1,7 @@
 -- Storage files to which nothing is added until the next opening. A GUID that a store gives has its id, the number of a
 -- storage file, and the offset there where the message was first stored. A storage file that ends at such an offset or before
 -- it would have that offset given out a second time.
-use Rattle.std.specs.Prelude.{◌==◌, ◌&&◌, ◌||◌, nat_le, ℕ, Bool, true, List, if◌then◌else◌}
+use Rattle.std.specs.Prelude.{◌==◌, ◌&&◌, nat_le, ℕ, Bool, true, List, map, if◌then◌else◌}
 use Rattle.std.specs.List.{list_any}
 use Rattle.model_meaning.specs.MapMeaning.{MapMeaning, is_own, number_at}
 use Rattle.storage_files.specs.declared.file.FileState.{FileState}
@@ -21,3 +21,7 @@ barred_by store guid s = if names_past store s.file.0 s.end guid then record s {
 
 abbrev pub barred_in : MapMeaning → FileState → FileState
 barred_in m s = if is_barred m s.file.0 s.end then record s { barred = true } else s
+
+-- each file so
+abbrev pub all_barred : MapMeaning → List FileState → List FileState
+all_barred m states = map (barred_in m) states

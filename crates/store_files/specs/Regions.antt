@@ -1,8 +1,12 @@
 -- The regions of records in one storage file.
-use Rattle.std.specs.Prelude.{◌==◌, ℕ, Bool, Option, Some, None, if◌then◌else◌}
+use Rattle.std.specs.Prelude.{◌==◌, ℕ, Bool, List, map, Option, Some, None, if◌then◌else◌}
 use Rattle.std.specs.List.{list_any}
 use Rattle.map_index.specs.Shown.{region_end}
 use Rattle.model_meaning.specs.MapMeaning.{MapMeaning, greatest}
+
+-- the storage file of each record's region
+abbrev pub region_numbers : MapMeaning → List ℕ
+region_numbers m = map (λ row. row.file) m.records
 
 -- a record's region lies in this storage file
 abbrev pub has_region : MapMeaning → ℕ → Bool

@@ -1,7 +1,7 @@
 // Storage files to which nothing is added until the next opening.
 ghost use Rattle.std.specs.Prelude.{◌≡◌, ◌<◌, AllPairs, map};
 ghost use Rattle.model_meaning.specs.MapMeaning.{is_own, number_at};
-ghost use Rattle.store_files.specs.Barred.{barred_by, barred_in};
+ghost use Rattle.store_files.specs.Barred.{barred_by, all_barred};
 
 use map_index::MapIndex;
 use mdbox_base::{Guid, StoreId};
@@ -12,7 +12,7 @@ use storage_files::FileState;
 pub(crate) fn bar_files(states: &mut [FileState], id: StoreId, map: &MapIndex)
     requires rising { AllPairs (λ a b. a.file.0 < b.file.0) states.old }
     requires id { map.now.meaning.store ≡ id.0 }
-    ensures { states.new ≡ map (barred_in map.now.meaning) states.old }
+    ensures { states.new ≡ all_barred map.now.meaning states.old }
 {
     for place in 0..map.rows() {
         let row = map.row_at(place).unwrap();

@@ -4,6 +4,7 @@ ghost use Rattle.store_files.specs.Found.{files_error_text};
 ghost use Rattle.store_files.specs.declared.error.FilesError.TheVariants as files_error;
 
 use mdbox_base::NoMemory;
+use std::alloc::AllocFailed;
 use std::error::Error;
 use std::fmt;
 use storage_files::DiskFault;
@@ -42,6 +43,14 @@ impl From<NoMemory> for FilesError {
     ghost from_gives = { λ _ error. error ≡ files_error.NoMemory };
 
     fn from(_error: NoMemory) -> FilesError {
+        FilesError::NoMemory
+    }
+}
+
+impl<T: Drop> From<AllocFailed<T>> for FilesError {
+    ghost from_gives = { λ _ error. error ≡ files_error.NoMemory };
+
+    fn from(_error: AllocFailed<T>) -> FilesError {
         FilesError::NoMemory
     }
 }

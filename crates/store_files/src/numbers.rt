@@ -1,7 +1,7 @@
 // Which storage files the map names.
-ghost use Rattle.std.specs.Prelude.{◌≡◌, ◌<◌, ◌++◌, true, ℕ, map, AllPairs, Contains, IfOk, OnOk};
+ghost use Rattle.std.specs.Prelude.{◌≡◌, ◌<◌, ◌++◌, true, ℕ, AllPairs, Contains, IfOk, OnOk};
 ghost use Rattle.model_meaning.specs.MapMeaning.{is_sealed};
-ghost use Rattle.store_files.specs.Regions.{has_region};
+ghost use Rattle.store_files.specs.Regions.{has_region, region_numbers};
 
 use map_index::MapIndex;
 use mdbox_base::NoMemory;
@@ -22,7 +22,7 @@ pub(crate) fn file_numbers(alloc: Global, map: &MapIndex) -> Result<Vec<u32>, No
 
 /// The file of each record's region.
 fn region_files(alloc: Global, map: &MapIndex) -> Result<Vec<u32>, NoMemory>
-    ensures { IfOk result (λ numbers. numbers.items ≡ map (λ row. row.file) map.now.meaning.records) }
+    ensures { IfOk result (λ numbers. numbers.items ≡ region_numbers map.now.meaning) }
 {
     let mut numbers = Vec::with_capacity(alloc, map.rows() as usize)?;
     for place in 0..map.rows() {

@@ -7,7 +7,7 @@ pub loop-place-init : goal.loop-place-init
 loop-place-init c = bar_none c.args.map.now.meaning.store c.args.map.now.meaning.records c.args.states.now
 
 pub bar_file-requires : goal.bar_file-requires
-bar_file-requires c = bar_rises c.args.map.now.meaning.store _ c.args.states.now c.loop-place.states c.loop-place.invariant c.requires.rising
+bar_file-requires c = record { rising = bar_rises c.args.map.now.meaning.store _ c.args.states.now c.loop-place.states c.loop-place.invariant c.requires.rising }
 
 pub loop-place-preserved : goal.loop-place-preserved
 loop-place-preserved c = bar_next c.args.map.now.meaning.store c.args.id.0 c.args.map.now.meaning.records c.loop-place.place c.row_at.result c.unwrap-row.result c.args.states.now c.loop-place.states c.bar_file.new.states c.requires.id c.row_at.ensures c.unwrap-row.ensures c.loop-place.invariant c.bar_file.ensures
