@@ -1,5 +1,5 @@
 -- Which files are barred.
-use Rattle.std.proofs.Common.{◌≡◌, ◌≢◌, ◌<◌, ◌≤◌, ◌+◌, ◌==◌, ◌&&◌, ◌||◌, ℕ, Bool, true, false, cond, nat_le, List, [], ◌∷◌, ◌++◌, length, map, take, drop, set, get_or, slice_get, Option, Some, All, AllPairs, if◌then◌else◌, refl, sym, ◌∙◌, ap, subst, arith}
+use Rattle.std.proofs.Common.{◌≡◌, ◌≢◌, ◌<◌, ◌≤◌, ◌+◌, ◌==◌, ◌&&◌, ◌||◌, ℕ, Bool, true, false, nat_le, List, [], ◌∷◌, ◌++◌, length, map, take, drop, set, get_or, slice_get, Option, Some, All, AllPairs, if◌then◌else◌, refl, sym, ◌∙◌, ap, subst, arith}
 use Rattle.std.specs.List.{list_any}
 use Rattle.std.specs.Option.{option_map}
 use Rattle.std.proofs.lemmas.Bool.{cond-true, cond-false, eq-eqb, ne_eqb}
@@ -12,9 +12,9 @@ use Rattle.model_octets.proofs.PairLemmas.{pairs_map}
 use Rattle.mdbox_base.specs.declared.ids.FileNo.{FileNo}
 use Rattle.map_index.specs.Shown.{shown_record}
 use Rattle.map_index.specs.declared.rows.MapRow.{MapRow}
-use Rattle.model_meaning.specs.MapMeaning.{MapRecord, MapMeaning, is_own, number_at}
+use Rattle.model_meaning.specs.MapMeaning.{MapRecord, is_own, number_at}
 use Rattle.storage_files.specs.declared.file.FileState.{FileState}
-use Rattle.store_files.specs.Barred.{names_past, is_barred, barred_by, barred_in}
+use Rattle.store_files.specs.Barred.{names_past, barred_by}
 use Rattle.store_files.proofs.PlaceLemmas.{seen_next, map_fixed, set_is_map}
 
 abbrev Rise : List FileState → Type 0

@@ -1,9 +1,9 @@
 -- Files gathered in order of number, and where each ends.
 use Rattle.std.specs.Prelude.{find, Contains}
-use Rattle.std.proofs.Common.{◌≡◌, ◌≢◌, ◌<◌, ◌≤◌, ◌+◌, ◌==◌, inl, inr, ℕ, suc, zero, cond, List, [], ◌∷◌, ◌++◌, length, take, get_or, slice_get, Option, Some, None, All, AllPairs, refl, sym, ◌∙◌, ap, subst, arith, take_all}
+use Rattle.std.proofs.Common.{◌≡◌, ◌≢◌, ◌<◌, ◌≤◌, ◌+◌, ◌==◌, ℕ, suc, zero, cond, List, [], ◌∷◌, ◌++◌, length, take, get_or, slice_get, Option, Some, None, All, AllPairs, refl, sym, ◌∙◌, ap, subst, arith, take_all}
 use Rattle.std.specs.Option.{option_map}
 use Rattle.std.proofs.lemmas.Bool.{cond-true, cond-false, eq-eqb, ne_eqb}
-use Rattle.std.proofs.lemmas.List.Elements.{All-nil, All-cons, All-head, All-tail, All-more, All-push, All-weaker}
+use Rattle.std.proofs.lemmas.List.Elements.{All-nil, All-cons, All-head, All-tail, All-more, All-push}
 use Rattle.std.proofs.lemmas.Option.{slice_get_within, get_or_from_slice_get}
 use Rattle.model_octets.proofs.PairLemmas.{pairs_head, pairs_tail, pairs_nil, pairs_push}
 use Rattle.storage_files.specs.declared.file.FileState.{FileState}

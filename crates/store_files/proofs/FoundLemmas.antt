@@ -1,19 +1,19 @@
 -- The storage files that an opening finds, and that there is one way to find them.
-use Rattle.std.specs.Prelude.{find, Contains}
-use Rattle.std.proofs.Common.{◌≡◌, ◌≢◌, ◌<◌, ◌≤◌, ◌==◌, ◌⊎◌, inl, inr, ℕ, Bool, true, false, cond, List, [], ◌∷◌, length, map, get_or, Option, Some, None, All, AllPairs, if◌then◌else◌, refl, sym, ◌∙◌, ap, subst, arith}
+use Rattle.std.specs.Prelude.{Contains}
+use Rattle.std.proofs.Common.{◌≡◌, ◌≢◌, ◌<◌, ◌≤◌, ◌==◌, inl, inr, ℕ, Bool, true, false, cond, List, [], ◌∷◌, map, get_or, Option, Some, None, All, AllPairs, if◌then◌else◌, refl, sym, ◌∙◌, ap, subst, arith}
 use Rattle.std.specs.List.{list_any}
 use Rattle.std.specs.Option.{option_map}
 use Rattle.std.proofs.lemmas.Bool.{cases_Bool, cases_eq, cases_order, cond-true, cond-false, eq-eqb, ne_eqb}
 use Rattle.std.proofs.lemmas.Grind.{common_steps}
-use Rattle.std.proofs.lemmas.List.Elements.{All-nil, All-cons, All-head, All-tail, All-contains, All-weaker}
+use Rattle.std.proofs.lemmas.List.Elements.{All-nil, All-cons, All-head, All-tail, All-contains}
 use Rattle.std.proofs.lemmas.List.Folds.{Any-from_list_any}
-use Rattle.disk_model.specs.Disk.{DiskState, History, IfTold}
+use Rattle.disk_model.specs.Disk.{History}
 use Rattle.mdbox_base.specs.declared.ids.FileNo.{FileNo}
-use Rattle.model_meaning.specs.MapMeaning.{MapMeaning, is_sealed, greatest}
+use Rattle.model_meaning.specs.MapMeaning.{MapMeaning, is_sealed}
 use Rattle.model_octets.proofs.PairLemmas.{pairs_head, pairs_tail, pairs_map, all_map, found_holds}
 use Rattle.storage_files.specs.declared.file.FileState.{FileState}
 use Rattle.store_files.specs.Barred.{is_barred, barred_in}
-use Rattle.store_files.specs.Found.{length_on, end_found, IsFoundEnd, IsUnbarred, IsMarked, AreFilesFound, HasHighestFile}
+use Rattle.store_files.specs.Found.{end_found, IsFoundEnd, IsUnbarred, IsMarked, AreFilesFound, HasHighestFile}
 use Rattle.store_files.specs.Regions.{has_region, end_of, last_end}
 use Rattle.store_files.proofs.BarredLemmas.{bar}
 use Rattle.store_files.proofs.EndLemmas.{state_in, state_none}

@@ -1,7 +1,6 @@
 -- No entry that fits names a storage file past the highest.
-use Rattle.std.proofs.Common.{◌≡◌, ◌≢◌, ◌≤◌, ◌+◌, ◌==◌, ◌&&◌, not, ℕ, Bool, true, false, max, fold, List, [], ◌∷◌, ◌++◌, length, All, if◌then◌else◌, refl, sym, ◌∙◌, ap, subst, arith}
+use Rattle.std.proofs.Common.{◌≡◌, ◌≢◌, ◌≤◌, ◌==◌, ◌&&◌, not, ℕ, Bool, true, false, max, fold, List, [], ◌∷◌, ◌++◌, All, if◌then◌else◌, refl, arith}
 use Rattle.std.specs.List.{AllByRecursion}
-use Rattle.std.proofs.lemmas.Bool.{true≢false}
 use Rattle.std.proofs.lemmas.Grind.{common_steps}
 use Rattle.std.proofs.lemmas.List.Elements.{All-nil, All-weaker}
 use Rattle.mdbox_base.specs.declared.entries.Highest.{Highest}
@@ -10,7 +9,7 @@ use Rattle.mdbox_base.specs.declared.entries.MapEntry.{MapEntry}
 use Rattle.mdbox_base.specs.declared.entries.MapEntry.TheVariants as map
 use Rattle.model_logs.specs.Entries.{MapInRange}
 use Rattle.model_meaning.specs.MapFits.{AllMapFit, FitsTarget, MapFits}
-use Rattle.model_meaning.specs.MapMeaning.{MapMeaning, map_meaning, own_number, guid_file, is_own, number_at, numbers_of, higher, no_numbers, sealed_by, with_number}
+use Rattle.model_meaning.specs.MapMeaning.{MapMeaning, map_meaning, own_number, guid_file, is_own, number_at, numbers_of, higher, no_numbers, sealed_by}
 use Rattle.model_meaning.proofs.SealedLemmas.{all_with}
 use Rattle.model_meaning.specs.Sound.{IsSoundMap}
 use Rattle.store_files.specs.Found.{HasHighestFile}

@@ -1,9 +1,8 @@
 use Rattle.std.specs.Prelude.{Contains}
-use Rattle.std.proofs.Common.{◌≡◌, ◌≤◌, ℕ, List, map, All, sym, ◌∙◌, ap, subst}
+use Rattle.std.proofs.Common.{ℕ, List, map, sym, ◌∙◌, ap, subst}
 use Rattle.disk_model.proofs.IdleLemmas.{idle-begins}
 use Rattle.mdbox_base.specs.declared.entries.Highest.{Highest}
 use Rattle.storage_files.specs.Files.{FilesValue, file_found}
-use Rattle.storage_files.specs.declared.file.FileState.{FileState}
 use Rattle.store_files.specs.Barred.{barred_in}
 use Rattle.store_files.specs.Found.{AreFilesFound}
 use Rattle.store_files.proofs.BarredLemmas.{lent_back}

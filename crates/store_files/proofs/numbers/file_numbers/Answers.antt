@@ -1,6 +1,6 @@
-use Rattle.std.proofs.Common.{◌≡◌, List, ℕ, ◌++◌, ◌∙◌, ap}
+use Rattle.std.proofs.Common.{List, ℕ, ◌++◌, ◌∙◌, ap}
 use Rattle.std.proofs.lemmas.List.Filters.{dedup_is}
-use Rattle.store_files.proofs.NumberListLemmas.{file_of_row, region_kept, sealed_kept, numbers_rise}
+use Rattle.store_files.proofs.NumberListLemmas.{region_kept, sealed_kept, numbers_rise}
 use Rattle.store_files.proofs.numbers.file_numbers.Goals as goal
 
 pub returns-clause-rising : goal.returns-clause-rising

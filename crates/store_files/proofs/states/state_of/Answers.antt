@@ -1,4 +1,3 @@
-use Rattle.std.proofs.Common.{rules}
 use Rattle.disk_model.proofs.IdleLemmas.{idle-begins}
 use Rattle.store_files.proofs.states.state_of.Goals.{then-sealed+in_ok-end, else-sealed}
 use Rattle.store_files.proofs.states.state_of.Goals as goal
