@@ -108,3 +108,27 @@ opens_at c before entries logs old now idle k =
 pub opens_with : (store : List ℕ) (generation : ℕ) (entries : List MapEntry) (logs : List (List BoxEntry)) (m : MapMeaning) (now : Option History) → m ≡ map_meaning store entries → IfTold now (OpensAt store generation entries logs) → IfTold now (OpensWith generation m)
 opens_with store generation entries logs m now is opens =
     if_told-map _ _ now (λ disk o. record { store = store; entries = entries; logs = logs; opens = o.0; generation_is = o.1; map_is = is }) opens
+
+-- ---- after calls that change nothing
+
+found_since : (found : InspectedLog) (name : FileName) (head : LogHead) (entries : List (List ℕ)) (now new : Option History) → IsIdle now new → IsFoundAs found name head entries now → IsFoundAs found name head entries new
+found_since found name head entries now new idle f = record { name_is = f.name_is; head_is = f.head_is; stands = idle-on (IsFound found entries) now new idle f.stands }
+
+boxes_since : (store : List ℕ) (mailboxes : List MapBox) (boxes : List CheckedBox) (logs : List (List BoxEntry)) (now new : Option History) → IsIdle now new → AreFound store mailboxes boxes logs now → AreFound store mailboxes boxes logs new
+boxes_since store [] [] [] now new idle f = tt
+boxes_since store (x ∷ xs) (b ∷ bs) (l ∷ ls) now new idle f = (found_since b.log _ _ _ now new idle f.0, boxes_since store xs bs ls now new idle f.1)
+boxes_since store [] [] (l ∷ ls) now new idle f = absurd f
+boxes_since store [] (b ∷ bs) ls now new idle f = absurd f
+boxes_since store (x ∷ xs) [] ls now new idle f = absurd f
+boxes_since store (x ∷ xs) (b ∷ bs) [] now new idle f = absurd f
+
+pub checked_since : (c : Checked) (before : List RootEntry) (entries : List MapEntry) (logs : List (List BoxEntry)) (old now new : Option History) → IsIdle now new → IsChecked c before entries logs old now → IsChecked c before entries logs old new
+checked_since c before entries logs old now new idle k = record {
+  opens = k.opens;
+  good = k.good;
+  map_is = k.map_is;
+  boxes_are = k.boxes_are;
+  root_log = found_since c.root_log _ _ _ now new idle k.root_log;
+  map_log = found_since c.map_log _ _ _ now new idle k.map_log;
+  box_logs = boxes_since c.id.0 c.map.meaning.boxes c.boxes logs now new idle k.box_logs;
+}

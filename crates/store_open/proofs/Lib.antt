@@ -2,6 +2,7 @@ pub mod CheckedLemmas
 pub mod FaultLemmas
 pub mod FirstFilesLemmas
 pub mod FirstLogsLemmas
+pub mod FoundFileLemmas
 pub mod IdleUnlessLemmas
 pub mod NewLogLemmas
 pub mod NewStoreLemmas

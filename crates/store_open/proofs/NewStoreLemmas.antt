@@ -1,9 +1,9 @@
 -- A new store, as it is opened.
-use Rattle.std.proofs.Common.{◌≡◌, ℕ, false, List, [], ◌∷◌, Option, refl, sym, ap, subst, arith, lit≤, lit<}
+use Rattle.std.proofs.Common.{◌≡◌, ℕ, false, List, [], ◌∷◌, length, Option, Some, None, refl, sym, ap, subst, arith, lit≤, lit<}
 use Rattle.std.proofs.lemmas.List.Elements.{All-nil}
-use Rattle.disk_model.specs.Disk.{DiskState, History, IfTold}
+use Rattle.disk_model.specs.Disk.{FileState, DiskState, History, IfTold, reading}
 use Rattle.disk_model.specs.declared.name.FileName.TheVariants as file
-use Rattle.disk_model.proofs.MomentLemmas.{if_told-map, if_told-both}
+use Rattle.disk_model.proofs.MomentLemmas.{if_told-all, if_told-map, if_told-both}
 use Rattle.mdbox_base.specs.declared.entries.MapEntry.{MapEntry}
 use Rattle.model_meaning.specs.BoxMeaning.{box_meaning}
 use Rattle.model_logs.specs.Entries.{root_text, map_text}
@@ -17,12 +17,16 @@ use Rattle.model_store.specs.Settled.{files_of}
 use Rattle.model_store.proofs.StoreExampleLemmas.{inbox_is_name}
 use Rattle.gate_log.specs.State.{LogState}
 use Rattle.gate_log.specs.Log.{Holds}
+use Rattle.std.specs.Option.{option_map}
+use Rattle.storage_files.specs.Files.{file_in}
+use Rattle.storage_files.specs.declared.file.MailFile.{MailFile}
+use Rattle.store_core.specs.Files.{LiesBelowEnd, StayThere}
 use Rattle.store_core.specs.Running.{IsStore}
 use Rattle.store_core.specs.Value.{StoreValue, none_due, newly_open}
 use Rattle.store_core.specs.declared.store.OpenBox.{OpenBox}
 use Rattle.store_core.specs.declared.store.OpenLogs.{OpenLogs}
 use Rattle.std.specs.declared.alloc.Global.{Global}
-use Rattle.store_open.specs.Making.{IsMadeStore, new_root_head, new_map_head, inbox_head}
+use Rattle.store_open.specs.Making.{IsMadeStore, new_root_head, new_map_head, inbox_head, no_files}
 use Rattle.store_open.proofs.FirstFilesLemmas.{made-new}
 
 -- ---- the map
@@ -55,6 +59,14 @@ new_good store = record {
 is_new : (store : List ℕ) (box_log : LogState) (new : Option History) → box_log.head ≡ inbox_head store → IfTold new (IsMadeStore store) → Holds box_log [] new → IfTold new (λ disk. IsNewStore (files_of disk) store)
 is_new store box_log new e made held = if_told-both _ _ _ new (λ disk m h. made-new store disk m (subst HeadFits e h.reads.head_fits)) made held
 
+-- no storage file is there, or known
+
+no_mail : (store : List ℕ) (disk : DiskState) (number : ℕ) → IsMadeStore store disk → option_map length (reading (disk (file.Mail number))) ≡ None
+no_mail store disk number m = ap (λ (f : FileState). option_map length (reading f)) (m.nothing_else (file.Mail number) (λ e. cc e) (λ e. cc e) (λ e. cc e))
+
+no_file_in : (number : ℕ) (f : MailFile) → file_in number [] ≡ Some f → ⊥
+no_file_in number f e = let w : None ≡ Some f = e in cc
+
 -- what is known of a new store's logs
 pub record HasNewLogs (store : List ℕ) (root_log map_log box_log : LogState) (new : Option History) : Type 0 where
   pub made : IfTold new (IsMadeStore store)
@@ -69,10 +81,10 @@ pub record HasNewLogs (store : List ℕ) (root_log map_log box_log : LogState) (
 
 -- logs that are opened, with this meaning and these mailboxes
 abbrev opened_with : {D : Type 0} → Global → D → OpenLogs → MapMeaning → List OpenBox → StoreValue D
-opened_with alloc disk o m boxes = record { alloc = alloc; disk = disk; root_log = o.root_log; map_log = o.map_log; map = m; boxes = boxes; drawn = m.highest; dues = none_due m.records; lanes = 1; stopped = false }
+opened_with alloc disk o m boxes = record { alloc = alloc; disk = disk; root_log = o.root_log; map_log = o.map_log; map = m; boxes = boxes; files = no_files; drawn = m.highest; dues = none_due m.records; lanes = 1; stopped = false }
 
 pub new_store : {D : Type 0} (alloc : Global) (disk : D) (store : List ℕ) (box : OpenBox) (o : OpenLogs) (new : Option History) → o.map.meaning ≡ map_meaning store (first_box ∷ []) → HasNewLogs store o.root_log o.map_log box.log new
-    → box.number.0 ≡ 1 → box.index.meaning ≡ box_meaning [] → o.boxes.items ≡ box ∷ [] → IsStore new (newly_open alloc disk o 1)
+    → box.number.0 ≡ 1 → box.index.meaning ≡ box_meaning [] → o.boxes.items ≡ box ∷ [] → IsStore new (newly_open alloc disk o no_files 1)
 new_store alloc disk store box o new is l number index one =
     let n = is_new store box.log new (ap (λ (s : LogState). s.head) l.box_is) l.made l.box_held in
     let F : List OpenBox → Type 0 = λ bs. IsStore new (opened_with alloc disk o o.map.meaning bs) in
@@ -86,6 +98,7 @@ new_store alloc disk store box o new is l number index one =
       boxes_are = ap (λ (i : _). i ∷ []) index;
       counts = tt;
       drawn = record { file = omega arith; map = omega arith; instance = omega arith; mailbox = omega arith };
+      files = record { highest = refl; taken = λ number f e taken. absurd (no_file_in number f e); sealed = λ number f e is. absurd (no_file_in number f e); below = All-nil (LiesBelowEnd store []) };
       root_name = l.root_name;
       root_head = l.root_head_is;
       map_name = l.map_name;
@@ -100,5 +113,7 @@ new_store alloc disk store box o new is l number index one =
         root_log_reads = if_told-map _ _ new (λ disk h. h.reads) l.root_held;
         map_log_reads = if_told-map _ _ new (λ disk h. h.reads) l.map_held;
         box_logs_read = (if_told-map _ _ new (λ disk h. h.reads) l.box_held, tt);
+        files_known = λ number. if_told-map (IsMadeStore store) (λ disk. option_map length (reading (disk (file.Mail number))) ≡ None) new (λ disk m. no_mail store disk number m) l.made;
+        files_stay = if_told-all (StayThere [] []) new (λ disk number f e. absurd (no_file_in number f e));
       };
     }))

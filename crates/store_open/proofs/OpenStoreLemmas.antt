@@ -31,8 +31,10 @@ use Rattle.store_sweep.specs.Boxes.{HaveIndexes}
 use Rattle.mdbox_base.specs.declared.ids.StoreId.{StoreId}
 use Rattle.model_meaning.specs.SameMeaning.{MeansSame}
 use Rattle.model_store.specs.Settled.{files_of}
+use Rattle.storage_files.specs.Files.{FilesValue}
 use Rattle.store_open.specs.Opened.{IsOpenedAs}
 use Rattle.store_open.proofs.CheckedLemmas.{OpensAt, opens_at}
+use Rattle.store_open.proofs.FoundFileLemmas.{HasFiles}
 use Rattle.store_open.proofs.StillOpensLemmas.{still_opens, has_root}
 
 -- the logs of these mailboxes were opened as these
@@ -82,10 +84,10 @@ record IsKnown (store : List ℕ) (generation : ℕ) (entries : List MapEntry) (
   found : AreFound store m.boxes boxes logs now
   opens : IfTold new (OpensAt store generation entries logs)
 
-is_store : {D : Type 0} (alloc : Global) (disk : D) (generation : ℕ) (entries : List MapEntry) (logs : List (List BoxEntry)) (root log : InspectedLog) (texts : List (List ℕ)) (boxes : List CheckedBox) (o : OpenLogs) (lanes : ℕ) (now new : Option History)
-    → CountsCover → IsKnown o.map.meaning.store generation entries logs o.map.meaning root log texts boxes now new → IsOpened now new root o.root_log → IsOpened now new log o.map_log → Opened now new boxes o.boxes.items → map (λ b. b.number.0) o.boxes.items ≡ map (λ b. b.number) o.map.meaning.boxes → indexes_of o.boxes.items ≡ map box_meaning logs
-    → 1 ≤ lanes → lanes ≤ 64 → IsStore new (newly_open alloc disk o lanes)
-is_store alloc disk generation entries logs root log texts boxes o lanes now new cover k root_opened map_opened zip numbers indexes some few = record {
+is_store : {D : Type 0} (alloc : Global) (disk : D) (generation : ℕ) (entries : List MapEntry) (logs : List (List BoxEntry)) (root log : InspectedLog) (texts : List (List ℕ)) (boxes : List CheckedBox) (o : OpenLogs) (files : FilesValue) (lanes : ℕ) (now new : Option History)
+    → CountsCover → HasFiles o.map.meaning files new → IsKnown o.map.meaning.store generation entries logs o.map.meaning root log texts boxes now new → IsOpened now new root o.root_log → IsOpened now new log o.map_log → Opened now new boxes o.boxes.items → map (λ b. b.number.0) o.boxes.items ≡ map (λ b. b.number) o.map.meaning.boxes → indexes_of o.boxes.items ≡ map box_meaning logs
+    → 1 ≤ lanes → lanes ≤ 64 → IsStore new (newly_open alloc disk o files lanes)
+is_store alloc disk generation entries logs root log texts boxes o files lanes now new cover has k root_opened map_opened zip numbers indexes some few = record {
   entries = entries;
   logs = logs;
   generation = generation;
@@ -94,6 +96,7 @@ is_store alloc disk generation entries logs root log texts boxes o lanes now new
   boxes_are = indexes;
   counts = cover logs o.map.meaning.records (subst (λ (n : MapMeaning). All (IsCounted logs) n.records) (sym k.map_is) k.good.counts);
   drawn = record { file = omega arith; map = omega arith; instance = omega arith; mailbox = omega arith };
+  files = has.kept;
   root_name = ap (λ (l : LogState). l.name) root_opened.is ∙ k.root_found.name_is;
   root_head = ap (λ (l : LogState). l.head) root_opened.is ∙ k.root_found.head_is;
   map_name = ap (λ (l : LogState). l.name) map_opened.is ∙ k.map_found.name_is;
@@ -108,6 +111,8 @@ is_store alloc disk generation entries logs root log texts boxes o lanes now new
     root_log_reads = root_opened.reads texts k.root_found.stands;
     map_log_reads = map_opened.reads (map map_text entries) k.map_found.stands;
     box_logs_read = read_logs o.map.meaning.store o.map.meaning.boxes boxes logs o.boxes.items now new k.found zip;
+    files_known = has.known;
+    files_stay = has.stay;
   };
 }
 
@@ -123,10 +128,10 @@ found_meanings (x ∷ xs) = ap (λ (ms : List BoxMeaning). x.index.meaning ∷ m
 pub indexes_are : (c : Checked) (before : List RootEntry) (entries : List MapEntry) (logs : List (List BoxEntry)) (opened : List OpenBox) (old now : Option History) → IsChecked c before entries logs old now → HaveIndexes c.map.meaning c.boxes opened → indexes_of opened ≡ map box_meaning logs
 indexes_are c before entries logs opened old now k h = open_meanings opened ∙ ap (map (λ (i : BoxState). i.meaning)) h.indexes ∙ sym (found_meanings c.boxes) ∙ k.boxes_are
 
-pub opened_store : {D : Type 0} (alloc : Global) (disk : D) (c : Checked) (before : List RootEntry) (entries : List MapEntry) (logs : List (List BoxEntry)) (o : OpenLogs) (lanes : ℕ) (old now new : Option History) → CountsCover → IsIdle old now
+pub opened_store : {D : Type 0} (alloc : Global) (disk : D) (c : Checked) (before : List RootEntry) (entries : List MapEntry) (logs : List (List BoxEntry)) (o : OpenLogs) (files : FilesValue) (lanes : ℕ) (old now new : Option History) → CountsCover → HasFiles c.map.meaning files new → IsIdle old now
     → IsChecked c before entries logs old now → FilesCarry c.generation c.map.meaning now new → o.map.meaning ≡ c.map.meaning → IsOpened now new c.root_log o.root_log → IsOpened now new c.map_log o.map_log → Opened now new c.boxes o.boxes.items → HaveIndexes c.map.meaning c.boxes o.boxes.items
-    → 1 ≤ lanes → lanes ≤ 64 → IsStore new (newly_open alloc disk o lanes)
-opened_store alloc disk c before entries logs o lanes old now new cover idle k carry same root_opened map_opened zip h some few =
+    → 1 ≤ lanes → lanes ≤ 64 → IsStore new (newly_open alloc disk o files lanes)
+opened_store alloc disk c before entries logs o files lanes old now new cover has idle k carry same root_opened map_opened zip h some few =
     let known : IsKnown c.map.meaning.store c.generation entries logs c.map.meaning c.root_log c.map_log (root_texts before c.generation) c.boxes now new =
     subst (λ (s : List ℕ). IsKnown s c.generation entries logs c.map.meaning c.root_log c.map_log (root_texts before c.generation) c.boxes now new) (store_is c.map.meaning c.id.0 entries k.map_is) (record {
       good = k.good;
@@ -136,7 +141,7 @@ opened_store alloc disk c before entries logs o lanes old now new cover idle k c
       found = k.box_logs;
       opens = still_opens c.id.0 c.generation entries logs c.map.meaning now new k.map_is (opens_at c before entries logs old now idle k) carry;
     }) in
-    is_store alloc disk c.generation entries logs c.root_log c.map_log (root_texts before c.generation) c.boxes o lanes now new cover
+    is_store alloc disk c.generation entries logs c.root_log c.map_log (root_texts before c.generation) c.boxes o files lanes now new cover (subst (λ (m : MapMeaning). HasFiles m files new) (sym same) has)
     (subst (λ (m : MapMeaning). IsKnown m.store c.generation entries logs m c.root_log c.map_log (root_texts before c.generation) c.boxes now new) (sym same) known)
     root_opened map_opened zip
     (h.numbers ∙ ap (λ (m : MapMeaning). map (λ (b : MapBox). b.number) m.boxes) (sym same)) (indexes_are c before entries logs o.boxes.items old now k h) some few

@@ -1,6 +1,8 @@
--- What errors of the checks mean for an opening.
+-- What errors of the checks, and of finding the storage files, mean for an opening.
 use Rattle.store_checks.specs.declared.error.CheckError.{CheckError}
 use Rattle.store_checks.specs.declared.error.CheckError.TheVariants as check
+use Rattle.store_files.specs.declared.error.FilesError.{FilesError}
+use Rattle.store_files.specs.declared.error.FilesError.TheVariants as files_error
 use Rattle.store_open.specs.declared.error.OpenError.{OpenError}
 use Rattle.store_open.specs.declared.error.OpenError.TheVariants.{NoStore, Damaged, DiskFault, NoMemory}
 
@@ -9,3 +11,7 @@ of_check check.NoStore = NoStore
 of_check (check.Damaged name place) = Damaged name place
 of_check check.DiskFault = DiskFault
 of_check check.NoMemory = NoMemory
+
+abbrev pub of_files : FilesError → OpenError
+of_files files_error.DiskFault = DiskFault
+of_files files_error.NoMemory = NoMemory

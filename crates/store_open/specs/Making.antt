@@ -14,6 +14,7 @@ use Rattle.model_store.specs.Stands.{head_of}
 use Rattle.model_store.specs.Safe.{Safe}
 use Rattle.model_store.specs.Opening.{HasNoEntry, IsNewStore, first_root, first_box, empty_inbox}
 use Rattle.gate_log.specs.Log.{IsAtMostAsLong, log_text}
+use Rattle.storage_files.specs.Files.{FilesValue}
 
 -- Where the disk has not this at the beginning, nothing has changed.
 abbrev pub IdleUnless : (DiskState → Type 0) → Option History → Option History → Type 0
@@ -87,6 +88,10 @@ pub record IsMadeStore (store : List ℕ) (disk : DiskState) : Type 0 where
   pub map_log : Keeps (disk (file.Map 1)) (log_text (new_map_head store) (map_text first_box ∷ []))
   pub inbox : Keeps (disk (file.Box 1 1)) (log_text (inbox_head store) [])
   pub nothing_else : (name : FileName) → name ≢ file.Root → name ≢ file.Map 1 → name ≢ file.Box 1 1 → disk name ≡ no_file
+
+-- a new store has no storage files, and no number of one was drawn
+abbrev pub no_files : FilesValue
+no_files = record { files = []; highest = 0; spare = 0 }
 
 -- the files have no store, or a new one with this id, which is safe for an empty INBOX
 abbrev pub HasNothingOrInbox : List ℕ → Files → Type 0

@@ -1,7 +1,7 @@
 // Errors of making and opening a store.
 ghost use Rattle.std.specs.Prelude.{◌≡◌, Some};
 ghost use Rattle.store_open.specs.Refused.{open_error_text};
-ghost use Rattle.store_open.specs.Causes.{of_check};
+ghost use Rattle.store_open.specs.Causes.{of_check, of_files};
 ghost use Rattle.store_open.specs.declared.error.OpenError.TheVariants.{DiskFault as Fault, NoMemory as Memory};
 
 use disk_model::FileName;
@@ -11,6 +11,7 @@ use std::alloc::AllocError;
 use std::error::Error;
 use std::fmt;
 use store_checks::CheckError;
+use store_files::FilesError;
 
 /// Why a store was not made or opened.
 #[derive(Clone, Copy, Debug, PartialEq, Eq)]
@@ -85,6 +86,17 @@ impl From<CheckError> for OpenError {
             CheckError::Damaged(name, place) => OpenError::Damaged(name, place),
             CheckError::DiskFault => OpenError::DiskFault,
             CheckError::NoMemory => OpenError::NoMemory,
+        }
+    }
+}
+
+impl From<FilesError> for OpenError {
+    ghost from_gives = { λ given error. error ≡ of_files given };
+
+    fn from(error: FilesError) -> OpenError {
+        match error {
+            FilesError::DiskFault => OpenError::DiskFault,
+            FilesError::NoMemory => OpenError::NoMemory,
         }
     }
 }

@@ -8,18 +8,20 @@ ghost use Rattle.model_store.specs.Opening.{first_box, empty_inbox};
 ghost use Rattle.model_store.specs.Settled.{IsSettled};
 ghost use Rattle.store_core.specs.Value.{indexes_of, newly_open};
 ghost use Rattle.store_core.specs.Running.{IsStore};
-ghost use Rattle.store_open.specs.Making.{IdleUnless, IsFreeForStore, IsMadeStore, NeverHasStore, HasNothingOrInbox};
+ghost use Rattle.store_open.specs.Making.{IdleUnless, IsFreeForStore, IsMadeStore, NeverHasStore, HasNothingOrInbox, no_files};
 ghost use Rattle.store_open.specs.Opened.{IsFaulted, disk_of};
 ghost use Rattle.store_open.specs.Refused.{IsMakingError, IsOfFiles};
 
 use crate::entries::inbox;
 use crate::error::{OpenError, OpenRefused};
 use crate::first_logs::make_files;
+use crate::open::OpenParts;
 use box_index::BoxIndex;
 use disk_model::Disk;
 use map_index::MapIndex;
-use mdbox_base::{BoxNo, NoMemory, StoreId};
+use mdbox_base::{BoxNo, NoMemory, Seq, StoreId};
 use std::alloc::Global;
+use storage_files::MailFiles;
 use store_core::{OpenBox, OpenLogs, Store, StoreRoom};
 
 /// Makes an empty store with INBOX, as opened for one lane.
@@ -42,6 +44,7 @@ pub fn init_store<D: Disk>(alloc: Global, disk: D, id: StoreId) -> Result<Store<
     ensures settled { IfOk result (λ store. IfTold (D.history store.disk) (λ now. IsSettled now empty_inbox)) }
     ensures store { IfOk result (λ store. IfTold (D.history store.disk) (IsMadeStore id.0)) }
     ensures made { IfOk result (λ store. (store.map ≡ map_meaning id.0 (first_box ∷ [])) × (indexes_of store.boxes ≡ box_meaning [] ∷ []) × (store.lanes ≡ 1) × (store.stopped ≡ false) × (store.alloc ≡ alloc) × (store.drawn ≡ store.map.highest)) }
+    ensures files { IfOk result (λ store. store.files ≡ no_files) }
 
     // Out of memory means that no store was made.
     ensures unmade { IfErr result (λ refused. refused.error ≡ OpenError.NoMemory → NeverHasStore (D.history disk) → NeverHasStore (D.history refused.disk)) }
@@ -50,21 +53,18 @@ pub fn init_store<D: Disk>(alloc: Global, disk: D, id: StoreId) -> Result<Store<
 {
     let mut disk = disk;
     match new_logs(alloc, &mut disk, id) {
-        Ok((logs, room)) => Ok(Store::of(alloc, disk, logs, room, 1)),
+        Ok(OpenParts { logs, files, room }) => Ok(Store::of(alloc, disk, logs, files, room, 1)),
         Err(error) => Err(OpenRefused { error, disk }),
     }
 }
 
 /// Makes the logs of a new store, with what they mean. Nothing wants memory once they are made.
-fn new_logs<D: Disk>(
-    alloc: Global,
-    disk: &mut D,
-    id: StoreId,
-) -> Result<(OpenLogs, StoreRoom), OpenError>
-    ensures id { IfOk result (λ opened. opened.0.map.meaning.store ≡ opened.0.id.0) }
-    ensures store { IfOk result (λ opened. IsStore (D.history disk.new) (newly_open alloc disk.new opened.0 1)) }
-    ensures room { IfOk result (λ opened. (opened.1.boxes ≡ length opened.0.boxes.items) × (opened.1.records ≡ length opened.0.map.meaning.records)) }
-    ensures made { IfOk result (λ opened. (opened.0.map.meaning ≡ map_meaning id.0 (first_box ∷ [])) × (indexes_of opened.0.boxes.items ≡ box_meaning [] ∷ [])) }
+fn new_logs<D: Disk>(alloc: Global, disk: &mut D, id: StoreId) -> Result<OpenParts, OpenError>
+    ensures id { IfOk result (λ opened. opened.logs.map.meaning.store ≡ opened.logs.id.0) }
+    ensures store { IfOk result (λ opened. IsStore (D.history disk.new) (newly_open alloc disk.new opened.logs opened.files 1)) }
+    ensures files { IfOk result (λ opened. opened.files ≡ no_files) }
+    ensures room { IfOk result (λ opened. (opened.room.boxes ≡ length opened.logs.boxes.items) × (opened.room.records ≡ length opened.logs.map.meaning.records)) }
+    ensures made { IfOk result (λ opened. (opened.logs.map.meaning ≡ map_meaning id.0 (first_box ∷ [])) × (indexes_of opened.logs.boxes.items ≡ box_meaning [] ∷ [])) }
     ensures settled { OnOk result (IfTold (D.history disk.new) (λ now. IsSettled now empty_inbox)) }
     ensures there { OnOk result (IfTold (D.history disk.new) (IsMadeStore id.0)) }
     ensures any_moment { NeverHasStore (D.history disk.old) → EachImage (λ _ image. HasNothingOrInbox id.0 image) (D.history disk.old) (D.history disk.new) }
@@ -80,6 +80,7 @@ fn new_logs<D: Disk>(
     let index = BoxIndex::empty(alloc)?;
     let mut boxes = Vec::with_capacity(alloc, 1)?;
     let room = StoreRoom::of(alloc, 1, 0)?;
+    let files = MailFiles::of(alloc, Seq::empty(alloc), 0)?;
     let made = make_files(alloc, disk, id)?;
     push_box(
         &mut boxes,
@@ -96,7 +97,7 @@ fn new_logs<D: Disk>(
         map,
         boxes,
     };
-    Ok((logs, room))
+    Ok(OpenParts { logs, files, room })
 }
 
 /// What the map log of a new store means.

@@ -9,6 +9,7 @@ ghost use Rattle.model_store.specs.Safe.{Safe};
 ghost use Rattle.store_core.specs.Value.{indexes_of, newly_open, none_due};
 ghost use Rattle.model_store.specs.Settled.{IsSettledFor};
 ghost use Rattle.store_core.specs.Running.{IsStore};
+ghost use Rattle.store_files.specs.Found.{IsFoundFiles};
 ghost use Rattle.store_open.specs.Making.{IdleUnless};
 ghost use Rattle.store_open.specs.Opened.{Opening, IsOpenedAs, StoreCarries, IsOpeningError, IsFaulted, disk_of};
 ghost use Rattle.store_sweep.specs.Moments.{NoFailedChange};
@@ -17,17 +18,30 @@ ghost use Rattle.store_sweep.specs.Swept.{IsSwept};
 use crate::error::{OpenError, OpenRefused};
 use disk_model::Disk;
 use std::alloc::Global;
+use storage_files::MailFiles;
 use store_checks::check_store;
 use store_core::{OpenLogs, Store, StoreRoom, counts_cover_listings, listings_are_shown};
-use store_sweep::sweep;
+use store_files::{find_files, highest_file_is_named};
+use store_sweep::{sweep, swept_files_are_known};
 
-/// Opens the store: makes the checks, and then sweeps the disk.
+/// What a store is made of beside its disk.
+#[derive(Drop)]
+pub(crate) struct OpenParts {
+    pub(crate) logs: OpenLogs,
+    pub(crate) files: MailFiles,
+    pub(crate) room: StoreRoom,
+}
+
+/// Opens the store: makes the checks, finds the storage files, and then sweeps the disk.
 pub fn open_store<D: Disk>(alloc: Global, disk: D, lanes: u32) -> Result<Store<D>, OpenRefused<D>>
     requires lanes { (1 ≤ lanes) × (lanes ≤ 64) }
 
     // The store has what the files meant, and isn't stopped.
     ensures opened { IfOk result (λ store. IsOpenedAs (D.history disk) store.map (indexes_of store.boxes)) }
     ensures state { IfOk result (λ store. (store.lanes ≡ lanes) × (store.stopped ≡ false) × (store.alloc ≡ alloc) × (store.drawn ≡ store.map.highest) × (store.dues ≡ none_due store.map.records)) }
+
+    // It has the storage files that stand once the disk is swept, and knows each file as the disk has it.
+    ensures files { IfOk result (λ store. IsFoundFiles store.map (D.history disk) store.files) }
 
     // Of a settled disk it shows the lists.
     ensures shows { IfOk result (λ store. (lists : Lists) → IsSettledFor lists (D.history disk) → ShowLists store.map.boxes (indexes_of store.boxes) lists) }
@@ -53,21 +67,24 @@ pub fn open_store<D: Disk>(alloc: Global, disk: D, lanes: u32) -> Result<Store<D
 {
     let mut disk = disk;
     match open_logs(alloc, &mut disk) {
-        Ok((logs, room)) => Ok(Store::of(alloc, disk, logs, room, lanes)),
+        Ok(OpenParts { logs, files, room }) => {
+            Ok(Store::of(alloc, disk, logs, files, room, lanes))
+        }
         Err(error) => Err(OpenRefused { error, disk }),
     }
 }
 
-/// Makes the checks and sweeps the disk. Behind the checks nothing wants memory once the disk changes.
-fn open_logs<D: Disk>(alloc: Global, disk: &mut D) -> Result<(OpenLogs, StoreRoom), OpenError>
-    ensures id { IfOk result (λ opened. opened.0.map.meaning.store ≡ opened.0.id.0) }
-    ensures store { IfOk result (λ opened. (lanes : ℕ) → 1 ≤ lanes → lanes ≤ 64 → IsStore (D.history disk.new) (newly_open alloc disk.new opened.0 lanes)) }
-    ensures room { IfOk result (λ opened. (opened.1.boxes ≡ length opened.0.boxes.items) × (opened.1.records ≡ length opened.0.map.meaning.records)) }
-    ensures opened { IfOk result (λ opened. IsOpenedAs (D.history disk.old) opened.0.map.meaning (indexes_of opened.0.boxes.items)) }
-    ensures shows { IfOk result (λ opened. (lists : Lists) → IsSettledFor lists (D.history disk.old) → ShowLists opened.0.map.meaning.boxes (indexes_of opened.0.boxes.items) lists) }
+/// Makes the checks, finds the storage files, and sweeps the disk. Nothing wants memory once the disk changes.
+fn open_logs<D: Disk>(alloc: Global, disk: &mut D) -> Result<OpenParts, OpenError>
+    ensures id { IfOk result (λ opened. opened.logs.map.meaning.store ≡ opened.logs.id.0) }
+    ensures store { IfOk result (λ opened. (lanes : ℕ) → 1 ≤ lanes → lanes ≤ 64 → IsStore (D.history disk.new) (newly_open alloc disk.new opened.logs opened.files lanes)) }
+    ensures files { IfOk result (λ opened. IsFoundFiles opened.logs.map.meaning (D.history disk.old) opened.files) }
+    ensures room { IfOk result (λ opened. (opened.room.boxes ≡ length opened.logs.boxes.items) × (opened.room.records ≡ length opened.logs.map.meaning.records)) }
+    ensures opened { IfOk result (λ opened. IsOpenedAs (D.history disk.old) opened.logs.map.meaning (indexes_of opened.logs.boxes.items)) }
+    ensures shows { IfOk result (λ opened. (lists : Lists) → IsSettledFor lists (D.history disk.old) → ShowLists opened.logs.map.meaning.boxes (indexes_of opened.logs.boxes.items) lists) }
     ensures settled_again { NoFailedChange (IsErrOf result OpenError.DiskFault) (D.faults disk.old) (D.faults disk.new) → (lists : Lists) → IsSettledFor lists (D.history disk.old) → IsSettledFor lists (D.history disk.new) }
     ensures carried { NoFailedChange (IsErrOf result OpenError.DiskFault) (D.faults disk.old) (D.faults disk.new) → StoreCarries (D.history disk.old) (D.history disk.new) }
-    ensures swept { IfOk result (λ opened. (generation : ℕ) × (opened.0.map_log.name ≡ file.Map generation) × IsSwept generation opened.0.map.meaning (D.history disk.old) (D.history disk.new)) }
+    ensures swept { IfOk result (λ opened. (generation : ℕ) × (opened.logs.map_log.name ≡ file.Map generation) × IsSwept generation opened.logs.map.meaning (D.history disk.old) (D.history disk.new)) }
     ensures any_moment { (lists : Lists) → IsSettledFor lists (D.history disk.old) → EachImage (λ _ image. Safe image lists) (D.history disk.old) (D.history disk.new) }
     ensures refused { IfErr result (IsOpeningError (D.history disk.old)) }
     ensures idle { IfErr result (λ error. (error ≡ OpenError.DiskFault → ⊥) → IsIdle (D.history disk.old) (D.history disk.new)) }
@@ -78,8 +95,11 @@ fn open_logs<D: Disk>(alloc: Global, disk: &mut D) -> Result<(OpenLogs, StoreRoo
     let checked = check_store(alloc, disk)?;
     let boxes = Vec::with_capacity(alloc, checked.boxes.as_slice().len())?;
     let room = StoreRoom::of(alloc, checked.map.boxes(), checked.map.rows())?;
-    let opened = sweep(alloc, disk, checked, boxes)?;
+    highest_file_is_named();
+    let files = find_files(alloc, disk, checked.id, &checked.map)?;
+    let logs = sweep(alloc, disk, checked, boxes)?;
     listings_are_shown();
     counts_cover_listings();
-    Ok((opened, room))
+    swept_files_are_known();
+    Ok(OpenParts { logs, files, room })
 }

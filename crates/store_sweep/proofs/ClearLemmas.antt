@@ -8,7 +8,8 @@ use Rattle.model_meaning.specs.MapMeaning.{MapMeaning}
 use Rattle.model_store.specs.Carrying.{CarriesOver}
 use Rattle.store_sweep.specs.Held.{IsHeldStore, IsReadStore}
 use Rattle.disk_model.specs.Name.{is_log}
-use Rattle.store_sweep.specs.Wanted.{is_wanted, EndsByLastRegion, end_of}
+use Rattle.store_files.specs.Regions.{end_of}
+use Rattle.store_sweep.specs.Wanted.{is_wanted, EndsByLastRegion}
 use Rattle.store_sweep.specs.Moments.{ImagesCarry, KeepsStore, SameWhere, LogStays}
 use Rattle.store_sweep.proofs.HeldLemmas.{named_holds, named_reads}
 use Rattle.store_sweep.proofs.SweepStepLemmas.{images_then, images_named, keeps_then, keeps_where}

@@ -14,7 +14,8 @@ use Rattle.disk_model.proofs.OneFileLemmas.{same-begins, same-goes_on}
 use Rattle.disk_model.proofs.ChangeAndSyncLemmas.{changed_state, state}
 use Rattle.map_index.specs.Shown.{region_end}
 use Rattle.model_meaning.specs.MapMeaning.{MapRecord, MapMeaning}
-use Rattle.store_sweep.specs.Wanted.{EndBy, EndsByLastRegion, end_of}
+use Rattle.store_files.specs.Regions.{end_of}
+use Rattle.store_sweep.specs.Wanted.{EndBy, EndsByLastRegion}
 use Rattle.store_sweep.specs.Moments.{ImagesCarry, KeepsStore, SameThere}
 use Rattle.store_sweep.proofs.HeldLemmas.{half_cut_holds, cut_holds, synced_holds, cut_carries, reads_there}
 use Rattle.store_sweep.proofs.SweepStepLemmas.{Keeping, images_goes_on, images_fails, images_fails_still, images_then, holds_goes_on, reads_goes_on}

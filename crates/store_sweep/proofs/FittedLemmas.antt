@@ -11,7 +11,8 @@ use Rattle.disk_model.proofs.OneFileLemmas.{change-here, change-other}
 use Rattle.disk_model.proofs.IdleLemmas.{same_state-back}
 use Rattle.disk_model.proofs.BetweenLemmas.{between-begins, between-then, between-map, between-if, between-since, between-on, between-step, between-goes_on}
 use Rattle.model_meaning.specs.MapMeaning.{MapMeaning, is_sealed}
-use Rattle.store_sweep.specs.Wanted.{is_wanted, end_of}
+use Rattle.store_files.specs.Regions.{end_of}
+use Rattle.store_sweep.specs.Wanted.{is_wanted}
 use Rattle.store_sweep.specs.Moments.{SameWhere, SameThere, KeepsWanted, SameContent, IsFirm, IsCutToRegions, IsFitted, AreFitted, NamesSynced}
 
 -- ---- one storage file

@@ -16,7 +16,8 @@ use Rattle.model_store.specs.Settled.{IsSameRegion}
 use Rattle.model_store.specs.Carrying.{HasSameEntries, CarryOver, CarriesOver}
 use Rattle.model_store.proofs.CarryingLemmas.{each_name}
 use Rattle.store_sweep.specs.Held.{IsHeldLog, IsFirmRegion, IsHeldInstance, IsHeldAt, IsHeldStore}
-use Rattle.store_sweep.specs.Wanted.{has_region, row_names, is_wanted, EndBy}
+use Rattle.store_files.specs.Regions.{has_region}
+use Rattle.store_sweep.specs.Wanted.{row_names, is_wanted, EndBy}
 use Rattle.store_sweep.proofs.ScanLemmas.{none_pass}
 use Rattle.store_sweep.proofs.FirmRegionLemmas.{region_left, region_before, region_half_cut, region_cut, region_synced}
 

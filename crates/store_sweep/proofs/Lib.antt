@@ -8,6 +8,7 @@ pub mod FirmRegionLemmas
 pub mod FittedLemmas
 pub mod HeldLemmas
 pub mod HeldStoreLemmas
+pub mod KnownFileLemmas
 pub mod LogsInForceLemmas
 pub mod RepairLemmas
 pub mod ScanLemmas

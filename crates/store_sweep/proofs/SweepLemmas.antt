@@ -23,7 +23,8 @@ use Rattle.store_sweep.specs.Moments.{ImagesCarry, KeepsStore, LogStays}
 use Rattle.store_sweep.specs.Repaired.{IsRepaired, AreLogsOfBoxes}
 use Rattle.store_sweep.specs.Swept.{OpensWith, FilesCarry, IsOpened, EndWithRegions}
 use Rattle.disk_model.specs.Name.{is_log}
-use Rattle.store_sweep.specs.Wanted.{is_wanted, EndsByLastRegion, end_of}
+use Rattle.store_files.specs.Regions.{end_of}
+use Rattle.store_sweep.specs.Wanted.{is_wanted, EndsByLastRegion}
 use Rattle.store_sweep.proofs.HeldLemmas.{reads_there}
 use Rattle.store_sweep.proofs.RepairLemmas.{IsLogAt, repair_kept, repaired_stays}
 use Rattle.store_sweep.proofs.LogsInForceLemmas.{IsBoxLog, box_logs, box_at, box_is_log, box_is_wanted, root_at, root_is_log, root_is_wanted, map_at, map_is_log, map_is_wanted}

@@ -7,7 +7,8 @@ use Rattle.disk_model.specs.declared.name.FileName.TheVariants as file
 use Rattle.model_meaning.specs.MapMeaning.{MapMeaning, is_sealed}
 use Rattle.model_store.specs.Carrying.{CarryOver}
 use Rattle.store_sweep.specs.Held.{IsHeldStore, IsReadStore}
-use Rattle.store_sweep.specs.Wanted.{is_wanted, end_of}
+use Rattle.store_files.specs.Regions.{end_of}
+use Rattle.store_sweep.specs.Wanted.{is_wanted}
 
 -- No change failed: where a fault was answered, the count of failed changes has not risen. At its type's end that count tells
 -- nothing.

@@ -14,7 +14,8 @@ use Rattle.gate_log.specs.State.{LogState, InspectedLog}
 use Rattle.gate_log.specs.Log.{IsFound, Reads, Holds}
 use Rattle.store_sweep.specs.Repaired.{repaired_log}
 use Rattle.store_sweep.specs.Moments.{KeepsWanted, AreFitted, NamesSynced}
-use Rattle.store_sweep.specs.Wanted.{is_wanted, end_of}
+use Rattle.store_files.specs.Regions.{end_of}
+use Rattle.store_sweep.specs.Wanted.{is_wanted}
 
 -- The files pass all checks, and the map log in force has this generation and means this.
 pub record OpensWith (generation : ℕ) (m : MapMeaning) (disk : DiskState) : Type 0 where

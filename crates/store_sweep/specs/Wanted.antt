@@ -1,20 +1,16 @@
--- Which files a store needs, and where its storage files end.
+-- Which files a store needs, and that its storage files end with their regions.
 use Rattle.std.specs.Prelude.{◌≡◌, ◌+◌, ◌==◌, ◌&&◌, ◌||◌, ◌≤◌, ℕ, Bool, true, false, List, length, All}
 use Rattle.std.specs.List.{list_any}
 use Rattle.std.specs.Str.{bytes_eq}
 use Rattle.disk_model.specs.Disk.{FileState}
 use Rattle.disk_model.specs.declared.name.FileName.{FileName}
 use Rattle.disk_model.specs.declared.name.FileName.TheVariants as file
-use Rattle.map_index.specs.Shown.{region_end}
-use Rattle.model_meaning.specs.MapMeaning.{MapRecord, MapMeaning, greatest, is_sealed}
+use Rattle.model_meaning.specs.MapMeaning.{MapRecord, MapMeaning, is_sealed}
+use Rattle.store_files.specs.Regions.{has_region, end_of}
 
 -- a mailbox of the map has this log
 abbrev pub has_box : MapMeaning → ℕ → ℕ → Bool
 has_box m number generation = list_any (λ box. (box.number == number) && (box.generation == generation)) m.boxes
-
--- a record's region lies in this storage file
-abbrev pub has_region : MapMeaning → ℕ → Bool
-has_region m number = list_any (λ row. row.file == number) m.records
 
 -- a record names the instance of this hash and id
 abbrev pub row_names : List ℕ → List ℕ → MapRecord → Bool
@@ -31,10 +27,6 @@ is_wanted generation m (file.Map g) = g == generation
 is_wanted generation m (file.Box number g) = has_box m number g
 is_wanted generation m (file.Mail number) = is_sealed m number || has_region m number
 is_wanted generation m (file.Inst hash id) = has_instance m hash id
-
--- where the last region of a storage file ends, or 0
-abbrev pub end_of : MapMeaning → ℕ → ℕ
-end_of m number = greatest (region_end number) m.records
 
 -- each region of the storage file ends there or before
 abbrev pub EndBy : MapMeaning → ℕ → ℕ → Type 0

@@ -6,7 +6,8 @@ ghost use Rattle.disk_model.specs.declared.name.FileName.{FileName};
 ghost use Rattle.disk_model.specs.declared.name.FileName.TheVariants as file;
 ghost use Rattle.model_meaning.specs.MapMeaning.{MapMeaning, is_sealed};
 ghost use Rattle.disk_model.specs.Name.{is_log};
-ghost use Rattle.store_sweep.specs.Wanted.{EndBy, EndsByLastRegion, end_of};
+ghost use Rattle.store_files.specs.Regions.{end_of};
+ghost use Rattle.store_sweep.specs.Wanted.{EndBy, EndsByLastRegion};
 ghost use Rattle.store_sweep.specs.Moments.{NoFailedChange, ImagesCarry, KeepsStore, SameWhere, SameThere, AreFitted};
 
 use crate::wanted::end_of;

@@ -2,7 +2,8 @@
 ghost use Rattle.std.specs.Prelude.{◌≡◌, ◌==◌, ◌&&◌, false, nat_le};
 ghost use Rattle.std.specs.List.{position_or_len};
 ghost use Rattle.std.specs.Option.{option_map_or};
-ghost use Rattle.store_sweep.specs.Wanted.{has_box, has_region, has_instance, is_wanted, end_of};
+ghost use Rattle.store_files.specs.Regions.{has_region, end_of};
+ghost use Rattle.store_sweep.specs.Wanted.{has_box, has_instance, is_wanted};
 
 use disk_model::FileName;
 use map_index::{BoxAt, MapIndex};
