@@ -34,9 +34,8 @@ use std::alloc::Global;
 use std::marker::Model;
 use storage_files::MailFiles;
 
-mod files;
-
 mod append_map;
+mod files;
 
 /// A mailbox of an open store: its log, and what that means.
 #[derive(Drop)]
