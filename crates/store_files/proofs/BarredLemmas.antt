@@ -11,7 +11,7 @@ use Rattle.std.proofs.lemmas.Option.{get_or_from_slice_get}
 use Rattle.model_octets.proofs.PairLemmas.{pairs_map}
 use Rattle.mdbox_base.specs.declared.ids.FileNo.{FileNo}
 use Rattle.map_index.specs.Shown.{shown_record}
-use Rattle.map_index.specs.declared.rows.MapRow.{MapRow}
+use Rattle.map_index.specs.Shown.{MapRow}
 use Rattle.model_meaning.specs.MapMeaning.{MapRecord, is_own, number_at}
 use Rattle.storage_files.specs.declared.file.FileState.{FileState}
 use Rattle.store_files.specs.Barred.{names_past, barred_by}

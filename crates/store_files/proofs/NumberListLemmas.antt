@@ -15,7 +15,7 @@ use Rattle.std.proofs.lemmas.Map.Keys.{IsStrictlyIncreasing-dedup}
 use Rattle.std.proofs.lemmas.Option.{slice_get-map, slice_get-get_or, slice_get_within, get_or_from_slice_get}
 use Rattle.mdbox_base.specs.declared.ids.FileNo.{FileNo}
 use Rattle.map_index.specs.Shown.{shown_record, shown_file}
-use Rattle.map_index.specs.declared.rows.MapRow.{MapRow}
+use Rattle.map_index.specs.Shown.{MapRow}
 use Rattle.model_meaning.specs.MapMeaning.{MapRecord}
 use Rattle.store_files.proofs.PlaceLemmas.{seen_next}
 
