@@ -43,6 +43,14 @@ class Message:
         time, size = self.time.to_bytes(8, "big"), four(len(self.octets))
         return b"A" + four(self.number) + bytes([self.flags]) + time + size + four(self.number) + self.guid
 
+    def removed_entry(self):
+        """The entry of the mailbox log that removes it."""
+        return b"R" + four(self.number)
+
+    def lowered_entry(self):
+        """The entry of the map log that lowers its count."""
+        return b"D" + four(1) + four(self.number)
+
     def row(self):
         """The line that lists it."""
         return f"{self.number} {self.flags} {len(self.octets)} {self.time} {self.guid.hex()}\n"
@@ -75,19 +83,27 @@ def write_mail_files(folder, messages):
     out.close()
 
 
-def write_store(folder, count):
-    """Writes a store with one mailbox, INBOX, of so many messages, into a folder. Answers the messages."""
+def write_store(folder, count, half=False):
+    """Writes a store of so many messages in INBOX, beside which there is an empty mailbox, EMPTY, into a folder. If only half
+    of them are to stay, the others are expunged in any order. Answers all messages, and those that stay."""
     sizes = random.Random(count)
     messages = [Message(number, sizes) for number in range(1, count + 1)]
+    expunged = sizes.sample(messages, count // 2) if half else []
     storage, mailboxes = (os.path.join(folder, name) for name in ("storage", "mailboxes"))
     os.mkdir(storage)
     os.mkdir(mailboxes)
     write_mail_files(storage, messages)
-    inbox = b"B" + four(1) + four(1) + b"\x05INBOX"
+    boxes = [b"B" + four(1) + four(1) + b"\x05INBOX", b"B" + four(2) + four(1) + b"\x05EMPTY"]
+    stored = [one.stored_entry() for one in messages]
+    lowered = [one.lowered_entry() for one in expunged]
+    added = [one.added_entry() for one in messages]
+    removed = [one.removed_entry() for one in expunged]
     write_log(os.path.join(storage, "root.log"), b"R", 0, 0, [b"M" + four(1)])
-    write_log(os.path.join(storage, "map.1.log"), b"M", 0, 1, [inbox, *(one.stored_entry() for one in messages)])
-    write_log(os.path.join(mailboxes, "b.1.1.log"), b"B", 1, 1, [one.added_entry() for one in messages])
-    return messages
+    write_log(os.path.join(storage, "map.1.log"), b"M", 0, 1, boxes + stored + lowered)
+    write_log(os.path.join(mailboxes, "b.1.1.log"), b"B", 1, 1, added + removed)
+    write_log(os.path.join(mailboxes, "b.2.1.log"), b"B", 2, 1, [])
+    gone = {one.number for one in expunged}
+    return messages, [one for one in messages if one.number not in gone]
 
 
 def write_maildir(folder, messages):

@@ -1,3 +1,4 @@
+pub mod BriefLemmas
 pub mod ClearLemmas
 pub mod InstanceLemmas
 pub mod LinesLemmas

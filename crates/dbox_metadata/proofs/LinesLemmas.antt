@@ -20,7 +20,7 @@ pub record TakenBefore (text rest : List ℕ) (reader : Reader) : Type 0 where
   pub follow : FollowOneAnother [] good
   pub taken : HasTaken good reader
 
-follow_more : (before good : List Line) (line : Line) → FollowOneAnother before good → MayFollow (before ++ good) line → FollowOneAnother before (good ++ line ∷ [])
+pub follow_more : (before good : List Line) (line : Line) → FollowOneAnother before good → MayFollow (before ++ good) line → FollowOneAnother before (good ++ line ∷ [])
 follow_more before [] line f m = (subst (λ (o : List Line). MayFollow o line) (append-nil before) m, tt)
 follow_more before (g ∷ good) line f m =
     (f.0, follow_more (before ++ g ∷ []) good line f.1 (subst (λ (o : List Line). MayFollow o line) (sym (append_assoc before (g ∷ []) good)) m))
@@ -65,7 +65,7 @@ tail_of : List ℕ → List ℕ
 tail_of [] = []
 tail_of (x ∷ xs) = xs
 
-line_same : (l k : Line) (x y : List ℕ) → IsLine l → IsLine k → line_text l ++ x ≡ line_text k ++ y → l ≡ k
+pub line_same : (l k : Line) (x y : List ℕ) → IsLine l → IsLine k → line_text l ++ x ≡ line_text k ++ y → l ≡ k
 unfolding made_line tail_of
 line_same l k x y p q e =
     let keys : l.key ≡ k.key = cc e in

@@ -17,15 +17,15 @@ values_apart key line h = rw h refl
 values_more : (key : ℕ) (lines : List Line) (line : Line) → values_of key (lines ++ line ∷ []) ≡ values_of key lines ++ values_of key (line ∷ [])
 values_more key lines line = ap (map (λ (l : Line). l.value)) (filter-append (λ (l : Line). l.key == key) lines (line ∷ [])) ∙ map-append (λ (l : Line). l.value) _ _
 
-values_stay : (key : ℕ) (lines : List Line) (line : Line) → (line.key == key) ≡ false → values_of key (lines ++ line ∷ []) ≡ values_of key lines
+pub values_stay : (key : ℕ) (lines : List Line) (line : Line) → (line.key == key) ≡ false → values_of key (lines ++ line ∷ []) ≡ values_of key lines
 values_stay key lines line h = values_more key lines line ∙ ap (λ (vs : List (List ℕ)). values_of key lines ++ vs) (values_apart key line h) ∙ append-nil _
 
 -- a line of another key leaves what is read of this one
-kept : {X : Type 0} → (Reads : List ℕ → X → Type 0) (key : ℕ) (lines : List Line) (line : Line) (o : Option X) → (line.key == key) ≡ false → HasAtMostOne Reads key lines o → HasAtMostOne Reads key (lines ++ line ∷ []) o
+pub kept : {X : Type 0} → (Reads : List ℕ → X → Type 0) (key : ℕ) (lines : List Line) (line : Line) (o : Option X) → (line.key == key) ≡ false → HasAtMostOne Reads key lines o → HasAtMostOne Reads key (lines ++ line ∷ []) o
 kept Reads key lines line None h e = values_stay key lines line h ∙ e
 kept Reads key lines line (Some x) h e = (e.0, values_stay key lines line h ∙ e.1, e.2)
 
-kept_readable : {X : Type 0} → (Reads : List ℕ → X → Type 0) (key : ℕ) (lines : List Line) (line : Line) (o : Option X) → (line.key == key) ≡ false → HasAtMostOneReadable Reads key lines o → HasAtMostOneReadable Reads key (lines ++ line ∷ []) o
+pub kept_readable : {X : Type 0} → (Reads : List ℕ → X → Type 0) (key : ℕ) (lines : List Line) (line : Line) (o : Option X) → (line.key == key) ≡ false → HasAtMostOneReadable Reads key lines o → HasAtMostOneReadable Reads key (lines ++ line ∷ []) o
 kept_readable Reads key lines line None h (inl e) = inl (values_stay key lines line h ∙ e)
 kept_readable Reads key lines line None h (inr e) = inr (e.0, values_stay key lines line h ∙ e.1, e.2)
 kept_readable Reads key lines line (Some x) h e = (e.0, values_stay key lines line h ∙ e.1, e.2)
@@ -67,10 +67,10 @@ origin_known : (guid : Bool) (value : List ℕ) → is_unknown guid true (meta_l
 origin_known true value = refl
 origin_known false value = refl
 
-one_value : (key : ℕ) (lines : List Line) (value : List ℕ) → (key == key) ≡ true → values_of key lines ≡ [] → values_of key (lines ++ meta_line key value ∷ []) ≡ value ∷ []
+pub one_value : (key : ℕ) (lines : List Line) (value : List ℕ) → (key == key) ≡ true → values_of key lines ≡ [] → values_of key (lines ++ meta_line key value ∷ []) ≡ value ∷ []
 one_value key lines value same e = values_more key lines (meta_line key value) ∙ rw (e, same) refl
 
-seen_stays : (b : Bool) (key : ℕ) (lines : List Line) (line : Line) → (line.key == key) ≡ false → HasSeen b key lines → HasSeen b key (lines ++ line ∷ [])
+pub seen_stays : (b : Bool) (key : ℕ) (lines : List Line) (line : Line) → (line.key == key) ≡ false → HasSeen b key lines → HasSeen b key (lines ++ line ∷ [])
 seen_stays true key lines line h seen = λ e. seen (sym (values_stay key lines line h) ∙ e)
 seen_stays false key lines line h seen = values_stay key lines line h ∙ seen
 

@@ -1,3 +1,4 @@
+pub mod BriefRead
 pub mod Instances
 pub mod Keys
 pub mod MadeMetadata

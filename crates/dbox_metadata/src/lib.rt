@@ -1,6 +1,7 @@
 //! The metadata lines of a message, and the references to attachments in them, read and written.
 #![tactic(auto)]
 
+pub use brief::{Brief, read_brief};
 pub use error::MetaError;
 pub use laws::{made_metadata_is_said, made_metadata_is_short};
 pub use metadata_read::read_metadata;
@@ -9,6 +10,7 @@ pub use model_storage::Metadata;
 pub use refs_read::read_refs;
 pub use refs_write::push_refs;
 
+mod brief;
 mod error;
 mod key;
 mod laws;

@@ -32,7 +32,7 @@ pub fn read_metadata(alloc: Global, lines: &[u8]) -> Result<Metadata, MetaError>
 }
 
 /// The key and the value of the line in front, and what follows it.
-fn next_line(text: &[u8]) -> Option<(u8, &[u8], &[u8])>
+pub fn next_line(text: &[u8]) -> Option<(u8, &[u8], &[u8])>
     ensures some { IfSome result (λ x. IsNextLine text.now (meta_line x.0 x.1.now) x.2.now) }
     ensures none { IfNone result ((line : Line) (behind : List ℕ) → IsLine line → text.now ≢ line_text line ++ behind) }
 {

@@ -111,7 +111,7 @@ impl Reader {
 }
 
 /// Sets a number that isn't there yet to that of its text. No where it is there or the text is no number.
-fn set_number(number: &mut Option<u64>, text: &[u8]) -> bool
+pub fn set_number(number: &mut Option<u64>, text: &[u8]) -> bool
     ensures yes { IsTrue result → (number.old ≡ None) × ((n : ℕ) × IsNumberText text.now n × (number.new ≡ Some n)) }
     ensures no { result ≡ false → IsSome number.old ⊎ ((n : ℕ) → IsNumberText text.now n → ⊥) }
 {
@@ -123,7 +123,7 @@ fn set_number(number: &mut Option<u64>, text: &[u8]) -> bool
 }
 
 /// The GUID of 32 hexadecimal digits of either case.
-fn guid_of(text: &[u8]) -> Option<Guid>
+pub fn guid_of(text: &[u8]) -> Option<Guid>
     ensures some { IfSome result (IsGuidText text.now) }
     ensures none { IfNone result ((guid : Guid) → IsGuidText text.now guid → ⊥) }
 {

@@ -1,5 +1,5 @@
 // Logs on a disk.
-ghost use Rattle.std.specs.Prelude.{◌≡◌, ◌≢◌, Some, IsErrOf, ◌+◌, ◌-◌, ◌*◌, ◌<◌, ◌≤◌, ◌^◌, ◌++◌, ◌∷◌, [], ℕ, List, All, length, sum, max, OnOk, OnErr, IfOk, IfErr, IsErr};
+ghost use Rattle.std.specs.Prelude.{◌≡◌, ◌≢◌, Some, IsErrOf, ◌+◌, ◌-◌, ◌*◌, ◌<◌, ◌≤◌, ◌^◌, ◌++◌, ◌∷◌, [], ℕ, List, All, length, sum, max, OnOk, OnErr, IfOk, IfErr, IsErr, IsOk};
 ghost use Rattle.disk_model.specs.FaultCounts.{NoFault, ChangeFaultCounted, AnyFaultCounted};
 ghost use Rattle.disk_model.specs.Disk.{EachImage, OthersStay, SameButFor, IfTold, Keeps, reading, IsIdle};
 ghost use Rattle.model_logs.specs.LogFile.{IsLog, IsLogFile};
@@ -73,11 +73,13 @@ impl GateLog {
         ensures same { self.new ≡ record self.old { room = self.new.room } }
         ensures refused { OnErr result (self.new ≡ self.old) }
         ensures long { 4294967295 < octets → IsErr result }
+        ensures enough { octets ≤ self.old.room → IsOk result }
     {
+        let held = self.buffer.len();
         if octets > u32::MAX as usize {
             return Err(NoMemory);
         }
-        if octets > self.buffer.len() {
+        if octets > held {
             self.buffer.resize(octets, 0)?;
         }
         Ok(())

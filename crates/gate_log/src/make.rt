@@ -18,7 +18,7 @@ pub fn make_file<D: Disk>(disk: &mut D, name: FileName, text: &[u8]) -> Result<(
 {
     disk.make(name)?;
     disk.write_at(name, 0, text)?;
-    disk.sync(name)?;
+    disk.sync(name)?; // a crash that leaves the name leaves the text
     disk.sync_names()?;
     Ok(())
 }

@@ -79,6 +79,6 @@ fn cut_file<D: Disk>(disk: &mut D, name: FileName, size: u64) -> Result<(), Disk
     ensures unfailed { OnOk result (NoFault (D.faults disk.old) (D.faults disk.new)) }
 {
     disk.cut(name, size)?;
-    disk.sync(name)?;
+    disk.sync(name)?; // before a gate is written
     Ok(())
 }

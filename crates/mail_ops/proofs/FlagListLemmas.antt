@@ -140,11 +140,18 @@ no_message run event boxes meanings lists name u flags m h is none =
     let n : message_in u.0 f.mailbox ≡ None = none_there listing_row (message_in u.0 f.mailbox) (sym (ap (option_map listed_row) none) ∙ found_row u.0 m.rows f.mailbox.messages f.rows) in
     (rw (f.there, n) refl, refl)
 
+-- the entry gives the lists with the flags set
+pub set_by : (boxes : List MapBox) (meanings : List BoxMeaning) (lists : Lists) (name : List ℕ) (number : ℕ) (u : Uid) (flags : ℕ) (m : BoxMeaning) → AreWellFormed lists → ShowLists boxes meanings lists
+    → meaning_named name boxes meanings ≡ Some m → option_map (λ b. b.number) (find (λ b. bytes_eq b.name name) boxes) ≡ Some number → lists_by number [] (entry.F u flags) lists ≡ set_flags name u.0 flags lists
+set_by boxes meanings lists name number u flags m well h is at =
+    let f : IsFound name lists m = subst (Finds name lists) is (found_by_name name boxes meanings lists h) in
+    let same : f.mailbox.number ≡ number = numbered name number boxes meanings lists f.mailbox h at f.there in
+    subst (λ (k : ℕ). lists_by k [] (entry.F u flags) lists ≡ set_flags name u.0 flags lists) same (flagged_by lists name f.mailbox [] u flags well f.there)
+
 pub is_flagged : (run : Run) (event : RunEvent) (boxes : List MapBox) (meanings : List BoxMeaning) (lists : Lists) (name : List ℕ) (number : ℕ) (u : Uid) (flags : ℕ) (m : BoxMeaning) (row : LogRow) → AreWellFormed lists → ShowLists boxes meanings lists
     → meaning_named name boxes meanings ≡ Some m → row_at m u.0 ≡ Some row → option_map (λ b. b.number) (find (λ b. bytes_eq b.name name) boxes) ≡ Some number
     → (lists_by number [] (entry.F u flags) lists ≡ set_flags name u.0 flags lists) × PartAnswers run event lists (request.Flag name u flags) First reply.Done (set_flags name u.0 flags lists)
 is_flagged run event boxes meanings lists name number u flags m row well h is found at =
     let f : IsFound name lists m = subst (Finds name lists) is (found_by_name name boxes meanings lists h) in
     let n = some_there listing_row (message_in u.0 f.mailbox) (listed_row row) (sym (ap (option_map listed_row) found) ∙ found_row u.0 m.rows f.mailbox.messages f.rows) in
-    let same : f.mailbox.number ≡ number = numbered name number boxes meanings lists f.mailbox h at f.there in
-    (subst (λ (k : ℕ). lists_by k [] (entry.F u flags) lists ≡ set_flags name u.0 flags lists) same (flagged_by lists name f.mailbox [] u flags well f.there), (rw (f.there, n.1) refl, refl))
+    (set_by boxes meanings lists name number u flags m well h is at, (rw (f.there, n.1) refl, refl))

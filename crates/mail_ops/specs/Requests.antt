@@ -6,6 +6,8 @@ use Rattle.mdbox_base.specs.declared.replies.Reply.{Reply}
 use Rattle.mdbox_base.specs.declared.replies.Reply.TheVariants as reply
 use Rattle.mdbox_base.specs.declared.requests.Request.{Request}
 use Rattle.mdbox_base.specs.declared.requests.Request.TheVariants as request
+use Rattle.list_machine.specs.Machine.{set_flags}
+use Rattle.model_lists.specs.Lists.{Lists}
 use Rattle.store_core.specs.Value.{StoreValue}
 use Rattle.mail_ops.specs.Flagging.{flag_refusal}
 use Rattle.mail_ops.specs.Listing.{listing_reply}
@@ -27,3 +29,13 @@ Replies other old new given = ⊥
 abbrev pub AppendsNothing : {D : Type 0} → Request → StoreValue D → Type 0
 AppendsNothing (request.Flag name uid flags) store = (why : Refusal) × (flag_refusal name uid.0 store ≡ Some why)
 AppendsNothing other store = Unit {0}
+
+-- The lists that the request makes of these if it is done: a flag sets the message's flags, and a listing leaves them as they are.
+abbrev pub lists_after : Request → Lists → Lists
+lists_after (request.Flag name uid flags) lists = set_flags name uid.0 flags lists
+lists_after other lists = lists
+
+-- the lists that a request leaves which had this reply: the same unless it is done
+abbrev pub lists_by_reply : Request → Reply → Lists → Lists
+lists_by_reply asked reply.Done lists = lists_after asked lists
+lists_by_reply asked other lists = lists

@@ -1,5 +1,5 @@
 // Listing a mailbox.
-ghost use Rattle.std.specs.Prelude.{◌≡◌, ◌⊎◌, map, Some, IfOk};
+ghost use Rattle.std.specs.Prelude.{◌≡◌, ◌⊎◌, ◌↔◌, map, Some, IfOk, true};
 ghost use Rattle.box_index.specs.Row.{row_of as shown};
 ghost use Rattle.journal.specs.Events.{Around};
 ghost use Rattle.mdbox_base.specs.declared.replies.Refusal.TheVariants as refusal;
@@ -21,6 +21,7 @@ use store_core::Store;
 pub fn list<D: Disk>(store: &Store<D>, name: &Name) -> (Reply, Did)
     ensures does { (around after : Around) → Steps HasNotBegun HasNotBegun around after (request.List name.now) (seen_of store.now (D.history store.now.disk) (D.faults store.now.disk)) (seen_of store.now (D.history store.now.disk) (D.faults store.now.disk)) result.1 (Some result.0) }
     ensures replies { (result.0 ≡ listing_reply name.now store.now) ⊎ (result.0 ≡ reply.Refused refusal.NoMemory) }
+    ensures stopped { (result.0 ≡ reply.Refused refusal.Stopped) ↔ (store.now.stopped ≡ true) }
 {
     listings_are_answered();
     if store.stopped() {
@@ -40,8 +41,8 @@ fn rows_of(alloc: Global, index: &BoxIndex) -> Result<Seq<ListRow>, NoMemory>
     ensures { IfOk result (λ rows. rows ≡ map listed_row index.now.meaning.rows) }
 {
     let mut rows = Vec::with_capacity(alloc, index.length() as usize)?;
-    for place in 0..index.length() {
-        rows.push(row_of(index.row_at(place).unwrap()))?;
+    for row in index.rows() {
+        rows.push(row_of(row))?;
     }
     Ok(Seq::of(rows))
 }

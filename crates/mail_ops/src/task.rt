@@ -1,11 +1,16 @@
 // The task of a request.
-ghost use Rattle.std.specs.Prelude.{◌≡◌, ℕ, Some};
+ghost use Rattle.std.specs.Prelude.{◌≡◌, ◌≢◌, ◌↔◌, ℕ, Some, true, false};
+ghost use Rattle.disk_model.specs.FaultCounts.{NoFault, ChangeFaultCounted};
 ghost use Rattle.journal.specs.Events.{Around};
 ghost use Rattle.mdbox_base.specs.declared.progress.Did.TheVariants as did;
 ghost use Rattle.mdbox_base.specs.declared.progress.Progress.TheVariants as progress;
+ghost use Rattle.mdbox_base.specs.declared.replies.Refusal.TheVariants as refusal;
 ghost use Rattle.mdbox_base.specs.declared.replies.Reply.{Reply};
+ghost use Rattle.mdbox_base.specs.declared.replies.Reply.TheVariants as reply;
+ghost use Rattle.model_lists.specs.Lists.{Lists};
+ghost use Rattle.model_store.specs.Settled.{IsSettledFor, Leaves};
 ghost use Rattle.task_steps.specs.Step.{HasNotBegun, Steps, ended_by};
-ghost use Rattle.mail_ops.specs.Requests.{IsOpsRequest, Replies, AppendsNothing};
+ghost use Rattle.mail_ops.specs.Requests.{IsOpsRequest, Replies, AppendsNothing, lists_after, lists_by_reply};
 ghost use Rattle.store_core.specs.Dues.{due_at, KeepsStored, Moves, Spares, amounts_in};
 ghost use Rattle.mail_ops.specs.Task.{IsAt, amounts_of, seen_of};
 ghost use Rattle.mail_ops.specs.declared.task.TaskStage.TheVariants as stage;
@@ -65,10 +70,22 @@ impl OpsTask {
 
     /// Does the next event. Each of these requests has one, and is answered by it.
     pub fn step<D: Disk>(&mut self, store: &mut Store<D>) -> Progress
-        // Of every run that has come to the store: which event it was, what it answered, and what a crash may leave.
+        // Of every run that has come to the store: which event it was, what it answered, and which crash images it leaves.
         ensures does { (around after : Around) → Steps (IsAt self.old.stage) (IsAt self.new.stage) around after self.old.request (seen_of store.old (D.history store.old.disk) (D.faults store.old.disk)) (seen_of store.new (D.history store.new.disk) (D.faults store.new.disk)) self.new.did (ended_by result) }
 
-        // What it holds and owes it does in the store, and what others do it leaves to them, unless a failed change stops the store.
+        // Of a settled disk each crash image at every moment is safe for its lists, or for those that the request makes of them,
+        // whatever fails. Unless the store is stopped then, the disk is settled for the lists that the reply tells.
+        ensures moments { (lists : Lists) → IsSettledFor lists (D.history store.old.disk) → Leaves lists (lists_after self.old.request lists) (D.history store.old.disk) (D.history store.new.disk) }
+        ensures settled { store.new.stopped ≡ false → (given : Reply) → result ≡ progress.Done given → (lists : Lists) → IsSettledFor lists (D.history store.old.disk) → IsSettledFor (lists_by_reply self.old.request given lists) (D.history store.new.disk) }
+
+        // A store that is stopped replies so, and no other does. One that was running is stopped only by a change of the disk
+        // that failed; no other call of the disk fails.
+        ensures stopped { (result ≡ progress.Done (reply.Refused refusal.Stopped)) ↔ (store.new.stopped ≡ true) }
+        ensures fault { store.old.stopped ≡ false → ChangeFaultCounted (result ≡ progress.Done (reply.Refused refusal.Stopped)) (D.faults store.old.disk) (D.faults store.new.disk) }
+        ensures unfailed { result ≢ progress.Done (reply.Refused refusal.Stopped) → NoFault (D.faults store.old.disk) (D.faults store.new.disk) }
+
+        // What is due of each record grows or shrinks in the store by as much as in this task; and records of which something is due
+        // for other tasks are kept, unless a failed change stops the store.
         ensures moves { Moves (amounts_of self.old) (amounts_of self.new) (amounts_in store.old) (amounts_in store.new) }
         ensures spares { store.new.stopped ≡ store.old.stopped → Spares (amounts_of self.old) store.old store.new (D.history store.old.disk) (D.history store.new.disk) }
         ensures replies { (reply : Reply) × (result ≡ progress.Done reply) × Replies self.old.request store.old store.new reply }
@@ -91,6 +108,11 @@ fn only_event<D: Disk>(store: &mut Store<D>, request: &Request) -> (Reply, Did)
     ensures due { (uid : ℕ) → due_at uid store.new ≡ due_at uid store.old }
     ensures map { store.new.map ≡ store.old.map }
     ensures stored { store.new.stopped ≡ store.old.stopped → KeepsStored (D.history store.old.disk) (D.history store.new.disk) }
+    ensures moments { (lists : Lists) → IsSettledFor lists (D.history store.old.disk) → Leaves lists (lists_after request.now lists) (D.history store.old.disk) (D.history store.new.disk) }
+    ensures settled { store.new.stopped ≡ false → (lists : Lists) → IsSettledFor lists (D.history store.old.disk) → IsSettledFor (lists_by_reply request.now result.0 lists) (D.history store.new.disk) }
+    ensures stopped { (result.0 ≡ reply.Refused refusal.Stopped) ↔ (store.new.stopped ≡ true) }
+    ensures fault { store.old.stopped ≡ false → ChangeFaultCounted (result.0 ≡ reply.Refused refusal.Stopped) (D.faults store.old.disk) (D.faults store.new.disk) }
+    ensures unfailed { result.0 ≢ reply.Refused refusal.Stopped → NoFault (D.faults store.old.disk) (D.faults store.new.disk) }
 {
     match request {
         Request::List { name } => list(store, name),

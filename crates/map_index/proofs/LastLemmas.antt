@@ -1,37 +1,18 @@
--- The row of a file whose region ends last, and the place of a row.
-use Rattle.std.proofs.Common.{◌≡◌, ◌+◌, ◌==◌, ◌||◌, ◌<◌, ◌≤◌, ℕ, max, Bool, true, false, not, cond, Option, Some, None, List, [], ◌∷◌, length, map, filter, fold, find, refl, ap, sym, ◌∙◌, arith}
+-- The record of a file whose region ends last, and the place of a record.
+use Rattle.std.proofs.Common.{◌≡◌, ◌+◌, ◌==◌, ◌||◌, ◌<◌, ℕ, max, Bool, true, false, cond, Option, Some, None, List, [], ◌∷◌, length, filter, fold, find, refl, ap, sym, ◌∙◌, arith}
 use Rattle.std.specs.Prelude.{nat_le, nat_lt, position, slice_get}
 use Rattle.std.specs.List.{list_any, position_or_len}
 use Rattle.std.specs.Option.{is_some, option_map, option_map_or}
 use Rattle.std.proofs.lemmas.Bool.Decides.{nat_tests}
-use Rattle.std.proofs.lemmas.List.{length-map}
 use Rattle.std.proofs.lemmas.List.Folds.{find_at}
 use Rattle.std.proofs.lemmas.Option.{slice_get_past}
 use Rattle.model_meaning.specs.MapMeaning.{MapRecord}
-use Rattle.map_index.specs.declared.rows.MapRow.{MapRow}
-use Rattle.map_index.specs.declared.rows.Record.{Record}
-use Rattle.map_index.specs.Shown.{shown_record, meant_record, later, later_row, region_end}
+use Rattle.map_rows.specs.declared.rows.MapRow.{MapRow}
+use Rattle.map_rows.specs.Lookups.{later}
+use Rattle.map_index.specs.Shown.{shown_record, region_end}
 
 abbrev is_in : ℕ → MapRecord → Bool
 is_in file row = row.file == file
-
-chosen : (b : Bool) (last : MapRecord) (r : Record) → cond b (Some (shown_record last)) (Some r.row) ≡ option_map shown_record (cond b (Some last) (Some (meant_record r)))
-chosen true last r = refl
-chosen false last r = refl
-
-later_shown : (a : Option MapRecord) (r : Record) → later_row (option_map shown_record a) r.row ≡ option_map shown_record (later a (meant_record r))
-later_shown None r = refl
-later_shown (Some last) r = chosen (nat_le (r.row.offset + r.row.size) (last.offset + last.size)) last r
-
-one_more : (b : Bool) (r : Record) (F : List MapRow) (G : List MapRecord) → ((a : Option MapRecord) → fold later_row (option_map shown_record a) F ≡ option_map shown_record (fold later a G)) → (a : Option MapRecord)
-    → fold later_row (option_map shown_record a) (cond b (r.row ∷ F) F) ≡ option_map shown_record (fold later a (cond b (meant_record r ∷ G) G))
-one_more true r F G rest a = ap (λ (o : Option MapRow). fold later_row o F) (later_shown a r) ∙ rest (later a (meant_record r))
-one_more false r F G rest a = rest a
-
--- the last row is the last record, as it is shown
-pub last_shown : (file : ℕ) (rs : List Record) (a : Option MapRecord) → fold later_row (option_map shown_record a) (filter (λ r. r.file.0 == file) (map (λ r. r.row) rs)) ≡ option_map shown_record (fold later a (filter (is_in file) (map meant_record rs)))
-last_shown file [] a = refl
-last_shown file (r ∷ rs) a = one_more (r.row.file.0 == file) r _ _ (last_shown file rs) a
 
 -- ---- where it ends
 
@@ -95,36 +76,20 @@ last_is_some file (r ∷ rs) a = some_more (r.file == file) (list_any (is_in fil
 
 -- ---- places
 
-place_step : (b : Bool) (m n : ℕ) → m ≡ n → cond (not b) (1 + m) 0 ≡ cond (not b) (1 + n) 0
-place_step b m n e = rw e refl
+place_step : {X : Type 0} → (p : X → Bool) (xs : List X) (n : ℕ) (b : Bool) → nat_lt (position_or_len p xs) (length xs) ≡ b → cond b (Some (position_or_len p xs)) None ≡ Some n → (slice_get xs n ≡ find p xs) × (n < length xs)
+place_step p xs n true h e =
+    let k : position_or_len p xs ≡ n = cc e in
+    (ap (slice_get xs) (sym k) ∙ sym (find_at p xs), grind (arith, nat_tests, h, k))
+place_step p xs n false h e = absurd (let w : None ≡ Some n = e in cc w)
 
-pub place_seen : {X Y : Type 0} → (p : Y → Bool) (f : X → Y) (xs : List X) → position_or_len p (map f xs) ≡ position_or_len (λ x. p (f x)) xs
-place_seen p f [] = refl
-place_seen p f (x ∷ xs) = place_step (p (f x)) _ _ (place_seen p f xs)
+-- at the place of what passes first stands what a search finds
+pub place_there : {X : Type 0} → (p : X → Bool) (xs : List X) (n : ℕ) → position p xs ≡ Some n → (slice_get xs n ≡ find p xs) × (n < length xs)
+place_there p xs n e = place_step p xs n (nat_lt (position_or_len p xs) (length xs)) refl e
 
--- a place that is there
-pub placed : {X : Type 0} → (p : X → Bool) (xs : List X) (n : ℕ) → n ≡ position_or_len p xs → n < length xs → Some n ≡ position p xs
-placed p xs n e lt = let h : nat_lt n (length xs) ≡ true = grind (arith, nat_tests, lt) in rw (← e) (rw h refl)
+no_place_step : {X : Type 0} → (p : X → Bool) (xs : List X) (b : Bool) → nat_lt (position_or_len p xs) (length xs) ≡ b → cond b (Some (position_or_len p xs)) None ≡ None → find p xs ≡ None
+no_place_step p xs true h e = absurd (let w : Some (position_or_len p xs) ≡ None = e in cc w)
+no_place_step p xs false h e = find_at p xs ∙ slice_get_past xs (position_or_len p xs) (grind (arith, nat_tests, h))
 
-pub unplaced : {X : Type 0} → (p : X → Bool) (xs : List X) (n : ℕ) → n ≡ position_or_len p xs → length xs ≤ n → None ≡ position p xs
-unplaced p xs n e le = let h : nat_lt n (length xs) ≡ false = grind (arith, nat_tests, le) in rw (← e) (rw h refl)
-
--- the place of a map uid in the records that the index has
-pub place_found : (uid : ℕ) (rs xs : List Record) (ms : List MapRecord) (n : ℕ) → n ≡ position_or_len (λ (r : Record). r.row.uid.0 == uid) rs → rs ≡ xs → map meant_record xs ≡ ms → n < length rs
-    → (Some n ≡ position (λ (row : MapRecord). row.uid == uid) ms) × (slice_get ms n ≡ find (λ (row : MapRecord). row.uid == uid) ms)
-place_found uid rs xs ms n e same view lt =
-    let p = λ (row : MapRecord). row.uid == uid in
-    let here : n ≡ position_or_len p ms = e ∙ sym (place_seen p meant_record rs) ∙ ap (λ (zs : List Record). position_or_len p (map meant_record zs)) same ∙ ap (position_or_len p) view in
-    let long : length rs ≡ length xs = ap (λ (zs : List Record). length zs) same in
-    let size : length ms ≡ length xs = ap (λ (zs : List MapRecord). length zs) (sym view) ∙ length-map xs meant_record in
-    (placed p ms n here (omega (arith, size, long, lt)), ap (slice_get ms) here ∙ sym (find_at p ms))
-
-pub place_missing : (uid : ℕ) (rs xs : List Record) (ms : List MapRecord) (n : ℕ) → n ≡ position_or_len (λ (r : Record). r.row.uid.0 == uid) rs → rs ≡ xs → map meant_record xs ≡ ms → length rs ≤ n
-    → (None ≡ position (λ (row : MapRecord). row.uid == uid) ms) × (None ≡ find (λ (row : MapRecord). row.uid == uid) ms)
-place_missing uid rs xs ms n e same view le =
-    let p = λ (row : MapRecord). row.uid == uid in
-    let here : n ≡ position_or_len p ms = e ∙ sym (place_seen p meant_record rs) ∙ ap (λ (zs : List Record). position_or_len p (map meant_record zs)) same ∙ ap (position_or_len p) view in
-    let long : length rs ≡ length xs = ap (λ (zs : List Record). length zs) same in
-    let size : length ms ≡ length xs = ap (λ (zs : List MapRecord). length zs) (sym view) ∙ length-map xs meant_record in
-    let past : length ms ≤ n = omega (arith, size, long, le) in
-    (unplaced p ms n here past, sym (find_at p ms ∙ ap (slice_get ms) (sym here) ∙ slice_get_past ms n past))
+-- without a place it finds nothing
+pub no_place : {X : Type 0} → (p : X → Bool) (xs : List X) → position p xs ≡ None → find p xs ≡ None
+no_place p xs e = no_place_step p xs (nat_lt (position_or_len p xs) (length xs)) refl e

@@ -1,5 +1,5 @@
 -- One entry more, in the words of the code.
-use Rattle.std.proofs.Common.{◌≡◌, ◌≤◌, ◌+◌, ◌-◌, ℕ, max, Bool, true, false, cond, List, [], ◌∷◌, map, filter, refl, sym, subst, ap, arith}
+use Rattle.std.proofs.Common.{◌≡◌, ◌≤◌, ◌+◌, ◌-◌, ℕ, max, List, refl, sym, subst, arith}
 use Rattle.mdbox_base.specs.declared.ids.BoxNo.{BoxNo}
 use Rattle.mdbox_base.specs.declared.ids.FileNo.{FileNo}
 use Rattle.mdbox_base.specs.declared.ids.Guid.{Guid}
@@ -12,20 +12,12 @@ use Rattle.mdbox_base.specs.declared.entries.MapEntry.{MapEntry}
 use Rattle.mdbox_base.specs.declared.entries.MapEntry.TheVariants as entry
 use Rattle.model_meaning.specs.Rows.{rows_by}
 use Rattle.model_meaning.specs.MapMeaning.{MapRecord, MapBox, MapMeaning, record_rules, box_rules, sealed_by}
-use Rattle.model_meaning.specs.MapFits.{MapFits}
 use Rattle.model_meaning.proofs.AppliedLemmas.{records_by_highest, records_by_generation, boxes_by_highest, boxes_by_stored, boxes_by_raised, boxes_by_lowered, boxes_by_counted, boxes_by_purged, boxes_by_sealed}
 use Rattle.map_index.specs.declared.room.MapRoom.{MapRoom}
-use Rattle.map_index.specs.Shown.{TakesMemory, HasRisingList}
+use Rattle.map_rows.specs.TableValue.{TableValue}
+use Rattle.map_index.specs.Needs.{TakesMemory}
 use Rattle.map_index.specs.Value.{no_room, larger_room, room_for, room_left, IsNoLessRoom}
-
-filter_step : {X Y : Type 0} → (f : X → Y) (b : Bool) (x : X) (xs : List X) (ys : List Y) → map f xs ≡ ys → map f (cond b (x ∷ xs) xs) ≡ cond b (f x ∷ ys) ys
-filter_step f true x xs ys e = ap (λ (t : List _). f x ∷ t) e
-filter_step f false x xs ys e = e
-
--- what is kept of a list that is made of another
-pub filter-map : {X Y : Type 0} → (f : X → Y) (p : Y → Bool) (xs : List X) → map f (filter (λ x. p (f x)) xs) ≡ filter p (map f xs)
-filter-map f p [] = refl
-filter-map f p (x ∷ xs) = filter_step f (p (f x)) x _ _ (filter-map f p xs)
+use Rattle.map_index.proofs.ListedLemmas.{table_is}
 
 -- ---- one meaning, part by part
 
@@ -84,18 +76,6 @@ records_stay (entry.T cs) s p u d t rows = absurd (t cs refl)
 records_stay (entry.P file x ms us) s p u d t rows = absurd (p file x ms us refl)
 records_stay (entry.E file) s p u d t rows = absurd (s tt)
 
--- lists of counts that fit rise
-pub list_rises : (m : MapMeaning) (e : MapEntry) → MapFits m e → HasRisingList e
-list_rises m (entry.H x) f = tt
-list_rises m (entry.B n gen name) f = tt
-list_rises m (entry.G n gen) f = tt
-list_rises m (entry.S o c v file a z guid is) f = tt
-list_rises m (entry.U v) f = tt
-list_rises m (entry.D us) f = f.0
-list_rises m (entry.T cs) f = f.0
-list_rises m (entry.P file x ms us) f = f.moved_rising
-list_rises m (entry.E file) f = tt
-
 -- it needs no room
 pub no_room_for : (e : MapEntry) → (TakesMemory e → ⊥) → room_for e ≡ no_room
 no_room_for (entry.H x) t = refl
@@ -136,3 +116,16 @@ space_left need size space size' space' room left a b c d e = omega (arith, a, b
 
 pub space_kept : (size space size' space' room : ℕ) → size + room ≤ space → size' ≤ size → space' ≡ space → size' + room ≤ space'
 space_kept size space size' space' room a b c = omega (arith, a, b, c)
+
+-- what takes no memory leaves the room of a table
+pub room_stays : (e : MapEntry) (t : TableValue) (rows : List MapRecord) → (TakesMemory e → ⊥) → record t { records = rows } ≡ record { records = rows; record_room = t.record_room - (room_for e).records; instance_room = t.instance_room - (room_for e).instances }
+room_stays e t rows none =
+    subst (λ (need : MapRoom). record t { records = rows } ≡ record { records = rows; record_room = t.record_room - need.records; instance_room = t.instance_room - need.instances }) (sym (no_room_for e none))
+    (table_is (record t { records = rows }) rows (t.record_room - 0) (t.instance_room - 0) refl (omega arith) (omega arith))
+
+-- and so is room in the table of records
+pub room_left_over : (need room table left table' : ℕ) → room ≤ table → table' ≡ table - need → left ≡ room - need → left ≤ table'
+room_left_over need room table left table' a b c = omega (arith, a, b, c)
+
+pub room_kept : (room table table' : ℕ) → room ≤ table → table' ≡ table → room ≤ table'
+room_kept room table table' a b = omega (arith, a, b)

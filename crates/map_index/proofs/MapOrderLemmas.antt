@@ -1,9 +1,10 @@
 -- One entry more that fits keeps the order of an index.
 use Rattle.std.proofs.Common.{◌≡◌, ◌≢◌, ◌<◌, ◌≤◌, ◌^◌, ◌==◌, ℕ, max, Bool, true, false, List, [], ◌∷◌, ◌++◌, refl, sym, ap, subst, ◌∙◌, arith, append-nil, length-append}
-use Rattle.std.specs.Prelude.{AllPairs, nat_lt, if◌then◌else◌, slice_index_or}
+use Rattle.std.specs.Prelude.{All, AllPairs, nat_lt, if◌then◌else◌, slice_index_or}
 use Rattle.std.proofs.lemmas.Grind.{common_steps}
 use Rattle.std.proofs.lemmas.List.Elements.{All-nil, All-cons, All-weaker, All-push}
 use Rattle.std.proofs.lemmas.List.Kept.{AllPairs-cons}
+use Rattle.mdbox_base.specs.declared.ids.MapUid.{MapUid}
 use Rattle.mdbox_base.specs.declared.entries.MapEntry.{MapEntry}
 use Rattle.mdbox_base.specs.declared.entries.MapEntry.TheVariants as map
 use Rattle.model_meaning.specs.MapMeaning.{MapRecord, MapBox, MapMeaning, map_applied, record_rules, box_changed, box_rules, with_number, sealed_by}
@@ -14,7 +15,6 @@ use Rattle.model_meaning.proofs.SealedLemmas.{all_with}
 use Rattle.model_octets.proofs.PairLemmas.{found_only, pairs_nil, pairs_push, pairs_head, pairs_tail}
 use Rattle.model_meaning.proofs.KeptRowLemmas.{kept_all, kept_length, kept_pairs, kept_rows}
 use Rattle.map_index.specs.Kept.{AreKeptRecords, AreKeptBoxes, AreKeptFiles, IsMapInOrder}
-use Rattle.map_index.specs.Shown.{CanRise}
 use Rattle.map_index.proofs.RisingLemmas.{few_rising}
 
 -- ---- records
@@ -151,17 +151,9 @@ files_more m (map.E file) k f = files_with file.0 m.sealed f k
 pub kept_more : (m : MapMeaning) (entry : MapEntry) → IsMapInOrder m → MapFits m entry → (map_applied entry m).highest.map < 2 ^ 32 → IsMapInOrder (map_applied entry m)
 kept_more m entry k f fits = record { records = rows_more m entry k.records f; boxes = boxes_more m entry k.boxes f; files = files_more m entry k.files f; fits = fits }
 
--- an entry that fits raises no count out of its range
-pub can_rise : (m : MapMeaning) (entry : MapEntry) → IsMapInOrder m → MapFits m entry → CanRise entry m.records
-can_rise m (map.H h) k f = λ i d lt. tt
-can_rise m (map.B b g n) k f = λ i d lt. tt
-can_rise m (map.G b g) k f = λ i d lt. tt
-can_rise m (map.S o c u file a z g is) k f = λ i d lt. tt
-can_rise m (map.D us) k f = λ i d lt. tt
-can_rise m (map.T cs) k f = λ i d lt. tt
-can_rise m (map.P file t ms us) k f = λ i d lt. tt
-can_rise m (map.E file) k f = λ i d lt. tt
-can_rise m (map.U u) k f = λ i d lt e.
+-- an entry that raises a count leaves it in its range
+pub can_rise : (m : MapMeaning) (u : MapUid) → IsMapInOrder m → MapFits m (map.U u) → All (λ row. u.0 ≡ row.uid → row.count ≤ 65534) m.records
+can_rise m u k f = λ i d lt e.
     let rising = k.records.rising in
     let only = found_only (λ row. row.uid == u.0) m.records f.0 f.1 (λ i j d l le p q. let a = equal_is _ u.0 p in let b = equal_is _ u.0 q in let h = rising i j d l le in omega (arith, a, b, h)) in
     let same : slice_index_or m.records i d ≡ f.0 = only i d lt (equal_yes _ _ (sym e)) in

@@ -1,20 +1,22 @@
--- What a search finds among records in order of map uid.
+-- What a search finds among items in order of a number.
 use Rattle.std.specs.Prelude.{AllPairs}
-use Rattle.std.proofs.Common.{◌≡◌, ◌≢◌, inl, inr, ℕ, ◌<◌, ◌≤◌, ◌==◌, true, false, List, [], ◌∷◌, length, get_or, map, Result, Ok, Err, refl, sym, ap, arith}
+use Rattle.std.proofs.Common.{◌≡◌, ◌≢◌, inl, inr, ℕ, ◌<◌, ◌≤◌, ◌==◌, Bool, true, false, List, [], ◌∷◌, length, get_or, map, Result, Ok, Err, refl, sym, ap, subst, arith}
 use Rattle.std.specs.Prelude.{MatchResult}
-use Rattle.std.specs.List.{position_or_len}
+use Rattle.std.specs.Result.{is_ok}
+use Rattle.std.specs.List.{list_any, position_or_len}
 use Rattle.std.specs.List.Sorted.{IsSearchInRange, IsBinarySearchResult, IsNonDecreasingBy}
 use Rattle.std.specs.Ordering.{nat_cmp, ordering_index}
 use Rattle.std.proofs.lemmas.Cmp.{ranked}
 use Rattle.std.proofs.lemmas.Bool.{cases_lt, cases_eq}
 use Rattle.std.proofs.lemmas.Bool.Decides.{nat_tests}
-use Rattle.std.proofs.lemmas.List.Sums.{position_or_len_is}
+use Rattle.std.proofs.lemmas.List.Folds.{list_any_at, list_any_none}
+use Rattle.std.proofs.lemmas.List.Sums.{fails_before_first, passes_at_first, position_or_len_is}
 use Rattle.std.proofs.lemmas.List.Kept.{AllPairs-cons}
 use Rattle.model_octets.proofs.PairLemmas.{pairs_head, pairs_tail, pairs_nil}
 use Rattle.map_index.proofs.DerivedListLemmas.{All-unmap}
 
 -- the answers of a search rise along the items
-answers_rise : {X : Type 0} → (f : X → ℕ) (xs : List X) (n : ℕ) → AllPairs (λ a b. f a < f b) xs → IsNonDecreasingBy (λ x. ordering_index (nat_cmp (f x) n)) xs
+pub answers_rise : {X : Type 0} → (f : X → ℕ) (xs : List X) (n : ℕ) → AllPairs (λ a b. f a < f b) xs → IsNonDecreasingBy (λ x. ordering_index (nat_cmp (f x) n)) xs
 answers_rise f xs n rise i j d le lt =
     let up : f (get_or xs i d) ≤ f (get_or xs j d) = elim (cases_eq i j) [
       | inl same ↦ let e : f (get_or xs i d) ≡ f (get_or xs j d) = ap (λ (k : ℕ). f (get_or xs k d)) same in omega (arith, e)
@@ -49,6 +51,19 @@ searched f (x ∷ xs) n rise (Err at) within parted =
       | inr behind ↦ let l : n < f (get_or (x ∷ xs) k x) = ranked _ n _ (sym (p.1 k x behind lt)) in omega (arith, l, e)
     ]))
     (λ lt. absurd (omega (arith, lt))))
+
+one_passes : {X : Type 0} → (p : X → Bool) (xs : List X) → position_or_len p xs < length xs → list_any p xs ≡ true
+one_passes p [] lt = absurd (omega (arith, lt))
+one_passes p (x ∷ xs) lt = list_any_at p (x ∷ xs) (position_or_len p (x ∷ xs)) x lt (passes_at_first p (x ∷ xs) x lt)
+
+-- whether one was found
+pub any_searched : {X : Type 0} → (f : X → ℕ) (xs : List X) (n : ℕ) → AllPairs (λ a b. f a < f b) xs → (r : Result ℕ ℕ) → IsSearchInRange r (length xs) → IsBinarySearchResult (λ x. nat_cmp (f x) n) xs r → is_ok r ≡ list_any (λ x. f x == n) xs
+any_searched f xs n rise (Ok at) within equal_at =
+    let place = searched f xs n rise (Ok at) within equal_at in
+    sym (one_passes (λ x. f x == n) xs (subst (λ (k : ℕ). k < length xs) place within))
+any_searched f xs n rise (Err at) within parted =
+    let past = searched f xs n rise (Err at) within parted in
+    sym (list_any_none (λ x. f x == n) xs (λ k d lt. fails_before_first (λ x. f x == n) xs k d (omega (arith, past, lt))))
 
 -- what holds of all pairs of a list that is made of another
 pub pairs_unmap : {X Y : Type 0} → (R : Y → Y → Type 0) (f : X → Y) (xs : List X) → AllPairs R (map f xs) → AllPairs (λ a b. R (f a) (f b)) xs

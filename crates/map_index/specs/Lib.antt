@@ -1,4 +1,5 @@
 pub mod Shown
 pub mod Kept
 pub mod Has
+pub mod Needs
 pub mod Value

@@ -4,16 +4,16 @@ ghost use Rattle.std.specs.List.{list_any};
 ghost use Rattle.std.specs.Option.{is_some, option_map, option_map_or, option_copied};
 ghost use Rattle.model_meaning.specs.MapMeaning.{MapMeaning, map_meaning, map_applied, record_at, record_of, count_of, box_at, is_sealed, greatest};
 ghost use Rattle.model_meaning.specs.MapFits.{MapFits};
-ghost use Rattle.map_index.specs.Shown.{meant_record as record_held, box_of, shown_record, shown_box, shown_file, record_from, place_of_record, last_record, region_end, box_of_name, is_instance_named, names_file, TakesMemory};
+ghost use Rattle.map_rows.specs.Lookups.{meant_record};
+ghost use Rattle.map_index.specs.Needs.{TakesMemory};
+ghost use Rattle.map_index.specs.Shown.{box_of, shown_record, shown_box, shown_file, record_from, place_of_record, last_record, region_end, box_of_name, is_instance_named, names_file};
 ghost use Rattle.map_index.specs.Value.{no_room, larger_room, room_for, room_left, HasRoomFor, IsNoLessRoom};
 
 use crate::changes::{change_parts, copied, take_parts};
 use crate::numbers::{higher, numbers_of};
 use crate::room::{MapRoom, NO_ROOM, larger_room, room_for, room_left};
-use crate::rows::{
-    BoxAt, Mailbox, MapRow, Record, first_in_file, has_file, last_in_file, names_file,
-    names_instance, place_with_uid, with_guid, with_name, with_number, with_uid,
-};
+use crate::rows::{BoxAt, Mailbox, has_file, with_name, with_number};
+use map_rows::{MapRow, Record, Table};
 use mdbox_base::{
     BoxNo, FileNo, Guid, Hash, Highest, InstId, InstRow, MapEntry, MapUid, Name, NoMemory, Seq,
     StoreId,
@@ -29,7 +29,7 @@ mod purging;
 pub struct MapIndex {
     alloc: Global,
     store: StoreId,
-    records: Vec<Record>,
+    records: Table,
     boxes: Vec<Mailbox>,
     files: Vec<FileNo>,
     most: Highest,
@@ -38,7 +38,7 @@ pub struct MapIndex {
 }
 
 impl Model for MapIndex {
-    ghost use Rattle.std.specs.Prelude.{vec_len, vec_capacity};
+    ghost use Rattle.std.specs.Prelude.{◌≤◌, vec_len, vec_capacity};
     ghost use Rattle.map_index.specs.Value.{MapIndexValue};
 
     ghost Value = { MapIndexValue };
@@ -46,10 +46,11 @@ impl Model for MapIndex {
     ghost use Rattle.map_index.specs.Shown.{meaning_of};
     ghost use Rattle.map_index.specs.Kept.{IsMapInOrder, HasSpace};
 
-    ghost view = { λ index. record { meaning = meaning_of index.store index.records.items index.boxes.items index.files.items index.most; room = index.room } };
+    ghost view = { λ index. record { meaning = meaning_of index.store index.records.records index.boxes.items index.files.items index.most; room = index.room } };
 
-    ghost invariant = { λ index. IsMapInOrder (meaning_of index.store index.records.items index.boxes.items index.files.items index.most)
-        × HasSpace (vec_len index.records) (vec_capacity index.records) index.room.records
+    ghost invariant = { λ index. IsMapInOrder (meaning_of index.store index.records.records index.boxes.items index.files.items index.most)
+        × (index.room.records ≤ index.records.record_room)
+        × (index.room.instances ≤ index.records.instance_room)
         × HasSpace (vec_len index.boxes) (vec_capacity index.boxes) index.room.boxes
         × HasSpace (vec_len index.files) (vec_capacity index.files) index.room.files };
 }
@@ -64,7 +65,7 @@ impl MapIndex {
         Ok(MapIndex {
             alloc,
             store: id,
-            records: Vec::new(alloc),
+            records: Table::empty(alloc),
             boxes: Vec::new(alloc),
             files: Vec::new(alloc),
             most: Highest {
@@ -87,16 +88,16 @@ impl MapIndex {
 
     /// The record of a map uid.
     fn find(&self, uid: MapUid) -> Option<&Record>
-        ensures { option_map record_held (option_copied result) ≡ record_at self.now.meaning uid.0 }
+        ensures { option_map meant_record (option_copied result) ≡ record_at self.now.meaning uid.0 }
     {
-        with_uid(&self.records, uid)
+        self.records.find(uid)
     }
 
     /// The record of a GUID.
     fn find_guid(&self, guid: Guid) -> Option<&Record>
-        ensures { option_map record_held (option_copied result) ≡ record_of self.now.meaning guid.0 }
+        ensures { option_map meant_record (option_copied result) ≡ record_of self.now.meaning guid.0 }
     {
-        with_guid(&self.records, guid)
+        self.records.find_guid(guid)
     }
 
     /// The mailbox of a number.
@@ -159,7 +160,7 @@ impl MapIndex {
     pub fn rows(&self) -> u32
         ensures { result ≡ length self.now.meaning.records }
     {
-        self.records.len() as u32
+        self.records.length() as u32
     }
 
     /// The place of the record of a map uid, in order of map uid, from 0. None if and only if there is none.
@@ -167,12 +168,8 @@ impl MapIndex {
         ensures place { result ≡ place_of_record self.now.meaning uid.0 }
         ensures there { option_map_or (λ place. slice_get self.now.meaning.records place) result None ≡ record_at self.now.meaning uid.0 }
     {
-        let place = place_with_uid(&self.records, uid);
-        if place < self.records.len() {
-            Some(place as u32)
-        } else {
-            None
-        }
+        let place = self.records.place_of(uid)?;
+        Some(place as u32)
     }
 
     /// The instances of the message of the record at a place, in order of map uid, from 0. None exactly past the end.
@@ -180,7 +177,7 @@ impl MapIndex {
         ensures { option_copied result ≡ option_map (λ r. r.instances) (slice_get self.now.meaning.records place) }
     {
         self.records
-            .get(place as usize)
+            .at(place as usize)
             .map(|record| &record.instances)
     }
 
@@ -188,14 +185,16 @@ impl MapIndex {
     pub fn row_at(&self, place: u32) -> Option<MapRow>
         ensures { result ≡ option_map shown_record (slice_get self.now.meaning.records place) }
     {
-        self.records.get(place as usize).map(|record| record.row)
+        self.records.at(place as usize).map(|record| record.row)
     }
 
     /// The record of this file with the least offset that is at least `from`. None if and only if there is none.
     pub fn in_file(&self, file: FileNo, from: u32) -> Option<MapRow>
         ensures { result ≡ option_map shown_record (record_from self.now.meaning file.0 from) }
     {
-        first_in_file(&self.records, file, from)
+        self.records
+            .first_in_file(file, from)
+            .map(|record| record.row)
     }
 
     /// The record of this file whose region ends last. None if and only if there is none.
@@ -204,7 +203,13 @@ impl MapIndex {
         ensures end { option_map_or (λ row. row.offset + row.size) result 0 ≡ greatest (region_end file.0) self.now.meaning.records }
         ensures some { is_some result ≡ list_any (λ row. row.file == file.0) self.now.meaning.records }
     {
-        last_in_file(&self.records, file)
+        self.last_row(file)
+    }
+
+    fn last_row(&self, file: FileNo) -> Option<MapRow>
+        ensures { result ≡ option_map shown_record (last_record self.now.meaning file.0) }
+    {
+        self.records.last_in_file(file).map(|record| record.row)
     }
 
     /// How many mailboxes there are.
@@ -253,14 +258,14 @@ impl MapIndex {
     pub fn is_instance_named(&self, id: InstId) -> bool
         ensures { result ≡ is_instance_named self.now.meaning id.0 }
     {
-        names_instance(&self.records, id)
+        self.records.is_instance_named(id)
     }
 
     /// Whether a record names the instance of this hash and id.
     pub fn names_file(&self, hash: Hash, id: InstId) -> bool
         ensures { result ≡ names_file self.now.meaning hash.0 id.0 }
     {
-        names_file(&self.records, hash, id)
+        self.records.names_file(hash, id)
     }
 
     /// How much can be taken in without memory.
@@ -276,7 +281,7 @@ impl MapIndex {
         ensures err { OnErr result (self.new ≡ self.old) }
     {
         let room = larger_room(self.room, wanted);
-        self.records.reserve(room.records)?;
+        self.records.reserve(room.records, room.instances)?;
         self.boxes.reserve(room.boxes)?;
         self.files.reserve(room.files)?;
         self.room = room;

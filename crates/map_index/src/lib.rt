@@ -2,15 +2,15 @@
 #![tactic(auto)]
 
 pub use index::MapIndex;
+pub use map_rows::MapRow;
 pub use room::MapRoom;
-pub use rows::{BoxAt, MapRow};
+pub use rows::BoxAt;
 
 mod changes;
-mod counts;
 mod fitting;
 mod index;
+mod listed;
 mod named;
 mod numbers;
-mod purged;
 mod room;
 mod rows;

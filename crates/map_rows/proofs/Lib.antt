@@ -1,2 +1,12 @@
+pub mod BestLemmas
+pub mod DerivedListLemmas
+pub mod EditLemmas
+pub mod KeyLemmas
+pub mod LookupLemmas
 pub mod MemberLemmas
+pub mod NameLemmas
+pub mod NearLemmas
 pub mod OrderLemmas
+pub mod RegionLemmas
+pub mod SearchLemmas
+pub mod TableLemmas

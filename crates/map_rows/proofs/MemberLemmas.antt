@@ -5,16 +5,7 @@ use Rattle.std.proofs.lemmas.Bool.Decides.{nat_tests}
 use Rattle.std.proofs.lemmas.List.Elements.{All-head, All-tail, All-weaker}
 use Rattle.model_octets.proofs.PairLemmas.{pairs_head, pairs_tail, found_holds}
 use Rattle.map_rows.specs.declared.order.OrderKey.{OrderKey}
-use Rattle.map_rows.specs.Orders.{NumbersRise, with_key, without_number}
-
--- how many items pass
-abbrev pub times : {X : Type 0} → (X → Bool) → List X → ℕ
-times p [] = 0
-times p (x ∷ xs) = cond (p x) (1 + times p xs) (times p xs)
-
--- the keys of the order are those of the rows
-abbrev pub AreKeysOf : {R : Type 0} → (R → OrderKey) → List OrderKey → List R → Type 0
-AreKeysOf key keys rows = (p : OrderKey → Bool) → times p keys ≡ times (λ r. p (key r)) rows
+use Rattle.map_rows.specs.Orders.{NumbersRise, with_key, without_number, times, AreKeysOf}
 
 -- ---- counts and searches
 
@@ -68,7 +59,7 @@ pub found_by : {X : Type 0} → (p q : X → Bool) (xs : List X) (x : X) → tim
 found_by p q [] x n e h = e
 found_by p q (y ∷ ys) x n e h = by_step p q y x ys (p y) (q y) refl refl h (λ f. some_counted p q ys x f h) (λ m f. found_by p q ys x m f h) n e
 
-abbrev one : Bool → ℕ
+abbrev pub one : Bool → ℕ
 one b = cond b 1 0
 
 all_step : {X : Type 0} → (q s : X → Bool) (y : X) (ys : List X) (c d : Bool) → (times q ys ≡ 0 → times (λ z. not (q z) && s z) ys ≡ times s ys) → cond c (1 + times q ys) (times q ys) ≡ 0 → cond (not c && d) (1 + times (λ z. not (q z) && s z) ys) (times (λ z. not (q z) && s z) ys) ≡ cond d (1 + times s ys) (times s ys)
@@ -110,7 +101,7 @@ without_one p q s (y ∷ ys) x n e h = one_step p q s y x ys (p y) (q y) (s y) r
 unequal : (a b : ℕ) → a < b → (b == a) ≡ false
 unequal a b h = grind (arith, nat_tests, h)
 
-equal_is : (a b : ℕ) → (a == b) ≡ true → a ≡ b
+pub equal_is : (a b : ℕ) → (a == b) ≡ true → a ≡ b
 equal_is a b h = grind (arith, nat_tests, h)
 
 none_above : (n : ℕ) (keys : List OrderKey) → All (λ k. n < k.number) keys → times (λ k. k.number == n) keys ≡ 0
@@ -131,11 +122,11 @@ rise_once n (k ∷ keys) rise = once_step n k keys (k.number == n) refl (pairs_h
 
 -- ---- look-ups
 
-both : (a b : Bool) → (a && b) ≡ true → (a ≡ true) × (b ≡ true)
+pub both : (a b : Bool) → (a && b) ≡ true → (a ≡ true) × (b ≡ true)
 both true b e = (refl, e)
 both false b e = absurd (yes_no (sym e))
 
-same_number : (n : ℕ) → (n == n) ≡ true
+pub same_number : (n : ℕ) → (n == n) ≡ true
 same_number n = grind (arith, nat_tests)
 
 -- the row of the key that a search found is that of the number
@@ -162,7 +153,7 @@ key_missing key keys rows n are e = none_counted (λ (x : OrderKey). x.number ==
 
 -- ---- changes
 
-count_append : {X : Type 0} → (p : X → Bool) (xs ys : List X) → times p (xs ++ ys) ≡ times p xs + times p ys
+pub count_append : {X : Type 0} → (p : X → Bool) (xs ys : List X) → times p (xs ++ ys) ≡ times p xs + times p ys
 count_append p [] ys = omega arith
 count_append p (x ∷ xs) ys = step (p x) (times p (xs ++ ys)) (times p xs) (times p ys) (count_append p xs ys)
   where
@@ -170,7 +161,7 @@ count_append p (x ∷ xs) ys = step (p x) (times p (xs ++ ys)) (times p xs) (tim
     step true a m n e = omega (arith, e)
     step false a m n e = e
 
-count_filter : {X : Type 0} → (p q : X → Bool) (xs : List X) → times p (filter q xs) ≡ times (λ x. q x && p x) xs
+pub count_filter : {X : Type 0} → (p q : X → Bool) (xs : List X) → times p (filter q xs) ≡ times (λ x. q x && p x) xs
 count_filter p q [] = refl
 count_filter p q (x ∷ xs) = step (q x) (p x) refl (count_filter p q xs)
   where

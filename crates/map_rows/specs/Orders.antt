@@ -1,5 +1,5 @@
 -- Keys in order of their numbers.
-use Rattle.std.specs.Prelude.{◌≡◌, ◌<◌, ◌≤◌, ◌==◌, ◌++◌, ◌∷◌, ℕ, List, length, filter, fold, not, nat_lt, slice_index_or, AllPairs, Option, Some, None}
+use Rattle.std.specs.Prelude.{◌≡◌, ◌+◌, ◌<◌, ◌≤◌, ◌==◌, ◌++◌, [], ◌∷◌, if◌then◌else◌, ℕ, Bool, List, length, filter, fold, not, nat_lt, slice_index_or, AllPairs, Option, Some, None}
 use Rattle.map_rows.specs.declared.order.OrderKey.{OrderKey}
 
 abbrev pub NumbersRise : List OrderKey → Type 0
@@ -32,3 +32,12 @@ with_key key keys = filter (λ k. nat_lt k.number key.number) keys ++ key ∷ fi
 -- without the key of this number
 abbrev pub without_number : ℕ → List OrderKey → List OrderKey
 without_number number keys = filter (λ k. not (k.number == number)) keys
+
+-- how many items pass
+abbrev pub times : {X : Type 0} → (X → Bool) → List X → ℕ
+times p [] = 0
+times p (x ∷ xs) = if p x then 1 + times p xs else times p xs
+
+-- the keys of an order are those of these rows
+abbrev pub AreKeysOf : {R : Type 0} → (R → OrderKey) → List OrderKey → List R → Type 0
+AreKeysOf key keys rows = (p : OrderKey → Bool) → times p keys ≡ times (λ r. p (key r)) rows

@@ -1,6 +1,13 @@
-//! Orders of the map's records, which name each record by its map uid, and the searches in them.
+//! The records of the map: a table of them in order of map uid, orders of them by other numbers, and the searches in both.
 #![tactic(auto)]
 
 pub use order::{Order, OrderKey};
+pub use rows::{MapRow, Record};
+pub use table::Table;
 
+mod edits;
+mod keys;
+mod names;
 mod order;
+mod rows;
+mod table;

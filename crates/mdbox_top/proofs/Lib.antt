@@ -1,5 +1,9 @@
+pub mod AloneLemmas
+pub mod FlagLemmas
 pub mod InitLemmas
 pub mod InputLemmas
 pub mod ListLemmas
+pub mod RequestLemmas
 pub mod RunLemmas
 pub mod ServedLemmas
+pub mod ShownLemmas

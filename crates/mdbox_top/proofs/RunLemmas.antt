@@ -1,7 +1,17 @@
 -- How a run ends, by its command.
-use Rattle.std.specs.Prelude.{◌≡◌, ◌⊎◌, ℕ, List, Option, refl}
-use Rattle.std.proofs.Common.{sym, ◌∙◌, subst, inl, inr, arith}
-use Rattle.disk_model.specs.Disk.{History, Faults}
+use Rattle.std.specs.Prelude.{◌≡◌, ◌⊎◌, ℕ, List, [], ◌∷◌, Option, Some, None, refl}
+use Rattle.std.proofs.Common.{sym, ◌∙◌, ap, subst, inl, inr, arith}
+use Rattle.disk_model.specs.Disk.{History, Faults, EachImage}
+use Rattle.disk_model.proofs.IdleLemmas.{idle-begins}
+use Rattle.disk_model.proofs.MomentLemmas.{since-begins, each_image-map}
+use Rattle.store_open.proofs.SweptStoreLemmas.{carries-idle}
+use Rattle.mdbox_base.specs.declared.requests.Request.TheVariants as request
+use Rattle.model_lists.specs.Lists.{Lists}
+use Rattle.model_store.specs.Safe.{Safe}
+use Rattle.model_store.specs.Settled.{IsSettledFor}
+use Rattle.model_store.proofs.SettledLemmas.{settled_safe}
+use Rattle.list_machine.specs.Machine.{set_flags}
+use Rattle.request_text.specs.Commands.{NamesMailbox}
 use Rattle.disk_model.specs.declared.name.FileName.{FileName}
 use Rattle.request_text.specs.Outcomes.{status_of, EndsAs}
 use Rattle.request_text.specs.declared.command.Command.{Command}
@@ -10,25 +20,29 @@ use Rattle.request_text.specs.declared.outcome.InputRefusal.{InputRefusal}
 use Rattle.request_text.specs.declared.outcome.StoreRefusal.TheVariants as store
 use Rattle.request_text.specs.declared.outcome.Outcome.{Outcome}
 use Rattle.request_text.specs.declared.outcome.Outcome.TheVariants as outcome
-use Rattle.mdbox_top.specs.InputRun.{DumpPrints, DumpRefuses, LogDumpPrints, LogDumpRefuses}
-use Rattle.mdbox_top.specs.Run.{Ends, RunOutcome, HasStatus}
+use Rattle.mdbox_top.specs.InputRun.{DumpPrints, DumpRefuses, LogDumpPrints, LogDumpRefuses, IsOneOf}
+use Rattle.mdbox_top.specs.Run.{Ends, RunOutcome, Moments, Rests, HasStatus, MayHaveFailed}
 use Rattle.mdbox_top.proofs.InputLemmas.{dumps_apart, log_dumps_apart, input_status, shows_status}
 use Rattle.mdbox_top.proofs.InitLemmas.{init_status}
-use Rattle.mdbox_top.proofs.ListLemmas.{list_status, list_used, list_input, list_damage}
+use Rattle.mdbox_top.specs.ListRun.{IsListReply}
+use Rattle.mdbox_top.specs.FlagRun.{IsFlagReply}
+use Rattle.mdbox_top.proofs.RequestLemmas.{request_status, request_used, request_input, request_damage, unasked}
 
 -- a refused input whose text finds no memory
 input_memory : (c : Command) (left h k : Option (List ℕ)) (old new : Option History) (f g : Faults) (why : InputRefusal) → Ends c left h k old new f g (outcome.InputRefused why) → Ends c left h k old new f g outcome.NoMemory
 input_memory command.Dump left h k old new f g why e = inl e.1
 input_memory command.LogDump left h k old new f g why e = inl e.1
 input_memory (command.Init id) left h k old new f g why e = absurd e
-input_memory (command.List name) left h k old new f g why e = absurd (list_input name h k old new f g why e)
+input_memory (command.List name) left h k old new f g why e = absurd (request_input (IsListReply name) (request.List name) h k old new f g why e)
+input_memory (command.Flag name uid flags) left h k old new f g why e = absurd (request_input (IsFlagReply name uid flags) (request.Flag name uid flags) h k old new f g why e)
 input_memory command.Help left h k old new f g why e = absurd e
 input_memory command.Version left h k old new f g why e = absurd e
 
 -- damage whose text finds no memory
 damage_memory : (c : Command) (left h k : Option (List ℕ)) (old new : Option History) (f g : Faults) (name : FileName) (place : ℕ) → Ends c left h k old new f g (outcome.StoreRefused (store.Damaged name place)) → Ends c left h k old new f g outcome.NoMemory
 damage_memory (command.Init id) left h k old new f g name place e = absurd e.1
-damage_memory (command.List box) left h k old new f g name place e = list_damage box h k old new f g (store.Damaged name place) e
+damage_memory (command.List box) left h k old new f g name place e = request_damage (IsListReply box) (request.List box) h k old new f g (store.Damaged name place) e
+damage_memory (command.Flag box uid flags) left h k old new f g name place e = request_damage (IsFlagReply box uid flags) (request.Flag box uid flags) h k old new f g (store.Damaged name place) e
 damage_memory command.Dump left h k old new f g name place e = absurd e
 damage_memory command.LogDump left h k old new f g name place e = absurd e
 damage_memory command.Help left h k old new f g name place e = absurd e
@@ -57,7 +71,8 @@ last_ends c left h k old new f g outcome.WriteFault last y e = subst (Ends c lef
 
 pub has_status : (c : Command) (left h k : Option (List ℕ)) (old new : Option History) (f g : Faults) (o : Outcome) → Ends c left h k old new f g o → HasStatus c left old (status_of o)
 has_status (command.Init id) left h k old new f g o e = λ free. init_status id.0 h k old new o e free
-has_status (command.List name) left h k old new f g o e = λ lists s. list_status name h k old new f g o e lists s
+has_status (command.List name) left h k old new f g o e = λ lists s. request_status (IsListReply name) (request.List name) h k old new f g o e lists s
+has_status (command.Flag name uid flags) left h k old new f g o e = λ lists s. request_status (IsFlagReply name uid flags) (request.Flag name uid flags) h k old new f g o e lists s
 has_status command.Dump left h k old new f g o e = input_status DumpPrints DumpRefuses left h k o dumps_apart e
 has_status command.LogDump left h k old new f g o e = input_status LogDumpPrints LogDumpRefuses left h k o log_dumps_apart e
 has_status command.Help left h k old new f g o e = shows_status _ h k o e
@@ -66,7 +81,8 @@ has_status command.Version left h k old new f g o e = shows_status _ h k o e
 -- no command ends as unknown words
 used : (c : Command) (left h k : Option (List ℕ)) (old new : Option History) (f g : Faults) → Ends c left h k old new f g outcome.Usage → ⊥
 used (command.Init id) left h k old new f g e = e
-used (command.List name) left h k old new f g e = list_used name h k old new f g e
+used (command.List name) left h k old new f g e = request_used (IsListReply name) (request.List name) h k old new f g e
+used (command.Flag name uid flags) left h k old new f g e = request_used (IsFlagReply name uid flags) (request.Flag name uid flags) h k old new f g e
 used command.Dump left h k old new f g e = e
 used command.LogDump left h k old new f g e = e
 used command.Help left h k old new f g e = e
@@ -150,3 +166,47 @@ unwritten o last n y s e =
 -- a run of a command doesn't end with status 2
 pub known_words : (c : Command) (left h k : Option (List ℕ)) (old new : Option History) (f g : Faults) (n : ℕ) (eh : Option (List ℕ)) (ef : ℕ) (ek : Option (List ℕ)) (eg : ℕ) → RunOutcome (Ends c left h k old new f g) n eh ef ek eg → n ≡ 2 → ⊥
 known_words c left h k old new f g n eh ef ek eg r e = used c left h k old new f g (subst (Ends c left h k old new f g) (two r.outcome (sym r.status_is ∙ e)) r.ended)
+
+-- ---- faults of the disk
+
+-- a fault is told as itself
+six_last : (o last : Outcome) → EndsAs o last → status_of o ≡ 6 → status_of last ≡ 6
+six_last o last y e = let d : o ≡ outcome.DiskFault = six o e in ap status_of (subst (λ (x : Outcome). EndsAs x last) d y)
+
+one_last : (o last : Outcome) → EndsAs o last → IsOneOf (5 ∷ 6 ∷ 8 ∷ []) (status_of o) → IsOneOf (5 ∷ 6 ∷ 8 ∷ []) (status_of last)
+one_last o last y e = elim (kept o last y) [
+  | inl same ↦ subst (λ (x : Outcome). IsOneOf (5 ∷ 6 ∷ 8 ∷ []) (status_of x)) (sym same) e
+  | inr none ↦ inl (ap status_of none)
+]
+
+-- so the last end may follow a fault where the first may
+pub fails_last : (c : Command) (o last : Outcome) → EndsAs o last → MayHaveFailed c (status_of o) → MayHaveFailed c (status_of last)
+fails_last (command.Flag name uid flags) o last y e = one_last o last y e
+fails_last other o last y e = six_last o last y e
+
+pub rests_last : (c : Command) (F G : Type 0) (f g : Faults) (old new : Option History) → (F → G) → Rests c F f g old new → Rests c G f g old new
+rests_last (command.List name) F G f g old new h r = λ none. r (λ failed. none (h failed))
+rests_last (command.Flag name uid flags) F G f g old new h r = λ none. r (λ failed. none (h failed))
+rests_last other F G f g old new h r = tt
+
+-- ---- words that name a mailbox, whose name finds no memory
+
+pub named_unasked : (c : Command) → NamesMailbox c → (left h : Option (List ℕ)) (old : Option History) (f g : Faults) → Ends c left h h old old f g outcome.NoMemory
+named_unasked (command.List name) named left h old f g = unasked (IsListReply name) (request.List name) h old f g
+named_unasked (command.Flag name uid flags) named left h old f g = unasked (IsFlagReply name uid flags) (request.Flag name uid flags) h old f g
+named_unasked other named left h old f g = absurd named
+
+-- a settled disk of which no call is made
+still_safe : (lists : Lists) (h : Option History) → IsSettledFor lists h → EachImage (λ _ image. Safe image lists) h h
+still_safe lists None s = absurd s
+still_safe lists (Some h) s = since-begins (λ _ image. Safe image lists) h (λ image is. settled_safe h.now lists image s is)
+
+pub named_still : (c : Command) → NamesMailbox c → (h : Option History) → Moments c h h
+named_still (command.List name) named h = λ lists s. still_safe lists h s
+named_still (command.Flag name uid flags) named h = λ lists s. each_image-map (λ _ image. Safe image lists) (λ _ image. Safe image lists ⊎ Safe image (set_flags name uid.0 flags lists)) h h (λ m image safe. inl safe) (still_safe lists h s)
+named_still other named h = absurd named
+
+pub named_rests : (c : Command) → NamesMailbox c → (failed : Type 0) (f g : Faults) (h : Option History) → Rests c failed f g h h
+named_rests (command.List name) named failed f g h = λ none. (λ lists s. s, carries-idle h h (idle-begins h))
+named_rests (command.Flag name uid flags) named failed f g h = λ none lists s. inl s
+named_rests other named failed f g h = absurd named

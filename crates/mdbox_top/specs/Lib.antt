@@ -1,3 +1,5 @@
+pub mod Alone
+pub mod FlagRun
 pub mod InitRun
 pub mod InputRun
 pub mod ListRun

@@ -1,23 +1,24 @@
 -- What a request alone makes of a store, and how it ends.
-use Rattle.std.specs.Prelude.{◌≡◌, ◌⊎◌, ℕ, List, [], ◌∷◌, Option, Some, None}
+use Rattle.std.specs.Prelude.{◌≡◌, ◌⊎◌, ℕ, List, [], ◌∷◌, is_some, if◌then◌else◌, Option, Some, None}
+use Rattle.std.specs.Option.{option_map_or}
 use Rattle.disk_model.specs.Disk.{told_calls, History, Faults, EachImage, IfTold, IsIdle}
 use Rattle.mdbox_base.specs.Streams.{Appended}
 use Rattle.mdbox_base.specs.declared.entries.BoxEntry.{BoxEntry}
 use Rattle.mdbox_base.specs.declared.entries.Highest.{Highest}
 use Rattle.mdbox_base.specs.declared.entries.MapEntry.{MapEntry}
+use Rattle.mdbox_base.specs.declared.replies.Refusal.{Refusal}
 use Rattle.mdbox_base.specs.declared.replies.Refusal.TheVariants as refusal
 use Rattle.mdbox_base.specs.declared.replies.Reply.{Reply}
 use Rattle.mdbox_base.specs.declared.replies.Reply.TheVariants as reply
 use Rattle.mdbox_base.specs.declared.requests.Request.{Request}
 use Rattle.model_lists.specs.Lists.{Lists}
+use Rattle.model_meaning.specs.BoxMeaning.{BoxMeaning, row_at}
 use Rattle.model_meaning.specs.MapMeaning.{MapMeaning, map_meaning}
 use Rattle.model_meaning.specs.SameMeaning.{MeansSame}
 use Rattle.model_store.specs.Opening.{Opens}
 use Rattle.model_store.specs.Safe.{Safe}
 use Rattle.model_store.specs.Settled.{files_of, IsSettledFor}
 use Rattle.list_machine.specs.Run.{Run}
-use Rattle.mdbox_base.specs.declared.progress.Did.{Did}
-use Rattle.journal.specs.Events.{Around}
 use Rattle.journal.specs.Journal.{JournalStep, Broken, left_by}
 use Rattle.journal.specs.Makes.{IsServed}
 use Rattle.store_open.specs.Making.{IdleUnless}
@@ -31,7 +32,6 @@ use Rattle.request_text.specs.declared.outcome.Outcome.{Outcome}
 use Rattle.request_text.specs.declared.outcome.Outcome.TheVariants as outcome
 use Rattle.mdbox_top.specs.OpeningOutcome.{opening_outcome}
 use Rattle.task_steps.specs.Serves.{IsReached}
-use Rattle.task_steps.specs.Step.{Seen, ShowsSeen, HasComeTo, HasNotBegun, DidEvent}
 
 -- the disk is modelled, and its files are safe for these lists
 abbrev pub AreSafeFor : Lists → Option History → Type 0
@@ -91,8 +91,7 @@ pub record IsReplied (Tells : Option History → Option History → Reply → Ty
 abbrev pub RequestOutcome : (Option History → Option History → Reply → Type 0) → Request → Option (List ℕ) → Option (List ℕ) → Option History → Option History → Faults → Faults → Outcome → Type 0
 RequestOutcome Tells request held later old new began now ended = IsNotOpened held later old new ended ⊎ IsReplied Tells request held later old new began now ended
 
--- What the event of a request alone did that changed nothing, of every run that has come to where the store stands, and of
--- every lists that it shows: it answered this, and ended the request.
-abbrev pub DoesAlone : Request → Reply → Seen → Did → Type 0
-DoesAlone request given seen how = (around after : Around) (run : Run) (lists : Lists) → HasComeTo run seen → ShowsSeen seen lists → HasNotBegun run 0 []
-    → DidEvent around after run 1 0 [] request lists seen seen how (Some given)
+-- Why the message with this UID isn't found, by what the log of its mailbox means: no mailbox has the name, or no message of it
+-- the UID.
+abbrev pub missing_cause : Option BoxMeaning → ℕ → Option Refusal
+missing_cause found uid = option_map_or (λ m. if is_some (row_at m uid) then None else Some refusal.NoMessage) found (Some refusal.NoMailbox)

@@ -4,9 +4,9 @@
 pub use request_text::Status;
 pub use run::{mdbox_alone, mdbox_run};
 
+mod alone;
 mod init;
 mod input_commands;
-mod list;
 mod opening;
 mod run;
 mod show;

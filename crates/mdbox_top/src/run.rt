@@ -7,14 +7,14 @@ ghost use Rattle.request_text.specs.Commands.{IsInRange, Says, SayNothing};
 ghost use Rattle.request_text.specs.Outcomes.{status_of, error_text};
 ghost use Rattle.request_text.specs.declared.command.Command.{Command};
 ghost use Rattle.request_text.specs.declared.outcome.Outcome.TheVariants as outcome;
-ghost use Rattle.mdbox_top.specs.Run.{Ends, RunOutcome, Moments, Rests, HasStatus, reads_input, uses_disk};
+ghost use Rattle.mdbox_top.specs.Run.{Ends, RunOutcome, Moments, Rests, HasStatus, MayHaveFailed, reads_input, uses_disk};
 
+use crate::alone::serve;
 use crate::init::init;
 use crate::input_commands::{dump, logdump};
-use crate::list::list;
 use crate::show::show;
 use disk_model::Disk;
-use mdbox_base::{Sink, Source};
+use mdbox_base::{Request, Sink, Source};
 use request_text::{Command, HELP, Outcome, Status, VERSION, WordsError, read_words, report};
 use std::alloc::Global;
 
@@ -35,7 +35,7 @@ pub fn mdbox_run<D: Disk, I: Source, O: Sink, E: Sink>(
     ensures moments { (command : Command) → Says (map string_bytes words.now) command → Moments command (D.history disk) (D.history result.1) }
 
     // What the disk is at the end, if no change of it failed.
-    ensures rests { (command : Command) → Says (map string_bytes words.now) command → Rests command (result.0.0 ≡ 6) (D.faults disk) (D.faults result.1) (D.history disk) (D.history result.1) }
+    ensures rests { (command : Command) → Says (map string_bytes words.now) command → Rests command (MayHaveFailed command result.0.0) (D.faults disk) (D.faults result.1) (D.history disk) (D.history result.1) }
 
     // No other status than what the input and the disk allow.
     ensures status { (command : Command) → Says (map string_bytes words.now) command → HasStatus command (I.left input.old) (D.history disk) result.0.0 }
@@ -50,11 +50,12 @@ pub fn mdbox_run<D: Disk, I: Source, O: Sink, E: Sink>(
     ensures unread { (command : Command) → Says (map string_bytes words.now) command → reads_input command ≡ false → input.new ≡ input.old }
     ensures untouched { (command : Command) → Says (map string_bytes words.now) command → uses_disk command ≡ false → result.1 ≡ disk }
 
-    // A fault if and only if that object's count of faults changed: none is made up, and none hidden. The counts never fall.
+    // A fault only if that object's count of faults rose, and else it stayed: none is made up, and none hidden but by a
+    // command that changes the store and can't print that it is stopped. The counts never fall.
     ensures disk_fault { AnyFaultCounted (result.0.0 ≡ 6) (D.faults disk) (D.faults result.1) }
     ensures read_fault { result.0.0 ≡ 7 → Rose (I.faults input.old) (I.faults input.new) }
     ensures write_fault { result.0.0 ≡ 8 → Rose (O.faults output.old) (O.faults output.new) }
-    ensures disk_quiet { result.0.0 ≢ 6 → NoFault (D.faults disk) (D.faults result.1) }
+    ensures disk_quiet { (command : Command) → Says (map string_bytes words.now) command → (MayHaveFailed command result.0.0 → ⊥) → NoFault (D.faults disk) (D.faults result.1) }
     ensures read_quiet { result.0.0 ≢ 7 → I.faults input.new ≡ I.faults input.old }
     ensures write_quiet { result.0.0 ≢ 8 → O.faults output.new ≡ O.faults output.old }
     ensures counted { (I.faults input.old ≤ I.faults input.new) × (O.faults output.old ≤ O.faults output.new) × (E.faults errors.old ≤ E.faults errors.new) }
@@ -78,14 +79,14 @@ pub fn mdbox_alone<D: Disk, I: Source, O: Sink, E: Sink>(
     requires range { IsInRange command }
     ensures run { RunOutcome (Ends command (I.left input.old) (O.held output.old) (O.held output.new) (D.history disk) (D.history result.1) (D.faults disk) (D.faults result.1)) result.0.0 (E.held errors.old) (E.faults errors.old) (E.held errors.new) (E.faults errors.new) }
     ensures moments { Moments command (D.history disk) (D.history result.1) }
-    ensures rests { Rests command (result.0.0 ≡ 6) (D.faults disk) (D.faults result.1) (D.history disk) (D.history result.1) }
+    ensures rests { Rests command (MayHaveFailed command result.0.0) (D.faults disk) (D.faults result.1) (D.history disk) (D.history result.1) }
     ensures status { HasStatus command (I.left input.old) (D.history disk) result.0.0 }
     ensures unread { reads_input command ≡ false → input.new ≡ input.old }
     ensures untouched { uses_disk command ≡ false → result.1 ≡ disk }
     ensures disk_fault { AnyFaultCounted (result.0.0 ≡ 6) (D.faults disk) (D.faults result.1) }
     ensures read_fault { result.0.0 ≡ 7 → Rose (I.faults input.old) (I.faults input.new) }
     ensures write_fault { result.0.0 ≡ 8 → Rose (O.faults output.old) (O.faults output.new) }
-    ensures disk_quiet { result.0.0 ≢ 6 → NoFault (D.faults disk) (D.faults result.1) }
+    ensures disk_quiet { (MayHaveFailed command result.0.0 → ⊥) → NoFault (D.faults disk) (D.faults result.1) }
     ensures read_quiet { result.0.0 ≢ 7 → I.faults input.new ≡ I.faults input.old }
     ensures write_quiet { result.0.0 ≢ 8 → O.faults output.new ≡ O.faults output.old }
     ensures counted { (I.faults input.old ≤ I.faults input.new) × (O.faults output.old ≤ O.faults output.new) × (E.faults errors.old ≤ E.faults errors.new) }
@@ -107,18 +108,21 @@ fn perform<D: Disk, I: Source, O: Sink>(
     ensures moments { Moments command (D.history disk) (D.history result.1) }
     ensures unread { reads_input command ≡ false → input.new ≡ input.old }
     ensures untouched { uses_disk command ≡ false → result.1 ≡ disk }
-    ensures rests { Rests command (result.0 ≡ outcome.DiskFault) (D.faults disk) (D.faults result.1) (D.history disk) (D.history result.1) }
+    ensures rests { Rests command (MayHaveFailed command (status_of result.0)) (D.faults disk) (D.faults result.1) (D.history disk) (D.history result.1) }
     ensures disk_fault { AnyFaultCounted (result.0 ≡ outcome.DiskFault) (D.faults disk) (D.faults result.1) }
     ensures read_fault { result.0 ≡ outcome.ReadFault → Rose (I.faults input.old) (I.faults input.new) }
     ensures write_fault { result.0 ≡ outcome.WriteFault → Rose (O.faults output.old) (O.faults output.new) }
-    ensures disk_quiet { result.0 ≢ outcome.DiskFault → NoFault (D.faults disk) (D.faults result.1) }
+    ensures disk_quiet { (MayHaveFailed command (status_of result.0) → ⊥) → NoFault (D.faults disk) (D.faults result.1) }
     ensures read_quiet { result.0 ≢ outcome.ReadFault → I.faults input.new ≡ I.faults input.old }
     ensures write_quiet { result.0 ≢ outcome.WriteFault → O.faults output.new ≡ O.faults output.old }
     ensures counted { (I.faults input.old ≤ I.faults input.new) × (O.faults output.old ≤ O.faults output.new) }
 {
     match command {
         Command::Init { id } => init(alloc, id, disk, output),
-        Command::List { name } => list(alloc, name, disk, output),
+        Command::List { name } => serve(alloc, Request::List { name }, disk, output),
+        Command::Flag { name, uid, flags } => {
+            serve(alloc, Request::Flag { name, uid, flags }, disk, output)
+        }
         Command::Dump => (dump(alloc, input, output), disk),
         Command::LogDump => (logdump(alloc, input, output), disk),
         Command::Help => (show(output, HELP), disk),

@@ -1,14 +1,16 @@
 -- The words of the commands: which command they say.
-use Rattle.std.specs.Prelude.{◌≡◌, ◌≤◌, ◌<◌, ◌+◌, ◌*◌, ℕ, nat_eq, false, List, [], ◌∷◌, length, map, get_or, Ok, Err, Result, MatchResult, IfOk}
-use Rattle.std.proofs.Common.{sym, inl, inr, ◌∙◌, ap, subst, arith, refl}
+use Rattle.std.specs.Prelude.{◌≡◌, ◌≤◌, ◌<◌, ◌^◌, ◌+◌, ◌*◌, ℕ, nat_eq, false, List, [], ◌∷◌, length, map, get_or, codes, Ok, Err, Result, IfOk}
+use Rattle.std.proofs.Common.{sym, inl, inr, ◌∙◌, ap, arith, refl}
 use Rattle.std.proofs.lemmas.Bool.{cases_lt, eqb-false}
+use Rattle.std.proofs.lemmas.Fmt.{decimal_injective}
 use Rattle.std.proofs.lemmas.List.{get_or_past}
-use Rattle.hex.specs.Hex.{IsBytes, encode_lower, decode_of, decode_sized}
-use Rattle.hex.specs.declared.error.FromHexError.{FromHexError}
-use Rattle.hex.proofs.HexLemmas.{decode_of-encode_lower, decode_sized-encode_lower}
-use Rattle.mdbox_base.specs.Words.{IsOctets}
+use Rattle.hex.specs.Hex.{IsBytes, encode_lower, decode_of}
+use Rattle.hex.proofs.HexLemmas.{decode_of-encode_lower}
+use Rattle.mdbox_base.specs.Numbers.{decimal_text}
+use Rattle.mdbox_base.specs.Words.{IsOctets, IsNumber, IsName}
 use Rattle.mdbox_base.specs.declared.ids.StoreId.{StoreId}
-use Rattle.request_text.specs.Commands.{words_of, IsInRange, Says, SaysOnly}
+use Rattle.mdbox_base.specs.declared.ids.Uid.{Uid}
+use Rattle.request_text.specs.Commands.{words_of, IsInRange, Says, SaysOnly, NamesMailbox}
 use Rattle.request_text.specs.declared.command.Command.{Command}
 use Rattle.request_text.specs.declared.command.Command.TheVariants as command
 
@@ -27,6 +29,25 @@ two_words f (w ∷ v ∷ []) first second a b l m p q s t =
     let k : f v ≡ b = ap f (sym q) ∙ t in
     rw (h, k) refl
 two_words f (w ∷ v ∷ u ∷ rest) first second a b l m p q s t = absurd (omega (arith, m))
+
+-- four words
+pub four_words : {S : Type 0} → (f : S → List ℕ) (words : List S) (w0 w1 w2 w3 : S) (a b c d : List ℕ) → 4 ≤ length words → length words < 5 → w0 ≡ get_or words 0 w0 → w1 ≡ get_or words 1 w1 → w2 ≡ get_or words 2 w2 → w3 ≡ get_or words 3 w3
+    → f w0 ≡ a → f w1 ≡ b → f w2 ≡ c → f w3 ≡ d → map f words ≡ a ∷ b ∷ c ∷ d ∷ []
+four_words f [] w0 w1 w2 w3 a b c d l m p q r s t u v w = absurd (omega (arith, l))
+four_words f (x ∷ []) w0 w1 w2 w3 a b c d l m p q r s t u v w = absurd (omega (arith, l))
+four_words f (x ∷ y ∷ []) w0 w1 w2 w3 a b c d l m p q r s t u v w = absurd (omega (arith, l))
+four_words f (x ∷ y ∷ z ∷ []) w0 w1 w2 w3 a b c d l m p q r s t u v w = absurd (omega (arith, l))
+four_words f (x ∷ y ∷ z ∷ o ∷ []) w0 w1 w2 w3 a b c d l m p q r s t u v w =
+    let h : f x ≡ a = ap f (sym p) ∙ t in
+    let i : f y ≡ b = ap f (sym q) ∙ u in
+    let j : f z ≡ c = ap f (sym r) ∙ v in
+    let k : f o ≡ d = ap f (sym s) ∙ w in
+    rw (h, i, j, k) refl
+four_words f (x ∷ y ∷ z ∷ o ∷ n ∷ rest) w0 w1 w2 w3 a b c d l m p q r s t u v w = absurd (omega (arith, m))
+
+-- numbers in decimal
+pub other_decimal : (m n : ℕ) (text : List ℕ) → m < 2 ^ 64 → n < 2 ^ 64 → text ≡ decimal_text m → text ≡ decimal_text n → m ≡ n
+other_decimal m n text hm hn p q = decimal_injective m n hm hn (sym p ∙ q)
 
 -- octets in hexadecimal digits
 octets_are_bytes : (xs : List ℕ) → IsOctets xs → IsBytes xs
@@ -58,9 +79,22 @@ name_same a b e =
     let words : a ∷ [] ≡ b ∷ [] = cc e in
     cc words
 
+flag_same : (a b : List ℕ) (u v : Uid) (f g : ℕ) → IsInRange (command.Flag a u f) → IsInRange (command.Flag b v g) → words_of (command.Flag a u f) ≡ words_of (command.Flag b v g) → command.Flag a u f ≡ command.Flag b v g
+flag_same a b u v f g p q e =
+    let words : a ∷ decimal_text u.0 ∷ decimal_text f ∷ [] ≡ b ∷ decimal_text v.0 ∷ decimal_text g ∷ [] = cc e in
+    let name : a ≡ b = cc words in
+    let numbers : decimal_text u.0 ∷ decimal_text f ∷ [] ≡ decimal_text v.0 ∷ decimal_text g ∷ [] = cc words in
+    let uids : decimal_text u.0 ≡ decimal_text v.0 = cc numbers in
+    let last : decimal_text f ∷ [] ≡ decimal_text g ∷ [] = cc numbers in
+    let bits : decimal_text f ≡ decimal_text g = cc last in
+    let uid : u.0 ≡ v.0 = decimal_injective u.0 v.0 (omega (arith, p.1.high)) (omega (arith, q.1.high)) uids in
+    let flags : f ≡ g = decimal_injective f g (omega (arith, p.2)) (omega (arith, q.2)) bits in
+    ap (λ (n : List ℕ). command.Flag n u f) name ∙ ap (λ (n : ℕ). command.Flag b (record { 0 = n }) f) uid ∙ ap (λ (n : ℕ). command.Flag b v n) flags
+
 same_words : (a b : Command) → IsInRange a → IsInRange b → words_of a ≡ words_of b → a ≡ b
 same_words (command.Init a) (command.Init b) p q e = ap (λ (i : StoreId). command.Init i) (id_same a b p q e)
 same_words (command.List a) (command.List b) p q e = ap (λ (n : List ℕ). command.List n) (name_same a b e)
+same_words (command.Flag a u f) (command.Flag b v g) p q e = flag_same a b u v f g p q e
 same_words command.Dump command.Dump p q e = refl
 same_words command.LogDump command.LogDump p q e = refl
 same_words command.Help command.Help p q e = refl
@@ -75,3 +109,11 @@ says_only words command p = record { says = p; only = λ other q. same_words oth
 pub said_only : {X : Type 0} → (r : Result Command X) (words two : List (List ℕ)) → IfOk r (Says two) → words ≡ two → IfOk r (SaysOnly words)
 said_only (Ok command) words two p e = says_only words command (p.0, e ∙ p.1)
 said_only (Err x) words two p e = tt
+
+-- words that say a command which names a mailbox
+pub said_some : (words some : List (List ℕ)) → ((command : Command) × NamesMailbox command × Says some command) → words ≡ some → (command : Command) × NamesMailbox command × SaysOnly words command
+said_some words some s e = (s.0, s.1, says_only words s.0 (s.2.0, e ∙ s.2.1))
+
+-- words that name a mailbox, a UID and flags
+pub flag_says : (name uid flags : List ℕ) (u : Uid) (f : ℕ) → IsName name → IsNumber u.0 × (uid ≡ decimal_text u.0) → (f ≤ 31) × (flags ≡ decimal_text f) → Says (codes "flag" ∷ name ∷ uid ∷ flags ∷ []) (command.Flag name u f)
+flag_says name uid flags u f n p q = ((n, p.0, q.0), ap (λ (t : List ℕ). codes "flag" ∷ name ∷ t ∷ flags ∷ []) p.1 ∙ ap (λ (t : List ℕ). codes "flag" ∷ name ∷ decimal_text u.0 ∷ t ∷ []) q.1)

@@ -1,23 +1,26 @@
 -- The words of the commands.
-use Rattle.std.specs.Prelude.{◌≡◌, ℕ, List, [], ◌∷◌, length, codes}
+use Rattle.std.specs.Prelude.{◌≡◌, ◌≤◌, ℕ, List, [], ◌∷◌, length, codes}
 use Rattle.hex.specs.Hex.{encode_lower}
-use Rattle.mdbox_base.specs.Words.{IsOctets, IsName}
+use Rattle.mdbox_base.specs.Numbers.{decimal_text}
+use Rattle.mdbox_base.specs.Words.{IsOctets, IsNumber, IsName}
 use Rattle.request_text.specs.declared.command.Command.{Command}
 use Rattle.request_text.specs.declared.command.Command.TheVariants as command
 
--- The words of a command. An id is 16 lower-case hexadecimal digits.
+-- The words of a command. An id is 16 lower-case hexadecimal digits, and numbers are decimal, without leading zeros.
 abbrev pub words_of : Command → List (List ℕ)
 words_of (command.Init id) = codes "init" ∷ encode_lower id.0 ∷ []
 words_of (command.List name) = codes "list" ∷ name ∷ []
+words_of (command.Flag name uid flags) = codes "flag" ∷ name ∷ decimal_text uid.0 ∷ decimal_text flags ∷ []
 words_of command.Dump = codes "dump" ∷ []
 words_of command.LogDump = codes "logdump" ∷ []
 words_of command.Help = codes "--help" ∷ []
 words_of command.Version = codes "--version" ∷ []
 
--- An id has 8 octets, and a name is that of a mailbox.
+-- An id has 8 octets, a name is that of a mailbox, a UID is from 1 to 4,294,967,294, and flags are a sum of bits up to 16.
 abbrev pub IsInRange : Command → Type 0
 IsInRange (command.Init id) = (length id.0 ≡ 8) × IsOctets id.0
 IsInRange (command.List name) = IsName name
+IsInRange (command.Flag name uid flags) = IsName name × IsNumber uid.0 × (flags ≤ 31)
 IsInRange command.Dump = Unit {0}
 IsInRange command.LogDump = Unit {0}
 IsInRange command.Help = Unit {0}
@@ -35,3 +38,9 @@ pub record SaysOnly (words : List (List ℕ)) (command : Command) : Type 0 where
 -- The words say no command.
 abbrev pub SayNothing : List (List ℕ) → Type 0
 SayNothing words = (command : Command) → Says words command → ⊥
+
+-- the command names a mailbox
+abbrev pub NamesMailbox : Command → Type 0
+NamesMailbox (command.List name) = Unit {0}
+NamesMailbox (command.Flag name uid flags) = Unit {0}
+NamesMailbox other = ⊥

@@ -1,5 +1,5 @@
 // The commands of the program.
-use mdbox_base::{Name, StoreId};
+use mdbox_base::{Flags, Name, StoreId, Uid};
 
 /// What the program is asked to do.
 #[derive(Drop)]
@@ -8,6 +8,8 @@ pub enum Command {
     Init { id: StoreId },
     /// Lists the mailbox with this name.
     List { name: Name },
+    /// Sets the flags of the message with this UID in the mailbox with this name.
+    Flag { name: Name, uid: Uid, flags: Flags },
     /// Prints the messages of a storage file.
     Dump,
     /// Prints the entries of a log.
@@ -27,6 +29,9 @@ list BOX    lists a mailbox of the store in the current folder: prints OK and th
             line for each: its UID, its flags (the sum of 1 answered, 2 flagged, 4 deleted, 8 seen, 16 draft),
             its size in octets, the time it was received (Unix seconds) and its GUID; or prints
             NO 10 no mailbox
+flag BOX UID BITS
+            sets the flags of the message with this UID to BITS (0 to 31, a sum as list prints it) and prints OK;
+            or prints NO 10 no mailbox or NO 12 no message
 dump        reads a storage file (m.N) of mdbox from standard input and prints, for each message,
             MESSAGE, its offset and the size of its body, and then its metadata lines, each after two spaces
 logdump     reads a log of mdbox from standard input and prints LOG, its kind (R, M or B), its number and its

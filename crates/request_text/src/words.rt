@@ -1,12 +1,15 @@
 // The command that words say.
-ghost use Rattle.std.specs.Prelude.{◌∷◌, [], List, ℕ, map, codes, string_bytes, IsErr, IsErrOf, IfOk};
-ghost use Rattle.mdbox_base.specs.Words.{IsName};
-ghost use Rattle.request_text.specs.Commands.{Says, SaysOnly, SayNothing};
-ghost use Rattle.request_text.specs.declared.command.Command.TheVariants as command;
+ghost use Rattle.std.specs.Prelude.{◌≡◌, ◌≢◌, ◌≤◌, ◌∷◌, [], ℕ, map, codes, string_bytes, IsErr, IsErrOf, IfOk, IfSome, IfNone};
+ghost use Rattle.mdbox_base.specs.Numbers.{decimal_text};
+ghost use Rattle.mdbox_base.specs.Words.{IsName, IsNumber};
+ghost use Rattle.request_text.specs.Commands.{Says, SaysOnly, SayNothing, NamesMailbox};
+ghost use Rattle.request_text.specs.declared.command.Command.{Command};
 ghost use Rattle.request_text.specs.declared.words.WordsError.TheVariants as words_error;
 
 use crate::command::Command;
-use mdbox_base::{NoMemory, StoreId, name_of, read_lower_hex};
+use mdbox_base::{
+    Flags, Name, NoMemory, StoreId, Uid, flags_of, is_number, name_of, read_decimal, read_lower_hex,
+};
 use std::alloc::Global;
 
 /// Why no command was read.
@@ -17,15 +20,22 @@ pub enum WordsError {
     NoMemory,
 }
 
-/// The command that these words say. Only a listing takes memory, for its name.
+/// The command that these words say. Only one that names a mailbox takes memory, for the name.
 pub fn read_words(alloc: Global, words: &[String]) -> Result<Command, WordsError>
     ensures says { IfOk result (SaysOnly (map string_bytes words.now)) }
     ensures usage { IsErrOf result words_error.Usage → SayNothing (map string_bytes words.now) }
-    ensures memory { IsErrOf result words_error.NoMemory → (name : List ℕ) × SaysOnly (map string_bytes words.now) (command.List name) }
+    ensures memory { IsErrOf result words_error.NoMemory → (command : Command) × NamesMailbox command × SaysOnly (map string_bytes words.now) command }
 {
     match words {
         [word] => read_one(word.as_str()),
         [verb, word] => read_two(alloc, verb.as_str(), word.as_bytes()),
+        [verb, name, uid, flags] => read_four(
+            alloc,
+            verb.as_str(),
+            name.as_bytes(),
+            uid.as_bytes(),
+            flags.as_bytes(),
+        ),
         _ => Err(WordsError::Usage),
     }
 }
@@ -49,7 +59,7 @@ fn read_one(word: &str) -> Result<Command, WordsError>
 fn read_two(alloc: Global, verb: &str, word: &[u8]) -> Result<Command, WordsError>
     ensures says { IfOk result (Says (verb.now ∷ word.now ∷ [])) }
     ensures usage { IsErrOf result words_error.Usage → SayNothing (verb.now ∷ word.now ∷ []) }
-    ensures memory { IsErrOf result words_error.NoMemory → (name : List ℕ) × Says (verb.now ∷ word.now ∷ []) (command.List name) }
+    ensures memory { IsErrOf result words_error.NoMemory → (command : Command) × NamesMailbox command × Says (verb.now ∷ word.now ∷ []) command }
 {
     match verb {
         "init" => read_init(word),
@@ -76,8 +86,70 @@ fn read_list(alloc: Global, word: &[u8]) -> Result<Command, WordsError>
     ensures usage { IsErrOf result words_error.Usage → SayNothing (codes "list" ∷ word.now ∷ []) }
     ensures memory { IsErrOf result words_error.NoMemory → IsName word.now }
 {
+    let name = read_name(alloc, word)?;
+    Ok(Command::List { name })
+}
+
+/// The command that four words say.
+fn read_four(
+    alloc: Global,
+    verb: &str,
+    name: &[u8],
+    uid: &[u8],
+    flags: &[u8],
+) -> Result<Command, WordsError>
+    ensures says { IfOk result (Says (verb.now ∷ name.now ∷ uid.now ∷ flags.now ∷ [])) }
+    ensures usage { IsErrOf result words_error.Usage → SayNothing (verb.now ∷ name.now ∷ uid.now ∷ flags.now ∷ []) }
+    ensures memory { IsErrOf result words_error.NoMemory → (command : Command) × NamesMailbox command × Says (verb.now ∷ name.now ∷ uid.now ∷ flags.now ∷ []) command }
+{
+    match verb {
+        "flag" => read_flag(alloc, name, uid, flags),
+        _ => Err(WordsError::Usage),
+    }
+}
+
+/// The setting of flags of the message with this UID in the mailbox with this name. The name is read last, since it takes memory.
+fn read_flag(alloc: Global, name: &[u8], uid: &[u8], flags: &[u8]) -> Result<Command, WordsError>
+    ensures says { IfOk result (Says (codes "flag" ∷ name.now ∷ uid.now ∷ flags.now ∷ [])) }
+    ensures usage { IsErrOf result words_error.Usage → SayNothing (codes "flag" ∷ name.now ∷ uid.now ∷ flags.now ∷ []) }
+    ensures memory { IsErrOf result words_error.NoMemory → (command : Command) × NamesMailbox command × Says (codes "flag" ∷ name.now ∷ uid.now ∷ flags.now ∷ []) command }
+{
+    let Some(uid) = read_uid(uid) else {
+        return Err(WordsError::Usage);
+    };
+    let Some(flags) = read_flags(flags) else {
+        return Err(WordsError::Usage);
+    };
+    let name = read_name(alloc, name)?;
+    Ok(Command::Flag { name, uid, flags })
+}
+
+/// The UID that this word names, from 1 to 4,294,967,294.
+fn read_uid(word: &[u8]) -> Option<Uid>
+    ensures some { IfSome result (λ uid. IsNumber uid.0 × (word.now ≡ decimal_text uid.0)) }
+    ensures none { IfNone result ((uid : ℕ) → IsNumber uid → word.now ≢ decimal_text uid) }
+{
+    let number = u32::try_from(read_decimal(word)?).ok()?;
+    is_number(number).then_some(Uid(number))
+}
+
+/// The flags whose bits this word names, 0 to 31.
+fn read_flags(word: &[u8]) -> Option<Flags>
+    ensures some { IfSome result (λ flags. (flags ≤ 31) × (word.now ≡ decimal_text flags)) }
+    ensures none { IfNone result ((flags : ℕ) → flags ≤ 31 → word.now ≢ decimal_text flags) }
+{
+    let bits = u8::try_from(read_decimal(word)?).ok()?;
+    flags_of(bits)
+}
+
+/// The name of a mailbox.
+fn read_name(alloc: Global, word: &[u8]) -> Result<Name, WordsError>
+    ensures says { IfOk result (λ name. (name ≡ word.now) × IsName word.now) }
+    ensures usage { IsErrOf result words_error.Usage → IsName word.now → ⊥ }
+    ensures memory { IsErrOf result words_error.NoMemory → IsName word.now }
+{
     match name_of(alloc, word) {
-        Ok(Some(name)) => Ok(Command::List { name }),
+        Ok(Some(name)) => Ok(name),
         Ok(None) => Err(WordsError::Usage),
         Err(NoMemory) => Err(WordsError::NoMemory),
     }

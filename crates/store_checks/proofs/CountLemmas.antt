@@ -13,8 +13,7 @@ use Rattle.model_meaning.specs.BoxMeaning.{LogRow}
 use Rattle.model_meaning.specs.MapMeaning.{MapRecord, MapMeaning, record_at}
 use Rattle.box_index.specs.Row.{row_of}
 use Rattle.box_index.specs.declared.index.BoxRow.{BoxRow}
-use Rattle.map_index.specs.Shown.{shown_record, place_of_record}
-use Rattle.map_index.specs.declared.rows.MapRow.{MapRow}
+use Rattle.map_index.specs.Shown.{MapRow, shown_record, place_of_record}
 use Rattle.store_checks.specs.declared.mailbox.CheckedBox.{CheckedBox}
 use Rattle.store_checks.specs.Checked.{listed_by, listed_in, once, IsCountedIn, AreTakenOff, IsUsedUp}
 use Rattle.store_checks.proofs.WalkLemmas.{behind, map_next, contained, place_in}

@@ -12,8 +12,7 @@ use Rattle.std.specs.Prelude.{IsSome}
 use Rattle.std.proofs.lemmas.List.{map-append}
 use Rattle.mdbox_base.specs.declared.entries.InstRow.{InstRow}
 use Rattle.model_meaning.specs.MapMeaning.{MapRecord, MapMeaning}
-use Rattle.map_index.specs.Shown.{shown_record}
-use Rattle.map_index.specs.declared.rows.MapRow.{MapRow}
+use Rattle.map_index.specs.Shown.{MapRow, shown_record}
 use Rattle.store_checks.specs.declared.regions.Region.{Region}
 use Rattle.store_checks.specs.Lengths.{region_of, IsNoLater, instance_of, IsNamedNoLater}
 use Rattle.store_checks.proofs.WalkLemmas.{behind, map_next, take_next, there_seen}

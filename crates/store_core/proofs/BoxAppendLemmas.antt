@@ -33,6 +33,7 @@ use Rattle.store_core.specs.Value.{StoreValue, indexes_of, list_numbered}
 use Rattle.store_core.specs.Running.{AreBoxLogs, ReadBoxLogs, IsRunning, CoverDues, IsStore}
 use Rattle.store_core.specs.declared.store.OpenBox.{OpenBox}
 use Rattle.store_core.proofs.DueLemmas.{dues_each, covered_by, store_counts}
+use Rattle.store_core.proofs.MailChangeLemmas.{known_beside, stay_beside}
 use Rattle.store_core.proofs.DueChangeLemmas.{dues_are}
 use Rattle.store_core.proofs.PickingLemmas.{Picked, pick, box_logs_set, indexes_set, indexes_kept, reads_other, reads_set}
 
@@ -104,7 +105,7 @@ disk_more a b texts text old new name head r q =
     more_log (reading (old a.name)) (reading (new a.name)) a.head texts text (is_log a texts old r)
     (subst (λ (n : FileName). IsLogFile (reading (new n)) a.head (texts ++ text ∷ [])) name (subst (λ (h : LogHead). IsLogFile (reading (new b.name)) h (texts ++ text ∷ [])) head after))
 
-root_stays : (log : FileName) (id : List ℕ) (generation : ℕ) (old new : Option History) → SameButFor log old new → file.Root ≢ log → IfTold old (λ now. HasRoot (files_of now) id generation) → IfTold new (λ now. HasRoot (files_of now) id generation)
+pub root_stays : (log : FileName) (id : List ℕ) (generation : ℕ) (old new : Option History) → SameButFor log old new → file.Root ≢ log → IfTold old (λ now. HasRoot (files_of now) id generation) → IfTold new (λ now. HasRoot (files_of now) id generation)
 root_stays log id generation None new same apart h = subst (λ (o : Option History). IfTold o (λ now. HasRoot (files_of now) id generation)) (sym same) tt
 root_stays log id generation (Some old) None same apart h = absurd same
 root_stays log id generation (Some old) (Some new) same apart h =
@@ -225,6 +226,8 @@ more_at old new v disk k d x number e ds p same index others added dues =
     let more = store_more v.map.store s.entries s.logs s.generation v.map_log v.boxes k d x e p.below by p.in_range fits made counts same index in
     let ran = runs_more old new v.map.store s.entries s.logs s.generation v.root_log v.map_log v.boxes k d x e p.below by runs s.root_name p.in_range fits made same others added counts in
     let cover = covered old v number b.index.meaning e ds s p.at p.fits p.held dues in
+    let q : Picked old v.map.store n.boxes s.logs b = own_box old v k b number e p in
+    let no_mail : (mail : ℕ) → file.Mail mail ≢ b.log.name = λ mail w. absurd (let x : file.Mail mail ≡ file.Box q.box.number q.box.generation = w ∙ q.name in cc x) in
     record {
       entries = s.entries;
       logs = logs_by b.number.0 e n.boxes s.logs;
@@ -234,6 +237,7 @@ more_at old new v disk k d x number e ds p same index others added dues =
       boxes_are = more.boxes_are;
       counts = subst (λ (j : ℕ). CoverDues (logs_by j e n.boxes s.logs) v.map.records ds) (sym p.number_is) cover;
       drawn = s.drawn;
+      files = s.files;
       root_name = s.root_name;
       root_head = s.root_head;
       map_name = s.map_name;
@@ -241,7 +245,16 @@ more_at old new v disk k d x number e ds p same index others added dues =
       box_logs = subst (λ (q : MapMeaning). AreBoxLogs v.map.store q.boxes (slice_set v.boxes k x)) (sym s.map_is) more.box_logs;
       some_lanes = s.some_lanes;
       few_lanes = s.few_lanes;
-      running = λ runs. record { opens = ran.opens; root = ran.root; root_entries = ran.root_entries; root_log_reads = ran.root_log_reads; map_log_reads = ran.map_log_reads; box_logs_read = ran.box_logs_read };
+      running = λ runs. record {
+        opens = ran.opens;
+        root = ran.root;
+        root_entries = ran.root_entries;
+        root_log_reads = ran.root_log_reads;
+        map_log_reads = ran.map_log_reads;
+        box_logs_read = ran.box_logs_read;
+        files_known = known_beside b.log.name v.files.files old new no_mail others (s.running p.running).files_known;
+        files_stay = stay_beside b.log.name v.files.files v.map.records old new no_mail others (s.running p.running).files_stay;
+      };
     }
 
 pub store_there : {D : Type 0} → (old new : Option History) (v : StoreValue D) (disk : D) (k : ℕ) (b x : OpenBox) (number : ℕ) (e : BoxEntry) (ds : List ℕ) → (p : Placed old v k b number e) → IsSameBox b x → x.index.meaning ≡ box_applied e b.index.meaning
@@ -264,6 +277,7 @@ stopped_there old new v disk k b x number e p same index =
       boxes_are = indexes_kept k p.default x v.boxes (index ∙ ap (λ (y : OpenBox). y.index.meaning) p.here) ∙ s.boxes_are;
       counts = s.counts;
       drawn = s.drawn;
+      files = s.files;
       root_name = s.root_name;
       root_head = s.root_head;
       map_name = s.map_name;

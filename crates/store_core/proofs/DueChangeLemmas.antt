@@ -90,6 +90,18 @@ each_changed k f (r ∷ rs) (n ∷ ns) each = by_test (r.uid == k) (each_changed
     by_test true rest = each
     by_test false rest = rest
 
+length_changed : (k : ℕ) (f : ℕ → ℕ) (rows : List MapRecord) (ns : List ℕ) → length (change_beside k f rows ns) ≡ length ns
+length_changed k f [] ns = refl
+length_changed k f (r ∷ rs) [] = refl
+length_changed k f (r ∷ rs) (n ∷ ns) = by_test (r.uid == k) (length_changed k f rs ns)
+  where
+    by_test : (t : Bool) → length (change_beside k f rs ns) ≡ length ns → length (cond t (f n ∷ ns) (n ∷ change_beside k f rs ns)) ≡ length (n ∷ ns)
+    by_test true rest = refl
+    by_test false rest = ap suc rest
+
+pub length_after : (k : ℕ) (f : ℕ → ℕ) (rows : List MapRecord) (ns ms : List ℕ) → ms ≡ change_beside k f rows ns → length ns ≡ length rows → length ms ≡ length rows
+length_after k f rows ns ms is size = ap length is ∙ length_changed k f rows ns ∙ size
+
 pub as_many : (rows : List MapRecord) (ns : List ℕ) → OneEach rows ns → length ns ≡ length rows
 as_many [] [] each = refl
 as_many [] (n ∷ ns) each = absurd each
@@ -98,31 +110,31 @@ as_many (r ∷ rs) (n ∷ ns) each = ap suc (as_many rs ns each)
 
 -- ---- one more, and one less
 
-abbrev raises : ℕ → ℕ → ℕ → ℕ
+abbrev pub raises : ℕ → ℕ → ℕ → ℕ
 raises k uid n = n + (if k == uid then 1 else 0)
 
-abbrev lowers : MapUid → ℕ → ℕ → ℕ
+abbrev pub lowers : MapUid → ℕ → ℕ → ℕ
 lowers k uid n = n - bit (has_map_uid uid (k ∷ []))
 
 add_none : (n : ℕ) → n + 0 ≡ n
 add_none n = omega arith
 
-less_none : (n : ℕ) → n - 0 ≡ n
+pub less_none : (n : ℕ) → n - 0 ≡ n
 less_none n = omega arith
 
-is_raise : (k : ℕ) → IsOf k (λ n. n + 1) (raises k)
+pub is_raise : (k : ℕ) → IsOf k (λ n. n + 1) (raises k)
 is_raise k = record {
   own = λ n. ap (λ (t : Bool). n + (if t then 1 else 0)) (eq-eqb k k refl);
   other = λ uid n apart. ap (λ (t : Bool). n + (if t then 1 else 0)) (ne_eqb k uid apart) ∙ add_none n;
 }
 
-is_lower : (k : MapUid) → IsOf k.0 (λ n. n - 1) (lowers k)
+pub is_lower : (k : MapUid) → IsOf k.0 (λ n. n - 1) (lowers k)
 is_lower k = record {
   own = λ n. ap (λ (t : Bool). n - bit (t || false)) (eq-eqb k.0 k.0 refl);
   other = λ uid n apart. ap (λ (t : Bool). n - bit (t || false)) (ne_eqb k.0 uid apart) ∙ less_none n;
 }
 
-numbers_are : (numbers : ℕ → ℕ) (rows : List MapRecord) (ns : List ℕ) → AreNumbers numbers rows ns → ns ≡ map (λ row. numbers row.uid) rows
+pub numbers_are : (numbers : ℕ → ℕ) (rows : List MapRecord) (ns : List ℕ) → AreNumbers numbers rows ns → ns ≡ map (λ row. numbers row.uid) rows
 numbers_are numbers [] [] a = refl
 numbers_are numbers [] (n ∷ ns) a = absurd a
 numbers_are numbers (r ∷ rs) [] a = absurd a

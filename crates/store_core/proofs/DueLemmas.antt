@@ -1,5 +1,5 @@
 -- Numbers that stand at records, and counts that are made up of what is listed, what is due, and a leak.
-use Rattle.std.proofs.Common.{◌≡◌, ◌==◌, ◌<◌, ◌≤◌, ◌+◌, ◌-◌, ℕ, List, [], ◌∷◌, map, All, Option, Some, None, refl, sym, ◌∙◌, ap, subst, arith}
+use Rattle.std.proofs.Common.{◌≡◌, ◌==◌, ◌<◌, ◌≤◌, ◌+◌, ◌-◌, ℕ, Bool, true, false, cond, find, List, [], ◌∷◌, map, All, Option, Some, None, refl, sym, ◌∙◌, ap, subst, arith}
 use Rattle.std.specs.Prelude.{AllPairs, count_by, sum_by}
 use Rattle.std.proofs.lemmas.Bool.{cond-true, cond-false, ne_eqb, eq-eqb}
 use Rattle.std.proofs.lemmas.List.Elements.{All-head, All-tail, All-cons, All-nil}
@@ -102,6 +102,19 @@ pub counts_seen : {D : Type 0} → (history : Option History) (inside seen : Sto
     → All (IsAccounted (λ uid. due_at uid seen) (λ uid. leak_at uid seen) logs) seen.map.records
 counts_seen history inside seen logs is s rising same =
     store_counts history seen logs (subst (λ (v : StoreValue _). IsStore history v) is s) (subst (λ (v : StoreValue _). AllPairs RecordsRise v.map.records) is rising) same
+
+-- ---- a record of which something is due
+
+pub due_record : (logs : List (List BoxEntry)) (rows : List MapRecord) (dues : List ℕ) (uid : ℕ) → CoverDues logs rows dues → 1 ≤ number_beside uid rows dues → (row : MapRecord) × (find (λ r. r.uid == uid) rows ≡ Some row) × (1 ≤ row.count)
+due_record logs [] [] uid covers some = absurd (omega (arith, some))
+due_record logs [] (d ∷ ds) uid covers some = absurd covers
+due_record logs (r ∷ rs) [] uid covers some = absurd covers
+due_record logs (r ∷ rs) (d ∷ ds) uid covers some = by_test (r.uid == uid) some (λ h. due_record logs rs ds uid covers.1 h)
+  where
+    by_test : (t : Bool) → 1 ≤ cond t d (number_beside uid rs ds) → (1 ≤ number_beside uid rs ds → (row : MapRecord) × (find (λ r. r.uid == uid) rs ≡ Some row) × (1 ≤ row.count))
+        → (row : MapRecord) × (cond t (Some r) (find (λ r. r.uid == uid) rs) ≡ Some row) × (1 ≤ row.count)
+    by_test true h rest = (r, refl, (let c : listed_of logs r.uid + d ≤ r.count = covers.0 in let k : 1 ≤ d = h in omega (arith, c, k)))
+    by_test false h rest = rest h
 
 -- ---- a store of which as much is due, and whose records stay
 

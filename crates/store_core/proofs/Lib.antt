@@ -3,8 +3,16 @@ pub mod BoxCrashLemmas
 pub mod CountingLemmas
 pub mod DueChangeLemmas
 pub mod DueLemmas
+pub mod EntryFileLemmas
+pub mod HighestFileLemmas
+pub mod KeptFileLemmas
 pub mod LookupLemmas
+pub mod MapAppendLemmas
+pub mod MapCrashLemmas
+pub mod MapDueLemmas
+pub mod MailChangeLemmas
 pub mod PickingLemmas
 pub mod PlacingLemmas
 pub mod RoomLemmas
 pub mod ShownLemmas
+pub mod StoreFileLemmas

@@ -13,6 +13,7 @@ use Rattle.model_meaning.specs.BoxMeaning.{BoxMeaning}
 use Rattle.model_meaning.specs.MapMeaning.{MapRecord, MapBox}
 use Rattle.gate_log.specs.State.{LogState}
 use Rattle.gate_log.specs.Log.{IsLogRead, Reads}
+use Rattle.storage_files.specs.Files.{FilesValue}
 use Rattle.store_core.specs.Value.{StoreValue, indexes_of, none_due, entry_room, roomy_log, roomy_box, with_entry_room, newly_open}
 use Rattle.store_core.specs.Running.{AreBoxLogs, ReadBoxLogs, IsStore, HasEntryRoom}
 use Rattle.store_core.specs.declared.store.OpenBox.{OpenBox}
@@ -47,6 +48,7 @@ store_roomy h store s = record {
   boxes_are = indexes_roomy store.boxes ∙ s.boxes_are;
   counts = s.counts;
   drawn = s.drawn;
+  files = s.files;
   root_name = s.root_name;
   root_head = s.root_head;
   map_name = s.map_name;
@@ -61,6 +63,8 @@ store_roomy h store s = record {
     root_log_reads = r.root_log_reads;
     map_log_reads = reads_roomy store.map_log (map map_text s.entries) h r.map_log_reads;
     box_logs_read = read_roomy h store.boxes s.logs r.box_logs_read;
+    files_known = r.files_known;
+    files_stay = r.files_stay;
   };
 }
 
@@ -82,27 +86,28 @@ pub roomy_by : (a b : LogState) (n : ℕ) → n ≡ entry_room → b ≡ record 
 roomy_by a b n is e = e ∙ ap (λ (k : ℕ). record a { room = max a.room k }) is
 
 -- the store that is made of these parts
-abbrev made_of : {D : Type 0} → Global → D → OpenLogs → ℕ → LogState → List OpenBox → Highest → List ℕ → StoreValue D
-made_of alloc disk logs lanes map_log boxes drawn dues = record {
+abbrev made_of : {D : Type 0} → Global → D → OpenLogs → FilesValue → ℕ → LogState → List OpenBox → Highest → List ℕ → StoreValue D
+made_of alloc disk logs files lanes map_log boxes drawn dues = record {
   alloc = alloc;
   disk = disk;
   root_log = logs.root_log;
   map_log = map_log;
   map = logs.map.meaning;
   boxes = boxes;
+  files = files;
   drawn = drawn;
   dues = dues;
   lanes = lanes;
   stopped = false;
 }
 
-pub opened_as : {D : Type 0} → (alloc : Global) (disk : D) (logs : OpenLogs) (lanes : ℕ) (map_log : LogState) (boxes : List OpenBox) (drawn : Highest) (dues : List ℕ) → map_log ≡ roomy_log logs.map_log → boxes ≡ map roomy_box logs.boxes.items
-    → drawn ≡ logs.map.meaning.highest → dues ≡ none_due logs.map.meaning.records → made_of alloc disk logs lanes map_log boxes drawn dues ≡ with_entry_room (newly_open alloc disk logs lanes)
-opened_as alloc disk logs lanes map_log boxes drawn dues a b c d =
-    ap (λ (l : LogState). made_of alloc disk logs lanes l boxes drawn dues) a
-    ∙ ap (λ (bs : List OpenBox). made_of alloc disk logs lanes (roomy_log logs.map_log) bs drawn dues) b
-    ∙ ap (λ (n : Highest). made_of alloc disk logs lanes (roomy_log logs.map_log) (map roomy_box logs.boxes.items) n dues) c
-    ∙ ap (λ (ns : List ℕ). made_of alloc disk logs lanes (roomy_log logs.map_log) (map roomy_box logs.boxes.items) logs.map.meaning.highest ns) d
+pub opened_as : {D : Type 0} → (alloc : Global) (disk : D) (logs : OpenLogs) (files : FilesValue) (lanes : ℕ) (map_log : LogState) (boxes : List OpenBox) (drawn : Highest) (dues : List ℕ) → map_log ≡ roomy_log logs.map_log → boxes ≡ map roomy_box logs.boxes.items
+    → drawn ≡ logs.map.meaning.highest → dues ≡ none_due logs.map.meaning.records → made_of alloc disk logs files lanes map_log boxes drawn dues ≡ with_entry_room (newly_open alloc disk logs files lanes)
+opened_as alloc disk logs files lanes map_log boxes drawn dues a b c d =
+    ap (λ (l : LogState). made_of alloc disk logs files lanes l boxes drawn dues) a
+    ∙ ap (λ (bs : List OpenBox). made_of alloc disk logs files lanes (roomy_log logs.map_log) bs drawn dues) b
+    ∙ ap (λ (n : Highest). made_of alloc disk logs files lanes (roomy_log logs.map_log) (map roomy_box logs.boxes.items) n dues) c
+    ∙ ap (λ (ns : List ℕ). made_of alloc disk logs files lanes (roomy_log logs.map_log) (map roomy_box logs.boxes.items) logs.map.meaning.highest ns) d
 
 pub dues_taken : (rows : List MapRecord) (dues : List ℕ) (n : ℕ) → dues ≡ replicate n 0 → n ≡ length rows → dues ≡ none_due rows
 dues_taken rows dues n is size = is ∙ ap (λ (k : ℕ). replicate k 0) size ∙ sym (nothing_at_all rows)

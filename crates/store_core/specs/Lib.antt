@@ -1,5 +1,6 @@
 pub mod Append
 pub mod Dues
+pub mod MapAppend
 pub mod Files
 pub mod Running
 pub mod Value

@@ -9,7 +9,6 @@ pub use store::{OpenBox, OpenLogs, Store};
 mod append;
 mod due;
 mod error;
-mod files;
 mod laws;
 mod room;
 mod store;

@@ -34,6 +34,9 @@ use std::alloc::Global;
 use std::marker::Model;
 use storage_files::MailFiles;
 
+mod append_map;
+mod files;
+
 /// A mailbox of an open store: its log, and what that means.
 #[derive(Drop)]
 pub struct OpenBox {
@@ -57,18 +60,18 @@ pub struct OpenLogs {
 /// A store that is open. It has its disk until that is asked back.
 pub struct Store<D: Disk> {
     alloc: Global,
-    pub(crate) disk: D,
+    disk: D,
     id: StoreId,
     root_log: GateLog,
     map_log: GateLog,
     map: MapIndex,
     boxes: Vec<OpenBox>,
-    pub(crate) files: MailFiles,
-    pub(crate) drawn: Highest,
+    files: MailFiles,
+    drawn: Highest,
     /// What is due of each record, in the order of the map's records.
     dues: Vec<u32>,
     lanes: u32,
-    pub(crate) stopped: bool,
+    stopped: bool,
 }
 
 impl<D: Disk> Model for Store<D> {

@@ -9,11 +9,33 @@ use test_stores::entries::RAISES_FIRST;
 use test_stores::{MAP_HEAD, log_octets, put_unclean};
 
 /// The words of runs on a disk that is empty at first, with the status, the output and the errors of each.
-const RUNS: [(&[&str], u8, &str, &str); 4] = [
+const RUNS: [(&[&str], u8, &str, &str); 9] = [
     (&["list", "INBOX"], 3, "", "mdbox: no store\n"),
+    (&["flag", "INBOX", "1", "8"], 3, "", "mdbox: no store\n"),
     (&["init", "0011223344556677"], 0, "OK\n", ""),
     (&["list", "INBOX"], 0, "OK 0\n", ""),
+    (&["flag", "INBOX", "1", "8"], 1, "NO 12 no message\n", ""),
+    (&["flag", "A", "1", "8"], 1, "NO 10 no mailbox\n", ""),
+    (&["flag", "INBOX", "1", "32"], 2, "", "mdbox: usage\n"),
+    (&["flag", "INBOX", "0", "1"], 2, "", "mdbox: usage\n"),
     (&["init", "0011223344556677"], 3, "", "mdbox: store whole\n"),
+];
+
+/// The same on a disk whose INBOX has a message.
+const MESSAGE_RUNS: [(&[&str], u8, &str, &str); 3] = [
+    (
+        &["list", "INBOX"],
+        0,
+        "OK 1\n1 0 0 1694498816 00112233445566770000000100000010\n",
+        "",
+    ),
+    (&["flag", "INBOX", "1", "8"], 0, "OK\n", ""),
+    (
+        &["list", "INBOX"],
+        0,
+        "OK 1\n1 8 0 1694498816 00112233445566770000000100000010\n",
+        "",
+    ),
 ];
 
 /// The disk after a run with these words, its status, and whether this is what it printed and said.
@@ -56,12 +78,14 @@ fn a_store_is_made_and_listed(rt: HostRuntime) -> Result<(), Fail> {
 }
 
 #[test]
-fn a_message_is_listed(rt: HostRuntime) -> Result<(), Fail> {
+fn a_message_is_listed_and_flagged(rt: HostRuntime) -> Result<(), Fail> {
     let mut disk = MemDisk::fresh(rt.alloc())?;
     put_unclean(rt.alloc(), &mut disk)?;
-    let printed = "OK 1\n1 0 0 1694498816 00112233445566770000000100000010\n";
-    let (_disk, status, same) = run(rt.alloc(), disk, &["list", "INBOX"], printed, "")?;
-    assert_eq!(rt; (status, same), (0, true));
+    for (words, status, printed, said) in MESSAGE_RUNS {
+        let (left, ran, same) = run(rt.alloc(), disk, words, printed, said)?;
+        assert_eq!(rt; (ran, same), (status, true), "{words:?}");
+        disk = left;
+    }
     Ok(())
 }
 

@@ -7,9 +7,7 @@ ghost use Rattle.model_meaning.specs.MapFits.{MapFits, IsRaised, IsKnown, HasRec
 ghost use Rattle.mdbox_base.specs.Words.{IsNumber};
 
 use super::MapIndex;
-use crate::fitting::{
-    agree_among, agree_with_records, ends, is_free, is_new_guid, is_new_name, is_number, is_raised,
-};
+use crate::fitting::{agree_among, ends, is_new_name, is_number, is_raised};
 use crate::named::rise;
 use mdbox_base::{BoxNo, FileNo, Guid, Highest, InstRow, MapCount, MapEntry, MapUid, Name};
 
@@ -155,7 +153,7 @@ impl MapIndex {
     pub fn is_free(&self, file: u32, offset: u32, size: u32) -> bool
         ensures { IsTrue result ↔ IsFree self.now.meaning file offset size }
     {
-        is_free(&self.records, file, offset, size)
+        self.records.is_free(file, offset, size)
     }
 
     /// Whether no record has had the map uid, and none has the GUID.
@@ -181,7 +179,7 @@ impl MapIndex {
     fn is_new_guid(&self, guid: Guid) -> bool
         ensures { IsTrue result ↔ All (λ row. row.guid ≢ guid.0) self.now.meaning.records }
     {
-        is_new_guid(&self.records, guid)
+        self.records.is_new_guid(guid)
     }
 
     fn is_new_name(&self, name: &Name) -> bool
@@ -194,6 +192,6 @@ impl MapIndex {
     fn agrees(&self, instances: &[InstRow]) -> bool
         ensures { IsTrue result ↔ All (λ row. All (λ i. All (AgreesOn i) row.instances) instances.now) self.now.meaning.records }
     {
-        agree_with_records(&self.records, instances)
+        self.records.agrees(instances)
     }
 }

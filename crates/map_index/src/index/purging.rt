@@ -7,7 +7,7 @@ ghost use Rattle.mdbox_base.specs.Words.{IsNumber};
 
 use super::MapIndex;
 use crate::fitting::{ends, is_number};
-use crate::named::{each_is_named, rise};
+use crate::named::{is_named, rise};
 use mdbox_base::{FileNo, MapPlace, MapUid};
 
 impl MapIndex {
@@ -26,6 +26,8 @@ impl MapIndex {
 
     /// Whether the lists are exactly the file's records, with room for what is moved.
     fn can_empty(&self, file: FileNo, target: u32, moved: &[MapPlace], dropped: &[MapUid]) -> bool
+        requires moved { IsStrictlyIncreasing (map (λ p. p.uid.0) moved.now) }
+        requires dropped { IsStrictlyIncreasing (map (λ u. u.0) dropped.now) }
         ensures { IsTrue result ↔ (All (λ p. IsIn self.now.meaning file.0 p.uid.0) moved.now × All (λ u. IsUnused self.now.meaning file.0 u.0) dropped.now × All (λ row. row.file ≡ file.0 → IsMovedOrDropped moved.now dropped.now row) self.now.meaning.records × FitsTarget self.now.meaning file.0 target moved.now) }
     {
         self.name_records(file, moved, dropped) && self.fits_target(file, target, moved)
@@ -33,6 +35,8 @@ impl MapIndex {
 
     /// Whether the lists are exactly the file's records, and those dropped are unused.
     fn name_records(&self, file: FileNo, moved: &[MapPlace], dropped: &[MapUid]) -> bool
+        requires moved { IsStrictlyIncreasing (map (λ p. p.uid.0) moved.now) }
+        requires dropped { IsStrictlyIncreasing (map (λ u. u.0) dropped.now) }
         ensures { IsTrue result ↔ (All (λ p. IsIn self.now.meaning file.0 p.uid.0) moved.now × All (λ u. IsUnused self.now.meaning file.0 u.0) dropped.now × All (λ row. row.file ≡ file.0 → IsMovedOrDropped moved.now dropped.now row) self.now.meaning.records) }
     {
         self.are_here(file, moved, dropped) && self.each_is_named(file, moved, dropped)
@@ -76,11 +80,21 @@ impl MapIndex {
         }
     }
 
-    /// Whether each record of the file is moved or dropped, and not both.
+    /// Whether each record of the file is moved or dropped, and not both. The file's records are walked in order of offset.
     fn each_is_named(&self, file: FileNo, moved: &[MapPlace], dropped: &[MapUid]) -> bool
+        requires moved { IsStrictlyIncreasing (map (λ p. p.uid.0) moved.now) }
+        requires dropped { IsStrictlyIncreasing (map (λ u. u.0) dropped.now) }
         ensures { IsTrue result ↔ All (λ row. row.file ≡ file.0 → IsMovedOrDropped moved.now dropped.now row) self.now.meaning.records }
     {
-        each_is_named(&self.records, file, moved, dropped)
+        self.records.known_facts();
+        let mut from = 0;
+        while let Some(row) = self.in_file(file, from) {
+            if !is_named(row.uid, moved, dropped) {
+                return false;
+            }
+            from = row.offset + row.size;
+        }
+        true
     }
 
     /// Whether the target is 0 and nothing is moved, or is another file with room for what is moved.
@@ -126,8 +140,29 @@ impl MapIndex {
         }
     }
 
-    /// Whether no two of the moved regions overlap.
+    /// Whether no two of the moved regions overlap. Mostly they follow one another.
     fn are_apart(&self, moved: &[MapPlace]) -> bool
+        ensures { IsTrue result ↔ AllPairs (ArePlacedApart self.now.meaning) moved.now }
+    {
+        self.follow(moved) || self.none_overlap(moved)
+    }
+
+    /// Whether each of the moved regions begins where those before it have ended.
+    fn follow(&self, moved: &[MapPlace]) -> bool
+        ensures { IsTrue result → AllPairs (ArePlacedApart self.now.meaning) moved.now }
+    {
+        let mut end: u64 = 0;
+        for place in moved {
+            if (place.offset as u64) < end {
+                return false;
+            }
+            end = place.offset as u64 + self.size_at(place.uid) as u64;
+        }
+        true
+    }
+
+    /// Whether no two of the moved regions overlap, by looking at each two.
+    fn none_overlap(&self, moved: &[MapPlace]) -> bool
         ensures { IsTrue result ↔ AllPairs (ArePlacedApart self.now.meaning) moved.now }
     {
         let mut rest = moved;

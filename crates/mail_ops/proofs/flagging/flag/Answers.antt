@@ -1,11 +1,14 @@
-use Rattle.std.proofs.Common.{ap, sym, ◌∙◌, Err, [], refl, arith}
+use Rattle.std.proofs.Common.{ap, sym, ◌∙◌, subst, Err, [], refl, arith}
 use Rattle.std.specs.Option.{option_copied, option_map}
 use Rattle.box_index.specs.Row.{row_of}
 use Rattle.box_index.specs.State.{BoxState}
 use Rattle.mdbox_base.specs.declared.replies.Refusal.TheVariants as refusal
-use Rattle.task_steps.proofs.OneEventLemmas.{does_nothing, does_refuse, never_more, when_stopped, not_true, ok_is_none, not_reading}
+use Rattle.model_lists.specs.Lists.{Lists}
+use Rattle.model_store.specs.Settled.{IsSettledFor, Leaves}
+use Rattle.task_steps.proofs.OneEventLemmas.{does_nothing, does_refuse, never_more, when_stopped, not_true, ok_is_none, not_reading, leaves_none}
 use Rattle.mail_ops.specs.Task.{seen_of}
 use Rattle.mail_ops.proofs.FlagEventLemmas.{flag_is_plain, flags_known, brings_none, due_kept, flag_done, flag_broken, none_of, some_of}
+use Rattle.mail_ops.proofs.SettledFlagLemmas.{settled_by, counted_for, not_both}
 use Rattle.mail_ops.proofs.flagging.flag.Goals as goal
 
 pub returns-then-stopped-clause-does : goal.returns-then-stopped-clause-does
@@ -65,3 +68,45 @@ returns-in-Err-Stopped-clause-does g c = λ around after run lane place said lis
       (c.in-Err-Stopped.ensures.stopped.0 (ap Err c.in-Err-Stopped.field-0-is)) (c.in-Err-Stopped.ensures.untaken refl).0 (c.in-Err-Stopped.ensures.fault.rose (ap Err c.in-Err-Stopped.field-0-is)),
   λ e. absurd (never_more _ e),
 )
+
+pub returns-then-stopped-clause-moments : goal.returns-then-stopped-clause-moments
+returns-then-stopped-clause-moments g c = λ lists s. leaves_none _ _ lists s
+
+pub returns-in_default-clause-moments : goal.returns-in_default-clause-moments
+returns-in_default-clause-moments g c = λ lists s. leaves_none _ _ lists s
+
+pub returns-then-is_none-clause-moments : goal.returns-then-is_none-clause-moments
+returns-then-is_none-clause-moments g c = λ lists s. leaves_none _ _ lists s
+
+pub returns-in-Ok-clause-moments : goal.returns-in-Ok-clause-moments
+returns-in-Ok-clause-moments g c = λ lists s.
+    subst (λ (ls : Lists). Leaves lists ls (g.D.Disk.history c.args.store.now.disk) (g.D.Disk.history c.append_box.new.self.disk))
+    (settled_by lists (g.D.Disk.history c.args.store.now.disk) c.args.store.now c.args.name.now c.in-Some-number_of.number.0 c.args.uid c.args.flags c.bits.result c.in-Some.index.now.meaning c.listings_are_shown.ensures.logs c.facts.ensures.store (sym c.stopped.ensures ∙ c.if-stopped.false) (sym c.list_of.ensures ∙ ap (λ o. option_map (λ (i : BoxState). i.meaning) (option_copied o)) c.in-Some.is) c.in-Some-number_of.ensures.some.1 c.bits.ensures.same s)
+    (c.in-Ok.ensures.any_moment lists [] (brings_none c.args.store.now.map c.args.uid c.bits.result [] (g.D.Disk.history c.args.store.now.disk)) s)
+
+pub returns-in-Err-Stopped-clause-moments : goal.returns-in-Err-Stopped-clause-moments
+returns-in-Err-Stopped-clause-moments g c = λ lists s.
+    subst (λ (ls : Lists). Leaves lists ls (g.D.Disk.history c.args.store.now.disk) (g.D.Disk.history c.append_box.new.self.disk))
+    (settled_by lists (g.D.Disk.history c.args.store.now.disk) c.args.store.now c.args.name.now c.in-Some-number_of.number.0 c.args.uid c.args.flags c.bits.result c.in-Some.index.now.meaning c.listings_are_shown.ensures.logs c.facts.ensures.store (sym c.stopped.ensures ∙ c.if-stopped.false) (sym c.list_of.ensures ∙ ap (λ o. option_map (λ (i : BoxState). i.meaning) (option_copied o)) c.in-Some.is) c.in-Some-number_of.ensures.some.1 c.bits.ensures.same s)
+    (c.in-Err-Stopped.ensures.any_moment lists [] (brings_none c.args.store.now.map c.args.uid c.bits.result [] (g.D.Disk.history c.args.store.now.disk)) s)
+
+pub returns-in-Ok-clause-settled : goal.returns-in-Ok-clause-settled
+returns-in-Ok-clause-settled g c = λ runs lists s.
+    subst (λ (ls : Lists). IsSettledFor ls (g.D.Disk.history c.append_box.new.self.disk))
+    (settled_by lists (g.D.Disk.history c.args.store.now.disk) c.args.store.now c.args.name.now c.in-Some-number_of.number.0 c.args.uid c.args.flags c.bits.result c.in-Some.index.now.meaning c.listings_are_shown.ensures.logs c.facts.ensures.store (sym c.stopped.ensures ∙ c.if-stopped.false) (sym c.list_of.ensures ∙ ap (λ o. option_map (λ (i : BoxState). i.meaning) (option_copied o)) c.in-Some.is) c.in-Some-number_of.ensures.some.1 c.bits.ensures.same s)
+    (c.in-Ok.ensures.settled lists [] (brings_none c.args.store.now.map c.args.uid c.bits.result [] (g.D.Disk.history c.args.store.now.disk)) s)
+
+pub returns-in-Err-Stopped-clause-settled : goal.returns-in-Err-Stopped-clause-settled
+returns-in-Err-Stopped-clause-settled g c = λ runs lists s. absurd (not_both _ (c.in-Err-Stopped.ensures.stopped.0 (ap Err c.in-Err-Stopped.field-0-is)) runs)
+
+pub returns-in-Ok-clause-stopped : goal.returns-in-Ok-clause-stopped
+returns-in-Ok-clause-stopped g c = (λ e. absurd (cc e), λ e. absurd (ok_is_none _ (c.in-Ok.ensures.stopped.1 e)))
+
+pub returns-in-Err-Stopped-clause-stopped : goal.returns-in-Err-Stopped-clause-stopped
+returns-in-Err-Stopped-clause-stopped g c = (λ e. c.in-Err-Stopped.ensures.stopped.0 (ap Err c.in-Err-Stopped.field-0-is), λ e. refl)
+
+pub returns-in-Ok-clause-fault : goal.returns-in-Ok-clause-fault
+returns-in-Ok-clause-fault g c = λ runs. counted_for _ _ _ _ (λ e. absurd (cc e)) c.in-Ok.ensures.fault
+
+pub returns-in-Err-Stopped-clause-fault : goal.returns-in-Err-Stopped-clause-fault
+returns-in-Err-Stopped-clause-fault g c = λ runs. counted_for _ _ _ _ (λ e. ap Err c.in-Err-Stopped.field-0-is) c.in-Err-Stopped.ensures.fault

@@ -1,9 +1,15 @@
-use Rattle.std.proofs.Common.{◌∙◌, sym, ap, ◌++◌, ◌∷◌, []}
+use Rattle.std.proofs.Common.{List, ◌++◌, ◌∷◌, [], ◌∙◌, ap}
+use Rattle.std.proofs.lemmas.Iterator.Consumers.{YieldsList-from_first, YieldsList-end}
+use Rattle.box_index.specs.declared.index.BoxRow.{BoxRow}
 use Rattle.mdbox_base.specs.declared.replies.ListRow.{ListRow}
-use Rattle.std.specs.Option.{option_map}
-use Rattle.box_index.specs.Row.{row_of}
-use Rattle.mail_ops.proofs.RowLemmas.{row_more}
+use Rattle.mail_ops.proofs.RowLemmas.{row_more, rows_all}
 use Rattle.mail_ops.proofs.listing.rows_of.Goals as goal
 
-pub loop-place-preserved : goal.loop-place-preserved
-loop-place-preserved c = row_more c.args.index.now.meaning.rows c.loop-place.place c.unwrap.result c.loop-place.rows.items _ (ap (option_map row_of) (sym c.unwrap.ensures) ∙ c.row_at.ensures) c.loop-place.invariant (c.in_ok-push.ensures.items ∙ ap (λ (row : ListRow). c.loop-place.rows.items ++ row ∷ []) c.row_of.ensures)
+pub loop-row-preserved : goal.loop-row-preserved
+loop-row-preserved c = row_more c.loop-row.yielded c.in-Some.row c.loop-row.rows.items _ c.loop-row.invariant (c.in_ok-push.ensures.items ∙ ap (λ (row : ListRow). c.loop-row.rows.items ++ row ∷ []) c.row_of.ensures)
+
+pub returns : goal.returns
+returns c =
+    let all = YieldsList-from_first (λ (x : BoxRow). x) (λ (rows : List BoxRow). rows) {s = c.into_iter-row-iterator.result} c.rows-row-items.result c.into_iter-row-iterator.ensures.into_iter_gives in
+    let end = YieldsList-end all c.loop-row.yielded _ c.loop-row.yielded_by _ _ c.in-None.is c.next.ensures.steps in
+    c.of.ensures ∙ rows_all c.loop-row.yielded c.rows-row-items.result c.args.index.now.meaning.rows c.loop-row.rows.items end.0 c.rows-row-items.ensures c.loop-row.invariant

@@ -1,22 +1,16 @@
-use Rattle.std.proofs.Common.{◌∙◌, sym, arith, not}
-use Rattle.std.specs.Prelude.{nat_le}
-use Rattle.std.proofs.lemmas.List.Sums.{prefix_len-le-length}
-use Rattle.mdbox_base.specs.declared.ids.FileNo.{FileNo}
+use Rattle.std.proofs.Common.{◌∙◌, ap, map, rules}
+use Rattle.std.proofs.lemmas.List.Sorted.{answers_always}
 use Rattle.map_index.proofs.SealedFileLemmas.{added, there}
 use Rattle.map_index.proofs.changes.seal.Goals as goal
 
-pub returns-then-is_at-clause-files : goal.returns-then-is_at-clause-files
-returns-then-is_at-clause-files c =
-    let found = rw (c.place_of-place.ensures, c.deref-2.ensures.value, c.deref.ensures.value) at (sym c.is_at.ensures ∙ c.if-is_at.true) in
-    there c.args.file c.args.files.now.items found
+pub returns-in-Ok-clause-files : goal.returns-in-Ok-clause-files
+returns-in-Ok-clause-files c =
+    let by_key = rw c.deref.ensures.value at (c.in-Err.ensures.position (λ f. f.0) (answers_always _ _ _ (λ f a r g called. search rules))) in
+    let bound = rw c.deref.ensures.value at c.in-Err.ensures.bound in
+    ap (map (λ f. f.0)) c.in-Ok.ensures.items ∙ added c.args.file c.args.files.now.items c.in-Err.place c.requires.rising bound by_key
 
-pub insert-requires : goal.insert-requires
-insert-requires c =
-    let h = c.place_of-place.ensures in
-    let size = c.deref.ensures.len in
-    omega (arith, h, size, prefix_len-le-length (λ (f : FileNo). not (nat_le c.args.file.0 f.0)) c.deref.result.now)
-
-pub returns-clause-files : goal.returns-clause-files
-returns-clause-files c =
-    let gone = rw (c.place_of-place.ensures, c.deref-2.ensures.value, c.deref.ensures.value) at (sym c.is_at.ensures ∙ c.if-is_at.false) in
-    rw (c.in-Ok.ensures.items, c.place_of-place.ensures, c.deref.ensures.value) (added c.args.file c.args.files.now.items gone)
+pub returns-in_default-clause-files : goal.returns-in_default-clause-files
+returns-in_default-clause-files c =
+    let by_key = rw c.deref.ensures.value at (c.in_default.ensures.position (λ f. f.0) (answers_always _ _ _ (λ f a r g called. search rules))) in
+    let bound = rw c.deref.ensures.value at c.in_default.ensures.bound in
+    there c.args.file c.args.files.now.items c.in_default.field-0 c.requires.rising bound by_key

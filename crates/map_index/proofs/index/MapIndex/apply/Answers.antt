@@ -1,7 +1,7 @@
 use Rattle.std.proofs.Common.{◌≡◌, subst, Option}
 use Rattle.std.specs.Prelude.{MatchOption}
 use Rattle.mdbox_base.specs.declared.entries.MapEntry.{MapEntry}
-use Rattle.map_index.specs.Shown.{TakesMemory}
+use Rattle.map_index.specs.Needs.{TakesMemory}
 use Rattle.map_index.proofs.index.MapIndex.apply.Goals as goal
 
 pub returns-in_err-reserve_for-in-Some-clause-adding_only : goal.returns-in_err-reserve_for-in-Some-clause-adding_only

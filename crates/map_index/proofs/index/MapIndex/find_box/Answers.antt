@@ -1,9 +1,17 @@
-use Rattle.std.proofs.Common.{◌==◌, ap}
+use Rattle.std.specs.Prelude.{AllPairs}
+use Rattle.std.proofs.Common.{◌==◌, ◌<◌, List, ap, sym, subst}
 use Rattle.model_meaning.specs.MapMeaning.{MapBox}
+use Rattle.map_index.specs.declared.rows.Mailbox.{Mailbox}
 use Rattle.map_index.specs.Shown.{box_of}
 use Rattle.map_index.specs.Value.{MapIndexValue}
 use Rattle.map_index.proofs.DerivedListLemmas.{found_in}
+use Rattle.map_index.proofs.SearchLemmas.{pairs_unmap}
 use Rattle.map_index.proofs.index.MapIndex.find_box.Goals as goal
+
+pub with_number-requires : goal.with_number-requires
+with_number-requires c =
+    subst (λ (bs : List Mailbox). AllPairs (λ a b. a.at.number.0 < b.at.number.0) bs) (sym c.deref.ensures.value)
+    (pairs_unmap (λ (a b : MapBox). a.number < b.number) box_of c.self.inside.boxes.items c.self.invariant.0.boxes.rising)
 
 pub returns : goal.returns
 returns c =

@@ -3,12 +3,11 @@ use Rattle.std.specs.Str.{bytes_eq}
 use Rattle.std.specs.List.{list_any}
 use Rattle.mdbox_base.specs.declared.entries.InstRow.{InstRow}
 use Rattle.model_meaning.specs.MapMeaning.{MapRecord}
-use Rattle.map_index.specs.Shown.{meant_record}
 use Rattle.map_index.specs.Value.{MapIndexValue}
-use Rattle.map_index.proofs.DerivedListLemmas.{any_in, list_any-flat_map}
+use Rattle.map_index.proofs.DerivedListLemmas.{list_any-flat_map}
 use Rattle.map_index.proofs.index.MapIndex.is_instance_named.Goals as goal
 
 pub returns : goal.returns
 returns c =
-    any_in (λ (row : MapRecord). list_any (λ (i : InstRow). bytes_eq i.id.0 c.args.id.0) row.instances) meant_record _ _ _ _ c.names_instance.ensures c.deref.ensures.value (ap (λ (v : MapIndexValue). v.meaning.records) c.self.view_is)
+    c.is_instance_named.ensures ∙ ap (λ (v : MapIndexValue). list_any (λ (row : MapRecord). list_any (λ (i : InstRow). bytes_eq i.id.0 c.args.id.0) row.instances) v.meaning.records) c.self.view_is
     ∙ sym (list_any-flat_map (λ (i : InstRow). bytes_eq i.id.0 c.args.id.0) (λ (row : MapRecord). row.instances) c.args.self.now.meaning.records)

@@ -1,8 +1,15 @@
-use Rattle.std.proofs.Common.{◌==◌, ap, ℕ}
+use Rattle.std.specs.Prelude.{AllPairs}
+use Rattle.std.proofs.Common.{◌==◌, ◌<◌, List, ap, sym, subst, ℕ}
 use Rattle.mdbox_base.specs.declared.ids.FileNo.{FileNo}
 use Rattle.map_index.specs.Value.{MapIndexValue}
 use Rattle.map_index.proofs.DerivedListLemmas.{any_in}
+use Rattle.map_index.proofs.SearchLemmas.{pairs_unmap}
 use Rattle.map_index.proofs.index.MapIndex.is_sealed.Goals as goal
+
+pub has_file-requires : goal.has_file-requires
+has_file-requires c =
+    subst (λ (fs : List FileNo). AllPairs (λ a b. a.0 < b.0) fs) (sym c.deref.ensures.value)
+    (pairs_unmap (λ (a b : ℕ). a < b) (λ (f : FileNo). f.0) c.self.inside.files.items c.self.invariant.0.files.rising)
 
 pub returns : goal.returns
 returns c =

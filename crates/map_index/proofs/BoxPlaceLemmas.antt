@@ -1,0 +1,76 @@
+-- The mailbox of a number gets another generation at its place.
+use Rattle.std.proofs.Common.{◌≡◌, ◌≢◌, ℕ, zero, suc, ◌<◌, ◌≤◌, ◌==◌, true, false, List, [], ◌∷◌, length, get_or, set, map, All, sym, subst, refl, ◌∙◌, arith}
+use Rattle.std.specs.Prelude.{AllPairs}
+use Rattle.std.specs.List.{position_or_len}
+use Rattle.std.proofs.lemmas.Bool.Decides.{nat_tests}
+use Rattle.std.proofs.lemmas.List.Elements.{All-head, All-tail, All-weaker}
+use Rattle.std.proofs.lemmas.List.Sums.{passes_at_first, fails_before_first}
+use Rattle.model_octets.proofs.PairLemmas.{pairs_head, pairs_tail}
+use Rattle.mdbox_base.specs.declared.ids.BoxNo.{BoxNo}
+use Rattle.mdbox_base.specs.declared.entries.MapEntry.TheVariants as entry
+use Rattle.model_meaning.specs.MapMeaning.{MapBox, box_changed}
+use Rattle.model_meaning.proofs.MapPlaceLemmas.{equal_is}
+use Rattle.map_index.specs.declared.rows.Mailbox.{Mailbox}
+use Rattle.map_index.specs.Shown.{box_of}
+
+abbrev BoxesRise : List Mailbox → Type 0
+BoxesRise boxes = AllPairs (λ a b. a.at.number.0 < b.at.number.0) boxes
+
+abbrev renews : BoxNo → ℕ → MapBox → MapBox
+renews number generation = box_changed (entry.G number generation)
+
+unequal : (a b : ℕ) → a ≢ b → (a == b) ≡ false
+unequal a b h = grind (arith, nat_tests, h)
+
+equal : (a b : ℕ) → a ≡ b → (a == b) ≡ true
+equal a b h = grind (arith, nat_tests, h)
+
+differs : (a b : ℕ) → (a == b) ≡ false → a ≡ b → ⊥
+differs a b h e = grind (arith, nat_tests, h, e)
+
+other_stays : (number : BoxNo) (generation : ℕ) (box : MapBox) → box.number ≢ number.0 → renews number generation box ≡ box
+other_stays number generation box apart = rw (unequal number.0 box.number (λ e. apart (sym e))) refl
+
+it_changes : (number : BoxNo) (generation : ℕ) (box : MapBox) → box.number ≡ number.0 → renews number generation box ≡ record box { generation = generation }
+it_changes number generation box e = rw (equal number.0 box.number (sym e)) refl
+
+others_stay : (number : BoxNo) (generation : ℕ) (boxes : List Mailbox) → All (λ b. b.at.number.0 ≢ number.0) boxes → map (renews number generation) (map box_of boxes) ≡ map box_of boxes
+others_stay number generation [] a = refl
+others_stay number generation (b ∷ boxes) a =
+    let e = other_stays number generation (box_of b) (All-head (λ x. x.at.number.0 ≢ number.0) b boxes a) in
+    let f = others_stay number generation boxes (All-tail (λ x. x.at.number.0 ≢ number.0) b boxes a) in
+    cc (e, f)
+
+-- the mailbox with this generation
+abbrev pub with_generation : BoxNo → ℕ → Mailbox → Mailbox
+with_generation number generation old = record { at = record { number = number; generation = generation }; name = old.name }
+
+head_changes : (number : BoxNo) (generation : ℕ) (b old : Mailbox) → b.at.number.0 ≡ number.0 → old ≡ b → box_of (with_generation number generation old) ≡ renews number generation (box_of b)
+head_changes number generation b old hit same = sym (it_changes number generation (box_of b) hit ∙ cc (hit, same))
+
+one_changes : (number : BoxNo) (generation : ℕ) (boxes : List Mailbox) (place : ℕ) (old : Mailbox) → BoxesRise boxes → place < length boxes → ((d : Mailbox) → (get_or boxes place d).at.number.0 ≡ number.0) → old ≡ get_or boxes place old
+    → map box_of (set boxes place (with_generation number generation old)) ≡ map (renews number generation) (map box_of boxes)
+one_changes number generation [] place old rise within hit is = absurd (omega (arith, within))
+one_changes number generation (b ∷ boxes) zero old rise within hit is =
+    let here : b.at.number.0 ≡ number.0 = hit b in
+    let first = head_changes number generation b old here is in
+    let rest = others_stay number generation boxes (All-weaker (λ x. b.at.number.0 < x.at.number.0) (λ x. x.at.number.0 ≢ number.0) (λ x l e. omega (arith, l, e, here)) boxes (pairs_head (λ x y. x.at.number.0 < y.at.number.0) b boxes rise)) in
+    cc (first, sym rest)
+one_changes number generation (b ∷ boxes) (suc place) old rise within hit is =
+    let there : (get_or boxes place b).at.number.0 ≡ number.0 = hit b in
+    let less : b.at.number.0 < (get_or boxes place b).at.number.0 = rise 0 (suc place) b (omega arith) within in
+    let first = other_stays number generation (box_of b) (λ e. omega (arith, there, less, e)) in
+    let rest = one_changes number generation boxes place old (pairs_tail (λ x y. x.at.number.0 < y.at.number.0) b boxes rise) (omega (arith, within)) (λ d. hit d) is in
+    cc (sym first, rest)
+
+-- at the place that was found
+pub renewed_at : (number : BoxNo) (generation : ℕ) (boxes : List Mailbox) (place : ℕ) (old : Mailbox) → BoxesRise boxes → place ≡ position_or_len (λ (b : Mailbox). b.at.number.0 == number.0) boxes → place < length boxes → old ≡ get_or boxes place old
+    → map box_of (set boxes place (with_generation number generation old)) ≡ map (box_changed (entry.G number generation)) (map box_of boxes)
+renewed_at number generation boxes place old rise e within is =
+    one_changes number generation boxes place old rise within
+    (λ d. equal_is _ number.0 (subst (λ (i : ℕ). ((get_or boxes i d).at.number.0 == number.0) ≡ true) (sym e) (passes_at_first (λ (b : Mailbox). b.at.number.0 == number.0) boxes d (subst (λ (i : ℕ). i < length boxes) e within)))) is
+
+-- where there is none, nothing changes
+pub renewed_nowhere : (number : BoxNo) (generation : ℕ) (boxes : List Mailbox) (place : ℕ) → place ≡ position_or_len (λ (b : Mailbox). b.at.number.0 == number.0) boxes → length boxes ≤ place → map box_of boxes ≡ map (box_changed (entry.G number generation)) (map box_of boxes)
+renewed_nowhere number generation boxes place e past =
+    sym (others_stay number generation boxes (λ k d lt same. differs _ number.0 (fails_before_first (λ (b : Mailbox). b.at.number.0 == number.0) boxes k d (omega (arith, e, past, lt))) same))

@@ -1,0 +1,147 @@
+-- Records that lists name, changed one after another.
+use Rattle.std.proofs.Common.{◌≡◌, ◌≢◌, ◌+◌, ◌-◌, ◌<◌, ◌≤◌, ◌==◌, ◌||◌, ℕ, zero, suc, Bool, true, false, not, cond, List, [], ◌∷◌, length, get_or, map, filter, fold, find, drop, Some, None, All, refl, sym, ◌∙◌, ap, subst, arith, add-one, drop-cons}
+use Rattle.std.specs.Prelude.{if◌then◌else◌, AllPairs}
+use Rattle.std.specs.Option.{option_map_or}
+use Rattle.std.proofs.lemmas.Bool.Decides.{nat_tests}
+use Rattle.std.proofs.lemmas.List.Elements.{All-head, All-tail}
+use Rattle.model_octets.proofs.PairLemmas.{pairs_head, pairs_tail}
+use Rattle.mdbox_base.specs.declared.ids.MapUid.{MapUid}
+use Rattle.mdbox_base.specs.declared.entries.MapCount.{MapCount}
+use Rattle.mdbox_base.specs.declared.entries.MapPlace.{MapPlace}
+use Rattle.mdbox_base.specs.declared.entries.MapEntry.TheVariants as entry
+use Rattle.model_meaning.specs.MapMeaning.{MapRecord, record_changed, has_map_uid, place_given, moved_record}
+use Rattle.model_meaning.proofs.MapPlaceLemmas.{equal_is}
+use Rattle.map_rows.specs.TableKept.{FitsMoved}
+use Rattle.map_rows.specs.TableValue.{TableValue}
+use Rattle.map_index.specs.Needs.{CanMoveEach}
+
+-- ---- one item more
+
+drop_first : {X : Type 0} → (xs : List X) (k : ℕ) (x d : X) → k < length xs → x ≡ get_or xs k d → drop k xs ≡ x ∷ drop (k + 1) xs
+drop_first xs k x d lt e = rw (add-one, e) (drop-cons xs k d lt)
+
+pub from_start : {X : Type 0} → (xs : List X) → drop 0 xs ≡ xs
+from_start [] = refl
+from_start (x ∷ xs) = refl
+
+pub fold_step : {X Y : Type 0} → (F : Y → X → Y) (rows : Y) (xs : List X) (k : ℕ) (x d : X) → k < length xs → x ≡ get_or xs k d → fold F (F rows x) (drop (k + 1) xs) ≡ fold F rows (drop k xs)
+fold_step F rows xs k x d lt e = ap (fold F rows) (sym (drop_first xs k x d lt e))
+
+pub fold_end : {X Y : Type 0} → (F : Y → X → Y) (rows : Y) (xs : List X) (k : ℕ) → length xs ≤ k → fold F rows (drop k xs) ≡ rows
+fold_end F rows [] zero le = refl
+fold_end F rows [] (suc k) le = refl
+fold_end F rows (x ∷ xs) zero le = absurd (omega (arith, le))
+fold_end F rows (x ∷ xs) (suc k) le = fold_end F rows xs k (omega (arith, le))
+
+abbrev table_of : List MapRecord → ℕ → ℕ → TableValue
+table_of rows records instances = record { records = rows; record_room = records; instance_room = instances }
+
+tables_same : (rows others : List MapRecord) (a b c d : ℕ) → rows ≡ others → a ≡ b → c ≡ d → table_of rows a c ≡ table_of others b d
+tables_same rows others a b c d p q r = cc (p, q, r)
+
+-- the table with other records, and room as before
+pub same_table : (t u : TableValue) (rows : List MapRecord) → t.records ≡ rows → t.record_room ≡ u.record_room → t.instance_room ≡ u.instance_room → t ≡ record u { records = rows }
+same_table t u rows p q r = tables_same t.records rows t.record_room u.record_room t.instance_room u.instance_room p q r
+
+unequal : (a b : ℕ) → a ≢ b → (a == b) ≡ false
+unequal a b h = grind (arith, nat_tests, h)
+
+map_twice : (f g h : MapRecord → MapRecord) → ((row : MapRecord) → f (g row) ≡ h row) → (rows : List MapRecord) → map f (map g rows) ≡ map h rows
+map_twice f g h same [] = refl
+map_twice f g h same (row ∷ rows) = let a = same row in let b = map_twice f g h same rows in cc (a, b)
+
+map_same : (f : MapRecord → MapRecord) → ((row : MapRecord) → f row ≡ row) → (rows : List MapRecord) → map f rows ≡ rows
+map_same f same [] = refl
+map_same f same (row ∷ rows) = let a = same row in let b = map_same f same rows in cc (a, b)
+
+-- ---- counts that are lowered
+
+not_in : (uid : MapUid) (uids : List MapUid) (row : MapRecord) → row.uid ≡ uid.0 → All (λ n. uid.0 < n) (map (λ (u : MapUid). u.0) uids) → has_map_uid row.uid uids ≡ false
+not_in uid [] row e a = refl
+not_in uid (v ∷ uids) row e a =
+    let l : uid.0 < v.0 = All-head (λ n. uid.0 < n) v.0 (map (λ (u : MapUid). u.0) uids) a in
+    rw (unequal v.0 row.uid (λ s. omega (arith, s, e, l))) (not_in uid uids row e (All-tail (λ n. uid.0 < n) v.0 (map (λ (u : MapUid). u.0) uids) a))
+
+lower_step : (uid : MapUid) (uids : List MapUid) (row : MapRecord) (hit : Bool) → (uid.0 == row.uid) ≡ hit → All (λ n. uid.0 < n) (map (λ (u : MapUid). u.0) uids)
+    → record_changed (entry.D uids) (if (hit || false) then record row { count = row.count - 1 } else row) ≡ (if (hit || has_map_uid row.uid uids) then record row { count = row.count - 1 } else row)
+lower_step uid uids row true e a = let n : has_map_uid row.uid uids ≡ false = not_in uid uids row (sym (equal_is uid.0 row.uid e)) a in rw n refl
+lower_step uid uids row false e a = refl
+
+pub lowered_each : (uids : List MapUid) (rows : List MapRecord) → AllPairs (λ a b. a < b) (map (λ (u : MapUid). u.0) uids) → fold (λ (rs : List MapRecord) (u : MapUid). map (record_changed (entry.D (u ∷ []))) rs) rows uids ≡ map (record_changed (entry.D uids)) rows
+lowered_each [] rows rise = sym (map_same (record_changed (entry.D [])) (λ row. refl) rows)
+lowered_each (uid ∷ uids) rows rise =
+    lowered_each uids (map (record_changed (entry.D (uid ∷ []))) rows) (pairs_tail (λ a b. a < b) uid.0 (map (λ (u : MapUid). u.0) uids) rise)
+    ∙ map_twice (record_changed (entry.D uids)) (record_changed (entry.D (uid ∷ []))) (record_changed (entry.D (uid ∷ uids))) (λ row. lower_step uid uids row (uid.0 == row.uid) refl (pairs_head (λ a b. a < b) uid.0 (map (λ (u : MapUid). u.0) uids) rise)) rows
+
+-- ---- counts that are set
+
+not_given : (given : MapCount) (counts : List MapCount) (row : MapRecord) → row.uid ≡ given.uid.0 → All (λ n. given.uid.0 < n) (map (λ (c : MapCount). c.uid.0) counts) → find (λ (c : MapCount). c.uid.0 == row.uid) counts ≡ None
+not_given given [] row e a = refl
+not_given given (v ∷ counts) row e a =
+    let l : given.uid.0 < v.uid.0 = All-head (λ n. given.uid.0 < n) v.uid.0 (map (λ (c : MapCount). c.uid.0) counts) a in
+    rw (unequal v.uid.0 row.uid (λ s. omega (arith, s, e, l))) (not_given given counts row e (All-tail (λ n. given.uid.0 < n) v.uid.0 (map (λ (c : MapCount). c.uid.0) counts) a))
+
+set_step : (given : MapCount) (counts : List MapCount) (row : MapRecord) (hit : Bool) → (given.uid.0 == row.uid) ≡ hit → All (λ n. given.uid.0 < n) (map (λ (c : MapCount). c.uid.0) counts)
+    → record_changed (entry.T counts) (record row { count = option_map_or (λ (c : MapCount). c.count) (cond hit (Some given) None) row.count }) ≡ record row { count = option_map_or (λ (c : MapCount). c.count) (cond hit (Some given) (find (λ (c : MapCount). c.uid.0 == row.uid) counts)) row.count }
+set_step given counts row true e a = let n = not_given given counts row (sym (equal_is given.uid.0 row.uid e)) a in rw n refl
+set_step given counts row false e a = refl
+
+pub set_each : (counts : List MapCount) (rows : List MapRecord) → AllPairs (λ a b. a < b) (map (λ (c : MapCount). c.uid.0) counts) → fold (λ (rs : List MapRecord) (c : MapCount). map (record_changed (entry.T (c ∷ []))) rs) rows counts ≡ map (record_changed (entry.T counts)) rows
+set_each [] rows rise = sym (map_same (record_changed (entry.T [])) (λ row. refl) rows)
+set_each (given ∷ counts) rows rise =
+    set_each counts (map (record_changed (entry.T (given ∷ []))) rows) (pairs_tail (λ a b. a < b) given.uid.0 (map (λ (c : MapCount). c.uid.0) counts) rise)
+    ∙ map_twice (record_changed (entry.T counts)) (record_changed (entry.T (given ∷ []))) (record_changed (entry.T (given ∷ counts))) (λ row. set_step given counts row (given.uid.0 == row.uid) refl (pairs_head (λ a b. a < b) given.uid.0 (map (λ (c : MapCount). c.uid.0) counts) rise)) rows
+
+-- ---- records that are moved
+
+abbrev moves : ℕ → List MapPlace → MapRecord → MapRecord
+moves target places row = moved_record row target (place_given row.uid places)
+
+not_moved : (given : MapPlace) (places : List MapPlace) (uid : ℕ) → uid ≡ given.uid.0 → All (λ n. given.uid.0 < n) (map (λ (p : MapPlace). p.uid.0) places) → place_given uid places ≡ None
+not_moved given [] uid e a = refl
+not_moved given (v ∷ places) uid e a =
+    let l : given.uid.0 < v.uid.0 = All-head (λ n. given.uid.0 < n) v.uid.0 (map (λ (p : MapPlace). p.uid.0) places) a in
+    rw (unequal v.uid.0 uid (λ s. omega (arith, s, e, l))) (not_moved given places uid e (All-tail (λ n. given.uid.0 < n) v.uid.0 (map (λ (p : MapPlace). p.uid.0) places) a))
+
+move_step : (target : ℕ) (given : MapPlace) (places : List MapPlace) (row : MapRecord) (hit : Bool) → (given.uid.0 == row.uid) ≡ hit → All (λ n. given.uid.0 < n) (map (λ (p : MapPlace). p.uid.0) places)
+    → moves target places (moved_record row target (cond hit (Some given) None)) ≡ moved_record row target (cond hit (Some given) (place_given row.uid places))
+move_step target given places row true e a = let n = not_moved given places row.uid (sym (equal_is given.uid.0 row.uid e)) a in rw n refl
+move_step target given places row false e a = refl
+
+pub moved_each : (target : ℕ) (places : List MapPlace) (rows : List MapRecord) → AllPairs (λ a b. a < b) (map (λ (p : MapPlace). p.uid.0) places) → fold (λ (rs : List MapRecord) (p : MapPlace). map (λ row. moved_record row target (place_given row.uid (p ∷ []))) rs) rows places ≡ map (λ row. moved_record row target (place_given row.uid places)) rows
+moved_each target [] rows rise = sym (map_same (moves target []) (λ row. refl) rows)
+moved_each target (given ∷ places) rows rise =
+    moved_each target places (map (moves target (given ∷ [])) rows) (pairs_tail (λ a b. a < b) given.uid.0 (map (λ (p : MapPlace). p.uid.0) places) rise)
+    ∙ map_twice (moves target places) (moves target (given ∷ [])) (moves target (given ∷ places)) (λ row. move_step target given places row (given.uid.0 == row.uid) refl (pairs_head (λ a b. a < b) given.uid.0 (map (λ (p : MapPlace). p.uid.0) places) rise)) rows
+
+-- the next place is free, and so are the others behind it
+pub next_move : (rows : List MapRecord) (target : ℕ) (places : List MapPlace) (k : ℕ) (given d : MapPlace) → k < length places → given ≡ get_or places k d → CanMoveEach rows target (drop k places)
+    → FitsMoved rows target given × CanMoveEach (map (λ row. moved_record row target (place_given row.uid (given ∷ []))) rows) target (drop (k + 1) places)
+next_move rows target places k given d lt e can = subst (CanMoveEach rows target) (drop_first places k given d lt e) can
+
+-- ---- records that are dropped
+
+abbrev keeps : MapUid → MapRecord → Bool
+keeps uid row = not (has_map_uid row.uid (uid ∷ []))
+
+keep_step : (hit rest : Bool) (row : MapRecord) (kept all : List MapRecord) (p : MapRecord → Bool) → p row ≡ not rest → filter p kept ≡ all → filter p (cond (not (hit || false)) (row ∷ kept) kept) ≡ cond (not (hit || rest)) (row ∷ all) all
+keep_step true rest row kept all p e f = f
+keep_step false true row kept all p e f = rw e f
+keep_step false false row kept all p e f = rw e (ap (λ (rows : List MapRecord). row ∷ rows) f)
+
+kept_twice : (uid : MapUid) (uids : List MapUid) (rows : List MapRecord) → filter (λ row. not (has_map_uid row.uid uids)) (filter (keeps uid) rows) ≡ filter (λ row. not (has_map_uid row.uid (uid ∷ uids))) rows
+kept_twice uid uids [] = refl
+kept_twice uid uids (row ∷ rows) = keep_step (uid.0 == row.uid) (has_map_uid row.uid uids) row (filter (keeps uid) rows) _ (λ r. not (has_map_uid r.uid uids)) refl (kept_twice uid uids rows)
+
+none_dropped : (rows : List MapRecord) → rows ≡ filter (λ row. not (has_map_uid row.uid [])) rows
+none_dropped [] = refl
+none_dropped (row ∷ rows) = ap (λ (rest : List MapRecord). row ∷ rest) (none_dropped rows)
+
+pub dropped_each : (uids : List MapUid) (rows : List MapRecord) → fold (λ (rs : List MapRecord) (u : MapUid). filter (λ row. not (has_map_uid row.uid (u ∷ []))) rs) rows uids ≡ filter (λ row. not (has_map_uid row.uid uids)) rows
+dropped_each [] rows = none_dropped rows
+dropped_each (uid ∷ uids) rows = dropped_each uids (filter (keeps uid) rows) ∙ kept_twice uid uids rows
+
+-- ---- for the calls
+
+pub table_is : (t : TableValue) (rows : List MapRecord) (records instances : ℕ) → t.records ≡ rows → t.record_room ≡ records → t.instance_room ≡ instances → t ≡ record { records = rows; record_room = records; instance_room = instances }
+table_is t rows records instances p q r = tables_same t.records rows t.record_room records t.instance_room instances p q r

@@ -1,0 +1,32 @@
+-- What the records need so that an entry can be taken in.
+use Rattle.std.specs.Prelude.{◌≡◌, ◌≤◌, ℕ, List, [], ◌∷◌, map, All}
+use Rattle.std.specs.List.Sorted.{IsStrictlyIncreasing}
+use Rattle.mdbox_base.specs.declared.entries.MapPlace.{MapPlace}
+use Rattle.mdbox_base.specs.declared.entries.MapEntry.{MapEntry}
+use Rattle.mdbox_base.specs.declared.entries.MapEntry.TheVariants as entry
+use Rattle.model_meaning.specs.MapMeaning.{MapRecord, moved_record, place_given}
+use Rattle.map_rows.specs.TableKept.{FitsBehind, FitsMoved}
+
+-- the places are free, one after another
+abbrev pub CanMoveEach : List MapRecord → ℕ → List MapPlace → Type 0
+CanMoveEach rows target [] = Unit {0}
+CanMoveEach rows target (place ∷ places) =
+    FitsMoved rows target place × CanMoveEach (map (λ row. moved_record row target (place_given row.uid (place ∷ []))) rows) target places
+
+-- A record that is stored fits behind the others, a count that rises stays in its range, lists name their records in order
+-- of map uid, and the places of moved records are free.
+abbrev pub FitsTable : MapEntry → List MapRecord → Type 0
+FitsTable (entry.S origin count uid file offset size guid instances) rows =
+    FitsBehind rows (record { uid = uid.0; origin = origin; count = count; file = file.0; offset = offset; size = size; guid = guid.0; instances = instances })
+FitsTable (entry.U uid) rows = All (λ row. uid.0 ≡ row.uid → row.count ≤ 65534) rows
+FitsTable (entry.D uids) rows = IsStrictlyIncreasing (map (λ u. u.0) uids)
+FitsTable (entry.T counts) rows = IsStrictlyIncreasing (map (λ c. c.uid.0) counts)
+FitsTable (entry.P file target moved dropped) rows = IsStrictlyIncreasing (map (λ p. p.uid.0) moved) × CanMoveEach rows target moved
+FitsTable other rows = Unit {0}
+
+-- the entry makes a mailbox, stores a message or seals a file
+abbrev pub TakesMemory : MapEntry → Type 0
+TakesMemory (entry.B mailbox generation name) = Unit {0}
+TakesMemory (entry.S origin count uid file offset size guid instances) = Unit {0}
+TakesMemory (entry.E file) = Unit {0}
+TakesMemory other = ⊥

@@ -1,0 +1,98 @@
+-- What a search finds among records in order of map uid.
+use Rattle.std.specs.Prelude.{AllPairs, nat_lt, position, slice_get}
+use Rattle.std.proofs.Common.{◌≡◌, ◌≢◌, inl, inr, ℕ, ◌<◌, ◌≤◌, ◌==◌, Bool, true, false, not, cond, Some, None, List, [], ◌∷◌, length, find, get_or, map, Result, Ok, Err, refl, sym, ◌∙◌, ap, ◌+◌, arith}
+use Rattle.std.specs.Prelude.{MatchResult}
+use Rattle.std.specs.List.{position_or_len}
+use Rattle.std.specs.List.Sorted.{IsSearchInRange, IsBinarySearchResult, IsNonDecreasingBy}
+use Rattle.std.specs.Ordering.{nat_cmp, ordering_index}
+use Rattle.std.proofs.lemmas.Cmp.{ranked}
+use Rattle.std.proofs.lemmas.Bool.{cases_lt, cases_eq}
+use Rattle.std.proofs.lemmas.Bool.Decides.{nat_tests}
+use Rattle.std.proofs.lemmas.List.{length-map}
+use Rattle.std.proofs.lemmas.List.Folds.{find_at}
+use Rattle.std.proofs.lemmas.Option.{slice_get_past}
+use Rattle.std.proofs.lemmas.List.Sums.{position_or_len_is}
+use Rattle.std.proofs.lemmas.List.Kept.{AllPairs-cons}
+use Rattle.model_octets.proofs.PairLemmas.{pairs_head, pairs_tail, pairs_nil}
+use Rattle.model_meaning.specs.MapMeaning.{MapRecord}
+use Rattle.map_rows.specs.declared.rows.Record.{Record}
+use Rattle.map_rows.specs.Lookups.{meant_record}
+use Rattle.map_rows.proofs.DerivedListLemmas.{All-unmap}
+
+-- the answers of a search rise along the items
+pub answers_rise : {X : Type 0} → (f : X → ℕ) (xs : List X) (n : ℕ) → AllPairs (λ a b. f a < f b) xs → IsNonDecreasingBy (λ x. ordering_index (nat_cmp (f x) n)) xs
+answers_rise f xs n rise i j d le lt =
+    let up : f (get_or xs i d) ≤ f (get_or xs j d) = elim (cases_eq i j) [
+      | inl same ↦ let e : f (get_or xs i d) ≡ f (get_or xs j d) = ap (λ (k : ℕ). f (get_or xs k d)) same in omega (arith, e)
+      | inr apart ↦ let l : f (get_or xs i d) < f (get_or xs j d) = rise i j d (omega (arith, le, apart)) lt in omega (arith, l)
+    ] in
+    higher n (f (get_or xs i d)) (f (get_or xs j d)) up
+  where
+    higher : (n a b : ℕ) → a ≤ b → ordering_index (nat_cmp a n) ≤ ordering_index (nat_cmp b n)
+    higher n a b le = grind (arith, nat_tests)
+
+equal : (a b : ℕ) → a ≡ b → (a == b) ≡ true
+equal a b h = grind (arith, nat_tests, h)
+
+unequal : (a b : ℕ) → a ≢ b → (a == b) ≡ false
+unequal a b h = grind (arith, nat_tests, h)
+
+-- the place that was found, or none
+pub searched : {X : Type 0} → (f : X → ℕ) (xs : List X) (n : ℕ) → AllPairs (λ a b. f a < f b) xs → (r : Result ℕ ℕ) → IsSearchInRange r (length xs) → IsBinarySearchResult (λ x. nat_cmp (f x) n) xs r
+    → MatchResult r (λ at. at ≡ position_or_len (λ x. f x == n) xs) (λ _. length xs ≡ position_or_len (λ x. f x == n) xs)
+searched f [] n rise (Ok at) within equal_at = absurd (omega (arith, within))
+searched f (x ∷ xs) n rise (Ok at) within equal_at =
+    let here : f (get_or (x ∷ xs) at x) ≡ n = ranked _ n _ (sym (equal_at x)) in
+    sym (position_or_len_is (λ y. f y == n) (x ∷ xs) at x (omega (arith, within))
+    (λ k lt. unequal _ n (λ e. let l : f (get_or (x ∷ xs) k x) < f (get_or (x ∷ xs) at x) = rise k at x lt within in omega (arith, l, e, here)))
+    (λ lt. equal _ n here))
+searched f [] n rise (Err at) within parted = refl
+searched f (x ∷ xs) n rise (Err at) within parted =
+    let p = parted (answers_rise f (x ∷ xs) n rise) in
+    sym (position_or_len_is (λ y. f y == n) (x ∷ xs) (length (x ∷ xs)) x (omega arith)
+    (λ k lt. unequal _ n (λ e. elim (cases_lt k at) [
+      | inl before ↦ let l : f (get_or (x ∷ xs) k x) < n = ranked _ n _ (sym (p.0 k x (omega arith) before)) in omega (arith, l, e)
+      | inr behind ↦ let l : n < f (get_or (x ∷ xs) k x) = ranked _ n _ (sym (p.1 k x behind lt)) in omega (arith, l, e)
+    ]))
+    (λ lt. absurd (omega (arith, lt))))
+
+-- what holds of all pairs of a list that is made of another
+pub pairs_unmap : {X Y : Type 0} → (R : Y → Y → Type 0) (f : X → Y) (xs : List X) → AllPairs R (map f xs) → AllPairs (λ a b. R (f a) (f b)) xs
+pairs_unmap R f [] p = pairs_nil (λ a b. R (f a) (f b))
+pairs_unmap R f (x ∷ xs) p = AllPairs-cons (λ a b. R (f a) (f b)) x xs (All-unmap (R (f x)) f xs (pairs_head R (f x) (map f xs) p)) (pairs_unmap R f xs (pairs_tail R (f x) (map f xs) p))
+
+-- ---- places
+
+place_step : (b : Bool) (m n : ℕ) → m ≡ n → cond (not b) (1 + m) 0 ≡ cond (not b) (1 + n) 0
+place_step b m n e = rw e refl
+
+pub place_seen : {X Y : Type 0} → (p : Y → Bool) (f : X → Y) (xs : List X) → position_or_len p (map f xs) ≡ position_or_len (λ x. p (f x)) xs
+place_seen p f [] = refl
+place_seen p f (x ∷ xs) = place_step (p (f x)) _ _ (place_seen p f xs)
+
+-- a place that is there
+pub placed : {X : Type 0} → (p : X → Bool) (xs : List X) (n : ℕ) → n ≡ position_or_len p xs → n < length xs → Some n ≡ position p xs
+placed p xs n e lt = let h : nat_lt n (length xs) ≡ true = grind (arith, nat_tests, lt) in rw (← e) (rw h refl)
+
+pub unplaced : {X : Type 0} → (p : X → Bool) (xs : List X) (n : ℕ) → n ≡ position_or_len p xs → length xs ≤ n → None ≡ position p xs
+unplaced p xs n e le = let h : nat_lt n (length xs) ≡ false = grind (arith, nat_tests, le) in rw (← e) (rw h refl)
+
+-- the place of a map uid in the records that the table has
+pub place_found : (uid : ℕ) (rs xs : List Record) (ms : List MapRecord) (n : ℕ) → n ≡ position_or_len (λ (r : Record). r.row.uid.0 == uid) rs → rs ≡ xs → map meant_record xs ≡ ms → n < length rs
+    → (Some n ≡ position (λ (row : MapRecord). row.uid == uid) ms) × (slice_get ms n ≡ find (λ (row : MapRecord). row.uid == uid) ms)
+place_found uid rs xs ms n e same view lt =
+    let p = λ (row : MapRecord). row.uid == uid in
+    let here : n ≡ position_or_len p ms = e ∙ sym (place_seen p meant_record rs) ∙ ap (λ (zs : List Record). position_or_len p (map meant_record zs)) same ∙ ap (position_or_len p) view in
+    let long : length rs ≡ length xs = ap (λ (zs : List Record). length zs) same in
+    let size : length ms ≡ length xs = ap (λ (zs : List MapRecord). length zs) (sym view) ∙ length-map xs meant_record in
+    (placed p ms n here (omega (arith, size, long, lt)), ap (slice_get ms) here ∙ sym (find_at p ms))
+
+pub place_missing : (uid : ℕ) (rs xs : List Record) (ms : List MapRecord) (n : ℕ) → n ≡ position_or_len (λ (r : Record). r.row.uid.0 == uid) rs → rs ≡ xs → map meant_record xs ≡ ms → length rs ≤ n
+    → (None ≡ position (λ (row : MapRecord). row.uid == uid) ms) × (None ≡ find (λ (row : MapRecord). row.uid == uid) ms)
+place_missing uid rs xs ms n e same view le =
+    let p = λ (row : MapRecord). row.uid == uid in
+    let here : n ≡ position_or_len p ms = e ∙ sym (place_seen p meant_record rs) ∙ ap (λ (zs : List Record). position_or_len p (map meant_record zs)) same ∙ ap (position_or_len p) view in
+    let long : length rs ≡ length xs = ap (λ (zs : List Record). length zs) same in
+    let size : length ms ≡ length xs = ap (λ (zs : List MapRecord). length zs) (sym view) ∙ length-map xs meant_record in
+    let past : length ms ≤ n = omega (arith, size, long, le) in
+    (unplaced p ms n here past, sym (find_at p ms ∙ ap (slice_get ms) (sym here) ∙ slice_get_past ms n past))

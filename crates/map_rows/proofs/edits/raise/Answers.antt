@@ -1,0 +1,21 @@
+use Rattle.std.proofs.Common.{◌<◌, ◌≤◌, ◌+◌, List, ℕ, length, ap, arith}
+use Rattle.mdbox_base.specs.declared.entries.MapEntry.TheVariants as entry
+use Rattle.model_meaning.specs.MapMeaning.{record_changed}
+use Rattle.map_rows.specs.declared.rows.Record.{Record}
+use Rattle.map_rows.proofs.EditLemmas.{count_at, changed_nowhere, raises_only, raised, can_raise}
+use Rattle.map_rows.proofs.edits.raise.Goals as goal
+
+pub returns-then-place-len-clause-records : goal.returns-then-place-len-clause-records
+returns-then-place-len-clause-records c =
+    let place = rw c.deref.ensures.value at c.place_with_uid-place.ensures in
+    let long = ap (λ (rs : List Record). length rs) c.deref.ensures.value in
+    let within : c.place_with_uid-place.result < length c.args.records.now.items = (let t = c.if-place-len.true in let l = c.len.ensures in let d = c.deref.ensures.len in omega (arith, t, l, d, long)) in
+    count_at (record_changed (entry.U c.args.uid)) (λ (n : ℕ). n + 1) c.args.uid.0 c.args.records.now.items c.place_with_uid-place.result c.index.result.now c.index_mut.result.now _ (raises_only c.args.uid) (raised c.args.uid) c.requires.rising place within c.index.ensures c.index_mut.ensures.value
+    (let low = can_raise c.args.uid c.args.records.now.items c.place_with_uid-place.result c.index.result.now c.requires.rise place within c.index.ensures in let s = c.saturating_add.ensures in omega (arith, low, s))
+
+pub returns-else-place-len-clause-records : goal.returns-else-place-len-clause-records
+returns-else-place-len-clause-records c =
+    let place = rw c.deref.ensures.value at c.place_with_uid-place.ensures in
+    let long = ap (λ (rs : List Record). length rs) c.deref.ensures.value in
+    let past : length c.args.records.now.items ≤ c.place_with_uid-place.result = (let t = c.if-place-len.false in let l = c.len.ensures in let d = c.deref.ensures.len in omega (arith, t, l, d, long)) in
+    changed_nowhere (record_changed (entry.U c.args.uid)) c.args.uid.0 c.args.records.now.items c.place_with_uid-place.result (raises_only c.args.uid) place past

@@ -1,0 +1,6 @@
+use Rattle.std.proofs.Common.{ap, subst}
+use Rattle.map_rows.specs.Named.{AreNamings, NamesValue}
+use Rattle.map_rows.proofs.names.InstanceNames.known_facts.Goals as goal
+
+pub returns : goal.returns
+returns c = subst AreNamings (ap (λ (v : NamesValue). v.named) c.self.view_is) c.self.invariant.0

@@ -1,0 +1,10 @@
+use Rattle.std.proofs.Common.{rules}
+use Rattle.std.proofs.lemmas.List.Sorted.{answers_always}
+use Rattle.map_rows.proofs.NameLemmas.{searched_names}
+use Rattle.map_rows.proofs.names.place_of.Goals as goal
+
+pub returns : goal.returns
+returns c =
+    let by_key = c.binary_search_by_key.ensures.position (λ k. k.number) (answers_always _ _ _ (λ f a r g called. search rules)) in
+    let s = searched_names c.args.named.now c.args.number c.requires c.binary_search_by_key.result c.binary_search_by_key.ensures.bound by_key in
+    record { found = s.0; absent = s.1 }

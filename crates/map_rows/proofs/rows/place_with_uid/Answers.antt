@@ -1,0 +1,15 @@
+use Rattle.std.proofs.Common.{rules, Ok, Err}
+use Rattle.std.proofs.lemmas.List.Sorted.{answers_always}
+use Rattle.map_rows.specs.declared.rows.Record.{Record}
+use Rattle.map_rows.proofs.SearchLemmas.{searched}
+use Rattle.map_rows.proofs.rows.place_with_uid.Goals as goal
+
+pub returns-in-Ok : goal.returns-in-Ok
+returns-in-Ok c =
+    let by_key = c.in-Ok.ensures.position (λ r. r.row.uid.0) (answers_always _ _ _ (λ f a r g called. search rules)) in
+    (searched (λ (r : Record). r.row.uid.0) c.args.records.now c.args.uid.0 c.requires (Ok c.in-Ok.place) c.in-Ok.ensures.bound by_key)
+
+pub returns-in-Err : goal.returns-in-Err
+returns-in-Err c =
+    let by_key = c.in-Err.ensures.position (λ r. r.row.uid.0) (answers_always _ _ _ (λ f a r g called. search rules)) in
+    searched (λ (r : Record). r.row.uid.0) c.args.records.now c.args.uid.0 c.requires (Err c.in-Err.field-0) c.in-Err.ensures.bound by_key

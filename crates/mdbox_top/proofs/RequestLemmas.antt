@@ -1,0 +1,172 @@
+-- How a request alone ends, whatever its reply tells.
+use Rattle.std.specs.Prelude.{◌≡◌, ◌⊎◌, ℕ, true, false, List, [], ◌∷◌, Option, Some, None}
+use Rattle.std.proofs.Common.{refl, sym, ◌∙◌, ap, subst, inl, inr, append-nil, arith}
+use Rattle.disk_model.specs.Disk.{History, Faults, IsIdle}
+use Rattle.disk_model.proofs.IdleLemmas.{idle-begins}
+use Rattle.mdbox_base.specs.Streams.{Appended}
+use Rattle.mdbox_base.specs.declared.replies.Refusal.TheVariants as refusal
+use Rattle.mdbox_base.specs.declared.replies.Reply.{Reply}
+use Rattle.mdbox_base.specs.declared.replies.Reply.TheVariants as reply
+use Rattle.mdbox_base.specs.declared.requests.Request.{Request}
+use Rattle.model_lists.specs.Lists.{Lists}
+use Rattle.model_store.specs.Settled.{files_of, IsSettledFor}
+use Rattle.model_store.proofs.OpeningLemmas.{no_store_or_opens, opens_or_damaged}
+use Rattle.model_store.proofs.OpeningSafeLemmas.{safe_opens}
+use Rattle.journal.specs.Journal.{is_read_fault}
+use Rattle.store_open.specs.Making.{IdleUnless}
+use Rattle.store_open.specs.Opened.{Opening, IsOpeningError}
+use Rattle.store_open.specs.declared.error.OpenError.{OpenError}
+use Rattle.store_open.specs.declared.error.OpenError.TheVariants as error
+use Rattle.request_text.specs.Outcomes.{status_of, reply_outcome}
+use Rattle.request_text.specs.declared.outcome.InputRefusal.{InputRefusal}
+use Rattle.request_text.specs.declared.outcome.StoreRefusal.{StoreRefusal}
+use Rattle.request_text.specs.declared.outcome.Outcome.{Outcome}
+use Rattle.request_text.specs.declared.outcome.Outcome.TheVariants as outcome
+use Rattle.mdbox_top.specs.InputRun.{IsOneOf}
+use Rattle.mdbox_top.specs.OpeningOutcome.{opening_outcome}
+use Rattle.mdbox_top.specs.Served.{ShowsReply, RequestOutcome}
+
+-- ---- how it ends
+
+-- a whole reply
+pub whole : (given : Reply) (text : List ℕ) (h k : Option (List ℕ)) → Appended h text k → ShowsReply text given h k (reply_outcome given)
+whole (reply.Refused refusal.NoMemory) text h k a = (text, [], sym (append-nil text), a)
+whole (reply.Refused other) text h k a = (refl, a)
+whole other text h k a = (refl, a)
+
+-- the numbers of the ends of an opening, of a reply, and of the printing of a reply
+pub opening_number : (why : OpenError) → IsOneOf (3 ∷ 5 ∷ 6 ∷ []) (status_of (opening_outcome why))
+opening_number error.NoStore = inl refl
+opening_number error.StoreWhole = inl refl
+opening_number error.MailFiles = inl refl
+opening_number (error.Damaged name place) = inl refl
+opening_number error.NoMemory = inr (inl refl)
+opening_number error.DiskFault = inr (inr (inl refl))
+
+reply_number : (given : Reply) → IsOneOf (0 ∷ 1 ∷ 5 ∷ 6 ∷ []) (status_of (reply_outcome given))
+reply_number (reply.Refused refusal.NoMemory) = inr (inr (inl refl))
+reply_number (reply.Refused refusal.ReadFault) = inr (inr (inr (inl refl)))
+reply_number (reply.Refused refusal.Stopped) = inr (inr (inr (inl refl)))
+reply_number (reply.Refused other) = inr (inl refl)
+reply_number other = inl refl
+
+one_more : (n m : ℕ) → IsOneOf (0 ∷ 1 ∷ 5 ∷ 6 ∷ []) m → n ≡ m → IsOneOf (0 ∷ 1 ∷ 5 ∷ 6 ∷ 8 ∷ []) n
+one_more n m (inl a) e = inl (e ∙ a)
+one_more n m (inr (inl a)) e = inr (inl (e ∙ a))
+one_more n m (inr (inr (inl a))) e = inr (inr (inl (e ∙ a)))
+one_more n m (inr (inr (inr (inl a)))) e = inr (inr (inr (inl (e ∙ a))))
+one_more n m (inr (inr (inr (inr a)))) e = absurd a
+
+pub shown_number : (text : List ℕ) (given : Reply) (h k : Option (List ℕ)) (o : Outcome) → ShowsReply text given h k o → IsOneOf (0 ∷ 1 ∷ 5 ∷ 6 ∷ 8 ∷ []) (status_of o)
+shown_number text given h k outcome.WriteFault s = inr (inr (inr (inr (inl refl))))
+shown_number text given h k outcome.NoMemory s = inr (inr (inl refl))
+shown_number text given h k outcome.Done s = inl refl
+shown_number text given h k outcome.No s = inr (inl refl)
+shown_number text given h k outcome.DiskFault s = inr (inr (inr (inl refl)))
+shown_number text given h k outcome.ReadFault s = one_more 7 _ (reply_number given) (ap status_of s.0)
+shown_number text given h k outcome.Usage s = one_more 2 _ (reply_number given) (ap status_of s.0)
+shown_number text given h k (outcome.StoreRefused why) s = one_more 3 _ (reply_number given) (ap status_of s.0)
+shown_number text given h k (outcome.InputRefused why) s = one_more 4 _ (reply_number given) (ap status_of s.0)
+
+-- a request is not refused as words or as an input
+refused_by : (n m : ℕ) → IsOneOf (3 ∷ 5 ∷ 6 ∷ []) m → n ≡ m → (n ≡ 2) ⊎ (n ≡ 4) → ⊥
+refused_by n m (inl a) e (inl b) = omega (arith, a, e, b)
+refused_by n m (inl a) e (inr b) = omega (arith, a, e, b)
+refused_by n m (inr (inl a)) e (inl b) = omega (arith, a, e, b)
+refused_by n m (inr (inl a)) e (inr b) = omega (arith, a, e, b)
+refused_by n m (inr (inr (inl a))) e (inl b) = omega (arith, a, e, b)
+refused_by n m (inr (inr (inl a))) e (inr b) = omega (arith, a, e, b)
+refused_by n m (inr (inr (inr a))) e b = a
+
+shown_by : (n : ℕ) → IsOneOf (0 ∷ 1 ∷ 5 ∷ 6 ∷ 8 ∷ []) n → (n ≡ 2) ⊎ ((n ≡ 3) ⊎ (n ≡ 4)) → ⊥
+shown_by n (inl a) (inl b) = omega (arith, a, b)
+shown_by n (inl a) (inr (inl b)) = omega (arith, a, b)
+shown_by n (inl a) (inr (inr b)) = omega (arith, a, b)
+shown_by n (inr (inl a)) (inl b) = omega (arith, a, b)
+shown_by n (inr (inl a)) (inr (inl b)) = omega (arith, a, b)
+shown_by n (inr (inl a)) (inr (inr b)) = omega (arith, a, b)
+shown_by n (inr (inr (inl a))) (inl b) = omega (arith, a, b)
+shown_by n (inr (inr (inl a))) (inr (inl b)) = omega (arith, a, b)
+shown_by n (inr (inr (inl a))) (inr (inr b)) = omega (arith, a, b)
+shown_by n (inr (inr (inr (inl a)))) (inl b) = omega (arith, a, b)
+shown_by n (inr (inr (inr (inl a)))) (inr (inl b)) = omega (arith, a, b)
+shown_by n (inr (inr (inr (inl a)))) (inr (inr b)) = omega (arith, a, b)
+shown_by n (inr (inr (inr (inr (inl a))))) (inl b) = omega (arith, a, b)
+shown_by n (inr (inr (inr (inr (inl a))))) (inr (inl b)) = omega (arith, a, b)
+shown_by n (inr (inr (inr (inr (inl a))))) (inr (inr b)) = omega (arith, a, b)
+shown_by n (inr (inr (inr (inr (inr a))))) b = a
+
+pub request_used : (Tells : Option History → Option History → Reply → Type 0) (request : Request) (h k : Option (List ℕ)) (old new : Option History) (f g : Faults) → RequestOutcome Tells request h k old new f g outcome.Usage → ⊥
+request_used Tells request h k old new f g (inl n) = refused_by 2 _ (opening_number n.why) (ap status_of n.ended_is) (inl refl)
+request_used Tells request h k old new f g (inr l) = shown_by 2 (shown_number _ l.given h k outcome.Usage l.printed) (inl refl)
+
+pub request_input : (Tells : Option History → Option History → Reply → Type 0) (request : Request) (h k : Option (List ℕ)) (old new : Option History) (f g : Faults) (why : InputRefusal) → RequestOutcome Tells request h k old new f g (outcome.InputRefused why) → ⊥
+request_input Tells request h k old new f g why (inl n) = refused_by 4 _ (opening_number n.why) (ap status_of n.ended_is) (inr refl)
+request_input Tells request h k old new f g why (inr l) = shown_by 4 (shown_number _ l.given h k (outcome.InputRefused why) l.printed) (inr (inr refl))
+
+-- damage that finds no memory for its text
+fault_number : (s : StoreRefusal) (why : OpenError) → outcome.StoreRefused s ≡ opening_outcome why → why ≡ error.DiskFault → ⊥
+fault_number s why e d = let f : 3 ≡ 6 = ap status_of e ∙ ap (λ (w : OpenError). status_of (opening_outcome w)) d in omega (arith, f)
+
+pub request_damage : (Tells : Option History → Option History → Reply → Type 0) (request : Request) (h k : Option (List ℕ)) (old new : Option History) (f g : Faults) (s : StoreRefusal) → RequestOutcome Tells request h k old new f g (outcome.StoreRefused s) → RequestOutcome Tells request h k old new f g outcome.NoMemory
+request_damage Tells request h k old new f g s (inl n) = inl (record { why = error.NoMemory; ended_is = refl; unprinted = n.unprinted; cause = tt; idle = λ other. n.idle (fault_number s n.why n.ended_is); untouched = n.untouched })
+request_damage Tells request h k old new f g s (inr l) = absurd (shown_by 3 (shown_number _ l.given h k (outcome.StoreRefused s) l.printed) (inr (inl refl)))
+
+-- a settled disk has a store, which is damaged nowhere
+settled_opens : (lists : Lists) (old : Option History) (why : OpenError) → IsSettledFor lists old → IsOpeningError old why → (why ≡ error.DiskFault) ⊎ (why ≡ error.NoMemory)
+settled_opens lists None why s cause = absurd s
+settled_opens lists (Some h) error.NoStore s cause =
+    let o = safe_opens (files_of h.now) s.store s.entries lists s.safe in absurd (no_store_or_opens (files_of h.now) s.store s.entries o.0 cause o.1)
+settled_opens lists (Some h) (error.Damaged name place) s cause =
+    let o = safe_opens (files_of h.now) s.store s.entries lists s.safe in absurd (opens_or_damaged (files_of h.now) s.store s.entries o.0 name place o.1 cause)
+settled_opens lists (Some h) error.DiskFault s cause = inl refl
+settled_opens lists (Some h) error.NoMemory s cause = inr refl
+settled_opens lists (Some h) error.StoreWhole s cause = absurd cause
+settled_opens lists (Some h) error.MailFiles s cause = absurd cause
+
+-- so no file of it refuses a request
+pub request_status : (Tells : Option History → Option History → Reply → Type 0) (request : Request) (h k : Option (List ℕ)) (old new : Option History) (f g : Faults) (o : Outcome) → RequestOutcome Tells request h k old new f g o → (lists : Lists) → IsSettledFor lists old
+    → IsOneOf (0 ∷ 1 ∷ 5 ∷ 6 ∷ 8 ∷ []) (status_of o)
+request_status Tells request h k old new f g o (inl n) lists s = elim (settled_opens lists old n.why s n.cause) [
+  | inl fault ↦ inr (inr (inr (inl (ap status_of n.ended_is ∙ ap (λ (w : OpenError). status_of (opening_outcome w)) fault))))
+  | inr memory ↦ inr (inr (inl (ap status_of n.ended_is ∙ ap (λ (w : OpenError). status_of (opening_outcome w)) memory)))
+]
+request_status Tells request h k old new f g o (inr l) lists s = shown_number _ l.given h k o l.printed
+
+-- a store that was not opened
+pub unopened : (Tells : Option History → Option History → Reply → Type 0) (request : Request) (h : Option (List ℕ)) (old new : Option History) (f g : Faults) (why : OpenError) → IsOpeningError old why → ((why ≡ error.DiskFault → ⊥) → IsIdle old new) → IdleUnless Opening old new
+    → RequestOutcome Tells request h h old new f g (opening_outcome why)
+unopened Tells request h old new f g why cause idle untouched = inl (record { why = why; ended_is = refl; unprinted = refl; cause = cause; idle = idle; untouched = untouched })
+
+-- a store for which the disk was not asked, for out of memory
+unchanged : (old : Option History) → IdleUnless Opening old old
+unchanged None = tt
+unchanged (Some now) = λ lacks. idle-begins (Some now)
+
+pub unasked : (Tells : Option History → Option History → Reply → Type 0) (request : Request) (h : Option (List ℕ)) (old : Option History) (f g : Faults) → RequestOutcome Tells request h h old old f g outcome.NoMemory
+unasked Tells request h old f g = unopened Tells request h old old f g error.NoMemory tt (λ other. idle-begins old) (unchanged old)
+
+-- ---- a fault of the disk
+
+-- a reply that is no read fault ends as a fault of the disk if the store is stopped, and only then
+stopped_is : (given : Reply) → outcome.DiskFault ≡ reply_outcome given → is_read_fault (Some given) ≡ false → given ≡ reply.Refused refusal.Stopped
+stopped_is (reply.Refused refusal.Stopped) e f = refl
+stopped_is (reply.Refused refusal.ReadFault) e f = absurd (let k : true ≡ false = f in cc k)
+stopped_is (reply.Refused refusal.NoMemory) e f = absurd (let k : 6 ≡ 5 = ap status_of e in omega (arith, k))
+stopped_is (reply.Refused other) e f = absurd (let k : 6 ≡ 1 = ap status_of e in omega (arith, k))
+stopped_is other e f = absurd (let k : 6 ≡ 0 = ap status_of e in omega (arith, k))
+
+pub faulted_is : (text : List ℕ) (given : Reply) (h k : Option (List ℕ)) (o : Outcome) → ShowsReply text given h k o → is_read_fault (Some given) ≡ false → o ≡ outcome.DiskFault → given ≡ reply.Refused refusal.Stopped
+faulted_is text given h k o s unfaulted e = stopped_is given (subst (λ (x : Outcome). ShowsReply text given h k x) e s).0 unfaulted
+
+-- a store that is stopped ends so, or with a printing that failed
+pub stopped_status : (text : List ℕ) (given : Reply) (h k : Option (List ℕ)) (o : Outcome) → ShowsReply text given h k o → given ≡ reply.Refused refusal.Stopped → IsOneOf (5 ∷ 6 ∷ 8 ∷ []) (status_of o)
+stopped_status text given h k outcome.WriteFault s stopped = inr (inr (inl refl))
+stopped_status text given h k outcome.NoMemory s stopped = inl refl
+stopped_status text given h k outcome.Done s stopped = inr (inl (ap status_of (s.0 ∙ ap reply_outcome stopped)))
+stopped_status text given h k outcome.No s stopped = inr (inl (ap status_of (s.0 ∙ ap reply_outcome stopped)))
+stopped_status text given h k outcome.DiskFault s stopped = inr (inl refl)
+stopped_status text given h k outcome.ReadFault s stopped = inr (inl (ap status_of (s.0 ∙ ap reply_outcome stopped)))
+stopped_status text given h k outcome.Usage s stopped = inr (inl (ap status_of (s.0 ∙ ap reply_outcome stopped)))
+stopped_status text given h k (outcome.StoreRefused why) s stopped = inr (inl (ap status_of (s.0 ∙ ap reply_outcome stopped)))
+stopped_status text given h k (outcome.InputRefused why) s stopped = inr (inl (ap status_of (s.0 ∙ ap reply_outcome stopped)))

@@ -1,0 +1,41 @@
+use Rattle.std.proofs.Common.{sym, subst}
+use Rattle.mdbox_top.specs.Alone.{IsDoneAlone}
+use Rattle.mdbox_top.proofs.AloneLemmas.{done_alone}
+use Rattle.mdbox_top.proofs.ServedLemmas.{doing}
+use Rattle.mdbox_top.proofs.alone.reply_alone.Goals as goal
+
+pub returns-in-Done-clause-done : goal.returns-in-Done-clause-done
+returns-in-Done-clause-done g c =
+    let o = c.in-Ok.ensures in
+    let step = c.step.ensures in
+    let w = doing g.D.Disk.history g.D.Disk.faults c.args.request c.in-Done.reply (g.D.Disk.history c.args.disk) c.in-Ok.store c.step.new.store c.of-task.result c.step.new.self c.step.result c.of-task.ensures c.in-Done.is
+    (record {
+      opened = o.opened;
+      store = c.facts.ensures.store;
+      drawn = o.state.3;
+      free = o.state.4;
+      running = o.state.1;
+      safe = o.any_moment;
+      settled_again = o.settled_again (λ f. absurd f);
+      carried = o.carried (λ f. absurd f);
+      swept = (o.swept.0, o.swept.2);
+    })
+    c.facts-in-Ok.ensures.store
+    (record {
+      does = step.does;
+      moments = step.moments;
+      settled = step.settled;
+      stopped = step.stopped;
+      fault = step.fault;
+      unfailed = step.unfailed;
+      replies = step.replies;
+      same = step.same;
+    }) in
+    subst (λ d. IsDoneAlone c.args.request c.in-Done.reply (g.D.Disk.history c.args.disk) (g.D.Disk.history d) (g.D.Disk.faults c.args.disk) (g.D.Disk.faults d)) (sym c.into_disk.ensures)
+    (subst (λ f. IsDoneAlone c.args.request c.in-Done.reply (g.D.Disk.history c.args.disk) (g.D.Disk.history c.step.new.store.disk) f (g.D.Disk.faults c.step.new.store.disk)) (o.unfailed (λ f. f))
+    (done_alone c.args.request c.in-Done.reply _ _ _ _ _ c.in-Ok.store c.step.new.store c.step.new.self.did c.requires w c.listings_are_shown.ensures.logs c.listings_are_answered.ensures))
+
+pub returns-in-Err-clause-refused : goal.returns-in-Err-clause-refused
+returns-in-Err-clause-refused g c =
+    let o = c.in-Err.ensures in
+    record { cause = o.refused; idle = o.idle; untouched = o.untouched; moments = o.any_moment; settled_again = o.settled_again; carried = o.carried; fault = o.fault; unfailed = o.unfailed }

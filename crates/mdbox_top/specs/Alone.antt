@@ -1,0 +1,67 @@
+-- What is said of a request alone, by its kind.
+use Rattle.std.specs.Prelude.{◌≡◌, ◌≢◌, ℕ, [], ◌∷◌, Option}
+use Rattle.disk_model.specs.Disk.{History, Faults, EachImage, IsIdle}
+use Rattle.disk_model.specs.FaultCounts.{NoFault, AnyFaultCounted, ChangeFaultCounted}
+use Rattle.mdbox_base.specs.declared.replies.Refusal.TheVariants as refusal
+use Rattle.mdbox_base.specs.declared.replies.Reply.{Reply}
+use Rattle.mdbox_base.specs.declared.replies.Reply.TheVariants as reply
+use Rattle.mdbox_base.specs.declared.requests.Request.{Request}
+use Rattle.mdbox_base.specs.declared.requests.Request.TheVariants as request
+use Rattle.model_lists.specs.Lists.{Lists}
+use Rattle.model_store.specs.Safe.{Safe}
+use Rattle.model_store.specs.Settled.{IsSettledFor}
+use Rattle.store_open.specs.Making.{IdleUnless}
+use Rattle.store_open.specs.Opened.{Opening, StoreCarries, IsOpeningError}
+use Rattle.store_open.specs.declared.error.OpenError.{OpenError}
+use Rattle.store_open.specs.declared.error.OpenError.TheVariants as error
+use Rattle.store_sweep.specs.Moments.{NoFailedChange}
+use Rattle.mdbox_top.specs.InputRun.{IsOneOf}
+use Rattle.mdbox_top.specs.Served.{AreSafeFor, ServesRequest}
+use Rattle.mdbox_top.specs.ListRun.{StaysSettled, IsListReply, ListMoments, ListRests}
+use Rattle.mdbox_top.specs.FlagRun.{IsFlagReply, FlagMoments, FlagRests}
+
+-- what its reply tells
+abbrev pub ReplyTells : Request → Option History → Option History → Reply → Type 0
+ReplyTells (request.List name) = IsListReply name
+ReplyTells (request.Flag name uid flags) = IsFlagReply name uid flags
+ReplyTells other = λ old new given. ⊥
+
+-- what a crash at any moment of it may leave
+abbrev pub RequestMoments : Request → Option History → Option History → Type 0
+RequestMoments (request.List name) = ListMoments
+RequestMoments (request.Flag name uid flags) = FlagMoments name uid flags
+RequestMoments other = λ old new. ⊥
+
+-- what it leaves of the disk when it ends, by whether it failed and the counts of the disk's faults
+abbrev pub RequestRests : Request → Type 0 → Faults → Faults → Option History → Option History → Type 0
+RequestRests (request.List name) = ListRests
+RequestRests (request.Flag name uid flags) = FlagRests name uid flags
+RequestRests other = λ failed began now old new. ⊥
+
+-- The statuses with which it may end if a call of the disk failed. A listing reads no file once the store is open. Any other
+-- request may reply that the store is stopped, and fail in printing it, for a fault of the output or out of memory.
+abbrev pub MayFail : Request → ℕ → Type 0
+MayFail (request.List name) status = status ≡ 6
+MayFail other status = IsOneOf (5 ∷ 6 ∷ 8 ∷ []) status
+
+-- A request was done alone on a store that was opened, and was replied this. No call of the disk failed but a change that
+-- stopped the store.
+pub record IsDoneAlone (request : Request) (given : Reply) (old new : Option History) (began now : Faults) : Type 0 where
+  pub tells : ReplyTells request old new given
+  pub serves : (lists : Lists) → AreSafeFor lists old → ServesRequest request lists given began now old new
+  pub moments : RequestMoments request old new
+  pub rests : RequestRests request (given ≡ reply.Refused refusal.Stopped) began now old new
+  pub fault : ChangeFaultCounted (given ≡ reply.Refused refusal.Stopped) began now
+  pub unfailed : given ≢ reply.Refused refusal.Stopped → NoFault began now
+
+-- The store was not opened. Each crash image of a settled disk is safe for its lists; unless a change failed, it is settled
+-- for them again, and all that the store reads is carried over.
+pub record IsUnopened (why : OpenError) (old new : Option History) (began now : Faults) : Type 0 where
+  pub cause : IsOpeningError old why
+  pub idle : (why ≡ error.DiskFault → ⊥) → IsIdle old new
+  pub untouched : IdleUnless Opening old new
+  pub moments : (lists : Lists) → IsSettledFor lists old → EachImage (λ _ image. Safe image lists) old new
+  pub settled_again : NoFailedChange (why ≡ error.DiskFault) began now → StaysSettled old new
+  pub carried : NoFailedChange (why ≡ error.DiskFault) began now → StoreCarries old new
+  pub fault : AnyFaultCounted (why ≡ error.DiskFault) began now
+  pub unfailed : (why ≡ error.DiskFault → ⊥) → NoFault began now

@@ -1,0 +1,84 @@
+// A request alone: the store is opened, the request done, and its reply printed.
+ghost use Rattle.std.specs.Prelude.{◌≡◌, ◌≢◌, ◌≤◌, IfOk, IfErr};
+ghost use Rattle.disk_model.specs.FaultCounts.{NoFault, AnyFaultCounted};
+ghost use Rattle.mail_ops.specs.Requests.{IsOpsRequest};
+ghost use Rattle.mdbox_base.specs.Streams.{Rose};
+ghost use Rattle.mdbox_top.specs.Alone.{ReplyTells, RequestMoments, RequestRests, MayFail, IsDoneAlone, IsUnopened};
+ghost use Rattle.mdbox_top.specs.Served.{RequestOutcome, ShowsReply};
+ghost use Rattle.request_text.specs.Outcomes.{status_of};
+ghost use Rattle.request_text.specs.ReplyText.{reply_text};
+ghost use Rattle.request_text.specs.declared.outcome.Outcome.TheVariants as outcome;
+
+use crate::opening::outcome_of;
+use disk_model::Disk;
+use mail_ops::{OpsTask, listings_are_answered};
+use mdbox_base::{Progress, Reply, Request, Sink};
+use piece_writer::PrintError;
+use request_text::{Outcome, outcome_of_reply, print_reply};
+use std::alloc::Global;
+use store_core::listings_are_shown;
+use store_open::{OpenRefused, open_store};
+
+/// Opens the store, does a request of one event, prints its reply, and hands the disk back.
+pub fn serve<D: Disk, O: Sink>(
+    alloc: Global,
+    request: Request,
+    disk: D,
+    output: &mut O,
+) -> (Outcome, D)
+    requires { IsOpsRequest request }
+    ensures ends { RequestOutcome (ReplyTells request) request (O.held output.old) (O.held output.new) (D.history disk) (D.history result.1) (D.faults disk) (D.faults result.1) result.0 }
+    ensures moments { RequestMoments request (D.history disk) (D.history result.1) }
+    ensures rests { RequestRests request (MayFail request (status_of result.0)) (D.faults disk) (D.faults result.1) (D.history disk) (D.history result.1) }
+    ensures disk_fault { AnyFaultCounted (result.0 ≡ outcome.DiskFault) (D.faults disk) (D.faults result.1) }
+    ensures disk_quiet { (MayFail request (status_of result.0) → ⊥) → NoFault (D.faults disk) (D.faults result.1) }
+    ensures write_fault { result.0 ≡ outcome.WriteFault → Rose (O.faults output.old) (O.faults output.new) }
+    ensures write_quiet { result.0 ≢ outcome.WriteFault → O.faults output.new ≡ O.faults output.old }
+    ensures counted { O.faults output.old ≤ O.faults output.new }
+{
+    match reply_alone(alloc, request, disk) {
+        Ok((reply, disk)) => (print_outcome(alloc, output, &reply), disk),
+        Err(OpenRefused { error, disk }) => (outcome_of(error), disk),
+    }
+}
+
+/// Opens the store, does a request of one event, and answers its reply.
+fn reply_alone<D: Disk>(
+    alloc: Global,
+    request: Request,
+    disk: D,
+) -> Result<(Reply, D), OpenRefused<D>>
+    requires { IsOpsRequest request }
+    ensures done { IfOk result (λ done. IsDoneAlone request done.0 (D.history disk) (D.history done.1) (D.faults disk) (D.faults done.1)) }
+    ensures refused { IfErr result (λ refused. IsUnopened refused.error (D.history disk) (D.history refused.disk) (D.faults disk) (D.faults refused.disk)) }
+{
+    listings_are_shown();
+    listings_are_answered();
+    match open_store(alloc, disk, 1) {
+        Ok(store) => {
+            let mut store = store;
+            store.facts();
+            let mut task = OpsTask::of(request);
+            let Progress::Done(reply) = task.step(&mut store) else {
+                unreachable!()
+            };
+            store.facts();
+            Ok((reply, store.into_disk()))
+        }
+        Err(refused) => Err(refused),
+    }
+}
+
+/// Prints a reply.
+fn print_outcome<O: Sink>(alloc: Global, output: &mut O, given: &Reply) -> Outcome
+    ensures shown { ShowsReply (reply_text given.now) given.now (O.held output.old) (O.held output.new) result }
+    ensures write_fault { result ≡ outcome.WriteFault → Rose (O.faults output.old) (O.faults output.new) }
+    ensures write_quiet { result ≢ outcome.WriteFault → O.faults output.new ≡ O.faults output.old }
+    ensures counted { O.faults output.old ≤ O.faults output.new }
+{
+    match print_reply(alloc, output, given) {
+        Ok(()) => outcome_of_reply(given),
+        Err(PrintError::NoMemory) => Outcome::NoMemory,
+        Err(PrintError::WriteFault) => Outcome::WriteFault,
+    }
+}

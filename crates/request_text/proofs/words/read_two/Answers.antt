@@ -1,0 +1,6 @@
+use Rattle.std.proofs.Common.{List, ℕ, [], ◌∷◌, ap}
+use Rattle.request_text.specs.declared.command.Command.TheVariants as command
+use Rattle.request_text.proofs.words.read_two.Goals as goal
+
+pub returns-in-list-clause-memory : goal.returns-in-list-clause-memory
+returns-in-list-clause-memory c = λ e. (command.List c.args.word.now, tt, (c.read_list.ensures.memory e, ap (λ (verb : List ℕ). verb ∷ c.args.word.now ∷ []) c.in-list.is))

@@ -1,0 +1,220 @@
+-- What a crash within an append to the map log leaves, what the append leaves of a settled disk, and what records store then.
+use Rattle.std.proofs.Common.{inl, inr, ◌≡◌, ℕ, List, [], ◌∷◌, ◌++◌, map, Option, Some, None, All, refl, sym, ◌∙◌, ap, subst, ◌⊎◌, append-nil}
+use Rattle.std.specs.Prelude.{Contains, ◌≤◌}
+use Rattle.std.proofs.lemmas.List.Elements.{All-nil, All-cons, All-head, All-contains, Contains-append_cases}
+use Rattle.disk_model.specs.Disk.{Files, DiskState, History, MayLeave, IfTold, OthersStay, SameButFor, Between, reading}
+use Rattle.disk_model.specs.declared.name.FileName.{FileName}
+use Rattle.disk_model.specs.declared.name.FileName.TheVariants as file
+use Rattle.disk_model.proofs.MomentLemmas.{each_image-map}
+use Rattle.gate_log.specs.State.{LogState, IsSameLog}
+use Rattle.gate_log.specs.Log.{IsLogRead, IsLogHeld, Holds, IsLogWithOrWithout}
+use Rattle.mdbox_base.specs.declared.entries.BoxEntry.{BoxEntry}
+use Rattle.mdbox_base.specs.declared.entries.InstRow.{InstRow}
+use Rattle.mdbox_base.specs.declared.entries.MapEntry.{MapEntry}
+use Rattle.mdbox_base.specs.declared.entries.MapEntry.TheVariants as entry
+use Rattle.model_appends.specs.Appending.{HasOneMore, LeftBut, LeavesAsRead}
+use Rattle.model_appends.specs.MapAppending.{logs_made, lists_made, stored_row, IsMapAppend, AddsSynced, LeavesAlike}
+use Rattle.model_appends.proofs.AppendCountLemmas.{counts_by_map_entry}
+use Rattle.model_appends.proofs.AppendFileLemmas.{SameStored, kept_as, map_stored, count_itself}
+use Rattle.model_appends.proofs.AppendMapOpenLemmas.{same_record}
+use Rattle.model_appends.proofs.AppendSafeLemmas.{same_log, more_log, safe_without}
+use Rattle.model_appends.proofs.AppendSafeMapLemmas.{counts_append, stored_append, counts_synced, leaves_added, safe_with_map_entry, settled_by_map_append}
+use Rattle.model_appends.proofs.HeldLogLemmas.{holds_map}
+use Rattle.model_lists.specs.Lists.{Lists, refs_of, empty_mailbox}
+use Rattle.model_logs.specs.Entries.{map_text, MapInRange}
+use Rattle.model_logs.specs.LogFile.{IsLogFile}
+use Rattle.model_logs.specs.declared.log_head.LogHead.{LogHead}
+use Rattle.model_meaning.proofs.AppliedLemmas.{records_by_stored}
+use Rattle.model_meaning.proofs.MapLemmas.{map_more}
+use Rattle.model_meaning.specs.MapFits.{MapFits}
+use Rattle.model_meaning.specs.MapMeaning.{MapRecord, MapBox, MapMeaning, map_meaning, record_changed, record_made, count_of}
+use Rattle.model_octets.proofs.SearchLemmas.{among}
+use Rattle.model_store.proofs.StandsLemmas.{map_same, root_same}
+use Rattle.model_store.specs.GoodLogs.{AreGoodLogs}
+use Rattle.model_store.specs.Opening.{Opens}
+use Rattle.model_store.specs.Safe.{LiesInFile, IsThereWhole, SafeBy, Safe}
+use Rattle.model_store.specs.Settled.{files_of, IsSettled, IsSettledFor, Leaves, HasSameRegion, HasSameInstance}
+use Rattle.model_store.specs.Stands.{NamesOwn, NamesAny, StoredOnce, KeepsDetached, StoresMessage}
+use Rattle.store_core.specs.Append.{AddsText}
+use Rattle.store_core.specs.Dues.{KeepsStored}
+use Rattle.store_core.specs.MapAppend.{IsAppendable, HasSyncedRegion}
+use Rattle.store_core.specs.Value.{StoreValue}
+use Rattle.store_core.proofs.BoxAppendLemmas.{is_log, disk_more}
+use Rattle.store_core.proofs.BoxCrashLemmas.{ReadsImage}
+use Rattle.store_core.proofs.MapAppendLemmas.{Readied, fits_there, good_made, lies_there, no_instances}
+use Rattle.store_core.proofs.MapDueLemmas.{adds, no_box}
+
+-- ---- the entry can be appended to a settled disk
+
+nothing_in : {X : Type 0} → (x : X) → Contains [] x → ⊥
+nothing_in x c = All-contains (λ (y : _). ⊥) [] x (All-nil (λ (y : _). ⊥)) c
+
+-- a record more, of origin 1 and without instances, is no own save and names nothing
+was_there : (m n : MapMeaning) (row other : MapRecord) → n.records ≡ m.records ++ row ∷ [] → Contains n.records other → Contains m.records other ⊎ (other ≡ row)
+was_there m n row other records there = elim (Contains-append_cases m.records (row ∷ []) other (subst (λ (rows : List MapRecord). Contains rows other) records there)) [
+  | inl before ↦ inl before
+  | inr last ↦ elim (among row [] other last) [
+    | inl is ↦ inr (sym is)
+    | inr none ↦ absurd (nothing_in other none)
+  ]
+]
+
+own_before : (files : Files) (m n : MapMeaning) (row : MapRecord) (inst : InstRow) (octets : List ℕ) → n.records ≡ m.records ++ row ∷ [] → row.origin ≡ 1 → NamesOwn files n inst octets → NamesOwn files m inst octets
+own_before files m n row inst octets records origin h = elim (was_there m n row h.row records h.is_record) [
+  | inl there ↦ record { row = h.row; is_record = there; own = h.own; is_named = h.is_named; there = h.there }
+  | inr is ↦ absurd (let e : 0 ≡ 1 = sym h.own ∙ ap (λ (r : MapRecord). r.origin) is ∙ origin in cc e)
+]
+
+any_before : (files : Files) (m n : MapMeaning) (row : MapRecord) (inst : InstRow) (octets : List ℕ) → n.records ≡ m.records ++ row ∷ [] → row.instances ≡ [] → NamesAny files n inst octets → NamesAny files m inst octets
+any_before files m n row inst octets records none h = elim (was_there m n row h.row records h.is_record) [
+  | inl there ↦ record { row = h.row; is_record = there; is_named = h.is_named; there = h.there }
+  | inr is ↦ absurd (nothing_in inst (subst (λ (rows : List InstRow). Contains rows inst) (ap (λ (r : MapRecord). r.instances) is ∙ none) h.is_named))
+]
+
+once_with : (files : Files) (m n : MapMeaning) (row : MapRecord) → n.records ≡ m.records ++ row ∷ [] → row.origin ≡ 1 → row.instances ≡ [] → StoredOnce files m → StoredOnce files n
+once_with files m n row records origin none h = record {
+  once = λ i j octets p q. h.once i j octets (own_before files m n row i octets records origin p) (own_before files m n row j octets records origin q);
+  least = λ i j octets p q same less. h.least i j octets (own_before files m n row i octets records origin p) (any_before files m n row j octets records none q) same less;
+  hash = λ i octets p. h.hash i octets (own_before files m n row i octets records origin p);
+}
+
+detached_with : (files : Files) (m n : MapMeaning) (row : MapRecord) → n.records ≡ m.records ++ row ∷ [] → row.origin ≡ 1 → KeepsDetached files m → KeepsDetached files n
+detached_with files m n row records origin h = λ other octets there own kept. elim (was_there m n row other records there) [
+  | inl before ↦ h other octets before own kept
+  | inr is ↦ absurd (let e : 0 ≡ 1 = sym own ∙ ap (λ (r : MapRecord). r.origin) is ∙ origin in cc e)
+]
+
+lists_stay : (e : MapEntry) → IsAppendable e → (lists : Lists) → lists_made e lists ≡ lists
+lists_stay e k lists = ap (λ (boxes : List MapBox). lists ++ map (λ (box : MapBox). empty_mailbox box.number box.name) boxes) (no_box e k) ∙ append-nil lists
+
+can_append : (files : Files) (id : List ℕ) (entries : List MapEntry) (lists : Lists) (e : MapEntry) → SafeBy files id entries lists → IsAppendable e → MapInRange e → MapFits (map_meaning id entries) e → All (LiesInFile files) (record_made e)
+    → ((guid : List ℕ) → refs_of lists guid ≤ count_of (map_meaning id (entries ++ e ∷ [])) guid) → IsMapAppend files id entries lists lists e
+can_append files id entries lists (entry.U u) s k in_range fits lies counts = counts_append files id entries lists (entry.U u) s tt in_range fits counts
+can_append files id entries lists (entry.D us) s k in_range fits lies counts = counts_append files id entries lists (entry.D us) s tt in_range fits counts
+can_append files id entries lists (entry.T cs) s k in_range fits lies counts = counts_append files id entries lists (entry.T cs) s tt in_range fits counts
+can_append files id entries lists (entry.S o c u f p z g is) s k in_range fits lies counts =
+    let e : MapEntry = entry.S o c u f p z g is in
+    let row : MapRecord = stored_row o c u f p z g is in
+    let m : MapMeaning = map_meaning id entries in
+    let n : MapMeaning = map_meaning id (entries ++ e ∷ []) in
+    let records : n.records ≡ m.records ++ row ∷ [] = ap (λ (x : MapMeaning). x.records) (map_more id entries e) ∙ records_by_stored o c u f p z g is m.records in
+    stored_append files id entries lists o c u f p z g is s in_range fits (All-head (LiesInFile files) row [] lies) (subst (λ (rows : List InstRow). All (IsThereWhole files) rows) (sym k.2) (All-nil (IsThereWhole files)))
+    (once_with files m n row records k.0 k.2 s.stands.once) (detached_with files m n row records k.0 s.stands.detached) counts
+can_append files id entries lists (entry.H h) s k in_range fits lies counts = absurd k
+can_append files id entries lists (entry.B b g n) s k in_range fits lies counts = absurd k
+can_append files id entries lists (entry.G b g) s k in_range fits lies counts = absurd k
+can_append files id entries lists (entry.P f t ms us) s k in_range fits lies counts = absurd k
+can_append files id entries lists (entry.E f) s k in_range fits lies counts = absurd k
+
+-- of a disk that opens with these entries
+append_with : (disk : DiskState) (lists : Lists) (s : IsSettled disk lists) (id : List ℕ) (entries : List MapEntry) (logs : List (List BoxEntry)) (e : MapEntry) → Opens (files_of disk) id entries logs → IsAppendable e → MapInRange e
+    → MapFits (map_meaning id entries) e → All (LiesInFile (files_of disk)) (record_made e) → AreGoodLogs id (entries ++ e ∷ []) (logs_made e logs) → IsMapAppend (files_of disk) s.store s.entries lists lists e
+append_with disk lists s id entries logs e o kind in_range fits lies good =
+    let same = map_same (files_of disk) id s.store entries s.entries o.passed.map_log s.safe.stands.map_log in
+    (subst (λ (t : List ℕ). SafeBy (files_of disk) t s.entries lists → IsMapAppend (files_of disk) t s.entries lists lists e) same.0
+    (subst (λ (es : List MapEntry). SafeBy (files_of disk) id es lists → IsMapAppend (files_of disk) id es lists lists e) same.1
+    (λ safe. can_append (files_of disk) id entries lists e safe kind in_range fits lies
+    (λ guid. subst (λ (ls : Lists). refs_of ls guid ≤ count_of (map_meaning id (entries ++ e ∷ [])) guid) (lists_stay e kind lists) (counts_by_map_entry (files_of disk) id entries logs lists e o safe.stands (adds e kind) good guid))))) s.safe
+
+added_synced : (e : MapEntry) → IsAppendable e → (h : History) → HasSyncedRegion e (Some h) → AddsSynced h.now e
+added_synced (entry.U u) k h synced = counts_synced h.now (entry.U u) tt
+added_synced (entry.D us) k h synced = counts_synced h.now (entry.D us) tt
+added_synced (entry.T cs) k h synced = counts_synced h.now (entry.T cs) tt
+added_synced (entry.S o c u f p z g is) k h synced = record {
+  regions = λ image i. All-cons (HasSameRegion (files_of h.now) image) (stored_row o c u f p z g is) [] (synced image i) (All-nil (HasSameRegion (files_of h.now) image));
+  instances = λ image i. no_instances (HasSameInstance (files_of h.now) image) (entry.S o c u f p z g is) k;
+  boxes = λ image i. All-nil (λ (box : MapBox). image (file.Box box.number box.generation) ≡ files_of h.now (file.Box box.number box.generation));
+}
+added_synced (entry.H x) k h synced = absurd k
+added_synced (entry.B b g n) k h synced = absurd k
+added_synced (entry.G b g) k h synced = absurd k
+added_synced (entry.P f t ms us) k h synced = absurd k
+added_synced (entry.E f) k h synced = absurd k
+
+-- ---- the log
+
+held_map : (disk : DiskState) (lists : Lists) (s : IsSettled disk lists) (log : LogState) (texts : List (List ℕ)) → ReadsImage disk → log.name ≡ file.Map s.safe.stands.map_log.generation → IsLogRead log texts disk → IsLogHeld log texts disk
+held_map disk lists s log texts own name r = record {
+  reads = r;
+  keeps = record {
+    reads = r.file;
+    leaves = λ left. (λ may. as_read left may ∙ r.file, λ is. subst (λ (o : Option (List ℕ)). MayLeave (disk log.name) o) (r.file ∙ sym is) (own log.name));
+  };
+}
+  where
+    as_read : LeavesAsRead log.name disk
+    as_read = subst (λ (n : FileName). LeavesAsRead n disk) (sym name) (holds_map disk lists s own)
+
+-- what is known of the append, of a disk that is settled for these lists
+record MapAppends (old : History) (lists : Lists) (s : IsSettled old.now lists) (log : LogState) (e : MapEntry) : Type 0 where
+  pub texts : List (List ℕ)
+  pub append : IsMapAppend (files_of old.now) s.store s.entries lists lists e
+  pub alike : LeavesAlike s.safe.stands.map_log.generation (map_meaning s.store (s.entries ++ e ∷ [])) old.now
+  pub name : log.name ≡ file.Map s.safe.stands.map_log.generation
+  pub held : IsLogHeld log texts old.now
+
+map_appends : {D : Type 0} → (old : History) (v : StoreValue D) (e : MapEntry) (lists : Lists) (s : IsSettled old.now lists) → Readied (Some old) v e → ReadsImage old.now → HasSyncedRegion e (Some old) → MapAppends old lists s v.map_log e
+map_appends old v e lists s r own synced =
+    let runs = r.store.running r.running in
+    let g : ℕ = s.safe.stands.map_log.generation in
+    let name : v.map_log.name ≡ file.Map g = r.store.map_name ∙ ap (λ (n : ℕ). file.Map n) (root_same (files_of old.now) v.map.store s.store r.store.generation g runs.root s.safe.stands.map_log.root).1 in
+    record {
+      texts = map map_text r.store.entries;
+      append = append_with old.now lists s v.map.store r.store.entries r.store.logs e runs.opens r.kind r.in_range (fits_there (Some old) v e r) (lies_there e r.kind old r.region) (good_made (Some old) v e r);
+      alike = leaves_added old.now lists e s (adds e r.kind) (added_synced e r.kind old synced);
+      name = name;
+      held = held_map old.now lists s v.map_log (map map_text r.store.entries) own name runs.map_log_reads;
+    }
+
+-- ---- each image at every moment
+
+image_safe : (disk : DiskState) (lists : Lists) (s : IsSettled disk lists) (e : MapEntry) (head : LogHead) (texts : List (List ℕ)) (image : Files) → ReadsImage disk → IsMapAppend (files_of disk) s.store s.entries lists lists e
+    → LeavesAlike s.safe.stands.map_log.generation (map_meaning s.store (s.entries ++ e ∷ [])) disk → IsLogFile (reading (disk (file.Map s.safe.stands.map_log.generation))) head texts
+    → IsLogWithOrWithout head texts (map_text e) (image (file.Map s.safe.stands.map_log.generation)) → LeftBut (file.Map s.safe.stands.map_log.generation) disk image → Safe image lists
+image_safe disk lists s e head texts image own a alike is (inl without) left =
+    let name : FileName = file.Map s.safe.stands.map_log.generation in
+    safe_without disk lists name image s own refl left (same_log (reading (disk name)) (image name) head texts is without)
+image_safe disk lists s e head texts image own a alike is (inr more) left =
+    let name : FileName = file.Map s.safe.stands.map_log.generation in
+    safe_with_map_entry disk lists lists e image s own a alike left (more_log (reading (disk name)) (image name) head texts (map_text e) is more)
+
+pub leaves_with : {D : Type 0} → (old new : Option History) (v : StoreValue D) (e : MapEntry) → Readied old v e → IfTold old ReadsImage → AddsText v.map_log (map_text e) old new → (lists : Lists) → HasSyncedRegion e old → IsSettledFor lists old → Leaves lists lists old new
+leaves_with None new v e r own adds lists synced settled = absurd settled
+leaves_with (Some old) new v e r own adds lists synced s =
+    let a : MapAppends old lists s v.map_log e = map_appends old v e lists s r own synced in
+    let is : IsLogFile (reading (old.now (file.Map s.safe.stands.map_log.generation))) v.map_log.head a.texts = subst (λ (n : FileName). IsLogFile (reading (old.now n)) v.map_log.head a.texts) a.name (is_log v.map_log a.texts old.now a.held.reads) in
+    each_image-map (λ _ image. IsLogWithOrWithout v.map_log.head a.texts (map_text e) (image v.map_log.name) × OthersStay v.map_log.name (Some old) image) (λ _ image. Safe image lists ⊎ Safe image lists) (Some old) new
+    (λ moment image i. inl (image_safe old.now lists s e v.map_log.head a.texts image own a.append a.alike is
+    (subst (λ (n : FileName). IsLogWithOrWithout v.map_log.head a.texts (map_text e) (image n)) a.name i.0) (λ other apart. i.1 other (λ q. apart (q ∙ a.name)))))
+    (adds a.texts a.held)
+
+pub settled_with : {D : Type 0} → (old new : Option History) (v : StoreValue D) (log : LogState) (e : MapEntry) → Readied old v e → IfTold old ReadsImage → IsSameLog v.map_log log → SameButFor v.map_log.name old new
+    → ((texts : List (List ℕ)) → Holds v.map_log texts old → Holds log (texts ++ map_text e ∷ []) new) → (lists : Lists) → HasSyncedRegion e old → IsSettledFor lists old → IsSettledFor lists new
+settled_with None new v log e r own same others hold lists synced settled = absurd settled
+settled_with (Some old) None v log e r own same others hold lists synced settled = absurd others
+settled_with (Some old) (Some new) v log e r own same others hold lists synced s =
+    let a : MapAppends old lists s v.map_log e = map_appends old v e lists s r own synced in
+    let now : IsLogHeld log (a.texts ++ map_text e ∷ []) new.now = hold a.texts a.held in
+    settled_by_map_append old.now new.now lists lists e s own a.append a.alike (λ other apart. others other (λ q. apart (q ∙ a.name)))
+    (subst (λ (n : FileName). HasOneMore (map_text e) (reading (old.now n)) (reading (new.now n))) a.name (disk_more v.map_log log a.texts (map_text e) old.now new.now same.name same.head a.held.reads now.reads))
+    (λ left may.
+    let there : MayLeave (new.now log.name) left = subst (λ (n : FileName). MayLeave (new.now n) left) (sym (same.name ∙ a.name)) may in
+    (now.keeps.leaves left).0 there ∙ sym now.keeps.reads ∙ ap (λ (n : FileName). reading (new.now n)) (same.name ∙ a.name))
+
+-- ---- what records store
+
+stored_as : {D : Type 0} → (old new : History) (v : StoreValue D) (e : MapEntry) → Readied (Some old) v e → SameButFor v.map_log.name (Some old) (Some new) → SameStored (files_of old.now) (files_of new.now)
+stored_as old new v e r same = map_stored r.store.generation (files_of old.now) (files_of new.now) (λ other apart. ap reading (same other (λ p. apart (p ∙ r.store.map_name))))
+
+pub stored_with : {D : Type 0} → (old new : Option History) (v : StoreValue D) (e : MapEntry) → Readied old v e → SameButFor v.map_log.name old new → KeepsStored old new
+stored_with None new v e r same = same
+stored_with (Some old) None v e r same = absurd same
+stored_with (Some old) (Some new) v e r same = λ row octets stores. kept_as (files_of old.now) (files_of new.now) row row octets (stored_as old new v e r same) (count_itself row) stores
+
+-- a record that is found still stores what it did
+pub still_stored : {D : Type 0} → (old new : Option History) (v : StoreValue D) (e : MapEntry) (row : MapRecord) (octets : List ℕ) → Readied old v e → SameButFor v.map_log.name old new
+    → Between (λ a b. StoresMessage (files_of a) row octets → StoresMessage (files_of b) (record_changed e row) octets) old new
+still_stored None new v e row octets r same = same
+still_stored (Some old) None v e row octets r same = absurd same
+still_stored (Some old) (Some new) v e row octets r same = λ stores.
+    kept_as (files_of old.now) (files_of new.now) row (record_changed e row) octets (stored_as old new v e r same) (same_record e (adds e r.kind) row) stores

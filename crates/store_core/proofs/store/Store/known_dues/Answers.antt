@@ -1,0 +1,8 @@
+use Rattle.std.proofs.Common.{◌≤◌, ℕ, subst}
+use Rattle.model_meaning.specs.MapFits.{HasRecord}
+use Rattle.store_core.specs.Dues.{due_at}
+use Rattle.store_core.proofs.DueLemmas.{due_record}
+use Rattle.store_core.proofs.store.Store.known_dues.Goals as goal
+
+pub returns : goal.returns
+returns g c = subst (λ v. (uid : ℕ) → 1 ≤ due_at uid v → HasRecord v.map uid (λ row. 1 ≤ row.count)) c.self.view_is (λ uid some. due_record c.self.invariant.1.logs _ _ uid c.self.invariant.1.counts some)

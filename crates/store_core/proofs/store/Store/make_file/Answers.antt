@@ -1,0 +1,51 @@
+use Rattle.std.proofs.Common.{◌≡◌, ℕ, true, false, None, sym, ◌∙◌, ap, subst}
+use Rattle.disk_model.specs.Disk.{Grows, IfTold}
+use Rattle.model_lists.specs.Lists.{Lists}
+use Rattle.model_store.specs.Settled.{IsSettledFor, Leaves}
+use Rattle.storage_files.specs.Files.{end_in, is_taken_in}
+use Rattle.store_core.specs.Dues.{KeepsStored}
+use Rattle.store_core.proofs.KeptFileLemmas.{ends_made}
+use Rattle.store_core.proofs.StoreFileLemmas.{made_store, made_leaves, change_made, settled_then, stored_then, absent_there, each_grows, room_kept}
+use Rattle.store_core.proofs.store.Store.make_file.Goals as goal
+
+pub invariant_of-self-in_default : goal.invariant_of-self-in_default
+invariant_of-self-in_default g c =
+    let runs = ap (λ v. v.stopped) c.self.view_is ∙ c.requires.running in
+    let absent = ap (λ v. end_in c.args.file.0 v.files.files) c.self.view_is ∙ c.requires.absent in (
+      c.self.invariant.0,
+      made_store c.args.file.0 c.args.header.now _ _ _ c.make_file.new.disk c.make_file.new.self c.self.invariant.1 runs (g.met.D.Disk.reads_image c.self.inside.disk) absent c.in_default.ensures.ok c.in_default.ensures.others c.in_default.ensures.made c.in_default.ensures.still_known,
+      room_kept _ c.make_file.new.disk c.make_file.new.self c.self.inside.drawn c.self.inside.stopped c.self.invariant.2,
+    )
+
+pub returns-clause-any_moment : goal.returns-clause-any_moment
+returns-clause-any_moment g c =
+    let runs = ap (λ v. v.stopped) c.self.view_is ∙ c.requires.running in
+    let absent = ap (λ v. end_in c.args.file.0 v.files.files) c.self.view_is ∙ c.requires.absent in
+    subst (λ v. (lists : Lists) → IsSettledFor lists (g.D.Disk.history v.disk) → Leaves lists lists (g.D.Disk.history v.disk) (g.D.Disk.history c.make_file.new.disk)) c.self.view_is
+    (made_leaves c.args.file.0 _ _ _ (g.met.D.Disk.reads_image c.self.inside.disk) (absent_there c.args.file.0 c.self.inside.files.files _ absent ((c.self.invariant.1.running runs).files_known c.args.file.0)) c.make_file.ensures.any_moment)
+
+pub returns-in-Err-clause-any_moment : goal.returns-in-Err-clause-any_moment
+returns-in-Err-clause-any_moment g c =
+    let runs = ap (λ v. v.stopped) c.self.view_is ∙ c.requires.running in
+    let absent = ap (λ v. end_in c.args.file.0 v.files.files) c.self.view_is ∙ c.requires.absent in
+    subst (λ v. (lists : Lists) → IsSettledFor lists (g.D.Disk.history v.disk) → Leaves lists lists (g.D.Disk.history v.disk) (g.D.Disk.history c.make_file.new.disk)) c.self.view_is
+    (made_leaves c.args.file.0 _ _ _ (g.met.D.Disk.reads_image c.self.inside.disk) (absent_there c.args.file.0 c.self.inside.files.files _ absent ((c.self.invariant.1.running runs).files_known c.args.file.0)) c.make_file.ensures.any_moment)
+
+pub returns-clause-settled : goal.returns-clause-settled
+returns-clause-settled g c =
+    let runs = ap (λ v. v.stopped) c.self.view_is ∙ c.requires.running in
+    let absent = ap (λ v. end_in c.args.file.0 v.files.files) c.self.view_is ∙ c.requires.absent in
+    subst (λ v. (lists : Lists) → IsSettledFor lists (g.D.Disk.history v.disk) → IsSettledFor lists (g.D.Disk.history c.make_file.new.disk)) c.self.view_is
+    (settled_then c.args.file.0 _ _ (change_made c.args.file.0 _ _ (g.met.D.Disk.reads_image c.self.inside.disk) (absent_there c.args.file.0 c.self.inside.files.files _ absent ((c.self.invariant.1.running runs).files_known c.args.file.0)) c.in_default.ensures.others))
+
+pub returns-clause-stored : goal.returns-clause-stored
+returns-clause-stored g c =
+    let runs = ap (λ v. v.stopped) c.self.view_is ∙ c.requires.running in
+    let absent = ap (λ v. end_in c.args.file.0 v.files.files) c.self.view_is ∙ c.requires.absent in
+    subst (λ v. KeepsStored (g.D.Disk.history v.disk) (g.D.Disk.history c.make_file.new.disk)) c.self.view_is
+    (stored_then c.args.file.0 _ _ (change_made c.args.file.0 _ _ (g.met.D.Disk.reads_image c.self.inside.disk) (absent_there c.args.file.0 c.self.inside.files.files _ absent ((c.self.invariant.1.running runs).files_known c.args.file.0)) c.in_default.ensures.others))
+
+pub returns-clause-ends : goal.returns-clause-ends
+returns-clause-ends g c =
+    let taken = ap (λ v. is_taken_in c.args.file.0 v.files.files) c.self.view_is ∙ c.requires.taken in
+    ends_made c.args.file.0 _ c.self.inside.files c.make_file.new.self taken c.in_default.ensures.ok

@@ -1,0 +1,65 @@
+use Rattle.std.proofs.Common.{◌≡◌, ℕ, true, false, Some, sym, ◌∙◌, ap, subst}
+use Rattle.disk_model.specs.Disk.{Grows, IfTold}
+use Rattle.disk_model.specs.declared.name.FileName.TheVariants.{Mail}
+use Rattle.model_appends.specs.Appending.{LeavesAsRead}
+use Rattle.model_lists.specs.Lists.{Lists}
+use Rattle.model_store.specs.Settled.{IsSettledFor, Leaves}
+use Rattle.storage_files.specs.Files.{end_in, is_taken_in}
+use Rattle.store_core.specs.Dues.{KeepsStored}
+use Rattle.store_core.specs.Files.{EndsWith}
+use Rattle.store_core.proofs.KeptFileLemmas.{file_there, ends_longer}
+use Rattle.store_core.proofs.StoreFileLemmas.{placed_store, placed_leaves, change_added, settled_then, stored_then, held_then, ends_with, each_grows, room_kept}
+use Rattle.store_core.proofs.store.Store.place.Goals as goal
+
+pub invariant_of-self : goal.invariant_of-self
+invariant_of-self g c =
+    let runs = ap (λ v. v.stopped) c.self.view_is ∙ c.requires.running in (
+      c.self.invariant.0,
+      placed_store c.args.file.0 c.in-Ok.offset c.args.octets.now _ _ _ c.place.new.disk c.place.new.self c.self.invariant.1 runs (g.met.D.Disk.reads_image c.self.inside.disk) c.in-Ok.ensures.offset c.in-Ok.ensures.ok c.in-Ok.ensures.others c.in-Ok.ensures.added c.in-Ok.ensures.still_known,
+      room_kept _ c.place.new.disk c.place.new.self c.self.inside.drawn c.self.inside.stopped c.self.invariant.2,
+    )
+
+pub returns-in-Ok-clause-any_moment : goal.returns-in-Ok-clause-any_moment
+returns-in-Ok-clause-any_moment g c =
+    subst (λ v. (lists : Lists) → IsSettledFor lists (g.D.Disk.history v.disk) → Leaves lists lists (g.D.Disk.history v.disk) (g.D.Disk.history c.place.new.disk)) c.self.view_is
+    (placed_leaves c.args.file.0 c.requires.fits.0 _ _ (g.met.D.Disk.reads_image c.self.inside.disk) (c.place.ensures.any_moment c.requires.fits.0 (ap (λ v. end_in c.args.file.0 v.files.files) c.self.view_is ∙ c.requires.fits.1)))
+
+pub returns-in-Err-clause-any_moment : goal.returns-in-Err-clause-any_moment
+returns-in-Err-clause-any_moment g c =
+    subst (λ v. (lists : Lists) → IsSettledFor lists (g.D.Disk.history v.disk) → Leaves lists lists (g.D.Disk.history v.disk) (g.D.Disk.history c.place.new.disk)) c.self.view_is
+    (placed_leaves c.args.file.0 c.requires.fits.0 _ _ (g.met.D.Disk.reads_image c.self.inside.disk) (c.place.ensures.any_moment c.requires.fits.0 (ap (λ v. end_in c.args.file.0 v.files.files) c.self.view_is ∙ c.requires.fits.1)))
+
+pub returns-in-Ok-clause-grows : goal.returns-in-Ok-clause-grows
+returns-in-Ok-clause-grows g c =
+    subst (λ v. Grows (g.D.Disk.history v.disk) (g.D.Disk.history c.place.new.disk)) c.self.view_is
+    (each_grows _ _ _ (c.place.ensures.any_moment c.requires.fits.0 (ap (λ v. end_in c.args.file.0 v.files.files) c.self.view_is ∙ c.requires.fits.1)))
+
+pub returns-in-Err-clause-grows : goal.returns-in-Err-clause-grows
+returns-in-Err-clause-grows g c =
+    subst (λ v. Grows (g.D.Disk.history v.disk) (g.D.Disk.history c.place.new.disk)) c.self.view_is
+    (each_grows _ _ _ (c.place.ensures.any_moment c.requires.fits.0 (ap (λ v. end_in c.args.file.0 v.files.files) c.self.view_is ∙ c.requires.fits.1)))
+
+pub returns-in-Ok-clause-settled : goal.returns-in-Ok-clause-settled
+returns-in-Ok-clause-settled g c =
+    subst (λ v. (lists : Lists) → IsSettledFor lists (g.D.Disk.history v.disk) → IsSettledFor lists (g.D.Disk.history c.place.new.disk)) c.self.view_is
+    (settled_then c.args.file.0 _ _ (change_added c.args.file.0 c.args.octets.now _ _ (g.met.D.Disk.reads_image c.self.inside.disk) c.in-Ok.ensures.others c.in-Ok.ensures.added))
+
+pub returns-in-Ok-clause-held : goal.returns-in-Ok-clause-held
+returns-in-Ok-clause-held g c =
+    let runs = ap (λ v. v.stopped) c.self.view_is ∙ c.requires.running in
+    let taken = ap (λ v. is_taken_in c.args.file.0 v.files.files) c.self.view_is ∙ c.requires.taken in
+    subst (λ v. (lists : Lists) → IsSettledFor lists (g.D.Disk.history v.disk) → IfTold (g.D.Disk.history c.place.new.disk) (LeavesAsRead (Mail c.args.file.0))) c.self.view_is
+    (held_then c.args.file.0 c.in-Ok.offset c.args.octets.now _ _ _ c.self.invariant.1 runs (file_there c.args.file.0 c.in-Ok.offset _ taken c.in-Ok.ensures.offset) (g.met.D.Disk.reads_image c.self.inside.disk) c.in-Ok.ensures.added)
+
+pub returns-in-Ok-clause-placed : goal.returns-in-Ok-clause-placed
+returns-in-Ok-clause-placed g c =
+    let runs = ap (λ v. v.stopped) c.self.view_is ∙ c.requires.running in
+    ends_with c.args.file.0 c.in-Ok.offset c.args.octets.now c.self.inside.files.files _ _ c.in-Ok.ensures.offset ((c.self.invariant.1.running runs).files_known c.args.file.0) c.in-Ok.ensures.added
+
+pub returns-in-Ok-clause-stored : goal.returns-in-Ok-clause-stored
+returns-in-Ok-clause-stored g c =
+    subst (λ v. KeepsStored (g.D.Disk.history v.disk) (g.D.Disk.history c.place.new.disk)) c.self.view_is
+    (stored_then c.args.file.0 _ _ (change_added c.args.file.0 c.args.octets.now _ _ (g.met.D.Disk.reads_image c.self.inside.disk) c.in-Ok.ensures.others c.in-Ok.ensures.added))
+
+pub returns-in-Ok-clause-ends : goal.returns-in-Ok-clause-ends
+returns-in-Ok-clause-ends g c = ends_longer c.args.file.0 c.in-Ok.offset _ c.self.inside.files c.place.new.self c.in-Ok.ensures.offset c.in-Ok.ensures.ok
