@@ -1,7 +1,6 @@
 -- The storage files that an opening found, as the store keeps them.
-use Rattle.std.specs.Prelude.{find, Contains}
+use Rattle.std.specs.Prelude.{find}
 use Rattle.std.proofs.Common.{◌≡◌, ◌<◌, ◌≤◌, ◌+◌, ◌==◌, ◌&&◌, nat_le, inl, inr, ℕ, Bool, true, false, List, length, map, get_or, Option, Some, None, All, refl, sym, ◌∙◌, ap, subst, arith}
-use Rattle.std.specs.List.{list_any}
 use Rattle.std.specs.Option.{option_map}
 use Rattle.std.proofs.lemmas.Bool.{cases_Bool, cond-true, cond-false, eq-eqb, true≢false}
 use Rattle.std.proofs.lemmas.Grind.{common_steps}
@@ -17,7 +16,7 @@ use Rattle.storage_files.specs.Files.{FilesValue, file_in, file_found}
 use Rattle.storage_files.specs.OnDisk.{IsAsKnown}
 use Rattle.storage_files.specs.declared.file.FileState.{FileState}
 use Rattle.storage_files.specs.declared.file.MailFile.{MailFile}
-use Rattle.store_core.specs.Files.{MayGrow, EndsBehind, LiesBelowEnd, AreFilesKept, StayThere}
+use Rattle.store_core.specs.Files.{MayGrow, EndsBehind, AreFilesKept, StayThere}
 use Rattle.store_files.specs.Barred.{names_past, is_barred}
 use Rattle.store_files.specs.Found.{length_on, end_found, IsMarked, AreFilesFound, IsFoundFiles}
 use Rattle.store_files.specs.Regions.{has_region, end_of, last_end}

@@ -1,5 +1,5 @@
 -- The log of a mailbox, found by a search for the mailbox's number.
-use Rattle.std.proofs.Common.{◌≡◌, ◌≢◌, ℕ, ◌+◌, ◌<◌, ◌≤◌, ◌==◌, ◌&&◌, ◌||◌, zero, suc, Bool, true, false, not, cond, List, [], ◌∷◌, length, get_or, slice_get, Option, Some, All, AllPairs, inl, inr, refl, sym, ◌∙◌, ap, subst, arith, nat_le}
+use Rattle.std.proofs.Common.{◌≡◌, ◌≢◌, ℕ, ◌+◌, ◌<◌, ◌≤◌, ◌==◌, ◌&&◌, ◌||◌, zero, suc, Bool, true, false, not, cond, List, [], ◌∷◌, length, get_or, slice_get, Option, Some, All, AllPairs, inl, inr, refl, sym, ◌∙◌, ap, arith, nat_le}
 use Rattle.std.specs.List.{list_any, position_or_len}
 use Rattle.std.specs.Option.{option_map, option_map_or}
 use Rattle.std.proofs.lemmas.Bool.{cases_order, le-leb, lt-leb, ne_eqb, or_from}

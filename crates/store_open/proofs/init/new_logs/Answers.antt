@@ -1,7 +1,7 @@
-use Rattle.std.proofs.Common.{◌++◌, ◌∷◌, [], refl, List, ◌∙◌, ap}
+use Rattle.std.proofs.Common.{◌≡◌, rules, ◌++◌, ◌∷◌, [], refl, List, ◌∙◌, ap}
 use Rattle.disk_model.proofs.IdleLemmas.{idle-begins}
 use Rattle.store_core.specs.declared.store.OpenBox.{OpenBox}
-use Rattle.store_open.specs.Making.{IsFreeForStore}
+use Rattle.store_open.specs.Making.{IsFreeForStore, no_files}
 use Rattle.store_open.proofs.IdleUnlessLemmas.{stays}
 use Rattle.store_open.proofs.FirstLogsLemmas.{checked-images}
 use Rattle.store_open.proofs.NewStoreLemmas.{new_store}
@@ -19,8 +19,9 @@ returns-in_err-boxes-clause-any_moment g c = checked-images _ _ _ (idle-begins _
 pub returns-clause-store : goal.returns-clause-store
 returns-clause-store g c =
     let e = c.in_ok-made.ensures in
+    let none : c.in_ok-files.files ≡ no_files = search rules in
     let box : OpenBox = record { number = record { 0 = 1 }; log = c.in_ok-made.made.box_log; index = c.in_ok-index.index } in
-    new_store c.args.alloc c.make_files.new.disk c.args.id.0 box (record { id = c.args.id; root_log = c.in_ok-made.made.root_log; map_log = c.in_ok-made.made.map_log; map = c.in_ok-map.map; boxes = c.push_box.new.boxes }) _ c.in_ok-map.ensures
+    rw none (new_store c.args.alloc c.make_files.new.disk c.args.id.0 box (record { id = c.args.id; root_log = c.in_ok-made.made.root_log; map_log = c.in_ok-made.made.map_log; map = c.in_ok-map.map; boxes = c.push_box.new.boxes }) _ c.in_ok-map.ensures
     (record {
       made = e.store;
       root_held = e.root_log.0;
@@ -32,7 +33,7 @@ returns-clause-store g c =
       box_held = e.box_log.0;
       box_is = e.box_log.1;
     }) refl (ap (λ i. i.meaning) c.in_ok-index.ensures)
-    (c.push_box.ensures ∙ ap (λ (bs : List OpenBox). bs ++ box ∷ []) c.in_ok-boxes.ensures.items)
+    (c.push_box.ensures ∙ ap (λ (bs : List OpenBox). bs ++ box ∷ []) c.in_ok-boxes.ensures.items))
 
 pub returns-in_err-map-clause-untouched : goal.returns-in_err-map-clause-untouched
 returns-in_err-map-clause-untouched g c = stays IsFreeForStore _ _ (idle-begins _)
@@ -48,3 +49,9 @@ returns-in_err-room-clause-any_moment g c = checked-images _ _ _ (idle-begins _)
 
 pub returns-in_err-room-clause-untouched : goal.returns-in_err-room-clause-untouched
 returns-in_err-room-clause-untouched g c = stays IsFreeForStore _ _ (idle-begins _)
+
+pub returns-in_err-files-clause-any_moment : goal.returns-in_err-files-clause-any_moment
+returns-in_err-files-clause-any_moment g c = checked-images _ _ _ (idle-begins _)
+
+pub returns-in_err-files-clause-untouched : goal.returns-in_err-files-clause-untouched
+returns-in_err-files-clause-untouched g c = stays IsFreeForStore _ _ (idle-begins _)

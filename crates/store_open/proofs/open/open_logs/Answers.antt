@@ -1,5 +1,6 @@
-use Rattle.std.proofs.Common.{sym, ◌∙◌, ap, subst}
+use Rattle.std.proofs.Common.{rules, sym, ◌∙◌, ap, subst}
 use Rattle.std.proofs.lemmas.Bool.{false≢true}
+use Rattle.disk_model.specs.Disk.{IsIdle}
 use Rattle.disk_model.proofs.FaultCountLemmas.{no_fault-then}
 use Rattle.disk_model.proofs.IdleLemmas.{idle-then}
 use Rattle.gate_log.specs.State.{LogState}
@@ -182,7 +183,9 @@ pub returns-clause-untouched : goal.returns-clause-untouched
 returns-clause-untouched g c = let k = c.in_ok-checked.ensures.checked in has_it Opening _ _ (opening _ c.in_ok-checked.checked.id.0 k.1 k.2 k.3.opens)
 
 pub returns-in_err-files-clause-idle : goal.returns-in_err-files-clause-idle
-returns-in_err-files-clause-idle g c = λ no_fault. idle-then _ _ _ c.in_ok-checked.ensures.idle c.in_err-files.ensures.idle
+returns-in_err-files-clause-idle g c =
+    let idle : IsIdle (g.D.Disk.history c.args.disk.now) (g.D.Disk.history c.find_files.new.disk) = idle-then _ _ _ c.in_ok-checked.ensures.idle c.in_err-files.ensures.idle in
+    search rules
 
 pub returns-clause-room : goal.returns-clause-room
 returns-clause-room g c = room_is c.in_ok-checked.checked c.in_ok-logs.logs c.in_ok-room.room.boxes c.in_ok-room.room.records c.in_ok-logs.ensures.same.1 c.in_ok-logs.ensures.same.2

@@ -1,4 +1,8 @@
+use Rattle.store_open.proofs.FoundFileLemmas.{files_untaken}
 use Rattle.store_open.proofs.open.open_store.Goals as goal
+
+pub of-requires-clause-untaken : goal.of-requires-clause-untaken
+of-requires-clause-untaken g c = files_untaken c.in-Ok.field-0.logs.map.meaning (g.D.Disk.history c.args.disk) c.in-Ok.field-0.files c.in-Ok.ensures.files
 
 pub returns-in-Ok-clause-swept : goal.returns-in-Ok-clause-swept
 returns-in-Ok-clause-swept g c = rw c.of.ensures.store c.in-Ok.ensures.swept
