@@ -1,0 +1,83 @@
+-- What the events of a fetch answer.
+use Rattle.std.specs.Prelude.{◌≡◌, ◌+◌, ◌-◌, ◌*◌, ◌<◌, ◌≤◌, ◌⊎◌, ◌++◌, min, ℕ, true, false, is_some, List, if◌then◌else◌, Option, Some, None}
+use Rattle.std.specs.Option.{option_map_or}
+use Rattle.disk_model.specs.Disk.{DiskState, History, Faults, IfTold, reading}
+use Rattle.disk_model.specs.declared.name.FileName.TheVariants.{Mail}
+use Rattle.mdbox_base.specs.Streams.{Rose}
+use Rattle.mdbox_base.specs.declared.progress.Progress.{Progress}
+use Rattle.mdbox_base.specs.declared.progress.Progress.TheVariants as progress
+use Rattle.mdbox_base.specs.declared.replies.Refusal.{Refusal}
+use Rattle.mdbox_base.specs.declared.replies.Refusal.TheVariants as refusal
+use Rattle.mdbox_base.specs.declared.replies.Reply.{Reply}
+use Rattle.mdbox_base.specs.declared.replies.Reply.TheVariants as reply
+use Rattle.model_meaning.specs.BoxMeaning.{LogRow, BoxMeaning, row_at}
+use Rattle.model_meaning.specs.MapMeaning.{MapRecord, record_at}
+use Rattle.storage_files.specs.OnDisk.{piece_read}
+use Rattle.store_core.specs.Value.{StoreValue, list_named}
+use Rattle.mail_fetch.specs.Region.{stored_at, pieces_in, RegionValue, unread, IsReplyFor}
+use Rattle.mail_fetch.specs.declared.task.FetchStage.{FetchStage}
+use Rattle.mail_fetch.specs.declared.task.FetchStage.TheVariants as stage
+
+-- ---- the first
+
+-- why nothing is fetched: the store is stopped, no mailbox has the name, or no message of it has the UID
+abbrev pub fetch_refusal : {D : Type 0} → List ℕ → ℕ → StoreValue D → Option Refusal
+fetch_refusal name uid store =
+    if store.stopped then Some refusal.Stopped else option_map_or (λ m. if is_some (row_at m uid) then None else Some refusal.NoMessage) (list_named store name) (Some refusal.NoMailbox)
+
+-- the mailbox with this name has this row of this UID, and the row's record is this one
+pub record IsStoredBy {D : Type 0} (name : List ℕ) (uid : ℕ) (store : StoreValue D) (row : LogRow) (entry : MapRecord) : Type 0 where
+  pub mailbox : BoxMeaning
+  pub named : list_named store name ≡ Some mailbox
+  pub listed : row_at mailbox uid ≡ Some row
+  pub stored : record_at store.map row.map_uid ≡ Some entry
+  pub same : entry.guid ≡ row.guid
+
+-- the region of the message with this UID is pinned, and nothing of it is read
+abbrev pub IsPinned : {D : Type 0} → List ℕ → ℕ → StoreValue D → RegionValue → Type 0
+IsPinned name uid store region = (row : LogRow) × (entry : MapRecord) × IsStoredBy name uid store row entry × (region ≡ unread (stored_at row entry))
+
+-- The first event is refused, or it pins the region and the request goes on, or there is no memory for the octets.
+pub record IsBegun {D : Type 0} (name : List ℕ) (uid : ℕ) (store : StoreValue D) (next : FetchStage) (answer : Progress) : Type 0 where
+  pub refused : (why : Refusal) → fetch_refusal name uid store ≡ Some why → (answer ≡ progress.Done (reply.Refused why)) × (next ≡ stage.First)
+  pub begun : fetch_refusal name uid store ≡ None
+      → ((answer ≡ progress.More) × ((region : RegionValue) × IsPinned name uid store region × (next ≡ stage.Reading region))) ⊎ ((answer ≡ progress.Done (reply.Refused refusal.NoMemory)) × (next ≡ stage.First))
+
+-- ---- the pieces
+
+-- how many octets the next piece has at the most, and those that a disk reads
+abbrev pub next_size : RegionValue → ℕ
+next_size region = min 65536 (region.from.size - 65536 * region.pieces)
+
+abbrev pub next_piece : RegionValue → DiskState → List ℕ
+next_piece region disk = piece_read (region.from.offset + 65536 * region.pieces) (next_size region) (reading (disk (Mail region.from.file.0)))
+
+abbrev pub with_piece : RegionValue → List ℕ → RegionValue
+with_piece region piece = record { from = region.from; octets = region.octets ++ piece; pieces = region.pieces + 1 }
+
+-- Behind this piece others are to be read, or it was the last, and it is known what will be replied.
+pub record GoesOnWith (region : RegionValue) (next : FetchStage) : Type 0 where
+  pub more : region.pieces < pieces_in region.from.size → next ≡ stage.Reading region
+  pub last : pieces_in region.from.size ≤ region.pieces → (given : Reply) × (next ≡ stage.Unpinning region.from given) × IsReplyFor region.from region.octets given
+
+-- The next piece is what the disk reads there, or a read failed. Either way the request goes on.
+abbrev pub IsPieceRead : RegionValue → FetchStage → Option History → Faults → Faults → Type 0
+IsPieceRead region next history old new =
+    ((piece : List ℕ) × IfTold history (λ disk. piece ≡ next_piece region disk) × GoesOnWith (with_piece region piece) next)
+    ⊎ (Rose old.reads new.reads × (next ≡ stage.Unpinning region.from (reply.Refused refusal.ReadFault)))
+
+-- ---- each event
+
+-- A store that is stopped replies so to each event, and the task stays where it is. Else the first event pins, those behind it
+-- read a piece each, and the last one unpins and gives the reply.
+abbrev pub FetchesNext : {D : Type 0} → List ℕ → ℕ → FetchStage → FetchStage → Progress → StoreValue D → Option History → Faults → Faults → Type 0
+FetchesNext name uid stage.First next answer store history old new = IsBegun name uid store next answer
+FetchesNext name uid (stage.Reading region) next answer store history old new =
+    (store.stopped ≡ true → (answer ≡ progress.Done (reply.Refused refusal.Stopped)) × (next ≡ stage.Reading region)) × (store.stopped ≡ false → (answer ≡ progress.More) × IsPieceRead region next history old new)
+FetchesNext name uid (stage.Unpinning from given) next answer store history old new =
+    (store.stopped ≡ true → (answer ≡ progress.Done (reply.Refused refusal.Stopped)) × (next ≡ stage.Unpinning from given)) × (store.stopped ≡ false → (answer ≡ progress.Done given) × (next ≡ stage.First))
+
+-- no change of the disk was counted as failed, and no failed read is forgotten
+pub record NoChangeFault (old new : Faults) : Type 0 where
+  pub reads : old.reads ≤ new.reads
+  pub changes : new.changes ≡ old.changes

@@ -1,0 +1,89 @@
+-- Where a fetch stands in a run.
+use Rattle.std.specs.Prelude.{◌≡◌, ◌≤◌, ◌⊎◌, ◌*◌, ℕ, true, false, List, [], ◌∷◌, ◌++◌, length, take, drop, Option, Some, None, All}
+use Rattle.disk_model.specs.Disk.{Files, History}
+use Rattle.mdbox_base.specs.declared.replies.Refusal.{Refusal}
+use Rattle.mdbox_base.specs.declared.replies.Refusal.TheVariants as refusal
+use Rattle.mdbox_base.specs.declared.replies.Reply.{Reply}
+use Rattle.mdbox_base.specs.declared.replies.Reply.TheVariants as reply
+use Rattle.model_meaning.specs.MapMeaning.{MapRecord}
+use Rattle.model_store.specs.Settled.{files_of}
+use Rattle.model_store.specs.Stands.{StoresMessage}
+use Rattle.list_machine.specs.Run.{First, ReadsPiece, RunEvent, Run, own_events}
+use Rattle.journal.specs.Journal.{refusal_in}
+use Rattle.task_steps.specs.Step.{Seen, HasNotBegun}
+use Rattle.mail_fetch.specs.Region.{RegionValue, pieces_in, damage_at}
+use Rattle.mail_fetch.specs.declared.region.StoredAt.{StoredAt}
+use Rattle.mail_fetch.specs.declared.task.FetchStage.{FetchStage}
+use Rattle.mail_fetch.specs.declared.task.FetchStage.TheVariants as stage
+
+-- ---- its own events
+
+-- the event read a piece, and was refused by this or not at all
+pub record ReadPiece (refused : Option Refusal) (event : RunEvent) : Type 0 where
+  pub part : event.part ≡ ReadsPiece
+  pub pinned : event.pins ≡ []
+  pub refused_is : event.refused ≡ refused
+
+-- The first of its own events pinned the file, for so many pieces as the region and the attachments have. These are those
+-- behind it.
+pub record HasPinned (from : StoredAt) (own behind : List RunEvent) : Type 0 where
+  pub pin : RunEvent
+  pub pieces : ℕ
+  pub own_are : own ≡ pin ∷ behind
+  pub part : pin.part ≡ First
+  pub unrefused : pin.refused ≡ None
+  pub pins : pin.pins ≡ record { file = from.file.0; pieces = pieces } ∷ []
+  pub region : pieces_in from.size ≤ pieces
+  pub attached : from.has_attachments ≡ false → pieces ≡ pieces_in from.size
+
+-- it has read so many pieces
+abbrev pub HasReadPieces : StoredAt → ℕ → List RunEvent → Type 0
+HasReadPieces from pieces own = (behind : List RunEvent) × HasPinned from own behind × All (ReadPiece None) behind × (length behind ≡ pieces)
+
+-- what a piece was refused by, behind which the request goes on
+abbrev pub IsPieceRefusal : Refusal → Type 0
+IsPieceRefusal refusal.ReadFault = Unit {0}
+IsPieceRefusal (refusal.Damaged file offset) = Unit {0}
+IsPieceRefusal other = ⊥
+
+-- It unpins next: all pieces are read, or the last event was refused. By this it will reply.
+abbrev pub UnpinsNext : StoredAt → Reply → List RunEvent → Type 0
+UnpinsNext from given own =
+    ((refusal_in given ≡ None) × (from.has_attachments ≡ false) × HasReadPieces from (pieces_in from.size) own)
+    ⊎ ((why : Refusal) × (front : List RunEvent) × (last : RunEvent) × (refusal_in given ≡ Some why) × IsPieceRefusal why × HasPinned from own (front ++ last ∷ []) × All (ReadPiece None) front × ReadPiece (Some why) last)
+
+-- ---- what the disk reads
+
+-- The files store this text at a region, without attachments or with some, and the octets that were read are the front of the
+-- region.
+pub record IsFrontOfStored (region : RegionValue) (octets : List ℕ) (files : Files) : Type 0 where
+  pub entry : MapRecord
+  pub file : entry.file ≡ region.from.file.0
+  pub offset : entry.offset ≡ region.from.offset
+  pub size : entry.size ≡ region.from.size
+  pub guid : entry.guid ≡ region.from.guid.0
+  pub attached : region.from.has_attachments ≡ false → entry.instances ≡ []
+  pub listed : length octets ≡ region.from.listed
+  pub stores : StoresMessage files entry octets
+  pub front : region.octets ≡ take (65536 * region.pieces) (take entry.size (drop entry.offset stores.stored.octets_there))
+
+-- the disk is modelled, and its files as they read are so
+abbrev pub Reading : (Files → Type 0) → Option History → Type 0
+Reading P None = ⊥
+Reading P (Some history) = P (files_of history.now)
+
+-- A message that is stored is replied, unless a read failed or the message has attachments.
+abbrev pub IsTrueReply : StoredAt → List ℕ → Reply → Type 0
+IsTrueReply from octets given = (given ≡ reply.Fetched octets) ⊎ ((given ≡ reply.Refused refusal.ReadFault) ⊎ ((from.has_attachments ≡ true) × (given ≡ damage_at from)))
+
+-- ---- the stages
+
+-- Where the task stands, as a store is seen: what is true of the run, for the place of its request, and of the answers of its
+-- steps. The first event has answered the octets of the message as it was listed then, and the disk still stores them, unless the
+-- store is stopped. A store that another task stopped before this one unpins isn't covered.
+abbrev pub IsAtFetch : FetchStage → Seen → Run → ℕ → List Reply → Type 0
+IsAtFetch stage.First seen run place said = HasNotBegun run place said
+IsAtFetch (stage.Reading region) seen run place said =
+    HasReadPieces region.from region.pieces (own_events place run) × ((octets : List ℕ) × (said ≡ reply.Fetched octets ∷ []) × (seen.stopped ≡ false → Reading (IsFrontOfStored region octets) seen.history))
+IsAtFetch (stage.Unpinning from given) seen run place said =
+    UnpinsNext from given (own_events place run) × ((octets : List ℕ) × (said ≡ reply.Fetched octets ∷ []) × IsTrueReply from octets given) × (seen.stopped ≡ false)

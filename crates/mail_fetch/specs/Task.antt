@@ -1,0 +1,72 @@
+-- What a caller sees of a fetch, and of the store that it works on.
+use Rattle.std.specs.Prelude.{◌+◌, ◌-◌, ◌<◌, ◌==◌, ℕ, false, List, Option, if◌then◌else◌}
+use Rattle.disk_model.specs.Disk.{History, Faults}
+use Rattle.mdbox_base.specs.declared.ids.Uid.{Uid}
+use Rattle.mdbox_base.specs.declared.progress.Did.{Did}
+use Rattle.mdbox_base.specs.declared.progress.Did.TheVariants as did
+use Rattle.mdbox_base.specs.declared.progress.Progress.{Progress}
+use Rattle.mdbox_base.specs.declared.progress.Progress.TheVariants as progress
+use Rattle.mdbox_base.specs.declared.replies.Refusal.{Refusal}
+use Rattle.mdbox_base.specs.declared.replies.Reply.TheVariants as reply
+use Rattle.mdbox_base.specs.declared.script.Half.TheVariants as half
+use Rattle.list_machine.specs.Machine.{is_step}
+use Rattle.store_core.specs.Dues.{due_at}
+use Rattle.store_core.specs.Value.{StoreValue, indexes_of}
+use Rattle.task_steps.specs.Step.{Seen}
+use Rattle.mail_fetch.specs.Region.{pieces_in}
+use Rattle.mail_fetch.specs.declared.task.FetchStage.{FetchStage}
+use Rattle.mail_fetch.specs.declared.task.FetchStage.TheVariants as stage
+
+-- The mailbox and the UID of the message, which event is next, and what the last one did: nothing before the first.
+pub record FetchValue : Type 0 where
+  pub name : List ℕ
+  pub uid : Uid
+  pub stage : FetchStage
+  pub did : Did
+
+-- What an event did by which the request was refused: a step, unless for lack of memory, a fault, or damage. And what each event
+-- did: the first one makes the step.
+abbrev pub refusing_did : Refusal → Did
+refusing_did why = if is_step why then did.Step half.Whole else did.Quiet
+
+abbrev pub fetch_did : FetchStage → Progress → Did
+fetch_did stage.First progress.More = did.Step half.Whole
+fetch_did stage.First (progress.Done (reply.Refused why)) = refusing_did why
+fetch_did now answer = did.Quiet
+
+-- How many events are still to come at the most. A region has at most 65,536 pieces.
+abbrev pub events_left : FetchStage → ℕ
+events_left stage.First = 65538
+events_left (stage.Reading region) = pieces_in region.from.size - region.pieces + 1
+events_left (stage.Unpinning from given) = 1
+
+-- a task that reads has a piece left to read
+abbrev pub HasPieceLeft : FetchStage → Type 0
+HasPieceLeft (stage.Reading region) = region.pieces < pieces_in region.from.size
+HasPieceLeft other = Unit {0}
+
+-- how many pins of a file are the task's own
+abbrev pub one_pin : ℕ → ℕ → ℕ
+one_pin pinned file = if pinned == file then 1 else 0
+
+abbrev pub pins_at : FetchStage → ℕ → ℕ
+pins_at stage.First file = 0
+pins_at (stage.Reading region) file = one_pin region.from.file.0 file
+pins_at (stage.Unpinning from given) file = one_pin from.file.0 file
+
+-- A store as an event of a fetch sees it, with what its disk tells and the faults that it has counted: so many pins of each
+-- file are other tasks', and those of this stage are its own. No task dooms a file, or gives a GUID, yet.
+abbrev pub seen_with_pins : {D : Type 0} → (ℕ → ℕ) → FetchStage → StoreValue D → Option History → Faults → Seen
+seen_with_pins others now store history faults = record {
+  map = store.map;
+  meanings = indexes_of store.boxes;
+  drawn = store.drawn;
+  history = history;
+  faults = faults;
+  stopped = store.stopped;
+  due = λ uid. due_at uid store;
+  pins = λ file. others file + pins_at now file;
+  doomed = λ file. false;
+  used = λ file. false;
+  gave = λ guid. false;
+}

@@ -1,0 +1,35 @@
+// The first event of a fetch.
+ghost use Rattle.std.specs.Prelude.{◌≡◌, ◌⊎◌, Some, None, IfOk, IfErr};
+ghost use Rattle.mdbox_base.specs.declared.replies.Refusal.TheVariants as refusal;
+ghost use Rattle.mail_fetch.specs.Events.{fetch_refusal, IsPinned};
+
+use crate::region::{Region, StoredAt};
+use disk_model::Disk;
+use mdbox_base::{Name, Refusal, Uid};
+use store_core::Store;
+
+/// Finds where the message is stored, and takes the memory for the octets of its region. Nothing is read yet.
+pub fn pin<D: Disk>(store: &Store<D>, name: &Name, uid: Uid) -> Result<Region, Refusal>
+    ensures pinned { IfOk result (λ region. (fetch_refusal name.now uid.0 store.now ≡ None) × IsPinned name.now uid.0 store.now region) }
+    ensures refused { IfErr result (λ why. (fetch_refusal name.now uid.0 store.now ≡ Some why) ⊎ ((fetch_refusal name.now uid.0 store.now ≡ None) × (why ≡ refusal.NoMemory))) }
+{
+    store.facts();
+    if store.stopped() {
+        return Err(Refusal::Stopped);
+    }
+    let index = store.list_of(name).ok_or(Refusal::NoMailbox)?;
+    let row = index.find(uid).ok_or(Refusal::NoMessage)?;
+    let map = store.map();
+    let (Some(entry), Some(instances)) = (map.row(row.map_uid), map.instances(row.map_uid)) else {
+        unreachable!()
+    };
+    let from = StoredAt {
+        file: entry.file,
+        offset: entry.offset,
+        size: entry.size,
+        guid: entry.guid,
+        listed: row.size,
+        has_attachments: instances.length() > 0,
+    };
+    Region::of(store.alloc(), from).map_err(|_| Refusal::NoMemory)
+}

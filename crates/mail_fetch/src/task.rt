@@ -1,0 +1,174 @@
+// The task of a fetch.
+ghost use Rattle.std.specs.Prelude.{◌≡◌, ◌<◌, false, ℕ};
+ghost use Rattle.disk_model.specs.Disk.{IsIdle};
+ghost use Rattle.disk_model.specs.FaultCounts.{ReadFaultCounted};
+ghost use Rattle.journal.specs.Events.{Around};
+ghost use Rattle.mdbox_base.specs.declared.progress.Did.TheVariants as did;
+ghost use Rattle.mdbox_base.specs.declared.progress.Progress.TheVariants as progress;
+ghost use Rattle.mdbox_base.specs.declared.requests.Request.TheVariants as request;
+ghost use Rattle.store_core.specs.Dues.{Moves, Spares, amounts_in, no_amounts};
+ghost use Rattle.task_steps.specs.Step.{ended_by};
+ghost use Rattle.mail_fetch.specs.Clause.{StepsOnSafe};
+ghost use Rattle.mail_fetch.specs.Events.{FetchesNext, IsBegun, IsPieceRead, NoChangeFault};
+ghost use Rattle.mail_fetch.specs.Region.{pieces_in};
+ghost use Rattle.mail_fetch.specs.Stages.{IsAtFetch};
+ghost use Rattle.mail_fetch.specs.Task.{HasPieceLeft, events_left, fetch_did, seen_with_pins};
+ghost use Rattle.mail_fetch.specs.declared.task.FetchStage.TheVariants as stage;
+
+use crate::first::pin;
+use crate::region::{Region, StoredAt};
+use disk_model::Disk;
+use mdbox_base::{Did, Half, Name, Progress, Refusal, Reply, Uid};
+use std::marker::Model;
+use std::mem;
+use store_core::Store;
+
+/// Which event of a fetch is the next.
+#[derive(Drop)]
+pub enum FetchStage {
+    /// The first, which pins. So it is too behind the last.
+    First,
+    /// One that reads a piece of the region.
+    Reading(Region),
+    /// The last, which unpins and gives this reply.
+    Unpinning { from: StoredAt, reply: Reply },
+}
+
+/// The task of a fetch: its events, one at a step.
+#[derive(Drop)]
+pub struct FetchTask {
+    name: Name,
+    uid: Uid,
+    stage: FetchStage,
+    did: Did,
+}
+
+impl Model for FetchTask {
+    ghost use Rattle.mail_fetch.specs.Task.{FetchValue, HasPieceLeft};
+
+    ghost Value = { FetchValue };
+
+    ghost view = { λ task. record { name = task.name; uid = task.uid; stage = task.stage; did = task.did } };
+
+    ghost invariant = { λ task. HasPieceLeft task.stage };
+}
+
+impl FetchTask {
+    /// The fetch of the message with this UID.
+    pub fn of(name: Name, uid: Uid) -> FetchTask
+        ensures { result ≡ record { name = name; uid = uid; stage = stage.First; did = did.Quiet } }
+    {
+        FetchTask {
+            name,
+            uid,
+            stage: FetchStage::First,
+            did: Did::Quiet,
+        }
+    }
+
+    /// What the last event did.
+    pub fn did(&self) -> Did
+        ensures { result ≡ self.now.did }
+    {
+        self.did
+    }
+
+    /// Does the next event: the first one finds the message and takes the memory for it, each one behind it reads a piece, and
+    /// the last one gives the reply. A task that has given its reply begins anew; one that was stopped stays where it was.
+    pub fn step<D: Disk>(&mut self, store: &mut Store<D>) -> Progress
+        // Of every run that has come to the store, and of lists for which its files are safe: which event it was, what it
+        // answered, and what a crash may leave. Other tasks have any pins.
+        ensures does { (around after : Around) (others : ℕ → ℕ) → StepsOnSafe (IsAtFetch self.old.stage (seen_with_pins others self.old.stage store.old (D.history store.old.disk) (D.faults store.old.disk))) (IsAtFetch self.new.stage (seen_with_pins others self.new.stage store.new (D.history store.new.disk) (D.faults store.new.disk))) around after (request.Fetch self.old.name self.old.uid) (seen_with_pins others self.old.stage store.old (D.history store.old.disk) (D.faults store.old.disk)) (seen_with_pins others self.new.stage store.new (D.history store.new.disk) (D.faults store.new.disk)) self.new.did (ended_by result) }
+
+        // What was read, and what is replied, over every disk.
+        ensures replies { FetchesNext self.old.name self.old.uid.0 self.old.stage self.new.stage result store.old (D.history store.old.disk) (D.faults store.old.disk) (D.faults store.new.disk) }
+
+        // It holds and owes nothing, and what others do it leaves to them. Nothing changes but the number of device calls.
+        ensures moves { Moves no_amounts no_amounts (amounts_in store.old) (amounts_in store.new) }
+        ensures spares { Spares no_amounts store.old store.new (D.history store.old.disk) (D.history store.new.disk) }
+        ensures same { store.new ≡ record store.old { disk = store.new.disk } }
+        ensures idle { IsIdle (D.history store.old.disk) (D.history store.new.disk) }
+        ensures fault { NoChangeFault (D.faults store.old.disk) (D.faults store.new.disk) }
+
+        ensures did { self.new.did ≡ fetch_did self.old.stage result }
+
+        // So it ends.
+        ensures left { result ≡ progress.More → events_left self.new.stage < events_left self.old.stage }
+        ensures request { (self.new.name ≡ self.old.name) × (self.new.uid ≡ self.old.uid) }
+    {
+        store.facts();
+        if store.stopped() {
+            self.did = Did::Quiet;
+            return Progress::Done(Reply::Refused(Refusal::Stopped));
+        }
+        match mem::replace(&mut self.stage, FetchStage::First) {
+            FetchStage::First => {
+                let (next, answer) = begin(store, &self.name, self.uid);
+                self.stage = next;
+                self.did = did_begin(&answer);
+                answer
+            }
+            FetchStage::Reading(region) => {
+                self.stage = read_piece(store, region);
+                self.did = Did::Quiet;
+                Progress::More
+            }
+            FetchStage::Unpinning { from: _, reply } => {
+                self.did = Did::Quiet;
+                Progress::Done(reply)
+            }
+        }
+    }
+}
+
+/// The first event, of a store that isn't stopped: which event is next, and how the request goes on.
+fn begin<D: Disk>(store: &Store<D>, name: &Name, uid: Uid) -> (FetchStage, Progress)
+    requires { store.now.stopped ≡ false }
+    ensures begun { IsBegun name.now uid.0 store.now result.0 result.1 }
+    ensures left { HasPieceLeft result.0 }
+{
+    store.facts();
+    match pin(store, name, uid) {
+        Ok(region) => (FetchStage::Reading(region), Progress::More),
+        Err(why) => (FetchStage::First, Progress::Done(Reply::Refused(why))),
+    }
+}
+
+/// What the first event did. A refusal is a step, unless the store is stopped or there is no memory.
+fn did_begin(answer: &Progress) -> Did
+    ensures { result ≡ fetch_did stage.First answer.now }
+{
+    match answer {
+        Progress::Done(
+            Reply::Refused(
+                Refusal::NoMemory | Refusal::ReadFault | Refusal::Stopped | Refusal::Damaged { .. },
+            ),
+        ) => Did::Quiet,
+        Progress::Done(Reply::Refused(_)) | Progress::More => Did::Step(Half::Whole),
+        Progress::Done(_) => Did::Quiet,
+    }
+}
+
+/// Reads the next piece of a region, and answers which event is next.
+fn read_piece<D: Disk>(store: &mut Store<D>, region: Region) -> FetchStage
+    requires { region.pieces < pieces_in region.from.size }
+    ensures read { IsPieceRead region result (D.history store.old.disk) (D.faults store.old.disk) (D.faults store.new.disk) }
+    ensures left { HasPieceLeft result }
+    ensures same { store.new ≡ record store.old { disk = store.new.disk } }
+    ensures idle { IsIdle (D.history store.old.disk) (D.history store.new.disk) }
+    ensures fault { NoChangeFault (D.faults store.old.disk) (D.faults store.new.disk) }
+{
+    let mut region = region;
+    let from = region.from();
+    match region.read_next(store) {
+        Ok(()) if region.is_read() => FetchStage::Unpinning {
+            from,
+            reply: region.into_reply(),
+        },
+        Ok(()) => FetchStage::Reading(region),
+        Err(_fault) => FetchStage::Unpinning {
+            from,
+            reply: Reply::Refused(Refusal::ReadFault),
+        },
+    }
+}
