@@ -1,7 +1,7 @@
 -- What an append to the map log asks, and what it leaves.
 use Rattle.std.specs.Prelude.{◌≡◌, ◌≤◌, ◌<◌, ◌+◌, ◌-◌, ℕ, List, [], ◌∷◌, ◌++◌, length, fold, All, Option, MatchOption}
 use Rattle.disk_model.specs.Disk.{Files, History, IfTold, IsImage}
-use Rattle.map_index.specs.Shown.{TakesMemory}
+use Rattle.map_index.specs.Needs.{TakesMemory}
 use Rattle.map_index.specs.Value.{HasRoomFor}
 use Rattle.map_index.specs.declared.room.MapRoom.{MapRoom}
 use Rattle.mdbox_base.specs.declared.entries.Highest.{Highest}

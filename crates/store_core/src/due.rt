@@ -1,6 +1,6 @@
 // What is due of records: numbers in the order of the map's records.
 ghost use Rattle.std.specs.Prelude.{◌≡◌, ◌<◌, ◌^◌, ◌-◌, ◌+◌, length, fold, vec_len, vec_capacity};
-ghost use Rattle.map_index.specs.Shown.{TakesMemory};
+ghost use Rattle.map_index.specs.Needs.{TakesMemory};
 ghost use Rattle.mdbox_base.specs.declared.entries.MapEntry.TheVariants as map_entry;
 ghost use Rattle.store_core.specs.Append.{due_change_of, change_beside, dues_by};
 ghost use Rattle.mdbox_base.specs.declared.ids.MapUid.{MapUid};

@@ -4,7 +4,7 @@ ghost use Rattle.disk_model.specs.Disk.{Grows, SameButFor};
 ghost use Rattle.disk_model.specs.FaultCounts.{NoFault, ChangeFaultCounted};
 ghost use Rattle.gate_log.specs.Log.{Reads, Holds};
 ghost use Rattle.gate_log.specs.State.{IsSameLog};
-ghost use Rattle.map_index.specs.Shown.{TakesMemory};
+ghost use Rattle.map_index.specs.Needs.{TakesMemory};
 ghost use Rattle.mdbox_base.specs.Words.{IsNumber};
 ghost use Rattle.model_appends.specs.Amounts.{due_by, leak_by};
 ghost use Rattle.model_lists.specs.Lists.{Lists};
