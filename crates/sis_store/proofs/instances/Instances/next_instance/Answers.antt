@@ -1,0 +1,9 @@
+use Rattle.std.proofs.Common.{true, ◌∙◌}
+use Rattle.sis_store.proofs.IdLemmas.{next-is}
+use Rattle.sis_store.proofs.instances.Instances.next_instance.Goals as goal
+
+pub returns : goal.returns
+returns c =
+    let items = c.self.inside.known.items in
+    let found = rw c.deref.ensures.value at c.first_id.ensures in
+    rw (← c.self.view_is) (found ∙ next-is (λ k. true) items c.args.after c.place_past.result (rw c.deref-2.ensures.value at c.place_past.ensures.before) (rw c.deref-2.ensures.value at c.place_past.ensures.behind))

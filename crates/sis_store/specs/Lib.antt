@@ -1,0 +1,5 @@
+pub mod Comparing
+pub mod Hashes
+pub mod Instances
+pub mod OnDisk
+pub mod Refusals
