@@ -260,7 +260,7 @@ no_instances P (entry.U u) k = All-nil (λ (row : MapRecord). All P row.instance
 no_instances P (entry.D us) k = All-nil (λ (row : MapRecord). All P row.instances)
 no_instances P (entry.T cs) k = All-nil (λ (row : MapRecord). All P row.instances)
 no_instances P (entry.S o c u f p z g is) k =
-    All-cons (λ (row : MapRecord). All P row.instances) (stored_row o c u f p z g is) [] (subst (λ (rows : List InstRow). All P rows) (sym k.2) (All-nil P)) (All-nil (λ (row : MapRecord). All P row.instances))
+    All-cons (λ (row : MapRecord). All P row.instances) (stored_row o c u f p z g is) [] (subst (λ (rows : List InstRow). All P rows) (sym k.1) (All-nil P)) (All-nil (λ (row : MapRecord). All P row.instances))
 no_instances P (entry.H x) k = absurd k
 no_instances P (entry.B b g n) k = absurd k
 no_instances P (entry.G b g) k = absurd k
@@ -416,7 +416,7 @@ pub few_octets : (e : MapEntry) → IsAppendable e → MapInRange e → length (
 few_octets (entry.U u) k r = omega arith
 few_octets (entry.D us) k r = let size = lowered_size (entry.D us) us refl r in let few = r.0 in omega (arith, size, few)
 few_octets (entry.T cs) k r = let size = counted_size (entry.T cs) cs refl r in let few = r.0 in omega (arith, size, few)
-few_octets (entry.S o c u f p z g is) k r = let size = stored_size (entry.S o c u f p z g is) o c u f p z g is refl r in let none = ap (λ (xs : List InstRow). length xs) k.2 in omega (arith, size, none)
+few_octets (entry.S o c u f p z g is) k r = let size = stored_size (entry.S o c u f p z g is) o c u f p z g is refl r in let none = ap (λ (xs : List InstRow). length xs) k.1 in omega (arith, size, none)
 few_octets (entry.H h) k r = absurd k
 few_octets (entry.B b g n) k r = absurd k
 few_octets (entry.G b g) k r = absurd k

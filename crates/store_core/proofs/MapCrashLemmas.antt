@@ -20,6 +20,7 @@ use Rattle.model_appends.proofs.AppendMapOpenLemmas.{same_record}
 use Rattle.model_appends.proofs.AppendSafeLemmas.{same_log, more_log, safe_without}
 use Rattle.model_appends.proofs.AppendSafeMapLemmas.{counts_append, stored_append, counts_synced, leaves_added, safe_with_map_entry, settled_by_map_append}
 use Rattle.model_appends.proofs.HeldLogLemmas.{holds_map}
+use Rattle.model_attach.specs.Detached.{AreDetached}
 use Rattle.model_lists.specs.Lists.{Lists, refs_of, empty_mailbox}
 use Rattle.model_logs.specs.Entries.{map_text, MapInRange}
 use Rattle.model_logs.specs.LogFile.{IsLogFile}
@@ -37,7 +38,7 @@ use Rattle.model_store.specs.Settled.{files_of, IsSettled, IsSettledFor, Leaves,
 use Rattle.model_store.specs.Stands.{NamesOwn, NamesAny, StoredOnce, KeepsDetached, StoresMessage}
 use Rattle.store_core.specs.Append.{AddsText}
 use Rattle.store_core.specs.Dues.{KeepsStored}
-use Rattle.store_core.specs.MapAppend.{IsAppendable, HasSyncedRegion}
+use Rattle.store_core.specs.MapAppend.{IsAppendable, StoresDetached, IsReadyToStore}
 use Rattle.store_core.specs.Value.{StoreValue}
 use Rattle.store_core.proofs.BoxAppendLemmas.{is_log, disk_more}
 use Rattle.store_core.proofs.BoxCrashLemmas.{ReadsImage}
@@ -49,7 +50,7 @@ use Rattle.store_core.proofs.MapDueLemmas.{adds, no_box}
 nothing_in : {X : Type 0} → (x : X) → Contains [] x → ⊥
 nothing_in x c = All-contains (λ (y : _). ⊥) [] x (All-nil (λ (y : _). ⊥)) c
 
--- a record more, of origin 1 and without instances, is no own save and names nothing
+-- a record more without instances names nothing
 was_there : (m n : MapMeaning) (row other : MapRecord) → n.records ≡ m.records ++ row ∷ [] → Contains n.records other → Contains m.records other ⊎ (other ≡ row)
 was_there m n row other records there = elim (Contains-append_cases m.records (row ∷ []) other (subst (λ (rows : List MapRecord). Contains rows other) records there)) [
   | inl before ↦ inl before
@@ -59,10 +60,10 @@ was_there m n row other records there = elim (Contains-append_cases m.records (r
   ]
 ]
 
-own_before : (files : Files) (m n : MapMeaning) (row : MapRecord) (inst : InstRow) (octets : List ℕ) → n.records ≡ m.records ++ row ∷ [] → row.origin ≡ 1 → NamesOwn files n inst octets → NamesOwn files m inst octets
-own_before files m n row inst octets records origin h = elim (was_there m n row h.row records h.is_record) [
+own_before : (files : Files) (m n : MapMeaning) (row : MapRecord) (inst : InstRow) (octets : List ℕ) → n.records ≡ m.records ++ row ∷ [] → row.instances ≡ [] → NamesOwn files n inst octets → NamesOwn files m inst octets
+own_before files m n row inst octets records none h = elim (was_there m n row h.row records h.is_record) [
   | inl there ↦ record { row = h.row; is_record = there; own = h.own; is_named = h.is_named; there = h.there }
-  | inr is ↦ absurd (let e : 0 ≡ 1 = sym h.own ∙ ap (λ (r : MapRecord). r.origin) is ∙ origin in cc e)
+  | inr is ↦ absurd (nothing_in inst (subst (λ (rows : List InstRow). Contains rows inst) (ap (λ (r : MapRecord). r.instances) is ∙ none) h.is_named))
 ]
 
 any_before : (files : Files) (m n : MapMeaning) (row : MapRecord) (inst : InstRow) (octets : List ℕ) → n.records ≡ m.records ++ row ∷ [] → row.instances ≡ [] → NamesAny files n inst octets → NamesAny files m inst octets
@@ -71,57 +72,73 @@ any_before files m n row inst octets records none h = elim (was_there m n row h.
   | inr is ↦ absurd (nothing_in inst (subst (λ (rows : List InstRow). Contains rows inst) (ap (λ (r : MapRecord). r.instances) is ∙ none) h.is_named))
 ]
 
-once_with : (files : Files) (m n : MapMeaning) (row : MapRecord) → n.records ≡ m.records ++ row ∷ [] → row.origin ≡ 1 → row.instances ≡ [] → StoredOnce files m → StoredOnce files n
-once_with files m n row records origin none h = record {
-  once = λ i j octets p q. h.once i j octets (own_before files m n row i octets records origin p) (own_before files m n row j octets records origin q);
-  least = λ i j octets p q same less. h.least i j octets (own_before files m n row i octets records origin p) (any_before files m n row j octets records none q) same less;
-  hash = λ i octets p. h.hash i octets (own_before files m n row i octets records origin p);
+once_with : (files : Files) (m n : MapMeaning) (row : MapRecord) → n.records ≡ m.records ++ row ∷ [] → row.instances ≡ [] → StoredOnce files m → StoredOnce files n
+once_with files m n row records none h = record {
+  once = λ i j octets p q. h.once i j octets (own_before files m n row i octets records none p) (own_before files m n row j octets records none q);
+  least = λ i j octets p q same less. h.least i j octets (own_before files m n row i octets records none p) (any_before files m n row j octets records none q) same less;
+  hash = λ i octets p. h.hash i octets (own_before files m n row i octets records none p);
 }
 
-detached_with : (files : Files) (m n : MapMeaning) (row : MapRecord) → n.records ≡ m.records ++ row ∷ [] → row.origin ≡ 1 → KeepsDetached files m → KeepsDetached files n
-detached_with files m n row records origin h = λ other octets there own kept. elim (was_there m n row other records there) [
+detached_with : (files : Files) (m n : MapMeaning) (row : MapRecord) → n.records ≡ m.records ++ row ∷ [] → (row.origin ≡ 0 → StoresDetached files row) → KeepsDetached files m → KeepsDetached files n
+detached_with files m n row records form h = λ other octets there own kept. elim (was_there m n row other records there) [
   | inl before ↦ h other octets before own kept
-  | inr is ↦ absurd (let e : 0 ≡ 1 = sym own ∙ ap (λ (r : MapRecord). r.origin) is ∙ origin in cc e)
+  | inr is ↦ subst (λ (r : MapRecord). r.origin ≡ 0 → (k : StoresMessage files r octets) → AreDetached octets k.stored.message.body k.stored.meta.refs k.instances) (sym is) (λ own kept. form own octets kept) own kept
 ]
 
 lists_stay : (e : MapEntry) → IsAppendable e → (lists : Lists) → lists_made e lists ≡ lists
 lists_stay e k lists = ap (λ (boxes : List MapBox). lists ++ map (λ (box : MapBox). empty_mailbox box.number box.name) boxes) (no_box e k) ∙ append-nil lists
 
-can_append : (files : Files) (id : List ℕ) (entries : List MapEntry) (lists : Lists) (e : MapEntry) → SafeBy files id entries lists → IsAppendable e → MapInRange e → MapFits (map_meaning id entries) e → All (LiesInFile files) (record_made e)
+-- an own save stores its detached form
+abbrev KeepsForm : MapEntry → Files → Type 0
+KeepsForm (entry.S o c u f p z g is) files = o ≡ 0 → StoresDetached files (stored_row o c u f p z g is)
+KeepsForm e files = Unit {0}
+
+keeps_form : (e : MapEntry) (h : History) → IsReadyToStore e (Some h) → KeepsForm e (files_of h.now)
+keeps_form (entry.S o c u f p z g is) h ready = ready.1
+keeps_form (entry.U u) h ready = tt
+keeps_form (entry.D us) h ready = tt
+keeps_form (entry.T cs) h ready = tt
+keeps_form (entry.H x) h ready = tt
+keeps_form (entry.B b g n) h ready = tt
+keeps_form (entry.G b g) h ready = tt
+keeps_form (entry.P f t ms us) h ready = tt
+keeps_form (entry.E f) h ready = tt
+
+can_append : (files : Files) (id : List ℕ) (entries : List MapEntry) (lists : Lists) (e : MapEntry) → SafeBy files id entries lists → IsAppendable e → KeepsForm e files → MapInRange e → MapFits (map_meaning id entries) e → All (LiesInFile files) (record_made e)
     → ((guid : List ℕ) → refs_of lists guid ≤ count_of (map_meaning id (entries ++ e ∷ [])) guid) → IsMapAppend files id entries lists lists e
-can_append files id entries lists (entry.U u) s k in_range fits lies counts = counts_append files id entries lists (entry.U u) s tt in_range fits counts
-can_append files id entries lists (entry.D us) s k in_range fits lies counts = counts_append files id entries lists (entry.D us) s tt in_range fits counts
-can_append files id entries lists (entry.T cs) s k in_range fits lies counts = counts_append files id entries lists (entry.T cs) s tt in_range fits counts
-can_append files id entries lists (entry.S o c u f p z g is) s k in_range fits lies counts =
+can_append files id entries lists (entry.U u) s k form in_range fits lies counts = counts_append files id entries lists (entry.U u) s tt in_range fits counts
+can_append files id entries lists (entry.D us) s k form in_range fits lies counts = counts_append files id entries lists (entry.D us) s tt in_range fits counts
+can_append files id entries lists (entry.T cs) s k form in_range fits lies counts = counts_append files id entries lists (entry.T cs) s tt in_range fits counts
+can_append files id entries lists (entry.S o c u f p z g is) s k form in_range fits lies counts =
     let e : MapEntry = entry.S o c u f p z g is in
     let row : MapRecord = stored_row o c u f p z g is in
     let m : MapMeaning = map_meaning id entries in
     let n : MapMeaning = map_meaning id (entries ++ e ∷ []) in
     let records : n.records ≡ m.records ++ row ∷ [] = ap (λ (x : MapMeaning). x.records) (map_more id entries e) ∙ records_by_stored o c u f p z g is m.records in
-    stored_append files id entries lists o c u f p z g is s in_range fits (All-head (LiesInFile files) row [] lies) (subst (λ (rows : List InstRow). All (IsThereWhole files) rows) (sym k.2) (All-nil (IsThereWhole files)))
-    (once_with files m n row records k.0 k.2 s.stands.once) (detached_with files m n row records k.0 s.stands.detached) counts
-can_append files id entries lists (entry.H h) s k in_range fits lies counts = absurd k
-can_append files id entries lists (entry.B b g n) s k in_range fits lies counts = absurd k
-can_append files id entries lists (entry.G b g) s k in_range fits lies counts = absurd k
-can_append files id entries lists (entry.P f t ms us) s k in_range fits lies counts = absurd k
-can_append files id entries lists (entry.E f) s k in_range fits lies counts = absurd k
+    stored_append files id entries lists o c u f p z g is s in_range fits (All-head (LiesInFile files) row [] lies) (subst (λ (rows : List InstRow). All (IsThereWhole files) rows) (sym k.1) (All-nil (IsThereWhole files)))
+    (once_with files m n row records k.1 s.stands.once) (detached_with files m n row records form s.stands.detached) counts
+can_append files id entries lists (entry.H h) s k form in_range fits lies counts = absurd k
+can_append files id entries lists (entry.B b g n) s k form in_range fits lies counts = absurd k
+can_append files id entries lists (entry.G b g) s k form in_range fits lies counts = absurd k
+can_append files id entries lists (entry.P f t ms us) s k form in_range fits lies counts = absurd k
+can_append files id entries lists (entry.E f) s k form in_range fits lies counts = absurd k
 
 -- of a disk that opens with these entries
-append_with : (disk : DiskState) (lists : Lists) (s : IsSettled disk lists) (id : List ℕ) (entries : List MapEntry) (logs : List (List BoxEntry)) (e : MapEntry) → Opens (files_of disk) id entries logs → IsAppendable e → MapInRange e
+append_with : (disk : DiskState) (lists : Lists) (s : IsSettled disk lists) (id : List ℕ) (entries : List MapEntry) (logs : List (List BoxEntry)) (e : MapEntry) → Opens (files_of disk) id entries logs → IsAppendable e → KeepsForm e (files_of disk) → MapInRange e
     → MapFits (map_meaning id entries) e → All (LiesInFile (files_of disk)) (record_made e) → AreGoodLogs id (entries ++ e ∷ []) (logs_made e logs) → IsMapAppend (files_of disk) s.store s.entries lists lists e
-append_with disk lists s id entries logs e o kind in_range fits lies good =
+append_with disk lists s id entries logs e o kind form in_range fits lies good =
     let same = map_same (files_of disk) id s.store entries s.entries o.passed.map_log s.safe.stands.map_log in
     (subst (λ (t : List ℕ). SafeBy (files_of disk) t s.entries lists → IsMapAppend (files_of disk) t s.entries lists lists e) same.0
     (subst (λ (es : List MapEntry). SafeBy (files_of disk) id es lists → IsMapAppend (files_of disk) id es lists lists e) same.1
-    (λ safe. can_append (files_of disk) id entries lists e safe kind in_range fits lies
+    (λ safe. can_append (files_of disk) id entries lists e safe kind form in_range fits lies
     (λ guid. subst (λ (ls : Lists). refs_of ls guid ≤ count_of (map_meaning id (entries ++ e ∷ [])) guid) (lists_stay e kind lists) (counts_by_map_entry (files_of disk) id entries logs lists e o safe.stands (adds e kind) good guid))))) s.safe
 
-added_synced : (e : MapEntry) → IsAppendable e → (h : History) → HasSyncedRegion e (Some h) → AddsSynced h.now e
+added_synced : (e : MapEntry) → IsAppendable e → (h : History) → IsReadyToStore e (Some h) → AddsSynced h.now e
 added_synced (entry.U u) k h synced = counts_synced h.now (entry.U u) tt
 added_synced (entry.D us) k h synced = counts_synced h.now (entry.D us) tt
 added_synced (entry.T cs) k h synced = counts_synced h.now (entry.T cs) tt
 added_synced (entry.S o c u f p z g is) k h synced = record {
-  regions = λ image i. All-cons (HasSameRegion (files_of h.now) image) (stored_row o c u f p z g is) [] (synced image i) (All-nil (HasSameRegion (files_of h.now) image));
+  regions = λ image i. All-cons (HasSameRegion (files_of h.now) image) (stored_row o c u f p z g is) [] (synced.0 image i) (All-nil (HasSameRegion (files_of h.now) image));
   instances = λ image i. no_instances (HasSameInstance (files_of h.now) image) (entry.S o c u f p z g is) k;
   boxes = λ image i. All-nil (λ (box : MapBox). image (file.Box box.number box.generation) ≡ files_of h.now (file.Box box.number box.generation));
 }
@@ -153,14 +170,14 @@ record MapAppends (old : History) (lists : Lists) (s : IsSettled old.now lists) 
   pub name : log.name ≡ file.Map s.safe.stands.map_log.generation
   pub held : IsLogHeld log texts old.now
 
-map_appends : {D : Type 0} → (old : History) (v : StoreValue D) (e : MapEntry) (lists : Lists) (s : IsSettled old.now lists) → Readied (Some old) v e → ReadsImage old.now → HasSyncedRegion e (Some old) → MapAppends old lists s v.map_log e
+map_appends : {D : Type 0} → (old : History) (v : StoreValue D) (e : MapEntry) (lists : Lists) (s : IsSettled old.now lists) → Readied (Some old) v e → ReadsImage old.now → IsReadyToStore e (Some old) → MapAppends old lists s v.map_log e
 map_appends old v e lists s r own synced =
     let runs = r.store.running r.running in
     let g : ℕ = s.safe.stands.map_log.generation in
     let name : v.map_log.name ≡ file.Map g = r.store.map_name ∙ ap (λ (n : ℕ). file.Map n) (root_same (files_of old.now) v.map.store s.store r.store.generation g runs.root s.safe.stands.map_log.root).1 in
     record {
       texts = map map_text r.store.entries;
-      append = append_with old.now lists s v.map.store r.store.entries r.store.logs e runs.opens r.kind r.in_range (fits_there (Some old) v e r) (lies_there e r.kind old r.region) (good_made (Some old) v e r);
+      append = append_with old.now lists s v.map.store r.store.entries r.store.logs e runs.opens r.kind (keeps_form e old synced) r.in_range (fits_there (Some old) v e r) (lies_there e r.kind old r.region) (good_made (Some old) v e r);
       alike = leaves_added old.now lists e s (adds e r.kind) (added_synced e r.kind old synced);
       name = name;
       held = held_map old.now lists s v.map_log (map map_text r.store.entries) own name runs.map_log_reads;
@@ -178,7 +195,7 @@ image_safe disk lists s e head texts image own a alike is (inr more) left =
     let name : FileName = file.Map s.safe.stands.map_log.generation in
     safe_with_map_entry disk lists lists e image s own a alike left (more_log (reading (disk name)) (image name) head texts (map_text e) is more)
 
-pub leaves_with : {D : Type 0} → (old new : Option History) (v : StoreValue D) (e : MapEntry) → Readied old v e → IfTold old ReadsImage → AddsText v.map_log (map_text e) old new → (lists : Lists) → HasSyncedRegion e old → IsSettledFor lists old → Leaves lists lists old new
+pub leaves_with : {D : Type 0} → (old new : Option History) (v : StoreValue D) (e : MapEntry) → Readied old v e → IfTold old ReadsImage → AddsText v.map_log (map_text e) old new → (lists : Lists) → IsReadyToStore e old → IsSettledFor lists old → Leaves lists lists old new
 leaves_with None new v e r own adds lists synced settled = absurd settled
 leaves_with (Some old) new v e r own adds lists synced s =
     let a : MapAppends old lists s v.map_log e = map_appends old v e lists s r own synced in
@@ -189,7 +206,7 @@ leaves_with (Some old) new v e r own adds lists synced s =
     (adds a.texts a.held)
 
 pub settled_with : {D : Type 0} → (old new : Option History) (v : StoreValue D) (log : LogState) (e : MapEntry) → Readied old v e → IfTold old ReadsImage → IsSameLog v.map_log log → SameButFor v.map_log.name old new
-    → ((texts : List (List ℕ)) → Holds v.map_log texts old → Holds log (texts ++ map_text e ∷ []) new) → (lists : Lists) → HasSyncedRegion e old → IsSettledFor lists old → IsSettledFor lists new
+    → ((texts : List (List ℕ)) → Holds v.map_log texts old → Holds log (texts ++ map_text e ∷ []) new) → (lists : Lists) → IsReadyToStore e old → IsSettledFor lists old → IsSettledFor lists new
 settled_with None new v log e r own same others hold lists synced settled = absurd settled
 settled_with (Some old) None v log e r own same others hold lists synced settled = absurd others
 settled_with (Some old) (Some new) v log e r own same others hold lists synced s =

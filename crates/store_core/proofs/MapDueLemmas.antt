@@ -382,7 +382,7 @@ drawn_up_to (entry.T cs) k m drawn sound fits h up =
     known_up_to drawn m.highest (numbers_of m.store (entry.T cs)) up refl
     (greatest_fits (λ (c : MapCount). c.uid.0) m.highest.map cs (All-weaker (λ (c : MapCount). (row : MapRecord) × (record_at m c.uid.0 ≡ Some row)) (λ (c : MapCount). c.uid.0 ≤ m.highest.map) (λ c r. named_below m c.uid.0 r.0 sound r.1) cs fits.1)) refl refl
 drawn_up_to (entry.S o c u f p z g is) k m drawn sound fits h up =
-    let none : greatest (λ (i : InstRow). instance_of i) is ≡ 0 = ap (greatest (λ (i : InstRow). instance_of i)) k.2 in
+    let none : greatest (λ (i : InstRow). instance_of i) is ≡ 0 = ap (greatest (λ (i : InstRow). instance_of i)) k.1 in
     let a = up.file in
     let b = up.map in
     let d = up.instance in

@@ -2,5 +2,6 @@ pub mod Append
 pub mod Dues
 pub mod MapAppend
 pub mod Files
+pub mod Knows
 pub mod Running
 pub mod Value

@@ -1,6 +1,6 @@
 -- What an append to the map log asks, and what it leaves.
 use Rattle.std.specs.Prelude.{◌≡◌, ◌≤◌, ◌<◌, ◌+◌, ◌-◌, ℕ, List, [], ◌∷◌, ◌++◌, length, fold, All, Option, MatchOption}
-use Rattle.disk_model.specs.Disk.{Files, History, IfTold, IsImage}
+use Rattle.disk_model.specs.Disk.{Files, DiskState, History, IfTold, IsImage}
 use Rattle.map_index.specs.Needs.{TakesMemory}
 use Rattle.map_index.specs.Value.{HasRoomFor}
 use Rattle.map_index.specs.declared.room.MapRoom.{MapRoom}
@@ -8,22 +8,24 @@ use Rattle.mdbox_base.specs.declared.entries.Highest.{Highest}
 use Rattle.mdbox_base.specs.declared.entries.MapEntry.{MapEntry}
 use Rattle.mdbox_base.specs.declared.entries.MapEntry.TheVariants as map_entry
 use Rattle.model_appends.specs.MapAppending.{stored_row}
+use Rattle.model_attach.specs.Detached.{AreDetached}
 use Rattle.model_logs.specs.Entries.{map_text}
 use Rattle.model_meaning.specs.MapMeaning.{MapRecord, guid_file}
 use Rattle.model_store.specs.Safe.{LiesInFile}
 use Rattle.model_store.specs.Settled.{files_of, HasSameRegion}
+use Rattle.model_store.specs.Stands.{StoresMessage}
 use Rattle.store_core.specs.Append.{change_beside}
 use Rattle.store_core.specs.Value.{entry_room}
 
 -- ---- what it asks
 
 -- The kinds of entries that are appended: those that change counts, and a message that is stored. Its count is 1, which is
--- due. It names no instance, and so has origin 1: of origin 0 are saves whose attachments are stored once.
+-- due, and it names no instance.
 abbrev pub IsAppendable : MapEntry → Type 0
 IsAppendable (map_entry.U uid) = Unit {0}
 IsAppendable (map_entry.D uids) = Unit {0}
 IsAppendable (map_entry.T counts) = Unit {0}
-IsAppendable (map_entry.S origin count uid file offset size guid instances) = (origin ≡ 1) × (count ≡ 1) × (instances ≡ [])
+IsAppendable (map_entry.S origin count uid file offset size guid instances) = (count ≡ 1) × (instances ≡ [])
 IsAppendable entry = ⊥
 
 -- A message that is stored gets the next map uid, which is drawn by the append. Its file is drawn, and so is that of its GUID,
@@ -43,11 +45,20 @@ abbrev pub HasRegion : MapEntry → Option History → Type 0
 HasRegion (map_entry.S origin count uid file offset size guid instances) history = IfTold history (λ now. LiesInFile (files_of now) (stored_row origin count uid file offset size guid instances))
 HasRegion entry history = Unit {0}
 
--- a crash leaves the region of a message that is stored as the disk reads it
-abbrev pub HasSyncedRegion : MapEntry → Option History → Type 0
-HasSyncedRegion (map_entry.S origin count uid file offset size guid instances) history =
-    IfTold history (λ now. (image : Files) → IsImage now image → HasSameRegion (files_of now) image (stored_row origin count uid file offset size guid instances))
-HasSyncedRegion entry history = Unit {0}
+-- a crash leaves a record's region as the disk reads it
+abbrev pub IsSyncedRegion : DiskState → MapRecord → Type 0
+IsSyncedRegion now row = (image : Files) → IsImage now image → HasSameRegion (files_of now) image row
+
+-- what a record stores, it stores in its detached form
+abbrev pub StoresDetached : Files → MapRecord → Type 0
+StoresDetached files row = (octets : List ℕ) → (kept : StoresMessage files row octets) → AreDetached octets kept.stored.message.body kept.stored.meta.refs kept.instances
+
+-- A crash leaves the region of a message that is stored as the disk reads it, and an own save (origin 0) stores its detached
+-- form.
+abbrev pub IsReadyToStore : MapEntry → Option History → Type 0
+IsReadyToStore (map_entry.S origin count uid file offset size guid instances) history =
+    IfTold history (λ now. IsSyncedRegion now (stored_row origin count uid file offset size guid instances) × (origin ≡ 0 → StoresDetached (files_of now) (stored_row origin count uid file offset size guid instances)))
+IsReadyToStore entry history = Unit {0}
 
 -- ---- what it leaves
 

@@ -42,9 +42,9 @@ one_some a b e = cc e
 
 pub follows_on : (start : Lists) (script : Requests) (run : Run) (journal : List JournalStep) (broken : Broken) (replies : List (Option Reply)) (began now new : Seen) (around after : Around) (lane place : ℕ) (request : Request) (how : Did) (ended : Option Reply) → Serves start script run journal broken replies began now
     → IsTurn script journal replies lane place request → AreReplies script run replies → ((i : ℕ) (q : ℕ × Request) → i < place → slice_get script i ≡ Some q → q.0 ≡ lane → reply_of i run ≢ None) → place < length script
-    → (d : DidEvent around after run lane place (map (λ s. s.answer) (steps_of place journal)) request (left_by start journal) now new how ended) → AgreesWithRun around run request d.makes.event d.makes.event.part → Follows start script run journal
+    → (d : DidEvent around after run lane place (map (λ s. s.answer) (steps_of place journal)) request (left_by start journal) now new how ended) → Follows start script run journal
     → Follows start script (and_then run d.makes.event) (journal ++ steps_made run request d.makes.event d.makes.answer d.left)
-follows_on start script run journal broken replies began now new around after lane place request how ended s turn given earlier within d agrees f = record {
+follows_on start script run journal broken replies began now new around after lane place request how ended s turn given earlier within d f = record {
   around = with_last (length run.events) around f.around;
   after = with_last (length run.events) after f.after;
   next = run_goes_on (with_last (length run.events) around f.around) (with_last (length run.events) after f.after) script start run journal request d.makes.event d.makes.answer d.left s.legal.steps old
@@ -65,7 +65,7 @@ follows_on start script run journal broken replies began now new around after la
 
     now_found : AgreesWithRun (with_last (length run.events) around f.around (length run.events)) (before (length run.events) (and_then run d.makes.event)) request d.makes.event d.makes.event.part
     now_found = subst (λ (a : Around). AgreesWithRun a (before (length run.events) (and_then run d.makes.event)) request d.makes.event d.makes.event.part) (sym (last_is (length run.events) around f.around))
-        (subst (λ (r : Run). AgreesWithRun around r request d.makes.event d.makes.event.part) (ap (λ (es : List RunEvent). record run { events = es }) (sym (take-append_seam run.events (d.makes.event ∷ [])))) agrees)
+        (subst (λ (r : Run). AgreesWithRun around r request d.makes.event d.makes.event.part) (ap (λ (es : List RunEvent). record run { events = es }) (sym (take-append_seam run.events (d.makes.event ∷ [])))) d.found)
 
     found_by : (n : ℕ) (found : RunEvent) (asked : ℕ × Request) → slice_get script found.request ≡ Some asked → (slice_get run.events n ≡ Some found) ⊎ ((n ≡ length run.events) × (found ≡ d.makes.event))
         → AgreesWithRun (with_last (length run.events) around f.around n) (before n (and_then run d.makes.event)) asked.1 found found.part

@@ -261,7 +261,7 @@ record Told (start : Lists) (script : Requests) (run : Run) (journal : List Jour
   pub moment_is : event.moment ≡ told_calls new.history
   pub made : StepOf run request (left_by start journal) event answer left
   pub within : All (λ s. s.event < length run.events) journal
-  pub still : now.stopped ≡ true → new ≡ now
+  pub still : now.stopped ≡ true → new ≡ record now { pins = new.pins }
   pub faults : FaultsGrow (IsFault did) now.faults new.faults
 
 -- the run goes on from one with this journal and these broken steps, and what the broken ones would have done follows too
@@ -280,10 +280,10 @@ quiet_images start run journal broken began now new event within first second =
       | inr safe ↦ (left_by start journal, reached_last start (and_then run event) journal broken m, safe)
     ]) second)
 
-still_images : (start : Lists) (run : Run) (journal : List JournalStep) (broken : Broken) (began now new : Seen) (event : RunEvent) → All (λ s. s.event < length run.events) journal → new ≡ now
+still_images : (start : Lists) (run : Run) (journal : List JournalStep) (broken : Broken) (began now new : Seen) (event : RunEvent) → All (λ s. s.event < length run.events) journal → new.history ≡ now.history
     → EachImage (IsReached start run journal broken) began.history now.history → EachImage (IsReached start (and_then run event) journal broken) began.history new.history
 still_images start run journal broken began now new event within same first =
-    subst (λ (s : Seen). EachImage (IsReached start (and_then run event) journal broken) began.history s.history) (sym same)
+    subst (λ (h : Option History). EachImage (IsReached start (and_then run event) journal broken) began.history h) (sym same)
     (each_image-map (IsReached start run journal broken) (IsReached start (and_then run event) journal broken) began.history now.history (λ m image h. (h.0, reached_quiet start run event journal broken m h.0 within h.1, h.2)) first)
 
 step_reached : (start : Lists) (run : Run) (request : Request) (journal : List JournalStep) (began now new : Seen) (event : RunEvent) (answer : Option Reply) (left : Lists) → is_some answer ≡ true → All (λ s. s.event < length run.events) journal
@@ -308,7 +308,7 @@ quiet_on start script run journal broken replies began now new request event ans
 )
   where
     crash : IsSettledFor start began.history → (b : Bool) → now.stopped ≡ b → EachImage (IsReached start (and_then run event) journal broken) began.history new.history
-    crash at true e = still_images start run journal broken began now new event t.within (t.still e) (s.crash at)
+    crash at true e = still_images start run journal broken began now new event t.within (ap (λ (x : Seen). x.history) (t.still e)) (s.crash at)
     crash at false e = quiet_images start run journal broken began now new event t.within (s.crash at) (leads.stops (s.settled e at))
 
     all : Kept start script (and_then run event) journal replies began new → Serves start script (and_then run event) journal broken replies began new
@@ -431,7 +431,7 @@ broken_on start script run journal broken replies began now new lane place reque
       unrefused = k.unrefused;
     }
 
-ran_on : (now new : Seen) → new.stopped ≡ false → (now.stopped ≡ true → new ≡ now) → now.stopped ≡ false
+ran_on : (now new : Seen) → new.stopped ≡ false → (now.stopped ≡ true → new ≡ record now { pins = new.pins }) → now.stopped ≡ false
 ran_on now new runs still = by_test now.stopped refl
   where
     by_test : (b : Bool) → now.stopped ≡ b → now.stopped ≡ false

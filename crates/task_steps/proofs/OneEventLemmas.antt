@@ -17,6 +17,7 @@ use Rattle.list_machine.specs.Machine.{PartAnswers, is_step}
 use Rattle.journal.specs.Journal.{half_of, halves_of, IsReplyOf}
 use Rattle.journal.specs.Events.{Around, next_part, behind_event}
 use Rattle.journal.specs.Events.{Finds, has_memory, last_refusal}
+use Rattle.journal.specs.Found.{AgreesWithRun}
 use Rattle.journal.specs.Makes.{HasCome, Makes}
 use Rattle.journal.proofs.RunLemmas.{comes_on}
 use Rattle.disk_model.specs.Disk.{told_calls}
@@ -31,8 +32,9 @@ use Rattle.task_steps.specs.Step.{Seen, ShowsSeen, HasComeTo, Leads, IsFault, an
 use Rattle.task_steps.specs.Tells.{LeavesFiles}
 use Rattle.task_steps.proofs.SeenLemmas.{comes_to_still, no_guids}
 
--- a request whose first event is its step and its end
+-- a request whose first event is its step and its end, and finds nothing in files
 pub record IsPlain (q : Request) : Type 0 where
+  pub found : (around : Around) (run : Run) (event : RunEvent) → AgreesWithRun around run q event First
   pub finds : (around : Around) (event : RunEvent) → Finds around q event
   pub memory : has_memory First q ≡ false
   pub behind : (after : Around) (run : Run) (event : RunEvent) (why : Refusal) → behind_event after run q event (Some why) ≡ None
@@ -43,7 +45,7 @@ abbrev pub refused_event : ℕ → ℕ → Refusal → ℕ → RunEvent
 refused_event lane place why calls = record (event_of lane place First calls) { refused = Some why; reply = Some (reply.Refused why) }
 
 pub refused_leaves : (lane place : ℕ) (why : Refusal) (calls : ℕ) → LeavesFiles (refused_event lane place why calls)
-refused_leaves lane place why calls = record { pins = refl; unpins = refl; doomed = refl; removed = refl; given = refl }
+refused_leaves lane place why calls = record { pins = refl; unpins = refl; doomed = refl; removed = refl; given = refl; gone = refl }
 
 pub next_first : (around : Around) (run : Run) (q : Request) (own : List RunEvent) → own ≡ [] → next_part around run q own ≡ Some First
 next_first around run q own e = ap (λ (es : List RunEvent). next_part around run q es) e
@@ -154,6 +156,7 @@ does_nothing around after run lane place said q lists seen why plain come shows 
   left = lists;
   shown = shows;
   makes = unmade around after run lane place q lists seen.map seen.map seen.drawn (told_calls seen.history) (told_calls seen.history) why refl plain come.come (omega arith) stage.0 none;
+  found = plain.found around run (refused_event lane place why (told_calls seen.history));
   come = comes_to_still run (refused_event lane place why (told_calls seen.history)) seen come (comes_on run (refused_event lane place why (told_calls seen.history)) seen.map seen.drawn (told_calls seen.history) come.come (omega arith) refl refl) (λ uid. refl) (refused_leaves lane place why (told_calls seen.history));
   gives = no_guids run (refused_event lane place why (told_calls seen.history)) refl;
   went = (refl, refl, nothing lists seen);
@@ -177,6 +180,7 @@ does_refuse around after run lane place said q lists seen why plain come shows s
   left = lists;
   shown = shows;
   makes = refused around after run lane place q lists seen.map seen.drawn (told_calls seen.history) why plain come.come stage.0 step (answers (refused_event lane place why (told_calls seen.history)));
+  found = plain.found around run (refused_event lane place why (told_calls seen.history));
   come = comes_to_still run (refused_event lane place why (told_calls seen.history)) seen come (comes_on run (refused_event lane place why (told_calls seen.history)) seen.map seen.drawn (told_calls seen.history) come.come (omega arith) refl refl) (λ uid. refl) (refused_leaves lane place why (told_calls seen.history));
   gives = no_guids run (refused_event lane place why (told_calls seen.history)) refl;
   went = (refl, plain.half_is, runs, nothing lists seen);

@@ -1,6 +1,6 @@
 -- What a store tells, as a run goes on with one event more.
 use Rattle.std.proofs.Common.{◌≡◌, ◌<◌, ◌+◌, ◌==◌, ◌&&◌, ◌||◌, ℕ, zero, suc, Bool, true, false, not, List, [], ◌∷◌, ◌++◌, refl, sym, ◌∙◌, ap, subst, arith, All}
-use Rattle.std.specs.Prelude.{◌≢◌, flat_map, sum_by, count_by, nat_lt, filter, cond, if◌then◌else◌}
+use Rattle.std.specs.Prelude.{◌≢◌, flat_map, sum_by, count_by, nat_lt, filter, cond, is_none, if◌then◌else◌}
 use Rattle.std.proofs.lemmas.Grind.{common_steps}
 use Rattle.std.specs.List.{list_any}
 use Rattle.std.specs.Str.{bytes_eq}
@@ -11,7 +11,13 @@ use Rattle.std.proofs.lemmas.List.Elements.{All-append, All-nil, All-weaker, fil
 use Rattle.std.proofs.lemmas.List.Folds.{list_any-append}
 use Rattle.std.proofs.lemmas.List.Sums.{sum_by-append, sum_by-cons}
 use Rattle.disk_model.specs.Disk.{told_calls}
-use Rattle.list_machine.specs.Run.{RunEvent, Run, Pin, and_then, own_events, given_by_others, is_one_of, is_unpinning, has_unpinned, is_pinned, is_doomed}
+use Rattle.mdbox_base.specs.declared.entries.InstRow.{InstRow}
+use Rattle.mdbox_base.specs.declared.entries.MapEntry.{MapEntry}
+use Rattle.model_meaning.specs.MapMeaning.{named_instances, is_sealed, seals}
+use Rattle.model_meaning.proofs.SealedLemmas.{sealed_is}
+use Rattle.list_machine.specs.Run.{RunEvent, Run, Pin, before, and_then, entries_of, map_of, own_events, given_by_others, is_one_of, is_unpinning, has_unpinned, is_pinned, is_doomed}
+use Rattle.journal.specs.Found.{took_file, is_known_file, is_same_instance, is_known_instance}
+use Rattle.journal.proofs.RunLemmas.{entries_more}
 use Rattle.journal.specs.Events.{begun_in, ended_in, due_of, number_drawn, number_of, until_doomed, was_pinned}
 use Rattle.journal.specs.Makes.{HasCome}
 use Rattle.journal.proofs.OwnEventLemmas.{own_more, own_other}
@@ -104,6 +110,60 @@ pub given_still : (run : Run) (event : RunEvent) (guid : List ℕ) → event.giv
 given_still run event guid none =
     ap (λ (gs : List (List ℕ)). list_any (bytes_eq guid) gs) (flat_push (λ (e : RunEvent). e.given) run.events event ∙ (ap (λ (gs : List (List ℕ)). flat_map (λ (e : RunEvent). e.given) run.events ++ gs) none ∙ append-nil (flat_map (λ (e : RunEvent). e.given) run.events)))
 
+-- ---- what is known to be there
+
+-- what is there stays with one event more, unless it is removed
+stays_there : (first sealed took gone first_on sealed_on took_on gone_on : Bool) → first_on ≡ first → (sealed ≡ true → sealed_on ≡ true) → (took ≡ true → took_on ≡ true) → gone_on ≡ gone → ((first || (sealed || took)) && not gone) ≡ true
+    → ((first_on || (sealed_on || took_on)) && not gone_on) ≡ true
+stays_there true sealed took gone first_on sealed_on took_on gone_on f s t g h = ap (λ (b : Bool). (b || (sealed_on || took_on)) && not gone_on) f ∙ (ap (λ (b : Bool). not b) g ∙ h)
+stays_there false true took gone first_on sealed_on took_on gone_on f s t g h =
+    ap (λ (b : Bool). (b || (sealed_on || took_on)) && not gone_on) f ∙ (ap (λ (b : Bool). (b || took_on) && not gone_on) (s refl) ∙ (ap (λ (b : Bool). not b) g ∙ h))
+stays_there false false true gone first_on sealed_on took_on gone_on f s t g h =
+    ap (λ (b : Bool). (b || (sealed_on || took_on)) && not gone_on) f ∙ (ap (λ (b : Bool). b && not gone_on) (ap (λ (b : Bool). sealed_on || b) (t refl) ∙ or_true sealed_on) ∙ (ap (λ (b : Bool). not b) g ∙ h))
+  where
+    or_true : (b : Bool) → (b || true) ≡ true
+    or_true true = refl
+    or_true false = refl
+stays_there false false false gone first_on sealed_on took_on gone_on f s t g h = absurd (cc h)
+
+any_more : {X : Type 0} → (p : X → Bool) (xs : List X) (x : X) → list_any p xs ≡ true → list_any p (xs ++ x ∷ []) ≡ true
+any_more p xs x e = any_push p xs x ∙ ap (λ (b : Bool). b || p x) e
+
+-- a sealed file stays so
+sealed_still : (run : Run) (event : RunEvent) (file : ℕ) → is_sealed (map_of run) file ≡ true → is_sealed (map_of (and_then run event)) file ≡ true
+sealed_still run event file e =
+    sealed_is run.store (entries_of (and_then run event)) file
+    ∙ (ap (λ (es : List MapEntry). list_any (seals file) es) (entries_more run event)
+    ∙ (list_any-append (seals file) (entries_of run) event.map_entries ∙ ap (λ (b : Bool). b || list_any (seals file) event.map_entries) (sym (sealed_is run.store (entries_of run) file) ∙ e)))
+
+pub file_still_known : (run : Run) (event : RunEvent) (file : ℕ) → event.removed ≡ [] → is_known_file run file ≡ true → is_known_file (and_then run event) file ≡ true
+file_still_known run event file none e =
+    stays_there (list_any (λ row. row.file == file) (map_of (before 0 run)).records) (is_sealed (map_of run) file) (list_any (took_file file) run.events) (list_any (λ e. is_one_of e.removed file) run.events)
+    (list_any (λ row. row.file == file) (map_of (before 0 run)).records) (is_sealed (map_of (and_then run event)) file) (list_any (took_file file) (run.events ++ event ∷ [])) (list_any (λ e. is_one_of e.removed file) (run.events ++ event ∷ []))
+    refl (sealed_still run event file) (any_more (took_file file) run.events event) (any_still (λ (e : RunEvent). is_one_of e.removed file) run.events event (ap (λ (fs : List ℕ). is_one_of fs file) none)) e
+
+pub instance_still_known : (run : Run) (event : RunEvent) (instance : InstRow) → event.gone ≡ [] → is_known_instance run instance ≡ true → is_known_instance (and_then run event) instance ≡ true
+instance_still_known run event instance none e =
+    stays_there (list_any (is_same_instance instance) (named_instances (map_of (before 0 run)))) false (list_any (λ e. list_any (is_same_instance instance) e.placed) run.events) (list_any (λ e. list_any (is_same_instance instance) e.gone) run.events)
+    (list_any (is_same_instance instance) (named_instances (map_of (before 0 run)))) false (list_any (λ e. list_any (is_same_instance instance) e.placed) (run.events ++ event ∷ [])) (list_any (λ e. list_any (is_same_instance instance) e.gone) (run.events ++ event ∷ []))
+    refl (λ k. k) (any_more (λ (e : RunEvent). list_any (is_same_instance instance) e.placed) run.events event) (any_still (λ (e : RunEvent). list_any (is_same_instance instance) e.gone) run.events event (ap (λ (is : List InstRow). list_any (is_same_instance instance) is) none)) e
+
+-- an event that took a file makes it known, unless one removed it
+pub file_now_known : (run : Run) (event : RunEvent) (file : ℕ) → event.removed ≡ [] → took_file file event ≡ true → list_any (λ e. is_one_of e.removed file) run.events ≡ false → is_known_file (and_then run event) file ≡ true
+file_now_known run event file none took stays =
+    by_tests (list_any (λ row. row.file == file) (map_of (before 0 run)).records) (is_sealed (map_of (and_then run event)) file) (list_any (took_file file) (run.events ++ event ∷ [])) (list_any (λ (e : RunEvent). is_one_of e.removed file) (run.events ++ event ∷ []))
+    (any_push (took_file file) run.events event ∙ (ap (λ (b : Bool). list_any (took_file file) run.events || b) took ∙ or_true (list_any (took_file file) run.events)))
+    (any_still (λ (e : RunEvent). is_one_of e.removed file) run.events event (ap (λ (fs : List ℕ). is_one_of fs file) none) ∙ stays)
+  where
+    or_true : (b : Bool) → (b || true) ≡ true
+    or_true true = refl
+    or_true false = refl
+
+    by_tests : (first sealed took gone : Bool) → took ≡ true → gone ≡ false → ((first || (sealed || took)) && not gone) ≡ true
+    by_tests true sealed took gone t g = ap (λ (b : Bool). not b) g
+    by_tests false true took gone t g = ap (λ (b : Bool). not b) g
+    by_tests false false took gone t g = ap (λ (b : Bool). b && not gone) t ∙ ap (λ (b : Bool). not b) g
+
 -- ---- the store
 
 -- A run that has come to a store comes on with an event that leaves files and GUIDs: what is due rose and fell as it says.
@@ -121,12 +181,18 @@ comes_to_on run event old new h come due leaves same = record {
   doomed = λ file. doomed_still run event file leaves.doomed leaves.removed ∙ (h.doomed file ∙ sym (same.doomed file));
   used = λ file e. same.used file ∙ h.used file (sym (used_still run event file leaves.doomed leaves.removed) ∙ e);
   gave = λ guid e. same.gave guid ∙ h.gave guid (sym (given_still run event guid leaves.given) ∙ e);
+  files = λ file e. file_still_known run event file leaves.removed (h.files file (sym (same.files file) ∙ e));
+  instances = λ instance e. instance_still_known run event instance leaves.gone (h.instances instance (sym (same.instances instance) ∙ e));
 }
+
+-- a store tells the same as itself
+pub tells_itself : (seen : Seen) → TellsSame seen seen
+tells_itself seen = record { pins = λ file. refl; doomed = λ file. refl; used = λ file. refl; gave = λ guid. refl; files = λ file. refl; instances = λ instance. refl }
 
 -- It does so with an event that leaves all.
 pub comes_to_still : (run : Run) (event : RunEvent) (seen : Seen) → HasComeTo run seen → HasCome (and_then run event) seen.map seen.drawn (told_calls seen.history) → ((uid : ℕ) → begun_in uid event ≡ ended_in uid event) → LeavesFiles event
     → HasComeTo (and_then run event) seen
-comes_to_still run event seen h come due leaves = comes_to_on run event seen seen h come (λ uid. let e = due uid in omega (arith, e)) leaves (record { pins = λ file. refl; doomed = λ file. refl; used = λ file. refl; gave = λ guid. refl })
+comes_to_still run event seen h come due leaves = comes_to_on run event seen seen h come (λ uid. let e = due uid in omega (arith, e)) leaves (tells_itself seen)
 
 pub no_guids : (run : Run) (event : RunEvent) → event.given ≡ [] → GivesNew run event
 no_guids run event none = subst (λ (gs : List (List ℕ)). All (λ guid. was_given run guid ≡ false) gs) (sym none) (All-nil _)

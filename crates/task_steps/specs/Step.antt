@@ -5,6 +5,7 @@ use Rattle.std.specs.Str.{bytes_eq}
 use Rattle.disk_model.specs.Disk.{History, Faults}
 use Rattle.mdbox_base.specs.Streams.{Rose}
 use Rattle.mdbox_base.specs.declared.entries.Highest.{Highest}
+use Rattle.mdbox_base.specs.declared.entries.InstRow.{InstRow}
 use Rattle.mdbox_base.specs.declared.replies.Refusal.TheVariants as refusal
 use Rattle.mdbox_base.specs.declared.replies.Reply.{Reply}
 use Rattle.mdbox_base.specs.declared.replies.Reply.TheVariants as reply
@@ -16,6 +17,7 @@ use Rattle.model_store.specs.Listing.{ShowLists}
 use Rattle.list_machine.specs.Run.{RunEvent, Run, and_then, own_events, is_one_of, has_unpinned, is_doomed}
 use Rattle.journal.specs.Journal.{half_of, halves_of, IsReplyOf}
 use Rattle.journal.specs.Events.{Around, begun_in, ended_in}
+use Rattle.journal.specs.Found.{AgreesWithRun, is_known_file, is_known_instance}
 use Rattle.journal.specs.Makes.{HasCome, WouldMake, Makes}
 use Rattle.disk_model.specs.Disk.{told_calls, Grows}
 use Rattle.model_store.specs.Settled.{Leaves}
@@ -29,8 +31,8 @@ use Rattle.mdbox_base.specs.declared.progress.Progress.TheVariants as progress
 
 -- What is seen of a store: what its map and the logs of its mailboxes mean, the numbers drawn, what its disk tells, the
 -- faults counted, and whether it is stopped. Then what it keeps of its tasks: how much is due of each record, how many pins
--- each file has, which files are doomed, and which are no new ones, that it may have doomed or removed; and the GUIDs that it
--- may have given.
+-- each file has, which files are doomed, and which are no new ones, that it may have doomed or removed; the GUIDs that it may
+-- have given; and the files and instances that it knows to be there.
 pub record Seen : Type 0 where
   pub map : MapMeaning
   pub meanings : List BoxMeaning
@@ -43,6 +45,8 @@ pub record Seen : Type 0 where
   pub doomed : ℕ → Bool
   pub used : ℕ → Bool
   pub gave : List ℕ → Bool
+  pub files : ℕ → Bool
+  pub instances : InstRow → Bool
 
 -- it shows the lists, which are well formed
 abbrev pub ShowsSeen : Seen → Lists → Type 0
@@ -61,8 +65,8 @@ abbrev pub was_used : Run → ℕ → Bool
 was_used run file = list_any (λ e. is_one_of e.doomed file || is_one_of e.removed file) run.events
 
 -- The run has come to where the store stands. Its entries, numbers and moments are the store's; of each record as much began
--- as ended and is due; its files are pinned and doomed as the store has them; and events used files and gave GUIDs only if
--- the store may have.
+-- as ended and is due; its files are pinned and doomed as the store has them; events used files and gave GUIDs only if the
+-- store may have; and the files and instances that the store knows are there as far as the run tells.
 pub record HasComeTo (run : Run) (seen : Seen) : Type 0 where
   pub come : HasCome run seen.map seen.drawn (told_calls seen.history)
   pub due : (uid : ℕ) → sum_by (begun_in uid) run.events ≡ seen.due uid + sum_by (ended_in uid) run.events
@@ -70,6 +74,8 @@ pub record HasComeTo (run : Run) (seen : Seen) : Type 0 where
   pub doomed : (file : ℕ) → is_doomed run file ≡ seen.doomed file
   pub used : (file : ℕ) → was_used run file ≡ true → seen.used file ≡ true
   pub gave : (guid : List ℕ) → was_given run guid ≡ true → seen.gave guid ≡ true
+  pub files : (file : ℕ) → seen.files file ≡ true → is_known_file run file ≡ true
+  pub instances : (instance : InstRow) → seen.instances instance ≡ true → is_known_instance run instance ≡ true
 
 -- ---- the disk
 
@@ -117,12 +123,13 @@ pub record FaultsGrow (failed : Type 0) (old new : Faults) : Type 0 where
   pub rose : failed → Rose old.changes new.changes
 
 -- A step is the next of its request. What a request is replied follows from the answers of its steps; exactly a stopped store
--- replies so, and in one that was stopped nothing happens; an event is refused by a read fault where a read failed.
+-- replies so, and in one that was stopped nothing happens but that pins are taken away; an event is refused by a read fault
+-- where a read failed.
 pub record EndsRequest (request : Request) (said : List Reply) (event : RunEvent) (answer ended : Option Reply) (did : Did) (old new : Seen) : Type 0 where
   pub in_turn : is_some answer ≡ true → slice_get (halves_of request) (length said) ≡ Some (half_of request event.part)
   pub replied : (given : Reply) → ended ≡ Some given → IsReplyOf request (and_told said answer) given
   pub halts : (ended ≡ Some (reply.Refused refusal.Stopped)) ↔ (new.stopped ≡ true)
-  pub still : old.stopped ≡ true → new ≡ old
+  pub still : old.stopped ≡ true → new ≡ record old { pins = new.pins }
   pub reads : event.refused ≡ Some refusal.ReadFault → Rose old.faults.reads new.faults.reads
   pub faults : FaultsGrow (IsFault did) old.faults new.faults
 
@@ -132,12 +139,14 @@ pub record EndsRequest (request : Request) (said : List Reply) (event : RunEvent
 abbrev pub GivesNew : Run → RunEvent → Type 0
 GivesNew run event = All (λ guid. was_given run guid ≡ false) event.given
 
--- What an event did, of a run and of lists: which event of the run it was and what it answered, the lists that the store shows
--- now, that the run with it has come to the store, what a crash within it leaves, and how its request ended, if it did.
+-- What an event did, of a run and of lists: which event of the run it was and what it answered, that what it found agrees with
+-- the run, the lists that the store shows now, that the run with it has come to the store, what a crash within it leaves, and
+-- how its request ended, if it did.
 pub record DidEvent (around after : Around) (run : Run) (lane place : ℕ) (said : List Reply) (request : Request) (lists : Lists) (old new : Seen) (did : Did) (ended : Option Reply) : Type 0 where
   pub left : Lists
   pub shown : ShowsSeen new left
   pub makes : Makes around after run lane place request lists left new.map new.drawn (told_calls new.history) ended
+  pub found : AgreesWithRun around run request makes.event makes.event.part
   pub come : HasComeTo (and_then run makes.event) new
   pub gives : GivesNew run makes.event
   pub went : Went did request run lists left makes.event makes.answer old new

@@ -1,19 +1,23 @@
 -- Events that leave what a store keeps of its tasks.
 use Rattle.std.specs.Prelude.{◌≡◌, ℕ, false, List, []}
+use Rattle.mdbox_base.specs.declared.entries.InstRow.{InstRow}
 use Rattle.list_machine.specs.Run.{RunEvent, is_unpinning}
 use Rattle.task_steps.specs.Step.{Seen}
 
--- an event that pins, unpins, dooms and removes no file, and gives no GUID
+-- an event that pins, unpins, dooms and removes no file, removes no instance, and gives no GUID
 pub record LeavesFiles (event : RunEvent) : Type 0 where
   pub pins : event.pins ≡ []
   pub unpins : is_unpinning event ≡ false
   pub doomed : event.doomed ≡ []
   pub removed : event.removed ≡ []
   pub given : event.given ≡ []
+  pub gone : event.gone ≡ []
 
--- a store tells the same of files and GUIDs as before
+-- a store tells the same of files, instances and GUIDs as before
 pub record TellsSame (old new : Seen) : Type 0 where
   pub pins : (file : ℕ) → new.pins file ≡ old.pins file
   pub doomed : (file : ℕ) → new.doomed file ≡ old.doomed file
   pub used : (file : ℕ) → new.used file ≡ old.used file
   pub gave : (guid : List ℕ) → new.gave guid ≡ old.gave guid
+  pub files : (file : ℕ) → new.files file ≡ old.files file
+  pub instances : (instance : InstRow) → new.instances instance ≡ old.instances instance

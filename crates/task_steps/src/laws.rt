@@ -7,7 +7,6 @@ ghost use Rattle.model_lists.specs.Lists.{Mailbox, Lists};
 ghost use Rattle.list_machine.specs.Run.{First, RunEvent, Run, and_then, own_events, reply_of, given_by_others, is_one_of, is_pinned, is_doomed};
 ghost use Rattle.journal.specs.Journal.{Requests, JournalStep, left_by, Broken, no_broken, HasReply, is_read_fault, steps_of};
 ghost use Rattle.journal.specs.Events.{Around, IsRecord, makes_step, is_faulted, begun_in, ended_in, due_of, number_of, was_pinned};
-ghost use Rattle.journal.specs.Found.{AgreesWithRun};
 ghost use Rattle.journal.specs.Makes.{HasCome, WouldDo, steps_made, AreReplies, AreTold};
 ghost use Rattle.journal.specs.GoesOn.{RepliesAlso};
 ghost use Rattle.disk_model.specs.Disk.{History, Faults, told_calls, Grows};
@@ -37,7 +36,7 @@ pub fn events_go_on()
 
     ensures next { (start : Lists) (script : Requests) (run : Run) (journal : List JournalStep) (broken : Broken) (replies : List (Option Reply)) (began now new : Seen) (around after : Around) (lane place : ℕ) (request : Request) (how : Did) (ended : Option Reply) → Serves start script run journal broken replies began now
         → IsTurn script journal replies lane place request → AreReplies script run replies → ((i : ℕ) (q : ℕ × Request) → i < place → slice_get script i ≡ Some q → q.0 ≡ lane → reply_of i run ≢ None) → place < length script
-        → (d : DidEvent around after run lane place (map (λ s. s.answer) (steps_of place journal)) request (left_by start journal) now new how ended) → AgreesWithRun around run request d.makes.event d.makes.event.part → Follows start script run journal
+        → (d : DidEvent around after run lane place (map (λ s. s.answer) (steps_of place journal)) request (left_by start journal) now new how ended) → Follows start script run journal
         → Follows start script (and_then run d.makes.event) (journal ++ steps_made run request d.makes.event d.makes.answer d.left) }
 
     ensures told { (script : Requests) (run : Run) (journal : List JournalStep) (lane : ℕ) (request : Request) (event : RunEvent) (answer : Option Reply) (left : Lists) → slice_get script event.request ≡ Some (lane, request) → is_some answer ≡ makes_step request event.part event.refused

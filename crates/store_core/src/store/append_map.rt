@@ -15,7 +15,7 @@ ghost use Rattle.model_store.specs.Settled.{IsSettledFor, Leaves};
 ghost use Rattle.store_core.specs.Append.{AddsText};
 ghost use Rattle.store_core.specs.Dues.{due_at, listed_at, leak_at, IsSpared, KeepsStored};
 ghost use Rattle.store_core.specs.Files.{LiesBelowEnd};
-ghost use Rattle.store_core.specs.MapAppend.{IsAppendable, HasDrawnNumbers, FitsDue, HasRegion, HasSyncedRegion, drawn_by, IsLongEntry, IsLaidOut, IsSpareCopy};
+ghost use Rattle.store_core.specs.MapAppend.{IsAppendable, HasDrawnNumbers, FitsDue, HasRegion, IsReadyToStore, drawn_by, IsLongEntry, IsLaidOut, IsSpareCopy};
 ghost use Rattle.store_core.specs.Value.{entry_room};
 ghost use Rattle.store_core.specs.declared.error.StepError.TheVariants as step_error;
 
@@ -77,9 +77,9 @@ impl<D: Disk> Store<D> {
         requires region { HasRegion entry.now (D.history self.old.disk) }
 
         // Of a settled disk each image at every moment is safe for its lists, whichever call fails; and after Ok it is settled
-        // for them still. The region of a message that is stored has to be synced.
-        ensures any_moment { (lists : Lists) → HasSyncedRegion entry.now (D.history self.old.disk) → IsSettledFor lists (D.history self.old.disk) → Leaves lists lists (D.history self.old.disk) (D.history self.new.disk) }
-        ensures settled { OnOk result ((lists : Lists) → HasSyncedRegion entry.now (D.history self.old.disk) → IsSettledFor lists (D.history self.old.disk) → IsSettledFor lists (D.history self.new.disk)) }
+        // for them still. The region of a message that is stored has to be synced, and an own save to store its detached form.
+        ensures any_moment { (lists : Lists) → IsReadyToStore entry.now (D.history self.old.disk) → IsSettledFor lists (D.history self.old.disk) → Leaves lists lists (D.history self.old.disk) (D.history self.new.disk) }
+        ensures settled { OnOk result ((lists : Lists) → IsReadyToStore entry.now (D.history self.old.disk) → IsSettledFor lists (D.history self.old.disk) → IsSettledFor lists (D.history self.new.disk)) }
 
         // After Ok the map means what it did, with the entry, and so do what is due and what leaks. Mailboxes stay.
         ensures taken { OnOk result (self.new.map ≡ map_applied entry.now self.old.map) }

@@ -6,7 +6,7 @@ use Rattle.model_meaning.specs.MapMeaning.{MapMeaning, map_applied, record_at, r
 use Rattle.model_store.specs.Settled.{files_of, IsSettledFor, Leaves}
 use Rattle.model_store.specs.Stands.{StoresMessage}
 use Rattle.store_core.specs.Dues.{KeepsStored}
-use Rattle.store_core.specs.MapAppend.{HasRegion, HasSyncedRegion}
+use Rattle.store_core.specs.MapAppend.{HasRegion, IsReadyToStore}
 use Rattle.store_core.proofs.BoxCrashLemmas.{leaves_none}
 use Rattle.store_core.proofs.MapAppendLemmas.{readied, seen_prepared, store_after, room_after, read_with, size_with, room_to_rise, due_seen, leak_seen, made_with}
 use Rattle.store_core.proofs.MapCrashLemmas.{leaves_with, settled_with, stored_with, still_stored}
@@ -31,25 +31,25 @@ invariant_of-self-in-Ok g c = (
 
 pub returns-in_err-text-clause-any_moment : goal.returns-in_err-text-clause-any_moment
 returns-in_err-text-clause-any_moment g c =
-    subst (λ v. (lists : Lists) → HasSyncedRegion c.args.entry.now (g.D.Disk.history v.disk) → IsSettledFor lists (g.D.Disk.history v.disk) → Leaves lists lists (g.D.Disk.history v.disk) (g.D.Disk.history c.self.inside.disk)) c.self.view_is
+    subst (λ v. (lists : Lists) → IsReadyToStore c.args.entry.now (g.D.Disk.history v.disk) → IsSettledFor lists (g.D.Disk.history v.disk) → Leaves lists lists (g.D.Disk.history v.disk) (g.D.Disk.history c.self.inside.disk)) c.self.view_is
     (λ lists synced settled. leaves_none _ lists lists settled)
 
 pub returns-in-Ok-clause-any_moment : goal.returns-in-Ok-clause-any_moment
 returns-in-Ok-clause-any_moment g c =
-    subst (λ v. (lists : Lists) → HasSyncedRegion c.args.entry.now (g.D.Disk.history v.disk) → IsSettledFor lists (g.D.Disk.history v.disk) → Leaves lists lists (g.D.Disk.history v.disk) (g.D.Disk.history c.append_entry.new.disk)) c.self.view_is
+    subst (λ v. (lists : Lists) → IsReadyToStore c.args.entry.now (g.D.Disk.history v.disk) → IsSettledFor lists (g.D.Disk.history v.disk) → Leaves lists lists (g.D.Disk.history v.disk) (g.D.Disk.history c.append_entry.new.disk)) c.self.view_is
     (leaves_with _ _ _ c.args.entry.now (readied _ _ c.args.self.now c.take_room.new.log c.take_room.new.map.meaning c.take_room.new.dues.items c.args.entry.now c.self.invariant.1 c.self.view_is c.take_room.ensures.log c.take_room.ensures.map c.take_room.ensures.dues c.requires.running c.requires.range c.requires.kind c.requires.fits c.requires.drawn c.requires.due c.requires.below (subst (λ v. HasRegion c.args.entry.now (g.D.Disk.history v.disk)) (sym c.self.view_is) c.requires.region)) (g.met.D.Disk.reads_image c.self.inside.disk) c.append_entry.ensures.any_moment)
 
 pub returns-in-Err-clause-any_moment : goal.returns-in-Err-clause-any_moment
 returns-in-Err-clause-any_moment g c =
-    let left : (lists : Lists) → HasSyncedRegion c.args.entry.now (g.D.Disk.history c.args.self.now.disk) → IsSettledFor lists (g.D.Disk.history c.args.self.now.disk) → Leaves lists lists (g.D.Disk.history c.args.self.now.disk) (g.D.Disk.history c.append_entry.new.disk) =
-    subst (λ v. (lists : Lists) → HasSyncedRegion c.args.entry.now (g.D.Disk.history v.disk) → IsSettledFor lists (g.D.Disk.history v.disk) → Leaves lists lists (g.D.Disk.history v.disk) (g.D.Disk.history c.append_entry.new.disk)) c.self.view_is
+    let left : (lists : Lists) → IsReadyToStore c.args.entry.now (g.D.Disk.history c.args.self.now.disk) → IsSettledFor lists (g.D.Disk.history c.args.self.now.disk) → Leaves lists lists (g.D.Disk.history c.args.self.now.disk) (g.D.Disk.history c.append_entry.new.disk) =
+    subst (λ v. (lists : Lists) → IsReadyToStore c.args.entry.now (g.D.Disk.history v.disk) → IsSettledFor lists (g.D.Disk.history v.disk) → Leaves lists lists (g.D.Disk.history v.disk) (g.D.Disk.history c.append_entry.new.disk)) c.self.view_is
     (leaves_with _ _ _ c.args.entry.now (readied _ _ c.args.self.now c.take_room.new.log c.take_room.new.map.meaning c.take_room.new.dues.items c.args.entry.now c.self.invariant.1 c.self.view_is c.take_room.ensures.log c.take_room.ensures.map c.take_room.ensures.dues c.requires.running c.requires.range c.requires.kind c.requires.fits c.requires.drawn c.requires.due c.requires.below (subst (λ v. HasRegion c.args.entry.now (g.D.Disk.history v.disk)) (sym c.self.view_is) c.requires.region)) (g.met.D.Disk.reads_image c.self.inside.disk) c.append_entry.ensures.any_moment) in
     let same : c.match-copy.self.disk ≡ c.append_entry.new.disk = search rules in
-    subst (λ d. (lists : Lists) → HasSyncedRegion c.args.entry.now (g.D.Disk.history c.args.self.now.disk) → IsSettledFor lists (g.D.Disk.history c.args.self.now.disk) → Leaves lists lists (g.D.Disk.history c.args.self.now.disk) (g.D.Disk.history d)) (sym same) left
+    subst (λ d. (lists : Lists) → IsReadyToStore c.args.entry.now (g.D.Disk.history c.args.self.now.disk) → IsSettledFor lists (g.D.Disk.history c.args.self.now.disk) → Leaves lists lists (g.D.Disk.history c.args.self.now.disk) (g.D.Disk.history d)) (sym same) left
 
 pub returns-in-Ok-clause-settled : goal.returns-in-Ok-clause-settled
 returns-in-Ok-clause-settled g c =
-    subst (λ v. (lists : Lists) → HasSyncedRegion c.args.entry.now (g.D.Disk.history v.disk) → IsSettledFor lists (g.D.Disk.history v.disk) → IsSettledFor lists (g.D.Disk.history c.append_entry.new.disk)) c.self.view_is
+    subst (λ v. (lists : Lists) → IsReadyToStore c.args.entry.now (g.D.Disk.history v.disk) → IsSettledFor lists (g.D.Disk.history v.disk) → IsSettledFor lists (g.D.Disk.history c.append_entry.new.disk)) c.self.view_is
     (settled_with _ _ _ c.append_entry.new.log c.args.entry.now (readied _ _ c.args.self.now c.take_room.new.log c.take_room.new.map.meaning c.take_room.new.dues.items c.args.entry.now c.self.invariant.1 c.self.view_is c.take_room.ensures.log c.take_room.ensures.map c.take_room.ensures.dues c.requires.running c.requires.range c.requires.kind c.requires.fits c.requires.drawn c.requires.due c.requires.below (subst (λ v. HasRegion c.args.entry.now (g.D.Disk.history v.disk)) (sym c.self.view_is) c.requires.region)) (g.met.D.Disk.reads_image c.self.inside.disk) c.in-Ok.ensures.log c.in-Ok.ensures.others c.in-Ok.ensures.held)
 
 pub returns-in-Ok-clause-due : goal.returns-in-Ok-clause-due
