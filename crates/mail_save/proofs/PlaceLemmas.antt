@@ -1,0 +1,123 @@
+-- Where messages are placed: the GUID of a place, and the files that are known then.
+use Rattle.std.proofs.Common.{◌≡◌, ◌≤◌, ◌<◌, ◌+◌, ◌^◌, ℕ, Bool, true, false, List, [], ◌∷◌, ◌++◌, Option, Some, All, refl, sym, ◌∙◌, ap, subst, append_assoc, append-nil, arith, take, drop, length}
+use Rattle.std.specs.Prelude.{◌≢◌, ◌==◌, not, if◌then◌else◌, is_some}
+use Rattle.std.specs.Int.{w32, to_be_bytes, from_be_bytes}
+use Rattle.std.specs.Str.{bytes_eq}
+use Rattle.std.proofs.lemmas.List.{length-append}
+use Rattle.std.proofs.lemmas.Slice.Eq.{bytes_eq-Decides}
+use Rattle.std.proofs.lemmas.Nat.{from_be_bytes-to_be_bytes_4}
+use Rattle.std.proofs.Math.Seq.{take-append_seam, drop-append_seam}
+use Rattle.std.proofs.lemmas.List.Elements.{All-nil, All-cons, All-head, All-tail, All-append, All-filter}
+use Rattle.mdbox_base.specs.declared.ids.FileNo.{FileNo}
+use Rattle.disk_model.specs.Disk.{History}
+use Rattle.model_lists.specs.Lists.{Lists}
+use Rattle.model_meaning.specs.MapFits.{IsFree}
+use Rattle.model_store.specs.Settled.{IsSettledFor, Leaves}
+use Rattle.store_core.proofs.BoxCrashLemmas.{leaves_none}
+use Rattle.model_meaning.specs.MapMeaning.{MapMeaning, is_own, number_at}
+use Rattle.storage_files.proofs.FileListLemmas.{KeepsNumber, number_kept}
+use Rattle.storage_files.specs.Files.{changed_in, end_in, ending_at, file_begun, is_taken_in, released_in, with_taken, without_file}
+use Rattle.storage_files.specs.declared.file.MailFile.{MailFile}
+use Rattle.store_core.specs.Files.{IsNewPlace}
+use Rattle.store_core.specs.Value.{StoreValue}
+use Rattle.mail_save.specs.Left.{HoldsFile, HoldsRegion}
+use Rattle.mail_save.specs.Saved.{place_guid}
+use Rattle.mail_save.specs.declared.place.SavedAt.{SavedAt}
+
+seam_take : (a b : List ℕ) (n : ℕ) → length a ≡ n → take n (a ++ b) ≡ a
+seam_take a b n long = subst (λ (k : ℕ). take k (a ++ b) ≡ a) long (take-append_seam a b)
+
+seam_drop : (a b : List ℕ) (n : ℕ) → length a ≡ n → drop n (a ++ b) ≡ b
+seam_drop a b n long = subst (λ (k : ℕ). drop k (a ++ b) ≡ b) long (drop-append_seam a b)
+
+four_long : (n : ℕ) → length (to_be_bytes w32 n) ≡ 4
+four_long n = refl
+
+bytes_same : (a : List ℕ) → bytes_eq a a ≡ true
+bytes_same a = (bytes_eq-Decides a a).1 refl
+
+pub own_place : (store : List ℕ) (file offset : ℕ) → length store ≡ 8 → is_own store (place_guid store file offset) ≡ true
+own_place store file offset long = ap (λ (x : List ℕ). bytes_eq x store) (seam_take store (to_be_bytes w32 file ++ to_be_bytes w32 offset) 8 long) ∙ bytes_same store
+
+pub file_of_place : (store : List ℕ) (file offset : ℕ) → length store ≡ 8 → file < 2 ^ 32 → number_at 8 (place_guid store file offset) ≡ file
+file_of_place store file offset long small =
+    ap (λ (x : List ℕ). from_be_bytes w32 (take 4 x)) (seam_drop store (to_be_bytes w32 file ++ to_be_bytes w32 offset) 8 long)
+    ∙ (ap (from_be_bytes w32) (seam_take (to_be_bytes w32 file) (to_be_bytes w32 offset) 4 (four_long file)) ∙ from_be_bytes-to_be_bytes_4 file small)
+
+pub offset_of_place : (store : List ℕ) (file offset : ℕ) → length store ≡ 8 → offset < 2 ^ 32 → number_at 12 (place_guid store file offset) ≡ offset
+offset_of_place store file offset long small =
+    let f : List ℕ = to_be_bytes w32 file in
+    let o : List ℕ = to_be_bytes w32 offset in
+    let twelve : length (store ++ f) ≡ 12 = length-append store f ∙ ap (λ (n : ℕ). n + 4) long in
+    let whole : drop 12 (store ++ (f ++ o)) ≡ o = ap (drop 12) (sym (append_assoc store f o)) ∙ seam_drop (store ++ f) o 12 twelve in
+    ap (λ (x : List ℕ). from_be_bytes w32 (take 4 x)) (whole ∙ sym (append-nil o)) ∙ (ap (from_be_bytes w32) (seam_take o [] 4 (four_long offset)) ∙ from_be_bytes-to_be_bytes_4 offset small)
+
+-- a GUID that names a new place is new
+pub guid_is_new : (m : MapMeaning) (file offset : ℕ) → length m.store ≡ 8 → file < 2 ^ 32 → offset < 2 ^ 32 → IsNewPlace m file offset → All (λ row. row.guid ≢ place_guid m.store file offset) m.records
+guid_is_new m file offset long f o new = λ k d lt e.
+    new k d lt (ap (is_own m.store) e ∙ own_place m.store file offset long) (ap (number_at 8) e ∙ file_of_place m.store file offset long f) (ap (number_at 12) e ∙ offset_of_place m.store file offset long o)
+
+-- ---- numbers of files
+
+abbrev pub HasNumber : MailFile → Type 0
+HasNumber f = 1 ≤ f.file.0
+
+pub numbered_changed : (n : ℕ) (step : MailFile → MailFile) (files : List MailFile) → KeepsNumber step → All HasNumber files → All HasNumber (changed_in n step files)
+numbered_changed n step [] keeps h = All-nil HasNumber
+numbered_changed n step (x ∷ xs) keeps h =
+    All-cons HasNumber (if x.file.0 == n then step x else x) (changed_in n step xs) (subst (λ (k : ℕ). 1 ≤ k) (sym (number_kept n step x keeps)) (All-head HasNumber x xs h)) (numbered_changed n step xs keeps (All-tail HasNumber x xs h))
+
+numbered_either : (which : Bool) (a b : List MailFile) → All HasNumber a → All HasNumber b → All HasNumber (if which then a else b)
+numbered_either true a b x y = x
+numbered_either false a b x y = y
+
+pub numbered_ending : (n end : ℕ) (files : List MailFile) → All HasNumber files → All HasNumber (changed_in n (ending_at end) files)
+numbered_ending n end files h = numbered_changed n (ending_at end) files (λ f. refl) h
+
+pub numbered_taken : (n : ℕ) (files : List MailFile) → All HasNumber files → All HasNumber (changed_in n (with_taken true) files)
+numbered_taken n files h = numbered_changed n (with_taken true) files (λ f. refl) h
+
+pub numbered_begun : (file : FileNo) (files : List MailFile) → 1 ≤ file.0 → All HasNumber files → All HasNumber (files ++ file_begun file ∷ [])
+numbered_begun file files some h = All-append HasNumber files (file_begun file ∷ []) h (All-cons HasNumber (file_begun file) [] some (All-nil HasNumber))
+
+pub numbered_released : (n : ℕ) (files : List MailFile) → All HasNumber files → All HasNumber (released_in n files)
+numbered_released n files h =
+    numbered_either (is_some (end_in n files)) (changed_in n (with_taken false) files) (without_file n files) (numbered_changed n (with_taken false) files (λ f. refl) h) (All-filter (λ f. not (f.file.0 == n)) HasNumber files h)
+
+-- ---- a region that was placed
+
+some_end : (a b : ℕ) → Some a ≡ Some b → a ≡ b
+some_end a b e = cc e
+
+pub region_placed : {D : Type 0} (old new : StoreValue D) (at : SavedAt) (size : ℕ) → new.map ≡ old.map → length old.map.store ≡ 8 → at.file.0 < 2 ^ 32 → HoldsFile at.file.0 size old → at.size ≡ size
+    → is_taken_in at.file.0 new.files.files ≡ is_taken_in at.file.0 old.files.files → end_in at.file.0 old.files.files ≡ Some at.offset → end_in at.file.0 new.files.files ≡ Some (at.offset + at.size)
+    → IsFree old.map at.file.0 at.offset at.size → IsNewPlace old.map at.file.0 at.offset → at.guid.0 ≡ place_guid old.map.store at.file.0 at.offset → HoldsRegion at new
+region_placed old new at size map_is long file_small held same_size taken began ends free new_place guid =
+    let offset_is : held.end ≡ at.offset = some_end held.end at.offset (sym held.ends ∙ began) in
+    let fits = held.fits in
+    record {
+      some = held.some;
+      taken = taken ∙ held.taken;
+      end = at.offset + at.size;
+      ends = ends;
+      inside = omega arith;
+      small = omega (arith, offset_is, fits, same_size);
+      free = subst (λ (m : MapMeaning). IsFree m at.file.0 at.offset at.size) (sym map_is) free;
+      guid_file = ap (number_at 8) guid ∙ file_of_place old.map.store at.file.0 at.offset long file_small;
+      guid_offset = ap (number_at 12) guid ∙ offset_of_place old.map.store at.file.0 at.offset long (omega (arith, offset_is, fits));
+      guid_new = subst (λ (m : MapMeaning). All (λ row. row.guid ≢ at.guid.0) m.records) (sym map_is)
+          (subst (λ (g : List ℕ). All (λ row. row.guid ≢ g) old.map.records) (sym guid) (guid_is_new old.map at.file.0 at.offset long file_small (omega (arith, offset_is, fits)) new_place));
+    }
+
+-- the GUID that was made of the end that was read
+pub place_named : (store id : List ℕ) (file end offset : ℕ) {read : Option ℕ} → id ≡ store → read ≡ Some end → read ≡ Some offset → place_guid id file end ≡ place_guid store file offset
+place_named store id file end offset {read} same there began =
+    ap (λ (s : List ℕ). place_guid s file end) same ∙ ap (place_guid store file) (some_end end offset (sym there ∙ began))
+
+-- ---- a disk that was not changed
+
+pub unchanged_leaves : {D : Type 0} (history : D → Option History) (old new : D) → new ≡ old → (lists later : Lists) → IsSettledFor lists (history old) → Leaves lists later (history old) (history new)
+unchanged_leaves {D = D} history old new same lists later s = subst (λ (d : D). Leaves lists later (history old) (history d)) (sym same) (leaves_none (history old) lists later s)
+
+pub unchanged_settled : {D : Type 0} (history : D → Option History) (old new : D) → new ≡ old → (lists : Lists) → IsSettledFor lists (history old) → IsSettledFor lists (history new)
+unchanged_settled {D = D} history old new same lists s = subst (λ (d : D). IsSettledFor lists (history d)) (sym same) s

@@ -1,0 +1,128 @@
+-- A message that was placed can be stored in the map.
+use Rattle.std.proofs.Common.{◌≡◌, ◌≤◌, ◌+◌, ◌==◌, ◌&&◌, ℕ, Bool, true, false, not, inl, inr, List, [], ◌∷◌, Option, Some, None, All, refl, sym, ◌∙◌, ap, subst, arith, length, get_or}
+use Rattle.std.specs.Prelude.{if◌then◌else◌}
+use Rattle.std.specs.Option.{option_map, option_and_then}
+use Rattle.std.proofs.lemmas.Bool.{cases_eq, cond-false, ne_eqb}
+use Rattle.std.proofs.lemmas.List.Elements.{All-nil, All-cons, All-head, All-tail}
+use Rattle.disk_model.specs.Disk.{Files, History, IfTold}
+use Rattle.disk_model.specs.declared.name.FileName.TheVariants as file
+use Rattle.disk_model.proofs.MomentLemmas.{if_told-map}
+use Rattle.mdbox_base.specs.Words.{IsNumber}
+use Rattle.mdbox_base.specs.declared.entries.InstRow.{InstRow}
+use Rattle.mdbox_base.specs.declared.entries.MapEntry.TheVariants as map_entry
+use Rattle.mdbox_base.specs.declared.ids.MapUid.{MapUid}
+use Rattle.model_appends.specs.MapAppending.{stored_row}
+use Rattle.model_meaning.specs.MapFits.{AgreesOn, FitsStored}
+use Rattle.model_meaning.specs.MapMeaning.{MapRecord, is_own, number_at, guid_file}
+use Rattle.model_store.specs.Safe.{LiesInFile}
+use Rattle.model_store.specs.Settled.{files_of}
+use Rattle.storage_files.specs.Files.{AreFilesInOrder, end_in, file_in}
+use Rattle.storage_files.specs.OnDisk.{IsAsKnown}
+use Rattle.storage_files.specs.declared.file.MailFile.{MailFile}
+use Rattle.store_core.specs.Files.{EndsBehind, LiesBelowEnd}
+use Rattle.store_core.specs.MapAppend.{IsReadyToStore}
+use Rattle.store_core.specs.Running.{IsStore}
+use Rattle.store_core.specs.Value.{StoreValue}
+use Rattle.mail_save.specs.Left.{HoldsRegion}
+use Rattle.mail_save.specs.Record.{entry_stored}
+use Rattle.mail_save.specs.declared.place.SavedAt.{SavedAt}
+
+-- ---- numbers
+
+-- a file that ends has a number that was drawn
+file_below : (n most end : ℕ) (files : List MailFile) → All (λ f. f.file.0 ≤ most) files → end_in n files ≡ Some end → n ≤ most
+file_below n most end [] h e = absurd (let w : None ≡ Some end = e in cc)
+file_below n most end (x ∷ xs) h e = elim (cases_eq x.file.0 n) [
+  | inl same ↦ let low = All-head (λ (f : MailFile). f.file.0 ≤ most) x xs h in omega (arith, low, same)
+  | inr apart ↦
+      file_below n most end xs (All-tail (λ (f : MailFile). f.file.0 ≤ most) x xs h)
+      (sym (ap (option_and_then (λ f. f.end)) (cond-false (x.file.0 == n) (Some x) (file_in n xs) (ne_eqb x.file.0 n apart))) ∙ e)
+]
+
+pub file_drawn : {D : Type 0} (at : SavedAt) (store : StoreValue D) (history : Option History) → IsStore history store → AreFilesInOrder store.files → HoldsRegion at store → at.file.0 ≤ store.drawn.file
+file_drawn at store history is order held =
+    let low = file_below at.file.0 store.files.highest held.end store.files.files order.below held.ends in
+    let same = is.files.highest in
+    omega (arith, low, same)
+
+own_most : (which : Bool) (n most : ℕ) → n ≤ most → (if which then n else 0) ≤ most
+own_most true n most le = le
+own_most false n most le = omega arith
+
+pub guid_drawn : {D : Type 0} (at : SavedAt) (store : StoreValue D) (history : Option History) → IsStore history store → AreFilesInOrder store.files → HoldsRegion at store → guid_file store.map.store at.guid.0 ≤ store.drawn.file
+guid_drawn at store history is order held =
+    let named = held.guid_file in
+    let low = file_drawn at store history is order held in
+    own_most (is_own store.map.store at.guid.0 && not (number_at 8 at.guid.0 == 4294967295)) (number_at 8 at.guid.0) store.drawn.file (omega (arith, named, low))
+
+-- ---- it fits
+
+none_agree : (row : MapRecord) → All (λ i. All (AgreesOn i) row.instances) []
+none_agree row = All-nil (λ (i : InstRow). All (AgreesOn i) row.instances)
+
+pub record_fits : {D : Type 0} (origin : ℕ) (uid : MapUid) (at : SavedAt) (instances : List InstRow) (store : StoreValue D) (history : Option History) → instances ≡ [] → IsStore history store → AreFilesInOrder store.files → HoldsRegion at store
+    → origin ≤ 1 → 1 ≤ at.size → uid.0 ≡ store.drawn.map + 1 → IsNumber uid.0 → FitsStored store.map origin uid.0 at.file.0 at.offset at.size at.guid.0 instances
+record_fits origin uid at instances store history none is order held known some drawn number =
+    let up = is.drawn.map in
+    let inside = held.inside in
+    let small = held.small in
+    let low = file_below at.file.0 store.files.highest held.end store.files.files order.below held.ends in
+    let last = order.last in
+    subst (λ (rows : List InstRow). FitsStored store.map origin uid.0 at.file.0 at.offset at.size at.guid.0 rows) (sym none) (record {
+      known_origin = known;
+      uid_number = number;
+      uid_new = omega (arith, up, drawn);
+      region = record {
+        file_number = record { low = held.some; high = omega (arith, low, last) };
+        some = some;
+        ends = omega (arith, inside, small);
+        free = held.free;
+      };
+      guid_new = held.guid_new;
+      known = λ k d lt. none_agree (get_or store.map.records k d);
+      earlier = λ i j d lt low. absurd (omega (arith, low));
+    })
+
+-- ---- below the end of its file
+
+ends_behind : (number place end : ℕ) (files : List MailFile) → end_in number files ≡ Some end → place ≤ end → EndsBehind number place files
+ends_behind number place end files ends low = λ f found grows. (end, sym (ap (option_and_then (λ f. f.end)) found) ∙ ends, low)
+
+pub record_below : {D : Type 0} (origin : ℕ) (uid : MapUid) (at : SavedAt) (instances : List InstRow) (store : StoreValue D) → HoldsRegion at store → 1 ≤ at.size
+    → All (LiesBelowEnd store.map.store store.files.files) (stored_row origin 1 uid at.file at.offset at.size at.guid instances ∷ [])
+record_below origin uid at instances store held some =
+    let inside = held.inside in
+    let offset = held.guid_offset in
+    All-cons (LiesBelowEnd store.map.store store.files.files) (stored_row origin 1 uid at.file at.offset at.size at.guid instances) [] (record {
+      region = ends_behind at.file.0 (at.offset + at.size) held.end store.files.files held.ends inside;
+      guid = λ own. subst (λ (n : ℕ). EndsBehind n (number_at 12 at.guid.0 + 1) store.files.files) (sym held.guid_file) (ends_behind at.file.0 (number_at 12 at.guid.0 + 1) held.end store.files.files held.ends (omega (arith, inside, offset, some)));
+    }) (All-nil (LiesBelowEnd store.map.store store.files.files))
+
+-- ---- in its file
+
+some_long : (a b : ℕ) → Some a ≡ Some b → a ≡ b
+some_long a b e = cc e
+
+some_octets : (r : Option (List ℕ)) (end : ℕ) → option_map length r ≡ Some end → (octets : List ℕ) × (r ≡ Some octets) × (length octets ≡ end)
+some_octets None end e = absurd (let w : None ≡ Some end = e in cc)
+some_octets (Some o) end e = (o, refl, some_long (length o) end e)
+
+region_lies : (files : Files) (row : MapRecord) (end : ℕ) → option_map length (files (file.Mail row.file)) ≡ Some end → row.offset + row.size ≤ end → LiesInFile files row
+region_lies files row end is inside =
+    let w = some_octets (files (file.Mail row.file)) end is in
+    let long = w.2 in
+    record { octets = w.0; there = w.1; inside = omega (arith, inside, long) }
+
+pub record_lies : {D : Type 0} (origin : ℕ) (uid : MapUid) (at : SavedAt) (instances : List InstRow) (store : StoreValue D) (history : Option History) → HoldsRegion at store → IsAsKnown store.files.files at.file.0 history
+    → IfTold history (λ now. LiesInFile (files_of now) (stored_row origin 1 uid at.file at.offset at.size at.guid instances))
+record_lies origin uid at instances store history held known =
+    if_told-map (λ disk. option_map length (files_of disk (file.Mail at.file.0)) ≡ end_in at.file.0 store.files.files) (λ now. LiesInFile (files_of now) (stored_row origin 1 uid at.file at.offset at.size at.guid instances)) history
+    (λ disk is. region_lies (files_of disk) (stored_row origin 1 uid at.file at.offset at.size at.guid instances) held.end (is ∙ held.ends) held.inside) known
+
+-- ---- ready
+
+pub ready_as : (origin : ℕ) (uid : MapUid) (at : SavedAt) (next : ℕ) (instances : List InstRow) (history : Option History) → uid.0 ≡ next → instances ≡ [] → IsReadyToStore (entry_stored origin (record { 0 = next }) at) history
+    → IsReadyToStore (map_entry.S origin 1 uid at.file at.offset at.size at.guid instances) history
+ready_as origin uid at next instances history is none ready =
+    subst (λ (rows : List InstRow). IsReadyToStore (map_entry.S origin 1 uid at.file at.offset at.size at.guid rows) history) (sym none)
+    (subst (λ (u : MapUid). IsReadyToStore (entry_stored origin u at) history) (ap (λ (n : ℕ). record { 0 = n }) (sym is)) ready)

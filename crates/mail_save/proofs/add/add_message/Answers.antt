@@ -1,0 +1,14 @@
+use Rattle.mail_save.proofs.AddLemmas.{adds_at, added_at}
+use Rattle.mail_save.proofs.add.add_message.Goals as goal
+
+pub returns-in-Ok-clause-any_moment : goal.returns-in-Ok-clause-any_moment
+returns-in-Ok-clause-any_moment g c = adds_at c.args.name.now c.args.added c.in_ok-number.number c.in_ok-number.uid c.args.store.now _ _ c.in_ok-number.ensures.ok c.append_box.ensures.any_moment
+
+pub returns-in-Ok-clause-settled : goal.returns-in-Ok-clause-settled
+returns-in-Ok-clause-settled g c = added_at c.args.name.now c.args.added c.in_ok-number.number c.in_ok-number.uid c.args.store.now _ _ c.in_ok-number.ensures.ok c.in-Ok.ensures.settled
+
+pub returns-in-Err-Stopped-clause-any_moment : goal.returns-in-Err-Stopped-clause-any_moment
+returns-in-Err-Stopped-clause-any_moment g c = adds_at c.args.name.now c.args.added c.in_ok-number.number c.in_ok-number.uid c.args.store.now _ _ c.in_ok-number.ensures.ok c.append_box.ensures.any_moment
+
+pub returns-in-Err-NoMemory-clause-any_moment : goal.returns-in-Err-NoMemory-clause-any_moment
+returns-in-Err-NoMemory-clause-any_moment g c = adds_at c.args.name.now c.args.added c.in_ok-number.number c.in_ok-number.uid c.args.store.now _ _ c.in_ok-number.ensures.ok c.append_box.ensures.any_moment

@@ -1,0 +1,24 @@
+use Rattle.std.proofs.Common.{rules, ◌≡◌, ◌<◌, ◌+◌, ◌^◌, ℕ, List, All, length, ap, sym, subst, ◌∙◌}
+use Rattle.disk_model.specs.Disk.{IfTold}
+use Rattle.disk_model.specs.declared.name.FileName.TheVariants.{Mail}
+use Rattle.storage_files.specs.declared.file.MailFile.{MailFile}
+use Rattle.store_core.specs.Files.{EndsWith}
+use Rattle.mail_save.proofs.PlaceLemmas.{HasNumber, numbered_ending, region_placed, place_named}
+use Rattle.mail_save.proofs.place.place_region.Goals as goal
+
+pub returns-clause-placed : goal.returns-clause-placed
+returns-clause-placed g c =
+    let o = c.in_ok-offset.ensures in
+    let long : length c.id.result.0 ≡ 8 = search rules in
+    let size : length c.set_guid.new.region ≡ length c.args.region.now = search rules in
+    let small : c.args.file.0 < 2 ^ 32 = search rules in
+    region_placed c.args.store.now c.place.new.self _ _ (ap (λ v. v.map) o.ok) (ap length (sym c.id.ensures) ∙ long) small c.requires.taken size (o.taken c.args.file.0) o.offset o.ends o.free o.new_place
+    (c.guid_at-guid.ensures ∙ place_named c.args.store.now.map.store c.id.result.0 c.args.file.0 c.in-Some.end c.in_ok-offset.offset c.id.ensures (sym c.end_of.ensures ∙ c.in-Some.is) o.offset)
+
+pub returns-clause-written : goal.returns-clause-written
+returns-clause-written g c = λ time octets is.
+    subst (λ (text : List ℕ). IfTold (g.D.Disk.history c.place.new.self.disk) (λ now. EndsWith c.in_ok-offset.offset text (now (Mail c.args.file.0)))) (c.set_guid.ensures time octets is) c.in_ok-offset.ensures.placed
+
+pub returns-clause-numbered : goal.returns-clause-numbered
+returns-clause-numbered g c = λ h.
+    subst (λ (files : List MailFile). All HasNumber files) (ap (λ v. v.files.files) (sym c.in_ok-offset.ensures.ok)) (numbered_ending c.args.file.0 (c.in_ok-offset.offset + length c.set_guid.new.region) c.args.store.now.files.files h)

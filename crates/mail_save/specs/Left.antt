@@ -1,0 +1,33 @@
+-- What a store has for a delivery between its events.
+use Rattle.std.specs.Prelude.{◌≡◌, ◌≢◌, ◌≤◌, ◌+◌, ℕ, true, All, Some}
+use Rattle.model_meaning.specs.MapFits.{IsFree}
+use Rattle.model_meaning.specs.MapMeaning.{number_at}
+use Rattle.storage_files.specs.Files.{is_taken_in, end_in}
+use Rattle.store_core.specs.Value.{StoreValue}
+use Rattle.mail_save.specs.declared.place.SavedAt.{SavedAt}
+
+-- each storage file has a number of at least 1
+abbrev pub AreNumbered : {D : Type 0} → StoreValue D → Type 0
+AreNumbered store = All (λ f. 1 ≤ f.file.0) store.files.files
+
+-- The storage file is taken, and has room for so many octets.
+pub record HoldsFile {D : Type 0} (file size : ℕ) (store : StoreValue D) : Type 0 where
+  pub some : 1 ≤ file
+  pub taken : is_taken_in file store.files.files ≡ true
+  pub end : ℕ
+  pub ends : end_in file store.files.files ≡ Some end
+  pub fits : end + size ≤ 4294967295
+
+-- The message's region stands in the storage file, which is taken still, and overlaps no record's. Its GUID names this place, and
+-- no record has it.
+pub record HoldsRegion {D : Type 0} (at : SavedAt) (store : StoreValue D) : Type 0 where
+  pub some : 1 ≤ at.file.0
+  pub taken : is_taken_in at.file.0 store.files.files ≡ true
+  pub end : ℕ
+  pub ends : end_in at.file.0 store.files.files ≡ Some end
+  pub inside : at.offset + at.size ≤ end
+  pub small : end ≤ 4294967295
+  pub free : IsFree store.map at.file.0 at.offset at.size
+  pub guid_file : number_at 8 at.guid.0 ≡ at.file.0
+  pub guid_offset : number_at 12 at.guid.0 ≡ at.offset
+  pub guid_new : All (λ row. row.guid ≢ at.guid.0) store.map.records

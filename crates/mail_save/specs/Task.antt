@@ -1,0 +1,165 @@
+-- What a caller sees of a delivery, and what a step of it says.
+use Rattle.std.specs.Prelude.{◌≡◌, ◌↔◌, ◌⊎◌, ◌≢◌, ◌≤◌, ◌<◌, ◌+◌, ℕ, true, false, List, length, if◌then◌else◌, Option, Some, None}
+use Rattle.attach_detach.specs.Prepared.{IsPlain}
+use Rattle.disk_model.specs.Disk.{History, Faults, Grows, IfTold}
+use Rattle.disk_model.specs.declared.name.FileName.TheVariants as file
+use Rattle.disk_model.specs.FaultCounts.{NoFault, ChangeFaultCounted}
+use Rattle.mdbox_base.specs.declared.ids.BoxNo.{BoxNo}
+use Rattle.mdbox_base.specs.declared.ids.Uid.{Uid}
+use Rattle.mdbox_base.specs.declared.progress.Did.{Did}
+use Rattle.mdbox_base.specs.declared.progress.Did.TheVariants as did
+use Rattle.mdbox_base.specs.declared.script.Half.TheVariants as half
+use Rattle.list_machine.specs.Machine.{is_step}
+use Rattle.mdbox_base.specs.declared.progress.Progress.{Progress}
+use Rattle.mdbox_base.specs.declared.progress.Progress.TheVariants as progress
+use Rattle.mdbox_base.specs.declared.replies.Refusal.{Refusal}
+use Rattle.mdbox_base.specs.declared.replies.Refusal.TheVariants as refusal
+use Rattle.mdbox_base.specs.declared.replies.Reply.TheVariants as reply
+use Rattle.model_appends.specs.Appending.{LeavesAsRead, lists_by}
+use Rattle.model_lists.specs.Lists.{Lists}
+use Rattle.model_meaning.specs.MapFits.{HasRecord}
+use Rattle.model_store.specs.Settled.{IsSettledFor, Leaves}
+use Rattle.store_core.specs.Append.{Brings}
+use Rattle.store_core.specs.Dues.{due_at}
+use Rattle.store_core.specs.Files.{EndsWith}
+use Rattle.store_core.specs.MapAppend.{IsReadyToStore}
+use Rattle.store_core.specs.Value.{StoreValue, list_named}
+use Rattle.mail_save.specs.Added.{HasRoomUnder, entry_added}
+use Rattle.mail_save.specs.Events.{box_refusal, save_refusal, uid_refusal}
+use Rattle.mail_save.specs.Left.{AreNumbered, HoldsFile, HoldsRegion}
+use Rattle.mail_save.specs.Parts.{AreLaidOut}
+use Rattle.mail_save.specs.Record.{entry_stored}
+use Rattle.mail_save.specs.Saved.{saved_region}
+use Rattle.mail_save.specs.declared.first.SavedParts.{SavedParts}
+use Rattle.mail_save.specs.declared.task.SaveStage.{SaveStage}
+use Rattle.mail_save.specs.declared.task.SaveStage.TheVariants as stage
+
+-- The mailbox, when the message was received, how many octets it has, which event is next, and what the last one did: nothing
+-- before the first.
+pub record SaveValue : Type 0 where
+  pub name : List ℕ
+  pub time : ℕ
+  pub size : ℕ
+  pub stage : SaveStage
+  pub did : Did
+
+-- what is laid out is of a message of at most 67,108,864 octets
+abbrev pub IsOfMessage : List ℕ → ℕ → SavedParts → Type 0
+IsOfMessage name time parts = (octets : List ℕ) × (length octets ≤ 67108864) × AreLaidOut name time octets parts
+
+-- What the task and its store have before an event: the message, the file that was taken, the region that was placed, or the
+-- record that is held. Of a task that has ended there is none.
+abbrev pub HasLeft : {D : Type 0} → SaveStage → List ℕ → ℕ → StoreValue D → Type 0
+HasLeft (stage.First prepared) name time store = (octets : List ℕ) × (length octets ≤ 67108864) × IsPlain octets prepared
+HasLeft (stage.Taking parts) name time store = IsOfMessage name time parts
+HasLeft (stage.Placing parts file) name time store = IsOfMessage name time parts × HoldsFile file.0 (length parts.region) store
+HasLeft (stage.Storing at origin room) name time store = HoldsRegion at store × (origin ≤ 1) × (1 ≤ at.size)
+HasLeft (stage.Adding added room) name time store =
+    HasRecord store.map added.map_uid.0 (λ row. row.guid ≡ added.guid.0) × (1 ≤ due_at added.map_uid.0 store) × (added.size ≤ 67108864)
+HasLeft (stage.GivingBack uid why room) name time store = (1 ≤ due_at uid.0 store) × (why ≢ refusal.Stopped)
+HasLeft stage.Ended name time store = ⊥
+
+-- how many events are still to come at the most
+abbrev pub save_events_left : SaveStage → ℕ
+save_events_left (stage.First prepared) = 6
+save_events_left (stage.Taking parts) = 5
+save_events_left (stage.Placing parts file) = 4
+save_events_left (stage.Storing at origin room) = 3
+save_events_left (stage.Adding added room) = 2
+save_events_left (stage.GivingBack uid why room) = 1
+save_events_left stage.Ended = 0
+
+-- ---- what a step says
+
+-- Each image at every moment is safe for the lists of a settled disk, whatever fails. One that stores the message asks that
+-- its region is ready; one that adds it may leave the lists with the message, of the octets that its record stores.
+abbrev pub MomentsAt : {D : Type 0} → SaveStage → List ℕ → StoreValue D → Option History → Option History → Type 0
+MomentsAt (stage.Storing at origin room) name store old new =
+    (lists : Lists) → IsReadyToStore (entry_stored origin (record { 0 = store.drawn.map + 1 }) at) old → IsSettledFor lists old → Leaves lists lists old new
+MomentsAt (stage.Adding added room) name store old new =
+    (number : BoxNo) (uid : Uid) → HasRoomUnder name number uid store → (lists : Lists) (octets : List ℕ) → Brings store.map (entry_added uid added) octets old → IsSettledFor lists old
+    → Leaves lists (lists_by number.0 octets (entry_added uid added) lists) old new
+MomentsAt other name store old new = (lists : Lists) → IsSettledFor lists old → Leaves lists lists old new
+
+-- Unless the store is stopped then, the disk is settled for its lists again, or, after a message was saved, for those with the
+-- message.
+abbrev pub RestsAt : {D : Type 0} → SaveStage → List ℕ → Progress → StoreValue D → Option History → Option History → Type 0
+RestsAt (stage.Storing at origin room) name answer store old new =
+    (lists : Lists) → IsReadyToStore (entry_stored origin (record { 0 = store.drawn.map + 1 }) at) old → IsSettledFor lists old → IsSettledFor lists new
+RestsAt (stage.Adding added room) name (progress.Done (reply.Saved uid guid)) store old new =
+    (number : BoxNo) → HasRoomUnder name number uid store → (lists : Lists) (octets : List ℕ) → Brings store.map (entry_added uid added) octets old → IsSettledFor lists old
+    → IsSettledFor (lists_by number.0 octets (entry_added uid added) lists) new
+RestsAt other name answer store old new = (lists : Lists) → IsSettledFor lists old → IsSettledFor lists new
+
+-- the request goes on, or is refused by one of these
+abbrev pub GoesOnOr : (Refusal → Type 0) → Progress → Type 0
+GoesOnOr Refuses progress.More = Unit {0}
+GoesOnOr Refuses (progress.Done (reply.Refused why)) = Refuses why
+GoesOnOr Refuses (progress.Done given) = ⊥
+
+-- What each event of a store that isn't stopped replies. The first one is refused by its causes, or out of memory; the last
+-- one replies the UID and the GUID.
+abbrev pub RepliesAt : {D : Type 0} → SaveStage → List ℕ → Progress → SaveStage → StoreValue D → Type 0
+RepliesAt (stage.First prepared) name answer next store = GoesOnOr (λ why. (save_refusal name store ≡ Some why) ⊎ ((save_refusal name store ≡ None) × (why ≡ refusal.NoMemory))) answer
+RepliesAt (stage.Taking parts) name answer next store = GoesOnOr (λ why. (why ≡ refusal.Stopped) ⊎ ((why ≡ refusal.NoMemory) ⊎ (why ≡ refusal.StoreFull 4294967294))) answer
+RepliesAt (stage.Placing parts file) name answer next store = GoesOnOr (λ why. why ≡ refusal.Stopped) answer
+RepliesAt (stage.Storing at origin room) name answer next store =
+    GoesOnOr (λ why. (uid_refusal store.drawn.map ≡ Some why) ⊎ ((uid_refusal store.drawn.map ≡ None) × ((why ≡ refusal.Stopped) ⊎ (why ≡ refusal.NoMemory)))) answer
+RepliesAt (stage.Adding added room) name answer next store =
+    ((number : BoxNo) × (uid : Uid) × HasRoomUnder name number uid store × (answer ≡ progress.Done (reply.Saved uid added.guid)))
+    ⊎ ((answer ≡ progress.Done (reply.Refused refusal.Stopped))
+    ⊎ ((why : Refusal) × ((box_refusal (list_named store name) ≡ Some why) ⊎ ((box_refusal (list_named store name) ≡ None) × (why ≡ refusal.NoMemory))) × (answer ≡ progress.More) × (next ≡ stage.GivingBack added.map_uid why room)))
+RepliesAt (stage.GivingBack uid why room) name answer next store = (answer ≡ progress.Done (reply.Refused why)) ⊎ (answer ≡ progress.Done (reply.Refused refusal.Stopped))
+RepliesAt stage.Ended name answer next store = ⊥
+
+-- What a refused event did: a step, unless out of memory or by a fault; one whose change of the disk failed would have made none.
+abbrev pub refused_did : Refusal → Did
+refused_did why = if is_step why then did.Step half.Whole else did.Quiet
+
+abbrev pub failing_did : Refusal → Did
+failing_did refusal.Stopped = did.Failed
+failing_did why = refused_did why
+
+-- What the event that adds the message did, and what each event did.
+abbrev pub adding_did : SaveStage → Progress → Did
+adding_did next (progress.Done (reply.Saved uid guid)) = did.Step half.Whole
+adding_did (stage.GivingBack uid why room) progress.More = refused_did why
+adding_did next answer = did.Broken half.Whole
+
+abbrev pub giving_did : Progress → Did
+giving_did (progress.Done (reply.Refused refusal.Stopped)) = did.Failed
+giving_did answer = did.Quiet
+
+abbrev pub saved_did : SaveStage → SaveStage → Progress → Did
+saved_did (stage.Adding added room) next answer = adding_did next answer
+saved_did (stage.GivingBack uid why room) next answer = giving_did answer
+saved_did now next (progress.Done (reply.Refused why)) = failing_did why
+saved_did now next answer = did.Quiet
+
+-- the reply of a store that is stopped
+abbrev pub stopped_reply : Progress
+stopped_reply = progress.Done (reply.Refused refusal.Stopped)
+
+-- Behind the event that places a message its region stands at the end of the storage file, with its GUID, and a crash leaves the
+-- file of a settled disk as it reads. Its record will have the origin that was decided.
+abbrev pub PlacesAt : SaveStage → SaveStage → List ℕ → ℕ → Option History → Option History → Type 0
+PlacesAt (stage.Placing parts file_no) (stage.Storing at origin room) name time before after =
+    (at.file ≡ file_no) × (origin ≡ parts.origin) × (at.size ≡ length parts.region)
+    × ((octets : List ℕ) → AreLaidOut name time octets parts → IfTold after (λ now. EndsWith at.offset (saved_region name time octets at.guid.0) (now (file.Mail file_no.0))))
+    × ((lists : Lists) → IsSettledFor lists before → IfTold after (LeavesAsRead (file.Mail file_no.0)))
+PlacesAt now next name time before after = Unit {0}
+
+-- What a step of a delivery says, of a store that isn't stopped: from this stage to the next one.
+pub record Saves {D : Type 0} (now next : SaveStage) (name : List ℕ) (time : ℕ) (answer : Progress) (how : Did) (old new : StoreValue D) (before after : Option History) (began ended : Faults) : Type 0 where
+  pub replies : RepliesAt now name answer next old
+  pub did_is : how ≡ saved_did now next answer
+  pub moments : MomentsAt now name old before after
+  pub rests : new.stopped ≡ false → RestsAt now name answer old before after
+  pub placed : PlacesAt now next name time before after
+  pub left : answer ≡ progress.More → HasLeft next name time new
+  pub fewer : answer ≡ progress.More → save_events_left next < save_events_left now
+  pub numbered : AreNumbered new
+  pub stopped : (answer ≡ stopped_reply) ↔ (new.stopped ≡ true)
+  pub fault : ChangeFaultCounted (answer ≡ stopped_reply) began ended
+  pub unfailed : (answer ≡ stopped_reply → ⊥) → NoFault began ended
+  pub grows : Grows before after

@@ -1,0 +1,107 @@
+// Where a message is placed.
+ghost use Rattle.std.specs.Prelude.{◌≡◌, ◌↔◌, ◌⊎◌, ◌≤◌, ◌+◌, ℕ, List, length, true, false, Some, IfOk, IfErr, OnOk, IsErr, IsErrOf};
+ghost use Rattle.disk_model.specs.Disk.{Grows, IfTold};
+ghost use Rattle.disk_model.specs.FaultCounts.{NoFault, ChangeFaultCounted};
+ghost use Rattle.disk_model.specs.declared.name.FileName.TheVariants.{Mail};
+ghost use Rattle.mdbox_base.specs.declared.replies.Refusal.TheVariants as refusal;
+ghost use Rattle.model_appends.specs.Appending.{LeavesAsRead};
+ghost use Rattle.model_lists.specs.Lists.{Lists};
+ghost use Rattle.model_store.specs.Settled.{IsSettledFor, Leaves};
+ghost use Rattle.storage_files.specs.Files.{end_in};
+ghost use Rattle.store_core.specs.Dues.{KeepsStored};
+ghost use Rattle.store_core.specs.Files.{EndsWith};
+ghost use Rattle.mail_save.specs.Left.{AreNumbered, HoldsFile, HoldsRegion};
+ghost use Rattle.mail_save.specs.Saved.{saved_region, no_guid, place_guid};
+
+use crate::region::{guid_at, set_guid};
+use disk_model::Disk;
+use mdbox_base::{FileNo, Guid, Name, NoMemory, Refusal};
+use storage_files::Take;
+use store_core::{Stopped, Store};
+
+/// The greatest number of a storage file.
+const LAST_NUMBER: u64 = 4_294_967_294;
+
+/// Where a message was placed.
+#[derive(Clone, Copy, Debug, PartialEq, Eq)]
+pub struct SavedAt {
+    pub file: FileNo,
+    /// Where its region begins, in octets.
+    pub offset: u32,
+    /// How many octets the region has.
+    pub size: u32,
+    pub guid: Guid,
+}
+
+/// Takes a storage file for so many octets, and makes it with this header where it is new.
+pub fn take_file<D: Disk>(store: &mut Store<D>, header: &[u8], size: u32) -> Result<FileNo, Refusal>
+    requires running { store.old.stopped ≡ false }
+    requires numbered { AreNumbered store.old }
+    requires size { length header.now + size ≤ 4294967295 }
+    ensures taken { IfOk result (λ file. HoldsFile file.0 size store.new) }
+    ensures causes { IfErr result (λ why. (why ≡ refusal.Stopped) ⊎ ((why ≡ refusal.NoMemory) ⊎ (why ≡ refusal.StoreFull 4294967294))) }
+    ensures numbered { AreNumbered store.new }
+    ensures any_moment { (lists : Lists) → IsSettledFor lists (D.history store.old.disk) → Leaves lists lists (D.history store.old.disk) (D.history store.new.disk) }
+    ensures settled { store.new.stopped ≡ false → (lists : Lists) → IsSettledFor lists (D.history store.old.disk) → IsSettledFor lists (D.history store.new.disk) }
+    ensures stored { store.new.stopped ≡ false → KeepsStored (D.history store.old.disk) (D.history store.new.disk) }
+    ensures stopped { IsErrOf result refusal.Stopped ↔ (store.new.stopped ≡ true) }
+    ensures same { store.new ≡ record store.old { disk = store.new.disk; files = store.new.files; drawn = record store.old.drawn { file = store.new.drawn.file }; stopped = store.new.stopped } }
+    ensures grows { Grows (D.history store.old.disk) (D.history store.new.disk) }
+    ensures fault { ChangeFaultCounted (IsErrOf result refusal.Stopped) (D.faults store.old.disk) (D.faults store.new.disk) }
+    ensures unfailed { store.new.stopped ≡ false → NoFault (D.faults store.old.disk) (D.faults store.new.disk) }
+{
+    store.facts();
+    if let Err(NoMemory) = store.reserve(1) {
+        return Err(Refusal::NoMemory);
+    }
+    match store.take_for(size) {
+        Take::Known(file) => Ok(file),
+        Take::New(file) => match store.make_file(file, header) {
+            Ok(()) => Ok(file),
+            Err(Stopped) => Err(Refusal::Stopped),
+        },
+        Take::Full => Err(Refusal::StoreFull(LAST_NUMBER)),
+    }
+}
+
+/// Sets the GUID of a message in its region, and places the region at the end of a storage file that was taken.
+pub fn place_region<D: Disk>(
+    store: &mut Store<D>,
+    name: &Name,
+    region: &mut [u8],
+    file: FileNo,
+) -> Result<SavedAt, Stopped>
+    requires running { store.old.stopped ≡ false }
+    requires laid_out { (time : ℕ) × (octets : List ℕ) × (region.old ≡ saved_region name.now time octets no_guid) }
+    requires taken { HoldsFile file.0 (length region.old) store.old }
+    ensures placed { IfOk result (λ at. HoldsRegion at store.new) }
+    ensures file { IfOk result (λ at. at.file ≡ file) }
+    ensures guid { IfOk result (λ at. at.guid.0 ≡ place_guid store.old.map.store file.0 at.offset) }
+    ensures size { IfOk result (λ at. at.size ≡ length region.old) }
+    ensures offset { IfOk result (λ at. end_in file.0 store.old.files.files ≡ Some at.offset) }
+    ensures written { IfOk result (λ at. (time : ℕ) (octets : List ℕ) → region.old ≡ saved_region name.now time octets no_guid → IfTold (D.history store.new.disk) (λ now. EndsWith at.offset (saved_region name.now time octets at.guid.0) (now (Mail file.0)))) }
+    ensures held { OnOk result ((lists : Lists) → IsSettledFor lists (D.history store.old.disk) → IfTold (D.history store.new.disk) (LeavesAsRead (Mail file.0))) }
+    ensures numbered { AreNumbered store.old → AreNumbered store.new }
+    ensures any_moment { (lists : Lists) → IsSettledFor lists (D.history store.old.disk) → Leaves lists lists (D.history store.old.disk) (D.history store.new.disk) }
+    ensures settled { OnOk result ((lists : Lists) → IsSettledFor lists (D.history store.old.disk) → IsSettledFor lists (D.history store.new.disk)) }
+    ensures stored { OnOk result (KeepsStored (D.history store.old.disk) (D.history store.new.disk)) }
+    ensures stopped { IsErr result ↔ (store.new.stopped ≡ true) }
+    ensures same { store.new ≡ record store.old { disk = store.new.disk; files = store.new.files; stopped = store.new.stopped } }
+    ensures grows { Grows (D.history store.old.disk) (D.history store.new.disk) }
+    ensures fault { ChangeFaultCounted (IsErr result) (D.faults store.old.disk) (D.faults store.new.disk) }
+    ensures unfailed { OnOk result (NoFault (D.faults store.old.disk) (D.faults store.new.disk)) }
+{
+    let Some(end) = store.end_of(file) else {
+        unreachable!()
+    };
+    let guid = guid_at(store.id(), file, end as u32);
+    set_guid(region, name, guid);
+    let size = region.len() as u32;
+    let offset = store.place(file, region)?;
+    Ok(SavedAt {
+        file,
+        offset,
+        size,
+        guid,
+    })
+}

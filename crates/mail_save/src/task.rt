@@ -1,0 +1,346 @@
+// The task of a delivery.
+ghost use Rattle.std.specs.Prelude.{◌≡◌, ◌≢◌, ◌≤◌, ℕ, List, length, true, false};
+ghost use Rattle.attach_detach.specs.Prepared.{IsPlain};
+ghost use Rattle.mdbox_base.specs.Words.{IsName};
+ghost use Rattle.mdbox_base.specs.declared.progress.Did.TheVariants as did;
+ghost use Rattle.mdbox_base.specs.declared.progress.Progress.TheVariants as progress;
+ghost use Rattle.mdbox_base.specs.declared.replies.Refusal.TheVariants as refusal;
+ghost use Rattle.mdbox_base.specs.declared.replies.Reply.TheVariants as reply;
+ghost use Rattle.store_core.specs.Dues.{due_at};
+ghost use Rattle.mail_save.specs.Left.{AreNumbered, HoldsFile};
+ghost use Rattle.mail_save.specs.Task.{HasLeft, IsOfMessage, Saves, stopped_reply, refused_did, failing_did};
+ghost use Rattle.mail_save.specs.declared.task.SaveStage.TheVariants as stage;
+
+use crate::add::{Added, add_message};
+use crate::first::{SavedParts, begin};
+use crate::place::{SavedAt, place_region, take_file};
+use crate::record::{LowerRoom, give_back, store_record};
+use attach_detach::Prepared;
+use disk_model::Disk;
+use mdbox_base::{Did, FileNo, Half, MapUid, Name, Progress, Refusal, Reply};
+use std::marker::Model;
+use std::mem;
+use store_core::{Stopped, Store};
+
+/// Which event of a delivery is the next.
+#[derive(Drop)]
+pub enum SaveStage {
+    /// The first, which makes the checks and takes the memory.
+    First(Prepared),
+    /// One that takes a storage file.
+    Taking(SavedParts),
+    /// One that places the message in the storage file that was taken.
+    Placing {
+        parts: SavedParts,
+        file: FileNo,
+    },
+    /// One that stores the message in the map.
+    Storing {
+        at: SavedAt,
+        origin: u8,
+        room: LowerRoom,
+    },
+    /// One that adds it to its mailbox.
+    Adding {
+        added: Added,
+        room: LowerRoom,
+    },
+    /// One that gives back the record, since the message was not added.
+    GivingBack {
+        uid: MapUid,
+        why: Refusal,
+        room: LowerRoom,
+    },
+    /// None: the request is answered.
+    Ended,
+}
+
+/// The task of a delivery: its events, one at a step.
+#[derive(Drop)]
+pub struct SaveTask {
+    name: Name,
+    time: u64,
+    /// How many octets the message has.
+    size: u32,
+    stage: SaveStage,
+    did: Did,
+}
+
+/// What an event of a delivery led to: which event is next, the answer, and what it did.
+#[derive(Drop)]
+struct Led {
+    next: SaveStage,
+    answer: Progress,
+    did: Did,
+}
+
+impl Model for SaveTask {
+    ghost use Rattle.std.specs.Prelude.{◌≤◌};
+    ghost use Rattle.mail_save.specs.Task.{SaveValue};
+
+    ghost Value = { SaveValue };
+
+    ghost view = { λ task. record { name = task.name; time = task.time; size = task.size; stage = task.stage; did = task.did } };
+
+    ghost invariant = { λ task. task.size ≤ 67108864 };
+}
+
+impl SaveTask {
+    /// The delivery of a message to a mailbox, received at this time (Unix seconds), whole.
+    pub fn of(name: Name, time: u64, prepared: Prepared) -> SaveTask
+        requires { (octets : List ℕ) × (length octets ≤ 67108864) × IsPlain octets prepared }
+        ensures { result ≡ record { name = name; time = time; size = prepared.whole; stage = stage.First prepared; did = did.Quiet } }
+    {
+        SaveTask {
+            name,
+            time,
+            size: prepared.whole,
+            stage: SaveStage::First(prepared),
+            did: Did::Quiet,
+        }
+    }
+
+    /// What the last event did.
+    pub fn did(&self) -> Did
+        ensures { result ≡ self.now.did }
+    {
+        self.did
+    }
+
+    /// Does the next event: the first one makes the checks and takes the memory; then a storage file is taken, the message placed
+    /// in it, stored in the map, and added to its mailbox. Where it can't be added, one more event gives its record back. The
+    /// store has to have what the event before left.
+    pub fn step<D: Disk>(&mut self, store: &mut Store<D>) -> Progress
+        requires left { HasLeft self.old.stage self.old.name self.old.time store.old }
+        requires numbered { AreNumbered store.old }
+        ensures saves { store.old.stopped ≡ false → Saves self.old.stage self.new.stage self.old.name self.old.time result self.new.did store.old store.new (D.history store.old.disk) (D.history store.new.disk) (D.faults store.old.disk) (D.faults store.new.disk) }
+        ensures stopped { store.old.stopped ≡ true → (result ≡ stopped_reply) × (store.new ≡ store.old) × (self.new.did ≡ did.Quiet) }
+        ensures request { (self.new.name ≡ self.old.name) × (self.new.time ≡ self.old.time) × (self.new.size ≡ self.old.size) }
+    {
+        if store.stopped() {
+            self.did = Did::Quiet;
+            return Progress::Done(Reply::Refused(Refusal::Stopped));
+        }
+        let now = mem::replace(&mut self.stage, SaveStage::Ended);
+        let Led { next, answer, did } = next_event(store, &self.name, self.time, self.size, now);
+        self.stage = next;
+        self.did = did;
+        answer
+    }
+}
+
+/// Does the event of this stage, of a store that isn't stopped.
+fn next_event<D: Disk>(
+    store: &mut Store<D>,
+    name: &Name,
+    time: u64,
+    size: u32,
+    now: SaveStage,
+) -> Led
+    requires running { store.old.stopped ≡ false }
+    requires left { HasLeft now name.now time store.old }
+    requires numbered { AreNumbered store.old }
+    requires size { size ≤ 67108864 }
+    ensures { Saves now result.next name.now time result.answer result.did store.old store.new (D.history store.old.disk) (D.history store.new.disk) (D.faults store.old.disk) (D.faults store.new.disk) }
+{
+    match now {
+        SaveStage::First(prepared) => first_event(store, name, time, &prepared),
+        SaveStage::Taking(parts) => taking(store, name, time, parts),
+        SaveStage::Placing { parts, file } => placing(store, name, time, parts, file),
+        SaveStage::Storing { at, origin, room } => {
+            storing(store, name, time, size, at, origin, room)
+        }
+        SaveStage::Adding { added, room } => adding(store, name, time, added, room),
+        SaveStage::GivingBack { uid, why, room } => giving_back(store, uid, why, room),
+        SaveStage::Ended => unreachable!(),
+    }
+}
+
+/// The request goes on with this event.
+fn goes_on(next: SaveStage) -> Led
+    ensures { result ≡ record { next = next; answer = progress.More; did = did.Quiet } }
+{
+    Led {
+        next,
+        answer: Progress::More,
+        did: Did::Quiet,
+    }
+}
+
+/// The request ends with this refusal.
+fn ends(why: Refusal, did: Did) -> Led
+    ensures { result ≡ record { next = stage.Ended; answer = progress.Done (reply.Refused why); did = did } }
+{
+    Led {
+        next: SaveStage::Ended,
+        answer: Progress::Done(Reply::Refused(why)),
+        did,
+    }
+}
+
+/// What an event did that was refused: a step, unless out of memory or by a fault.
+fn did_refuse(why: Refusal) -> Did
+    ensures { result ≡ refused_did why }
+{
+    match why {
+        Refusal::NoMemory | Refusal::ReadFault | Refusal::Stopped | Refusal::Damaged { .. } =>
+            Did::Quiet,
+        _ => Did::Step(Half::Whole),
+    }
+}
+
+/// The same, of an event that changes the disk.
+fn did_fail(why: Refusal) -> Did
+    ensures { result ≡ failing_did why }
+{
+    match why {
+        Refusal::Stopped => Did::Failed,
+        _ => did_refuse(why),
+    }
+}
+
+/// The first event, of a store that isn't stopped.
+fn first_event<D: Disk>(store: &Store<D>, name: &Name, time: u64, prepared: &Prepared) -> Led
+    requires running { store.now.stopped ≡ false }
+    requires message { (octets : List ℕ) × (length octets ≤ 67108864) × IsPlain octets prepared.now }
+    requires numbered { AreNumbered store.now }
+    ensures { Saves (stage.First prepared.now) result.next name.now time result.answer result.did store.now store.now (D.history store.now.disk) (D.history store.now.disk) (D.faults store.now.disk) (D.faults store.now.disk) }
+{
+    match begin(store, name, time, prepared) {
+        Ok(parts) => goes_on(SaveStage::Taking(parts)),
+        Err(why) => ends(why, did_fail(why)),
+    }
+}
+
+/// What is true of every mailbox name.
+fn known_name(name: &Name)
+    ensures { IsName name.now }
+{
+    let _ = name.as_octets();
+}
+
+/// The event that takes a storage file.
+fn taking<D: Disk>(store: &mut Store<D>, name: &Name, time: u64, parts: SavedParts) -> Led
+    requires running { store.old.stopped ≡ false }
+    requires message { IsOfMessage name.now time parts }
+    requires numbered { AreNumbered store.old }
+    ensures { Saves (stage.Taking parts) result.next name.now time result.answer result.did store.old store.new (D.history store.old.disk) (D.history store.new.disk) (D.faults store.old.disk) (D.faults store.new.disk) }
+{
+    known_name(name);
+    let size = parts.region.length() as u32;
+    match take_file(store, parts.header.as_slice(), size) {
+        Ok(file) => goes_on(SaveStage::Placing { parts, file }),
+        Err(why) => ends(why, did_fail(why)),
+    }
+}
+
+/// The event that places the message.
+fn placing<D: Disk>(
+    store: &mut Store<D>,
+    name: &Name,
+    time: u64,
+    parts: SavedParts,
+    file: FileNo,
+) -> Led
+    requires running { store.old.stopped ≡ false }
+    requires message { IsOfMessage name.now time parts }
+    requires taken { HoldsFile file.0 (length parts.region) store.old }
+    requires numbered { AreNumbered store.old }
+    ensures { Saves (stage.Placing parts file) result.next name.now time result.answer result.did store.old store.new (D.history store.old.disk) (D.history store.new.disk) (D.faults store.old.disk) (D.faults store.new.disk) }
+{
+    let SavedParts {
+        header: _header,
+        region,
+        origin,
+        room,
+    } = parts;
+    let mut region = region.into_vec();
+    match place_region(store, name, &mut region, file) {
+        Ok(at) => goes_on(SaveStage::Storing { at, origin, room }),
+        Err(Stopped) => ends(Refusal::Stopped, Did::Failed),
+    }
+}
+
+/// The event that stores the message in the map.
+fn storing<D: Disk>(
+    store: &mut Store<D>,
+    name: &Name,
+    time: u64,
+    size: u32,
+    at: SavedAt,
+    origin: u8,
+    room: LowerRoom,
+) -> Led
+    requires running { store.old.stopped ≡ false }
+    requires left { HasLeft (stage.Storing at origin room) name.now time store.old }
+    requires numbered { AreNumbered store.old }
+    requires size { size ≤ 67108864 }
+    ensures { Saves (stage.Storing at origin room) result.next name.now time result.answer result.did store.old store.new (D.history store.old.disk) (D.history store.new.disk) (D.faults store.old.disk) (D.faults store.new.disk) }
+{
+    let alloc = store.alloc();
+    match store_record(store, alloc, at, origin) {
+        Ok(map_uid) => goes_on(SaveStage::Adding {
+            added: Added {
+                map_uid,
+                guid: at.guid,
+                time,
+                size,
+            },
+            room,
+        }),
+        Err(why) => ends(why, did_fail(why)),
+    }
+}
+
+/// The event that adds the message to its mailbox.
+fn adding<D: Disk>(
+    store: &mut Store<D>,
+    name: &Name,
+    time: u64,
+    added: Added,
+    room: LowerRoom,
+) -> Led
+    requires running { store.old.stopped ≡ false }
+    requires left { HasLeft (stage.Adding added room) name.now time store.old }
+    requires numbered { AreNumbered store.old }
+    ensures { Saves (stage.Adding added room) result.next name.now time result.answer result.did store.old store.new (D.history store.old.disk) (D.history store.new.disk) (D.faults store.old.disk) (D.faults store.new.disk) }
+{
+    match add_message(store, name, added) {
+        Ok(uid) => Led {
+            next: SaveStage::Ended,
+            answer: Progress::Done(Reply::Saved {
+                uid,
+                guid: added.guid,
+            }),
+            did: Did::Step(Half::Whole),
+        },
+        Err(why) => {
+            if store.stopped() {
+                return ends(Refusal::Stopped, Did::Broken(Half::Whole));
+            }
+            Led {
+                next: SaveStage::GivingBack {
+                    uid: added.map_uid,
+                    why,
+                    room,
+                },
+                answer: Progress::More,
+                did: did_refuse(why),
+            }
+        }
+    }
+}
+
+/// The event that gives back the record of a message that was not added.
+fn giving_back<D: Disk>(store: &mut Store<D>, uid: MapUid, why: Refusal, room: LowerRoom) -> Led
+    requires running { store.old.stopped ≡ false }
+    requires due { 1 ≤ due_at uid.0 store.old }
+    requires why { why ≢ refusal.Stopped }
+    requires numbered { AreNumbered store.old }
+    ensures { (name : List ℕ) (time : ℕ) → Saves (stage.GivingBack uid why room) result.next name time result.answer result.did store.old store.new (D.history store.old.disk) (D.history store.new.disk) (D.faults store.old.disk) (D.faults store.new.disk) }
+{
+    match give_back(store, uid, room) {
+        Ok(()) => ends(why, Did::Quiet),
+        Err(Stopped) => ends(Refusal::Stopped, Did::Failed),
+    }
+}
