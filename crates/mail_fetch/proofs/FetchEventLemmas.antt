@@ -28,7 +28,7 @@ use Rattle.journal.specs.Events.{Around, DidPart, IsRecord, next_part, behind_ev
 use Rattle.journal.specs.Makes.{HasCome, Makes}
 use Rattle.journal.proofs.RunLemmas.{comes_on}
 use Rattle.task_steps.specs.Step.{Seen, ShowsSeen, HasComeTo, Leads, IsFault, DidEvent, HasNotBegun, pins_of, and_told}
-use Rattle.task_steps.proofs.SeenLemmas.{comes_to_still, no_guids, doomed_still, used_still, given_still}
+use Rattle.task_steps.proofs.SeenLemmas.{comes_to_still, no_guids, doomed_still, used_still, given_still, file_still_known, instance_still_known}
 use Rattle.task_steps.proofs.OneEventLemmas.{next_first, refusal_last, some_refusal, one_refusal, some_given, no_step, nothing, first_reply, still_faults}
 use Rattle.mail_fetch.specs.Events.{NoChangeFault}
 
@@ -66,9 +66,9 @@ sum_push f xs x = let h = sum_by-append f xs (x ∷ []) in let k = sum_by-cons f
 
 -- A run comes on with an event that may pin or unpin, and does nothing else.
 pub comes_with_pins : (run : Run) (event : RunEvent) (old : Seen) (history : Option History) (faults : Faults) (pins : ℕ → ℕ) → HasComeTo run old → HasCome (and_then run event) old.map old.drawn (told_calls history)
-    → ((uid : ℕ) → begun_in uid event ≡ ended_in uid event) → event.doomed ≡ [] → event.removed ≡ [] → event.given ≡ [] → ((file : ℕ) → pins_of (and_then run event) file ≡ pins file)
+    → ((uid : ℕ) → begun_in uid event ≡ ended_in uid event) → event.doomed ≡ [] → event.removed ≡ [] → event.given ≡ [] → event.gone ≡ [] → ((file : ℕ) → pins_of (and_then run event) file ≡ pins file)
     → HasComeTo (and_then run event) (behind_reading old history faults pins)
-comes_with_pins run event old history faults pins h come due doomed removed given pinned = record {
+comes_with_pins run event old history faults pins h come due doomed removed given gone pinned = record {
   come = come;
   due = λ uid.
       let a = sum_push (begun_in uid) run.events event in
@@ -80,6 +80,8 @@ comes_with_pins run event old history faults pins h come due doomed removed give
   doomed = λ file. doomed_still run event file doomed removed ∙ h.doomed file;
   used = λ file e. h.used file (sym (used_still run event file doomed removed) ∙ e);
   gave = λ guid e. h.gave guid (sym (given_still run event guid given) ∙ e);
+  files = λ file e. file_still_known run event file removed (h.files file e);
+  instances = λ instance e. instance_still_known run event instance gone (h.instances instance e);
 }
 
 -- ---- what an event is, beside what it did
@@ -155,7 +157,8 @@ did_pin around after run lane place said name uid lists old history faults pins 
     left = lists;
     shown = shows;
     makes = pin_makes around after run lane place name uid lists old.map old.drawn (told_calls old.history) (told_calls history) entry octets come.come (idle_grows old.history history idle) stage.0 is_record answers;
-    come = comes_with_pins run event old history faults pins come (comes_on run event old.map old.drawn (told_calls old.history) come.come (idle_grows old.history history idle) refl refl) (λ other. refl) refl refl refl pinned;
+    found = tt;
+    come = comes_with_pins run event old history faults pins come (comes_on run event old.map old.drawn (told_calls old.history) come.come (idle_grows old.history history idle) refl refl) (λ other. refl) refl refl refl refl pinned;
     gives = no_guids run event refl;
     went = (refl, refl, runs, idle_leads lists old history faults pins idle);
     grows = idle_grows old.history history idle;
@@ -250,7 +253,8 @@ did_refuse around after run lane place said name uid lists seen why come shows s
   left = lists;
   shown = shows;
   makes = refuse_makes around after run lane place name uid lists seen.map seen.drawn (told_calls seen.history) why come.come stage.0 step (answers event);
-  come = comes_to_still run event seen come (comes_on run event seen.map seen.drawn (told_calls seen.history) come.come (omega arith) refl refl) (λ other. refl) (record { pins = refl; unpins = refl; doomed = refl; removed = refl; given = refl });
+  found = tt;
+  come = comes_to_still run event seen come (comes_on run event seen.map seen.drawn (told_calls seen.history) come.come (omega arith) refl refl) (λ other. refl) (record { pins = refl; unpins = refl; doomed = refl; removed = refl; given = refl; gone = refl });
   gives = no_guids run event refl;
   went = (refl, refl, runs, nothing lists seen);
   grows = omega arith;
@@ -276,7 +280,8 @@ did_nothing around after run lane place said name uid lists seen why come shows 
   left = lists;
   shown = shows;
   makes = unmade_makes around after run lane place name uid lists seen.map seen.drawn (told_calls seen.history) why come.come stage.0 none;
-  come = comes_to_still run event seen come (comes_on run event seen.map seen.drawn (told_calls seen.history) come.come (omega arith) refl refl) (λ other. refl) (record { pins = refl; unpins = refl; doomed = refl; removed = refl; given = refl });
+  found = tt;
+  come = comes_to_still run event seen come (comes_on run event seen.map seen.drawn (told_calls seen.history) come.come (omega arith) refl refl) (λ other. refl) (record { pins = refl; unpins = refl; doomed = refl; removed = refl; given = refl; gone = refl });
   gives = no_guids run event refl;
   went = (refl, refl, nothing lists seen);
   grows = omega arith;
@@ -366,7 +371,8 @@ did_late around after run lane place said name uid lists old history faults pins
     left = lists;
     shown = shows;
     makes = late_makes around after run lane place name uid lists old.map old.drawn (told_calls old.history) (told_calls history) part refused ended late come.come (idle_grows old.history history idle) next unstep ends replied;
-    come = comes_with_pins run event old history faults pins come (comes_on run event old.map old.drawn (told_calls old.history) come.come (idle_grows old.history history idle) refl refl) (λ other. refl) refl refl refl pinned;
+    found = tt;
+    come = comes_with_pins run event old history faults pins come (comes_on run event old.map old.drawn (told_calls old.history) come.come (idle_grows old.history history idle) refl refl) (λ other. refl) refl refl refl refl pinned;
     gives = no_guids run event refl;
     went = (refl, refl, idle_leads lists old history faults pins idle);
     grows = idle_grows old.history history idle;
@@ -374,7 +380,7 @@ did_late around after run lane place said name uid lists old history faults pins
       in_turn = λ some. absurd (let k : false ≡ true = some in cc k);
       replied = given;
       halts = halts;
-      still = still;
+      still = λ e. ap (λ (s : Seen). record s { pins = pins }) (still e);
       reads = reads;
       faults = record { reads = none.reads; changes = let same = none.changes in omega (arith, same); rose = λ x. absurd x };
     };

@@ -1,5 +1,6 @@
 pub mod Clause
 pub mod Events
+pub mod Failed
 pub mod Region
 pub mod Stages
 pub mod Task

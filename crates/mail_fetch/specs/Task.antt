@@ -11,6 +11,7 @@ use Rattle.mdbox_base.specs.declared.replies.Reply.TheVariants as reply
 use Rattle.mdbox_base.specs.declared.script.Half.TheVariants as half
 use Rattle.list_machine.specs.Machine.{is_step}
 use Rattle.store_core.specs.Dues.{due_at}
+use Rattle.store_core.specs.Knows.{knows_file, may_have_given}
 use Rattle.store_core.specs.Value.{StoreValue, indexes_of}
 use Rattle.task_steps.specs.Step.{Seen}
 use Rattle.mail_fetch.specs.Region.{pieces_in}
@@ -55,7 +56,7 @@ pins_at (stage.Reading region) file = one_pin region.from.file.0 file
 pins_at (stage.Unpinning from given) file = one_pin from.file.0 file
 
 -- A store as an event of a fetch sees it, with what its disk tells and the faults that it has counted: so many pins of each
--- file are other tasks', and those of this stage are its own. No task dooms a file, or gives a GUID, yet.
+-- file are other tasks', and those of this stage are its own. No task dooms a file, or places an instance, yet.
 abbrev pub seen_with_pins : {D : Type 0} → (ℕ → ℕ) → FetchStage → StoreValue D → Option History → Faults → Seen
 seen_with_pins others now store history faults = record {
   map = store.map;
@@ -68,5 +69,7 @@ seen_with_pins others now store history faults = record {
   pins = λ file. others file + pins_at now file;
   doomed = λ file. false;
   used = λ file. false;
-  gave = λ guid. false;
+  gave = λ guid. may_have_given store guid;
+  files = λ file. knows_file store file;
+  instances = λ instance. false;
 }

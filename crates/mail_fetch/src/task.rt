@@ -1,7 +1,7 @@
 // The task of a fetch.
 ghost use Rattle.std.specs.Prelude.{◌≡◌, ◌<◌, false, ℕ};
 ghost use Rattle.disk_model.specs.Disk.{IsIdle};
-ghost use Rattle.disk_model.specs.FaultCounts.{ReadFaultCounted};
+ghost use Rattle.disk_model.specs.FaultCounts.{NoFault};
 ghost use Rattle.journal.specs.Events.{Around};
 ghost use Rattle.mdbox_base.specs.declared.progress.Did.TheVariants as did;
 ghost use Rattle.mdbox_base.specs.declared.progress.Progress.TheVariants as progress;
@@ -9,6 +9,7 @@ ghost use Rattle.mdbox_base.specs.declared.requests.Request.TheVariants as reque
 ghost use Rattle.store_core.specs.Dues.{Moves, Spares, amounts_in, no_amounts};
 ghost use Rattle.task_steps.specs.Step.{ended_by};
 ghost use Rattle.mail_fetch.specs.Clause.{StepsOnSafe};
+ghost use Rattle.mail_fetch.specs.Failed.{HasFailedRead};
 ghost use Rattle.mail_fetch.specs.Events.{FetchesNext, IsBegun, IsPieceRead, NoChangeFault};
 ghost use Rattle.mail_fetch.specs.Region.{pieces_in};
 ghost use Rattle.mail_fetch.specs.Stages.{IsAtFetch};
@@ -89,6 +90,7 @@ impl FetchTask {
         ensures same { store.new ≡ record store.old { disk = store.new.disk } }
         ensures idle { IsIdle (D.history store.old.disk) (D.history store.new.disk) }
         ensures fault { NoChangeFault (D.faults store.old.disk) (D.faults store.new.disk) }
+        ensures unfailed { (HasFailedRead self.new.stage → ⊥) → NoFault (D.faults store.old.disk) (D.faults store.new.disk) }
 
         ensures did { self.new.did ≡ fetch_did self.old.stage result }
 
@@ -157,6 +159,7 @@ fn read_piece<D: Disk>(store: &mut Store<D>, region: Region) -> FetchStage
     ensures same { store.new ≡ record store.old { disk = store.new.disk } }
     ensures idle { IsIdle (D.history store.old.disk) (D.history store.new.disk) }
     ensures fault { NoChangeFault (D.faults store.old.disk) (D.faults store.new.disk) }
+    ensures unfailed { (HasFailedRead result → ⊥) → NoFault (D.faults store.old.disk) (D.faults store.new.disk) }
 {
     let mut region = region;
     let from = region.from();

@@ -3,7 +3,7 @@ use Rattle.std.proofs.Common.{◌≡◌, ◌≤◌, ◌<◌, ℕ, Bool, true, fa
 use Rattle.std.specs.Option.{option_map, option_or}
 use Rattle.std.specs.Prelude.{find, is_some, is_none}
 use Rattle.std.specs.Str.{bytes_eq}
-use Rattle.disk_model.specs.Disk.{History, told_calls, Grows}
+use Rattle.disk_model.specs.Disk.{History, Faults, told_calls, Grows}
 use Rattle.mdbox_base.specs.declared.entries.BoxEntry.TheVariants as entry
 use Rattle.mdbox_base.specs.declared.entries.Highest.{Highest}
 use Rattle.mdbox_base.specs.declared.ids.Uid.{Uid}
@@ -28,16 +28,19 @@ use Rattle.journal.specs.Events.{Around, adds_to}
 use Rattle.journal.specs.Makes.{HasCome, Makes}
 use Rattle.journal.proofs.RunLemmas.{comes_on}
 use Rattle.store_core.specs.Append.{Brings}
+use Rattle.storage_files.specs.Files.{FilesValue, end_in}
 use Rattle.store_core.specs.Dues.{number_beside, due_at}
+use Rattle.store_core.specs.Knows.{may_have_given}
 use Rattle.store_core.specs.Value.{StoreValue}
 use Rattle.task_steps.specs.Step.{Seen, ShowsSeen, HasComeTo, DidEvent, HasNotBegun}
 use Rattle.task_steps.specs.Tells.{TellsSame}
 use Rattle.task_steps.proofs.SeenLemmas.{comes_to_on, no_guids}
 use Rattle.task_steps.proofs.OneEventLemmas.{IsPlain, refused_event, refused_leaves, unmade, next_first, refusal_last, some_given, first_reply, first_turn}
+use Rattle.mail_ops.specs.Task.{seen_of}
 use Rattle.mail_ops.proofs.FlagListLemmas.{is_flagged, shows_by}
 
 pub flag_is_plain : (name : List ℕ) (uid : Uid) (flags : ℕ) → IsPlain (request.Flag name uid flags)
-flag_is_plain name uid flags = record { finds = λ around event. tt; memory = refl; behind = λ after run event why. refl; half_is = refl; halves_are = refl }
+flag_is_plain name uid flags = record { found = λ around run event. tt; finds = λ around event. tt; memory = refl; behind = λ after run event why. refl; half_is = refl; halves_are = refl }
 
 -- ---- what is known as the entry is appended
 
@@ -139,7 +142,7 @@ done_is e = cc e
 given_is : (a b : Reply) → Some a ≡ Some b → a ≡ b
 given_is a b e = cc e
 
-shown_on : (old new : Seen) (meanings : List BoxMeaning) (lists : Lists) → new.map ≡ old.map → new.meanings ≡ meanings → ShowLists old.map.boxes meanings lists → ShowLists new.map.boxes new.meanings lists
+pub shown_on : (old new : Seen) (meanings : List BoxMeaning) (lists : Lists) → new.map ≡ old.map → new.meanings ≡ meanings → ShowLists old.map.boxes meanings lists → ShowLists new.map.boxes new.meanings lists
 shown_on old new meanings lists map taken h =
     subst (λ (bs : List MapBox). ShowLists bs new.meanings lists) (sym (ap (λ (m : MapMeaning). m.boxes) map)) (subst (λ (ms : List BoxMeaning). ShowLists old.map.boxes ms lists) (sym taken) h)
 
@@ -153,8 +156,9 @@ flag_done around after run lane place said lists name number uid flags bits old 
   left = set_flags name uid.0 flags lists;
   shown = (f.well, shown_on old new (meanings_by number (entry.F uid bits) old.map.boxes old.meanings) (set_flags name uid.0 flags lists) a.map_is taken f.shown);
   makes = flag_makes around after run lane place name uid flags number bits lists old new come a stage.0 f.answers;
+  found = tt;
   come = comes_to_on run event old new come (come_along run event old new number uid bits come a refl (comes_on run event old.map old.drawn (told_calls old.history) come.come a.grows refl refl))
-      (λ other. let d = a.due_is other in omega (arith, d)) (record { pins = refl; unpins = refl; doomed = refl; removed = refl; given = refl }) a.same;
+      (λ other. let d = a.due_is other in omega (arith, d)) (record { pins = refl; unpins = refl; doomed = refl; removed = refl; given = refl; gone = refl }) a.same;
   gives = no_guids run event refl;
   went = (
     refl,
@@ -192,6 +196,7 @@ flag_broken around after run lane place said lists name number uid flags bits ol
   shown = (shows.0, shown_on old new old.meanings lists a.map_is untaken shows.1);
   makes = unmade around after run lane place (request.Flag name uid flags) lists old.map new.map new.drawn (told_calls old.history) (told_calls new.history) refusal.Stopped a.map_is (flag_is_plain name uid flags) (subst (λ (d : Highest). HasCome run old.map d (told_calls old.history)) (sym a.drawn_is) come.come)
       a.grows stage.0 refl;
+  found = tt;
   come = comes_to_on run event old new come (come_along run event old new number uid bits come a refl (comes_on run event old.map old.drawn (told_calls old.history) come.come a.grows refl refl))
       (λ other. let d = a.due_is other in omega (arith, d)) (refused_leaves lane place refusal.Stopped (told_calls new.history)) a.same;
   gives = no_guids run event refl;
@@ -237,3 +242,20 @@ some_of f (Some x) r there is = (f x, sym is)
 
 pub due_kept : {D : Type 0} → (old new : StoreValue D) (uid : ℕ) → new.map ≡ old.map → new.dues ≡ old.dues → due_at uid new ≡ due_at uid old
 due_kept old new uid map dues = ap (λ (m : MapMeaning). number_beside uid m.records new.dues) map ∙ ap (number_beside uid old.map.records) dues
+
+-- ---- what is told of files and GUIDs
+
+given_still : {D : Type 0} → (old new : StoreValue D) (guid : List ℕ) → new.map ≡ old.map → new.drawn ≡ old.drawn → new.files ≡ old.files → may_have_given new guid ≡ may_have_given old guid
+given_still old new guid map drawn files =
+    ap (λ (m : MapMeaning). may_have_given (record new { map = m }) guid) map
+    ∙ (ap (λ (d : Highest). may_have_given (record new { map = old.map; drawn = d }) guid) drawn ∙ ap (λ (x : FilesValue). may_have_given (record new { map = old.map; drawn = old.drawn; files = x }) guid) files)
+
+pub tells_same : {D : Type 0} → (old new : StoreValue D) (h k : Option History) (f g : Faults) → new.map ≡ old.map → new.drawn ≡ old.drawn → new.files ≡ old.files → TellsSame (seen_of old h f) (seen_of new k g)
+tells_same old new h k f g map drawn files = record {
+  pins = λ file. refl;
+  doomed = λ file. refl;
+  used = λ file. refl;
+  gave = λ guid. given_still old new guid map drawn files;
+  files = λ file. ap (λ (x : FilesValue). is_some (end_in file x.files)) files;
+  instances = λ instance. refl;
+}

@@ -25,7 +25,7 @@ use Rattle.mail_ops.proofs.NamedListLemmas.{IsFound, Finds, found_by_name}
 made_row : ℕ → ℕ → ℕ → ℕ → List ℕ → ListRow
 made_row uid flags size time guid = record { uid = record { 0 = uid }; flags = flags; size = size; time = time; guid = record { 0 = guid } }
 
-flag_row : (u flags : ℕ) (row : LogRow) (x : ListedMessage) → listed_row row ≡ listing_row x → listed_row (if u == row.uid then record row { flags = flags } else row) ≡ listing_row (if u == x.uid then record x { flags = flags } else x)
+pub flag_row : (u flags : ℕ) (row : LogRow) (x : ListedMessage) → listed_row row ≡ listing_row x → listed_row (if u == row.uid then record row { flags = flags } else row) ≡ listing_row (if u == x.uid then record x { flags = flags } else x)
 flag_row u flags row x e =
     let same : row.uid ≡ x.uid = ap (λ (r : ListRow). r.uid.0) e in
     by_test (u == row.uid) (u == x.uid) (ap (λ (n : ℕ). u == n) same)
@@ -76,7 +76,7 @@ shows_by number octets u flags (b ∷ bs) (m ∷ ms) (l ∷ ls) h = by_test (b.n
 -- ---- what is found
 
 -- the mailbox that is found by name has the number that the map gives it
-numbered : (name : List ℕ) (number : ℕ) (boxes : List MapBox) (meanings : List BoxMeaning) (lists : Lists) (x : Mailbox) → ShowLists boxes meanings lists → option_map (λ b. b.number) (find (λ b. bytes_eq b.name name) boxes) ≡ Some number
+pub numbered : (name : List ℕ) (number : ℕ) (boxes : List MapBox) (meanings : List BoxMeaning) (lists : Lists) (x : Mailbox) → ShowLists boxes meanings lists → option_map (λ b. b.number) (find (λ b. bytes_eq b.name name) boxes) ≡ Some number
     → mailbox_named name lists ≡ Some x → x.number ≡ number
 numbered name number [] [] [] x h is there = absurd (cc (let k : None ≡ Some x = there in k))
 numbered name number [] [] (l ∷ ls) x h is there = absurd h
@@ -100,7 +100,7 @@ numbered name number (b ∷ bs) (m ∷ ms) (l ∷ ls) x h is there = by_test (by
     by_test false true p i t rest = absurd (cc p)
 
 -- a row is found where its message is
-found_row : (uid : ℕ) (rows : List LogRow) (xs : List ListedMessage) → map listed_row rows ≡ map listing_row xs → option_map listed_row (find (λ r. r.uid == uid) rows) ≡ option_map listing_row (find (λ x. x.uid == uid) xs)
+pub found_row : (uid : ℕ) (rows : List LogRow) (xs : List ListedMessage) → map listed_row rows ≡ map listing_row xs → option_map listed_row (find (λ r. r.uid == uid) rows) ≡ option_map listing_row (find (λ x. x.uid == uid) xs)
 found_row uid [] [] e = refl
 found_row uid [] (x ∷ xs) e = absurd (let h : [] ≡ listing_row x ∷ map listing_row xs = e in cc)
 found_row uid (r ∷ rs) [] e = absurd (let h : listed_row r ∷ map listed_row rs ≡ [] = e in cc)
@@ -117,13 +117,13 @@ found_row uid (r ∷ rs) (x ∷ xs) e =
     by_test true false p first rest = absurd (cc p)
     by_test false true p first rest = absurd (cc p)
 
-none_there : {X Y : Type 0} → (f : X → Y) (o : Option X) → None ≡ option_map f o → o ≡ None
+pub none_there : {X Y : Type 0} → (f : X → Y) (o : Option X) → None ≡ option_map f o → o ≡ None
 none_there f None e = refl
 none_there f (Some x) e = absurd (cc (let h : None ≡ Some (f x) = e in h))
 
-some_there : {X Y : Type 0} → (f : X → Y) (o : Option X) (y : Y) → Some y ≡ option_map f o → (x : X) × (o ≡ Some x)
+pub some_there : {X Y : Type 0} → (f : X → Y) (o : Option X) (y : Y) → Some y ≡ option_map f o → (x : X) × (o ≡ Some x) × (y ≡ f x)
 some_there f None y e = absurd (cc (let h : Some y ≡ None = e in h))
-some_there f (Some x) y e = (x, refl)
+some_there f (Some x) y e = (x, refl, let h : Some y ≡ Some (f x) = e in cc h)
 
 -- ---- by the list machine
 

@@ -22,7 +22,7 @@ use Rattle.task_steps.proofs.SeenLemmas.{comes_to_still, no_guids}
 use Rattle.task_steps.proofs.OneEventLemmas.{IsPlain, next_first, refusal_last, some_given, nothing, first_reply, first_turn, still_faults}
 
 pub list_is_plain : (name : List ℕ) → IsPlain (request.List name)
-list_is_plain name = record { finds = λ around event. tt; memory = refl; behind = λ after run event why. refl; half_is = refl; halves_are = refl }
+list_is_plain name = record { found = λ around run event. tt; finds = λ around event. tt; memory = refl; behind = λ after run event why. refl; half_is = refl; halves_are = refl }
 
 abbrev list_event : ℕ → ℕ → List ListRow → ℕ → RunEvent
 list_event lane place rows calls = record (event_of lane place First calls) { reply = Some (reply.Listed rows) }
@@ -69,7 +69,8 @@ does_list around after run lane place said name lists seen rows come shows stage
   left = lists;
   shown = shows;
   makes = list_makes around after run lane place name lists seen.map seen.drawn (told_calls seen.history) rows come.come stage.0 answers;
-  come = comes_to_still run (list_event lane place rows (told_calls seen.history)) seen come (comes_on run (list_event lane place rows (told_calls seen.history)) seen.map seen.drawn (told_calls seen.history) come.come (omega arith) refl refl) (λ uid. refl) (record { pins = refl; unpins = refl; doomed = refl; removed = refl; given = refl });
+  found = tt;
+  come = comes_to_still run (list_event lane place rows (told_calls seen.history)) seen come (comes_on run (list_event lane place rows (told_calls seen.history)) seen.map seen.drawn (told_calls seen.history) come.come (omega arith) refl refl) (λ uid. refl) (record { pins = refl; unpins = refl; doomed = refl; removed = refl; given = refl; gone = refl });
   gives = no_guids run (list_event lane place rows (told_calls seen.history)) refl;
   went = (refl, refl, runs, nothing lists seen);
   grows = omega arith;

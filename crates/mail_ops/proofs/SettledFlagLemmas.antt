@@ -35,12 +35,12 @@ use Rattle.mail_ops.proofs.FlagListLemmas.{set_by}
 abbrev pub LogsShowLists : Type 0
 LogsShowLists = (boxes : List MapBox) (logs : List (List BoxEntry)) (lists : Lists) → HaveListings boxes logs lists → ShowLists boxes (map box_meaning logs) lists
 
-well_settled : (lists : Lists) (history : Option History) → IsSettledFor lists history → AreWellFormed lists
+pub well_settled : (lists : Lists) (history : Option History) → IsSettledFor lists history → AreWellFormed lists
 well_settled lists None s = absurd s
 well_settled lists (Some h) s = well_formed (files_of h.now) lists (record { store = s.store; entries = s.entries; by = s.safe.stands })
 
 -- a store that isn't stopped shows the lists for which its disk is settled
-shown_settled : {D : Type 0} → (lists : Lists) (history : Option History) (store : StoreValue D) → LogsShowLists → IsStore history store → store.stopped ≡ false → IsSettledFor lists history → ShowLists store.map.boxes (indexes_of store.boxes) lists
+pub shown_settled : {D : Type 0} → (lists : Lists) (history : Option History) (store : StoreValue D) → LogsShowLists → IsStore history store → store.stopped ≡ false → IsSettledFor lists history → ShowLists store.map.boxes (indexes_of store.boxes) lists
 shown_settled lists None store show is runs s = absurd s
 shown_settled lists (Some h) store show is runs s =
     let o = safe_opens (files_of h.now) s.store s.entries lists s.safe in

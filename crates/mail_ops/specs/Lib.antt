@@ -1,4 +1,15 @@
+pub mod Appends
+pub mod Copy
+pub mod CopyStages
+pub mod Copying
+pub mod Counting
+pub mod Event
+pub mod Expunging
 pub mod Flagging
 pub mod Listing
+pub mod Messages
+pub mod MoveStages
+pub mod Moving
+pub mod Owing
 pub mod Requests
 pub mod Task

@@ -6,6 +6,7 @@ use Rattle.mdbox_base.specs.declared.progress.Did.{Did}
 use Rattle.mdbox_base.specs.declared.replies.Reply.{Reply}
 use Rattle.mdbox_base.specs.declared.requests.Request.{Request}
 use Rattle.store_core.specs.Dues.{Amounts, no_amounts, due_at}
+use Rattle.store_core.specs.Knows.{knows_file, may_have_given}
 use Rattle.store_core.specs.Value.{StoreValue, indexes_of}
 use Rattle.task_steps.specs.Step.{Seen, HasNotBegun}
 use Rattle.mail_ops.specs.declared.task.TaskStage.{TaskStage}
@@ -26,6 +27,20 @@ abbrev pub amounts_of : TaskValue → Amounts
 amounts_of task = no_amounts
 
 -- A store as an event sees it, with what its disk tells and the faults that it has counted. No task pins or dooms a file, or
--- gives a GUID, yet.
+-- places an instance, yet.
 abbrev pub seen_of : {D : Type 0} → StoreValue D → Option History → Faults → Seen
-seen_of store history faults = record { map = store.map; meanings = indexes_of store.boxes; drawn = store.drawn; history = history; faults = faults; stopped = store.stopped; due = λ uid. due_at uid store; pins = λ file. 0; doomed = λ file. false; used = λ file. false; gave = λ guid. false }
+seen_of store history faults = record {
+  map = store.map;
+  meanings = indexes_of store.boxes;
+  drawn = store.drawn;
+  history = history;
+  faults = faults;
+  stopped = store.stopped;
+  due = λ uid. due_at uid store;
+  pins = λ file. 0;
+  doomed = λ file. false;
+  used = λ file. false;
+  gave = λ guid. may_have_given store guid;
+  files = λ file. knows_file store file;
+  instances = λ instance. false;
+}

@@ -15,12 +15,33 @@ ghost use Rattle.model_meaning.specs.BoxMeaning.{LogRow, BoxMeaning, row_at};
 ghost use Rattle.model_meaning.specs.MapMeaning.{MapBox};
 ghost use Rattle.model_store.specs.Listing.{ShowLists, meaning_named, listing_of};
 ghost use Rattle.task_steps.specs.Step.{IsKept};
+ghost use Rattle.mail_ops.specs.Copy.{IsAtCopy};
+ghost use Rattle.mail_ops.specs.Expunging.{IsAtExpunge};
+ghost use Rattle.mail_ops.specs.Moving.{IsAtMove};
 ghost use Rattle.mail_ops.specs.Task.{IsAt};
+ghost use Rattle.mail_ops.specs.declared.copy.CopyStage.{CopyStage};
+ghost use Rattle.mail_ops.specs.declared.expunging.ExpungeStage.{ExpungeStage};
+ghost use Rattle.mail_ops.specs.declared.moving.MoveStage.{MoveStage};
 ghost use Rattle.mail_ops.specs.declared.task.TaskStage.{TaskStage};
 
 /// The stages of a task are kept by every event of another request.
 pub fn task_stages_are_kept()
     ensures { (stage : TaskStage) → IsKept (IsAt stage) }
+{}
+
+/// So are those of an expunge.
+pub fn expunge_stages_are_kept()
+    ensures { (stage : ExpungeStage) → IsKept (IsAtExpunge stage) }
+{}
+
+/// Those of a copy.
+pub fn copy_stages_are_kept()
+    ensures { (stage : CopyStage) → IsKept (IsAtCopy stage) }
+{}
+
+/// And those of a move.
+pub fn move_stages_are_kept()
+    ensures { (uid : Uid) (stage : MoveStage) → IsKept (IsAtMove uid stage) }
 {}
 
 /// Where lists are shown, what the logs of the mailboxes mean is what the list machine answers a listing.

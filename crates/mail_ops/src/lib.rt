@@ -1,10 +1,28 @@
 //! Requests on a store's mailboxes, done event by event.
 #![tactic(auto)]
 
-pub use laws::{flags_are_shown, listings_are_answered, task_stages_are_kept};
+pub use copy::{CopyStage, CopyTask};
+pub use counting::CountsTask;
+pub use event::NotDone;
+pub use expunging::{ExpungeStage, ExpungeTask};
+pub use laws::{
+    copy_stages_are_kept, expunge_stages_are_kept, flags_are_shown, listings_are_answered,
+    move_stages_are_kept, task_stages_are_kept,
+};
+pub use lowering::Lowering;
+pub use moving::{MoveStage, MoveTask};
 pub use task::{OpsTask, TaskStage};
 
+mod copy;
+mod copying;
+mod counting;
+mod event;
+mod expunging;
 mod flagging;
 mod laws;
+mod leaving;
 mod listing;
+mod lowering;
+mod message;
+mod moving;
 mod task;

@@ -7,7 +7,7 @@ use Rattle.model_lists.specs.Lists.{Lists}
 use Rattle.model_store.specs.Settled.{IsSettledFor, Leaves}
 use Rattle.task_steps.proofs.OneEventLemmas.{does_nothing, does_refuse, never_more, when_stopped, not_true, ok_is_none, not_reading, leaves_none}
 use Rattle.mail_ops.specs.Task.{seen_of}
-use Rattle.mail_ops.proofs.FlagEventLemmas.{flag_is_plain, flags_known, brings_none, due_kept, flag_done, flag_broken, none_of, some_of}
+use Rattle.mail_ops.proofs.FlagEventLemmas.{flag_is_plain, flags_known, brings_none, due_kept, tells_same, flag_done, flag_broken, none_of, some_of}
 use Rattle.mail_ops.proofs.SettledFlagLemmas.{settled_by, counted_for, not_both}
 use Rattle.mail_ops.proofs.flagging.flag.Goals as goal
 
@@ -39,7 +39,7 @@ returns-in-Ok-clause-does g c = λ around after run lane place said lists come s
         map_is = ap (λ v. v.map) c.in-Ok.ensures.same;
         drawn_is = ap (λ v. v.drawn) c.in-Ok.ensures.same;
         due_is = λ other. c.in-Ok.ensures.due c.in-Some.index.now.meaning other (c.in-Some-number_of.ensures.some.0 ∙ (sym c.list_of.ensures ∙ ap (λ o. option_map (λ (i : BoxState). i.meaning) (option_copied o)) c.in-Some.is));
-        same = record { pins = λ file. refl; doomed = λ file. refl; used = λ file. refl; gave = λ guid. refl };
+        same = tells_same c.args.store.now c.append_box.new.self _ _ _ _ (ap (λ v. v.map) c.in-Ok.ensures.same) (ap (λ v. v.drawn) c.in-Ok.ensures.same) (ap (λ v. v.files) c.in-Ok.ensures.same);
         ran = sym c.stopped.ensures ∙ c.if-stopped.false;
         grows = c.in-Ok.ensures.grows;
         moments = λ ls. c.in-Ok.ensures.any_moment ls [] (brings_none c.args.store.now.map c.args.uid c.bits.result [] (g.D.Disk.history c.args.store.now.disk));
@@ -58,7 +58,7 @@ returns-in-Err-Stopped-clause-does g c = λ around after run lane place said lis
         map_is = ap (λ v. v.map) c.in-Err-Stopped.ensures.same;
         drawn_is = ap (λ v. v.drawn) c.in-Err-Stopped.ensures.same;
         due_is = λ other. due_kept c.args.store.now c.append_box.new.self other (ap (λ v. v.map) c.in-Err-Stopped.ensures.same) (c.in-Err-Stopped.ensures.untaken refl).1;
-        same = record { pins = λ file. refl; doomed = λ file. refl; used = λ file. refl; gave = λ guid. refl };
+        same = tells_same c.args.store.now c.append_box.new.self _ _ _ _ (ap (λ v. v.map) c.in-Err-Stopped.ensures.same) (ap (λ v. v.drawn) c.in-Err-Stopped.ensures.same) (ap (λ v. v.files) c.in-Err-Stopped.ensures.same);
         ran = sym c.stopped.ensures ∙ c.if-stopped.false;
         grows = c.in-Err-Stopped.ensures.grows;
         moments = λ ls. c.in-Err-Stopped.ensures.any_moment ls [] (brings_none c.args.store.now.map c.args.uid c.bits.result [] (g.D.Disk.history c.args.store.now.disk));

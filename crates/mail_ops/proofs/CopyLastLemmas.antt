@@ -1,0 +1,430 @@
+-- The second event of a copy or a move, by the clause of a step: the message is added, or it is refused, and the count given back.
+use Rattle.std.proofs.Common.{◌≡◌, ◌≤◌, ◌+◌, ℕ, Bool, true, false, List, [], ◌∷◌, ◌++◌, map, Option, Some, None, refl, sym, ◌∙◌, ap, subst, arith, inl, inr}
+use Rattle.std.specs.Prelude.{◌⊎◌, length, slice_get, if◌then◌else◌}
+use Rattle.std.specs.Option.{option_or}
+use Rattle.std.proofs.lemmas.Bool.{eq-eqb, ne_eqb}
+use Rattle.disk_model.specs.Disk.{History, Faults, told_calls}
+use Rattle.mdbox_base.specs.declared.entries.BoxEntry.TheVariants as box_entry
+use Rattle.mdbox_base.specs.declared.entries.MapEntry.{MapEntry}
+use Rattle.mdbox_base.specs.declared.ids.MapUid.{MapUid}
+use Rattle.mdbox_base.specs.declared.ids.Uid.{Uid}
+use Rattle.mdbox_base.specs.declared.progress.Did.TheVariants as did
+use Rattle.mdbox_base.specs.declared.replies.ListRow.{ListRow}
+use Rattle.mdbox_base.specs.declared.replies.Refusal.{Refusal}
+use Rattle.mdbox_base.specs.declared.replies.Refusal.TheVariants as refusal
+use Rattle.mdbox_base.specs.declared.replies.Reply.{Reply}
+use Rattle.mdbox_base.specs.declared.replies.Reply.TheVariants as reply
+use Rattle.mdbox_base.specs.declared.requests.Request.{Request}
+use Rattle.mdbox_base.specs.declared.requests.Request.TheVariants as request
+use Rattle.mdbox_base.specs.declared.script.Half.{Half}
+use Rattle.mdbox_base.specs.declared.script.Half.TheVariants as half_is
+use Rattle.model_appends.specs.Amounts.{due_by_box}
+use Rattle.model_appends.specs.Appending.{lists_by, meanings_by}
+use Rattle.model_lists.specs.Lists.{ListedMessage, Mailbox, Lists, AreWellFormed, listing_row}
+use Rattle.model_meaning.specs.BoxMeaning.{LogRow, BoxMeaning}
+use Rattle.model_meaning.specs.MapMeaning.{MapMeaning, map_meaning}
+use Rattle.model_store.specs.Listing.{listed_row, ShowLists}
+use Rattle.model_store.specs.Settled.{files_of, IsSettledFor, Leaves}
+use Rattle.model_store.specs.Stands.{AreMailboxes}
+use Rattle.model_store.proofs.StandsLemmas.{map_same}
+use Rattle.list_machine.specs.Run.{EventPart, Last, GivesBack, RunEvent, event_of, Run, and_then, own_events}
+use Rattle.list_machine.specs.Machine.{IsCopied, add_message, first_refusal, part_checks, is_step, mailbox_named}
+use Rattle.list_machine.proofs.MachineOrderLemmas.{answers_well}
+use Rattle.journal.specs.Journal.{halves_of, refusal_in, IsReplyOf}
+use Rattle.journal.specs.Events.{Around, adds_to, lowers, last_refusal}
+use Rattle.journal.proofs.OwnEventLemmas.{own_more, own_other}
+use Rattle.entry_steps.proofs.AppendListLemmas.{added_by}
+use Rattle.store_core.specs.Append.{Brings}
+use Rattle.store_core.specs.Dues.{due_at}
+use Rattle.store_core.specs.Running.{IsStore}
+use Rattle.store_core.specs.Value.{StoreValue, indexes_of}
+use Rattle.task_steps.specs.ExpungeStages.{one_due}
+use Rattle.task_steps.specs.Step.{IsKept}
+use Rattle.task_steps.proofs.OneEventLemmas.{never_more, nothing}
+use Rattle.mail_ops.specs.Appends.{MapTook, MapFell, lowering_of}
+use Rattle.mail_ops.specs.CopyStages.{HasRaised, WasRefused, IsHolding, IsGivingBack, answered_by}
+use Rattle.mail_ops.specs.Copying.{CopyPlace, copy_refusal, added_copy, AddsRow, FellAdding}
+use Rattle.mail_ops.specs.Task.{seen_of}
+use Rattle.mail_ops.proofs.CopyFirstLemmas.{CopyingClause, place_free, step_why, copy_steps}
+use Rattle.mail_ops.proofs.CopyPartLemmas.{IsCopying, copy_copies, adds_next, gives_back_next, held_first, held_second}
+use Rattle.mail_ops.proofs.CopyPlaceLemmas.{ShownBox, shows_box, ShowsBox, place_checked}
+use Rattle.mail_ops.proofs.EventLemmas.{stands_by, fall, some_reply, one_reply, no_reply, stays_itself, memory_calm, comes_along, refusal_event, CanRefuse, did_unstepped, did_stop, did_fall, did_check, did_part, ends_well}
+use Rattle.mail_ops.proofs.FlagEventLemmas.{shown_on}
+use Rattle.mail_ops.proofs.FlagListLemmas.{numbered}
+use Rattle.mail_ops.proofs.LoweringLemmas.{comes_with, lowered_due, shows_still, leads_still}
+use Rattle.mail_ops.proofs.MessageLemmas.{ShownRow, shown_row, shown_guid, record_of_row, store_is_sound, stored_by}
+use Rattle.mail_ops.proofs.RemovalLemmas.{took_tells, box_tells, box_fell_stays, map_fell_stays}
+use Rattle.mail_ops.proofs.SettledFlagLemmas.{LogsShowLists, well_settled, shown_settled}
+use Rattle.mail_ops.proofs.ShownEntryLemmas.{shown_entry}
+
+some_part : (p : EventPart) → Some p ≡ None → ⊥
+some_part p e = cc e
+
+-- the last refusal of a request's events
+replied_once : (own : List RunEvent) (first event : RunEvent) → own ≡ first ∷ [] → first.refused ≡ None → last_refusal (own ++ event ∷ []) ≡ option_or (option_or None event.refused) None
+replied_once own first event one free = ap (λ (es : List RunEvent). last_refusal (es ++ event ∷ [])) one ∙ ap (λ (r : Option Refusal). option_or (option_or None event.refused) r) free
+
+replied_back : (own : List RunEvent) (first second event : RunEvent) (why : Refusal) → own ≡ first ∷ second ∷ [] → second.refused ≡ Some why → event.refused ≡ None → last_refusal (own ++ event ∷ []) ≡ Some why
+replied_back own first second event why two r free =
+    ap (λ (es : List RunEvent). last_refusal (es ++ event ∷ [])) two
+    ∙ (ap (λ (w : Option Refusal). option_or (option_or (option_or None w) second.refused) first.refused) free ∙ ap (λ (w : Option Refusal). option_or (option_or (option_or None None) w) first.refused) r)
+
+-- ---- the message that is added
+
+-- the source and the target, in lists that are shown
+pub record CopyKnown {D : Type 0} (store : StoreValue D) (name : List ℕ) (uid : Uid) (target : List ℕ) (row : LogRow) (number : ℕ) (given : Uid) (lists : Lists) : Type 0 where
+  pub source : ℕ
+  pub shown : ShownRow name uid.0 source lists row
+  pub mailbox : Mailbox
+  pub named : mailbox_named target lists ≡ Some mailbox
+  pub number_is : mailbox.number ≡ number
+  pub given_is : given.0 ≡ mailbox.next_uid
+  pub by : lists_by number shown.message.octets (added_copy given row) lists ≡ add_message target shown.message lists
+  pub shows : ShowLists store.map.boxes (meanings_by number (added_copy given row) store.map.boxes (indexes_of store.boxes)) (add_message target shown.message lists)
+
+message_as : (row : LogRow) (message : ListedMessage) (given : ℕ) (target : List ℕ) (lists : Lists) → listed_row row ≡ listing_row message
+    → add_message target (record { uid = given; flags = row.flags; time = row.time; guid = row.guid; octets = message.octets }) lists ≡ add_message target message lists
+message_as row message given target lists e =
+    ap (λ (r : ListRow). add_message target (record { uid = given; flags = r.flags; time = r.time; guid = r.guid.0; octets = message.octets }) lists) e
+
+made_alike : (row : LogRow) (message : ListedMessage) (given : Uid) → listed_row row ≡ listing_row message → map listed_row (record { uid = given.0; flags = row.flags; time = row.time; size = row.size; map_uid = row.map_uid; guid = row.guid } ∷ [])
+    ≡ map listing_row (record { uid = given.0; flags = row.flags; time = row.time; guid = row.guid; octets = message.octets } ∷ [])
+made_alike row message given e = ap (λ (r : ListRow). record { uid = record { 0 = given.0 }; flags = row.flags; size = r.size; time = row.time; guid = record { 0 = row.guid } } ∷ []) e
+
+copy_gives : (lists : Lists) (target : List ℕ) (row : LogRow) (message : ListedMessage) (number : ℕ) (given : Uid) (mailbox : Mailbox) → AreWellFormed lists → mailbox_named target lists ≡ Some mailbox → mailbox.number ≡ number → given.0 ≡ mailbox.next_uid → listed_row row ≡ listing_row message
+    → lists_by number message.octets (added_copy given row) lists ≡ add_message target message lists
+copy_gives lists target row message number given mailbox well named number_is given_is same =
+    subst (λ (k : ℕ). lists_by k message.octets (added_copy given row) lists ≡ add_message target message lists) number_is
+    (added_by lists target mailbox message.octets given row.flags row.time row.size (record { 0 = row.map_uid }) (record { 0 = row.guid }) well named given_is ∙ message_as row message given.0 target lists same)
+
+pub copy_known : {D : Type 0} → (store : StoreValue D) (name : List ℕ) (uid : Uid) (target : List ℕ) (row : LogRow) (number : ℕ) (given : Uid) (lists : Lists) → CopyPlace name uid.0 target store row number given.0 → AreWellFormed lists → ShowLists store.map.boxes (indexes_of store.boxes) lists
+    → CopyKnown store name uid target row number given lists
+copy_known store name uid target row number given lists at well h =
+    let s = shown_row store name uid.0 at.source row lists at.from h in
+    let t : ShownBox target lists at.m = subst (ShowsBox target lists) at.to.named (shows_box target store.map.boxes (indexes_of store.boxes) lists h) in
+    let number_is = numbered target number store.map.boxes (indexes_of store.boxes) lists t.mailbox h at.to.number_is t.named in
+    let given_is : given.0 ≡ t.mailbox.next_uid = at.next_is ∙ sym t.next in
+    let by = copy_gives lists target row s.message number given t.mailbox well t.named number_is given_is s.same in
+    record {
+      source = at.source;
+      shown = s;
+      mailbox = t.mailbox;
+      named = t.named;
+      number_is = number_is;
+      given_is = given_is;
+      by = by;
+      shows = subst (λ (ls : Lists). ShowLists store.map.boxes (meanings_by number (added_copy given row) store.map.boxes (indexes_of store.boxes)) ls) by
+          (shown_entry number s.message.octets (added_copy given row) store.map.boxes (indexes_of store.boxes) lists (made_alike row s.message given s.same) h);
+    }
+
+-- ---- what is stored
+
+boxes_settled : {D : Type 0} → (now : History) (store : StoreValue D) (lists : Lists) → IsStore (Some now) store → store.stopped ≡ false → IsSettledFor lists (Some now) → AreMailboxes (files_of now.now) store.map store.map.boxes lists
+boxes_settled h store lists s runs settled =
+    let opens = (s.running runs).opens in
+    let same = map_same (files_of h.now) settled.store store.map.store settled.entries s.entries settled.safe.stands.map_log opens.passed.map_log in
+    let there : AreMailboxes (files_of h.now) (map_meaning store.map.store s.entries) (map_meaning store.map.store s.entries).boxes lists =
+    subst (λ (id : List ℕ). AreMailboxes (files_of h.now) (map_meaning id s.entries) (map_meaning id s.entries).boxes lists) same.0
+    (subst (λ (es : List MapEntry). AreMailboxes (files_of h.now) (map_meaning settled.store es) (map_meaning settled.store es).boxes lists) same.1 settled.safe.stands.mailboxes) in
+    subst (λ (m : MapMeaning). AreMailboxes (files_of h.now) m m.boxes lists) (sym s.map_is) there
+
+-- the source stores the octets that are listed, and so does the copy
+pub brings_copy : {D : Type 0} → (history : Option History) (store : StoreValue D) (name : List ℕ) (uid : Uid) (target : List ℕ) (row : LogRow) (number : ℕ) (given : Uid) (lists : Lists) → IsStore history store → store.stopped ≡ false → (at : CopyPlace name uid.0 target store row number given.0)
+    → (k : CopyKnown store name uid target row number given lists) → IsSettledFor lists history → Brings store.map (added_copy given row) k.shown.message.octets history
+brings_copy None store name uid target row number given lists is runs at k settled = absurd settled
+brings_copy (Some h) store name uid target row number given lists is runs at k settled =
+    let r = record_of_row (Some h) store name uid.0 at.source row is at.from in
+    let guid : row.guid ≡ k.shown.message.guid = shown_guid name uid.0 k.source lists row k.shown in (
+      record {
+        uid = refl;
+        flags = refl;
+        time = refl;
+        guid = refl;
+        size = sym (ap (λ (n : ListRow). n.size) k.shown.same);
+        entry = r.entry;
+        found = r.found;
+        same = r.guid_is;
+        octets = stored_by (files_of h.now) store.map store.map.boxes lists name uid.0 k.shown.message r.entry (store_is_sound (Some h) store is) (boxes_settled h store lists is runs settled) k.shown.there (r.by_guid k.shown.message.guid guid);
+      },
+      tt,
+    )
+
+-- the entry gives the lists with the copy, of a disk that is settled for them
+pub record CopySettled {D : Type 0} (store : StoreValue D) (row : LogRow) (number : ℕ) (given : Uid) (name : List ℕ) (uid : Uid) (target : List ℕ) (lists : Lists) (history : Option History) : Type 0 where
+  pub known : CopyKnown store name uid target row number given lists
+  pub brings : Brings store.map (added_copy given row) known.shown.message.octets history
+
+pub copy_settled : {D : Type 0} → (history : Option History) (store : StoreValue D) (name : List ℕ) (uid : Uid) (target : List ℕ) (row : LogRow) (number : ℕ) (given : Uid) (lists : Lists) → LogsShowLists → IsStore history store → store.stopped ≡ false → CopyPlace name uid.0 target store row number given.0 → IsSettledFor lists history
+    → CopySettled store row number given name uid target lists history
+copy_settled history store name uid target row number given lists show is runs at settled =
+    let k = copy_known store name uid target row number given lists at (well_settled lists history settled) (shown_settled lists history store show is runs settled) in
+    record { known = k; brings = brings_copy history store name uid target row number given lists is runs at k settled }
+
+-- ---- it is refused, and goes on
+
+add_goes_on : (around : Around) (run : Run) (place : ℕ) (q : Request) (name : List ℕ) (uid : Uid) (target : List ℕ) (half : Half) (held : MapUid) (why : Refusal) (first : RunEvent) → IsCopying q name uid target half → own_events place run ≡ first ∷ [] → HasRaised held first → (why ≡ refusal.Stopped → ⊥) → CanRefuse around run place q Last why None
+add_goes_on around run place q name uid target half held why first c one r other = record {
+  finds = c.finds around;
+  found = λ event. c.found around run event Last;
+  part_is = adds_next around run q name uid target half held (own_events place run) first c one r;
+  unpins = refl;
+  memory = λ e. c.memory_last;
+  ends = record { 0 = λ h. absurd (h refl); 1 = λ h. absurd (some_part GivesBack (sym (c.refused_last why other) ∙ h)) };
+  replied = λ given e. absurd (no_reply given e);
+}
+
+add_stops : (around : Around) (run : Run) (place : ℕ) (q : Request) (name : List ℕ) (uid : Uid) (target : List ℕ) (half : Half) (held : MapUid) (first : RunEvent) → IsCopying q name uid target half → own_events place run ≡ first ∷ [] → HasRaised held first → CanRefuse around run place q Last refusal.Stopped (Some (reply.Refused refusal.Stopped))
+add_stops around run place q name uid target half held first c one r = record {
+  finds = c.finds around;
+  found = λ event. c.found around run event Last;
+  part_is = adds_next around run q name uid target half held (own_events place run) first c one r;
+  unpins = refl;
+  memory = λ e. absurd (let k : refusal.Stopped ≡ refusal.NoMemory = e in cc k);
+  ends = record { 0 = λ e. c.stopped_last; 1 = λ e f. some_reply (reply.Refused refusal.Stopped) f };
+  replied = λ given e. subst (λ (r : Reply). refusal_in r ≡ Some refusal.Stopped) (one_reply (reply.Refused refusal.Stopped) given e) refl;
+}
+
+pub held_twice : (place : ℕ) (run : Run) (event : RunEvent) (first : RunEvent) → event.request ≡ place → own_events place run ≡ first ∷ [] → own_events place (and_then run event) ≡ first ∷ event ∷ []
+held_twice place run event first own one = own_more place run event (eq-eqb event.request place own) ∙ ap (λ (es : List RunEvent). es ++ event ∷ []) one
+
+pub place_refuses : {D : Type 0} → (run : Run) (q : Request) (name : List ℕ) (uid : Uid) (target : List ℕ) (half : Half) (store : StoreValue D) (lists : Lists) (why : Option Refusal) → IsCopying q name uid target half → ShowLists store.map.boxes (indexes_of store.boxes) lists → copy_refusal name uid.0 target store ≡ why
+    → (event : RunEvent) → first_refusal run lists (part_checks run event q Last) ≡ option_or why None
+place_refuses run q name uid target half store lists why c h e = λ event. ap (first_refusal run lists) (c.checks run event Last) ∙ (place_checked run name uid.0 target store lists [] h ∙ ap (λ (r : Option Refusal). option_or r None) e)
+
+pub add_refused : {D : Type 0} → (q : Request) (name : List ℕ) (uid : Uid) (target : List ℕ) (half : Half) (held : MapUid) (store : StoreValue D) (history : Option History) (faults : Faults) (why : Refusal) → IsCopying q name uid target half → store.stopped ≡ false → copy_refusal name uid.0 target store ≡ Some why
+    → CopyingClause q (IsHolding held) (IsGivingBack held why) store store history history faults faults (did.Step half) None
+add_refused q name uid target half held store history faults why c runs refuses = λ around behind run lane place said lists come shows stood.
+    let w = step_why why (copy_steps name uid.0 target store why refuses) in
+    let first = stood.0.0 in
+    let one = stood.0.1 in
+    let r = stood.0.2 in
+    let event : RunEvent = refusal_event lane place Last why None (told_calls history) in
+    stands_by around behind run lane place said q lists (seen_of store history faults) (seen_of store history faults) (did.Step half) None event (Some (reply.Refused why)) (IsGivingBack held why)
+    (did_check around behind run lane place said q Last lists (seen_of store history faults) why None half (add_goes_on around run place q name uid target half held why first c one r w.2) come shows runs w.0 c.half_last
+    (ap (λ (s : List Reply). slice_get (halves_of q) (length s)) stood.1 ∙ (c.halves ∙ ap Some (sym c.half_last))) (place_refuses run q name uid target half store lists (Some why) c shows.1 refuses) (λ given e. absurd (no_reply given e)) (λ e. no_reply (reply.Refused refusal.Stopped) e))
+    (λ goes_on. (
+      (first, event, held_twice place run event first refl one, r, record { part = refl; refused = refl; bare = refl }),
+      ap (λ (s : List Reply). s ++ reply.Refused why ∷ []) stood.1 ∙ sym (ap (λ (b : Bool). if b then reply.Refused why ∷ [] else []) w.0),
+      inl w.0,
+    ))
+
+memory_differs : refusal.NoMemory ≡ refusal.Stopped → ⊥
+memory_differs e = cc e
+
+pub add_unremembered : {D : Type 0} → (q : Request) (name : List ℕ) (uid : Uid) (target : List ℕ) (half : Half) (held : MapUid) (store : StoreValue D) (history : Option History) (faults : Faults) → IsCopying q name uid target half → store.stopped ≡ false
+    → CopyingClause q (IsHolding held) (IsGivingBack held refusal.NoMemory) store store history history faults faults did.Quiet None
+add_unremembered q name uid target half held store history faults c runs = λ around behind run lane place said lists come shows stood.
+    let first = stood.0.0 in
+    let one = stood.0.1 in
+    let r = stood.0.2 in
+    let seen = seen_of store history faults in
+    let event : RunEvent = refusal_event lane place Last refusal.NoMemory None (told_calls history) in
+    stands_by around behind run lane place said q lists seen seen did.Quiet None event None (IsGivingBack held refusal.NoMemory)
+    (did_unstepped around behind run lane place said q Last lists seen seen refusal.NoMemory None did.Quiet (add_goes_on around run place q name uid target half held refusal.NoMemory first c one r memory_differs) come (stays_itself seen) shows refl memory_calm (refl, refl, nothing lists seen)
+    (λ given e. absurd (no_reply given e)) (record { 0 = λ e. absurd (no_reply (reply.Refused refusal.Stopped) e); 1 = λ e. absurd (fall store.stopped e runs) }) (λ e. refl) (λ x. absurd x))
+    (λ goes_on. ((first, event, held_twice place run event first refl one, r, record { part = refl; refused = refl; bare = refl }), stood.1, inr refl))
+
+pub add_stopped : {D : Type 0} → (q : Request) (name : List ℕ) (uid : Uid) (target : List ℕ) (half : Half) (held : MapUid) (Stands : Run → ℕ → List Reply → Type 0) (store : StoreValue D) (history : Option History) (faults : Faults) → IsCopying q name uid target half → store.stopped ≡ true
+    → CopyingClause q (IsHolding held) Stands store store history history faults faults did.Quiet (Some (reply.Refused refusal.Stopped))
+add_stopped q name uid target half held Stands store history faults c stopped = λ around behind run lane place said lists come shows stood. (
+  (did_stop around behind run lane place said q Last lists (seen_of store history faults) (add_stops around run place q name uid target half held stood.0.0 c stood.0.1 stood.0.2) come shows tt stopped).so,
+  λ e. absurd (never_more _ e),
+)
+
+-- ---- it is added
+
+abbrev pub adding : ℕ → ℕ → Mailbox → ListedMessage → ℕ → Option Reply → ℕ → RunEvent
+adding lane place mailbox message held ended calls = record (event_of lane place Last calls) {
+  reply = ended;
+  box_entries = adds_to mailbox (box_entry.A (record { 0 = mailbox.next_uid }) message.flags message.time (length message.octets) (record { 0 = held }) (record { 0 = message.guid }));
+}
+
+pub added_due : {D : Type 0} → (held : MapUid) (given : Uid) (row : LogRow) (m : BoxMeaning) (old new : StoreValue D) (uid : ℕ) → held.0 ≡ row.map_uid → one_due held.0 uid ≤ due_at uid old → due_at uid new ≡ due_by_box m (added_copy given row) (λ other. due_at other old) uid
+    → due_at uid new + one_due held.0 uid ≡ due_at uid old
+added_due held given row m old new uid holds some due =
+    subst (λ (u : ℕ). due_at uid new + one_due u uid ≡ due_at uid old) (sym holds) (lowered_due (record { 0 = row.map_uid }) old new uid (subst (λ (u : ℕ). one_due u uid ≤ due_at uid old) holds some) due)
+
+pub ended_due : (old new held uid : ℕ) → new + one_due held uid ≡ old → new + ((0 + one_due held uid) + 0) ≡ old + 0
+ended_due old new held uid e = omega (arith, e)
+
+copied_runs : (given : Uid) → Some (reply.Copied given) ≡ Some (reply.Refused refusal.Stopped) → ⊥
+copied_runs given e = let k : reply.Copied given ≡ reply.Refused refusal.Stopped = cc e in cc k
+
+pub is_copied : {D : Type 0} → (store : StoreValue D) (name : List ℕ) (uid : Uid) (target : List ℕ) (row : LogRow) (number : ℕ) (given : Uid) (lists : Lists) → (k : CopyKnown store name uid target row number given lists) → IsCopied lists name uid.0 target given.0 (add_message target k.shown.message lists)
+is_copied store name uid target row number given lists k = record { message = k.shown.message; mailbox = k.mailbox; source_is = k.shown.there; target_is = k.named; given_is = k.given_is; new_is = refl }
+
+pub copy_added : {D : Type 0} → (name : List ℕ) (uid : Uid) (target : List ℕ) (held : MapUid) (given : Uid) (Stands : Run → ℕ → List Reply → Type 0) (old new : StoreValue D) (before after : Option History) (began faulted : Faults) → IsStore before old → old.stopped ≡ false → ((other : ℕ) → one_due held.0 other ≤ due_at other old)
+    → AddsRow name uid target held given old new before after began faulted → CopyingClause (request.Copy name uid target) (IsHolding held) Stands old new before after began faulted (did.Step half_is.Whole) (Some (reply.Copied given))
+copy_added name uid target held given Stands old new before after began faulted is ran due r = λ around behind run lane place said lists come shows stood.
+    let q = request.Copy name uid target in
+    let c = copy_copies name uid target in
+    let k = copy_known old name uid target r.row r.number given lists r.at shows.0 shows.1 in
+    let ended = Some (reply.Copied given) in
+    let event : RunEvent = adding lane place k.mailbox k.shown.message held.0 ended (told_calls after) in
+    let a = r.took.appends in
+    let seen = seen_of old before began in
+    let later = seen_of new after faulted in
+    let first = stood.0.0 in
+    let one = stood.0.1 in
+    let h = stood.0.2 in
+    let allowed = place_refuses run q name uid target half_is.Whole old lists None c shows.1 (place_free name uid.0 target old r.row r.number given.0 r.at) event in
+    let copied = is_copied old name uid target r.row r.number given lists k in (
+      (did_part around behind run lane place said q lists (add_message target k.shown.message lists) seen later (did.Step half_is.Whole) ended ended event
+          (record {
+            lane_is = refl;
+            request_is = refl;
+            moment_is = refl;
+            ended_is = refl;
+            unrefused = refl;
+            undrawn = refl;
+            leaves = record { pins = refl; unpins = refl; doomed = refl; removed = refl; given = refl; gone = refl };
+            finds = tt;
+            found = tt;
+            part_is = adds_next around run q name uid target half_is.Whole held (own_events place run) first c one h;
+            allowed = allowed;
+            did = (k.shown.message, k.shown.there, (k.mailbox, held.0, k.named, held_first place run held first one h, refl));
+            ends = record { 0 = λ e. refl; 1 = λ e f. some_reply (reply.Copied given) f };
+            replied = replied_once (own_events place run) first event one h.unrefused;
+          }) come (comes_along run event seen later come a.map a.drawn a.grows refl refl refl)
+          (λ other. ended_due (due_at other old) (due_at other new) held.0 other (added_due held given r.row r.at.m old new other r.holds (due other) (r.took.due r.at.m other r.at.to.numbered)))
+          (box_tells r.number (added_copy given r.row) old new before after began faulted a) (
+            answers_well run lists q event (reply.Copied given) (add_message target k.shown.message lists) shows.0 tt (allowed, copied),
+            shown_on seen later _ (add_message target k.shown.message lists) a.map r.took.taken k.shows,
+          ) a.grows refl ((allowed, copied), refl) (
+            refl,
+            refl,
+            r.took.runs,
+            record {
+              stops = λ s. subst (λ (ls : Lists). Leaves lists ls before after) k.by (a.moments lists k.shown.message.octets (brings_copy before old name uid target r.row r.number given lists is ran r.at k s) s);
+              settled = λ s. subst (λ (ls : Lists). IsSettledFor ls after) k.by (r.took.settled lists k.shown.message.octets (brings_copy before old name uid target r.row r.number given lists is ran r.at k s) s);
+            },
+          )
+          (ends_well q said event ended ended (did.Step half_is.Whole) seen later refl ran r.took.runs (let same = a.reads in omega (arith, same)) a.changes (λ x. x) (copied_runs given) (λ some. ap (λ (s : List Reply). slice_get (halves_of q) (length s)) stood.1)
+          (λ x e. subst (λ (y : Reply). IsReplyOf q (said ++ reply.Copied given ∷ []) y) (one_reply (reply.Copied given) x e) (subst (λ (s : List Reply). IsReplyOf q (s ++ reply.Copied given ∷ []) (reply.Copied given)) (sym stood.1) refl)))).so,
+      λ e. absurd (never_more _ e),
+    )
+
+-- ---- it fell
+
+pub add_fell : {D : Type 0} → (q : Request) (name : List ℕ) (uid : Uid) (target : List ℕ) (half : Half) (held : MapUid) (Stands : Run → ℕ → List Reply → Type 0) (old new : StoreValue D) (before after : Option History) (began faulted : Faults) → IsCopying q name uid target half → IsStore before old → old.stopped ≡ false
+    → FellAdding name uid target held old new before after began faulted → CopyingClause q (IsHolding held) Stands old new before after began faulted (did.Broken half) (Some (reply.Refused refusal.Stopped))
+add_fell q name uid target half held Stands old new before after began faulted c is ran r = λ around behind run lane place said lists come shows stood.
+    let k = copy_known old name uid target r.row r.number r.given lists r.at shows.0 shows.1 in
+    let would : RunEvent = adding lane place k.mailbox k.shown.message held.0 None (told_calls after) in
+    let seen = seen_of old before began in
+    let later = seen_of new after faulted in
+    let first = stood.0.0 in
+    let one = stood.0.1 in
+    let h = stood.0.2 in
+    let allowed = place_refuses run q name uid target half old lists None c shows.1 (place_free name uid.0 target old r.row r.number r.given.0 r.at) would in (
+      (did_fall around behind run lane place said q Last lists seen later (did.Broken half) (add_stops around run place q name uid target half held first c one h) come (box_fell_stays r.number (added_copy r.given r.row) old new before after began faulted r.fell)
+          (shows.0, shown_on seen later (indexes_of old.boxes) lists r.fell.appends.map r.fell.indexes shows.1) tt ran r.fell.stopped r.fell.rose (
+            record { refused = refl; unanswered = refl; ran = ran; stopped = r.fell.stopped },
+            c.half_last,
+            (
+              record {
+                would = would;
+                lane_is = refl;
+                request_is = refl;
+                part_is = refl;
+                did = λ found e. c.did_last found run lists would (k.shown.message, k.shown.there, (k.mailbox, held.0, k.named, held_first place run held first one h, refl));
+                answer = reply.Copied r.given;
+                left = add_message target k.shown.message lists;
+                made = (c.answers run lists would r.given (add_message target k.shown.message lists) allowed (is_copied old name uid target r.row r.number r.given lists k), refl);
+              },
+              λ s. subst (λ (ls : Lists). Leaves lists ls before after) k.by (r.fell.appends.moments lists k.shown.message.octets (brings_copy before old name uid target r.row r.number r.given lists is ran r.at k s) s),
+            ),
+          )).so,
+      λ e. absurd (never_more _ e),
+    )
+
+-- ---- it is given back
+
+abbrev pub giving_back : ℕ → ℕ → ℕ → Refusal → ℕ → RunEvent
+giving_back lane place uid why calls = record (event_of lane place GivesBack calls) { reply = Some (reply.Refused why); map_entries = lowers uid }
+
+given_for : (why : Refusal) → (is_step why ≡ true) ⊎ (why ≡ refusal.NoMemory) → why ≡ refusal.Stopped → ⊥
+given_for why (inl s) e = let k : true ≡ false = sym s ∙ ap is_step e in cc k
+given_for why (inr m) e = let k : refusal.NoMemory ≡ refusal.Stopped = sym m ∙ e in cc k
+
+given_reply : (q : Request) (name : List ℕ) (uid : Uid) (target : List ℕ) (half : Half) (said : List Reply) (why : Refusal) → IsCopying q name uid target half → said ≡ answered_by why → (is_step why ≡ true) ⊎ (why ≡ refusal.NoMemory) → IsReplyOf q said (reply.Refused why)
+given_reply q name uid target half said why c is (inl s) = subst (λ (l : List Reply). IsReplyOf q l (reply.Refused why)) (sym (is ∙ ap (λ (b : Bool). if b then reply.Refused why ∷ [] else []) s)) (c.replied why s)
+given_reply q name uid target half said why c is (inr m) =
+    subst (λ (w : Refusal). IsReplyOf q said (reply.Refused w)) (sym m) (is ∙ ap answered_by m)
+
+back_stops : (around : Around) (run : Run) (place : ℕ) (q : Request) (name : List ℕ) (uid : Uid) (target : List ℕ) (half : Half) (why : Refusal) (first second : RunEvent) → IsCopying q name uid target half → (why ≡ refusal.Stopped → ⊥) → own_events place run ≡ first ∷ second ∷ [] → WasRefused why second
+    → CanRefuse around run place q GivesBack refusal.Stopped (Some (reply.Refused refusal.Stopped))
+back_stops around run place q name uid target half why first second c other two r = record {
+  finds = c.finds around;
+  found = λ event. c.found around run event GivesBack;
+  part_is = gives_back_next around run q name uid target half why (own_events place run) first second c other two r;
+  unpins = refl;
+  memory = λ e. absurd (let k : refusal.Stopped ≡ refusal.NoMemory = e in cc k);
+  ends = record { 0 = λ e. c.refused_back refusal.Stopped; 1 = λ e f. some_reply (reply.Refused refusal.Stopped) f };
+  replied = λ given e. subst (λ (r : Reply). refusal_in r ≡ Some refusal.Stopped) (one_reply (reply.Refused refusal.Stopped) given e) refl;
+}
+
+pub back_stopped : {D : Type 0} → (q : Request) (name : List ℕ) (uid : Uid) (target : List ℕ) (half : Half) (held : MapUid) (why : Refusal) (Stands : Run → ℕ → List Reply → Type 0) (store : StoreValue D) (history : Option History) (faults : Faults) → IsCopying q name uid target half → store.stopped ≡ true
+    → CopyingClause q (IsGivingBack held why) Stands store store history history faults faults did.Quiet (Some (reply.Refused refusal.Stopped))
+back_stopped q name uid target half held why Stands store history faults c stopped = λ around behind run lane place said lists come shows stood. (
+  (did_stop around behind run lane place said q GivesBack lists (seen_of store history faults) (back_stops around run place q name uid target half why stood.0.0 stood.0.1 c (given_for why stood.2) stood.0.2 stood.0.4) come shows tt stopped).so,
+  λ e. absurd (never_more _ e),
+)
+
+pub back_fell : {D : Type 0} → (q : Request) (name : List ℕ) (uid : Uid) (target : List ℕ) (half : Half) (held : MapUid) (why : Refusal) (Stands : Run → ℕ → List Reply → Type 0) (old new : StoreValue D) (before after : Option History) (began faulted : Faults) → IsCopying q name uid target half → old.stopped ≡ false → MapFell old new before after began faulted
+    → CopyingClause q (IsGivingBack held why) Stands old new before after began faulted did.Failed (Some (reply.Refused refusal.Stopped))
+back_fell q name uid target half held why Stands old new before after began faulted c ran f = λ around behind run lane place said lists come shows stood.
+    let seen = seen_of old before began in
+    let later = seen_of new after faulted in (
+      (did_fall around behind run lane place said q GivesBack lists seen later did.Failed (back_stops around run place q name uid target half why stood.0.0 stood.0.1 c (given_for why stood.2) stood.0.2 stood.0.4) come (map_fell_stays old new before after began faulted f) (shows_still old new before after began faulted lists f.appends shows) tt ran f.stopped f.rose
+          (record { refused = refl; unanswered = refl; ran = ran; stopped = f.stopped }, λ s. f.appends.moments lists s)).so,
+      λ e. absurd (never_more _ e),
+    )
+
+pub lowered_ends : (old new held uid : ℕ) → new + one_due held uid ≡ old → new + (0 + (0 + (0 + one_due held uid))) ≡ old + 0
+lowered_ends old new held uid e = omega (arith, e)
+
+pub given_back : {D : Type 0} → (q : Request) (name : List ℕ) (uid : Uid) (target : List ℕ) (half : Half) (held : MapUid) (why : Refusal) (Stands : Run → ℕ → List Reply → Type 0) (old new : StoreValue D) (before after : Option History) (began faulted : Faults) → IsCopying q name uid target half → old.stopped ≡ false
+    → ((other : ℕ) → one_due held.0 other ≤ due_at other old) → MapTook (lowering_of held) old new before after began faulted → CopyingClause q (IsGivingBack held why) Stands old new before after began faulted did.Quiet (Some (reply.Refused why))
+given_back q name uid target half held why Stands old new before after began faulted c ran due t = λ around behind run lane place said lists come shows stood.
+    let event : RunEvent = giving_back lane place held.0 why (told_calls after) in
+    let a = t.appends in
+    let seen = seen_of old before began in
+    let later = seen_of new after faulted in
+    let first = stood.0.0 in
+    let second = stood.0.1 in
+    let two = stood.0.2 in
+    let h = stood.0.3 in
+    let r = stood.0.4 in
+    let other = given_for why stood.2 in (
+      (did_part around behind run lane place said q lists lists seen later did.Quiet (Some (reply.Refused why)) None event
+          (record {
+            lane_is = refl;
+            request_is = refl;
+            moment_is = refl;
+            ended_is = refl;
+            unrefused = refl;
+            undrawn = refl;
+            leaves = record { pins = refl; unpins = refl; doomed = refl; removed = refl; given = refl; gone = refl };
+            finds = c.finds around event;
+            found = c.found around run event GivesBack;
+            part_is = gives_back_next around run q name uid target half why (own_events place run) first second c other two r;
+            allowed = ap (first_refusal run lists) (c.checks run event GivesBack);
+            did = c.did_back around run lists event (held.0, held_second place run held first second two h, refl);
+            ends = record { 0 = λ e. c.behind_back behind (and_then run event) event refl; 1 = λ e f. some_reply (reply.Refused why) f };
+            replied = replied_back (own_events place run) first second event why two r.refused refl;
+          }) come (comes_with run event (lowering_of held) seen later come t.taken a.drawn a.grows refl refl refl)
+          (λ u. lowered_ends (due_at u old) (due_at u new) held.0 u (lowered_due held old new u (due u) (t.due u)))
+          (took_tells (lowering_of held) old new before after began faulted t) (shows_still old new before after began faulted lists a shows) a.grows (sym c.steps_back) refl (refl, t.runs ∙ sym ran, leads_still (lowering_of held) old new before after began faulted lists t)
+          (ends_well q said event None (Some (reply.Refused why)) did.Quiet seen later refl ran t.runs (let same = a.reads in omega (arith, same)) a.changes (λ x. x) (λ e. other (let k : reply.Refused why ≡ reply.Refused refusal.Stopped = cc e in cc k)) (λ some. absurd (let k : false ≡ true = some in cc k))
+          (λ given e. subst (λ (x : Reply). IsReplyOf q said x) (one_reply (reply.Refused why) given e) (given_reply q name uid target half said why c stood.1 stood.2)))).so,
+      λ e. absurd (never_more _ e),
+    )
+
+-- ---- as other requests go on
+
+pub holding_kept : (held : MapUid) → IsKept (IsHolding held)
+holding_kept held run place said event e new stood = ((stood.0.0, own_other place run event (ne_eqb event.request place e) ∙ stood.0.1, stood.0.2), stood.1)
+
+pub giving_back_kept : (held : MapUid) (why : Refusal) → IsKept (IsGivingBack held why)
+giving_back_kept held why run place said event e new stood = ((stood.0.0, stood.0.1, own_other place run event (ne_eqb event.request place e) ∙ stood.0.2, stood.0.3, stood.0.4), stood.1, stood.2)

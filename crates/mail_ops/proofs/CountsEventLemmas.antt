@@ -1,0 +1,84 @@
+-- A count as an event, which changes nothing.
+use Rattle.std.proofs.Common.{◌≡◌, ℕ, true, false, List, [], ◌∷◌, ◌++◌, length, Option, Some, refl, sym, ◌∙◌, ap, subst, arith}
+use Rattle.std.specs.Prelude.{slice_get, sum_by}
+use Rattle.disk_model.specs.Disk.{History, Faults, told_calls}
+use Rattle.mdbox_base.specs.declared.progress.Did.{Did}
+use Rattle.mdbox_base.specs.declared.progress.Did.TheVariants as did
+use Rattle.mdbox_base.specs.declared.replies.Refusal.TheVariants as refusal
+use Rattle.mdbox_base.specs.declared.replies.Reply.{Reply}
+use Rattle.mdbox_base.specs.declared.replies.Reply.TheVariants as reply
+use Rattle.mdbox_base.specs.declared.requests.Request.TheVariants as request
+use Rattle.mdbox_base.specs.declared.script.Half.TheVariants as half
+use Rattle.model_meaning.specs.MapMeaning.{MapMeaning}
+use Rattle.list_machine.specs.Run.{First, RunEvent, event_of, own_events}
+use Rattle.list_machine.specs.Machine.{AreCounts, count_different}
+use Rattle.journal.specs.Journal.{halves_of, IsReplyOf}
+use Rattle.journal.specs.Events.{Around, next_part}
+use Rattle.store_core.specs.Value.{StoreValue}
+use Rattle.task_steps.specs.Step.{HasNotBegun, Steps}
+use Rattle.task_steps.proofs.OneEventLemmas.{IsPlain, does_nothing, never_more, memory_is, when_stopped, not_reading, not_reading_memory, nothing, some_given, refusal_last}
+use Rattle.task_steps.proofs.SeenLemmas.{tells_itself}
+use Rattle.mail_ops.specs.Counting.{listed_messages, named_ids}
+use Rattle.mail_ops.specs.Task.{seen_of}
+use Rattle.mail_ops.proofs.CountingLemmas.{shown_many}
+use Rattle.mail_ops.proofs.EventLemmas.{one_reply, comes_along, did_part, ends_well}
+
+counts_are_plain : IsPlain request.Counts
+counts_are_plain = record { found = λ around run event. tt; finds = λ around event. tt; memory = refl; behind = λ after run event why. refl; half_is = refl; halves_are = refl }
+
+-- the clause of the step
+abbrev pub CountsClause : {D : Type 0} → StoreValue D → Option History → Faults → Did → Option Reply → Type 0
+CountsClause store history faults how ended = (around behind : Around) → Steps HasNotBegun HasNotBegun around behind request.Counts (seen_of store history faults) (seen_of store history faults) how ended
+
+pub counts_stopped : {D : Type 0} → (store : StoreValue D) (history : Option History) (faults : Faults) → store.stopped ≡ true → CountsClause store history faults did.Quiet (Some (reply.Refused refusal.Stopped))
+counts_stopped store history faults stopped = λ around behind run lane place said lists come shows stood. (
+  does_nothing around behind run lane place said request.Counts lists (seen_of store history faults) refusal.Stopped counts_are_plain come shows stood refl tt not_reading (when_stopped store.stopped stopped),
+  λ e. absurd (never_more _ e),
+)
+
+pub counts_unremembered : {D : Type 0} → (store : StoreValue D) (history : Option History) (faults : Faults) → store.stopped ≡ false → CountsClause store history faults did.Quiet (Some (reply.Refused refusal.NoMemory))
+counts_unremembered store history faults runs = λ around behind run lane place said lists come shows stood. (
+  does_nothing around behind run lane place said request.Counts lists (seen_of store history faults) refusal.NoMemory counts_are_plain come shows stood refl refl not_reading_memory (memory_is store.stopped runs),
+  λ e. absurd (never_more _ e),
+)
+
+abbrev counting_event : ℕ → ℕ → Reply → ℕ → RunEvent
+counting_event lane place given calls = record (event_of lane place First calls) { reply = Some given }
+
+counted_runs : (a b c d : ℕ) → Some (reply.Counted a b c d) ≡ Some (reply.Refused refusal.Stopped) → ⊥
+counted_runs a b c d e = let k : reply.Counted a b c d ≡ reply.Refused refusal.Stopped = cc e in cc k
+
+pub counts_done : {D : Type 0} → (store : StoreValue D) (history : Option History) (faults : Faults) (a b c d : ℕ) → store.stopped ≡ false → a ≡ length store.map.records → b ≡ listed_messages store → c ≡ sum_by (λ row. row.count) store.map.records → d ≡ count_different (named_ids store.map)
+    → CountsClause store history faults (did.Step half.Whole) (Some (reply.Counted a b c d))
+counts_done store history faults a b c d runs records listed counts ids = λ around behind run lane place said lists come shows stood.
+    let q = request.Counts in
+    let seen = seen_of store history faults in
+    let given = reply.Counted a b c d in
+    let event : RunEvent = counting_event lane place given (told_calls history) in
+    let are : AreCounts run lists a b c d = record {
+      records_are = records ∙ ap (λ (m : MapMeaning). length m.records) (sym come.come.map_is);
+      references_are = listed ∙ shown_many store.map.boxes _ lists shows.1;
+      counts_are = counts ∙ ap (λ (m : MapMeaning). sum_by (λ row. row.count) m.records) (sym come.come.map_is);
+      instances_are = ids ∙ ap (λ (m : MapMeaning). count_different (named_ids m)) (sym come.come.map_is);
+    } in (
+      (did_part around behind run lane place said q lists lists seen seen (did.Step half.Whole) (Some given) (Some given) event
+          (record {
+            lane_is = refl;
+            request_is = refl;
+            moment_is = refl;
+            ended_is = refl;
+            unrefused = refl;
+            undrawn = refl;
+            leaves = record { pins = refl; unpins = refl; doomed = refl; removed = refl; given = refl; gone = refl };
+            finds = tt;
+            found = tt;
+            part_is = ap (λ (es : List RunEvent). next_part around run q es) stood.0;
+            allowed = refl;
+            did = refl;
+            ends = record { 0 = λ e. refl; 1 = λ e f. some_given given f };
+            replied = refusal_last (own_events place run) event stood.0;
+          }) come (comes_along run event seen seen come refl refl (omega arith) refl refl refl) (λ uid. refl) (tells_itself seen) shows (omega arith) refl ((refl, (are, refl)), refl) (refl, refl, runs, nothing lists seen)
+          (ends_well q said event (Some given) (Some given) (did.Step half.Whole) seen seen refl runs runs (omega arith) (omega arith) (λ x. x) (counted_runs a b c d) (λ some. ap (λ (s : List Reply). slice_get (halves_of q) (length s)) stood.1)
+          (λ r e. subst (λ (x : Reply). IsReplyOf q (said ++ given ∷ []) x) (one_reply given r e) (subst (λ (s : List Reply). IsReplyOf q (s ++ given ∷ []) given) (sym stood.1) refl)))).so,
+      λ e. absurd (never_more _ e),
+    )

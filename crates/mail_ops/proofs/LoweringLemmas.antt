@@ -1,0 +1,52 @@
+-- A count that is lowered, by the clause of a step.
+use Rattle.std.proofs.Common.{◌≡◌, ◌≤◌, ◌+◌, ◌-◌, ◌==◌, ◌||◌, ℕ, Bool, true, false, cond, List, [], ◌∷◌, Option, refl, sym, ◌∙◌, ap, subst, arith}
+use Rattle.std.proofs.lemmas.Bool.{eq-eqb}
+use Rattle.disk_model.specs.Disk.{History, Faults, told_calls, Grows}
+use Rattle.mdbox_base.specs.declared.entries.Highest.{Highest}
+use Rattle.mdbox_base.specs.declared.entries.MapEntry.{MapEntry}
+use Rattle.mdbox_base.specs.declared.ids.MapUid.{MapUid}
+use Rattle.model_appends.specs.Amounts.{bit, due_by}
+use Rattle.model_lists.specs.Lists.{Lists}
+use Rattle.model_meaning.specs.BoxMeaning.{BoxMeaning}
+use Rattle.model_meaning.specs.MapMeaning.{MapBox, MapMeaning, map_applied, no_numbers}
+use Rattle.model_store.specs.Listing.{ShowLists}
+use Rattle.list_machine.specs.Run.{RunEvent, Run, and_then, drawn_also}
+use Rattle.journal.specs.Makes.{HasCome}
+use Rattle.journal.proofs.RunLemmas.{comes_on_with, drawn_none}
+use Rattle.store_core.specs.Dues.{due_at}
+use Rattle.store_core.specs.Value.{StoreValue, indexes_of}
+use Rattle.task_steps.specs.ExpungeStages.{one_due}
+use Rattle.task_steps.specs.Step.{Seen, ShowsSeen, HasComeTo, Leads}
+use Rattle.mail_ops.specs.Appends.{lowering_of, MapAppends, MapTook}
+use Rattle.mail_ops.specs.Task.{seen_of}
+
+-- the run with an event that adds this entry to the map log has come to where the store stands
+pub comes_with : (run : Run) (event : RunEvent) (entry : MapEntry) (old new : Seen) → HasComeTo run old → new.map ≡ map_applied entry old.map → new.drawn ≡ old.drawn → Grows old.history new.history → event.moment ≡ told_calls new.history → event.map_entries ≡ entry ∷ [] → event.drew ≡ no_numbers
+    → HasCome (and_then run event) new.map new.drawn (told_calls new.history)
+comes_with run event entry old new come map drawn grows moment entries drew =
+    let later : told_calls old.history ≤ event.moment = (let a : told_calls old.history ≤ told_calls new.history = grows in omega (arith, a, moment)) in
+    subst (λ (m : MapMeaning). HasCome (and_then run event) m new.drawn (told_calls new.history)) (sym map)
+    (subst (λ (d : Highest). HasCome (and_then run event) (map_applied entry old.map) d (told_calls new.history)) (ap (λ (d : Highest). drawn_also old.drawn d) drew ∙ (drawn_none old.drawn ∙ sym drawn))
+    (subst (λ (n : ℕ). HasCome (and_then run event) (map_applied entry old.map) (drawn_also old.drawn event.drew) n) moment (comes_on_with run event entry old.map old.drawn (told_calls old.history) come.come later entries)))
+
+-- ---- what is due
+
+less_one : (b : Bool) (old new : ℕ) → new ≡ old - bit (b || false) → cond b 1 0 ≤ old → new + cond b 1 0 ≡ old
+less_one true old new e l = let f : new ≡ old - 1 = e in let m : 1 ≤ old = l in omega (arith, f, m)
+less_one false old new e l = let f : new ≡ old - 0 = e in omega (arith, f)
+
+pub lowered_due : {D : Type 0} → (owed : MapUid) (old new : StoreValue D) (uid : ℕ) → one_due owed.0 uid ≤ due_at uid old → due_at uid new ≡ due_by (lowering_of owed) (λ other. due_at other old) uid → due_at uid new + one_due owed.0 uid ≡ due_at uid old
+lowered_due owed old new uid some due = less_one (owed.0 == uid) (due_at uid old) (due_at uid new) due some
+
+-- it is due of its own record
+pub one_of_own : (uid : ℕ) → one_due uid uid ≡ 1
+one_of_own uid = ap (λ (b : Bool). cond b 1 0) (eq-eqb uid uid refl)
+
+-- ---- what is shown, and what a crash leaves
+
+pub shows_still : {D : Type 0} → (old new : StoreValue D) (before after : Option History) (began now : Faults) (lists : Lists) → MapAppends old new before after began now → ShowsSeen (seen_of old before began) lists → ShowsSeen (seen_of new after now) lists
+shows_still old new before after began now lists a shows =
+    (shows.0, subst (λ (bs : List MapBox). ShowLists bs (indexes_of new.boxes) lists) (sym a.mailboxes) (subst (λ (ms : List BoxMeaning). ShowLists old.map.boxes ms lists) (sym a.indexes) shows.1))
+
+pub leads_still : {D : Type 0} → (entry : MapEntry) (old new : StoreValue D) (before after : Option History) (began now : Faults) (lists : Lists) → MapTook entry old new before after began now → Leads lists lists (seen_of old before began) (seen_of new after now)
+leads_still entry old new before after began now lists t = record { stops = λ s. t.appends.moments lists s; settled = λ s. t.settled lists s }

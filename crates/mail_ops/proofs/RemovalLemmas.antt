@@ -1,0 +1,130 @@
+-- A message that is removed from the log of its mailbox, or whose removal failed.
+use Rattle.std.proofs.Common.{◌≡◌, ◌+◌, ◌&&◌, ℕ, true, false, List, [], ◌∷◌, Option, Some, None, refl, ◌∙◌, ap, subst, arith}
+use Rattle.std.specs.Prelude.{nat_le, nat_lt, is_some}
+use Rattle.std.specs.Option.{option_map_or}
+use Rattle.disk_model.specs.Disk.{History, Faults}
+use Rattle.mdbox_base.specs.declared.entries.BoxEntry.{BoxEntry}
+use Rattle.mdbox_base.specs.declared.entries.BoxEntry.TheVariants as entry
+use Rattle.mdbox_base.specs.declared.entries.Highest.{Highest}
+use Rattle.mdbox_base.specs.declared.entries.MapEntry.{MapEntry}
+use Rattle.mdbox_base.specs.declared.ids.Uid.{Uid}
+use Rattle.model_appends.specs.Amounts.{more_due, due_by_box}
+use Rattle.model_appends.specs.Appending.{lists_by, meanings_by}
+use Rattle.model_lists.specs.Lists.{Lists, AreWellFormed}
+use Rattle.model_meaning.specs.BoxMeaning.{LogRow, BoxMeaning, row_at}
+use Rattle.model_meaning.specs.MapMeaning.{MapMeaning, record_of, is_own, number_at}
+use Rattle.model_store.specs.Listing.{ShowLists}
+use Rattle.model_store.specs.Settled.{IsSettledFor}
+use Rattle.list_machine.specs.Run.{Run}
+use Rattle.list_machine.specs.Machine.{expunge, HasMailbox, HasUid, first_refusal}
+use Rattle.journal.specs.Events.{IsRecord}
+use Rattle.entry_steps.proofs.AppendListLemmas.{removed_by}
+use Rattle.store_core.specs.Append.{Brings}
+use Rattle.store_core.specs.Dues.{due_at}
+use Rattle.storage_files.specs.Files.{FilesValue, end_in}
+use Rattle.store_core.specs.Knows.{may_have_given}
+use Rattle.store_core.specs.Running.{IsStore}
+use Rattle.store_core.specs.Value.{StoreValue, indexes_of}
+use Rattle.task_steps.specs.ExpungeStages.{one_due}
+use Rattle.task_steps.specs.Step.{HasComeTo}
+use Rattle.task_steps.specs.Tells.{TellsSame}
+use Rattle.mail_ops.specs.Appends.{BoxAppends, BoxFell, MapTook, MapFell}
+use Rattle.mail_ops.specs.Messages.{IsRowOf}
+use Rattle.mail_ops.specs.Task.{seen_of}
+use Rattle.mail_ops.proofs.EventLemmas.{StaysSo}
+use Rattle.mail_ops.proofs.FlagEventLemmas.{due_kept}
+use Rattle.mail_ops.proofs.MessageLemmas.{ShownRow, shown_row, shown_guid, RecordOfRow, record_of_row}
+use Rattle.mail_ops.proofs.SettledFlagLemmas.{LogsShowLists, well_settled, shown_settled}
+use Rattle.mail_ops.proofs.ShownEntryLemmas.{shown_entry}
+
+-- a removal adds no message, so it brings any octets
+pub brings_removal : (m : MapMeaning) (uid : Uid) (octets : List ℕ) (h : Option History) → Brings m (entry.R uid) octets h
+brings_removal m uid octets None = tt
+brings_removal m uid octets (Some h) = tt
+
+-- an append leaves what a store tells of files and GUIDs
+given_as : {D : Type 0} → (old new : StoreValue D) (guid : List ℕ) → new.map.store ≡ old.map.store → new.drawn ≡ old.drawn → new.files ≡ old.files → may_have_given new guid ≡ may_have_given old guid
+given_as old new guid id drawn files =
+    ap (λ (s : List ℕ). is_own s guid && (nat_le (number_at 8 guid) new.drawn.file && option_map_or (λ end. nat_lt (number_at 12 guid) end) (end_in (number_at 8 guid) new.files.files) true)) id
+    ∙ (ap (λ (d : Highest). is_own old.map.store guid && (nat_le (number_at 8 guid) d.file && option_map_or (λ end. nat_lt (number_at 12 guid) end) (end_in (number_at 8 guid) new.files.files) true)) drawn
+    ∙ ap (λ (f : FilesValue). is_own old.map.store guid && (nat_le (number_at 8 guid) old.drawn.file && option_map_or (λ end. nat_lt (number_at 12 guid) end) (end_in (number_at 8 guid) f.files) true)) files)
+
+pub store_tells : {D : Type 0} → (old new : StoreValue D) (before after : Option History) (began now : Faults) → new.map.store ≡ old.map.store → new.drawn ≡ old.drawn → new.files ≡ old.files → TellsSame (seen_of old before began) (seen_of new after now)
+store_tells old new before after began now id drawn files = record {
+  pins = λ file. refl;
+  doomed = λ file. refl;
+  used = λ file. refl;
+  gave = λ guid. given_as old new guid id drawn files;
+  files = λ file. ap (λ (f : FilesValue). is_some (end_in file f.files)) files;
+  instances = λ instance. refl;
+}
+
+pub took_tells : {D : Type 0} → (entry : MapEntry) (old new : StoreValue D) (before after : Option History) (began now : Faults) → MapTook entry old new before after began now → TellsSame (seen_of old before began) (seen_of new after now)
+took_tells entry old new before after began now t = store_tells old new before after began now (ap (λ (m : MapMeaning). m.store) t.taken) t.appends.drawn t.appends.files
+
+pub box_tells : {D : Type 0} → (number : ℕ) (e : BoxEntry) (old new : StoreValue D) (before after : Option History) (began now : Faults) → BoxAppends number e old new before after began now → TellsSame (seen_of old before began) (seen_of new after now)
+box_tells number e old new before after began now a = store_tells old new before after began now (ap (λ (m : MapMeaning). m.store) a.map) a.drawn a.files
+
+-- ---- what is due
+
+pub removal_due : {D : Type 0} → (old new : StoreValue D) (m : BoxMeaning) (uid : Uid) (row : LogRow) (other : ℕ) → row_at m uid.0 ≡ Some row → due_at other new ≡ due_by_box m (entry.R uid) (λ u. due_at u old) other → due_at other new ≡ due_at other old + one_due row.map_uid other
+removal_due old new m uid row other listed due = due ∙ ap (λ (o : Option LogRow). option_map_or (λ r. more_due 1 r.map_uid (λ u. due_at u old)) o (λ u. due_at u old) other) listed
+
+-- ---- a store whose append failed
+
+pub box_fell_stays : {D : Type 0} → (number : ℕ) (e : BoxEntry) (old new : StoreValue D) (before after : Option History) (began now : Faults) → BoxFell number e old new before after began now → StaysSo (seen_of old before began) (seen_of new after now)
+box_fell_stays number e old new before after began now f = record {
+  map = f.appends.map;
+  drawn = f.appends.drawn;
+  due = λ uid. due_kept old new uid f.appends.map f.dues;
+  tells = box_tells number e old new before after began now f.appends;
+  grows = f.appends.grows;
+  reads = let same = f.appends.reads in omega (arith, same);
+  changes = f.appends.changes;
+}
+
+pub map_fell_stays : {D : Type 0} → (old new : StoreValue D) (before after : Option History) (began now : Faults) → MapFell old new before after began now → StaysSo (seen_of old before began) (seen_of new after now)
+map_fell_stays old new before after began now f = record {
+  map = f.map;
+  drawn = f.appends.drawn;
+  due = λ uid. due_kept old new uid f.map f.dues;
+  tells = store_tells old new before after began now (ap (λ (m : MapMeaning). m.store) f.map) f.appends.drawn f.appends.files;
+  grows = f.appends.grows;
+  reads = let same = f.appends.reads in omega (arith, same);
+  changes = f.appends.changes;
+}
+
+-- ---- the lists without the message
+
+-- what is known of a row that is to be removed, in lists that are shown
+pub record RemovalKnown {D : Type 0} (store : StoreValue D) (name : List ℕ) (uid : Uid) (number : ℕ) (row : LogRow) (lists : Lists) (run : Run) : Type 0 where
+  pub shown : ShownRow name uid.0 number lists row
+  pub recorded : RecordOfRow store.map row
+  pub allowed : first_refusal run lists (HasMailbox name ∷ HasUid name uid.0 ∷ []) ≡ None
+  pub is_record : IsRecord run lists name uid.0 recorded.entry
+  pub by : lists_by number [] (entry.R uid) lists ≡ expunge name uid.0 lists
+  pub shows : ShowLists store.map.boxes (meanings_by number (entry.R uid) store.map.boxes (indexes_of store.boxes)) (expunge name uid.0 lists)
+
+removal_gives : (lists : Lists) (name : List ℕ) (uid : Uid) (number : ℕ) (row : LogRow) → AreWellFormed lists → ShownRow name uid.0 number lists row → lists_by number [] (entry.R uid) lists ≡ expunge name uid.0 lists
+removal_gives lists name uid number row well s = subst (λ (k : ℕ). lists_by k [] (entry.R uid) lists ≡ expunge name uid.0 lists) s.number_is (removed_by lists name s.mailbox [] uid well s.named)
+
+pub removal_known : {D : Type 0} → (history : Option History) (faults : Faults) (store : StoreValue D) (name : List ℕ) (uid : Uid) (number : ℕ) (row : LogRow) (lists : Lists) (run : Run) → IsStore history store → IsRowOf name uid.0 store number row → AreWellFormed lists → ShowLists store.map.boxes (indexes_of store.boxes) lists
+    → HasComeTo run (seen_of store history faults) → RemovalKnown store name uid number row lists run
+removal_known history faults store name uid number row lists run s at well h come =
+    let shown = shown_row store name uid.0 number row lists at h in
+    let r = record_of_row history store name uid.0 number row s at in
+    let by = removal_gives lists name uid number row well shown in
+    record {
+      shown = shown;
+      recorded = r;
+      allowed = rw (shown.named, shown.in_box) refl;
+      is_record = (shown.message, shown.there, ap (λ (m : MapMeaning). record_of m shown.message.guid) come.come.map_is ∙ r.by_guid shown.message.guid (shown_guid name uid.0 number lists row shown));
+      by = by;
+      shows = subst (λ (ls : Lists). ShowLists store.map.boxes (meanings_by number (entry.R uid) store.map.boxes (indexes_of store.boxes)) ls) by (shown_entry number [] (entry.R uid) store.map.boxes (indexes_of store.boxes) lists refl h);
+    }
+
+-- the entry gives the lists without the message, of a disk that is settled for them
+pub removal_settled : {D : Type 0} → (history : Option History) (store : StoreValue D) (name : List ℕ) (uid : Uid) (number : ℕ) (row : LogRow) (lists : Lists) → LogsShowLists → IsStore history store → store.stopped ≡ false → IsRowOf name uid.0 store number row → IsSettledFor lists history
+    → lists_by number [] (entry.R uid) lists ≡ expunge name uid.0 lists
+removal_settled history store name uid number row lists show s runs at settled =
+    removal_gives lists name uid number row (well_settled lists history settled) (shown_row store name uid.0 number row lists at (shown_settled lists history store show s runs settled))

@@ -1,0 +1,78 @@
+use Rattle.std.proofs.Common.{ap, subst, arith, refl, Err, ℕ, []}
+use Rattle.std.proofs.lemmas.List.Elements.{All-nil, All-cons}
+use Rattle.box_index.specs.Row.{row_of}
+use Rattle.mdbox_base.specs.declared.entries.BoxEntry.TheVariants as box_entry
+use Rattle.model_store.specs.Opening.{HasItsRecord}
+use Rattle.task_steps.proofs.OneEventLemmas.{not_true, ok_is_none}
+use Rattle.mail_ops.specs.Appends.{BoxTook, BoxFell}
+use Rattle.mail_ops.proofs.CopyCallLemmas.{row_sound, held_row}
+use Rattle.mail_ops.proofs.MessageLemmas.{record_of_row}
+use Rattle.mail_ops.proofs.copying.add.Goals as goal
+
+pub append_box-requires-clause-fits : goal.append_box-requires-clause-fits
+append_box-requires-clause-fits g c =
+    let at = c.in_ok-row.ensures.found in
+    (at.m, at.to.numbered, (omega (arith, at.next_is), at.some, (let f = c.bits.ensures.flags in omega (arith, f)), (row_sound _ c.args.store.now c.args.name.now c.args.uid.0 at.source (row_of c.in_ok-row.field-0.row) c.facts.ensures.store at.from).size, at.few))
+
+pub append_box-requires-clause-record : goal.append_box-requires-clause-record
+append_box-requires-clause-record g c =
+    let at = c.in_ok-row.ensures.found in
+    let k = record_of_row _ c.args.store.now c.args.name.now c.args.uid.0 at.source (row_of c.in_ok-row.field-0.row) c.facts.ensures.store at.from in
+    All-cons (HasItsRecord c.args.store.now.map) _ [] (k.entry, k.found, k.guid_is) (All-nil (HasItsRecord c.args.store.now.map))
+
+pub returns-in-Ok-clause-added : goal.returns-in-Ok-clause-added
+returns-in-Ok-clause-added g c =
+    let at = c.in_ok-row.ensures.found in
+    let row = row_of c.in_ok-row.field-0.row in
+    let o = c.in-Ok.ensures in
+    record {
+      row = row;
+      number = c.in_ok-row.field-0.target.0;
+      at = at;
+      holds = held_row c.args.store.now c.args.name.now c.args.uid.0 at.source c.args.held.0 row c.requires.keeps at.from;
+      took = subst (λ (f : ℕ). BoxTook c.in_ok-row.field-0.target.0 (box_entry.A c.in_ok-row.field-0.next f row.time row.size (record { 0 = row.map_uid }) (record { 0 = row.guid })) c.args.store.now c.append_box.new.self (g.D.Disk.history c.args.store.now.disk) (g.D.Disk.history c.append_box.new.self.disk) (g.D.Disk.faults c.args.store.now.disk) (g.D.Disk.faults c.append_box.new.self.disk)) c.bits.ensures.same (record {
+        appends = record {
+          moments = o.any_moment;
+          map = ap (λ v. v.map) o.same;
+          drawn = ap (λ v. v.drawn) o.same;
+          files = ap (λ v. v.files) o.same;
+          grows = o.grows;
+          reads = o.fault.reads;
+          changes = o.fault.changes;
+        };
+        runs = not_true _ (λ e. ok_is_none _ (o.stopped.1 e));
+        settled = o.settled;
+        taken = o.taken;
+        due = o.due;
+        stored = o.stored;
+        unfailed = o.unfailed;
+      });
+    }
+
+pub returns-in-Err-Stopped-clause-refused : goal.returns-in-Err-Stopped-clause-refused
+returns-in-Err-Stopped-clause-refused g c =
+    let at = c.in_ok-row.ensures.found in
+    let row = row_of c.in_ok-row.field-0.row in
+    let o = c.in-Err-Stopped.ensures in
+    record {
+      row = row;
+      number = c.in_ok-row.field-0.target.0;
+      given = c.in_ok-row.field-0.next;
+      at = at;
+      holds = held_row c.args.store.now c.args.name.now c.args.uid.0 at.source c.args.held.0 row c.requires.keeps at.from;
+      fell = subst (λ (f : ℕ). BoxFell c.in_ok-row.field-0.target.0 (box_entry.A c.in_ok-row.field-0.next f row.time row.size (record { 0 = row.map_uid }) (record { 0 = row.guid })) c.args.store.now c.append_box.new.self (g.D.Disk.history c.args.store.now.disk) (g.D.Disk.history c.append_box.new.self.disk) (g.D.Disk.faults c.args.store.now.disk) (g.D.Disk.faults c.append_box.new.self.disk)) c.bits.ensures.same (record {
+        appends = record {
+          moments = o.any_moment;
+          map = ap (λ v. v.map) o.same;
+          drawn = ap (λ v. v.drawn) o.same;
+          files = ap (λ v. v.files) o.same;
+          grows = o.grows;
+          reads = o.fault.reads;
+          changes = o.fault.changes;
+        };
+        stopped = o.stopped.0 (ap Err c.in-Err-Stopped.field-0-is);
+        indexes = (o.untaken refl).0;
+        dues = (o.untaken refl).1;
+        rose = o.fault.rose (ap Err c.in-Err-Stopped.field-0-is);
+      });
+    }

@@ -1,0 +1,42 @@
+use Rattle.std.proofs.Common.{ap, arith}
+use Rattle.box_index.specs.Row.{row_of}
+use Rattle.store_core.specs.Value.{indexes_of}
+use Rattle.task_steps.proofs.OneEventLemmas.{not_true, ok_is_none}
+use Rattle.mail_ops.proofs.CopyCallLemmas.{raise_fits, keeps_row}
+use Rattle.mail_ops.proofs.copying.raise.Goals as goal
+
+pub append_map-requires-clause-fits : goal.append_map-requires-clause-fits
+append_map-requires-clause-fits g c = raise_fits _ c.args.store.now c.args.name.now c.args.uid.0 c.in_ok-at.ensures.found.source (row_of c.in_ok-at.at.row) c.facts.ensures.store c.in_ok-at.ensures.found.from (omega (arith, c.count_of.ensures, c.if-count_of-ge-MOST_COPIES.false))
+
+pub returns-in-Ok-clause-raised : goal.returns-in-Ok-clause-raised
+returns-in-Ok-clause-raised g c =
+    let o = c.in-Ok.ensures in
+    let at = c.in_ok-at.ensures.found in
+    let holds = ap (λ u. u.0) c.in_ok-held.ensures in
+    record {
+      row = row_of c.in_ok-at.at.row;
+      number = c.in_ok-at.at.target.0;
+      next = c.in_ok-at.at.next.0;
+      at = at;
+      holds = holds;
+      few = omega (arith, c.count_of.ensures, c.if-count_of-ge-MOST_COPIES.false);
+      keeps = keeps_row _ c.args.store.now c.args.name.now c.args.uid.0 at.source c.in_ok-held.held.0 (row_of c.in_ok-at.at.row) c.facts.ensures.store at.from holds;
+      took = record {
+        appends = record {
+          moments = λ lists s. o.any_moment lists tt s;
+          indexes = ap (λ v. indexes_of v.boxes) o.same;
+          mailboxes = o.mailboxes;
+          drawn = o.drawn;
+          files = ap (λ v. v.files) o.same;
+          grows = o.grows;
+          reads = o.fault.reads;
+          changes = o.fault.changes;
+        };
+        runs = not_true _ (λ e. ok_is_none _ (o.stopped.1 e));
+        settled = λ lists s. o.settled lists tt s;
+        taken = rw c.in_ok-held.ensures o.taken;
+        due = rw c.in_ok-held.ensures o.due;
+        spared = o.spared;
+        unfailed = o.unfailed;
+      };
+    }

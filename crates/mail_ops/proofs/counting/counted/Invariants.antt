@@ -1,0 +1,6 @@
+use Rattle.std.proofs.Common.{◌≡◌, ◌≤◌, ◌*◌, take}
+use Rattle.std.specs.Prelude.{sum_by}
+use Rattle.mail_ops.proofs.counting.counted.Given as goal
+
+abbrev pub invariant-loop-place : goal.invariant-loop-place
+invariant-loop-place l = (l.count ≡ sum_by (λ row. row.count) (take l.place l.map.meaning.records)) × (l.count ≤ 65535 * l.place)

@@ -1,0 +1,35 @@
+use Rattle.std.proofs.Common.{◌∙◌, ap, sym, subst, arith}
+use Rattle.mdbox_base.specs.declared.entries.MapEntry.{MapEntry}
+use Rattle.model_logs.specs.Entries.{MapInRange}
+use Rattle.store_core.specs.MapAppend.{IsReadyToStore, drawn_by}
+use Rattle.store_core.specs.Value.{indexes_of}
+use Rattle.task_steps.proofs.OneEventLemmas.{not_true, ok_is_none}
+use Rattle.mail_ops.specs.Appends.{MapTook, lowering_of}
+use Rattle.mail_ops.proofs.lowering.Lowering.append.Goals as goal
+
+pub append_map-requires-clause-range : goal.append_map-requires-clause-range
+append_map-requires-clause-range g c = subst MapInRange (sym c.self.invariant.0) (omega arith, (c.self.invariant.1, tt))
+
+pub returns-in-Ok : goal.returns-in-Ok
+returns-in-Ok g c =
+    let is = c.self.invariant.0 ∙ ap lowering_of c.self.view_is in
+    let synced = subst (λ (e : MapEntry). IsReadyToStore e (g.D.Disk.history c.args.store.now.disk)) (sym c.self.invariant.0) tt in
+    let o = c.in-Ok.ensures in
+    subst (λ (e : MapEntry). MapTook e c.args.store.now c.append_map.new.self (g.D.Disk.history c.args.store.now.disk) (g.D.Disk.history c.append_map.new.self.disk) (g.D.Disk.faults c.args.store.now.disk) (g.D.Disk.faults c.append_map.new.self.disk)) is (record {
+      appends = record {
+        moments = λ lists s. o.any_moment lists synced s;
+        indexes = ap (λ v. indexes_of v.boxes) o.same;
+        mailboxes = o.mailboxes;
+        drawn = o.drawn ∙ ap (λ (e : MapEntry). drawn_by e c.args.store.now.drawn) c.self.invariant.0;
+        files = ap (λ v. v.files) o.same;
+        grows = o.grows;
+        reads = o.fault.reads;
+        changes = o.fault.changes;
+      };
+      runs = not_true _ (λ e. ok_is_none _ (o.stopped.1 e));
+      settled = λ lists s. o.settled lists synced s;
+      taken = o.taken;
+      due = o.due;
+      spared = o.spared;
+      unfailed = o.unfailed;
+    })

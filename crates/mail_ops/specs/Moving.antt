@@ -1,0 +1,151 @@
+-- Requests that move a message: where they stand, and what their events do.
+use Rattle.std.specs.Prelude.{◌≡◌, ◌≢◌, ◌⊎◌, ◌<◌, ℕ, Bool, true, false, List, Option, Some}
+use Rattle.disk_model.specs.Disk.{History, Faults}
+use Rattle.mdbox_base.specs.declared.ids.MapUid.{MapUid}
+use Rattle.mdbox_base.specs.declared.ids.Uid.{Uid}
+use Rattle.mdbox_base.specs.declared.progress.Did.{Did}
+use Rattle.mdbox_base.specs.declared.progress.Did.TheVariants as did
+use Rattle.mdbox_base.specs.declared.progress.Progress.{Progress}
+use Rattle.mdbox_base.specs.declared.progress.Progress.TheVariants as progress
+use Rattle.mdbox_base.specs.declared.replies.Refusal.{Refusal}
+use Rattle.mdbox_base.specs.declared.replies.Refusal.TheVariants as refusal
+use Rattle.mdbox_base.specs.declared.replies.Reply.{Reply}
+use Rattle.mdbox_base.specs.declared.replies.Reply.TheVariants as reply
+use Rattle.mdbox_base.specs.declared.script.Half.TheVariants as half
+use Rattle.model_lists.specs.Lists.{Lists}
+use Rattle.model_meaning.specs.BoxMeaning.{LogRow}
+use Rattle.model_meaning.specs.MapMeaning.{count_of}
+use Rattle.list_machine.specs.Run.{Run}
+use Rattle.list_machine.specs.Machine.{expunge}
+use Rattle.store_core.specs.Dues.{Amounts}
+use Rattle.store_core.specs.Value.{StoreValue}
+use Rattle.task_steps.specs.ExpungeStages.{one_due}
+use Rattle.task_steps.specs.Step.{HasNotBegun}
+use Rattle.mail_ops.specs.Appends.{MapTook, MapFell, TakesIntoMap, lowering_of}
+use Rattle.mail_ops.specs.Copy.{copied_lists}
+use Rattle.mail_ops.specs.CopyStages.{IsHolding, IsGivingBack}
+use Rattle.mail_ops.specs.Copying.{CopyPlace, copy_refusal, KeepsUid, RaisesRow, IsRaiseRefusal, MayBeRaised, raising_of, IsNotRaised, AddsRow, FellAdding}
+use Rattle.mail_ops.specs.Event.{refusal_told, told_as}
+use Rattle.mail_ops.specs.Expunging.{RemovesRow, FellRemoving}
+use Rattle.mail_ops.specs.Messages.{IsRowOf, missing_message}
+use Rattle.mail_ops.specs.MoveStages.{HasCopied, HasMoved}
+use Rattle.mail_ops.specs.Owing.{AreDueIn}
+use Rattle.mail_ops.specs.declared.event.NotDone.{NotDone}
+use Rattle.mail_ops.specs.declared.moving.MoveStage.{MoveStage}
+use Rattle.mail_ops.specs.declared.moving.MoveStage.TheVariants as stage
+
+-- The mailbox and the UID of the message, the mailbox that it is moved to, which event is next, and what the last one did.
+pub record MoveValue : Type 0 where
+  pub name : List ℕ
+  pub uid : Uid
+  pub target : List ℕ
+  pub stage : MoveStage
+  pub did : Did
+
+-- where the task of this message stands
+abbrev pub IsAtMove : Uid → MoveStage → Run → ℕ → List Reply → Type 0
+IsAtMove uid stage.First run place said = HasNotBegun run place said
+IsAtMove uid (stage.Adding held) run place said = IsHolding held run place said
+IsAtMove uid (stage.GivingBack held why) run place said = IsGivingBack held why run place said
+IsAtMove uid (stage.Removing held copied) run place said = HasCopied held copied run place said
+IsAtMove uid (stage.Owing owed copied) run place said = HasMoved uid owed copied run place said
+
+-- What it holds and owes: the record of the message, behind its first event until it is added, and behind the removal.
+abbrev pub move_dues : MoveStage → ℕ → ℕ
+move_dues stage.First uid = 0
+move_dues (stage.Adding held) uid = one_due held.0 uid
+move_dues (stage.GivingBack held why) uid = one_due held.0 uid
+move_dues (stage.Removing held copied) uid = 0
+move_dues (stage.Owing owed copied) uid = one_due owed.0 uid
+
+abbrev pub move_amounts : MoveStage → Amounts
+move_amounts now = record { due = move_dues now }
+
+-- how many events are still to come at the most
+abbrev pub move_left : MoveStage → ℕ
+move_left stage.First = 4
+move_left (stage.Adding held) = 3
+move_left (stage.GivingBack held why) = 1
+move_left (stage.Removing held copied) = 2
+move_left (stage.Owing owed copied) = 1
+
+-- What an event asks of the store: what the task holds or owes is due there; until the message is removed, the source lists no
+-- other with the UID; and a count isn't given back for a store that is stopped.
+abbrev pub KeepsMoved : {D : Type 0} → List ℕ → Uid → MoveStage → StoreValue D → Type 0
+KeepsMoved name uid (stage.Adding held) store = KeepsUid name uid.0 held.0 store
+KeepsMoved name uid (stage.GivingBack held why) store = why ≢ refusal.Stopped
+KeepsMoved name uid (stage.Removing held copied) store = KeepsUid name uid.0 held.0 store
+KeepsMoved name uid now store = Unit {0}
+
+pub record IsReadyToMove {D : Type 0} (name : List ℕ) (uid : Uid) (now : MoveStage) (store : StoreValue D) : Type 0 where
+  pub due : AreDueIn store (move_amounts now)
+  pub source : KeepsMoved name uid now store
+
+-- The lists that an event may make of these: the second adds the message to the target, the third removes it from its source.
+abbrev pub move_lists : List ℕ → Uid → List ℕ → MoveStage → Lists → Lists
+move_lists name uid target (stage.Adding held) lists = copied_lists name uid target lists
+move_lists name uid target (stage.Removing held copied) lists = expunge name uid.0 lists
+move_lists name uid target now lists = lists
+
+-- and those that it makes which leads from one stage to another: it did so
+abbrev pub lists_moved : List ℕ → Uid → List ℕ → MoveStage → MoveStage → Lists → Lists
+lists_moved name uid target (stage.Adding held) (stage.Removing still copied) lists = copied_lists name uid target lists
+lists_moved name uid target (stage.Removing held copied) (stage.Owing owed same) lists = expunge name uid.0 lists
+lists_moved name uid target now next lists = lists
+
+-- What is answered. The first event is refused, or out of memory, and has done nothing then; else the record is held, whose
+-- count had room and was raised. The second adds the message, with the target's next UID; or it is refused, or out of memory, and the count
+-- is given back, and then it is replied by what it was refused. The third removes the message, and its record is owed; or it
+-- answers that it has gone. The last has lowered the count, and answers that it is moved.
+abbrev pub MoveAnswers : {D : Type 0} → List ℕ → Uid → List ℕ → MoveStage → StoreValue D → StoreValue D → MoveStage → Progress → Type 0
+MoveAnswers name uid target stage.First old new (stage.Adding held) progress.More =
+    (row : LogRow) × (number : ℕ) × (next : ℕ) × CopyPlace name uid.0 target old row number next × (held.0 ≡ row.map_uid) × (count_of old.map row.guid < 65535) × TakesIntoMap (raising_of held) old new
+MoveAnswers name uid target stage.First old new stage.First (progress.Done (reply.Refused why)) =
+    ((why ≡ refusal.Stopped) × (new.stopped ≡ true) × MayBeRaised name uid.0 target old) ⊎ ((new ≡ old) × (IsRaiseRefusal name uid.0 target old why ⊎ ((why ≡ refusal.NoMemory) × MayBeRaised name uid.0 target old)))
+MoveAnswers name uid target (stage.Adding held) old new (stage.Removing still copied) progress.More =
+    (still ≡ held) × ((row : LogRow) × (number : ℕ) × CopyPlace name uid.0 target old row number copied.0 × (held.0 ≡ row.map_uid))
+MoveAnswers name uid target (stage.Adding held) old new (stage.Adding still) (progress.Done (reply.Refused why)) = (still ≡ held) × (why ≡ refusal.Stopped) × (new.stopped ≡ true)
+MoveAnswers name uid target (stage.Adding held) old new (stage.GivingBack still why) progress.More = (still ≡ held) × (new ≡ old) × ((copy_refusal name uid.0 target old ≡ Some why) ⊎ (why ≡ refusal.NoMemory))
+MoveAnswers name uid target (stage.GivingBack held why) old new stage.First (progress.Done (reply.Refused given)) = (given ≡ why) × TakesIntoMap (lowering_of held) old new
+MoveAnswers name uid target (stage.GivingBack held why) old new (stage.GivingBack still cause) (progress.Done (reply.Refused given)) = (still ≡ held) × (cause ≡ why) × (given ≡ refusal.Stopped) × (new.stopped ≡ true)
+MoveAnswers name uid target (stage.Removing held copied) old new (stage.Owing owed same) progress.More =
+    (owed ≡ held) × (same ≡ copied) × ((number : ℕ) × (row : LogRow) × IsRowOf name uid.0 old number row × (held.0 ≡ row.map_uid))
+MoveAnswers name uid target (stage.Removing held copied) old new stage.First (progress.Done (reply.Moved given gone)) =
+    (given ≡ copied) × (gone ≡ true) × (new ≡ old) × ((why : Refusal) × (missing_message name uid.0 old ≡ Some why))
+MoveAnswers name uid target (stage.Removing held copied) old new (stage.Removing still same) (progress.Done (reply.Refused why)) = (still ≡ held) × (same ≡ copied) × (why ≡ refusal.Stopped) × (new.stopped ≡ true)
+MoveAnswers name uid target (stage.Owing owed copied) old new stage.First (progress.Done (reply.Moved given gone)) = (given ≡ copied) × (gone ≡ false) × TakesIntoMap (lowering_of owed) old new
+MoveAnswers name uid target (stage.Owing owed copied) old new (stage.Owing still same) (progress.Done (reply.Refused why)) = (still ≡ owed) × (same ≡ copied) × (why ≡ refusal.Stopped) × (new.stopped ≡ true)
+MoveAnswers name uid target now old new next answer = ⊥
+
+-- ---- within the crate
+
+-- What the removal says, whether the message was there: it was removed, and its record is owed, or it had gone.
+abbrev pub RemovesIfListed : {D : Type 0} → List ℕ → Uid → MapUid → Bool → StoreValue D → StoreValue D → Option History → Option History → Faults → Faults → Type 0
+RemovesIfListed name uid owed true old new before after began now = RemovesRow name uid owed old new before after began now
+RemovesIfListed name uid owed false old new before after began now = (new ≡ old) × ((why : Refusal) × (missing_message name uid.0 old ≡ Some why))
+
+-- What an event does, of a store that isn't stopped: from one stage to another, with this answer.
+abbrev pub MovesOn : {D : Type 0} → List ℕ → Uid → List ℕ → MoveStage → MoveStage → Progress → Did → StoreValue D → StoreValue D → Option History → Option History → Faults → Faults → Type 0
+MovesOn name uid target stage.First (stage.Adding held) progress.More how old new before after began now = (how ≡ did.Quiet) × RaisesRow name uid target held old new before after began now
+MovesOn name uid target stage.First stage.First (progress.Done (reply.Refused why)) how old new before after began now =
+    (e : NotDone) × (why ≡ refusal_told e) × (how ≡ told_as half.CopyHalf did.Failed e) × IsNotRaised name uid target e old new before after began now
+MovesOn name uid target (stage.Adding held) (stage.Removing still copied) progress.More how old new before after began now = (still ≡ held) × (how ≡ did.Step half.CopyHalf) × AddsRow name uid target held copied old new before after began now
+MovesOn name uid target (stage.Adding held) (stage.Adding still) (progress.Done (reply.Refused why)) how old new before after began now =
+    (still ≡ held) × (why ≡ refusal.Stopped) × (how ≡ did.Broken half.CopyHalf) × FellAdding name uid target held old new before after began now
+MovesOn name uid target (stage.Adding held) (stage.GivingBack still why) progress.More how old new before after began now =
+    (still ≡ held) × (new ≡ old) × (((how ≡ did.Step half.CopyHalf) × (copy_refusal name uid.0 target old ≡ Some why)) ⊎ ((how ≡ did.Quiet) × (why ≡ refusal.NoMemory)))
+MovesOn name uid target (stage.GivingBack held why) stage.First (progress.Done (reply.Refused given)) how old new before after began now =
+    (given ≡ why) × (how ≡ did.Quiet) × MapTook (lowering_of held) old new before after began now
+MovesOn name uid target (stage.GivingBack held why) (stage.GivingBack still cause) (progress.Done (reply.Refused given)) how old new before after began now =
+    (still ≡ held) × (cause ≡ why) × (given ≡ refusal.Stopped) × (how ≡ did.Failed) × MapFell old new before after began now
+MovesOn name uid target (stage.Removing held copied) (stage.Owing owed same) progress.More how old new before after began now =
+    (owed ≡ held) × (same ≡ copied) × (how ≡ did.Step half.ExpungeHalf) × RemovesRow name uid held old new before after began now
+MovesOn name uid target (stage.Removing held copied) stage.First (progress.Done (reply.Moved given gone)) how old new before after began now =
+    (given ≡ copied) × (gone ≡ true) × (how ≡ did.Step half.ExpungeHalf) × (new ≡ old) × ((why : Refusal) × (missing_message name uid.0 old ≡ Some why))
+MovesOn name uid target (stage.Removing held copied) (stage.Removing still same) (progress.Done (reply.Refused why)) how old new before after began now =
+    (still ≡ held) × (same ≡ copied) × (why ≡ refusal.Stopped) × (how ≡ did.Broken half.ExpungeHalf) × FellRemoving name uid old new before after began now
+MovesOn name uid target (stage.Owing owed copied) stage.First (progress.Done (reply.Moved given gone)) how old new before after began now =
+    (given ≡ copied) × (gone ≡ false) × (how ≡ did.Quiet) × MapTook (lowering_of owed) old new before after began now
+MovesOn name uid target (stage.Owing owed copied) (stage.Owing still same) (progress.Done (reply.Refused why)) how old new before after began now =
+    (still ≡ owed) × (same ≡ copied) × (why ≡ refusal.Stopped) × (how ≡ did.Failed) × MapFell old new before after began now
+MovesOn name uid target now next answer how old new before after began faulted = ⊥

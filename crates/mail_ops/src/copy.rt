@@ -1,0 +1,179 @@
+// Copying a message to a mailbox.
+ghost use Rattle.std.specs.Prelude.{◌≡◌, ◌≢◌, ◌↔◌, ◌<◌, ◌≤◌, IfOk, IfErr, true, false};
+ghost use Rattle.disk_model.specs.FaultCounts.{NoFault, ChangeFaultCounted};
+ghost use Rattle.journal.specs.Events.{Around};
+ghost use Rattle.mdbox_base.specs.declared.progress.Did.TheVariants as did;
+ghost use Rattle.mdbox_base.specs.declared.progress.Progress.TheVariants as progress;
+ghost use Rattle.mdbox_base.specs.declared.replies.Refusal.TheVariants as refusal;
+ghost use Rattle.mdbox_base.specs.declared.replies.Reply.TheVariants as reply;
+ghost use Rattle.mdbox_base.specs.declared.requests.Request.TheVariants as request;
+ghost use Rattle.model_lists.specs.Lists.{Lists};
+ghost use Rattle.model_store.specs.Settled.{IsSettledFor, Leaves};
+ghost use Rattle.store_core.specs.Dues.{Moves, Spares, amounts_in};
+ghost use Rattle.task_steps.specs.Step.{Steps, ended_by};
+ghost use Rattle.mail_ops.specs.Copy.{IsAtCopy, copy_amounts, copy_left, copy_lists, lists_copied, IsReadyToCopy, CopyAnswers, CopiesOn};
+ghost use Rattle.mail_ops.specs.Task.{seen_of};
+ghost use Rattle.mail_ops.specs.declared.copy.CopyStage.TheVariants as stage;
+
+use crate::copying::{add, raise};
+use crate::event::NotDone;
+use crate::lowering::Lowering;
+use disk_model::Disk;
+use mdbox_base::{Did, Half, Name, Progress, Refusal, Reply, Uid};
+use std::marker::Model;
+use std::mem;
+use store_core::{Stopped, Store, listings_are_shown};
+
+/// Which event of a copy is the next.
+#[derive(Drop)]
+pub enum CopyStage {
+    /// The first, which raises the count of the message's record. So it is too behind the last.
+    First,
+    /// The second, which adds the message to the target.
+    Adding(Lowering),
+    /// The third, which gives the count back, and this reply.
+    GivingBack { held: Lowering, why: Refusal },
+}
+
+/// The task of a copy: its events, one at a step.
+#[derive(Drop)]
+pub struct CopyTask {
+    name: Name,
+    uid: Uid,
+    target: Name,
+    stage: CopyStage,
+    did: Did,
+}
+
+impl Model for CopyTask {
+    ghost use Rattle.mail_ops.specs.Copy.{CopyValue};
+
+    ghost Value = { CopyValue };
+
+    ghost view = { λ task. record { name = task.name; uid = task.uid; target = task.target; stage = task.stage; did = task.did } };
+}
+
+impl CopyTask {
+    /// The copy of the message with this UID to the target.
+    pub fn of(name: Name, uid: Uid, target: Name) -> CopyTask
+        ensures { result ≡ record { name = name; uid = uid; target = target; stage = stage.First; did = did.Quiet } }
+    {
+        CopyTask {
+            name,
+            uid,
+            target,
+            stage: CopyStage::First,
+            did: Did::Quiet,
+        }
+    }
+
+    /// What the last event did.
+    pub fn did(&self) -> Did
+        ensures { result ≡ self.now.did }
+    {
+        self.did
+    }
+
+    /// Does the next event: the first raises the count of the message's record, and takes the memory to give it back; the second
+    /// adds the message to the target; if that is refused, the third gives the count back. A task that has given its reply
+    /// begins anew; one that was stopped stays where it was.
+    pub fn step<D: Disk>(&mut self, store: &mut Store<D>) -> Progress
+        // What it holds is due in the store, and the source lists no other message with the UID, also afterwards.
+        requires ready { IsReadyToCopy self.old.name self.old.uid self.old.stage store.old }
+        ensures ready { IsReadyToCopy self.old.name self.old.uid self.new.stage store.new }
+
+        // Of every run that has come to the store: which event it was, what it answered, and which crash images it leaves.
+        ensures does { (around after : Around) → Steps (IsAtCopy self.old.stage) (IsAtCopy self.new.stage) around after (request.Copy self.old.name self.old.uid self.old.target) (seen_of store.old (D.history store.old.disk) (D.faults store.old.disk)) (seen_of store.new (D.history store.new.disk) (D.faults store.new.disk)) self.new.did (ended_by result) }
+
+        // Of a settled disk each crash image at every moment is safe for its lists, or for those that the event makes of them,
+        // whatever fails. Unless the store is stopped then, the disk is settled for those that the answer tells.
+        ensures moments { (lists : Lists) → IsSettledFor lists (D.history store.old.disk) → Leaves lists (copy_lists self.old.name self.old.uid self.old.target self.old.stage lists) (D.history store.old.disk) (D.history store.new.disk) }
+        ensures settled { store.new.stopped ≡ false → (lists : Lists) → IsSettledFor lists (D.history store.old.disk) → IsSettledFor (lists_copied self.old.name self.old.uid self.old.target result lists) (D.history store.new.disk) }
+
+        // A store that is stopped replies so, and no other does. One that was running is stopped only by a change of the disk
+        // that failed; no other call of the disk fails.
+        ensures stopped { (result ≡ progress.Done (reply.Refused refusal.Stopped)) ↔ (store.new.stopped ≡ true) }
+        ensures still { store.old.stopped ≡ true → (store.new ≡ store.old) × (self.new.stage ≡ self.old.stage) }
+        ensures fault { store.old.stopped ≡ false → ChangeFaultCounted (result ≡ progress.Done (reply.Refused refusal.Stopped)) (D.faults store.old.disk) (D.faults store.new.disk) }
+        ensures unfailed { result ≢ progress.Done (reply.Refused refusal.Stopped) → NoFault (D.faults store.old.disk) (D.faults store.new.disk) }
+
+        // What is due of each record grows or shrinks in the store by as much as in this task; and records of which something is due
+        // for other tasks are kept, unless a failed change stops the store.
+        ensures moves { Moves (copy_amounts self.old.stage) (copy_amounts self.new.stage) (amounts_in store.old) (amounts_in store.new) }
+        ensures spares { store.new.stopped ≡ store.old.stopped → Spares (copy_amounts self.old.stage) store.old store.new (D.history store.old.disk) (D.history store.new.disk) }
+        ensures replies { store.old.stopped ≡ false → CopyAnswers self.old.name self.old.uid self.old.target self.old.stage store.old store.new self.new.stage result }
+
+        // So it ends.
+        ensures left { result ≡ progress.More → copy_left self.new.stage < copy_left self.old.stage }
+        ensures request { (self.new.name ≡ self.old.name) × (self.new.uid ≡ self.old.uid) × (self.new.target ≡ self.old.target) }
+    {
+        listings_are_shown();
+        store.facts();
+        if store.stopped() {
+            self.did = Did::Quiet;
+            return Progress::Done(Reply::Refused(Refusal::Stopped));
+        }
+        let now = mem::replace(&mut self.stage, CopyStage::First);
+        let (next, answer, did) = next_event(store, &self.name, self.uid, &self.target, now);
+        self.stage = next;
+        self.did = did;
+        answer
+    }
+}
+
+/// Does the next event, of a store that isn't stopped: which event is the next then, how the request goes on, and what was done.
+fn next_event<D: Disk>(
+    store: &mut Store<D>,
+    name: &Name,
+    uid: Uid,
+    target: &Name,
+    now: CopyStage,
+) -> (CopyStage, Progress, Did)
+    requires running { store.old.stopped ≡ false }
+    requires ready { IsReadyToCopy name.now uid now store.old }
+    ensures { CopiesOn name.now uid target.now now result.0 result.1 result.2 store.old store.new (D.history store.old.disk) (D.history store.new.disk) (D.faults store.old.disk) (D.faults store.new.disk) }
+{
+    match now {
+        CopyStage::First => match raise(store, name, uid, target) {
+            Ok(held) => (CopyStage::Adding(held), Progress::More, Did::Quiet),
+            Err(error) => (
+                CopyStage::First,
+                Progress::Done(Reply::Refused(error.refusal())),
+                error.did(Half::Whole, Did::Failed),
+            ),
+        },
+        CopyStage::Adding(held) => match add(store, name, uid, target, held.uid()) {
+            Ok(uid) => (
+                CopyStage::First,
+                Progress::Done(Reply::Copied { uid }),
+                Did::Step(Half::Whole),
+            ),
+            Err(NotDone::Stopped) => (
+                CopyStage::Adding(held),
+                Progress::Done(Reply::Refused(Refusal::Stopped)),
+                Did::Broken(Half::Whole),
+            ),
+            Err(NotDone::NoMemory) => give_back(held, Refusal::NoMemory, Did::Quiet),
+            Err(NotDone::Refused(why)) => give_back(held, why, Did::Step(Half::Whole)),
+        },
+        CopyStage::GivingBack { held, why } => match held.append(store) {
+            Ok(()) => (
+                CopyStage::First,
+                Progress::Done(Reply::Refused(why)),
+                Did::Quiet,
+            ),
+            Err(Stopped) => (
+                CopyStage::GivingBack { held, why },
+                Progress::Done(Reply::Refused(Refusal::Stopped)),
+                Did::Failed,
+            ),
+        },
+    }
+}
+
+/// The request goes on by giving the count back.
+fn give_back(held: Lowering, why: Refusal, did: Did) -> (CopyStage, Progress, Did)
+    ensures { result ≡ (stage.GivingBack held why, progress.More, did) }
+{
+    (CopyStage::GivingBack { held, why }, Progress::More, did)
+}

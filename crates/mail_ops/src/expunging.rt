@@ -1,0 +1,168 @@
+// Removing a message.
+ghost use Rattle.std.specs.Prelude.{◌≡◌, ◌≢◌, ◌↔◌, ◌<◌, ◌≤◌, IfOk, IfErr, true, false};
+ghost use Rattle.disk_model.specs.FaultCounts.{NoFault, ChangeFaultCounted};
+ghost use Rattle.journal.specs.Events.{Around};
+ghost use Rattle.mdbox_base.specs.declared.progress.Did.TheVariants as did;
+ghost use Rattle.mdbox_base.specs.declared.progress.Progress.TheVariants as progress;
+ghost use Rattle.mdbox_base.specs.declared.replies.Refusal.TheVariants as refusal;
+ghost use Rattle.mdbox_base.specs.declared.replies.Reply.TheVariants as reply;
+ghost use Rattle.mdbox_base.specs.declared.requests.Request.TheVariants as request;
+ghost use Rattle.model_lists.specs.Lists.{Lists};
+ghost use Rattle.model_store.specs.Settled.{IsSettledFor, Leaves};
+ghost use Rattle.store_core.specs.Dues.{Moves, Spares, amounts_in};
+ghost use Rattle.task_steps.specs.Step.{Steps, ended_by};
+ghost use Rattle.mail_ops.specs.Expunging.{IsAtExpunge, expunge_amounts, expunge_left, expunge_lists, expunged_lists, ExpungeAnswers, ExpungesOn, RemovesRow, IsNotRemoved};
+ghost use Rattle.mail_ops.specs.Owing.{AreDueIn};
+ghost use Rattle.mail_ops.specs.Task.{seen_of};
+ghost use Rattle.mail_ops.specs.declared.expunging.ExpungeStage.TheVariants as stage;
+
+use crate::event::NotDone;
+use crate::lowering::Lowering;
+use crate::message::find_message;
+use disk_model::Disk;
+use mdbox_base::{BoxEntry, Did, Half, Name, Progress, Refusal, Reply, Uid};
+use std::marker::Model;
+use std::mem;
+use store_core::{StepError, Stopped, Store, listings_are_shown};
+
+/// Which event of an expunge is the next.
+#[derive(Drop)]
+pub enum ExpungeStage {
+    /// The first, which removes the message. So it is too behind the last.
+    First,
+    /// The last, which lowers the count of its record.
+    Owing(Lowering),
+}
+
+/// The task of an expunge: its events, one at a step.
+#[derive(Drop)]
+pub struct ExpungeTask {
+    name: Name,
+    uid: Uid,
+    stage: ExpungeStage,
+    did: Did,
+}
+
+impl Model for ExpungeTask {
+    ghost use Rattle.mail_ops.specs.Expunging.{ExpungeValue};
+
+    ghost Value = { ExpungeValue };
+
+    ghost view = { λ task. record { name = task.name; uid = task.uid; stage = task.stage; did = task.did } };
+}
+
+impl ExpungeTask {
+    /// The expunge of the message with this UID.
+    pub fn of(name: Name, uid: Uid) -> ExpungeTask
+        ensures { result ≡ record { name = name; uid = uid; stage = stage.First; did = did.Quiet } }
+    {
+        ExpungeTask {
+            name,
+            uid,
+            stage: ExpungeStage::First,
+            did: Did::Quiet,
+        }
+    }
+
+    /// What the last event did.
+    pub fn did(&self) -> Did
+        ensures { result ≡ self.now.did }
+    {
+        self.did
+    }
+
+    /// Does the next event: the first removes the message, and takes the memory for the last, which lowers the count of its
+    /// record. A task that has given its reply begins anew; one that was stopped stays where it was.
+    pub fn step<D: Disk>(&mut self, store: &mut Store<D>) -> Progress
+        // What it owes is due in the store, also afterwards.
+        requires due { AreDueIn store.old (expunge_amounts self.old.stage) }
+        ensures due { AreDueIn store.new (expunge_amounts self.new.stage) }
+
+        // Of every run that has come to the store: which event it was, what it answered, and which crash images it leaves.
+        ensures does { (around after : Around) → Steps (IsAtExpunge self.old.stage) (IsAtExpunge self.new.stage) around after (request.Expunge self.old.name self.old.uid) (seen_of store.old (D.history store.old.disk) (D.faults store.old.disk)) (seen_of store.new (D.history store.new.disk) (D.faults store.new.disk)) self.new.did (ended_by result) }
+
+        // Of a settled disk each crash image at every moment is safe for its lists, or for those that the event makes of them,
+        // whatever fails. Unless the store is stopped then, the disk is settled for those that the answer tells.
+        ensures moments { (lists : Lists) → IsSettledFor lists (D.history store.old.disk) → Leaves lists (expunge_lists self.old.name self.old.uid self.old.stage lists) (D.history store.old.disk) (D.history store.new.disk) }
+        ensures settled { store.new.stopped ≡ false → (lists : Lists) → IsSettledFor lists (D.history store.old.disk) → IsSettledFor (expunged_lists self.old.name self.old.uid result lists) (D.history store.new.disk) }
+
+        // A store that is stopped replies so, and no other does. One that was running is stopped only by a change of the disk
+        // that failed; no other call of the disk fails.
+        ensures stopped { (result ≡ progress.Done (reply.Refused refusal.Stopped)) ↔ (store.new.stopped ≡ true) }
+        ensures still { store.old.stopped ≡ true → (store.new ≡ store.old) × (self.new.stage ≡ self.old.stage) }
+        ensures fault { store.old.stopped ≡ false → ChangeFaultCounted (result ≡ progress.Done (reply.Refused refusal.Stopped)) (D.faults store.old.disk) (D.faults store.new.disk) }
+        ensures unfailed { result ≢ progress.Done (reply.Refused refusal.Stopped) → NoFault (D.faults store.old.disk) (D.faults store.new.disk) }
+
+        // What is due of each record grows or shrinks in the store by as much as in this task; and records of which something is due
+        // for other tasks are kept, unless a failed change stops the store.
+        ensures moves { Moves (expunge_amounts self.old.stage) (expunge_amounts self.new.stage) (amounts_in store.old) (amounts_in store.new) }
+        ensures spares { store.new.stopped ≡ store.old.stopped → Spares (expunge_amounts self.old.stage) store.old store.new (D.history store.old.disk) (D.history store.new.disk) }
+        ensures replies { store.old.stopped ≡ false → ExpungeAnswers self.old.name self.old.uid self.old.stage store.old store.new self.new.stage result }
+
+        // So it ends.
+        ensures left { result ≡ progress.More → expunge_left self.new.stage < expunge_left self.old.stage }
+        ensures request { (self.new.name ≡ self.old.name) × (self.new.uid ≡ self.old.uid) }
+    {
+        listings_are_shown();
+        store.facts();
+        if store.stopped() {
+            self.did = Did::Quiet;
+            return Progress::Done(Reply::Refused(Refusal::Stopped));
+        }
+        let now = mem::replace(&mut self.stage, ExpungeStage::First);
+        let (next, answer, did) = next_event(store, &self.name, self.uid, now);
+        self.stage = next;
+        self.did = did;
+        answer
+    }
+}
+
+/// Does the next event, of a store that isn't stopped: which event is the next then, how the request goes on, and what was done.
+fn next_event<D: Disk>(
+    store: &mut Store<D>,
+    name: &Name,
+    uid: Uid,
+    now: ExpungeStage,
+) -> (ExpungeStage, Progress, Did)
+    requires running { store.old.stopped ≡ false }
+    requires due { AreDueIn store.old (expunge_amounts now) }
+    ensures { ExpungesOn name.now uid now result.0 result.1 result.2 store.old store.new (D.history store.old.disk) (D.history store.new.disk) (D.faults store.old.disk) (D.faults store.new.disk) }
+{
+    match now {
+        ExpungeStage::First => match remove(store, name, uid) {
+            Ok(owed) => (
+                ExpungeStage::Owing(owed),
+                Progress::More,
+                Did::Step(Half::Whole),
+            ),
+            Err(error) => (
+                ExpungeStage::First,
+                Progress::Done(Reply::Refused(error.refusal())),
+                error.did(Half::Whole, Did::Broken(Half::Whole)),
+            ),
+        },
+        ExpungeStage::Owing(owed) => match owed.append(store) {
+            Ok(()) => (ExpungeStage::First, Progress::Done(Reply::Done), Did::Quiet),
+            Err(Stopped) => (
+                ExpungeStage::Owing(owed),
+                Progress::Done(Reply::Refused(Refusal::Stopped)),
+                Did::Failed,
+            ),
+        },
+    }
+}
+
+/// Removes a message from its mailbox, and hands out the entry that lowers the count of its record.
+fn remove<D: Disk>(store: &mut Store<D>, name: &Name, uid: Uid) -> Result<Lowering, NotDone>
+    requires { store.old.stopped ≡ false }
+    ensures removed { IfOk result (λ owed. RemovesRow name.now uid owed store.old store.new (D.history store.old.disk) (D.history store.new.disk) (D.faults store.old.disk) (D.faults store.new.disk)) }
+    ensures refused { IfErr result (λ error. IsNotRemoved name.now uid error store.old store.new (D.history store.old.disk) (D.history store.new.disk) (D.faults store.old.disk) (D.faults store.new.disk)) }
+{
+    let (number, row) = find_message(store, name, uid)?;
+    let owed = Lowering::of(store.alloc(), row.map_uid)?;
+    match store.append_box(number, &BoxEntry::R { uid }) {
+        Ok(()) => Ok(owed),
+        Err(StepError::Stopped) => Err(NotDone::Stopped),
+        Err(StepError::NoMemory) => unreachable!(),
+    }
+}

@@ -1,0 +1,31 @@
+// Where a message is listed.
+ghost use Rattle.std.specs.Prelude.{◌≡◌, Some, None, IfOk, IfErr};
+ghost use Rattle.box_index.specs.Row.{row_of};
+ghost use Rattle.mail_ops.specs.Messages.{IsRowOf, missing_message};
+
+use box_index::BoxRow;
+use disk_model::Disk;
+use mdbox_base::{BoxNo, Name, Refusal, Uid};
+use store_core::Store;
+
+/// The number of the mailbox with this name, and its row with this UID.
+pub(crate) fn find_message<D: Disk>(
+    store: &Store<D>,
+    name: &Name,
+    uid: Uid,
+) -> Result<(BoxNo, BoxRow), Refusal>
+    ensures found { IfOk result (λ at. IsRowOf name.now uid.0 store.now at.0.0 (row_of at.1)) }
+    ensures there { IfOk result (λ at. missing_message name.now uid.0 store.now ≡ None) }
+    ensures refused { IfErr result (λ why. missing_message name.now uid.0 store.now ≡ Some why) }
+{
+    let Some(index) = store.list_of(name) else {
+        return Err(Refusal::NoMailbox);
+    };
+    let Some(row) = index.find(uid) else {
+        return Err(Refusal::NoMessage);
+    };
+    let Some(number) = store.number_of(name) else {
+        unreachable!()
+    };
+    Ok((number, row))
+}

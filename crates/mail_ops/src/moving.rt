@@ -1,0 +1,253 @@
+// Moving a message to a mailbox.
+ghost use Rattle.std.specs.Prelude.{◌≡◌, ◌≢◌, ◌↔◌, ◌<◌, ◌≤◌, IfOk, IfErr, true, false};
+ghost use Rattle.disk_model.specs.FaultCounts.{NoFault, ChangeFaultCounted};
+ghost use Rattle.journal.specs.Events.{Around};
+ghost use Rattle.mdbox_base.specs.declared.progress.Did.TheVariants as did;
+ghost use Rattle.mdbox_base.specs.declared.progress.Progress.TheVariants as progress;
+ghost use Rattle.mdbox_base.specs.declared.replies.Refusal.TheVariants as refusal;
+ghost use Rattle.mdbox_base.specs.declared.replies.Reply.TheVariants as reply;
+ghost use Rattle.mdbox_base.specs.declared.requests.Request.TheVariants as request;
+ghost use Rattle.model_lists.specs.Lists.{Lists};
+ghost use Rattle.model_store.specs.Settled.{IsSettledFor, Leaves};
+ghost use Rattle.store_core.specs.Dues.{Moves, Spares, amounts_in};
+ghost use Rattle.task_steps.specs.Step.{Steps, ended_by};
+ghost use Rattle.mail_ops.specs.Moving.{IsAtMove, move_amounts, move_left, move_lists, lists_moved, IsReadyToMove, MoveAnswers, MovesOn};
+ghost use Rattle.mail_ops.specs.Task.{seen_of};
+ghost use Rattle.mail_ops.specs.declared.moving.MoveStage.TheVariants as stage;
+
+use crate::copying::{add, raise};
+use crate::event::NotDone;
+use crate::leaving::remove_listed;
+use crate::lowering::Lowering;
+use disk_model::Disk;
+use mdbox_base::{Did, Half, Name, Progress, Refusal, Reply, Uid};
+use std::marker::Model;
+use std::mem;
+use store_core::{Stopped, Store, listings_are_shown};
+
+/// Which event of a move is the next.
+#[derive(Drop)]
+pub enum MoveStage {
+    /// The first, which raises the count of the message's record. So it is too behind the last.
+    First,
+    /// The second, which adds the message to the target.
+    Adding(Lowering),
+    /// Behind a second that was refused: it gives the count back, and this reply.
+    GivingBack { held: Lowering, why: Refusal },
+    /// The third, which removes the message from its source. The copy has this UID.
+    Removing { held: Lowering, copied: Uid },
+    /// The last, behind a third that removed it, which lowers the count of its record.
+    Owing { owed: Lowering, copied: Uid },
+}
+
+/// The task of a move: its events, one at a step.
+#[derive(Drop)]
+pub struct MoveTask {
+    name: Name,
+    uid: Uid,
+    target: Name,
+    stage: MoveStage,
+    did: Did,
+}
+
+impl Model for MoveTask {
+    ghost use Rattle.mail_ops.specs.Moving.{MoveValue};
+
+    ghost Value = { MoveValue };
+
+    ghost view = { λ task. record { name = task.name; uid = task.uid; target = task.target; stage = task.stage; did = task.did } };
+}
+
+impl MoveTask {
+    /// The move of the message with this UID to the target.
+    pub fn of(name: Name, uid: Uid, target: Name) -> MoveTask
+        ensures { result ≡ record { name = name; uid = uid; target = target; stage = stage.First; did = did.Quiet } }
+    {
+        MoveTask {
+            name,
+            uid,
+            target,
+            stage: MoveStage::First,
+            did: Did::Quiet,
+        }
+    }
+
+    /// What the last event did.
+    pub fn did(&self) -> Did
+        ensures { result ≡ self.now.did }
+    {
+        self.did
+    }
+
+    /// Does the next event: the first raises the count of the message's record, and takes the memory to lower it; the second adds
+    /// the message to the target, and if that is refused, a third gives the count back; else the third removes the message
+    /// from its source, and the last lowers the count, or the third answers that it has gone. A task that has given its reply
+    /// begins anew; one that was stopped stays where it was.
+    pub fn step<D: Disk>(&mut self, store: &mut Store<D>) -> Progress
+        // What it holds or owes is due in the store, and the source lists no other message with the UID, also afterwards.
+        requires ready { IsReadyToMove self.old.name self.old.uid self.old.stage store.old }
+        ensures ready { IsReadyToMove self.old.name self.old.uid self.new.stage store.new }
+
+        // Of every run that has come to the store: which event it was, what it answered, and which crash images it leaves.
+        ensures does { (around after : Around) → Steps (IsAtMove self.old.uid self.old.stage) (IsAtMove self.old.uid self.new.stage) around after (request.Move self.old.name self.old.uid self.old.target) (seen_of store.old (D.history store.old.disk) (D.faults store.old.disk)) (seen_of store.new (D.history store.new.disk) (D.faults store.new.disk)) self.new.did (ended_by result) }
+
+        // Of a settled disk each crash image at every moment is safe for its lists, or for those that the event makes of them,
+        // whatever fails. Unless the store is stopped then, the disk is settled for those that the stages tell.
+        ensures moments { (lists : Lists) → IsSettledFor lists (D.history store.old.disk) → Leaves lists (move_lists self.old.name self.old.uid self.old.target self.old.stage lists) (D.history store.old.disk) (D.history store.new.disk) }
+        ensures settled { store.new.stopped ≡ false → (lists : Lists) → IsSettledFor lists (D.history store.old.disk) → IsSettledFor (lists_moved self.old.name self.old.uid self.old.target self.old.stage self.new.stage lists) (D.history store.new.disk) }
+
+        // A store that is stopped replies so, and no other does. One that was running is stopped only by a change of the disk
+        // that failed; no other call of the disk fails.
+        ensures stopped { (result ≡ progress.Done (reply.Refused refusal.Stopped)) ↔ (store.new.stopped ≡ true) }
+        ensures still { store.old.stopped ≡ true → (store.new ≡ store.old) × (self.new.stage ≡ self.old.stage) }
+        ensures fault { store.old.stopped ≡ false → ChangeFaultCounted (result ≡ progress.Done (reply.Refused refusal.Stopped)) (D.faults store.old.disk) (D.faults store.new.disk) }
+        ensures unfailed { result ≢ progress.Done (reply.Refused refusal.Stopped) → NoFault (D.faults store.old.disk) (D.faults store.new.disk) }
+
+        // What is due of each record grows or shrinks in the store by as much as in this task; and records of which something is due
+        // for other tasks are kept, unless a failed change stops the store.
+        ensures moves { Moves (move_amounts self.old.stage) (move_amounts self.new.stage) (amounts_in store.old) (amounts_in store.new) }
+        ensures spares { store.new.stopped ≡ store.old.stopped → Spares (move_amounts self.old.stage) store.old store.new (D.history store.old.disk) (D.history store.new.disk) }
+        ensures replies { store.old.stopped ≡ false → MoveAnswers self.old.name self.old.uid self.old.target self.old.stage store.old store.new self.new.stage result }
+
+        // So it ends.
+        ensures left { result ≡ progress.More → move_left self.new.stage < move_left self.old.stage }
+        ensures request { (self.new.name ≡ self.old.name) × (self.new.uid ≡ self.old.uid) × (self.new.target ≡ self.old.target) }
+    {
+        listings_are_shown();
+        store.facts();
+        if store.stopped() {
+            self.did = Did::Quiet;
+            return Progress::Done(Reply::Refused(Refusal::Stopped));
+        }
+        let now = mem::replace(&mut self.stage, MoveStage::First);
+        let (next, answer, did) = next_event(store, &self.name, self.uid, &self.target, now);
+        self.stage = next;
+        self.did = did;
+        answer
+    }
+}
+
+/// Does the next event, of a store that isn't stopped: which event is the next then, how the request goes on, and what was done.
+fn next_event<D: Disk>(
+    store: &mut Store<D>,
+    name: &Name,
+    uid: Uid,
+    target: &Name,
+    now: MoveStage,
+) -> (MoveStage, Progress, Did)
+    requires running { store.old.stopped ≡ false }
+    requires ready { IsReadyToMove name.now uid now store.old }
+    ensures { MovesOn name.now uid target.now now result.0 result.1 result.2 store.old store.new (D.history store.old.disk) (D.history store.new.disk) (D.faults store.old.disk) (D.faults store.new.disk) }
+{
+    match now {
+        MoveStage::First => match raise(store, name, uid, target) {
+            Ok(held) => (MoveStage::Adding(held), Progress::More, Did::Quiet),
+            Err(error) => (
+                MoveStage::First,
+                Progress::Done(Reply::Refused(error.refusal())),
+                error.did(Half::CopyHalf, Did::Failed),
+            ),
+        },
+        MoveStage::Adding(held) => add_event(store, name, uid, target, held),
+        MoveStage::GivingBack { held, why } => match held.append(store) {
+            Ok(()) => (
+                MoveStage::First,
+                Progress::Done(Reply::Refused(why)),
+                Did::Quiet,
+            ),
+            Err(Stopped) => (
+                MoveStage::GivingBack { held, why },
+                Progress::Done(Reply::Refused(Refusal::Stopped)),
+                Did::Failed,
+            ),
+        },
+        MoveStage::Removing { held, copied } => remove_event(
+            store, name, uid, target, held, copied,
+        ),
+        MoveStage::Owing { owed, copied } => match owed.append(store) {
+            Ok(()) => (
+                MoveStage::First,
+                Progress::Done(Reply::Moved {
+                    uid: copied,
+                    gone: false,
+                }),
+                Did::Quiet,
+            ),
+            Err(Stopped) => (
+                MoveStage::Owing { owed, copied },
+                Progress::Done(Reply::Refused(Refusal::Stopped)),
+                Did::Failed,
+            ),
+        },
+    }
+}
+
+/// The second event: adds the message to the target.
+fn add_event<D: Disk>(
+    store: &mut Store<D>,
+    name: &Name,
+    uid: Uid,
+    target: &Name,
+    held: Lowering,
+) -> (MoveStage, Progress, Did)
+    requires running { store.old.stopped ≡ false }
+    requires ready { IsReadyToMove name.now uid (stage.Adding held) store.old }
+    ensures { MovesOn name.now uid target.now (stage.Adding held) result.0 result.1 result.2 store.old store.new (D.history store.old.disk) (D.history store.new.disk) (D.faults store.old.disk) (D.faults store.new.disk) }
+{
+    match add(store, name, uid, target, held.uid()) {
+        Ok(copied) => (
+            MoveStage::Removing { held, copied },
+            Progress::More,
+            Did::Step(Half::CopyHalf),
+        ),
+        Err(NotDone::Stopped) => (
+            MoveStage::Adding(held),
+            Progress::Done(Reply::Refused(Refusal::Stopped)),
+            Did::Broken(Half::CopyHalf),
+        ),
+        Err(NotDone::NoMemory) => give_back(held, Refusal::NoMemory, Did::Quiet),
+        Err(NotDone::Refused(why)) => give_back(held, why, Did::Step(Half::CopyHalf)),
+    }
+}
+
+/// The request goes on by giving the count back.
+fn give_back(held: Lowering, why: Refusal, did: Did) -> (MoveStage, Progress, Did)
+    ensures { result ≡ (stage.GivingBack held why, progress.More, did) }
+{
+    (MoveStage::GivingBack { held, why }, Progress::More, did)
+}
+
+/// The third event: removes the message from its source, if it is still there.
+fn remove_event<D: Disk>(
+    store: &mut Store<D>,
+    name: &Name,
+    uid: Uid,
+    target: &Name,
+    held: Lowering,
+    copied: Uid,
+) -> (MoveStage, Progress, Did)
+    requires running { store.old.stopped ≡ false }
+    requires ready { IsReadyToMove name.now uid (stage.Removing held copied) store.old }
+    ensures { MovesOn name.now uid target.now (stage.Removing held copied) result.0 result.1 result.2 store.old store.new (D.history store.old.disk) (D.history store.new.disk) (D.faults store.old.disk) (D.faults store.new.disk) }
+{
+    match remove_listed(store, name, uid, held.uid()) {
+        Ok(true) => (
+            MoveStage::Owing { owed: held, copied },
+            Progress::More,
+            Did::Step(Half::ExpungeHalf),
+        ),
+        Ok(false) => (
+            MoveStage::First,
+            Progress::Done(Reply::Moved {
+                uid: copied,
+                gone: true,
+            }),
+            Did::Step(Half::ExpungeHalf),
+        ),
+        Err(Stopped) => (
+            MoveStage::Removing { held, copied },
+            Progress::Done(Reply::Refused(Refusal::Stopped)),
+            Did::Broken(Half::ExpungeHalf),
+        ),
+    }
+}
