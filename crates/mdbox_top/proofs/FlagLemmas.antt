@@ -28,7 +28,8 @@ use Rattle.mail_ops.specs.Flagging.{flag_refusal}
 use Rattle.mail_ops.specs.Requests.{Replies, lists_by_reply}
 use Rattle.mdbox_top.specs.Served.{missing_cause}
 use Rattle.mdbox_top.specs.FlagRun.{IsFlagAnswer, HasFlagged, IsFlagReply, FlagMoments, FlagRests}
-use Rattle.mdbox_top.proofs.ServedLemmas.{Doing, nothing_found, beginning, comes}
+use Rattle.mdbox_top.proofs.ServedLemmas.{Doing, comes}
+use Rattle.mdbox_top.proofs.UnderWayLemmas.{nothing_found, beginning}
 use Rattle.mdbox_top.proofs.ShownLemmas.{opens_again}
 
 -- ---- what is replied
@@ -76,7 +77,7 @@ done_left run event lists left name uid flags (Some given) is step =
 flagged_shows : {D : Type 0} → (name : List ℕ) (uid : Uid) (flags : ℕ) (old mid new : Option History) (began now : Faults) (s t : StoreValue D) (how : Did) → Doing (request.Flag name uid flags) reply.Done old mid new began now s t how
     → (lists : Lists) → AreWellFormed lists → ShowLists s.map.boxes (indexes_of s.boxes) lists → ShowLists t.map.boxes (indexes_of t.boxes) (set_flags name uid.0 flags lists)
 flagged_shows name uid flags old mid new began now s t how w lists formed shows =
-    let d = w.did nothing_found nothing_found (beginning s.map w.store.entries) lists (comes mid began s w.store w.drawn w.free) (formed, shows) (refl, refl) in
+    let d = w.did nothing_found nothing_found (beginning s.map w.store.entries) [] lists (comes old mid began s w.store w.drawn w.free w.files) (formed, shows) (refl, refl) in
     subst (λ (ls : Lists). ShowLists t.map.boxes (indexes_of t.boxes) ls) (done_left (beginning s.map w.store.entries) d.makes.event lists d.left name uid flags d.makes.answer (d.ends.replied reply.Done refl) d.makes.made) d.shown.1
 
 has_flagged : {D : Type 0} → (name : List ℕ) (uid : Uid) (flags : ℕ) (given : Reply) (old mid new : Option History) (began now : Faults) (s t : StoreValue D) (how : Did) → Doing (request.Flag name uid flags) given old mid new began now s t how → t.stopped ≡ false → given ≡ reply.Done

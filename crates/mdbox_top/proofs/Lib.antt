@@ -1,9 +1,17 @@
 pub mod AloneLemmas
+pub mod CountsLemmas
+pub mod ChangeLemmas
+pub mod CopyLemmas
+pub mod ExpungeLemmas
+pub mod FetchLemmas
+pub mod FetchedLemmas
 pub mod FlagLemmas
 pub mod InitLemmas
 pub mod InputLemmas
 pub mod ListLemmas
+pub mod MoveLemmas
 pub mod RequestLemmas
 pub mod RunLemmas
 pub mod ServedLemmas
 pub mod ShownLemmas
+pub mod UnderWayLemmas

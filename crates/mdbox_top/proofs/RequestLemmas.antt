@@ -1,5 +1,5 @@
 -- How a request alone ends, whatever its reply tells.
-use Rattle.std.specs.Prelude.{◌≡◌, ◌⊎◌, ℕ, true, false, List, [], ◌∷◌, Option, Some, None}
+use Rattle.std.specs.Prelude.{◌≡◌, ◌⊎◌, ℕ, List, [], ◌∷◌, Option, Some, None}
 use Rattle.std.proofs.Common.{refl, sym, ◌∙◌, ap, subst, inl, inr, append-nil, arith}
 use Rattle.disk_model.specs.Disk.{History, Faults, IsIdle}
 use Rattle.disk_model.proofs.IdleLemmas.{idle-begins}
@@ -12,7 +12,6 @@ use Rattle.model_lists.specs.Lists.{Lists}
 use Rattle.model_store.specs.Settled.{files_of, IsSettledFor}
 use Rattle.model_store.proofs.OpeningLemmas.{no_store_or_opens, opens_or_damaged}
 use Rattle.model_store.proofs.OpeningSafeLemmas.{safe_opens}
-use Rattle.journal.specs.Journal.{is_read_fault}
 use Rattle.store_open.specs.Making.{IdleUnless}
 use Rattle.store_open.specs.Opened.{Opening, IsOpeningError}
 use Rattle.store_open.specs.declared.error.OpenError.{OpenError}
@@ -148,25 +147,29 @@ unasked Tells request h old f g = unopened Tells request h old old f g error.NoM
 
 -- ---- a fault of the disk
 
--- a reply that is no read fault ends as a fault of the disk if the store is stopped, and only then
-stopped_is : (given : Reply) → outcome.DiskFault ≡ reply_outcome given → is_read_fault (Some given) ≡ false → given ≡ reply.Refused refusal.Stopped
-stopped_is (reply.Refused refusal.Stopped) e f = refl
-stopped_is (reply.Refused refusal.ReadFault) e f = absurd (let k : true ≡ false = f in cc k)
-stopped_is (reply.Refused refusal.NoMemory) e f = absurd (let k : 6 ≡ 5 = ap status_of e in omega (arith, k))
-stopped_is (reply.Refused other) e f = absurd (let k : 6 ≡ 1 = ap status_of e in omega (arith, k))
-stopped_is other e f = absurd (let k : 6 ≡ 0 = ap status_of e in omega (arith, k))
+-- a reply that ends as a fault of the disk
+failed_is : (given : Reply) → outcome.DiskFault ≡ reply_outcome given → (given ≡ reply.Refused refusal.ReadFault) ⊎ (given ≡ reply.Refused refusal.Stopped)
+failed_is (reply.Refused refusal.ReadFault) e = inl refl
+failed_is (reply.Refused refusal.Stopped) e = inr refl
+failed_is (reply.Refused refusal.NoMemory) e = absurd (let k : 6 ≡ 5 = ap status_of e in omega (arith, k))
+failed_is (reply.Refused other) e = absurd (let k : 6 ≡ 1 = ap status_of e in omega (arith, k))
+failed_is other e = absurd (let k : 6 ≡ 0 = ap status_of e in omega (arith, k))
 
-pub faulted_is : (text : List ℕ) (given : Reply) (h k : Option (List ℕ)) (o : Outcome) → ShowsReply text given h k o → is_read_fault (Some given) ≡ false → o ≡ outcome.DiskFault → given ≡ reply.Refused refusal.Stopped
-faulted_is text given h k o s unfaulted e = stopped_is given (subst (λ (x : Outcome). ShowsReply text given h k x) e s).0 unfaulted
+pub faulted_is : (text : List ℕ) (given : Reply) (h k : Option (List ℕ)) (o : Outcome) → ShowsReply text given h k o → o ≡ outcome.DiskFault → (given ≡ reply.Refused refusal.ReadFault) ⊎ (given ≡ reply.Refused refusal.Stopped)
+faulted_is text given h k o s e = failed_is given (subst (λ (x : Outcome). ShowsReply text given h k x) e s).0
 
--- a store that is stopped ends so, or with a printing that failed
-pub stopped_status : (text : List ℕ) (given : Reply) (h k : Option (List ℕ)) (o : Outcome) → ShowsReply text given h k o → given ≡ reply.Refused refusal.Stopped → IsOneOf (5 ∷ 6 ∷ 8 ∷ []) (status_of o)
-stopped_status text given h k outcome.WriteFault s stopped = inr (inr (inl refl))
-stopped_status text given h k outcome.NoMemory s stopped = inl refl
-stopped_status text given h k outcome.Done s stopped = inr (inl (ap status_of (s.0 ∙ ap reply_outcome stopped)))
-stopped_status text given h k outcome.No s stopped = inr (inl (ap status_of (s.0 ∙ ap reply_outcome stopped)))
-stopped_status text given h k outcome.DiskFault s stopped = inr (inl refl)
-stopped_status text given h k outcome.ReadFault s stopped = inr (inl (ap status_of (s.0 ∙ ap reply_outcome stopped)))
-stopped_status text given h k outcome.Usage s stopped = inr (inl (ap status_of (s.0 ∙ ap reply_outcome stopped)))
-stopped_status text given h k (outcome.StoreRefused why) s stopped = inr (inl (ap status_of (s.0 ∙ ap reply_outcome stopped)))
-stopped_status text given h k (outcome.InputRefused why) s stopped = inr (inl (ap status_of (s.0 ∙ ap reply_outcome stopped)))
+pub failed_outcome : (given : Reply) → (given ≡ reply.Refused refusal.ReadFault) ⊎ (given ≡ reply.Refused refusal.Stopped) → reply_outcome given ≡ outcome.DiskFault
+failed_outcome given (inl e) = ap reply_outcome e
+failed_outcome given (inr e) = ap reply_outcome e
+
+-- it ends so, or with a printing that failed
+pub failed_status : (text : List ℕ) (given : Reply) (h k : Option (List ℕ)) (o : Outcome) → ShowsReply text given h k o → reply_outcome given ≡ outcome.DiskFault → IsOneOf (5 ∷ 6 ∷ 8 ∷ []) (status_of o)
+failed_status text given h k outcome.WriteFault s failed = inr (inr (inl refl))
+failed_status text given h k outcome.NoMemory s failed = inl refl
+failed_status text given h k outcome.Done s failed = inr (inl (ap status_of (s.0 ∙ failed)))
+failed_status text given h k outcome.No s failed = inr (inl (ap status_of (s.0 ∙ failed)))
+failed_status text given h k outcome.DiskFault s failed = inr (inl refl)
+failed_status text given h k outcome.ReadFault s failed = inr (inl (ap status_of (s.0 ∙ failed)))
+failed_status text given h k outcome.Usage s failed = inr (inl (ap status_of (s.0 ∙ failed)))
+failed_status text given h k (outcome.StoreRefused why) s failed = inr (inl (ap status_of (s.0 ∙ failed)))
+failed_status text given h k (outcome.InputRefused why) s failed = inr (inl (ap status_of (s.0 ∙ failed)))

@@ -1,13 +1,11 @@
--- A request alone, as a script of one: from the disk as it was before the opening to where its only event left it.
-use Rattle.std.specs.Prelude.{◌≡◌, ◌≢◌, ◌⊎◌, ◌≤◌, ◌<◌, ◌==◌, ◌↔◌, ℕ, zero, suc, false, true, List, [], ◌∷◌, ◌++◌, All, map, count_by, slice_get, Option, Some, None}
-use Rattle.std.proofs.Common.{refl, sym, ◌∙◌, ap, subst, append-nil, arith}
-use Rattle.std.proofs.lemmas.List.Elements.{All-nil, All-weaker}
-use Rattle.disk_model.specs.Disk.{History, Faults, EachImage, IfTold}
+-- A request alone of one event: from the disk as it was before the opening to where its event left it.
+use Rattle.std.specs.Prelude.{◌≡◌, ◌==◌, ◌||◌, ◌↔◌, ℕ, Bool, false, true, List, [], map, find, is_some, option_and_then, if◌then◌else◌, Option, Some, None}
+use Rattle.std.specs.List.{list_any}
+use Rattle.std.specs.Option.{option_map}
+use Rattle.std.proofs.Common.{refl, sym, ◌∙◌, ap, subst, append-nil}
+use Rattle.std.proofs.lemmas.List.Elements.{All-nil}
+use Rattle.disk_model.specs.Disk.{History, Faults, EachImage}
 use Rattle.disk_model.specs.FaultCounts.{NoFault, ChangeFaultCounted}
-use Rattle.disk_model.proofs.MomentLemmas.{each_image-map}
-use Rattle.mdbox_base.specs.declared.entries.BoxEntry.{BoxEntry}
-use Rattle.mdbox_base.specs.declared.entries.Highest.{Highest}
-use Rattle.mdbox_base.specs.declared.entries.MapEntry.{MapEntry}
 use Rattle.mdbox_base.specs.declared.progress.Did.{Did}
 use Rattle.mdbox_base.specs.declared.progress.Did.TheVariants as did
 use Rattle.mdbox_base.specs.declared.progress.Progress.{Progress}
@@ -17,159 +15,99 @@ use Rattle.mdbox_base.specs.declared.replies.Reply.{Reply}
 use Rattle.mdbox_base.specs.declared.replies.Reply.TheVariants as reply
 use Rattle.mdbox_base.specs.declared.requests.Request.{Request}
 use Rattle.model_lists.specs.Lists.{Lists}
-use Rattle.model_meaning.specs.MapMeaning.{MapMeaning, map_meaning}
+use Rattle.model_meaning.specs.MapMeaning.{MapMeaning, map_meaning, is_sealed}
 use Rattle.model_meaning.specs.SameMeaning.{MeansSame}
-use Rattle.model_meaning.proofs.SameMeaningLemmas.{means_itself}
-use Rattle.model_octets.proofs.PairLemmas.{pairs_nil, pairs_push}
-use Rattle.model_store.specs.Opening.{Opens}
 use Rattle.model_store.specs.Safe.{Safe}
-use Rattle.model_store.specs.Settled.{files_of, IsSettledFor, Leaves}
-use Rattle.list_machine.specs.Run.{RunEvent, Run, before, and_then, map_of, reply_of}
-use Rattle.journal.specs.Found.{AgreesWithRun}
-use Rattle.journal.specs.GoesOn.{RepliesAlso}
-use Rattle.journal.specs.Events.{Around, is_faulted}
-use Rattle.journal.specs.Journal.{Requests, JournalStep, Broken, no_broken, left_by, steps_of, HasReply, is_read_fault}
-use Rattle.journal.specs.Makes.{HasCome, steps_made, AreReplies, AreTold, StaysStopped, WouldDo}
-use Rattle.journal.proofs.ReachedLemmas.{reached_last}
-use Rattle.task_steps.specs.Serves.{IsReached, Serves, IsTurn, Follows}
+use Rattle.model_store.specs.Settled.{IsSettledFor, Leaves}
+use Rattle.list_machine.specs.Run.{Run}
+use Rattle.journal.specs.Events.{Around}
+use Rattle.journal.specs.Journal.{is_read_fault}
 use Rattle.task_steps.specs.Step.{Seen, ShowsSeen, HasComeTo, HasNotBegun, DidEvent, Steps, ended_by}
-use Rattle.task_steps.proofs.FollowingLemmas.{follows_on, replies_on, told_on}
-use Rattle.task_steps.proofs.GoingLemmas.{serves_on}
-use Rattle.task_steps.proofs.OneEventLemmas.{not_true}
-use Rattle.task_steps.proofs.ReplyingLemmas.{reply_on, serves_start}
+use Rattle.storage_files.specs.Files.{FilesValue, end_in, file_found}
+use Rattle.storage_files.specs.declared.file.FileState.{FileState}
+use Rattle.storage_files.specs.declared.file.MailFile.{MailFile}
+use Rattle.store_core.specs.Knows.{knows_file, is_told_of}
 use Rattle.store_core.specs.Running.{IsStore}
+use Rattle.store_files.specs.Found.{end_found, IsFoundFiles}
+use Rattle.store_files.specs.Regions.{end_of, last_end}
 use Rattle.store_core.specs.Value.{none_due, StoreValue, indexes_of}
 use Rattle.store_open.specs.Opened.{IsOpenedAs, StoreCarries}
+use Rattle.store_sweep.proofs.KnownFileLemmas.{found_in}
 use Rattle.store_sweep.specs.Swept.{IsSwept}
 use Rattle.mail_ops.proofs.StageLemmas.{comes_at_first}
 use Rattle.mail_ops.specs.Requests.{Replies, AppendsNothing, lists_after, lists_by_reply}
 use Rattle.mail_ops.specs.Task.{TaskValue, IsAt, seen_of}
 use Rattle.mail_ops.specs.declared.task.TaskStage.TheVariants as stage
 use Rattle.mdbox_top.specs.ListRun.{StaysSettled}
-use Rattle.mdbox_top.specs.Served.{AreSafeFor, RunBegins, RunHasCome, ServesRequest}
+use Rattle.mdbox_top.specs.Served.{AreSafeFor, RunBegins, ServesRequest}
+use Rattle.mdbox_top.specs.UnderWay.{IsUnderWay}
 use Rattle.mdbox_top.proofs.ShownLemmas.{LogsShow, opened_shows}
+use Rattle.mdbox_top.proofs.UnderWayLemmas.{nothing_found, beginning, before_opening, run_begins, way_begins, way_shows, way_ends}
 
--- ---- one request
+-- ---- the opening
 
--- nothing is found in the files
-abbrev pub nothing_found : Around
-nothing_found = record { parts = 0; candidate = None; room = None; files = []; instance = None; damaged = [] }
+-- What is known of the opening of a store.
+pub record OpenedNow {D : Type 0} (old mid : Option History) (s : StoreValue D) : Type 0 where
+  pub opened : IsOpenedAs old s.map (indexes_of s.boxes)
+  pub store : IsStore mid s
+  pub drawn : s.drawn ≡ s.map.highest
+  pub free : s.dues ≡ none_due s.map.records
+  pub files : IsFoundFiles s.map old s.files
+  pub running : s.stopped ≡ false
+  pub safe : (lists : Lists) → IsSettledFor lists old → EachImage (λ _ image. Safe image lists) old mid
+  pub settled_again : StaysSettled old mid
+  pub carried : StoreCarries old mid
+  pub swept : (generation : ℕ) × IsSwept generation s.map old mid
 
--- the script of a request alone
-abbrev pub alone : Request → Requests
-alone request = (1, request) ∷ []
-
--- nothing stands after the first of one
-none_after : {X : Type 0} → (x : X) (j : ℕ) → 0 < j → slice_get (x ∷ []) j ≡ None
-none_after x zero l = absurd (omega (arith, l))
-none_after x (suc j) l = refl
-
-its_turn : (request : Request) → IsTurn (alone request) [] (None ∷ []) 1 0 request
-its_turn request = record {
-  asked = refl;
-  unanswered = refl;
-  first = All-nil _;
-  later = λ j q l e on. absurd (let k : None ≡ Some q = sym (none_after (1, request) j l) ∙ e in cc k);
-}
-
-unreplied : (i : ℕ) (given : Reply) → HasReply (None ∷ []) i given → ⊥
-unreplied zero given h = let k : Some None ≡ Some (Some given) = h in let z : None ≡ Some given = cc k in cc z
-unreplied (suc i) given h = let k : None ≡ Some (Some given) = h in cc k
-
-replied_also : (given : Reply) → RepliesAlso (None ∷ []) (Some given ∷ []) 0 given
-replied_also given = record { none_before = refl; here = refl; others = λ j other. elsewhere j other }
+-- the map tells of each file that was found
+found_end : (number : ℕ) (states : List FileState) → end_in number (map file_found states) ≡ end_found number states
+found_end number states = ap (option_and_then (λ (f : MailFile). f.end)) (found_in number states) ∙ same (find (λ (s : FileState). s.file.0 == number) states)
   where
-    elsewhere : (j : ℕ) → (0 == j) ≡ false → slice_get (Some given ∷ []) j ≡ slice_get (None ∷ []) j
-    elsewhere zero e = absurd (cc e)
-    elsewhere (suc j) e = refl
+    same : (o : Option FileState) → option_and_then (λ (f : MailFile). f.end) (option_map file_found o) ≡ option_map (λ (s : FileState). s.end) o
+    same None = refl
+    same (Some s) = refl
 
--- the run as it begins
-abbrev pub beginning : MapMeaning → List MapEntry → Run
-beginning m entries = record { store = m.store; start = entries; opened = m.highest; events = [] }
-
-no_replies : (request : Request) (m : MapMeaning) (entries : List MapEntry) → AreReplies (alone request) (beginning m entries) (None ∷ [])
-no_replies request m entries = (refl, λ i l. there i l)
+found_is_told : {D : Type 0} → (s : StoreValue D) (old : Option History) → IsFoundFiles s.map old s.files → (file : ℕ) → knows_file s file ≡ true → is_told_of s.map file ≡ true
+found_is_told s old f file there = by_seal (is_sealed s.map file) refl
   where
-    there : (i : ℕ) → i < 1 → slice_get (None ∷ []) i ≡ Some (reply_of i (beginning m entries))
-    there zero l = refl
-    there (suc i) l = absurd (omega (arith, l))
+    end_is : end_in file s.files.files ≡ end_found file f.states
+    end_is = ap (λ (v : FilesValue). end_in file v.files) f.is ∙ found_end file f.states
 
-some_one : (a b : Reply) → Some a ≡ Some b → a ≡ b
-some_one a b e = cc e
+    or_true : (b : Bool) → (b || true) ≡ true
+    or_true true = refl
+    or_true false = refl
 
-few_faults : (given : Reply) (n : ℕ) → is_read_fault (Some given) ≡ false → count_by is_read_fault (Some given ∷ []) ≤ n
-few_faults given n e = rw e (omega arith)
+    unsealed : (b : Bool) → (list_any (λ row. row.file == file) s.map.records) ≡ b → is_some (last_end s.map file) ≡ true → list_any (λ row. row.file == file) s.map.records ≡ true
+    unsealed true e some = e
+    unsealed false e some = absurd (let k : false ≡ true = sym (ap (λ (c : Bool). is_some (if c then Some (end_of s.map file) else None)) e) ∙ some in cc k)
 
--- ---- as its events go on
+    by_seal : (b : Bool) → is_sealed s.map file ≡ b → is_told_of s.map file ≡ true
+    by_seal true e = ap (λ (b : Bool). list_any (λ row. row.file == file) s.map.records || b) e ∙ or_true (list_any (λ row. row.file == file) s.map.records)
+    by_seal false e =
+        let some : is_some (last_end s.map file) ≡ true = ap is_some (sym ((f.found.ends file).unsealed e)) ∙ (ap is_some (sym end_is) ∙ there) in
+        ap (λ (b : Bool). b || is_sealed s.map file) (unsealed (list_any (λ row. row.file == file) s.map.records) refl some)
 
-abbrev StopsLater : RunEvent → RunEvent → Type 0
-StopsLater a b = a.refused ≡ Some refusal.Stopped → (b.refused ≡ Some refusal.Stopped) ⊎ (b.refused ≡ Some refusal.NoMemory)
+-- the run has come to it
+pub comes : {D : Type 0} → (old mid : Option History) (began : Faults) (s : StoreValue D) → (k : IsStore mid s) → s.drawn ≡ s.map.highest → s.dues ≡ none_due s.map.records → IsFoundFiles s.map old s.files → HasComeTo (beginning s.map k.entries) (seen_of s mid began)
+comes old mid began s k drawn free found = comes_at_first (beginning s.map k.entries) s mid began refl free (found_is_told s old found) (record { map_is = ap (map_meaning s.map.store) (append-nil k.entries) ∙ sym k.map_is; drawn_is = sym drawn; moments = All-nil _ })
 
--- A request alone, from these lists and from a store as it was seen then, that isn't answered yet.
-pub record GoesAlone (request : Request) (lists : Lists) (run : Run) (journal : List JournalStep) (broken : Broken) (began now : Seen) : Type 0 where
-  pub serves : Serves lists (alone request) run journal broken (None ∷ []) began now
-  pub turn : IsTurn (alone request) journal (None ∷ []) 1 0 request
-  pub given : AreReplies (alone request) run (None ∷ [])
-  pub follows : Follows lists (alone request) run journal
-  pub told : AreTold (alone request) run journal
-  pub would : WouldDo (alone request) lists run journal broken
-  pub stays_stopped : StaysStopped run.events
-  pub running : now.stopped ≡ false
+-- the run begins with the map log of the files
+pub opening_begins : {D : Type 0} → (old mid : Option History) (s : StoreValue D) → (o : OpenedNow old mid s) → RunBegins (beginning s.map o.store.entries) old
+opening_begins old mid s o = run_begins (beginning s.map o.store.entries) old o.opened.entries o.opened.logs o.opened.opens (subst (λ (n : MapMeaning). MeansSame (map_meaning s.map.store o.opened.entries) n) o.store.map_is o.opened.means)
 
--- the request of the script is the only one
-none_earlier : (run : Run) (request : Request) (i : ℕ) (q : ℕ × Request) → i < 0 → slice_get (alone request) i ≡ Some q → q.0 ≡ 1 → reply_of i run ≢ None
-none_earlier run request i q l e on = absurd (omega (arith, l))
+-- Behind the opening any request is under way, from the lists for which the files were safe.
+pub way_opens : {D : Type 0} → (Stands : Run → ℕ → List Reply → Type 0) (request : Request) (lists : Lists) (old mid : Option History) (began : Faults) (s : StoreValue D) → (o : OpenedNow old mid s) → LogsShow → AreSafeFor lists old → Stands (beginning s.map o.store.entries) 0 []
+    → IsUnderWay Stands request lists (before_opening (seen_of s mid began) old) (seen_of s mid began) lists
+way_opens Stands request lists old mid began s o show safe stands =
+    way_begins Stands request lists s.map o.store.entries (seen_of s mid began) old (comes old mid began s o.store o.drawn o.free o.files) (opened_shows lists old s o.opened show safe) o.running o.drawn (o.safe lists) (o.settled_again lists) (opening_begins old mid s o) stands
 
-stays_on : (run : Run) (event : RunEvent) → StaysStopped run.events → All (λ e. e.refused ≢ Some refusal.Stopped) run.events → StaysStopped (run.events ++ event ∷ [])
-stays_on run event stays unrefused = pairs_push StopsLater run.events event stays (All-weaker (λ (e : RunEvent). e.refused ≢ Some refusal.Stopped) (λ (e : RunEvent). StopsLater e event) (λ e no stopped. absurd (no stopped)) run.events unrefused)
-
--- the map and the numbers with which a run begins
-first_map : (run : Run) (m : MapMeaning) (drawn : Highest) → HasCome (before 0 run) m drawn 0 → drawn ≡ m.highest → HasCome (before 0 run) (map_meaning run.store run.start) (map_meaning run.store run.start).highest 0
-first_map run m drawn come is =
-    let first : map_of (before 0 run) ≡ map_meaning run.store run.start = ap (map_meaning run.store) (append-nil run.start) in
-    record { map_is = first; drawn_is = come.drawn_is ∙ (is ∙ ap (λ (n : MapMeaning). n.highest) (sym come.map_is ∙ first)); moments = All-nil _ }
-
--- The event that answers it: it was served.
-pub goes_ended : (request : Request) (lists : Lists) (given : Reply) (run : Run) (journal : List JournalStep) (broken : Broken) (began now new : Seen) (around after : Around) (how : Did) → GoesAlone request lists run journal broken began now → began.drawn ≡ began.map.highest → RunBegins run began.history
-    → (new.stopped ≡ false → RunHasCome run new.map new.history) → (d : DidEvent around after run 1 0 (map (λ s. s.answer) (steps_of 0 journal)) request (left_by lists journal) now new how (Some given)) → AgreesWithRun around run request d.makes.event d.makes.event.part
-    → count_by is_read_fault (Some given ∷ []) ≤ count_by is_faulted (run.events ++ d.makes.event ∷ []) → ServesRequest request lists given began.faults new.faults began.history new.history
-goes_ended request lists given run journal broken began now new around after how g opened begins ends d agrees few =
-    let s1 = serves_on lists (alone request) run journal broken (None ∷ []) began now new around after 1 0 request how (Some given) g.serves g.turn d in
-    let s2 = reply_on lists (alone request) run journal broken s1.0 (None ∷ []) (Some given ∷ []) began now new around after 1 0 request how given g.serves g.turn d (replied_also given) few s1.1 in
-    let f = follows_on lists (alone request) run journal broken (None ∷ []) began now new around after 1 0 request how (Some given) g.serves g.turn g.given (none_earlier run request) (omega arith) d agrees g.follows in
-    let runs : (given ≡ reply.Refused refusal.Stopped → ⊥) → new.stopped ≡ false = λ unstopped. not_true new.stopped (λ e. unstopped (some_one given (reply.Refused refusal.Stopped) (d.ends.halts.1 e))) in
-    record {
-      run = and_then run d.makes.event;
-      journal = journal ++ steps_made run request d.makes.event d.makes.answer d.left;
-      broken = s1.0;
-      m = new.map;
-      drawn = new.drawn;
-      begins = begins;
-      ends = λ unstopped. ends (runs unstopped);
-      served = record {
-        around = f.around;
-        after = f.after;
-        begins = first_map run began.map began.drawn g.serves.begins opened;
-        next = f.next;
-        found = f.found;
-        told = told_on (alone request) run journal 1 request d.makes.event d.makes.answer d.left (ap (λ (n : ℕ). slice_get (alone request) n) d.makes.request_is) d.makes.is_told g.told;
-        given = replies_on (alone request) run journal (None ∷ []) (Some given ∷ []) 1 0 request d.makes.event given g.turn g.given d.makes.request_is d.makes.ended_is refl (replied_also given);
-        legal = s2.legal;
-        broken_is = s2.broken_is;
-        of_failure = s2.of_failure;
-        would = s1.2 g.would;
-        stays_stopped = stays_on run d.makes.event g.stays_stopped (g.serves.unrefused g.running);
-        come = s2.come.come;
-      };
-      crash = s2.crash;
-      settled = λ unstopped. s2.settled (runs unstopped);
-    }
+-- ---- the request
 
 -- What the event of a request alone did, from a store as it was seen then to one as it is seen now, of every run that had come
 -- to where the store stood, and of every lists that it showed: it answered this, and ended the request.
 abbrev pub DoesAlone : Request → Reply → Seen → Seen → Did → Type 0
-DoesAlone request given old new how = (around after : Around) (run : Run) (lists : Lists) → HasComeTo run old → ShowsSeen old lists → HasNotBegun run 0 []
-    → DidEvent around after run 1 0 [] request lists old new how (Some given)
+DoesAlone request given old new how = (around after : Around) (run : Run) (said : List Reply) (lists : Lists) → HasComeTo run old → ShowsSeen old lists → HasNotBegun run 0 said
+    → DidEvent around after run 1 0 said request lists old new how (Some given)
 
 -- What is known of a request alone: of the opening of the store, from the disk as it was, and of the step of the task that
 -- answered it, from the store as it was opened.
@@ -178,6 +116,7 @@ pub record Doing {D : Type 0} (request : Request) (given : Reply) (old mid new :
   pub store : IsStore mid s
   pub drawn : s.drawn ≡ s.map.highest
   pub free : s.dues ≡ none_due s.map.records
+  pub files : IsFoundFiles s.map old s.files
   pub running : s.stopped ≡ false
   pub safe : (lists : Lists) → IsSettledFor lists old → EachImage (λ _ image. Safe image lists) old mid
   pub settled_again : StaysSettled old mid
@@ -193,87 +132,29 @@ pub record Doing {D : Type 0} (request : Request) (given : Reply) (old mid new :
   pub fault : ChangeFaultCounted (given ≡ reply.Refused refusal.Stopped) began now
   pub unfailed : (given ≡ reply.Refused refusal.Stopped → ⊥) → NoFault began now
 
--- ---- the store as it was opened
-
--- the run has come to it
-pub comes : {D : Type 0} → (mid : Option History) (began : Faults) (s : StoreValue D) → (k : IsStore mid s) → s.drawn ≡ s.map.highest → s.dues ≡ none_due s.map.records → HasComeTo (beginning s.map k.entries) (seen_of s mid began)
-comes mid began s k drawn free = comes_at_first (beginning s.map k.entries) s mid began refl free (record { map_is = ap (map_meaning s.map.store) (append-nil k.entries) ∙ sym k.map_is; drawn_is = sym drawn; moments = All-nil _ })
-
--- what was seen of it, with the disk as it was before the opening
-abbrev before_opening : Seen → Option History → Seen
-before_opening seen old = record seen { history = old }
-
--- No event has happened since: of a disk that was settled before the opening, each crash image since is safe for the lists.
-opened_serves : (request : Request) (lists : Lists) (m : MapMeaning) (entries : List MapEntry) (seen : Seen) (old : Option History) → HasComeTo (beginning m entries) seen → ShowsSeen seen lists → seen.stopped ≡ false
-    → (IsSettledFor lists old → EachImage (λ _ image. Safe image lists) old seen.history) → (IsSettledFor lists old → IsSettledFor lists seen.history)
-    → Serves lists (alone request) (beginning m entries) [] no_broken (None ∷ []) (before_opening seen old) seen
-opened_serves request lists m entries seen old come shows running safe settled =
-    let s = serves_start lists (alone request) (beginning m entries) (None ∷ []) seen refl come shows running unreplied refl in
-    record {
-      legal = s.legal;
-      begins = s.begins;
-      come = s.come;
-      shown = s.shown;
-      within = s.within;
-      broken_is = s.broken_is;
-      of_failure = s.of_failure;
-      crash = λ at. each_image-map (λ _ image. Safe image lists) (IsReached lists (beginning m entries) [] no_broken) old seen.history (λ moment image is. (lists, reached_last lists (beginning m entries) [] no_broken moment, is)) (safe at);
-      unbroken = s.unbroken;
-      unrefused = s.unrefused;
-      settled = λ e at. settled at;
-      reads = s.reads;
-      changes = s.changes;
-      fell = s.fell;
-      halted = s.halted;
-    }
-
--- ---- the request
-
-run_begins : (run : Run) (old : Option History) (entries : List MapEntry) (logs : List (List BoxEntry)) → IfTold old (λ now. Opens (files_of now) run.store entries logs) → MeansSame (map_meaning run.store entries) (map_meaning run.store run.start) → RunBegins run old
-run_begins run None entries logs opens means = tt
-run_begins run (Some h) entries logs opens means = (entries, logs, opens, means)
-
-run_ends : (run : Run) (m : MapMeaning) (new : Option History) (entries : List MapEntry) (logs : List (List BoxEntry)) → IfTold new (λ now. Opens (files_of now) run.store entries logs) → m ≡ map_meaning run.store entries → RunHasCome run m new
-run_ends run m None entries logs opens is = tt
-run_ends run m (Some h) entries logs opens is = (entries, logs, opens, subst (λ (n : MapMeaning). MeansSame n m) is (means_itself m))
-
--- what its event finds in the files agrees with the run
-abbrev pub FindsNothing : Request → Type 0
-FindsNothing request = (run : Run) (event : RunEvent) → AgreesWithRun nothing_found run request event event.part
-
--- before its first event
-goes_first : (request : Request) (lists : Lists) (m : MapMeaning) (entries : List MapEntry) (began now : Seen) → Serves lists (alone request) (beginning m entries) [] no_broken (None ∷ []) began now → now.stopped ≡ false → GoesAlone request lists (beginning m entries) [] no_broken began now
-goes_first request lists m entries began now s running = record {
-  serves = s;
-  turn = its_turn request;
-  given = no_replies request m entries;
-  follows = record { around = λ n. nothing_found; after = λ n. nothing_found; next = λ n event e. absurd (none_there event e); found = λ n event asked e a. absurd (none_there event e) };
-  told = λ n event asked e a makes. absurd (none_there event e);
-  would = λ n event asked around e a unrefused. absurd (none_there event e);
-  stays_stopped = pairs_nil StopsLater;
-  running = running;
+opening_of : {D : Type 0} → (request : Request) (given : Reply) (old mid new : Option History) (began now : Faults) (s t : StoreValue D) (how : Did) → Doing request given old mid new began now s t how → OpenedNow old mid s
+opening_of request given old mid new began now s t how w = record {
+  opened = w.opened;
+  store = w.store;
+  drawn = w.drawn;
+  free = w.free;
+  files = w.files;
+  running = w.running;
+  safe = w.safe;
+  settled_again = w.settled_again;
+  carried = w.carried;
+  swept = w.swept;
 }
-  where
-    none_there : (event : RunEvent) → None ≡ Some event → ⊥
-    none_there event e = cc e
 
 -- It is served, by the run with its event.
-pub request_served : {D : Type 0} → (request : Request) (lists : Lists) (given : Reply) (old mid new : Option History) (began now : Faults) (s t : StoreValue D) (how : Did) → Doing request given old mid new began now s t how → LogsShow → FindsNothing request
+pub request_served : {D : Type 0} → (request : Request) (lists : Lists) (given : Reply) (old mid new : Option History) (began now : Faults) (s t : StoreValue D) (how : Did) → Doing request given old mid new began now s t how → LogsShow
     → is_read_fault (Some given) ≡ false → AreSafeFor lists old → ServesRequest request lists given began now old new
-request_served request lists given old mid new began now s t how w show agrees unfaulted safe =
-    let run : Run = beginning s.map w.store.entries in
+request_served request lists given old mid new began now s t how w show unfaulted safe =
     let from : Seen = seen_of s mid began in
-    let come : HasComeTo run from = comes mid began s w.store w.drawn w.free in
-    let shows : ShowsSeen from lists = opened_shows lists old s w.opened show safe in
-    let d = w.did nothing_found nothing_found run lists come shows (refl, refl) in
-    let g = goes_first request lists s.map w.store.entries (before_opening from old) from (opened_serves request lists s.map w.store.entries from old come shows w.running (w.safe lists) (w.settled_again lists)) w.running in
-    goes_ended request lists given run [] no_broken (before_opening from old) from (seen_of t new now) nothing_found nothing_found how g w.drawn
-    (run_begins run old w.opened.entries w.opened.logs w.opened.opens (subst (λ (n : MapMeaning). MeansSame (map_meaning s.map.store w.opened.entries) n) w.store.map_is w.opened.means))
-    (λ runs.
-    let same : t.map.store ≡ s.map.store = sym (ap (λ (m : MapMeaning). m.store) d.makes.come.map_is) in
-    run_ends run t.map new w.later.entries w.later.logs (subst (λ (store : List ℕ). IfTold new (λ disk. Opens (files_of disk) store w.later.entries w.later.logs)) same (w.later.running runs).opens)
-    (w.later.map_is ∙ ap (λ (store : List ℕ). map_meaning store w.later.entries) same))
-    d (agrees run d.makes.event) (few_faults given _ unfaulted)
+    let first : Seen = before_opening from old in
+    let u : IsUnderWay HasNotBegun request lists first from lists = way_opens HasNotBegun request lists old mid began s (opening_of request given old mid new began now s t how w) show safe (refl, refl) in
+    let d = w.did nothing_found nothing_found u.run u.said lists u.goes.serves.come (way_shows HasNotBegun request lists lists first from u) u.stands in
+    way_ends HasNotBegun request lists lists given first from (seen_of t new now) nothing_found nothing_found how t u w.later refl refl d (λ e. absurd (let k : true ≡ false = sym e ∙ unfaulted in cc k))
 
 -- ---- the step of its task
 
@@ -292,18 +173,6 @@ pub record Stepped {D : Type 0} (history : D → Option History) (faults : D →
   pub replies : (given : Reply) × (answer ≡ progress.Done given) × Replies task.request s t given
   pub same : AppendsNothing task.request s → t ≡ s
 
--- What is known of the opening of a store.
-pub record OpenedNow {D : Type 0} (old mid : Option History) (s : StoreValue D) : Type 0 where
-  pub opened : IsOpenedAs old s.map (indexes_of s.boxes)
-  pub store : IsStore mid s
-  pub drawn : s.drawn ≡ s.map.highest
-  pub free : s.dues ≡ none_due s.map.records
-  pub running : s.stopped ≡ false
-  pub safe : (lists : Lists) → IsSettledFor lists old → EachImage (λ _ image. Safe image lists) old mid
-  pub settled_again : StaysSettled old mid
-  pub carried : StoreCarries old mid
-  pub swept : (generation : ℕ) × IsSwept generation s.map old mid
-
 done_one : (a b : Reply) → progress.Done a ≡ progress.Done b → a ≡ b
 done_one a b e = cc e
 
@@ -320,13 +189,14 @@ doing history faults request given old s t task next answer is done o k step =
       store = o.store;
       drawn = o.drawn;
       free = o.free;
+      files = o.files;
       running = o.running;
       safe = o.safe;
       settled_again = o.settled_again;
       carried = o.carried;
       swept = o.swept;
       later = k;
-      did = λ around after run lists come shows begun. (now.does around after run 1 0 [] lists come shows begun).0;
+      did = λ around after run said lists come shows begun. (now.does around after run 1 0 said lists come shows begun).0;
       replies = subst (λ (r : Reply). Replies request s t r) same now.replies.2;
       unchanged = λ nothing. ap (λ (v : StoreValue _). history v.disk) (now.same nothing);
       moments = now.moments;

@@ -1,7 +1,7 @@
 -- What is said of a request alone, by its kind.
-use Rattle.std.specs.Prelude.{◌≡◌, ◌≢◌, ℕ, [], ◌∷◌, Option}
+use Rattle.std.specs.Prelude.{◌≡◌, ℕ, [], ◌∷◌, Option}
 use Rattle.disk_model.specs.Disk.{History, Faults, EachImage, IsIdle}
-use Rattle.disk_model.specs.FaultCounts.{NoFault, AnyFaultCounted, ChangeFaultCounted}
+use Rattle.disk_model.specs.FaultCounts.{NoFault, AnyFaultCounted}
 use Rattle.mdbox_base.specs.declared.replies.Refusal.TheVariants as refusal
 use Rattle.mdbox_base.specs.declared.replies.Reply.{Reply}
 use Rattle.mdbox_base.specs.declared.replies.Reply.TheVariants as reply
@@ -16,43 +16,64 @@ use Rattle.store_open.specs.declared.error.OpenError.{OpenError}
 use Rattle.store_open.specs.declared.error.OpenError.TheVariants as error
 use Rattle.store_sweep.specs.Moments.{NoFailedChange}
 use Rattle.mdbox_top.specs.InputRun.{IsOneOf}
-use Rattle.mdbox_top.specs.Served.{AreSafeFor, ServesRequest}
+use Rattle.mdbox_top.specs.Served.{AreSafeFor, ServesRequest, FaultsByReply}
 use Rattle.mdbox_top.specs.ListRun.{StaysSettled, IsListReply, ListMoments, ListRests}
+use Rattle.mdbox_top.specs.FetchRun.{IsFetchReply, FetchMoments, FetchRests}
 use Rattle.mdbox_top.specs.FlagRun.{IsFlagReply, FlagMoments, FlagRests}
+use Rattle.mdbox_top.specs.CopyRun.{IsCopyReply, CopyMoments, CopyRests}
+use Rattle.mdbox_top.specs.MoveRun.{IsMoveReply, MoveMoments, MoveRests}
+use Rattle.mdbox_top.specs.ExpungeRun.{IsExpungeReply, ExpungeMoments, ExpungeRests}
+use Rattle.mdbox_top.specs.CountsRun.{IsCountsReply, CountsMoments, CountsRests}
 
 -- what its reply tells
 abbrev pub ReplyTells : Request → Option History → Option History → Reply → Type 0
 ReplyTells (request.List name) = IsListReply name
+ReplyTells (request.Fetch name uid) = IsFetchReply name uid
 ReplyTells (request.Flag name uid flags) = IsFlagReply name uid flags
+ReplyTells (request.Expunge name uid) = IsExpungeReply name uid
+ReplyTells (request.Copy name uid target) = IsCopyReply name uid target
+ReplyTells (request.Move name uid target) = IsMoveReply name uid target
+ReplyTells request.Counts = IsCountsReply
 ReplyTells other = λ old new given. ⊥
 
 -- what a crash at any moment of it may leave
 abbrev pub RequestMoments : Request → Option History → Option History → Type 0
 RequestMoments (request.List name) = ListMoments
+RequestMoments (request.Fetch name uid) = FetchMoments
 RequestMoments (request.Flag name uid flags) = FlagMoments name uid flags
+RequestMoments (request.Expunge name uid) = ExpungeMoments name uid
+RequestMoments (request.Copy name uid target) = CopyMoments name uid target
+RequestMoments (request.Move name uid target) = MoveMoments name uid target
+RequestMoments request.Counts = CountsMoments
 RequestMoments other = λ old new. ⊥
 
 -- what it leaves of the disk when it ends, by whether it failed and the counts of the disk's faults
 abbrev pub RequestRests : Request → Type 0 → Faults → Faults → Option History → Option History → Type 0
 RequestRests (request.List name) = ListRests
+RequestRests (request.Fetch name uid) = FetchRests
 RequestRests (request.Flag name uid flags) = FlagRests name uid flags
+RequestRests (request.Expunge name uid) = ExpungeRests name uid
+RequestRests (request.Copy name uid target) = CopyRests name uid target
+RequestRests (request.Move name uid target) = MoveRests name uid target
+RequestRests request.Counts = CountsRests
 RequestRests other = λ failed began now old new. ⊥
 
--- The statuses with which it may end if a call of the disk failed. A listing reads no file once the store is open. Any other
--- request may reply that the store is stopped, and fail in printing it, for a fault of the output or out of memory.
+-- The statuses with which it may end if a call of the disk failed. A listing or a count reads no file once the store is open. Any
+-- other request may reply that a read failed, or that the store is stopped, and fail in printing it, for a fault of the output or out
+-- of memory.
 abbrev pub MayFail : Request → ℕ → Type 0
 MayFail (request.List name) status = status ≡ 6
+MayFail request.Counts status = status ≡ 6
 MayFail other status = IsOneOf (5 ∷ 6 ∷ 8 ∷ []) status
 
--- A request was done alone on a store that was opened, and was replied this. No call of the disk failed but a change that
--- stopped the store.
+-- A request was done alone on a store that was opened, and was replied this. No call of the disk failed but a read that is
+-- replied, or a change that stopped the store.
 pub record IsDoneAlone (request : Request) (given : Reply) (old new : Option History) (began now : Faults) : Type 0 where
   pub tells : ReplyTells request old new given
   pub serves : (lists : Lists) → AreSafeFor lists old → ServesRequest request lists given began now old new
   pub moments : RequestMoments request old new
   pub rests : RequestRests request (given ≡ reply.Refused refusal.Stopped) began now old new
-  pub fault : ChangeFaultCounted (given ≡ reply.Refused refusal.Stopped) began now
-  pub unfailed : given ≢ reply.Refused refusal.Stopped → NoFault began now
+  pub faults : FaultsByReply given began now
 
 -- The store was not opened. Each crash image of a settled disk is safe for its lists; unless a change failed, it is settled
 -- for them again, and all that the store reads is carried over.

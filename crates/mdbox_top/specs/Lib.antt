@@ -1,8 +1,17 @@
 pub mod Alone
+pub mod CountsRun
+pub mod ChangeEvents
+pub mod Changed
+pub mod CopyRun
+pub mod ExpungeRun
+pub mod FetchEvents
+pub mod FetchRun
 pub mod FlagRun
 pub mod InitRun
 pub mod InputRun
 pub mod ListRun
+pub mod MoveRun
 pub mod OpeningOutcome
 pub mod Run
 pub mod Served
+pub mod UnderWay

@@ -14,14 +14,24 @@ use Rattle.mdbox_top.specs.Alone.{MayFail}
 use Rattle.mdbox_top.specs.InputRun.{DumpPrints, DumpRefuses, LogDumpPrints, LogDumpRefuses, InputOutcome, InputStatus, ShowsText, IsOneOf}
 use Rattle.mdbox_top.specs.InitRun.{InitOutcome, InitMoments, MayMakeStore}
 use Rattle.mdbox_top.specs.ListRun.{ListOutcome, ListMoments, ListRests}
+use Rattle.mdbox_top.specs.FetchRun.{FetchOutcome, FetchMoments, FetchRests}
 use Rattle.mdbox_top.specs.FlagRun.{FlagOutcome, FlagMoments, FlagRests}
+use Rattle.mdbox_top.specs.CopyRun.{CopyOutcome, CopyMoments, CopyRests}
+use Rattle.mdbox_top.specs.MoveRun.{MoveOutcome, MoveMoments, MoveRests}
+use Rattle.mdbox_top.specs.ExpungeRun.{ExpungeOutcome, ExpungeMoments, ExpungeRests}
+use Rattle.mdbox_top.specs.CountsRun.{CountsOutcome, CountsMoments, CountsRests}
 
 -- How a command ends: this was left of the input, the output held this before and holds that later, the disk was this and is
 -- that now, and so were its counts of faults.
 abbrev pub Ends : Command → Option (List ℕ) → Option (List ℕ) → Option (List ℕ) → Option History → Option History → Faults → Faults → Outcome → Type 0
 Ends (command.Init id) left held later old new began now outcome = InitOutcome id.0 held later old new outcome
 Ends (command.List name) left held later old new began now outcome = ListOutcome name held later old new began now outcome
+Ends (command.Fetch name uid) left held later old new began now outcome = FetchOutcome name uid held later old new began now outcome
 Ends (command.Flag name uid flags) left held later old new began now outcome = FlagOutcome name uid flags held later old new began now outcome
+Ends (command.Expunge name uid) left held later old new began now outcome = ExpungeOutcome name uid held later old new began now outcome
+Ends (command.Copy name uid target) left held later old new began now outcome = CopyOutcome name uid target held later old new began now outcome
+Ends (command.Move name uid target) left held later old new began now outcome = MoveOutcome name uid target held later old new began now outcome
+Ends command.Counts left held later old new began now outcome = CountsOutcome held later old new began now outcome
 Ends command.Dump left held later old new began now outcome = InputOutcome DumpPrints DumpRefuses left held later outcome
 Ends command.LogDump left held later old new began now outcome = InputOutcome LogDumpPrints LogDumpRefuses left held later outcome
 Ends command.Help left held later old new began now outcome = ShowsText HELP.now held later outcome
@@ -38,30 +48,49 @@ pub record RunOutcome (May : Outcome → Type 0) (status : ℕ) (held : Option (
 abbrev pub Moments : Command → Option History → Option History → Type 0
 Moments (command.Init id) old new = InitMoments id.0 old new
 Moments (command.List name) old new = ListMoments old new
+Moments (command.Fetch name uid) old new = FetchMoments old new
 Moments (command.Flag name uid flags) old new = FlagMoments name uid flags old new
+Moments (command.Expunge name uid) old new = ExpungeMoments name uid old new
+Moments (command.Copy name uid target) old new = CopyMoments name uid target old new
+Moments (command.Move name uid target) old new = MoveMoments name uid target old new
+Moments command.Counts old new = CountsMoments old new
 Moments other old new = new ≡ old
 
 -- What the command leaves of the disk when it ends, by whether it failed and the counts of the disk's faults.
 abbrev pub Rests : Command → Type 0 → Faults → Faults → Option History → Option History → Type 0
 Rests (command.List name) failed began now old new = ListRests failed began now old new
+Rests (command.Fetch name uid) failed began now old new = FetchRests failed began now old new
 Rests (command.Flag name uid flags) failed began now old new = FlagRests name uid flags failed began now old new
+Rests (command.Expunge name uid) failed began now old new = ExpungeRests name uid failed began now old new
+Rests (command.Copy name uid target) failed began now old new = CopyRests name uid target failed began now old new
+Rests (command.Move name uid target) failed began now old new = MoveRests name uid target failed began now old new
+Rests command.Counts failed began now old new = CountsRests failed began now old new
 Rests other failed began now old new = Unit {0}
 
 -- The statuses that may come, by what was left of the input and what the disk was: no file refuses a store that can be made,
--- or a request on a settled disk, and `--help` and `--version` fail with the output alone.
+-- or a request on a settled disk, `counts` has no reply that refuses it, and `--help` and `--version` fail with the output alone.
 abbrev pub HasStatus : Command → Option (List ℕ) → Option History → ℕ → Type 0
 HasStatus (command.Init id) left old status = MayMakeStore old → IsOneOf (0 ∷ 5 ∷ 6 ∷ 8 ∷ []) status
 HasStatus (command.List name) left old status = (lists : Lists) → IsSettledFor lists old → IsOneOf (0 ∷ 1 ∷ 5 ∷ 6 ∷ 8 ∷ []) status
+HasStatus (command.Fetch name uid) left old status = (lists : Lists) → IsSettledFor lists old → IsOneOf (0 ∷ 1 ∷ 5 ∷ 6 ∷ 8 ∷ []) status
 HasStatus (command.Flag name uid flags) left old status = (lists : Lists) → IsSettledFor lists old → IsOneOf (0 ∷ 1 ∷ 5 ∷ 6 ∷ 8 ∷ []) status
+HasStatus (command.Expunge name uid) left old status = (lists : Lists) → IsSettledFor lists old → IsOneOf (0 ∷ 1 ∷ 5 ∷ 6 ∷ 8 ∷ []) status
+HasStatus (command.Copy name uid target) left old status = (lists : Lists) → IsSettledFor lists old → IsOneOf (0 ∷ 1 ∷ 5 ∷ 6 ∷ 8 ∷ []) status
+HasStatus (command.Move name uid target) left old status = (lists : Lists) → IsSettledFor lists old → IsOneOf (0 ∷ 1 ∷ 5 ∷ 6 ∷ 8 ∷ []) status
+HasStatus command.Counts left old status = (lists : Lists) → IsSettledFor lists old → IsOneOf (0 ∷ 5 ∷ 6 ∷ 8 ∷ []) status
 HasStatus command.Dump left old status = InputStatus DumpPrints DumpRefuses left status
 HasStatus command.LogDump left old status = InputStatus LogDumpPrints LogDumpRefuses left status
 HasStatus command.Help left old status = IsOneOf (0 ∷ 8 ∷ []) status
 HasStatus command.Version left old status = IsOneOf (0 ∷ 8 ∷ []) status
 
--- The statuses with which the command may end if a call of the disk failed: 6; and for one that changes a store, 5 and 8, since
--- printing that it is stopped may fail.
+-- The statuses with which the command may end if a call of the disk failed: 6; and for one that reads messages or changes a
+-- store, 5 and 8, since printing that a read failed, or that the store is stopped, may fail.
 abbrev pub MayHaveFailed : Command → ℕ → Type 0
+MayHaveFailed (command.Fetch name uid) status = MayFail (request.Fetch name uid) status
 MayHaveFailed (command.Flag name uid flags) status = MayFail (request.Flag name uid flags) status
+MayHaveFailed (command.Expunge name uid) status = MayFail (request.Expunge name uid) status
+MayHaveFailed (command.Copy name uid target) status = MayFail (request.Copy name uid target) status
+MayHaveFailed (command.Move name uid target) status = MayFail (request.Move name uid target) status
 MayHaveFailed other status = status ≡ 6
 
 -- the command reads standard input
@@ -74,5 +103,10 @@ reads_input other = false
 abbrev pub uses_disk : Command → Bool
 uses_disk (command.Init id) = true
 uses_disk (command.List name) = true
+uses_disk (command.Fetch name uid) = true
 uses_disk (command.Flag name uid flags) = true
+uses_disk (command.Expunge name uid) = true
+uses_disk (command.Copy name uid target) = true
+uses_disk (command.Move name uid target) = true
+uses_disk command.Counts = true
 uses_disk other = false

@@ -1,8 +1,9 @@
 -- What a request alone makes of a store, and how it ends.
-use Rattle.std.specs.Prelude.{◌≡◌, ◌⊎◌, ℕ, List, [], ◌∷◌, is_some, if◌then◌else◌, Option, Some, None}
+use Rattle.std.specs.Prelude.{◌≡◌, ◌≤◌, ◌⊎◌, ℕ, List, [], ◌∷◌, is_some, if◌then◌else◌, Option, Some, None}
 use Rattle.std.specs.Option.{option_map_or}
 use Rattle.disk_model.specs.Disk.{told_calls, History, Faults, EachImage, IfTold, IsIdle}
-use Rattle.mdbox_base.specs.Streams.{Appended}
+use Rattle.disk_model.specs.FaultCounts.{NoFault}
+use Rattle.mdbox_base.specs.Streams.{Appended, Rose}
 use Rattle.mdbox_base.specs.declared.entries.BoxEntry.{BoxEntry}
 use Rattle.mdbox_base.specs.declared.entries.Highest.{Highest}
 use Rattle.mdbox_base.specs.declared.entries.MapEntry.{MapEntry}
@@ -63,6 +64,15 @@ pub record ServesRequest (request : Request) (lists : Lists) (given : Reply) (be
   pub crash : IsSettledFor lists old → EachImage (IsReached lists run journal broken) old new
   pub settled : (given ≡ reply.Refused refusal.Stopped → ⊥) → IsSettledFor lists old → IsSettledFor (left_by lists journal) new
 
+-- The counts of the disk's faults, by what was replied: they never fall, a read fault is replied only if that of failed reads
+-- rose, and that the store is stopped only if that of failed changes did. With any other reply no call failed.
+pub record FaultsByReply (given : Reply) (began now : Faults) : Type 0 where
+  pub reads : began.reads ≤ now.reads
+  pub changes : began.changes ≤ now.changes
+  pub read_fault : given ≡ reply.Refused refusal.ReadFault → Rose began.reads now.reads
+  pub stopped : given ≡ reply.Refused refusal.Stopped → Rose began.changes now.changes
+  pub unfailed : (given ≡ reply.Refused refusal.ReadFault → ⊥) → (given ≡ reply.Refused refusal.Stopped → ⊥) → NoFault began now
+
 -- How a reply with this text is printed: whole; or a prefix of it, for a fault of the output or out of memory.
 abbrev pub ShowsReply : List ℕ → Reply → Option (List ℕ) → Option (List ℕ) → Outcome → Type 0
 ShowsReply text given held later outcome.WriteFault = WritesPrefix held [] text later
@@ -80,11 +90,12 @@ pub record IsNotOpened (held later : Option (List ℕ)) (old new : Option Histor
   pub untouched : IdleUnless Opening old new
 
 -- The store was opened and replied this: what this command's reply tells beside, that the request was served from any lists
--- for which the files were safe, and that the reply was printed.
+-- for which the files were safe, which calls of the disk failed, and that the reply was printed.
 pub record IsReplied (Tells : Option History → Option History → Reply → Type 0) (request : Request) (held later : Option (List ℕ)) (old new : Option History) (began now : Faults) (ended : Outcome) : Type 0 where
   pub given : Reply
   pub tells : Tells old new given
   pub serves : (lists : Lists) → AreSafeFor lists old → ServesRequest request lists given began now old new
+  pub faults : FaultsByReply given began now
   pub printed : ShowsReply (single_text request given) given held later ended
 
 -- How a request alone ends: the store was not opened, or it replied.

@@ -70,7 +70,7 @@ fn reply_alone<D: Disk>(
 }
 
 /// Prints a reply.
-fn print_outcome<O: Sink>(alloc: Global, output: &mut O, given: &Reply) -> Outcome
+pub(crate) fn print_outcome<O: Sink>(alloc: Global, output: &mut O, given: &Reply) -> Outcome
     ensures shown { ShowsReply (reply_text given.now) given.now (O.held output.old) (O.held output.new) result }
     ensures write_fault { result ≡ outcome.WriteFault → Rose (O.faults output.old) (O.faults output.new) }
     ensures write_quiet { result ≢ outcome.WriteFault → O.faults output.new ≡ O.faults output.old }

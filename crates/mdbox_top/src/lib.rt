@@ -5,8 +5,13 @@ pub use request_text::Status;
 pub use run::{mdbox_alone, mdbox_run};
 
 mod alone;
+mod copy;
+mod counts;
+mod expunge;
+mod fetch;
 mod init;
 mod input_commands;
+mod moving;
 mod opening;
 mod run;
 mod show;

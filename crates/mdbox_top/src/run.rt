@@ -10,8 +10,13 @@ ghost use Rattle.request_text.specs.declared.outcome.Outcome.TheVariants as outc
 ghost use Rattle.mdbox_top.specs.Run.{Ends, RunOutcome, Moments, Rests, HasStatus, MayHaveFailed, reads_input, uses_disk};
 
 use crate::alone::serve;
+use crate::copy::copy;
+use crate::counts::counts;
+use crate::expunge::expunge;
+use crate::fetch::fetch;
 use crate::init::init;
 use crate::input_commands::{dump, logdump};
+use crate::moving::move_to;
 use crate::show::show;
 use disk_model::Disk;
 use mdbox_base::{Request, Sink, Source};
@@ -51,7 +56,7 @@ pub fn mdbox_run<D: Disk, I: Source, O: Sink, E: Sink>(
     ensures untouched { (command : Command) → Says (map string_bytes words.now) command → uses_disk command ≡ false → result.1 ≡ disk }
 
     // A fault only if that object's count of faults rose, and else it stayed: none is made up, and none hidden but by a
-    // command that changes the store and can't print that it is stopped. The counts never fall.
+    // command that can't print that a read failed, or that the store is stopped. The counts never fall.
     ensures disk_fault { AnyFaultCounted (result.0.0 ≡ 6) (D.faults disk) (D.faults result.1) }
     ensures read_fault { result.0.0 ≡ 7 → Rose (I.faults input.old) (I.faults input.new) }
     ensures write_fault { result.0.0 ≡ 8 → Rose (O.faults output.old) (O.faults output.new) }
@@ -120,9 +125,14 @@ fn perform<D: Disk, I: Source, O: Sink>(
     match command {
         Command::Init { id } => init(alloc, id, disk, output),
         Command::List { name } => serve(alloc, Request::List { name }, disk, output),
+        Command::Fetch { name, uid } => fetch(alloc, name, uid, disk, output),
         Command::Flag { name, uid, flags } => {
             serve(alloc, Request::Flag { name, uid, flags }, disk, output)
         }
+        Command::Counts => counts(alloc, disk, output),
+        Command::Expunge { name, uid } => expunge(alloc, name, uid, disk, output),
+        Command::Copy { name, uid, target } => copy(alloc, name, uid, target, disk, output),
+        Command::Move { name, uid, target } => move_to(alloc, name, uid, target, disk, output),
         Command::Dump => (dump(alloc, input, output), disk),
         Command::LogDump => (logdump(alloc, input, output), disk),
         Command::Help => (show(output, HELP), disk),

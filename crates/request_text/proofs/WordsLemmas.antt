@@ -30,6 +30,19 @@ two_words f (w ∷ v ∷ []) first second a b l m p q s t =
     rw (h, k) refl
 two_words f (w ∷ v ∷ u ∷ rest) first second a b l m p q s t = absurd (omega (arith, m))
 
+-- three words
+pub three_words : {S : Type 0} → (f : S → List ℕ) (words : List S) (w0 w1 w2 : S) (a b c : List ℕ) → 3 ≤ length words → length words < 4 → w0 ≡ get_or words 0 w0 → w1 ≡ get_or words 1 w1 → w2 ≡ get_or words 2 w2
+    → f w0 ≡ a → f w1 ≡ b → f w2 ≡ c → map f words ≡ a ∷ b ∷ c ∷ []
+three_words f [] w0 w1 w2 a b c l m p q r t u v = absurd (omega (arith, l))
+three_words f (x ∷ []) w0 w1 w2 a b c l m p q r t u v = absurd (omega (arith, l))
+three_words f (x ∷ y ∷ []) w0 w1 w2 a b c l m p q r t u v = absurd (omega (arith, l))
+three_words f (x ∷ y ∷ z ∷ []) w0 w1 w2 a b c l m p q r t u v =
+    let h : f x ≡ a = ap f (sym p) ∙ t in
+    let i : f y ≡ b = ap f (sym q) ∙ u in
+    let j : f z ≡ c = ap f (sym r) ∙ v in
+    rw (h, i, j) refl
+three_words f (x ∷ y ∷ z ∷ o ∷ rest) w0 w1 w2 a b c l m p q r t u v = absurd (omega (arith, m))
+
 -- four words
 pub four_words : {S : Type 0} → (f : S → List ℕ) (words : List S) (w0 w1 w2 w3 : S) (a b c d : List ℕ) → 4 ≤ length words → length words < 5 → w0 ≡ get_or words 0 w0 → w1 ≡ get_or words 1 w1 → w2 ≡ get_or words 2 w2 → w3 ≡ get_or words 3 w3
     → f w0 ≡ a → f w1 ≡ b → f w2 ≡ c → f w3 ≡ d → map f words ≡ a ∷ b ∷ c ∷ d ∷ []
@@ -79,6 +92,15 @@ name_same a b e =
     let words : a ∷ [] ≡ b ∷ [] = cc e in
     cc words
 
+fetch_same : (a b : List ℕ) (u v : Uid) → IsInRange (command.Fetch a u) → IsInRange (command.Fetch b v) → words_of (command.Fetch a u) ≡ words_of (command.Fetch b v) → command.Fetch a u ≡ command.Fetch b v
+fetch_same a b u v p q e =
+    let words : a ∷ decimal_text u.0 ∷ [] ≡ b ∷ decimal_text v.0 ∷ [] = cc e in
+    let name : a ≡ b = cc words in
+    let numbers : decimal_text u.0 ∷ [] ≡ decimal_text v.0 ∷ [] = cc words in
+    let uids : decimal_text u.0 ≡ decimal_text v.0 = cc numbers in
+    let uid : u.0 ≡ v.0 = decimal_injective u.0 v.0 (omega (arith, p.1.high)) (omega (arith, q.1.high)) uids in
+    ap (λ (n : List ℕ). command.Fetch n u) name ∙ ap (λ (n : ℕ). command.Fetch b (record { 0 = n })) uid
+
 flag_same : (a b : List ℕ) (u v : Uid) (f g : ℕ) → IsInRange (command.Flag a u f) → IsInRange (command.Flag b v g) → words_of (command.Flag a u f) ≡ words_of (command.Flag b v g) → command.Flag a u f ≡ command.Flag b v g
 flag_same a b u v f g p q e =
     let words : a ∷ decimal_text u.0 ∷ decimal_text f ∷ [] ≡ b ∷ decimal_text v.0 ∷ decimal_text g ∷ [] = cc e in
@@ -91,10 +113,46 @@ flag_same a b u v f g p q e =
     let flags : f ≡ g = decimal_injective f g (omega (arith, p.2)) (omega (arith, q.2)) bits in
     ap (λ (n : List ℕ). command.Flag n u f) name ∙ ap (λ (n : ℕ). command.Flag b (record { 0 = n }) f) uid ∙ ap (λ (n : ℕ). command.Flag b v n) flags
 
+expunge_same : (a b : List ℕ) (u v : Uid) → IsInRange (command.Expunge a u) → IsInRange (command.Expunge b v) → words_of (command.Expunge a u) ≡ words_of (command.Expunge b v) → command.Expunge a u ≡ command.Expunge b v
+expunge_same a b u v p q e =
+    let words : a ∷ decimal_text u.0 ∷ [] ≡ b ∷ decimal_text v.0 ∷ [] = cc e in
+    let name : a ≡ b = cc words in
+    let numbers : decimal_text u.0 ∷ [] ≡ decimal_text v.0 ∷ [] = cc words in
+    let uids : decimal_text u.0 ≡ decimal_text v.0 = cc numbers in
+    let uid : u.0 ≡ v.0 = decimal_injective u.0 v.0 (omega (arith, p.1.high)) (omega (arith, q.1.high)) uids in
+    ap (λ (n : List ℕ). command.Expunge n u) name ∙ ap (λ (n : ℕ). command.Expunge b (record { 0 = n })) uid
+
+copy_same : (a b : List ℕ) (u v : Uid) (t w : List ℕ) → IsInRange (command.Copy a u t) → IsInRange (command.Copy b v w) → words_of (command.Copy a u t) ≡ words_of (command.Copy b v w) → command.Copy a u t ≡ command.Copy b v w
+copy_same a b u v t w p q e =
+    let words : a ∷ decimal_text u.0 ∷ t ∷ [] ≡ b ∷ decimal_text v.0 ∷ w ∷ [] = cc e in
+    let name : a ≡ b = cc words in
+    let rest : decimal_text u.0 ∷ t ∷ [] ≡ decimal_text v.0 ∷ w ∷ [] = cc words in
+    let uids : decimal_text u.0 ≡ decimal_text v.0 = cc rest in
+    let last : t ∷ [] ≡ w ∷ [] = cc rest in
+    let target : t ≡ w = cc last in
+    let uid : u.0 ≡ v.0 = decimal_injective u.0 v.0 (omega (arith, p.1.high)) (omega (arith, q.1.high)) uids in
+    ap (λ (n : List ℕ). command.Copy n u t) name ∙ ap (λ (n : ℕ). command.Copy b (record { 0 = n }) t) uid ∙ ap (λ (n : List ℕ). command.Copy b v n) target
+
+move_same : (a b : List ℕ) (u v : Uid) (t w : List ℕ) → IsInRange (command.Move a u t) → IsInRange (command.Move b v w) → words_of (command.Move a u t) ≡ words_of (command.Move b v w) → command.Move a u t ≡ command.Move b v w
+move_same a b u v t w p q e =
+    let words : a ∷ decimal_text u.0 ∷ t ∷ [] ≡ b ∷ decimal_text v.0 ∷ w ∷ [] = cc e in
+    let name : a ≡ b = cc words in
+    let rest : decimal_text u.0 ∷ t ∷ [] ≡ decimal_text v.0 ∷ w ∷ [] = cc words in
+    let uids : decimal_text u.0 ≡ decimal_text v.0 = cc rest in
+    let last : t ∷ [] ≡ w ∷ [] = cc rest in
+    let target : t ≡ w = cc last in
+    let uid : u.0 ≡ v.0 = decimal_injective u.0 v.0 (omega (arith, p.1.high)) (omega (arith, q.1.high)) uids in
+    ap (λ (n : List ℕ). command.Move n u t) name ∙ ap (λ (n : ℕ). command.Move b (record { 0 = n }) t) uid ∙ ap (λ (n : List ℕ). command.Move b v n) target
+
 same_words : (a b : Command) → IsInRange a → IsInRange b → words_of a ≡ words_of b → a ≡ b
 same_words (command.Init a) (command.Init b) p q e = ap (λ (i : StoreId). command.Init i) (id_same a b p q e)
 same_words (command.List a) (command.List b) p q e = ap (λ (n : List ℕ). command.List n) (name_same a b e)
+same_words (command.Fetch a u) (command.Fetch b v) p q e = fetch_same a b u v p q e
 same_words (command.Flag a u f) (command.Flag b v g) p q e = flag_same a b u v f g p q e
+same_words (command.Expunge a u) (command.Expunge b v) p q e = expunge_same a b u v p q e
+same_words (command.Copy a u t) (command.Copy b v w) p q e = copy_same a b u v t w p q e
+same_words (command.Move a u t) (command.Move b v w) p q e = move_same a b u v t w p q e
+same_words command.Counts command.Counts p q e = refl
 same_words command.Dump command.Dump p q e = refl
 same_words command.LogDump command.LogDump p q e = refl
 same_words command.Help command.Help p q e = refl
@@ -113,6 +171,19 @@ said_only (Err x) words two p e = tt
 -- words that say a command which names a mailbox
 pub said_some : (words some : List (List ℕ)) → ((command : Command) × NamesMailbox command × Says some command) → words ≡ some → (command : Command) × NamesMailbox command × SaysOnly words command
 said_some words some s e = (s.0, s.1, says_only words s.0 (s.2.0, e ∙ s.2.1))
+
+-- words that name a mailbox and a UID
+pub fetch_says : (name uid : List ℕ) (u : Uid) → IsName name → IsNumber u.0 × (uid ≡ decimal_text u.0) → Says (codes "fetch" ∷ name ∷ uid ∷ []) (command.Fetch name u)
+fetch_says name uid u n p = ((n, p.0), ap (λ (t : List ℕ). codes "fetch" ∷ name ∷ t ∷ []) p.1)
+
+pub expunge_says : (name uid : List ℕ) (u : Uid) → IsName name → IsNumber u.0 × (uid ≡ decimal_text u.0) → Says (codes "expunge" ∷ name ∷ uid ∷ []) (command.Expunge name u)
+expunge_says name uid u n p = ((n, p.0), ap (λ (t : List ℕ). codes "expunge" ∷ name ∷ t ∷ []) p.1)
+
+pub copy_says : (name uid target : List ℕ) (u : Uid) → IsName name × IsName target → IsNumber u.0 × (uid ≡ decimal_text u.0) → Says (codes "copy" ∷ name ∷ uid ∷ target ∷ []) (command.Copy name u target)
+copy_says name uid target u n p = ((n.0, p.0, n.1), ap (λ (t : List ℕ). codes "copy" ∷ name ∷ t ∷ target ∷ []) p.1)
+
+pub move_says : (name uid target : List ℕ) (u : Uid) → IsName name × IsName target → IsNumber u.0 × (uid ≡ decimal_text u.0) → Says (codes "move" ∷ name ∷ uid ∷ target ∷ []) (command.Move name u target)
+move_says name uid target u n p = ((n.0, p.0, n.1), ap (λ (t : List ℕ). codes "move" ∷ name ∷ t ∷ target ∷ []) p.1)
 
 -- words that name a mailbox, a UID and flags
 pub flag_says : (name uid flags : List ℕ) (u : Uid) (f : ℕ) → IsName name → IsNumber u.0 × (uid ≡ decimal_text u.0) → (f ≤ 31) × (flags ≡ decimal_text f) → Says (codes "flag" ∷ name ∷ uid ∷ flags ∷ []) (command.Flag name u f)

@@ -10,7 +10,12 @@ use Rattle.request_text.specs.declared.command.Command.TheVariants as command
 abbrev pub words_of : Command → List (List ℕ)
 words_of (command.Init id) = codes "init" ∷ encode_lower id.0 ∷ []
 words_of (command.List name) = codes "list" ∷ name ∷ []
+words_of (command.Fetch name uid) = codes "fetch" ∷ name ∷ decimal_text uid.0 ∷ []
 words_of (command.Flag name uid flags) = codes "flag" ∷ name ∷ decimal_text uid.0 ∷ decimal_text flags ∷ []
+words_of (command.Expunge name uid) = codes "expunge" ∷ name ∷ decimal_text uid.0 ∷ []
+words_of (command.Copy name uid target) = codes "copy" ∷ name ∷ decimal_text uid.0 ∷ target ∷ []
+words_of (command.Move name uid target) = codes "move" ∷ name ∷ decimal_text uid.0 ∷ target ∷ []
+words_of command.Counts = codes "counts" ∷ []
 words_of command.Dump = codes "dump" ∷ []
 words_of command.LogDump = codes "logdump" ∷ []
 words_of command.Help = codes "--help" ∷ []
@@ -20,7 +25,12 @@ words_of command.Version = codes "--version" ∷ []
 abbrev pub IsInRange : Command → Type 0
 IsInRange (command.Init id) = (length id.0 ≡ 8) × IsOctets id.0
 IsInRange (command.List name) = IsName name
+IsInRange (command.Fetch name uid) = IsName name × IsNumber uid.0
 IsInRange (command.Flag name uid flags) = IsName name × IsNumber uid.0 × (flags ≤ 31)
+IsInRange (command.Expunge name uid) = IsName name × IsNumber uid.0
+IsInRange (command.Copy name uid target) = IsName name × IsNumber uid.0 × IsName target
+IsInRange (command.Move name uid target) = IsName name × IsNumber uid.0 × IsName target
+IsInRange command.Counts = Unit {0}
 IsInRange command.Dump = Unit {0}
 IsInRange command.LogDump = Unit {0}
 IsInRange command.Help = Unit {0}
@@ -42,5 +52,9 @@ SayNothing words = (command : Command) → Says words command → ⊥
 -- the command names a mailbox
 abbrev pub NamesMailbox : Command → Type 0
 NamesMailbox (command.List name) = Unit {0}
+NamesMailbox (command.Fetch name uid) = Unit {0}
 NamesMailbox (command.Flag name uid flags) = Unit {0}
+NamesMailbox (command.Expunge name uid) = Unit {0}
+NamesMailbox (command.Copy name uid target) = Unit {0}
+NamesMailbox (command.Move name uid target) = Unit {0}
 NamesMailbox other = ⊥

@@ -8,8 +8,18 @@ pub enum Command {
     Init { id: StoreId },
     /// Lists the mailbox with this name.
     List { name: Name },
+    /// Prints the octets of the message with this UID in the mailbox with this name.
+    Fetch { name: Name, uid: Uid },
     /// Sets the flags of the message with this UID in the mailbox with this name.
     Flag { name: Name, uid: Uid, flags: Flags },
+    /// Counts what the store has.
+    Counts,
+    /// Removes the message with this UID from the mailbox with this name.
+    Expunge { name: Name, uid: Uid },
+    /// Adds the message with this UID, from the mailbox with this name, to the target.
+    Copy { name: Name, uid: Uid, target: Name },
+    /// Moves the message with this UID, from the mailbox with this name, to the target.
+    Move { name: Name, uid: Uid, target: Name },
     /// Prints the messages of a storage file.
     Dump,
     /// Prints the entries of a log.
@@ -29,9 +39,25 @@ list BOX    lists a mailbox of the store in the current folder: prints OK and th
             line for each: its UID, its flags (the sum of 1 answered, 2 flagged, 4 deleted, 8 seen, 16 draft),
             its size in octets, the time it was received (Unix seconds) and its GUID; or prints
             NO 10 no mailbox
+fetch BOX UID
+            prints the octets of the message with this UID and nothing else; or prints NO 10 no mailbox,
+            NO 12 no message, NO 18 read fault, or NO 20 damaged with the storage file and the offset of the message
 flag BOX UID BITS
             sets the flags of the message with this UID to BITS (0 to 31, a sum as list prints it) and prints OK;
             or prints NO 10 no mailbox or NO 12 no message
+counts      prints OK and four numbers of the store in the current folder: how many messages it has stored, how
+            many its mailboxes list, the sum of the counts that it keeps of these (what is above is a leak), and
+            how many attachments it keeps apart, each once
+expunge BOX UID
+            removes the message with this UID from the mailbox and prints OK; or prints NO 10 no mailbox or
+            NO 12 no message
+copy BOX UID TO
+            adds the message with this UID to the mailbox TO and prints OK and its UID there; or prints
+            NO 10 no mailbox, NO 12 no message, NO 14 mailbox full 1000000, NO 16 store full 4294967294, or
+            NO 13 too many copies 65535
+move BOX UID TO
+            adds the message with this UID to the mailbox TO, removes it from its own, and prints OK and its UID
+            there; or prints NO with a number and the cause, as copy does
 dump        reads a storage file (m.N) of mdbox from standard input and prints, for each message,
             MESSAGE, its offset and the size of its body, and then its metadata lines, each after two spaces
 logdump     reads a log of mdbox from standard input and prints LOG, its kind (R, M or B), its number and its

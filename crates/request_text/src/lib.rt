@@ -4,7 +4,7 @@
 pub use command::{Command, HELP, VERSION};
 pub use error_report::report;
 pub use outcome::{FileRefusal, InputRefusal, Outcome, StoreRefusal, outcome_of_reply};
-pub use reply_print::print_reply;
+pub use reply_print::{print_fetch_alone, print_reply};
 pub use status::Status;
 pub use words::{WordsError, read_words};
 

@@ -3,7 +3,7 @@ ghost use Rattle.std.specs.Prelude.{◌≡◌, ◌≤◌, ◌++◌, ◌∷◌, [
 ghost use Rattle.mdbox_base.specs.Streams.{Appended};
 ghost use Rattle.mdbox_base.specs.declared.replies.Refusal.TheVariants as refusal;
 ghost use Rattle.mdbox_base.specs.declared.replies.Reply.TheVariants as reply;
-ghost use Rattle.request_text.specs.ReplyText.{numbers_text, guid_text, row_text, ok_line, listing_text, refusal_text, reply_text};
+ghost use Rattle.request_text.specs.ReplyText.{numbers_text, guid_text, row_text, ok_line, listing_text, refusal_text, reply_text, fetched_text};
 ghost use Rattle.piece_writer.specs.Pieces.{Gathers, WritesPrefix, IsPrintError};
 
 use disk_model::FileName;
@@ -137,7 +137,7 @@ fn moved_line(alloc: Global, uid: Uid, gone: bool) -> Result<Octets, NoMemory>
     Ok(line)
 }
 
-/// Prints a line.
+/// Prints a text that lies in memory whole.
 fn print_line<O: Sink>(output: &mut O, line: &Octets) -> Result<(), PrintError>
     ensures ok { OnOk result (Appended (O.held output.old) line.now (O.held output.new)) }
     ensures err { OnErr result (WritesPrefix (O.held output.old) [] line.now (O.held output.new)) }
@@ -234,5 +234,23 @@ pub fn print_reply<O: Sink>(alloc: Global, output: &mut O, reply: &Reply) -> Res
             print_line(output, &numbers_line(alloc, &[*corrected, *damaged])?)
         }
         Reply::Refused(refusal) => print_line(output, &refusal_line(alloc, *refusal)?),
+    }
+}
+
+/// Prints the reply to a fetch that is a request of its own: of a message that was fetched the octets alone, from where they lie.
+pub fn print_fetch_alone<O: Sink>(
+    alloc: Global,
+    output: &mut O,
+    reply: &Reply,
+) -> Result<(), PrintError>
+    ensures ok { OnOk result (Appended (O.held output.old) (fetched_text reply.now) (O.held output.new)) }
+    ensures err { OnErr result (WritesPrefix (O.held output.old) [] (fetched_text reply.now) (O.held output.new)) }
+    ensures quiet { OnOk result (O.faults output.new ≡ O.faults output.old) }
+    ensures cause { IfErr result (IsPrintError (O.faults output.old) (O.faults output.new)) }
+    ensures counted { O.faults output.old ≤ O.faults output.new }
+{
+    match reply {
+        Reply::Fetched(message) => print_line(output, message),
+        _ => print_reply(alloc, output, reply),
     }
 }

@@ -29,12 +29,13 @@ pub fn read_words(alloc: Global, words: &[String]) -> Result<Command, WordsError
     match words {
         [word] => read_one(word.as_str()),
         [verb, word] => read_two(alloc, verb.as_str(), word.as_bytes()),
-        [verb, name, uid, flags] => read_four(
+        [verb, name, uid] => read_three(alloc, verb.as_str(), name.as_bytes(), uid.as_bytes()),
+        [verb, name, uid, last] => read_four(
             alloc,
             verb.as_str(),
             name.as_bytes(),
             uid.as_bytes(),
-            flags.as_bytes(),
+            last.as_bytes(),
         ),
         _ => Err(WordsError::Usage),
     }
@@ -47,6 +48,7 @@ fn read_one(word: &str) -> Result<Command, WordsError>
     ensures memory { IsErrOf result words_error.NoMemory → ⊥ }
 {
     match word {
+        "counts" => Ok(Command::Counts),
         "dump" => Ok(Command::Dump),
         "logdump" => Ok(Command::LogDump),
         "--help" => Ok(Command::Help),
@@ -90,20 +92,61 @@ fn read_list(alloc: Global, word: &[u8]) -> Result<Command, WordsError>
     Ok(Command::List { name })
 }
 
+/// The command that three words say.
+fn read_three(alloc: Global, verb: &str, name: &[u8], uid: &[u8]) -> Result<Command, WordsError>
+    ensures says { IfOk result (Says (verb.now ∷ name.now ∷ uid.now ∷ [])) }
+    ensures usage { IsErrOf result words_error.Usage → SayNothing (verb.now ∷ name.now ∷ uid.now ∷ []) }
+    ensures memory { IsErrOf result words_error.NoMemory → (command : Command) × NamesMailbox command × Says (verb.now ∷ name.now ∷ uid.now ∷ []) command }
+{
+    match verb {
+        "fetch" => read_fetch(alloc, name, uid),
+        "expunge" => read_expunge(alloc, name, uid),
+        _ => Err(WordsError::Usage),
+    }
+}
+
+/// The fetch of the message with this UID in the mailbox with this name. The name is read last, since it takes memory.
+fn read_fetch(alloc: Global, name: &[u8], uid: &[u8]) -> Result<Command, WordsError>
+    ensures says { IfOk result (Says (codes "fetch" ∷ name.now ∷ uid.now ∷ [])) }
+    ensures usage { IsErrOf result words_error.Usage → SayNothing (codes "fetch" ∷ name.now ∷ uid.now ∷ []) }
+    ensures memory { IsErrOf result words_error.NoMemory → (command : Command) × NamesMailbox command × Says (codes "fetch" ∷ name.now ∷ uid.now ∷ []) command }
+{
+    let Some(uid) = read_uid(uid) else {
+        return Err(WordsError::Usage);
+    };
+    let name = read_name(alloc, name)?;
+    Ok(Command::Fetch { name, uid })
+}
+
+/// The expunge of the message with this UID in the mailbox with this name. The name is read last, since it takes memory.
+fn read_expunge(alloc: Global, name: &[u8], uid: &[u8]) -> Result<Command, WordsError>
+    ensures says { IfOk result (Says (codes "expunge" ∷ name.now ∷ uid.now ∷ [])) }
+    ensures usage { IsErrOf result words_error.Usage → SayNothing (codes "expunge" ∷ name.now ∷ uid.now ∷ []) }
+    ensures memory { IsErrOf result words_error.NoMemory → (command : Command) × NamesMailbox command × Says (codes "expunge" ∷ name.now ∷ uid.now ∷ []) command }
+{
+    let Some(uid) = read_uid(uid) else {
+        return Err(WordsError::Usage);
+    };
+    let name = read_name(alloc, name)?;
+    Ok(Command::Expunge { name, uid })
+}
+
 /// The command that four words say.
 fn read_four(
     alloc: Global,
     verb: &str,
     name: &[u8],
     uid: &[u8],
-    flags: &[u8],
+    last: &[u8],
 ) -> Result<Command, WordsError>
-    ensures says { IfOk result (Says (verb.now ∷ name.now ∷ uid.now ∷ flags.now ∷ [])) }
-    ensures usage { IsErrOf result words_error.Usage → SayNothing (verb.now ∷ name.now ∷ uid.now ∷ flags.now ∷ []) }
-    ensures memory { IsErrOf result words_error.NoMemory → (command : Command) × NamesMailbox command × Says (verb.now ∷ name.now ∷ uid.now ∷ flags.now ∷ []) command }
+    ensures says { IfOk result (Says (verb.now ∷ name.now ∷ uid.now ∷ last.now ∷ [])) }
+    ensures usage { IsErrOf result words_error.Usage → SayNothing (verb.now ∷ name.now ∷ uid.now ∷ last.now ∷ []) }
+    ensures memory { IsErrOf result words_error.NoMemory → (command : Command) × NamesMailbox command × Says (verb.now ∷ name.now ∷ uid.now ∷ last.now ∷ []) command }
 {
     match verb {
-        "flag" => read_flag(alloc, name, uid, flags),
+        "flag" => read_flag(alloc, name, uid, last),
+        "copy" => read_copy(alloc, name, uid, last),
+        "move" => read_move(alloc, name, uid, last),
         _ => Err(WordsError::Usage),
     }
 }
@@ -122,6 +165,47 @@ fn read_flag(alloc: Global, name: &[u8], uid: &[u8], flags: &[u8]) -> Result<Com
     };
     let name = read_name(alloc, name)?;
     Ok(Command::Flag { name, uid, flags })
+}
+
+/// The copy of the message with this UID, from the mailbox with this name, to the target. The names are read last, since they
+/// take memory.
+fn read_copy(alloc: Global, name: &[u8], uid: &[u8], target: &[u8]) -> Result<Command, WordsError>
+    ensures says { IfOk result (Says (codes "copy" ∷ name.now ∷ uid.now ∷ target.now ∷ [])) }
+    ensures usage { IsErrOf result words_error.Usage → SayNothing (codes "copy" ∷ name.now ∷ uid.now ∷ target.now ∷ []) }
+    ensures memory { IsErrOf result words_error.NoMemory → (command : Command) × NamesMailbox command × Says (codes "copy" ∷ name.now ∷ uid.now ∷ target.now ∷ []) command }
+{
+    let Some(uid) = read_uid(uid) else {
+        return Err(WordsError::Usage);
+    };
+    let (name, target) = read_names(alloc, name, target)?;
+    Ok(Command::Copy { name, uid, target })
+}
+
+/// The move of the message with this UID, from the mailbox with this name, to the target. The names are read last, since they
+/// take memory.
+fn read_move(alloc: Global, name: &[u8], uid: &[u8], target: &[u8]) -> Result<Command, WordsError>
+    ensures says { IfOk result (Says (codes "move" ∷ name.now ∷ uid.now ∷ target.now ∷ [])) }
+    ensures usage { IsErrOf result words_error.Usage → SayNothing (codes "move" ∷ name.now ∷ uid.now ∷ target.now ∷ []) }
+    ensures memory { IsErrOf result words_error.NoMemory → (command : Command) × NamesMailbox command × Says (codes "move" ∷ name.now ∷ uid.now ∷ target.now ∷ []) command }
+{
+    let Some(uid) = read_uid(uid) else {
+        return Err(WordsError::Usage);
+    };
+    let (name, target) = read_names(alloc, name, target)?;
+    Ok(Command::Move { name, uid, target })
+}
+
+/// Two names of mailboxes.
+fn read_names(alloc: Global, first: &[u8], second: &[u8]) -> Result<(Name, Name), WordsError>
+    ensures says { IfOk result (λ names. (names.0 ≡ first.now) × (names.1 ≡ second.now) × IsName first.now × IsName second.now) }
+    ensures usage { IsErrOf result words_error.Usage → IsName first.now → IsName second.now → ⊥ }
+    ensures memory { IsErrOf result words_error.NoMemory → IsName first.now × IsName second.now }
+{
+    match (read_name(alloc, first), read_name(alloc, second)) {
+        (Ok(first), Ok(second)) => Ok((first, second)),
+        (Err(WordsError::Usage), _) | (_, Err(WordsError::Usage)) => Err(WordsError::Usage),
+        _ => Err(WordsError::NoMemory),
+    }
 }
 
 /// The UID that this word names, from 1 to 4,294,967,294.

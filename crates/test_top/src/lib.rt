@@ -2,6 +2,14 @@
 #![tactic(auto)]
 
 #[cfg(test)]
+mod changes;
+#[cfg(test)]
+mod counts;
+#[cfg(test)]
+mod fetches;
+#[cfg(test)]
+mod moves;
+#[cfg(test)]
 mod replies;
 #[cfg(test)]
 mod runs;

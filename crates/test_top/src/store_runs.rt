@@ -39,7 +39,7 @@ const MESSAGE_RUNS: [(&[&str], u8, &str, &str); 3] = [
 ];
 
 /// The disk after a run with these words, its status, and whether this is what it printed and said.
-fn run(
+pub fn run(
     alloc: Global,
     disk: MemDisk,
     words: &[&str],

@@ -14,6 +14,7 @@ returns-in-Done-clause-done g c =
       store = c.facts.ensures.store;
       drawn = o.state.3;
       free = o.state.4;
+      files = o.files;
       running = o.state.1;
       safe = o.any_moment;
       settled_again = o.settled_again (λ f. absurd f);

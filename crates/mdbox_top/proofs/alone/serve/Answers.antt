@@ -9,6 +9,7 @@ returns-in-Ok-clause-ends g c = inr (record {
   given = c.in-Ok.reply;
   tells = c.in-Ok.ensures.done.tells;
   serves = c.in-Ok.ensures.done.serves;
+  faults = c.in-Ok.ensures.done.faults;
   printed = shows_text c.args.request c.in-Ok.reply _ _ c.print_outcome.result c.requires c.print_outcome.ensures.shown;
 })
 
@@ -16,13 +17,13 @@ pub returns-in-Ok-clause-moments : goal.returns-in-Ok-clause-moments
 returns-in-Ok-clause-moments g c = c.in-Ok.ensures.done.moments
 
 pub returns-in-Ok-clause-rests : goal.returns-in-Ok-clause-rests
-returns-in-Ok-clause-rests g c = served_rests c.args.request (reply_text c.in-Ok.reply) c.in-Ok.reply _ _ _ _ _ _ c.print_outcome.result c.requires c.in-Ok.ensures.done c.print_outcome.ensures.shown
+returns-in-Ok-clause-rests g c = served_rests c.args.request (reply_text c.in-Ok.reply) c.in-Ok.reply _ _ _ _ _ _ c.print_outcome.result c.in-Ok.ensures.done c.print_outcome.ensures.shown
 
 pub returns-in-Ok-clause-disk_fault : goal.returns-in-Ok-clause-disk_fault
-returns-in-Ok-clause-disk_fault g c = served_fault c.args.request (reply_text c.in-Ok.reply) c.in-Ok.reply _ _ _ _ _ _ c.print_outcome.result c.requires c.in-Ok.ensures.done c.print_outcome.ensures.shown
+returns-in-Ok-clause-disk_fault g c = served_fault c.args.request (reply_text c.in-Ok.reply) c.in-Ok.reply _ _ _ _ _ _ c.print_outcome.result c.in-Ok.ensures.done c.print_outcome.ensures.shown
 
 pub returns-in-Ok-clause-disk_quiet : goal.returns-in-Ok-clause-disk_quiet
-returns-in-Ok-clause-disk_quiet g c = served_quiet c.args.request (reply_text c.in-Ok.reply) c.in-Ok.reply _ _ _ _ _ _ c.print_outcome.result c.requires c.in-Ok.ensures.done c.print_outcome.ensures.shown
+returns-in-Ok-clause-disk_quiet g c = served_quiet c.args.request (reply_text c.in-Ok.reply) c.in-Ok.reply _ _ _ _ _ _ c.print_outcome.result c.in-Ok.ensures.done c.print_outcome.ensures.shown
 
 pub returns-in-Err-clause-ends : goal.returns-in-Err-clause-ends
 returns-in-Err-clause-ends g c = rw c.outcome_of.ensures (unopened_ends c.args.request _ _ _ _ _ c.in-Err.field-0.error c.in-Err.ensures.refused)

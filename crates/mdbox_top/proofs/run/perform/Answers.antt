@@ -2,3 +2,15 @@ use Rattle.mdbox_top.proofs.run.perform.Goals as goal
 
 pub returns-in-Flag-clause-rests : goal.returns-in-Flag-clause-rests
 returns-in-Flag-clause-rests g c = rw c.in-Flag.is c.serve-in-Flag.ensures.rests
+
+pub returns-in-Fetch-clause-rests : goal.returns-in-Fetch-clause-rests
+returns-in-Fetch-clause-rests g c = rw c.in-Fetch.is c.fetch.ensures.rests
+
+pub returns-in-Expunge-clause-rests : goal.returns-in-Expunge-clause-rests
+returns-in-Expunge-clause-rests g c = rw c.in-Expunge.is c.expunge.ensures.rests
+
+pub returns-in-Move-clause-rests : goal.returns-in-Move-clause-rests
+returns-in-Move-clause-rests g c = rw c.in-Move.is c.move_to.ensures.rests
+
+pub returns-in-Copy-clause-rests : goal.returns-in-Copy-clause-rests
+returns-in-Copy-clause-rests g c = rw c.in-Copy.is c.copy.ensures.rests

@@ -1,0 +1,34 @@
+use Rattle.std.proofs.Common.{sym, subst}
+use Rattle.mdbox_base.specs.declared.requests.Request.TheVariants as request
+use Rattle.mdbox_top.specs.Alone.{IsDoneAlone}
+use Rattle.mdbox_top.proofs.CountsLemmas.{count_step, counts_done}
+use Rattle.mdbox_top.proofs.counts.counts_alone.Goals as goal
+
+pub returns-in-Done-clause-done : goal.returns-in-Done-clause-done
+returns-in-Done-clause-done g c =
+    let o = c.in-Ok.ensures in
+    let step = c.step.ensures in
+    let given = c.in-Done.reply in
+    let done = counts_done given (g.D.Disk.history c.args.disk) (g.D.Disk.history c.in-Ok.store.disk) (g.D.Disk.faults c.in-Ok.store.disk) c.in-Ok.store c.step.new.self
+    (count_step given (g.D.Disk.history c.args.disk) (g.D.Disk.history c.in-Ok.store.disk) (g.D.Disk.faults c.in-Ok.store.disk) c.in-Ok.store c.step.new.self c.step.result c.in-Done.is
+    (record {
+      opened = o.opened;
+      store = c.facts.ensures.store;
+      drawn = o.state.3;
+      free = o.state.4;
+      files = o.files;
+      running = o.state.1;
+      safe = o.any_moment;
+      settled_again = o.settled_again (λ f. absurd f);
+      carried = o.carried (λ f. absurd f);
+      swept = (o.swept.0, o.swept.2);
+    })
+    (record { does = step.does; replies = step.replies }))
+    c.listings_are_shown.ensures.logs in
+    subst (λ d. IsDoneAlone request.Counts given (g.D.Disk.history c.args.disk) (g.D.Disk.history d) (g.D.Disk.faults c.args.disk) (g.D.Disk.faults d)) (sym c.into_disk.ensures)
+    (subst (λ f. IsDoneAlone request.Counts given (g.D.Disk.history c.args.disk) (g.D.Disk.history c.in-Ok.store.disk) f (g.D.Disk.faults c.in-Ok.store.disk)) (o.unfailed (λ f. f)) done)
+
+pub returns-in-Err-clause-refused : goal.returns-in-Err-clause-refused
+returns-in-Err-clause-refused g c =
+    let o = c.in-Err.ensures in
+    record { cause = o.refused; idle = o.idle; untouched = o.untouched; moments = o.any_moment; settled_again = o.settled_again; carried = o.carried; fault = o.fault; unfailed = o.unfailed }

@@ -1,0 +1,74 @@
+-- The events of a request alone that changes lists, one behind another.
+use Rattle.std.specs.Prelude.{◌≡◌, ◌↔◌, ℕ, true, false, List, Option, Some}
+use Rattle.disk_model.specs.Disk.{History, Faults}
+use Rattle.disk_model.specs.FaultCounts.{NoFault, ChangeFaultCounted}
+use Rattle.mdbox_base.specs.declared.ids.Uid.{Uid}
+use Rattle.mdbox_base.specs.declared.replies.Refusal.{Refusal}
+use Rattle.mdbox_base.specs.declared.replies.Refusal.TheVariants as refusal
+use Rattle.mdbox_base.specs.declared.replies.Reply.{Reply}
+use Rattle.mdbox_base.specs.declared.replies.Reply.TheVariants as reply
+use Rattle.mdbox_base.specs.declared.requests.Request.{Request}
+use Rattle.mdbox_base.specs.declared.requests.Request.TheVariants as request
+use Rattle.model_lists.specs.Lists.{Lists}
+use Rattle.model_store.specs.Settled.{IsSettledFor}
+use Rattle.journal.specs.Journal.{is_read_fault}
+use Rattle.list_machine.specs.Run.{Run}
+use Rattle.store_core.specs.Value.{StoreValue, indexes_of, list_named}
+use Rattle.task_steps.specs.Step.{Seen, ShowsSeen}
+use Rattle.mail_ops.specs.Copy.{IsAtCopy, copied_lists}
+use Rattle.mail_ops.specs.Expunging.{IsAtExpunge}
+use Rattle.mail_ops.specs.Moving.{IsAtMove}
+use Rattle.mail_ops.specs.Task.{seen_of}
+use Rattle.mail_ops.specs.declared.copy.CopyStage.TheVariants as copy_stage
+use Rattle.mail_ops.specs.declared.expunging.ExpungeStage.TheVariants as expunge_stage
+use Rattle.mail_ops.specs.declared.moving.MoveStage.TheVariants as move_stage
+use Rattle.mdbox_top.specs.Changed.{lists_told, AreOneOf, MomentsAmong}
+use Rattle.mdbox_top.specs.CopyRun.{uncopied_cause, IsCopyAnswer}
+use Rattle.mdbox_top.specs.ExpungeRun.{lists_without, IsExpungeAnswer}
+use Rattle.mdbox_top.specs.MoveRun.{AreAlongMove, IsMoveAnswer}
+use Rattle.mdbox_top.specs.Served.{ServesRequest, missing_cause}
+use Rattle.mdbox_top.specs.UnderWay.{IsUnderWay}
+
+-- A request alone is under way in this store, from these lists to those.
+abbrev pub IsWayTo : {D : Type 0} → (Run → ℕ → List Reply → Type 0) → Request → Lists → Seen → StoreValue D → Option History → Faults → Lists → Type 0
+IsWayTo Stands request lists began store history faults left = IsUnderWay Stands request lists began (seen_of store history faults) left
+
+-- Of a request that had not begun, what its events did of a store that wasn't stopped: it was served; where it is done, the
+-- store shows the lists that the reply tells; what a crash within it leaves; and which call of the disk failed.
+pub record ChangesAlone {D : Type 0} (Began : Run → ℕ → List Reply → Type 0) (request : Request) (Among : Lists → Lists → Type 0) (change : Lists → Lists) (store later : StoreValue D) (old new : Option History) (began now : Faults) (given : Reply) : Type 0 where
+  pub served : (lists : Lists) (seen : Seen) → IsWayTo Began request lists seen store old began lists → ServesRequest request lists given seen.faults now seen.history new
+  pub shows : ((why : Refusal) → given ≡ reply.Refused why → ⊥) → (lists : Lists) (seen : Seen) → IsWayTo Began request lists seen store old began lists → ShowsSeen (seen_of later new now) (change lists)
+  pub moments : MomentsAmong Among old new
+  pub settled : later.stopped ≡ false → (lists : Lists) → IsSettledFor lists old → IsSettledFor (lists_told request given lists) new
+  pub halts : (given ≡ reply.Refused refusal.Stopped) ↔ (later.stopped ≡ true)
+  pub fault : ChangeFaultCounted (given ≡ reply.Refused refusal.Stopped) began now
+  pub unfailed : (given ≡ reply.Refused refusal.Stopped → ⊥) → NoFault began now
+
+-- What the events of an expunge did.
+pub record RemovesAlone {D : Type 0} (name : List ℕ) (uid : Uid) (store later : StoreValue D) (old new : Option History) (began now : Faults) (given : Reply) : Type 0 where
+  pub given_is : IsExpungeAnswer (missing_cause (list_named store name) uid.0) given
+  pub refused : (why : Refusal) → given ≡ reply.Refused why → (why ≡ refusal.Stopped → ⊥) → later ≡ store
+  pub changes : ChangesAlone (IsAtExpunge expunge_stage.First) (request.Expunge name uid) (AreOneOf (lists_without name uid)) (lists_without name uid) store later old new began now given
+
+-- The store has the same listings, and the same mailboxes and records of the map, and their counts.
+pub record IsAsBefore {D : Type 0} (store later : StoreValue D) : Type 0 where
+  pub indexes : indexes_of later.boxes ≡ indexes_of store.boxes
+  pub mailboxes : later.map.boxes ≡ store.map.boxes
+  pub records : later.map.records ≡ store.map.records
+
+-- What the events of a copy did.
+pub record CopiesAlone {D : Type 0} (name : List ℕ) (uid : Uid) (target : List ℕ) (store later : StoreValue D) (old new : Option History) (began now : Faults) (given : Reply) : Type 0 where
+  pub given_is : IsCopyAnswer (uncopied_cause (list_named store name) (list_named store target) store.map uid.0) (list_named store target) given
+  pub refused : (why : Refusal) → given ≡ reply.Refused why → (why ≡ refusal.Stopped → ⊥) → (why ≡ refusal.NoMemory → ⊥) → later ≡ store
+  pub memory : given ≡ reply.Refused refusal.NoMemory → IsAsBefore store later
+  pub calm : is_read_fault (Some given) ≡ false
+  pub changes : ChangesAlone (IsAtCopy copy_stage.First) (request.Copy name uid target) (AreOneOf (copied_lists name uid target)) (copied_lists name uid target) store later old new began now given
+
+-- What the events of a move did.
+pub record MovesAlone {D : Type 0} (name : List ℕ) (uid : Uid) (target : List ℕ) (store later : StoreValue D) (old new : Option History) (began now : Faults) (given : Reply) : Type 0 where
+  pub given_is : IsMoveAnswer (uncopied_cause (list_named store name) (list_named store target) store.map uid.0) (list_named store target) given
+  pub refused : (why : Refusal) → given ≡ reply.Refused why → (why ≡ refusal.Stopped → ⊥) → (why ≡ refusal.NoMemory → ⊥) → later ≡ store
+  pub memory : given ≡ reply.Refused refusal.NoMemory → IsAsBefore store later
+  pub calm : is_read_fault (Some given) ≡ false
+  pub here : (moved : Uid) → given ≡ reply.Moved moved true → (lists : Lists) (seen : Seen) → IsWayTo (IsAtMove uid move_stage.First) (request.Move name uid target) lists seen store old began lists → ⊥
+  pub changes : ChangesAlone (IsAtMove uid move_stage.First) (request.Move name uid target) (AreAlongMove name uid target) (λ lists. lists_told (request.Move name uid target) given lists) store later old new began now given

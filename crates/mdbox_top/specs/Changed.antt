@@ -1,0 +1,74 @@
+-- What a request alone of several events makes of a store that it may change.
+use Rattle.std.specs.Prelude.{◌≡◌, ◌⊎◌, ℕ, Bool, List, if◌then◌else◌, Option}
+use Rattle.disk_model.specs.Disk.{Files, History, Faults, EachImage}
+use Rattle.mdbox_base.specs.declared.ids.Uid.{Uid}
+use Rattle.mdbox_base.specs.declared.replies.Reply.{Reply}
+use Rattle.mdbox_base.specs.declared.replies.Reply.TheVariants as reply
+use Rattle.mdbox_base.specs.declared.requests.Request.{Request}
+use Rattle.mdbox_base.specs.declared.requests.Request.TheVariants as request
+use Rattle.model_lists.specs.Lists.{Lists, AreWellFormed}
+use Rattle.list_machine.specs.Machine.{expunge}
+use Rattle.model_meaning.specs.BoxMeaning.{BoxMeaning}
+use Rattle.model_meaning.specs.MapMeaning.{MapMeaning}
+use Rattle.model_store.specs.Listing.{ShowLists}
+use Rattle.model_store.specs.Safe.{Safe}
+use Rattle.model_store.specs.Settled.{IsSettledFor, Leaves}
+use Rattle.mail_ops.specs.Copy.{copied_lists}
+use Rattle.store_open.specs.Opened.{IsOpenedAs, StoreCarries}
+use Rattle.store_sweep.specs.Moments.{NoFailedChange}
+use Rattle.store_sweep.specs.Swept.{IsSwept}
+
+-- the lists with the copy of a moved message and without the message, and those that the move leaves, by whether the message had
+-- gone before it was removed
+abbrev pub moved_lists : List ℕ → Uid → List ℕ → Lists → Lists
+moved_lists name uid target lists = expunge name uid.0 (copied_lists name uid target lists)
+
+abbrev pub lists_behind : List ℕ → Uid → List ℕ → Bool → Lists → Lists
+lists_behind name uid target gone lists = if gone then copied_lists name uid target lists else moved_lists name uid target lists
+
+-- the lists that a request leaves which had this reply: the same unless it is done
+abbrev pub lists_told : Request → Reply → Lists → Lists
+lists_told (request.Expunge name uid) reply.Done lists = expunge name uid.0 lists
+lists_told (request.Copy name uid target) (reply.Copied given) lists = copied_lists name uid target lists
+lists_told (request.Move name uid target) (reply.Moved given gone) lists = lists_behind name uid target gone lists
+lists_told asked given lists = lists
+
+-- The files open, and of any lists that these logs showed their logs show those that the change makes of them.
+pub record OpensChanged (change : Lists → Lists) (m : MapMeaning) (meanings : List BoxMeaning) (new : Option History) : Type 0 where
+  pub map : MapMeaning
+  pub changed : List BoxMeaning
+  pub opened : IsOpenedAs new map changed
+  pub shows : (lists : Lists) → AreWellFormed lists → ShowLists m.boxes meanings lists → ShowLists map.boxes changed (change lists)
+
+-- The files open with the same listings, and with the same mailboxes and records of the map, and their counts.
+pub record OpensAsBefore (m : MapMeaning) (meanings : List BoxMeaning) (new : Option History) : Type 0 where
+  pub map : MapMeaning
+  pub opened : IsOpenedAs new map meanings
+  pub mailboxes : map.boxes ≡ m.boxes
+  pub records : map.records ≡ m.records
+
+-- The files open with the same logs, all that the store reads is carried over, and the disk was swept.
+abbrev pub OpensUnchanged : MapMeaning → List BoxMeaning → Option History → Option History → Type 0
+OpensUnchanged m meanings old new = IsOpenedAs new m meanings × StoreCarries old new × ((generation : ℕ) × IsSwept generation m old new)
+
+-- A crash at any moment leaves a disk that is safe for the lists for which it was settled, or for those that the change makes
+-- of them.
+abbrev pub ChangeMoments : (Lists → Lists) → Option History → Option History → Type 0
+ChangeMoments change old new = (lists : Lists) → IsSettledFor lists old → Leaves lists (change lists) old new
+
+-- If no change of the disk failed, a disk that was settled for lists is settled for these, or for those that the change makes
+-- of them.
+abbrev pub ChangeRests : (Lists → Lists) → Type 0 → Faults → Faults → Option History → Option History → Type 0
+ChangeRests change failed began now old new = NoFailedChange failed began now → (lists : Lists) → IsSettledFor lists old → IsSettledFor lists new ⊎ IsSettledFor (change lists) new
+
+-- these lists, or those that the change makes of them
+abbrev pub AreOneOf : (Lists → Lists) → Lists → Lists → Type 0
+AreOneOf change lists some = (some ≡ lists) ⊎ (some ≡ change lists)
+
+-- A crash at any moment leaves a disk that is safe for some that are among the lists that this tells, of those for which it was
+-- settled.
+abbrev pub SafeForAmong : (Lists → Lists → Type 0) → Lists → ℕ → Files → Type 0
+SafeForAmong Among lists moment image = (some : Lists) × Among lists some × Safe image some
+
+abbrev pub MomentsAmong : (Lists → Lists → Type 0) → Option History → Option History → Type 0
+MomentsAmong Among old new = (lists : Lists) → IsSettledFor lists old → EachImage (SafeForAmong Among lists) old new

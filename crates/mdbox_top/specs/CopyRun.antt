@@ -1,0 +1,66 @@
+-- How `copy` ends.
+use Rattle.std.specs.Prelude.{◌≡◌, ◌⊎◌, ℕ, nat_le, List, Option, Some, None}
+use Rattle.std.specs.Option.{option_map_or, option_or}
+use Rattle.disk_model.specs.Disk.{History, Faults}
+use Rattle.mdbox_base.specs.declared.ids.Uid.{Uid}
+use Rattle.mdbox_base.specs.declared.replies.Refusal.{Refusal}
+use Rattle.mdbox_base.specs.declared.replies.Refusal.TheVariants as refusal
+use Rattle.mdbox_base.specs.declared.replies.Reply.{Reply}
+use Rattle.mdbox_base.specs.declared.replies.Reply.TheVariants as reply
+use Rattle.mdbox_base.specs.declared.requests.Request.TheVariants as request
+use Rattle.model_lists.specs.Lists.{Lists}
+use Rattle.list_machine.specs.Machine.{refused_where}
+use Rattle.model_meaning.specs.BoxMeaning.{BoxMeaning, row_at}
+use Rattle.model_meaning.specs.MapMeaning.{MapMeaning, count_of}
+use Rattle.model_store.specs.Listing.{meaning_named}
+use Rattle.model_store.specs.Settled.{IsSettledFor}
+use Rattle.mail_ops.specs.Copy.{copied_lists}
+use Rattle.mail_ops.specs.Copying.{room_refusal}
+use Rattle.store_open.specs.Opened.{IsOpenedAs}
+use Rattle.request_text.specs.declared.outcome.Outcome.{Outcome}
+use Rattle.mdbox_top.specs.Changed.{lists_told, OpensChanged, OpensUnchanged, OpensAsBefore, ChangeMoments, ChangeRests}
+use Rattle.mdbox_top.specs.Served.{RequestOutcome}
+
+-- Why the message isn't copied, by what the logs of its mailbox, of the target and of the map mean: no mailbox has either name, no
+-- message the UID, the target lists 1,000,000 or has no further UID, or the count of the message's record is 65,535.
+abbrev pub uncopied_cause : Option BoxMeaning → Option BoxMeaning → MapMeaning → ℕ → Option Refusal
+uncopied_cause from to m uid =
+    option_map_or (λ source. option_map_or (λ target. option_map_or (λ row. option_or (room_refusal target) (refused_where (nat_le 65535 (count_of m row.guid)) (refusal.TooManyCopies 65535))) (row_at source uid) (Some refusal.NoMessage)) to (Some refusal.NoMailbox)) from (Some refusal.NoMailbox)
+
+-- the copy has the target's next UID
+abbrev pub IsCopiedAs : Option BoxMeaning → Reply → Type 0
+IsCopiedAs to given = (target : BoxMeaning) × (uid : Uid) × (to ≡ Some target) × (uid.0 ≡ target.next) × (given ≡ reply.Copied uid)
+
+-- Why it isn't copied is replied, if it isn't. Else it is; or there was no memory; or a change of the disk failed, and the store
+-- is stopped.
+abbrev pub IsCopyAnswer : Option Refusal → Option BoxMeaning → Reply → Type 0
+IsCopyAnswer (Some why) to given = given ≡ reply.Refused why
+IsCopyAnswer None to given = IsCopiedAs to given ⊎ ((given ≡ reply.Refused refusal.NoMemory) ⊎ (given ≡ reply.Refused refusal.Stopped))
+
+-- The reply to the copy of this message, by what the logs mean from which the store opened. Where it is refused, the files open
+-- with the same logs, all that the store reads is carried over, and the disk was swept. Out of memory, they open with the same
+-- listings and counts, the count of the message's record maybe raised and given back. Where it is done, their logs show the
+-- lists with the copy. Unless the store is stopped, a disk that was settled for lists is settled for those that the reply tells.
+pub record IsCopyReply (name : List ℕ) (uid : Uid) (target : List ℕ) (old new : Option History) (given : Reply) : Type 0 where
+  pub m : MapMeaning
+  pub meanings : List BoxMeaning
+  pub opened : IsOpenedAs old m meanings
+  pub given_is : IsCopyAnswer (uncopied_cause (meaning_named name m.boxes meanings) (meaning_named target m.boxes meanings) m uid.0) (meaning_named target m.boxes meanings) given
+  pub refused : (why : Refusal) → given ≡ reply.Refused why → (why ≡ refusal.Stopped → ⊥) → (why ≡ refusal.NoMemory → ⊥) → OpensUnchanged m meanings old new
+  pub memory : given ≡ reply.Refused refusal.NoMemory → OpensAsBefore m meanings new
+  pub done : (given_uid : Uid) → given ≡ reply.Copied given_uid → OpensChanged (copied_lists name uid target) m meanings new
+  pub settled : (given ≡ reply.Refused refusal.Stopped → ⊥) → (lists : Lists) → IsSettledFor lists old → IsSettledFor (lists_told (request.Copy name uid target) given lists) new
+
+-- How `copy` ends: the reply is printed, which is `OK` with the UID of the copy, or why the message isn't copied, or
+-- `NO 17 memory`, or `NO 19 stopped`; or a prefix of it; or the store was not opened.
+abbrev pub CopyOutcome : List ℕ → Uid → List ℕ → Option (List ℕ) → Option (List ℕ) → Option History → Option History → Faults → Faults → Outcome → Type 0
+CopyOutcome name uid target = RequestOutcome (IsCopyReply name uid target) (request.Copy name uid target)
+
+-- A crash at any moment leaves a disk that is safe for the lists for which it was settled, or for those with the copy, whatever
+-- fails.
+abbrev pub CopyMoments : List ℕ → Uid → List ℕ → Option History → Option History → Type 0
+CopyMoments name uid target old new = ChangeMoments (copied_lists name uid target) old new
+
+-- If no change of the disk failed, a disk that was settled for lists is settled for these, or for those with the copy.
+abbrev pub CopyRests : List ℕ → Uid → List ℕ → Type 0 → Faults → Faults → Option History → Option History → Type 0
+CopyRests name uid target failed began now old new = ChangeRests (copied_lists name uid target) failed began now old new

@@ -1,0 +1,56 @@
+-- How `expunge` ends.
+use Rattle.std.specs.Prelude.{◌≡◌, ◌⊎◌, ℕ, List, Option, Some, None}
+use Rattle.disk_model.specs.Disk.{History, Faults}
+use Rattle.mdbox_base.specs.declared.ids.Uid.{Uid}
+use Rattle.mdbox_base.specs.declared.replies.Refusal.{Refusal}
+use Rattle.mdbox_base.specs.declared.replies.Refusal.TheVariants as refusal
+use Rattle.mdbox_base.specs.declared.replies.Reply.{Reply}
+use Rattle.mdbox_base.specs.declared.replies.Reply.TheVariants as reply
+use Rattle.mdbox_base.specs.declared.requests.Request.TheVariants as request
+use Rattle.model_lists.specs.Lists.{Lists}
+use Rattle.list_machine.specs.Machine.{expunge}
+use Rattle.model_meaning.specs.BoxMeaning.{BoxMeaning}
+use Rattle.model_meaning.specs.MapMeaning.{MapMeaning}
+use Rattle.model_store.specs.Listing.{meaning_named}
+use Rattle.model_store.specs.Settled.{IsSettledFor}
+use Rattle.store_open.specs.Opened.{IsOpenedAs}
+use Rattle.request_text.specs.declared.outcome.Outcome.{Outcome}
+use Rattle.mdbox_top.specs.Changed.{lists_told, OpensChanged, OpensUnchanged, ChangeMoments, ChangeRests}
+use Rattle.mdbox_top.specs.Served.{RequestOutcome, missing_cause}
+
+-- the lists without the message
+abbrev pub lists_without : List ℕ → Uid → Lists → Lists
+lists_without name uid lists = expunge name uid.0 lists
+
+-- Why the message isn't found is replied, if it isn't. Else it is done; or there was no memory; or a change of the disk failed,
+-- and the store is stopped.
+abbrev pub IsExpungeAnswer : Option Refusal → Reply → Type 0
+IsExpungeAnswer (Some why) given = given ≡ reply.Refused why
+IsExpungeAnswer None given = (given ≡ reply.Done) ⊎ ((given ≡ reply.Refused refusal.NoMemory) ⊎ (given ≡ reply.Refused refusal.Stopped))
+
+-- The reply to the expunge of this message, by what the logs mean from which the store opened. Where it is refused, or out of
+-- memory, the files open with the same logs, all that the store reads is carried over, and the disk was swept. Where it is
+-- done, their logs show the lists without the message. Unless the store is stopped, a disk that was settled for lists is settled
+-- for those that the reply tells.
+pub record IsExpungeReply (name : List ℕ) (uid : Uid) (old new : Option History) (given : Reply) : Type 0 where
+  pub m : MapMeaning
+  pub meanings : List BoxMeaning
+  pub opened : IsOpenedAs old m meanings
+  pub given_is : IsExpungeAnswer (missing_cause (meaning_named name m.boxes meanings) uid.0) given
+  pub refused : (why : Refusal) → given ≡ reply.Refused why → (why ≡ refusal.Stopped → ⊥) → OpensUnchanged m meanings old new
+  pub done : given ≡ reply.Done → OpensChanged (lists_without name uid) m meanings new
+  pub settled : (given ≡ reply.Refused refusal.Stopped → ⊥) → (lists : Lists) → IsSettledFor lists old → IsSettledFor (lists_told (request.Expunge name uid) given lists) new
+
+-- How `expunge` ends: the reply is printed, which is `OK`, or `NO 10 no mailbox` or `NO 12 no message` if there is none, or
+-- `NO 17 memory`, or `NO 19 stopped`; or a prefix of it; or the store was not opened.
+abbrev pub ExpungeOutcome : List ℕ → Uid → Option (List ℕ) → Option (List ℕ) → Option History → Option History → Faults → Faults → Outcome → Type 0
+ExpungeOutcome name uid = RequestOutcome (IsExpungeReply name uid) (request.Expunge name uid)
+
+-- A crash at any moment leaves a disk that is safe for the lists for which it was settled, or for those without the message,
+-- whatever fails.
+abbrev pub ExpungeMoments : List ℕ → Uid → Option History → Option History → Type 0
+ExpungeMoments name uid old new = ChangeMoments (lists_without name uid) old new
+
+-- If no change of the disk failed, a disk that was settled for lists is settled for these, or for those without the message.
+abbrev pub ExpungeRests : List ℕ → Uid → Type 0 → Faults → Faults → Option History → Option History → Type 0
+ExpungeRests name uid failed began now old new = ChangeRests (lists_without name uid) failed began now old new

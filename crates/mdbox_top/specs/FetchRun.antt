@@ -1,0 +1,83 @@
+-- How `fetch` ends.
+use Rattle.std.specs.Prelude.{◌≡◌, ◌⊎◌, ℕ, List, Option, Some, None}
+use Rattle.disk_model.specs.Disk.{DiskState, History, Faults, IfTold, IsIdle, reading}
+use Rattle.disk_model.specs.declared.name.FileName.TheVariants.{Mail}
+use Rattle.mdbox_base.specs.declared.ids.Uid.{Uid}
+use Rattle.mdbox_base.specs.declared.replies.Refusal.{Refusal}
+use Rattle.mdbox_base.specs.declared.replies.Refusal.TheVariants as refusal
+use Rattle.mdbox_base.specs.declared.replies.Reply.{Reply}
+use Rattle.mdbox_base.specs.declared.replies.Reply.TheVariants as reply
+use Rattle.mdbox_base.specs.declared.requests.Request.TheVariants as request
+use Rattle.model_lists.specs.Lists.{ListedMessage, Lists}
+use Rattle.list_machine.specs.Machine.{message_at}
+use Rattle.model_meaning.specs.BoxMeaning.{LogRow, BoxMeaning, row_at}
+use Rattle.model_meaning.specs.MapMeaning.{MapRecord, MapMeaning, record_at}
+use Rattle.model_store.specs.Listing.{meaning_named}
+use Rattle.storage_files.specs.OnDisk.{piece_read}
+use Rattle.mail_fetch.specs.Region.{stored_at, IsReplyFor}
+use Rattle.mail_fetch.specs.Stages.{IsTrueReply}
+use Rattle.store_open.specs.Opened.{IsOpenedAs, StoreCarries}
+use Rattle.store_sweep.specs.Swept.{IsSwept}
+use Rattle.request_text.specs.declared.outcome.Outcome.{Outcome}
+use Rattle.mdbox_top.specs.Served.{AreSafeFor, RequestOutcome, missing_cause}
+use Rattle.mdbox_top.specs.ListRun.{StaysSettled, ListMoments, ListRests}
+
+-- By what the logs mean the mailbox with this name has this row of this UID, and this is the row's record.
+pub record IsRecordOf (name : List ℕ) (uid : ℕ) (m : MapMeaning) (meanings : List BoxMeaning) (row : LogRow) (entry : MapRecord) : Type 0 where
+  pub mailbox : BoxMeaning
+  pub named : meaning_named name m.boxes meanings ≡ Some mailbox
+  pub listed : row_at mailbox uid ≡ Some row
+  pub stored : record_at m row.map_uid ≡ Some entry
+  pub same : entry.guid ≡ row.guid
+
+-- the octets that a disk reads at a record's region
+abbrev pub region_read : MapRecord → DiskState → List ℕ
+region_read entry disk = piece_read entry.offset entry.size (reading (disk (Mail entry.file)))
+
+-- A read failed, and that is replied; or what the disk reads at the record's region is replied: the octets of the one message
+-- that it is, or that it is damaged if and only if it is none.
+abbrev pub IsFetchAnswer : LogRow → MapRecord → Option History → Reply → Type 0
+IsFetchAnswer row entry history given =
+    (given ≡ reply.Refused refusal.ReadFault) ⊎ ((region : List ℕ) × IfTold history (λ disk. region ≡ region_read entry disk) × IsReplyFor (stored_at row entry) region given)
+
+-- The lists have the message with this UID, and its octets were replied; or that a read failed; or, of a message with
+-- attachments, that its region is damaged.
+abbrev pub IsTextOf : List ℕ → ℕ → Lists → LogRow → MapRecord → Reply → Type 0
+IsTextOf name uid lists row entry given = (message : ListedMessage) × (message_at name uid lists ≡ Some message) × IsTrueReply (stored_at row entry) message.octets given
+
+-- The message was read, or a read failed, and this was replied.
+pub record IsFetched (name : List ℕ) (uid : ℕ) (m : MapMeaning) (meanings : List BoxMeaning) (old new : Option History) (given : Reply) : Type 0 where
+  pub row : LogRow
+  pub entry : MapRecord
+  pub record_is : IsRecordOf name uid m meanings row entry
+  pub given_is : IsFetchAnswer row entry new given
+  pub text : (lists : Lists) → AreSafeFor lists old → IsTextOf name uid lists row entry given
+
+-- The reply to the fetch of this message, by what the logs mean from which the store opened, and opens again. It is refused if
+-- and only if they have no such mailbox or message. Else it is by what the disk reads, or there was no memory; and where the
+-- files were safe for lists, the octets are those of the message that they list. Behind the opening, which swept the disk, nothing has changed: all that the
+-- store reads is carried over, and if the disk was settled for lists, it is settled for them again.
+pub record IsFetchReply (name : List ℕ) (uid : Uid) (old new : Option History) (given : Reply) : Type 0 where
+  pub m : MapMeaning
+  pub meanings : List BoxMeaning
+  pub opened : IsOpenedAs old m meanings
+  pub again : IsOpenedAs new m meanings
+  pub refused : (why : Refusal) → missing_cause (meaning_named name m.boxes meanings) uid.0 ≡ Some why → given ≡ reply.Refused why
+  pub found : missing_cause (meaning_named name m.boxes meanings) uid.0 ≡ None → (given ≡ reply.Refused refusal.NoMemory) ⊎ IsFetched name uid.0 m meanings old new given
+  pub settled : StaysSettled old new
+  pub carried : StoreCarries old new
+  pub swept : (generation : ℕ) × (opened : Option History) × IsSwept generation m old opened × IsIdle opened new
+
+-- How `fetch` ends: the octets of the message are printed and nothing else, or `NO 10 no mailbox` or `NO 12 no message` if there
+-- is none, `NO 17 memory`, `NO 18 read fault`, or `NO 20 damaged` with the file and the offset of its region; or a prefix of this;
+-- or the store was not opened.
+abbrev pub FetchOutcome : List ℕ → Uid → Option (List ℕ) → Option (List ℕ) → Option History → Option History → Faults → Faults → Outcome → Type 0
+FetchOutcome name uid = RequestOutcome (IsFetchReply name uid) (request.Fetch name uid)
+
+-- A crash at any moment of a fetch leaves a disk that is safe for the lists for which it was settled, whatever fails.
+abbrev pub FetchMoments : Option History → Option History → Type 0
+FetchMoments old new = ListMoments old new
+
+-- If no change of the disk failed, a disk that was settled is settled again, and all that the store reads is carried over.
+abbrev pub FetchRests : Type 0 → Faults → Faults → Option History → Option History → Type 0
+FetchRests failed began now old new = ListRests failed began now old new
