@@ -1,5 +1,5 @@
-//! Makes a store in the folder that it runs in, lists it and damages it, through the whole program, and prints what each run
-//! answers.
+//! Makes a store in the folder that it runs in, lists it, fetches a message that is put there, copies it, removes the first and
+//! fetches the copy, and damages the store, through the whole program, and prints what each run answers.
 #![tactic(auto)]
 
 use anyhow::Result;
@@ -25,11 +25,29 @@ const RUNS: [&[&str]; 11] = [
     &["list", "INBOX", "A"],
 ];
 
+/// The map log and the log of INBOX of the same store with one message, and the storage file that holds it.
+const MAP_LOG: &[u8] =
+    b"MDBXLOG1\0\x11\x22\x33\x44\x55\x66\x77M\0\0\0\0\0\0\0\x01\x01\0\0\0\x0fB\0\0\0\x01\0\0\0\x01\x05INBOX\x01\0\0\0\x26S\0\0\x01\0\0\0\x01\0\0\0\x01\0\0\0\x10\0\0\0\x5f\0\x11\x22\x33\x44\x55\x66\x77\0\0\0\x01\0\0\0\x10\0\0\0";
+
+const INBOX_LOG: &[u8] =
+    b"MDBXLOG1\0\x11\x22\x33\x44\x55\x66\x77B\0\0\0\x01\0\0\0\x01\x01\0\0\0\x26A\0\0\0\x01\0\0\0\0\0\x65\0\0\0\0\0\0\x06\0\0\0\x01\0\x11\x22\x33\x44\x55\x66\x77\0\0\0\x01\0\0\0\x10\0";
+
+const MAIL: &[u8] =
+    b"2 M1e C65000000\n\x01\x02N          0000000000000006\nHello\n\n\x01\x03\nR65000000\nV7\nG00112233445566770000000100000010\nBINBOX\n\n";
+
 fn main(rt: HostRuntime) -> Result<()> {
     for words in RUNS {
         run(rt, words)?;
     }
-    // The entry of the map log, which has 46 octets, is cut off.
+    fs::write(&rt, "storage/map.1.log", MAP_LOG)?;
+    fs::write(&rt, "mailboxes/b.1.1.log", INBOX_LOG)?;
+    fs::write(&rt, "storage/m.1", MAIL)?;
+    run(rt, &["fetch", "INBOX", "1"])?;
+    run(rt, &["fetch", "INBOX", "2"])?;
+    run(rt, &["copy", "INBOX", "1", "INBOX"])?;
+    run(rt, &["expunge", "INBOX", "1"])?;
+    run(rt, &["fetch", "INBOX", "2"])?;
+    // The first entry of the map log, which ends at 45, is cut off.
     OpenOptions::new()
         .write(true)
         .open(&rt, "storage/map.1.log")?

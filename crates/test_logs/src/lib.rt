@@ -2,15 +2,21 @@
 #![tactic(auto)]
 
 #[cfg(test)]
+mod alike;
+#[cfg(test)]
 mod appends;
 #[cfg(test)]
 mod indexes;
 #[cfg(test)]
 mod large;
 #[cfg(test)]
+mod made_map;
+#[cfg(test)]
 mod octets;
 #[cfg(test)]
 mod pieces;
+#[cfg(test)]
+mod plain;
 #[cfg(test)]
 mod reading;
 #[cfg(test)]
