@@ -8,10 +8,11 @@ all:
 	cp crates/mdbox/out/mdbox mdbox
 
 # Prints the messages of a storage file that Dovecot 2.3.19 wrote; then makes a store in a folder of its own, lists its
-# INBOX, and prints the entries of its root log and of its map log.
+# INBOX, counts what it has, and prints the entries of its root log and of its map log.
 demo: all
 	./mdbox dump < demo/plain.m
 	folder=$$(mktemp -d) && cd $$folder && $(CURDIR)/mdbox init 0011223344556677 && $(CURDIR)/mdbox list INBOX && \
+	$(CURDIR)/mdbox counts && \
 	$(CURDIR)/mdbox logdump < storage/root.log && $(CURDIR)/mdbox logdump < storage/map.1.log && rm -r $$folder
 
 # The gate: every proof, every edit that must fail, every test and program, and the names and the levels of crates.

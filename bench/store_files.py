@@ -83,11 +83,14 @@ def write_mail_files(folder, messages):
     out.close()
 
 
-def write_store(folder, count, half=False):
+def write_store(folder, count, half=False, last=None):
     """Writes a store of so many messages in INBOX, beside which there is an empty mailbox, EMPTY, into a folder. If only half
-    of them are to stay, the others are expunged in any order. Answers all messages, and those that stay."""
+    of them are to stay, the others are expunged in any order; if the last one's octets are given, it has these. Answers all
+    messages, and those that stay."""
     sizes = random.Random(count)
     messages = [Message(number, sizes) for number in range(1, count + 1)]
+    if last is not None:
+        messages[-1].octets = last
     expunged = sizes.sample(messages, count // 2) if half else []
     storage, mailboxes = (os.path.join(folder, name) for name in ("storage", "mailboxes"))
     os.mkdir(storage)

@@ -1,0 +1,33 @@
+"""A Dovecot mdbox to compare with, for the benchmarks beside this file."""
+
+import os
+import shutil
+import subprocess
+
+import store_files
+
+NOBODY = 65534
+
+
+def mdbox_of(folder, messages):
+    """The words that start `doveadm` on a Dovecot mdbox of these messages, which is made in the folder. None without it."""
+    if not shutil.which("doveadm"):
+        print("doveadm isn't installed")
+        return None
+    user = os.getuid() or NOBODY
+    group = os.getgid() or NOBODY
+    config = os.path.join(folder, "dovecot.conf")
+    with open(config, "w", encoding="utf-8") as out:
+        out.write(
+            f"mail_location = mdbox:{folder}/mdbox\nmail_home = {folder}\nmail_uid = {user}\nmail_gid = {group}\n"
+            f"first_valid_uid = 1\nbase_dir = {folder}/run\nstate_dir = {folder}/run\nlog_path = /dev/stderr\n"
+        )
+    store_files.write_maildir(os.path.join(folder, "maildir"), messages)
+    subprocess.run(["chown", "-R", f"{user}:{group}", folder], check=True)
+    os.environ.update(USER="bench", HOME=folder)
+    start = ["doveadm", "-c", config]
+    imported = subprocess.run([*start, "import", f"maildir:{folder}/maildir", "", "all"], check=False)
+    if imported.returncode != 0:
+        print(f"doveadm import: status {imported.returncode}")
+        return None
+    return start
