@@ -2,7 +2,9 @@ pub mod Added
 pub mod Events
 pub mod Left
 pub mod Parts
+pub mod Ready
 pub mod Record
+pub mod SaveEffects
 pub mod Saved
 pub mod Stored
 pub mod Task
