@@ -5,3 +5,5 @@ pub mod RegionSizeLemmas
 pub mod SaveEventLemmas
 pub mod SavedRegionLemmas
 pub mod StoredMessageLemmas
+pub mod StoringLemmas
+pub mod TakingLemmas

@@ -1,5 +1,5 @@
 -- What a delivery has between its events, of the message with these octets: what each event needs of the store and its disk.
-use Rattle.std.specs.Prelude.{◌≡◌, ◌≤◌, ℕ, List, length}
+use Rattle.std.specs.Prelude.{◌≡◌, ◌≤◌, ℕ, List, length, Option}
 use Rattle.attach_detach.specs.Prepared.{IsPlain}
 use Rattle.disk_model.specs.Disk.{History, IfTold}
 use Rattle.mdbox_base.specs.declared.ids.MapUid.{MapUid}
@@ -37,14 +37,19 @@ pub record IsRecordReady {D : Type 0} (added : Added) (time : ℕ) (octets : Lis
   pub brings : (uid : Uid) → Brings store.map (entry_added uid added) octets history
   pub unlisted : references_to store added.guid.0 ≡ 0
 
--- what an event needs beside what the task and the store have (`HasLeft`)
-abbrev pub IsReadyToSave : {D : Type 0} → SaveStage → List ℕ → ℕ → List ℕ → StoreValue D → Option History → Type 0
-IsReadyToSave (stage.First prepared) name time octets store history = IsPlain octets prepared × (length octets ≤ 67108864)
-IsReadyToSave (stage.Taking parts) name time octets store history = AreLaidOut name time octets parts × (length octets ≤ 67108864)
-IsReadyToSave (stage.Placing parts file) name time octets store history = AreLaidOut name time octets parts × (length octets ≤ 67108864)
-IsReadyToSave (stage.Storing at origin room) name time octets store history = IsRegionReady at origin octets history × (length octets ≤ 67108864)
-IsReadyToSave (stage.Adding added room) name time octets store history = IsRecordReady added time octets store history × (length octets ≤ 67108864)
-IsReadyToSave now name time octets store history = length octets ≤ 67108864
+-- the message has so many octets
+abbrev pub HasSize : ℕ → List ℕ → Type 0
+HasSize size octets = (size ≡ length octets) × (length octets ≤ 67108864)
+
+-- What an event needs beside what the task and the store have (`HasLeft`), of a delivery to this mailbox at this time, of so many
+-- octets.
+abbrev pub IsReadyToSave : {D : Type 0} → SaveStage → List ℕ → ℕ → ℕ → List ℕ → StoreValue D → Option History → Type 0
+IsReadyToSave (stage.First prepared) name time size octets store history = HasSize size octets × IsPlain octets prepared
+IsReadyToSave (stage.Taking parts) name time size octets store history = HasSize size octets × AreLaidOut name time octets parts
+IsReadyToSave (stage.Placing parts file) name time size octets store history = HasSize size octets × AreLaidOut name time octets parts
+IsReadyToSave (stage.Storing at origin room) name time size octets store history = HasSize size octets × IsRegionReady at origin octets history
+IsReadyToSave (stage.Adding added room) name time size octets store history = HasSize size octets × IsRecordReady added time octets store history
+IsReadyToSave now name time size octets store history = HasSize size octets
 
 -- ---- the lists
 

@@ -1,6 +1,7 @@
 -- What each event of a delivery makes of the store.
-use Rattle.std.specs.Prelude.{◌≡◌, ◌≢◌, ◌⊎◌, ◌+◌, ℕ, true, false, List, [], length, Some, None}
+use Rattle.std.specs.Prelude.{◌≡◌, ◌≢◌, ◌⊎◌, ◌+◌, ℕ, true, false, List, [], length, Option, Some, None}
 use Rattle.attach_detach.specs.Prepared.{IsPlain}
+use Rattle.disk_model.specs.Disk.{History}
 use Rattle.mdbox_base.specs.declared.ids.BoxNo.{BoxNo}
 use Rattle.mdbox_base.specs.declared.ids.FileNo.{FileNo}
 use Rattle.mdbox_base.specs.declared.ids.MapUid.{MapUid}
@@ -18,7 +19,7 @@ use Rattle.model_meaning.specs.MapMeaning.{MapRecord, map_applied, record_at}
 use Rattle.storage_files.specs.Files.{IsTakeFor, end_in, is_taken_in, released_in}
 use Rattle.storage_files.specs.declared.file.Take.{Take}
 use Rattle.storage_files.specs.declared.file.Take.TheVariants.{Known, New, Full}
-use Rattle.store_core.specs.Dues.{due_at}
+use Rattle.store_core.specs.Dues.{due_at, IsSpared}
 use Rattle.store_core.specs.Value.{StoreValue, indexes_of, list_named}
 use Rattle.mail_save.specs.Added.{HasRoomUnder, entry_added}
 use Rattle.mail_save.specs.Events.{save_refusal}
@@ -51,6 +52,10 @@ pub record IsLeftAlone {D : Type 0} (old new : StoreValue D) : Type 0 where
   pub dues : new.dues ≡ old.dues
   pub drawn : new.drawn ≡ old.drawn
   pub files : new.files ≡ old.files
+
+-- each record is there still, and stores what it stored
+abbrev pub AreSpared : {D : Type 0} → StoreValue D → StoreValue D → Option History → Option History → Type 0
+AreSpared old new before after = (uid : ℕ) (row : MapRecord) → record_at old.map uid ≡ Some row → IsSpared uid row new before after
 
 -- ---- a storage file is taken
 

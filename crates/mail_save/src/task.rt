@@ -7,7 +7,7 @@ ghost use Rattle.mdbox_base.specs.declared.progress.Progress.TheVariants as prog
 ghost use Rattle.mdbox_base.specs.declared.replies.Refusal.TheVariants as refusal;
 ghost use Rattle.mdbox_base.specs.declared.replies.Reply.TheVariants as reply;
 ghost use Rattle.store_core.specs.Dues.{due_at};
-ghost use Rattle.mail_save.specs.Left.{AreNumbered, HoldsFile};
+ghost use Rattle.mail_save.specs.Left.{HoldsFile};
 ghost use Rattle.mail_save.specs.Task.{HasLeft, IsOfMessage, Saves, stopped_reply, refused_did, failing_did};
 ghost use Rattle.mail_save.specs.declared.task.SaveStage.TheVariants as stage;
 
@@ -112,8 +112,7 @@ impl SaveTask {
     /// store has to have what the event before left.
     pub fn step<D: Disk>(&mut self, store: &mut Store<D>) -> Progress
         requires left { HasLeft self.old.stage self.old.name self.old.time store.old }
-        requires numbered { AreNumbered store.old }
-        ensures saves { store.old.stopped ≡ false → Saves self.old.stage self.new.stage self.old.name self.old.time result self.new.did store.old store.new (D.history store.old.disk) (D.history store.new.disk) (D.faults store.old.disk) (D.faults store.new.disk) }
+        ensures saves { store.old.stopped ≡ false → Saves self.old.stage self.new.stage self.old.name self.old.time self.old.size result self.new.did store.old store.new (D.history store.old.disk) (D.history store.new.disk) (D.faults store.old.disk) (D.faults store.new.disk) }
         ensures stopped { store.old.stopped ≡ true → (result ≡ stopped_reply) × (store.new ≡ store.old) × (self.new.did ≡ did.Quiet) }
         ensures request { (self.new.name ≡ self.old.name) × (self.new.time ≡ self.old.time) × (self.new.size ≡ self.old.size) }
     {
@@ -139,9 +138,8 @@ fn next_event<D: Disk>(
 ) -> Led
     requires running { store.old.stopped ≡ false }
     requires left { HasLeft now name.now time store.old }
-    requires numbered { AreNumbered store.old }
     requires size { size ≤ 67108864 }
-    ensures { Saves now result.next name.now time result.answer result.did store.old store.new (D.history store.old.disk) (D.history store.new.disk) (D.faults store.old.disk) (D.faults store.new.disk) }
+    ensures { Saves now result.next name.now time size result.answer result.did store.old store.new (D.history store.old.disk) (D.history store.new.disk) (D.faults store.old.disk) (D.faults store.new.disk) }
 {
     match now {
         SaveStage::First(prepared) => first_event(store, name, time, &prepared),
@@ -203,8 +201,7 @@ fn did_fail(why: Refusal) -> Did
 fn first_event<D: Disk>(store: &Store<D>, name: &Name, time: u64, prepared: &Prepared) -> Led
     requires running { store.now.stopped ≡ false }
     requires message { (octets : List ℕ) × (length octets ≤ 67108864) × IsPlain octets prepared.now }
-    requires numbered { AreNumbered store.now }
-    ensures { Saves (stage.First prepared.now) result.next name.now time result.answer result.did store.now store.now (D.history store.now.disk) (D.history store.now.disk) (D.faults store.now.disk) (D.faults store.now.disk) }
+    ensures { (size : ℕ) → Saves (stage.First prepared.now) result.next name.now time size result.answer result.did store.now store.now (D.history store.now.disk) (D.history store.now.disk) (D.faults store.now.disk) (D.faults store.now.disk) }
 {
     match begin(store, name, time, prepared) {
         Ok(parts) => goes_on(SaveStage::Taking(parts)),
@@ -223,8 +220,7 @@ fn known_name(name: &Name)
 fn taking<D: Disk>(store: &mut Store<D>, name: &Name, time: u64, parts: SavedParts) -> Led
     requires running { store.old.stopped ≡ false }
     requires message { IsOfMessage name.now time parts }
-    requires numbered { AreNumbered store.old }
-    ensures { Saves (stage.Taking parts) result.next name.now time result.answer result.did store.old store.new (D.history store.old.disk) (D.history store.new.disk) (D.faults store.old.disk) (D.faults store.new.disk) }
+    ensures { (size : ℕ) → Saves (stage.Taking parts) result.next name.now time size result.answer result.did store.old store.new (D.history store.old.disk) (D.history store.new.disk) (D.faults store.old.disk) (D.faults store.new.disk) }
 {
     known_name(name);
     let size = parts.region.length() as u32;
@@ -245,8 +241,7 @@ fn placing<D: Disk>(
     requires running { store.old.stopped ≡ false }
     requires message { IsOfMessage name.now time parts }
     requires taken { HoldsFile file.0 (length parts.region) store.old }
-    requires numbered { AreNumbered store.old }
-    ensures { Saves (stage.Placing parts file) result.next name.now time result.answer result.did store.old store.new (D.history store.old.disk) (D.history store.new.disk) (D.faults store.old.disk) (D.faults store.new.disk) }
+    ensures { (size : ℕ) → Saves (stage.Placing parts file) result.next name.now time size result.answer result.did store.old store.new (D.history store.old.disk) (D.history store.new.disk) (D.faults store.old.disk) (D.faults store.new.disk) }
 {
     let SavedParts {
         header: _header,
@@ -273,9 +268,8 @@ fn storing<D: Disk>(
 ) -> Led
     requires running { store.old.stopped ≡ false }
     requires left { HasLeft (stage.Storing at origin room) name.now time store.old }
-    requires numbered { AreNumbered store.old }
     requires size { size ≤ 67108864 }
-    ensures { Saves (stage.Storing at origin room) result.next name.now time result.answer result.did store.old store.new (D.history store.old.disk) (D.history store.new.disk) (D.faults store.old.disk) (D.faults store.new.disk) }
+    ensures { Saves (stage.Storing at origin room) result.next name.now time size result.answer result.did store.old store.new (D.history store.old.disk) (D.history store.new.disk) (D.faults store.old.disk) (D.faults store.new.disk) }
 {
     let alloc = store.alloc();
     match store_record(store, alloc, at, origin) {
@@ -302,8 +296,7 @@ fn adding<D: Disk>(
 ) -> Led
     requires running { store.old.stopped ≡ false }
     requires left { HasLeft (stage.Adding added room) name.now time store.old }
-    requires numbered { AreNumbered store.old }
-    ensures { Saves (stage.Adding added room) result.next name.now time result.answer result.did store.old store.new (D.history store.old.disk) (D.history store.new.disk) (D.faults store.old.disk) (D.faults store.new.disk) }
+    ensures { (size : ℕ) → Saves (stage.Adding added room) result.next name.now time size result.answer result.did store.old store.new (D.history store.old.disk) (D.history store.new.disk) (D.faults store.old.disk) (D.faults store.new.disk) }
 {
     match add_message(store, name, added) {
         Ok(uid) => Led {
@@ -336,8 +329,7 @@ fn giving_back<D: Disk>(store: &mut Store<D>, uid: MapUid, why: Refusal, room: L
     requires running { store.old.stopped ≡ false }
     requires due { 1 ≤ due_at uid.0 store.old }
     requires why { why ≢ refusal.Stopped }
-    requires numbered { AreNumbered store.old }
-    ensures { (name : List ℕ) (time : ℕ) → Saves (stage.GivingBack uid why room) result.next name time result.answer result.did store.old store.new (D.history store.old.disk) (D.history store.new.disk) (D.faults store.old.disk) (D.faults store.new.disk) }
+    ensures { (name : List ℕ) (time size : ℕ) → Saves (stage.GivingBack uid why room) result.next name time size result.answer result.did store.old store.new (D.history store.old.disk) (D.history store.new.disk) (D.faults store.old.disk) (D.faults store.new.disk) }
 {
     match give_back(store, uid, room) {
         Ok(()) => ends(why, Did::Quiet),
