@@ -1,8 +1,11 @@
 pub mod AddLemmas
+pub mod DeliveredListLemmas
 pub mod PlaceLemmas
+pub mod ReadyLemmas
 pub mod RecordLemmas
 pub mod RegionSizeLemmas
 pub mod SaveEventLemmas
+pub mod SaveMomentLemmas
 pub mod SavedRegionLemmas
 pub mod StoredMessageLemmas
 pub mod StoringLemmas

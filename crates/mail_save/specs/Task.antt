@@ -106,7 +106,7 @@ RepliesAt (stage.Storing at origin room) name answer next store =
     GoesOnOr (λ why. (uid_refusal store.drawn.map ≡ Some why) ⊎ ((uid_refusal store.drawn.map ≡ None) × ((why ≡ refusal.Stopped) ⊎ (why ≡ refusal.NoMemory)))) answer
 RepliesAt (stage.Adding added room) name answer next store =
     ((number : BoxNo) × (uid : Uid) × HasRoomUnder name number uid store × (answer ≡ progress.Done (reply.Saved uid added.guid)))
-    ⊎ ((answer ≡ progress.Done (reply.Refused refusal.Stopped))
+    ⊎ (((number : BoxNo) × (uid : Uid) × HasRoomUnder name number uid store × (answer ≡ progress.Done (reply.Refused refusal.Stopped)))
     ⊎ ((why : Refusal) × ((box_refusal (list_named store name) ≡ Some why) ⊎ ((box_refusal (list_named store name) ≡ None) × (why ≡ refusal.NoMemory))) × (answer ≡ progress.More) × (next ≡ stage.GivingBack added.map_uid why room)))
 RepliesAt (stage.GivingBack uid why room) name answer next store = (answer ≡ progress.Done (reply.Refused why)) ⊎ (answer ≡ progress.Done (reply.Refused refusal.Stopped))
 RepliesAt stage.Ended name answer next store = ⊥
@@ -149,6 +149,7 @@ pub record Saves {D : Type 0} (now next : SaveStage) (name : List ℕ) (time siz
   pub left : answer ≡ progress.More → HasLeft next name time new
   pub fewer : answer ≡ progress.More → save_events_left next < save_events_left now
   pub effects : SaveEffects now next name time size answer old new
+  pub idle : new ≡ old → after ≡ before
   pub spared : new.stopped ≡ false → AreSpared old new before after
   pub stopped : (answer ≡ stopped_reply) ↔ (new.stopped ≡ true)
   pub fault : ChangeFaultCounted (answer ≡ stopped_reply) began ended

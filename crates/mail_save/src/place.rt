@@ -84,6 +84,7 @@ pub fn place_region<D: Disk>(
     ensures file { IfOk result (λ at. at.file ≡ file) }
     ensures guid { IfOk result (λ at. at.guid.0 ≡ place_guid store.old.map.store file.0 at.offset) }
     ensures size { IfOk result (λ at. at.size ≡ length region.old) }
+    ensures long { IfOk result (λ at. (time : ℕ) (octets : List ℕ) → region.old ≡ saved_region name.now time octets no_guid → length (saved_region name.now time octets at.guid.0) ≡ at.size) }
     ensures offset { IfOk result (λ at. end_in file.0 store.old.files.files ≡ Some at.offset) }
     ensures written { IfOk result (λ at. (time : ℕ) (octets : List ℕ) → region.old ≡ saved_region name.now time octets no_guid → IfTold (D.history store.new.disk) (λ now. EndsWith at.offset (saved_region name.now time octets at.guid.0) (now (Mail file.0)))) }
     ensures held { OnOk result ((lists : Lists) → IsSettledFor lists (D.history store.new.disk) → IfTold (D.history store.new.disk) (LeavesAsRead (Mail file.0))) }

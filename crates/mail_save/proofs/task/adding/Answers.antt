@@ -17,10 +17,11 @@ returns-in-Ok g c = λ size.
       did_is = refl;
       moments = o.any_moment;
       rests = λ ran. o.settled;
-      placed = tt;
+      ready = λ e. absurd (done_goes_on _ e);
       left = λ e. absurd (done_goes_on _ e);
       fewer = λ e. absurd (done_goes_on _ e);
       effects = (refl, record { number = o.uid.0; room = o.uid.1; taken = o.uid.2; due = o.due; map = ap (λ v. v.map) o.same; drawn = ap (λ v. v.drawn) o.same; files = ap (λ v. v.files) o.same });
+      idle = λ e. ap (λ v. g.D.Disk.history v.disk) e;
       spared = λ ran. spared_kept c.args.store.now c.add_message.new.store _ _ (ap (λ v. v.map) o.same) (o.stored ran);
       stopped = saved_runs _ _ c.add_message.new.store.stopped runs;
       fault = faults_by _ _ _ _ (λ e. absurd (saved_apart _ _ e)) o.fault;
@@ -33,14 +34,15 @@ returns-then-stopped g c = λ size.
     let o = c.in-Err.ensures in
     let fell = sym c.stopped.ensures ∙ c.if-stopped.true in
     subst (λ l. Saves (stage.Adding c.args.added c.args.room) l.next c.args.name.now c.args.time size l.answer l.did c.args.store.now c.add_message.new.store (g.D.Disk.history c.args.store.now.disk) (g.D.Disk.history c.add_message.new.store.disk) (g.D.Disk.faults c.args.store.now.disk) (g.D.Disk.faults c.add_message.new.store.disk)) (sym c.ends.ensures) (record {
-      replies = inr (inl refl);
+      replies = (let room = o.fell (o.stopped.1 fell) in inr (inl (room.0, room.1, room.2, refl)));
       did_is = refl;
       moments = o.any_moment;
       rests = λ ran. absurd (unfallen c.add_message.new.store.stopped fell ran);
-      placed = tt;
+      ready = λ e. absurd (done_goes_on _ e);
       left = λ e. absurd (done_goes_on _ e);
       fewer = λ e. absurd (done_goes_on _ e);
       effects = record { map = ap (λ v. v.map) o.same; indexes = (o.untaken refl).0; dues = (o.untaken refl).1; drawn = ap (λ v. v.drawn) o.same; files = ap (λ v. v.files) o.same };
+      idle = λ e. ap (λ v. g.D.Disk.history v.disk) e;
       spared = λ ran. absurd (unfallen c.add_message.new.store.stopped fell ran);
       stopped = refused_stops refusal.Stopped c.add_message.new.store.stopped (record { 0 = λ e. fell; 1 = λ e. refl });
       fault = faults_by _ _ _ _ (λ e. o.stopped.1 fell) o.fault;
@@ -59,10 +61,11 @@ returns g c = λ size.
       did_is = c.did_refuse.ensures;
       moments = o.any_moment;
       rests = λ ran lists s. unchanged_settled g.D.Disk.history c.args.store.now.disk c.add_message.new.store.disk (ap (λ v. v.disk) same) lists s;
-      placed = tt;
+      ready = λ e octets h. h.0;
       left = λ e. (subst (λ v. 1 ≤ due_at c.args.added.map_uid.0 v) (sym same) c.requires.left.1, calm);
       fewer = λ e. omega arith;
       effects = (refl, same);
+      idle = λ e. ap (λ v. g.D.Disk.history v.disk) e;
       spared = λ ran. spared_kept c.args.store.now c.add_message.new.store _ _ (ap (λ v. v.map) same) (o.stored ran);
       stopped = more_runs c.add_message.new.store.stopped runs;
       fault = faults_by _ _ _ _ (λ e. absurd (more_apart e)) o.fault;
