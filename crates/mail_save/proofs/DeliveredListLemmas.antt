@@ -48,20 +48,21 @@ shown_as name number [] (x ∷ xs) (l ∷ ls) m h named numbered = absurd h
 shown_as name number (b ∷ bs) [] [] m h named numbered = absurd h
 shown_as name number (b ∷ bs) [] (l ∷ ls) m h named numbered = absurd h
 shown_as name number (b ∷ bs) (x ∷ xs) [] m h named numbered = absurd h
-shown_as name number (b ∷ bs) (x ∷ xs) (l ∷ ls) m h named numbered = by_test (bytes_eq b.name name) refl named numbered
+shown_as name number (b ∷ bs) (x ∷ xs) (l ∷ ls) m h named numbered = by_test (bytes_eq b.name name) refl named numbered (λ n k. shown_as name number bs xs ls m h.1 n k)
   where
     own : bytes_eq l.name name ≡ bytes_eq b.name name
     own = ap (λ (n : List ℕ). bytes_eq n name) h.0.name
 
-    by_test : (t : Bool) → bytes_eq b.name name ≡ t → cond t (Some x) (meaning_named name bs xs) ≡ Some m → option_map (λ c. c.number) (cond t (Some b) (find (λ c. bytes_eq c.name name) bs)) ≡ Some number → IsShownAs name (l ∷ ls) m number
-    by_test true is n k = record {
+    by_test : (t : Bool) → bytes_eq b.name name ≡ t → cond t (Some x) (meaning_named name bs xs) ≡ Some m → option_map (λ c. c.number) (cond t (Some b) (find (λ c. bytes_eq c.name name) bs)) ≡ Some number
+        → (meaning_named name bs xs ≡ Some m → option_map (λ c. c.number) (find (λ c. bytes_eq c.name name) bs) ≡ Some number → IsShownAs name ls m number) → IsShownAs name (l ∷ ls) m number
+    by_test true is n k rest = record {
       mailbox = l;
       named = cond-true (bytes_eq l.name name) (Some l) (mailbox_named name ls) (own ∙ is);
       next = h.0.next ∙ ap (λ (y : BoxMeaning). y.next) (one_meaning x m n);
       number_is = h.0.number ∙ one_number b.number number k;
     }
-    by_test false is n k =
-        let later = shown_as name number bs xs ls m h.1 n k in
+    by_test false is n k rest =
+        let later = rest n k in
         record { mailbox = later.mailbox; named = cond-false (bytes_eq l.name name) (Some l) (mailbox_named name ls) (own ∙ is) ∙ later.named; next = later.next; number_is = later.number_is }
 
 -- the entry that adds the message gives the lists with it

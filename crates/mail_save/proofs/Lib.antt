@@ -1,5 +1,7 @@
 pub mod AddLemmas
 pub mod DeliveredListLemmas
+pub mod HeldLemmas
+pub mod OtherLemmas
 pub mod PlaceLemmas
 pub mod ReadyLemmas
 pub mod RecordLemmas

@@ -1,5 +1,5 @@
 -- What events of a delivery leave ready for the next one.
-use Rattle.std.proofs.Common.{◌≡◌, ◌≢◌, ◌+◌, ◌||◌, ◌∷◌, ◌++◌, ℕ, Bool, true, false, List, [], map, Option, All, refl, sym, ◌∙◌, ap, subst, arith, take, drop, length, inl, inr}
+use Rattle.std.proofs.Common.{◌≡◌, ◌==◌, ◌≢◌, ◌+◌, ◌||◌, ◌∷◌, ◌++◌, ℕ, Bool, true, false, List, [], map, Option, All, refl, sym, ◌∙◌, ap, subst, arith, take, drop, length, inl, inr}
 use Rattle.std.specs.Prelude.{cond, count_by, filter, if◌then◌else◌}
 use Rattle.std.specs.List.{AllByRecursion, list_any}
 use Rattle.std.specs.Str.{bytes_eq}
@@ -83,7 +83,7 @@ none_filtered test (x ∷ xs) is = by_test (test x) is (λ none. none_filtered t
 own_is_whole : (octets : List ℕ) → origin_of octets ≡ 0 → filter (λ part. part.detachable) (parts_in octets) ≡ []
 own_is_whole octets own = none_filtered (λ (part : Part). part.detachable) (parts_in octets) (by_test (has_detachable octets) own)
   where
-    by_test : (t : Bool) → (if t then 1 else 0) ≡ 0 → t ≡ false
+    by_test : (t : Bool) → ◌≡◌ {A = ℕ} (if t then 1 else 0) 0 → t ≡ false
     by_test true e = absurd (omega (arith, e))
     by_test false e = refl
 
@@ -114,14 +114,18 @@ other_guid m guid row new h = elim (cases_Bool (bytes_eq row.guid guid)) [
 none_counted : (m : MapMeaning) (guid : List ℕ) (rows : List LogRow) → All (λ r. r.guid ≢ guid) m.records → All (HasItsRecord m) rows → count_by (λ row. bytes_eq row.guid guid) rows ≡ 0
 none_counted m guid [] new h = refl
 none_counted m guid (row ∷ rows) new h =
-    sum_by-cons (λ (r : LogRow). cond (bytes_eq r.guid guid) 1 0) row rows
-    ∙ (ap (λ (t : Bool). cond t 1 0 + count_by (λ r. bytes_eq r.guid guid) rows) (other_guid m guid row new (All-head (HasItsRecord m) row rows h)) ∙ none_counted m guid rows new (All-tail (HasItsRecord m) row rows h))
+    let split = sum_by-cons (λ (r : LogRow). cond (bytes_eq r.guid guid) 1 0) row rows in
+    let none : ◌≡◌ {A = ℕ} (cond (bytes_eq row.guid guid) 1 0) 0 = ap (λ (t : Bool). cond t 1 0) (other_guid m guid row new (All-head (HasItsRecord m) row rows h)) in
+    let rest : count_by (λ r. bytes_eq r.guid guid) rows ≡ 0 = none_counted m guid rows new (All-tail (HasItsRecord m) row rows h) in
+    omega (arith, split, none, rest)
 
 none_in : (m : MapMeaning) (guid : List ℕ) (logs : List (List BoxEntry)) → All (λ r. r.guid ≢ guid) m.records → AllByRecursion (λ log. All (HasItsRecord m) (rows_after log)) logs → refs_in (map box_meaning logs) guid ≡ 0
 none_in m guid [] new h = refl
 none_in m guid (log ∷ logs) new h =
-    sum_by-cons (λ (b : BoxMeaning). count_by (λ row. bytes_eq row.guid guid) b.rows) (box_meaning log) (map box_meaning logs)
-    ∙ (ap (λ (n : ℕ). n + refs_in (map box_meaning logs) guid) (none_counted m guid (rows_after log) new h.0) ∙ none_in m guid logs new h.1)
+    let split = sum_by-cons (λ (b : BoxMeaning). count_by (λ row. bytes_eq row.guid guid) b.rows) (box_meaning log) (map box_meaning logs) in
+    let none : count_by (λ row. bytes_eq row.guid guid) (rows_after log) ≡ 0 = none_counted m guid (rows_after log) new h.0 in
+    let rest : refs_in (map box_meaning logs) guid ≡ 0 = none_in m guid logs new h.1 in
+    omega (arith, split, none, rest)
 
 unlisted : {D : Type 0} → (store : StoreValue D) (guid : List ℕ) (history : Option History) → IsStore history store → All (λ r. r.guid ≢ guid) store.map.records → references_to store guid ≡ 0
 unlisted store guid history s new =

@@ -83,6 +83,7 @@ pub record FindsNoNumber {D : Type 0} (size : ℕ) (old new : StoreValue D) : Ty
 pub record FailsToMake {D : Type 0} (size : ℕ) (old new : StoreValue D) : Type 0 where
   pub file : FileNo
   pub is : IsTakeFor size old.files (New file)
+  pub free : is_taken_in file.0 old.files.files ≡ false
   pub ends : AreEndsSame old new
   pub others : AreOthersTaken file.0 old new
   pub same : new ≡ record old { disk = new.disk; files = new.files; drawn = record old.drawn { file = file.0 }; stopped = true }

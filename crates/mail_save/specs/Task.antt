@@ -19,12 +19,14 @@ use Rattle.model_lists.specs.Lists.{Lists}
 use Rattle.model_meaning.specs.MapFits.{HasRecord}
 use Rattle.model_store.specs.Settled.{IsSettledFor, Leaves}
 use Rattle.store_core.specs.Append.{Brings}
-use Rattle.store_core.specs.Dues.{due_at}
+use Rattle.store_core.specs.Dues.{Moves, amounts_in, due_at}
 use Rattle.store_core.specs.MapAppend.{IsReadyToStore}
 use Rattle.store_core.specs.Value.{StoreValue, list_named}
 use Rattle.mail_save.specs.Added.{HasRoomUnder, entry_added}
 use Rattle.mail_save.specs.Events.{box_refusal, save_refusal, uid_refusal}
+use Rattle.mail_save.specs.Held.{save_amounts}
 use Rattle.mail_save.specs.Left.{HoldsFile, HoldsRegion}
+use Rattle.mail_save.specs.Others.{KeepsOthers}
 use Rattle.mail_save.specs.Parts.{AreLaidOut}
 use Rattle.mail_save.specs.Ready.{IsReadyToSave}
 use Rattle.mail_save.specs.Record.{entry_stored}
@@ -151,6 +153,8 @@ pub record Saves {D : Type 0} (now next : SaveStage) (name : List ℕ) (time siz
   pub effects : SaveEffects now next name time size answer old new
   pub idle : new ≡ old → after ≡ before
   pub spared : new.stopped ≡ false → AreSpared old new before after
+  pub others : KeepsOthers now old new
+  pub moves : new.stopped ≡ false → Moves (save_amounts now) (save_amounts next) (amounts_in old) (amounts_in new)
   pub stopped : (answer ≡ stopped_reply) ↔ (new.stopped ≡ true)
   pub fault : ChangeFaultCounted (answer ≡ stopped_reply) began ended
   pub unfailed : (answer ≡ stopped_reply → ⊥) → NoFault began ended
