@@ -19,3 +19,9 @@ loop-reply-preserved c = elim (cases_Bool c.loop-reply.store.stopped) [
       subst (λ (name : List ℕ). HasLeft c.step.new.self.stage name c.step.new.self.time c.step.new.store) (sym c.step.ensures.request.0)
       (subst (λ (time : ℕ). HasLeft c.step.new.self.stage c.loop-reply.task.name time c.step.new.store) (sym c.step.ensures.request.1) left)
 ]
+
+pub loop-reply-smaller : goal.loop-reply-smaller
+loop-reply-smaller c = elim (cases_Bool c.loop-reply.store.stopped) [
+  | inl stopped ↦ absurd (never_more (sym c.in_default.is ∙ (c.step.ensures.stopped stopped).0))
+  | inr runs ↦ (c.step.ensures.saves runs).fewer c.in_default.is
+]
