@@ -2,7 +2,15 @@ pub mod AddLemmas
 pub mod PlaceLemmas
 pub mod RecordLemmas
 pub mod RegionSizeLemmas
+pub mod SaveDidLemmas
 pub mod SaveEventLemmas
+pub mod SaveFrontLemmas
+pub mod SaveKeptLemmas
+pub mod SaveLastLemmas
+pub mod SaveListLemmas
+pub mod SaveRefusedLemmas
+pub mod SaveRoomLemmas
+pub mod SaveRunLemmas
 pub mod SavedRegionLemmas
 pub mod StoredMessageLemmas
 pub mod StoringLemmas
