@@ -11,6 +11,8 @@ pub mod SaveListLemmas
 pub mod SaveRefusedLemmas
 pub mod SaveRoomLemmas
 pub mod SaveRunLemmas
+pub mod SaveStepLemmas
+pub mod SaveStoreLemmas
 pub mod SavedRegionLemmas
 pub mod StoredMessageLemmas
 pub mod StoringLemmas

@@ -11,7 +11,7 @@ use Rattle.mdbox_base.specs.declared.replies.Refusal.TheVariants as refusal
 use Rattle.mdbox_base.specs.declared.requests.Request.TheVariants as request
 use Rattle.list_machine.specs.Run.{EventPart, First, Compares, PlacesInstance, TakesFile, PlacesMessage, StoresRecord, Last, GivesBack, TakenFile, RunEvent, Run, own_events, first_in}
 use Rattle.journal.specs.Events.{Around, next_part, behind_event, behind_delivery, behind_refused, instances_found, file_taken, guid_given, uid_held, uid_raised, last_refusal}
-use Rattle.mail_save.specs.SaveStages.{HasLaidOut, HasTaken, HasPlaced, HasStored, WasNotAdded, AreLaidSoFar, AreTakenSoFar, ArePlacedSoFar, AreStoredSoFar, AreRefusedSoFar}
+use Rattle.mail_save.specs.SaveStages.{HasLaidOut, TookFile, HasPlaced, HasStored, WasNotAdded, AreLaidSoFar, AreTakenSoFar, ArePlacedSoFar, AreStoredSoFar, AreRefusedSoFar}
 
 -- ---- the next part
 

@@ -41,13 +41,13 @@ abbrev pub has_room_for : ℕ → MailFile → Bool
 has_room_for size f = option_map_or (λ end. nat_le (end + size) 10485760) f.end false && not (f.taken || (f.sealed || f.barred))
 
 -- the last of those that do
-abbrev pub room_for : ℕ → List MailFile → Option ℕ
-room_for size [] = None
-room_for size (f ∷ files) = option_or (room_for size files) (if has_room_for size f then Some f.file.0 else None)
+abbrev pub room_among : ℕ → List MailFile → Option ℕ
+room_among size [] = None
+room_among size (f ∷ files) = option_or (room_among size files) (if has_room_for size f then Some f.file.0 else None)
 
 -- The event that takes a file finds the one that has room, if any. No other finds anything.
 abbrev pub room_at : {D : Type 0} → SaveStage → StoreValue D → Option ℕ
-room_at (stage.Taking parts) store = room_for (length parts.region) store.files.files
+room_at (stage.Taking parts) store = room_among (length parts.region) store.files.files
 room_at other store = None
 
 abbrev pub around_saving : {D : Type 0} → List ℕ → SaveStage → StoreValue D → Around

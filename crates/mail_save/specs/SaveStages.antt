@@ -20,7 +20,7 @@ pub record HasLaidOut (event : RunEvent) : Type 0 where
   pub did : event ≡ plain event
 
 -- the event took this storage file, a new one or not
-pub record HasTaken (file : ℕ) (event : RunEvent) : Type 0 where
+pub record TookFile (file : ℕ) (event : RunEvent) : Type 0 where
   pub new : Bool
   pub part : event.part ≡ TakesFile new
   pub did : event ≡ record (plain event) { files = record { file = file; target = 0 } ∷ []; drew = event.drew }
@@ -55,7 +55,7 @@ pub record AreTakenSoFar (file : ℕ) (own : List RunEvent) : Type 0 where
   pub second : RunEvent
   pub own_are : own ≡ first ∷ second ∷ []
   pub laid : HasLaidOut first
-  pub took : HasTaken file second
+  pub took : TookFile file second
 
 pub record ArePlacedSoFar (file : ℕ) (guid : List ℕ) (own : List RunEvent) : Type 0 where
   pub first : RunEvent
@@ -63,7 +63,7 @@ pub record ArePlacedSoFar (file : ℕ) (guid : List ℕ) (own : List RunEvent) :
   pub third : RunEvent
   pub own_are : own ≡ first ∷ second ∷ third ∷ []
   pub laid : HasLaidOut first
-  pub took : HasTaken file second
+  pub took : TookFile file second
   pub placed : HasPlaced guid third
 
 pub record AreStoredSoFar (guid : List ℕ) (uid : ℕ) (own : List RunEvent) : Type 0 where
@@ -74,7 +74,7 @@ pub record AreStoredSoFar (guid : List ℕ) (uid : ℕ) (own : List RunEvent) : 
   pub file : ℕ
   pub own_are : own ≡ first ∷ second ∷ third ∷ fourth ∷ []
   pub laid : HasLaidOut first
-  pub took : HasTaken file second
+  pub took : TookFile file second
   pub placed : HasPlaced guid third
   pub stored : HasStored uid fourth
 
@@ -88,7 +88,7 @@ pub record AreRefusedSoFar (uid : ℕ) (why : Refusal) (own : List RunEvent) : T
   pub guid : List ℕ
   pub own_are : own ≡ first ∷ second ∷ third ∷ fourth ∷ fifth ∷ []
   pub laid : HasLaidOut first
-  pub took : HasTaken file second
+  pub took : TookFile file second
   pub placed : HasPlaced guid third
   pub stored : HasStored uid fourth
   pub refused : WasNotAdded why fifth

@@ -1,0 +1,399 @@
+-- What each event of a delivery did, by the clause of a step.
+use Rattle.std.proofs.Common.{◌≡◌, ◌≢◌, ◌≤◌, ◌<◌, ◌+◌, ◌^◌, ◌||◌, ℕ, Bool, true, false, List, [], ◌∷◌, ◌⊎◌, length, Option, Some, None, refl, sym, ◌∙◌, ap, subst, arith, inl, inr}
+use Rattle.std.specs.Prelude.{◌↔◌, nat_le, is_some, is_none, All, Contains, if◌then◌else◌}
+use Rattle.std.specs.List.{list_any}
+use Rattle.std.specs.Option.{option_or}
+use Rattle.std.specs.Str.{bytes_eq}
+use Rattle.std.proofs.lemmas.Bool.{cases_eq}
+use Rattle.attach_detach.specs.declared.message.Prepared.{Prepared}
+use Rattle.disk_model.specs.Disk.{History, Faults, Grows}
+use Rattle.mdbox_base.specs.Words.{IsOctets}
+use Rattle.mdbox_base.specs.declared.entries.BoxEntry.{BoxEntry}
+use Rattle.mdbox_base.specs.declared.entries.BoxEntry.TheVariants as box_entry
+use Rattle.mdbox_base.specs.declared.entries.Highest.{Highest}
+use Rattle.mdbox_base.specs.declared.entries.MapEntry.{MapEntry}
+use Rattle.mdbox_base.specs.declared.ids.BoxNo.{BoxNo}
+use Rattle.mdbox_base.specs.declared.ids.FileNo.{FileNo}
+use Rattle.mdbox_base.specs.declared.ids.Guid.{Guid}
+use Rattle.mdbox_base.specs.declared.ids.MapUid.{MapUid}
+use Rattle.mdbox_base.specs.declared.ids.Uid.{Uid}
+use Rattle.mdbox_base.specs.declared.progress.Did.{Did}
+use Rattle.mdbox_base.specs.declared.progress.Did.TheVariants as did
+use Rattle.mdbox_base.specs.declared.progress.Progress.{Progress}
+use Rattle.mdbox_base.specs.declared.progress.Progress.TheVariants as progress
+use Rattle.mdbox_base.specs.declared.replies.Refusal.{Refusal}
+use Rattle.mdbox_base.specs.declared.replies.Refusal.TheVariants as refusal
+use Rattle.mdbox_base.specs.declared.replies.Reply.{Reply}
+use Rattle.mdbox_base.specs.declared.replies.Reply.TheVariants as reply
+use Rattle.mdbox_base.specs.declared.requests.Request.TheVariants as request
+use Rattle.mdbox_base.specs.declared.script.Half.TheVariants as half
+use Rattle.model_lists.specs.Lists.{Lists}
+use Rattle.model_meaning.specs.BoxMeaning.{BoxMeaning}
+use Rattle.model_meaning.specs.MapMeaning.{MapMeaning, no_numbers, guid_file}
+use Rattle.model_store.specs.Settled.{IsSettledFor, Leaves}
+use Rattle.list_machine.specs.Run.{First, TakesFile, PlacesMessage, StoresRecord, RunEvent, Run, drawn_also, drawn_of}
+use Rattle.list_machine.specs.Machine.{NextMapUid, first_refusal, refused_where, part_checks, is_step, is_used_up}
+use Rattle.journal.specs.Events.{Around, draws}
+use Rattle.journal.specs.Found.{took_file}
+use Rattle.journal.proofs.RunLemmas.{drawn_none}
+use Rattle.model_store.specs.Listing.{ShowLists}
+use Rattle.storage_files.specs.Files.{AreFilesInOrder, IsTakeFor, MayBeTakenFor, end_in}
+use Rattle.storage_files.specs.declared.file.MailFile.{MailFile}
+use Rattle.storage_files.specs.declared.file.Take.{Take}
+use Rattle.storage_files.specs.declared.file.Take.TheVariants.{Known, New, Full}
+use Rattle.store_core.specs.Running.{IsStore}
+use Rattle.store_core.specs.Dues.{due_at}
+use Rattle.store_core.specs.Knows.{may_have_given}
+use Rattle.store_core.specs.Value.{StoreValue, indexes_of, list_named}
+use Rattle.store_core.proofs.BoxCrashLemmas.{leaves_none}
+use Rattle.store_core.proofs.ShownLemmas.{refs_shown}
+use Rattle.task_steps.specs.Step.{ShowsSeen, HasComeTo, HasNotBegun, Steps, ended_by}
+use Rattle.mail_save.specs.Added.{HasRoomUnder, entry_added}
+use Rattle.mail_save.specs.Events.{box_refusal, full_refusal, save_refusal, uid_refusal, has_detachable}
+use Rattle.mail_save.specs.Parts.{origin_of}
+use Rattle.mail_save.specs.Ready.{IsReadyToSave}
+use Rattle.mail_save.specs.Record.{entry_stored}
+use Rattle.mail_save.specs.SaveEffects.{AreEndsSame, IsLeftAlone, TookAs, TakesFileFor, FindsNoNumber, FailsToMake, TakesNone, PlacesParts, StoresPlaced, GivesFileBack, StoresNone, AddsStored, LowersRecord}
+use Rattle.mail_save.specs.SaveSeen.{seen_saving, around_saving, IsAtSave, room_among}
+use Rattle.mail_save.specs.SaveStages.{IsTakingFile, IsPlacingMessage, IsStoringMessage, IsAddingMessage, IsLoweringCount}
+use Rattle.mail_save.specs.Task.{HasLeft, Saves, stopped_reply, failing_did, refused_did}
+use Rattle.mail_save.specs.declared.first.SavedParts.{SavedParts}
+use Rattle.mail_save.specs.declared.place.SavedAt.{SavedAt}
+use Rattle.mail_save.specs.declared.record.LowerRoom.{LowerRoom}
+use Rattle.mail_save.specs.declared.task.SaveStage.{SaveStage}
+use Rattle.mail_save.specs.declared.task.SaveStage.TheVariants as stage
+use Rattle.mail_save.proofs.RegionSizeLemmas.{region_some}
+use Rattle.mail_save.proofs.SaveDidLemmas.{fall, step_runs, HasRun, KeepsTelling, TellsMore, StaysSo, stopped_answer}
+use Rattle.mail_save.proofs.SaveFrontLemmas.{SeesAround, KeepsMap, begins_save, takes_known, takes_new, places_message, stores_message}
+use Rattle.mail_save.proofs.SaveLastLemmas.{FindsBox, IsInRange, AddsMessage, FailsToAdd, saved_message, broken_save, unsaved_stopped, refused_message, forgotten_message, lowers_count}
+use Rattle.mail_save.proofs.SaveListLemmas.{box_checked, made_of}
+use Rattle.mail_save.proofs.SaveRefusedLemmas.{ends_first, ends_taking, ends_placing, ends_storing, ends_giving, first_at, taking_at, placing_at, storing_at, lowering_at, stopped_save, fallen_save, forgotten_save, checked_save, full_files, full_uids}
+use Rattle.mail_save.proofs.SaveRoomLemmas.{known_room, no_room, lt_true, true_lt}
+use Rattle.mail_save.proofs.SaveStoreLemmas.{sees_around, EndsGoOn, same_ends, files_ends, gave_on, tells_store, has_run, due_stays, stays_so, drawn_file, drawn_map, less_due, place_long, place_octets, place_file, place_new, place_given, file_below, is_before}
+
+-- ---- an event
+
+-- What is known as a step of a delivery ends, of a store that wasn't stopped.
+pub record EventOf {D : Type 0} (now next : SaveStage) (name : List ℕ) (time size : ℕ) (octets : List ℕ) (answer : Progress) (how : Did) (old new : StoreValue D) (before after : Option History) (began faulted : Faults) : Type 0 where
+  pub is : IsStore before old
+  pub order : AreFilesInOrder old.files
+  pub ran : old.stopped ≡ false
+  pub left : HasLeft now name time old
+  pub ready : IsReadyToSave now name time size octets old before
+  pub whole : has_detachable octets ≡ false
+  pub timed : time < 2 ^ 64
+  pub id_long : length old.map.store ≡ 8
+  pub id_octets : IsOctets old.map.store
+  pub idle : new.disk ≡ old.disk → (after ≡ before) × (faulted ≡ began)
+  pub saves : Saves now next name time size answer how old new before after began faulted
+
+abbrev pub DeliveryClause : {D : Type 0} → List ℕ → SaveStage → SaveStage → List ℕ → ℕ → Progress → Did → StoreValue D → StoreValue D → Option History → Option History → Faults → Faults → Type 0
+DeliveryClause octets now next name time answer how old new before after began faulted =
+    (behind : Around) → Steps (IsAtSave now) (IsAtSave next) (around_saving octets now old) behind (request.Deliver name time octets) (seen_saving old before began) (seen_saving new after faulted) how (ended_by answer)
+
+more_differs : progress.More ≡ stopped_reply → ⊥
+more_differs e = cc e
+
+refused_differs : (why : Refusal) → (why ≡ refusal.Stopped → ⊥) → progress.Done (reply.Refused why) ≡ stopped_reply → ⊥
+refused_differs why other e = let k : reply.Refused why ≡ reply.Refused refusal.Stopped = cc e in other (let j : why ≡ refusal.Stopped = cc k in j)
+
+saved_differs : (uid : Uid) (guid : Guid) → progress.Done (reply.Saved uid guid) ≡ stopped_reply → ⊥
+saved_differs uid guid e = let k : reply.Saved uid guid ≡ reply.Refused refusal.Stopped = cc e in cc k
+
+not_stopped : (b : Bool) (X : Type 0) → (X ↔ (b ≡ true)) → (X → ⊥) → b ≡ false
+not_stopped true X both none = absurd (none (both.1 refl))
+not_stopped false X both none = refl
+
+memory_runs : refusal.NoMemory ≡ refusal.Stopped → ⊥
+memory_runs e = cc e
+
+-- what a refusal did
+step_did : (why : Refusal) → is_step why ≡ true → failing_did why ≡ did.Step half.Whole
+step_did refusal.NoMailbox s = refl
+step_did refusal.Exists s = refl
+step_did refusal.NoMessage s = refl
+step_did (refusal.TooManyCopies n) s = refl
+step_did (refusal.MailboxFull n) s = refl
+step_did (refusal.TooManyMailboxes n) s = refl
+step_did (refusal.StoreFull n) s = refl
+step_did refusal.NoMemory s = absurd (cc s)
+step_did refusal.ReadFault s = absurd (cc s)
+step_did refusal.Stopped s = absurd (cc s)
+step_did (refusal.Damaged file offset) s = absurd (cc s)
+
+with_did : {D : Type 0} → (octets : List ℕ) (now next : SaveStage) (name : List ℕ) (time : ℕ) (answer : Progress) (how known : Did) (old new : StoreValue D) (before after : Option History) (began faulted : Faults) → how ≡ known
+    → DeliveryClause octets now next name time answer known old new before after began faulted → DeliveryClause octets now next name time answer how old new before after began faulted
+with_did octets now next name time answer how known old new before after began faulted same = subst (λ (h : Did). DeliveryClause octets now next name time answer h old new before after began faulted) (sym same)
+
+-- the faults and the time of one that goes on, or that failed
+same_reads : (began faulted : Faults) → faulted ≡ began → began.reads ≤ faulted.reads
+same_reads began faulted same = let e = ap (λ (f : Faults). f.reads) same in omega (arith, e)
+
+same_changes : (began faulted : Faults) → faulted ≡ began → began.changes ≤ faulted.changes
+same_changes began faulted same = let e = ap (λ (f : Faults). f.changes) same in omega (arith, e)
+
+equal_reads : (began faulted : Faults) → faulted.reads ≡ began.reads → began.reads ≤ faulted.reads
+equal_reads began faulted e = omega (arith, e)
+
+-- ---- the first event
+
+checked_uid : (b : Bool) → option_or (refused_where b (refusal.StoreFull 4294967294)) None ≡ (if b then Some (refusal.StoreFull 4294967294) else None)
+checked_uid true = refl
+checked_uid false = refl
+
+first_checked : {D : Type 0} → (run : Run) (name : List ℕ) (time : ℕ) (octets : List ℕ) (store : StoreValue D) (history : Option History) (faults : Faults) (lists : Lists) (event : RunEvent) → HasComeTo run (seen_saving store history faults) → ShowLists store.map.boxes (indexes_of store.boxes) lists
+    → first_refusal run lists (part_checks run event (request.Deliver name time octets) First) ≡ save_refusal name store
+first_checked run name time octets store history faults lists event come h =
+    box_checked run name store.map.boxes (indexes_of store.boxes) lists (NextMapUid ∷ []) h
+    ∙ ap (λ (r : Option Refusal). option_or (box_refusal (list_named store name)) r) (checked_uid (is_used_up (drawn_of run).map) ∙ ap (λ (d : Highest). uid_refusal d.map) come.come.drawn_is)
+
+first_more : {D : Type 0} → (prepared : Prepared) (parts : SavedParts) (name : List ℕ) (time size : ℕ) (octets : List ℕ) (how : Did) (old new : StoreValue D) (before after : Option History) (began faulted : Faults) → EventOf (stage.First prepared) (stage.Taking parts) name time size octets progress.More how old new before after began faulted
+    → DeliveryClause octets (stage.First prepared) (stage.Taking parts) name time progress.More how old new before after began faulted
+first_more prepared parts name time size octets how old new before after began faulted e = λ behind.
+    let s = e.saves in
+    let same = s.effects.0 in
+    let runs = not_stopped new.stopped (progress.More ≡ stopped_reply) s.stopped more_differs in
+    let drawn = ap (λ (v : StoreValue _). v.drawn) same in
+    with_did octets (stage.First prepared) (stage.Taking parts) name time progress.More how did.Quiet old new before after began faulted s.did_is
+    (λ after_it. begins_save (around_saving octets (stage.First prepared) old) after_it name time octets (seen_saving old before began) (seen_saving new after faulted) (sees_around octets (stage.First prepared) old before began e.is e.order e.whole)
+    (record {
+      run = has_run old new before after began faulted e.ran runs (ap (λ (v : StoreValue _). v.map.boxes) same) (ap (λ (v : StoreValue _). indexes_of v.boxes) same) s.moments (s.rests runs) s.grows (s.unfailed more_differs);
+      map = ap (λ (v : StoreValue _). v.map) same;
+      due = λ uid. ap (λ (v : StoreValue _). due_at uid v) same;
+    }) drawn (tells_store old new before after began faulted (ap (λ (v : StoreValue _). v.map.store) same) (let d = ap (λ (v : StoreValue _). v.drawn.file) same in omega (arith, d)) (same_ends old new (λ n. ap (λ (v : StoreValue _). end_in n v.files.files) same)))
+    (λ run lists event come shows. first_checked run name time octets old before began lists event come shows.1 ∙ s.effects.1))
+    behind
+
+-- a store that was left as it was
+stays_same : {D : Type 0} → (old new : StoreValue D) (before after : Option History) (began faulted : Faults) → new ≡ old → Grows before after → began.reads ≤ faulted.reads → began.changes ≤ faulted.changes → StaysSo no_numbers (seen_saving old before began) (seen_saving new after faulted)
+stays_same old new before after began faulted same grows reads changes =
+    stays_so no_numbers old new before after began faulted (ap (λ (v : StoreValue _). v.map) same) (ap (λ (v : StoreValue _). v.drawn) same ∙ sym (drawn_none old.drawn)) (ap (λ (v : StoreValue _). v.dues) same) (ap (λ (v : StoreValue _). indexes_of v.boxes) same)
+    (let d = ap (λ (v : StoreValue _). v.drawn.file) same in omega (arith, d)) (same_ends old new (λ n. ap (λ (v : StoreValue _). end_in n v.files.files) same)) grows reads changes
+
+box_steps : (o : Option BoxMeaning) (why : Refusal) → box_refusal o ≡ Some why → is_step why ≡ true
+box_steps None why e = let k : refusal.NoMailbox ≡ why = cc e in ap is_step (sym k)
+box_steps (Some m) why e = by_tests (nat_le 1000000 (length m.rows)) (nat_le 4294967295 m.next) e
+  where
+    by_tests : (a b : Bool) → (if a then Some (refusal.MailboxFull 1000000) else (if b then Some (refusal.StoreFull 4294967294) else None)) ≡ Some why → is_step why ≡ true
+    by_tests true b k = let f : Some (refusal.MailboxFull 1000000) ≡ Some why = k in let g : refusal.MailboxFull 1000000 ≡ why = cc f in ap is_step (sym g)
+    by_tests false true k = let f : Some (refusal.StoreFull 4294967294) ≡ Some why = k in let g : refusal.StoreFull 4294967294 ≡ why = cc f in ap is_step (sym g)
+    by_tests false false k = absurd (let f : None ≡ Some why = k in cc f)
+
+uid_full : (b : Bool) (why : Refusal) → (if b then Some (refusal.StoreFull 4294967294) else None) ≡ Some why → (b ≡ true) × (why ≡ refusal.StoreFull 4294967294)
+uid_full true why k = (refl, let f : Some (refusal.StoreFull 4294967294) ≡ Some why = k in let g : refusal.StoreFull 4294967294 ≡ why = cc f in sym g)
+uid_full false why k = absurd (let f : None ≡ Some why = k in cc f)
+
+save_steps : {D : Type 0} → (name : List ℕ) (store : StoreValue D) (why : Refusal) → save_refusal name store ≡ Some why → is_step why ≡ true
+save_steps name store why e = by_box (box_refusal (list_named store name)) refl e
+  where
+    by_box : (o : Option Refusal) → box_refusal (list_named store name) ≡ o → option_or o (uid_refusal store.drawn.map) ≡ Some why → is_step why ≡ true
+    by_box (Some r) is k = box_steps (list_named store name) why (is ∙ k)
+    by_box None is k = ap is_step (uid_full (nat_le 4294967294 store.drawn.map) why k).1
+
+pub first_refused : {D : Type 0} → (prepared : Prepared) (why : Refusal) (name : List ℕ) (time size : ℕ) (octets : List ℕ) (how : Did) (old new : StoreValue D) (before after : Option History) (began faulted : Faults) → EventOf (stage.First prepared) stage.Ended name time size octets (progress.Done (reply.Refused why)) how old new before after began faulted
+    → DeliveryClause octets (stage.First prepared) stage.Ended name time (progress.Done (reply.Refused why)) how old new before after began faulted
+first_refused prepared why name time size octets how old new before after began faulted e = by_cause e.saves.replies
+  where
+    goes : (why ≡ refusal.Stopped → ⊥) → HasRun (seen_saving old before began) (seen_saving new after faulted)
+    goes other =
+        let s = e.saves in
+        let runs = not_stopped new.stopped (progress.Done (reply.Refused why) ≡ stopped_reply) s.stopped (refused_differs why other) in
+        has_run old new before after began faulted e.ran runs (ap (λ (v : StoreValue _). v.map.boxes) s.effects) (ap (λ (v : StoreValue _). indexes_of v.boxes) s.effects) s.moments (s.rests runs) s.grows (s.unfailed (refused_differs why other))
+
+    stays : (why ≡ refusal.Stopped → ⊥) → StaysSo no_numbers (seen_saving old before began) (seen_saving new after faulted)
+    stays other =
+        let s = e.saves in
+        let same = s.unfailed (refused_differs why other) in
+        stays_same old new before after began faulted s.effects s.grows (same_reads began faulted same) (same_changes began faulted same)
+
+    sees : SeesAround octets (around_saving octets (stage.First prepared) old) (seen_saving old before began)
+    sees = sees_around octets (stage.First prepared) old before began e.is e.order e.whole
+
+    by_cause : (save_refusal name old ≡ Some why) ⊎ ((save_refusal name old ≡ None) × (why ≡ refusal.NoMemory)) → DeliveryClause octets (stage.First prepared) stage.Ended name time (progress.Done (reply.Refused why)) how old new before after began faulted
+    by_cause (inl refuses) =
+        let step = save_steps name old why refuses in
+        with_did octets (stage.First prepared) stage.Ended name time (progress.Done (reply.Refused why)) how (did.Step half.Whole) old new before after began faulted (e.saves.did_is ∙ step_did why step)
+        (λ behind. checked_save (around_saving octets (stage.First prepared) old) behind name time octets First (IsAtSave (stage.First prepared)) (IsAtSave stage.Ended) why (seen_saving old before began) (seen_saving new after faulted) sees (ends_first name time octets) (first_at (around_saving octets (stage.First prepared) old) (request.Deliver name time octets))
+        (λ run place said stood. stood.1) step (λ run lists event come shows. first_checked run name time octets old before began lists event come shows.1 ∙ refuses) (goes (step_runs why step)) (stays (step_runs why step)))
+    by_cause (inr m) =
+        let other : why ≡ refusal.Stopped → ⊥ = λ k. memory_runs (sym m.1 ∙ k) in
+        with_did octets (stage.First prepared) stage.Ended name time (progress.Done (reply.Refused why)) how did.Quiet old new before after began faulted (e.saves.did_is ∙ ap failing_did m.1)
+        (subst (λ (w : Refusal). DeliveryClause octets (stage.First prepared) stage.Ended name time (progress.Done (reply.Refused w)) did.Quiet old new before after began faulted) (sym m.1)
+        (λ behind. forgotten_save (around_saving octets (stage.First prepared) old) behind name time octets First (IsAtSave (stage.First prepared)) (IsAtSave stage.Ended) (seen_saving old before began) (seen_saving new after faulted) sees (ends_first name time octets) (first_at (around_saving octets (stage.First prepared) old) (request.Deliver name time octets))
+        refl (λ run place said stood. stood.1) (goes other) (stays other)))
+
+-- ---- a file is taken
+
+pub taking_more : {D : Type 0} → (parts laid : SavedParts) (file : FileNo) (name : List ℕ) (time size : ℕ) (octets : List ℕ) (how : Did) (old new : StoreValue D) (before after : Option History) (began faulted : Faults) → EventOf (stage.Taking parts) (stage.Placing laid file) name time size octets progress.More how old new before after began faulted
+    → DeliveryClause octets (stage.Taking parts) (stage.Placing laid file) name time progress.More how old new before after began faulted
+taking_more parts laid file name time size octets how old new before after began faulted e =
+    let t = e.saves.effects.1 in
+    with_did octets (stage.Taking parts) (stage.Placing laid file) name time progress.More how did.Quiet old new before after began faulted e.saves.did_is (by_take t.take t.is t.took)
+  where
+    keeps : KeepsMap (seen_saving old before began) (seen_saving new after faulted)
+    keeps =
+        let s = e.saves in
+        let same = s.effects.1.same in
+        let runs = not_stopped new.stopped (progress.More ≡ stopped_reply) s.stopped more_differs in
+        let map = ap (λ (v : StoreValue _). v.map) same in
+        record {
+          run = has_run old new before after began faulted e.ran runs (ap (λ (m : MapMeaning). m.boxes) map) (ap (λ (v : StoreValue _). indexes_of v.boxes) same) s.moments (s.rests runs) s.grows (s.unfailed more_differs);
+          map = map;
+          due = λ uid. due_stays old new uid map (ap (λ (v : StoreValue _). v.dues) same);
+        }
+
+    id : new.map.store ≡ old.map.store
+    id = ap (λ (v : StoreValue _). v.map.store) e.saves.effects.1.same
+
+    sees : SeesAround octets (around_saving octets (stage.Taking parts) old) (seen_saving old before began)
+    sees = sees_around octets (stage.Taking parts) old before began e.is e.order e.whole
+
+    by_take : (take : Take) → IsTakeFor (length parts.region) old.files take → TookAs take file old new → DeliveryClause octets (stage.Taking parts) (stage.Placing laid file) name time progress.More did.Quiet old new before after began faulted
+    by_take (Known taken) is took = λ behind.
+        let most = subst (λ (n : FileNo). All (λ g. MayBeTakenFor (length parts.region) g → g.file.0 ≤ n.0) old.files.files) (sym is.2) is.4 in
+        let room = known_room (length parts.region) old.files.files is.0 e.order.rising is.1 is.3 most ∙ ap (λ (n : FileNo). Some n.0) (is.2 ∙ took.0) in
+        takes_known (around_saving octets (stage.Taking parts) old) behind name time octets file.0 (seen_saving old before began) (seen_saving new after faulted) sees room keeps took.1
+        (tells_store old new before after began faulted id (let d = ap (λ (h : Highest). h.file) took.1 in omega (arith, d)) (same_ends old new took.2))
+    by_take (New taken) is took = λ behind.
+        let high = e.is.files.highest in
+        let fresh = is.1 in
+        let less = is.2 in
+        let named = ap (λ (n : FileNo). n.0) took.0 in
+        let next : file.0 ≡ old.drawn.file + 1 = omega (arith, high, fresh, named) in
+        let drawn = ap (λ (h : Highest). h.file) took.1 in
+        takes_new (around_saving octets (stage.Taking parts) old) behind name time octets file.0 (seen_saving old before began) (seen_saving new after faulted) sees (no_room (length parts.region) old.files.files is.0) next (omega (arith, high, less)) keeps (took.1 ∙ drawn_file old.drawn file.0 next)
+        (λ event none itself. record {
+          pins = λ n. refl;
+          doomed = λ n. refl;
+          used = λ n. refl;
+          unused = λ n. refl;
+          gave = λ guid k. gave_on old new guid id (omega (arith, drawn, next)) (λ n offset le b. ap (λ (o : Option ℕ). is_before offset o) (took.4 n (λ q. omega (arith, q, le, next))) ∙ b) k;
+          given = λ guid some. absurd (let k : false ≡ true = sym (ap (list_any (bytes_eq guid)) none) ∙ some in cc k);
+          files = λ n there. elim (cases_eq n file.0) [
+            | inl same ↦ inr (itself n (sym same))
+            | inr apart ↦ inl (ap (λ (o : Option ℕ). is_some o) (sym (took.4 n apart)) ∙ there)
+          ];
+          instances = λ i. refl;
+        })
+    by_take Full is took = absurd took
+
+pub taking_refused : {D : Type 0} → (parts : SavedParts) (why : Refusal) (name : List ℕ) (time size : ℕ) (octets : List ℕ) (how : Did) (old new : StoreValue D) (before after : Option History) (began faulted : Faults) → EventOf (stage.Taking parts) stage.Ended name time size octets (progress.Done (reply.Refused why)) how old new before after began faulted
+    → DeliveryClause octets (stage.Taking parts) stage.Ended name time (progress.Done (reply.Refused why)) how old new before after began faulted
+taking_refused parts why name time size octets how old new before after began faulted e = by_cause e.saves.effects
+  where
+    sees : SeesAround octets (around_saving octets (stage.Taking parts) old) (seen_saving old before began)
+    sees = sees_around octets (stage.Taking parts) old before began e.is e.order e.whole
+
+    goes : (why ≡ refusal.Stopped → ⊥) → new.map ≡ old.map → new.boxes ≡ old.boxes → HasRun (seen_saving old before began) (seen_saving new after faulted)
+    goes other map boxes =
+        let s = e.saves in
+        let runs = not_stopped new.stopped (progress.Done (reply.Refused why) ≡ stopped_reply) s.stopped (refused_differs why other) in
+        has_run old new before after began faulted e.ran runs (ap (λ (m : MapMeaning). m.boxes) map) (ap indexes_of boxes) s.moments (s.rests runs) s.grows (s.unfailed (refused_differs why other))
+
+    by_cause : TakesNone (length parts.region) why old new → DeliveryClause octets (stage.Taking parts) stage.Ended name time (progress.Done (reply.Refused why)) how old new before after began faulted
+    by_cause (inl m) =
+        let other : why ≡ refusal.Stopped → ⊥ = λ k. memory_runs (sym m.0 ∙ k) in
+        let same = e.saves.unfailed (refused_differs why other) in
+        with_did octets (stage.Taking parts) stage.Ended name time (progress.Done (reply.Refused why)) how did.Quiet old new before after began faulted (e.saves.did_is ∙ ap failing_did m.0)
+        (subst (λ (w : Refusal). DeliveryClause octets (stage.Taking parts) stage.Ended name time (progress.Done (reply.Refused w)) did.Quiet old new before after began faulted) (sym m.0)
+        (λ behind. forgotten_save (around_saving octets (stage.Taking parts) old) behind name time octets (TakesFile (is_none (room_among (length parts.region) old.files.files))) IsTakingFile (IsAtSave stage.Ended) (seen_saving old before began) (seen_saving new after faulted) sees (ends_taking name time octets _)
+        (taking_at (around_saving octets (stage.Taking parts) old) name time octets sees.whole) refl (λ run place said stood. stood.1) (goes other (ap (λ (v : StoreValue _). v.map) m.1) (ap (λ (v : StoreValue _). v.boxes) m.1))
+        (stays_same old new before after began faulted m.1 e.saves.grows (same_reads began faulted same) (same_changes began faulted same))))
+    by_cause (inr (inl f)) =
+        let step : is_step why ≡ true = ap is_step f.0 in
+        let other = step_runs why step in
+        let same = e.saves.unfailed (refused_differs why other) in
+        let k = f.1.same in
+        let map = ap (λ (v : StoreValue _). v.map) k in
+        let high = e.is.files.highest in
+        let full = f.1.full.1 in
+        with_did octets (stage.Taking parts) stage.Ended name time (progress.Done (reply.Refused why)) how (did.Step half.Whole) old new before after began faulted (e.saves.did_is ∙ step_did why step)
+        (λ behind. checked_save (around_saving octets (stage.Taking parts) old) behind name time octets (TakesFile (is_none (room_among (length parts.region) old.files.files))) IsTakingFile (IsAtSave stage.Ended) why (seen_saving old before began) (seen_saving new after faulted) sees (ends_taking name time octets _)
+        (taking_at (around_saving octets (stage.Taking parts) old) name time octets sees.whole) (λ run place said stood. stood.1) step
+        (λ run lists event come shows. full_files name time octets (around_saving octets (stage.Taking parts) old) (seen_saving old before began) (no_room (length parts.region) old.files.files f.1.full.0) (omega (arith, high, full)) run lists event come shows ∙ ap (λ (w : Refusal). Some w) (sym f.0))
+        (goes other map (ap (λ (v : StoreValue _). v.boxes) k))
+        (stays_so no_numbers old new before after began faulted map (ap (λ (v : StoreValue _). v.drawn) k ∙ sym (drawn_none old.drawn)) (ap (λ (v : StoreValue _). v.dues) k) (ap (λ (v : StoreValue _). indexes_of v.boxes) k) (let d = ap (λ (v : StoreValue _). v.drawn.file) k in omega (arith, d))
+        (same_ends old new (λ n. ap (λ (v : StoreValue _). end_in n v.files.files) k)) e.saves.grows (same_reads began faulted same) (same_changes began faulted same)))
+    by_cause (inr (inr f)) =
+        let s = e.saves in
+        let stop : progress.Done (reply.Refused why) ≡ stopped_reply = ap (λ (w : Refusal). progress.Done (reply.Refused w)) f.0 in
+        let k = f.1.same in
+        let map = ap (λ (v : StoreValue _). v.map) k in
+        let high = e.is.files.highest in
+        let fresh = f.1.is.1 in
+        let next : f.1.file.0 ≡ old.drawn.file + 1 = omega (arith, high, fresh) in
+        let drawn = ap (λ (v : StoreValue _). v.drawn) k in
+        let number = ap (λ (h : Highest). h.file) drawn in
+        with_did octets (stage.Taking parts) stage.Ended name time (progress.Done (reply.Refused why)) how did.Failed old new before after began faulted (s.did_is ∙ ap failing_did f.0)
+        (subst (λ (w : Refusal). DeliveryClause octets (stage.Taking parts) stage.Ended name time (progress.Done (reply.Refused w)) did.Failed old new before after began faulted) (sym f.0)
+        (λ behind. fallen_save (around_saving octets (stage.Taking parts) old) behind name time octets (TakesFile (is_none (room_among (length parts.region) old.files.files))) IsTakingFile (IsAtSave stage.Ended) (record no_numbers { file = 1 }) (seen_saving old before began) (seen_saving new after faulted) sees (ends_taking name time octets _)
+        (taking_at (around_saving octets (stage.Taking parts) old) name time octets sees.whole)
+        (λ run event. inr (sym (ap (λ (o : Option ℕ). draws run event (request.Deliver name time octets) (TakesFile (is_none o))) (no_room (length parts.region) old.files.files f.1.is.0))))
+        (stays_so (record no_numbers { file = 1 }) old new before after began faulted map (drawn ∙ drawn_file old.drawn f.1.file.0 next) (ap (λ (v : StoreValue _). v.dues) k) (ap (λ (v : StoreValue _). indexes_of v.boxes) k) (omega (arith, number, next)) (same_ends old new f.1.ends) s.grows (equal_reads began faulted s.fault.reads) s.fault.changes)
+        e.ran (s.stopped.0 stop) (s.fault.rose stop) (λ lists t. s.moments lists t)))
+
+-- ---- the message is placed
+
+some_end : (a b : ℕ) → Some a ≡ Some b → a ≡ b
+some_end a b e = cc e
+
+past_still : (offset end size : ℕ) → is_before offset (Some end) ≡ true → is_before offset (Some (end + size)) ≡ true
+past_still offset end size b = let l = lt_true offset end b in true_lt offset (end + size) (omega (arith, l))
+
+pub placing_more : {D : Type 0} → (parts : SavedParts) (file : FileNo) (at : SavedAt) (origin : ℕ) (room : LowerRoom) (name : List ℕ) (time size : ℕ) (octets : List ℕ) (how : Did) (old new : StoreValue D) (before after : Option History) (began faulted : Faults) → EventOf (stage.Placing parts file) (stage.Storing at origin room) name time size octets progress.More how old new before after began faulted
+    → DeliveryClause octets (stage.Placing parts file) (stage.Storing at origin room) name time progress.More how old new before after began faulted
+placing_more parts file at origin room name time size octets how old new before after began faulted e =
+    let s = e.saves in
+    let p = s.effects in
+    let runs = not_stopped new.stopped (progress.More ≡ stopped_reply) s.stopped more_differs in
+    let map = ap (λ (v : StoreValue _). v.map) p.same in
+    let drawn = ap (λ (v : StoreValue _). v.drawn) p.same in
+    let number = ap (λ (h : Highest). h.file) drawn in
+    let low = file_below file.0 old.files.highest e.left.1.end old.files.files e.order.below e.left.1.ends in
+    let high = e.is.files.highest in
+    let last = e.order.last in
+    let fits = e.left.1.fits in
+    let began_at : e.left.1.end ≡ at.offset = some_end e.left.1.end at.offset (sym e.left.1.ends ∙ p.began) in
+    let some = region_some name time parts e.left.0 in
+    let long = p.size_is in
+    let small : file.0 < 2 ^ 32 = omega (arith, low, last) in
+    let near : at.offset < 2 ^ 32 = omega (arith, began_at, fits) in
+    let fresh = ap (may_have_given old) p.guid ∙ place_new old file.0 at.offset e.id_long small near p.began in
+    let gave = ap (may_have_given new) p.guid ∙ place_given new old.map.store file.0 at.offset (at.offset + at.size) (ap (λ (m : MapMeaning). m.store) map) e.id_long small near (omega (arith, low, high, number)) p.ends (omega (arith, some, long)) in
+    with_did octets (stage.Placing parts file) (stage.Storing at origin room) name time progress.More how did.Quiet old new before after began faulted s.did_is
+    (λ behind. subst (λ (n : FileNo). Steps (IsPlacingMessage file.0) (IsStoringMessage n.0 at.guid.0) (around_saving octets (stage.Placing parts file) old) behind (request.Deliver name time octets) (seen_saving old before began) (seen_saving new after faulted) did.Quiet None) (sym p.file_is)
+    (places_message (around_saving octets (stage.Placing parts file) old) behind name time octets file.0 at.guid.0 (seen_saving old before began) (seen_saving new after faulted) (sees_around octets (stage.Placing parts file) old before began e.is e.order e.whole)
+    (ap length p.guid ∙ place_long old.map.store file.0 at.offset e.id_long) (subst IsOctets (sym p.guid) (place_octets old.map.store file.0 at.offset e.id_octets)) (ap (guid_file old.map.store) p.guid ∙ place_file old.map.store file.0 at.offset e.id_long (omega (arith, low, last))) fresh
+    (record {
+      run = has_run old new before after began faulted e.ran runs (ap (λ (m : MapMeaning). m.boxes) map) (ap (λ (v : StoreValue _). indexes_of v.boxes) p.same) s.moments (s.rests runs) s.grows (s.unfailed more_differs);
+      map = map;
+      due = λ uid. due_stays old new uid map (ap (λ (v : StoreValue _). v.dues) p.same);
+    }) drawn
+    (tells_store old new before after began faulted (ap (λ (m : MapMeaning). m.store) map) (omega (arith, number)) (record {
+      gave = λ n offset le b. elim (cases_eq n file.0) [
+        | inl same ↦
+            ap (λ (k : ℕ). is_before offset (end_in k new.files.files)) same
+            ∙ (ap (λ (o : Option ℕ). is_before offset o) p.ends ∙ past_still offset at.offset at.size (sym (ap (λ (k : ℕ). is_before offset (end_in k old.files.files)) same ∙ ap (λ (o : Option ℕ). is_before offset o) p.began) ∙ b))
+        | inr apart ↦ ap (λ (o : Option ℕ). is_before offset o) (p.others n apart) ∙ b
+      ];
+      known = λ n there. elim (cases_eq n file.0) [
+        | inl same ↦ ap (λ (k : ℕ). is_some (end_in k old.files.files)) same ∙ ap (λ (o : Option ℕ). is_some o) p.began
+        | inr apart ↦ ap (λ (o : Option ℕ). is_some o) (sym (p.others n apart)) ∙ there
+      ];
+    })) gave))
+
+-- one that left the store as it was, of which a change failed
+stays_alone : {D : Type 0} → (old new : StoreValue D) (before after : Option History) (began faulted : Faults) → IsLeftAlone old new → Grows before after → faulted.reads ≡ began.reads → began.changes ≤ faulted.changes → StaysSo no_numbers (seen_saving old before began) (seen_saving new after faulted)
+stays_alone old new before after began faulted k grows reads changes =
+    stays_so no_numbers old new before after began faulted k.map (k.drawn ∙ sym (drawn_none old.drawn)) k.dues k.indexes (let d = ap (λ (h : Highest). h.file) k.drawn in omega (arith, d)) (same_ends old new (files_ends old new k.files)) grows (equal_reads began faulted reads) changes
+
+pub placing_refused : {D : Type 0} → (parts : SavedParts) (file : FileNo) (why : Refusal) (name : List ℕ) (time size : ℕ) (octets : List ℕ) (how : Did) (old new : StoreValue D) (before after : Option History) (began faulted : Faults) → EventOf (stage.Placing parts file) stage.Ended name time size octets (progress.Done (reply.Refused why)) how old new before after began faulted
+    → DeliveryClause octets (stage.Placing parts file) stage.Ended name time (progress.Done (reply.Refused why)) how old new before after began faulted
+placing_refused parts file why name time size octets how old new before after began faulted e =
+    let s = e.saves in
+    let is = s.replies in
+    let stop : progress.Done (reply.Refused why) ≡ stopped_reply = ap (λ (w : Refusal). progress.Done (reply.Refused w)) is in
+    with_did octets (stage.Placing parts file) stage.Ended name time (progress.Done (reply.Refused why)) how did.Failed old new before after began faulted (s.did_is ∙ ap failing_did is)
+    (subst (λ (w : Refusal). DeliveryClause octets (stage.Placing parts file) stage.Ended name time (progress.Done (reply.Refused w)) did.Failed old new before after began faulted) (sym is)
+    (λ behind. fallen_save (around_saving octets (stage.Placing parts file) old) behind name time octets PlacesMessage (IsPlacingMessage file.0) (IsAtSave stage.Ended) no_numbers (seen_saving old before began) (seen_saving new after faulted) (sees_around octets (stage.Placing parts file) old before began e.is e.order e.whole) (ends_placing name time octets)
+    (placing_at (around_saving octets (stage.Placing parts file) old) name time octets file.0) (λ run event. inl refl) (stays_alone old new before after began faulted s.effects s.grows s.fault.reads s.fault.changes) e.ran (s.stopped.0 stop) (s.fault.rose stop) (λ lists t. s.moments lists t)))
