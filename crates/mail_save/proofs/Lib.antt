@@ -3,6 +3,7 @@ pub mod PlaceLemmas
 pub mod RecordLemmas
 pub mod RegionSizeLemmas
 pub mod SaveDidLemmas
+pub mod SaveDoesLemmas
 pub mod SaveEventLemmas
 pub mod SaveFrontLemmas
 pub mod SaveKeptLemmas

@@ -27,11 +27,12 @@ use Rattle.mdbox_base.specs.declared.replies.Reply.{Reply}
 use Rattle.mdbox_base.specs.declared.replies.Reply.TheVariants as reply
 use Rattle.mdbox_base.specs.declared.requests.Request.TheVariants as request
 use Rattle.mdbox_base.specs.declared.script.Half.TheVariants as half
+use Rattle.model_appends.specs.Appending.{lists_by, meanings_by}
 use Rattle.model_lists.specs.Lists.{Lists}
 use Rattle.model_meaning.specs.BoxMeaning.{BoxMeaning}
-use Rattle.model_meaning.specs.MapMeaning.{MapMeaning, no_numbers, guid_file}
+use Rattle.model_meaning.specs.MapMeaning.{MapMeaning, map_applied, no_numbers, guid_file}
 use Rattle.model_store.specs.Settled.{IsSettledFor, Leaves}
-use Rattle.list_machine.specs.Run.{First, TakesFile, PlacesMessage, StoresRecord, RunEvent, Run, drawn_also, drawn_of}
+use Rattle.list_machine.specs.Run.{First, TakesFile, PlacesMessage, StoresRecord, GivesBack, RunEvent, Run, drawn_also, drawn_of}
 use Rattle.list_machine.specs.Machine.{NextMapUid, first_refusal, refused_where, part_checks, is_step, is_used_up}
 use Rattle.journal.specs.Events.{Around, draws}
 use Rattle.journal.specs.Found.{took_file}
@@ -44,7 +45,7 @@ use Rattle.storage_files.specs.declared.file.Take.TheVariants.{Known, New, Full}
 use Rattle.store_core.specs.Running.{IsStore}
 use Rattle.store_core.specs.Dues.{due_at}
 use Rattle.store_core.specs.Knows.{may_have_given}
-use Rattle.store_core.specs.Value.{StoreValue, indexes_of, list_named}
+use Rattle.store_core.specs.Value.{StoreValue, indexes_of, list_named, references_to}
 use Rattle.store_core.proofs.BoxCrashLemmas.{leaves_none}
 use Rattle.store_core.proofs.ShownLemmas.{refs_shown}
 use Rattle.task_steps.specs.Step.{ShowsSeen, HasComeTo, HasNotBegun, Steps, ended_by}
@@ -56,7 +57,8 @@ use Rattle.mail_save.specs.Record.{entry_stored}
 use Rattle.mail_save.specs.SaveEffects.{AreEndsSame, IsLeftAlone, TookAs, TakesFileFor, FindsNoNumber, FailsToMake, TakesNone, PlacesParts, StoresPlaced, GivesFileBack, StoresNone, AddsStored, LowersRecord}
 use Rattle.mail_save.specs.SaveSeen.{seen_saving, around_saving, IsAtSave, room_among}
 use Rattle.mail_save.specs.SaveStages.{IsTakingFile, IsPlacingMessage, IsStoringMessage, IsAddingMessage, IsLoweringCount}
-use Rattle.mail_save.specs.Task.{HasLeft, Saves, stopped_reply, failing_did, refused_did}
+use Rattle.mail_save.specs.Task.{HasLeft, RepliesAt, Saves, stopped_reply, failing_did, refused_did, giving_did}
+use Rattle.mail_save.specs.declared.add.Added.{Added}
 use Rattle.mail_save.specs.declared.first.SavedParts.{SavedParts}
 use Rattle.mail_save.specs.declared.place.SavedAt.{SavedAt}
 use Rattle.mail_save.specs.declared.record.LowerRoom.{LowerRoom}
@@ -147,7 +149,7 @@ first_checked run name time octets store history faults lists event come h =
     box_checked run name store.map.boxes (indexes_of store.boxes) lists (NextMapUid ∷ []) h
     ∙ ap (λ (r : Option Refusal). option_or (box_refusal (list_named store name)) r) (checked_uid (is_used_up (drawn_of run).map) ∙ ap (λ (d : Highest). uid_refusal d.map) come.come.drawn_is)
 
-first_more : {D : Type 0} → (prepared : Prepared) (parts : SavedParts) (name : List ℕ) (time size : ℕ) (octets : List ℕ) (how : Did) (old new : StoreValue D) (before after : Option History) (began faulted : Faults) → EventOf (stage.First prepared) (stage.Taking parts) name time size octets progress.More how old new before after began faulted
+pub first_more : {D : Type 0} → (prepared : Prepared) (parts : SavedParts) (name : List ℕ) (time size : ℕ) (octets : List ℕ) (how : Did) (old new : StoreValue D) (before after : Option History) (began faulted : Faults) → EventOf (stage.First prepared) (stage.Taking parts) name time size octets progress.More how old new before after began faulted
     → DeliveryClause octets (stage.First prepared) (stage.Taking parts) name time progress.More how old new before after began faulted
 first_more prepared parts name time size octets how old new before after began faulted e = λ behind.
     let s = e.saves in
@@ -397,3 +399,248 @@ placing_refused parts file why name time size octets how old new before after be
     (subst (λ (w : Refusal). DeliveryClause octets (stage.Placing parts file) stage.Ended name time (progress.Done (reply.Refused w)) did.Failed old new before after began faulted) (sym is)
     (λ behind. fallen_save (around_saving octets (stage.Placing parts file) old) behind name time octets PlacesMessage (IsPlacingMessage file.0) (IsAtSave stage.Ended) no_numbers (seen_saving old before began) (seen_saving new after faulted) (sees_around octets (stage.Placing parts file) old before began e.is e.order e.whole) (ends_placing name time octets)
     (placing_at (around_saving octets (stage.Placing parts file) old) name time octets file.0) (λ run event. inl refl) (stays_alone old new before after began faulted s.effects s.grows s.fault.reads s.fault.changes) e.ran (s.stopped.0 stop) (s.fault.rose stop) (λ lists t. s.moments lists t)))
+
+-- ---- the message is stored
+
+own_save : (octets : List ℕ) → has_detachable octets ≡ false → origin_of octets ≡ 0
+own_save octets whole = ap (λ (b : Bool). if b then 1 else 0) whole
+
+pub storing_more : {D : Type 0} → (at : SavedAt) (origin : ℕ) (room left : LowerRoom) (added : Added) (name : List ℕ) (time size : ℕ) (octets : List ℕ) (how : Did) (old new : StoreValue D) (before after : Option History) (began faulted : Faults) → EventOf (stage.Storing at origin room) (stage.Adding added left) name time size octets progress.More how old new before after began faulted
+    → DeliveryClause octets (stage.Storing at origin room) (stage.Adding added left) name time progress.More how old new before after began faulted
+storing_more at origin room left added name time size octets how old new before after began faulted e =
+    let s = e.saves in
+    let p = s.effects in
+    let r = e.ready.1 in
+    let runs = not_stopped new.stopped (progress.More ≡ stopped_reply) s.stopped more_differs in
+    let none : origin ≡ 0 = r.origin_is ∙ own_save octets e.whole in
+    let drawn = p.drawn ∙ drawn_map old.drawn added.map_uid.0 p.uid_is in
+    let number = ap (λ (h : Highest). h.file) p.drawn in
+    with_did octets (stage.Storing at origin room) (stage.Adding added left) name time progress.More how did.Quiet old new before after began faulted s.did_is
+    (λ behind. subst (λ (g : Guid). Steps (IsStoringMessage at.file.0 at.guid.0) (IsAddingMessage g.0 added.map_uid.0) (around_saving octets (stage.Storing at origin room) old) behind (request.Deliver name time octets) (seen_saving old before began) (seen_saving new after faulted) did.Quiet None) (sym p.guid_is)
+    (stores_message (around_saving octets (stage.Storing at origin room) old) behind name time octets at.file.0 at.guid.0 added.map_uid.0 at.size at.offset (seen_saving old before began) (seen_saving new after faulted) (sees_around octets (stage.Storing at origin room) old before began e.is e.order e.whole)
+    p.uid_is p.few (sym e.left.0.guid_offset)
+    (has_run old new before after began faulted e.ran runs p.mailboxes (ap indexes_of p.boxes) (λ lists t. s.moments lists (r.ready (record { 0 = old.drawn.map + 1 }) lists t) t) (λ lists t. s.rests runs lists (r.ready (record { 0 = old.drawn.map + 1 }) lists t) t) s.grows (s.unfailed more_differs))
+    (subst (λ (n : ℕ). new.map ≡ map_applied (entry_stored n added.map_uid at) old.map) none p.map) drawn (λ other. p.due other)
+    (tells_store old new before after began faulted (ap (λ (m : MapMeaning). m.store) p.map) (omega (arith, number)) (same_ends old new p.ends))))
+
+pub storing_refused : {D : Type 0} → (at : SavedAt) (origin : ℕ) (room : LowerRoom) (why : Refusal) (name : List ℕ) (time size : ℕ) (octets : List ℕ) (how : Did) (old new : StoreValue D) (before after : Option History) (began faulted : Faults) → EventOf (stage.Storing at origin room) stage.Ended name time size octets (progress.Done (reply.Refused why)) how old new before after began faulted
+    → DeliveryClause octets (stage.Storing at origin room) stage.Ended name time (progress.Done (reply.Refused why)) how old new before after began faulted
+storing_refused at origin room why name time size octets how old new before after began faulted e = by_cause e.saves.replies e.saves.effects
+  where
+    sees : SeesAround octets (around_saving octets (stage.Storing at origin room) old) (seen_saving old before began)
+    sees = sees_around octets (stage.Storing at origin room) old before began e.is e.order e.whole
+
+    goes : (why ≡ refusal.Stopped → ⊥) → GivesFileBack at.file.0 old new → HasRun (seen_saving old before began) (seen_saving new after faulted)
+    goes other k =
+        let s = e.saves in
+        let r = e.ready.1 in
+        let runs = not_stopped new.stopped (progress.Done (reply.Refused why) ≡ stopped_reply) s.stopped (refused_differs why other) in
+        has_run old new before after began faulted e.ran runs (ap (λ (v : StoreValue _). v.map.boxes) k.same) (ap (λ (v : StoreValue _). indexes_of v.boxes) k.same) (λ lists t. s.moments lists (r.ready (record { 0 = old.drawn.map + 1 }) lists t) t)
+        (λ lists t. s.rests runs lists (r.ready (record { 0 = old.drawn.map + 1 }) lists t) t) s.grows (s.unfailed (refused_differs why other))
+
+    stays : (why ≡ refusal.Stopped → ⊥) → GivesFileBack at.file.0 old new → StaysSo no_numbers (seen_saving old before began) (seen_saving new after faulted)
+    stays other k =
+        let same = e.saves.unfailed (refused_differs why other) in
+        stays_so no_numbers old new before after began faulted (ap (λ (v : StoreValue _). v.map) k.same) (ap (λ (v : StoreValue _). v.drawn) k.same ∙ sym (drawn_none old.drawn)) (ap (λ (v : StoreValue _). v.dues) k.same) (ap (λ (v : StoreValue _). indexes_of v.boxes) k.same)
+        (let d = ap (λ (v : StoreValue _). v.drawn.file) k.same in omega (arith, d)) (same_ends old new k.ends) e.saves.grows (same_reads began faulted same) (same_changes began faulted same)
+
+    full : why ≡ refusal.StoreFull 4294967294 → nat_le 4294967294 old.drawn.map ≡ true → (why ≡ refusal.Stopped → ⊥) → GivesFileBack at.file.0 old new → DeliveryClause octets (stage.Storing at origin room) stage.Ended name time (progress.Done (reply.Refused why)) how old new before after began faulted
+    full is used other k =
+        let step : is_step why ≡ true = ap is_step is in
+        with_did octets (stage.Storing at origin room) stage.Ended name time (progress.Done (reply.Refused why)) how (did.Step half.Whole) old new before after began faulted (e.saves.did_is ∙ step_did why step)
+        (λ behind. checked_save (around_saving octets (stage.Storing at origin room) old) behind name time octets StoresRecord (IsAtSave (stage.Storing at origin room)) (IsAtSave stage.Ended) why (seen_saving old before began) (seen_saving new after faulted) sees (ends_storing name time octets)
+        (storing_at (around_saving octets (stage.Storing at origin room) old) name time octets at.file.0 at.guid.0) (λ run place said stood. stood.3) step
+        (λ run lists event come shows. full_uids name time octets (seen_saving old before began) used run lists event come shows ∙ ap (λ (w : Refusal). Some w) (sym is)) (goes other k) (stays other k))
+
+    forgotten : why ≡ refusal.NoMemory → (why ≡ refusal.Stopped → ⊥) → GivesFileBack at.file.0 old new → DeliveryClause octets (stage.Storing at origin room) stage.Ended name time (progress.Done (reply.Refused why)) how old new before after began faulted
+    forgotten m other k =
+        with_did octets (stage.Storing at origin room) stage.Ended name time (progress.Done (reply.Refused why)) how did.Quiet old new before after began faulted (e.saves.did_is ∙ ap failing_did m)
+        (subst (λ (w : Refusal). DeliveryClause octets (stage.Storing at origin room) stage.Ended name time (progress.Done (reply.Refused w)) did.Quiet old new before after began faulted) (sym m)
+        (λ behind. forgotten_save (around_saving octets (stage.Storing at origin room) old) behind name time octets StoresRecord (IsAtSave (stage.Storing at origin room)) (IsAtSave stage.Ended) (seen_saving old before began) (seen_saving new after faulted) sees (ends_storing name time octets)
+        (storing_at (around_saving octets (stage.Storing at origin room) old) name time octets at.file.0 at.guid.0) refl (λ run place said stood. stood.3) (goes other k) (stays other k)))
+
+    fell : why ≡ refusal.Stopped → IsLeftAlone old new → DeliveryClause octets (stage.Storing at origin room) stage.Ended name time (progress.Done (reply.Refused why)) how old new before after began faulted
+    fell is k =
+        let s = e.saves in
+        let r = e.ready.1 in
+        let stop : progress.Done (reply.Refused why) ≡ stopped_reply = ap (λ (w : Refusal). progress.Done (reply.Refused w)) is in
+        with_did octets (stage.Storing at origin room) stage.Ended name time (progress.Done (reply.Refused why)) how did.Failed old new before after began faulted (s.did_is ∙ ap failing_did is)
+        (subst (λ (w : Refusal). DeliveryClause octets (stage.Storing at origin room) stage.Ended name time (progress.Done (reply.Refused w)) did.Failed old new before after began faulted) (sym is)
+        (λ behind. fallen_save (around_saving octets (stage.Storing at origin room) old) behind name time octets StoresRecord (IsAtSave (stage.Storing at origin room)) (IsAtSave stage.Ended) no_numbers (seen_saving old before began) (seen_saving new after faulted) sees (ends_storing name time octets)
+        (storing_at (around_saving octets (stage.Storing at origin room) old) name time octets at.file.0 at.guid.0) (λ run event. inl refl) (stays_alone old new before after began faulted k s.grows s.fault.reads s.fault.changes) e.ran (s.stopped.0 stop) (s.fault.rose stop)
+        (λ lists t. s.moments lists (r.ready (record { 0 = old.drawn.map + 1 }) lists t) t)))
+
+    full_runs : why ≡ refusal.StoreFull 4294967294 → why ≡ refusal.Stopped → ⊥
+    full_runs is k = step_runs why (ap is_step is) k
+
+    by_cause : (uid_refusal old.drawn.map ≡ Some why) ⊎ ((uid_refusal old.drawn.map ≡ None) × ((why ≡ refusal.Stopped) ⊎ (why ≡ refusal.NoMemory))) → StoresNone at why old new
+        → DeliveryClause octets (stage.Storing at origin room) stage.Ended name time (progress.Done (reply.Refused why)) how old new before after began faulted
+    by_cause cause (inl k) = fell k.0 k.1
+    by_cause (inl used) (inr k) = let u = uid_full (nat_le 4294967294 old.drawn.map) why used in full u.1 u.0 k.0 k.1
+    by_cause (inr (some, inl is)) (inr k) = absurd (k.0 is)
+    by_cause (inr (some, inr m)) (inr k) = forgotten m k.0 k.1
+
+
+refused_as : (why : Refusal) → is_step why ≡ true → refused_did why ≡ did.Step half.Whole
+refused_as why s = ap (λ (b : Bool). if b then did.Step half.Whole else did.Quiet) s
+
+gives_quietly : (why : Refusal) → (why ≡ refusal.Stopped → ⊥) → giving_did (progress.Done (reply.Refused why)) ≡ did.Quiet
+gives_quietly refusal.NoMailbox other = refl
+gives_quietly refusal.Exists other = refl
+gives_quietly refusal.NoMessage other = refl
+gives_quietly (refusal.TooManyCopies n) other = refl
+gives_quietly (refusal.MailboxFull n) other = refl
+gives_quietly (refusal.TooManyMailboxes n) other = refl
+gives_quietly (refusal.StoreFull n) other = refl
+gives_quietly refusal.NoMemory other = refl
+gives_quietly refusal.ReadFault other = refl
+gives_quietly refusal.Stopped other = absurd (other refl)
+gives_quietly (refusal.Damaged file offset) other = refl
+
+-- what the event that adds the message replies, where it is refused, and where it goes on
+stops_adding : {D : Type 0} → (added : Added) (room : LowerRoom) (why : Refusal) (old : StoreValue D) (name : List ℕ) → RepliesAt (stage.Adding added room) name (progress.Done (reply.Refused why)) stage.Ended old → why ≡ refusal.Stopped
+stops_adding added room why old name (inl k) = absurd (let r : reply.Refused why ≡ reply.Saved k.1 added.guid = cc k.3 in cc r)
+stops_adding added room why old name (inr (inl k)) = let r : reply.Refused why ≡ reply.Refused refusal.Stopped = cc k in cc r
+stops_adding added room why old name (inr (inr k)) = absurd (cc k.2)
+
+goes_back : {D : Type 0} → (added : Added) (room left : LowerRoom) (uid : MapUid) (why : Refusal) (old : StoreValue D) (name : List ℕ) → RepliesAt (stage.Adding added room) name progress.More (stage.GivingBack uid why left) old
+    → (box_refusal (list_named old name) ≡ Some why) ⊎ ((box_refusal (list_named old name) ≡ None) × (why ≡ refusal.NoMemory))
+goes_back added room left uid why old name (inl k) = absurd (cc k.3)
+goes_back added room left uid why old name (inr (inl k)) = absurd (cc k)
+goes_back added room left uid why old name (inr (inr k)) =
+    let is : why ≡ k.0 = cc k.3 in
+    subst (λ (w : Refusal). (box_refusal (list_named old name) ≡ Some w) ⊎ ((box_refusal (list_named old name) ≡ None) × (w ≡ refusal.NoMemory))) (sym is) k.1
+
+-- ---- the message is added
+
+-- the mailbox that was found, as the store is seen
+finds_box : {D : Type 0} → (name : List ℕ) (guid : List ℕ) (number : BoxNo) (uid : Uid) (store : StoreValue D) (history : Option History) (faults : Faults) → HasRoomUnder name number uid store → references_to store guid ≡ 0 → FindsBox name guid uid.0 number.0 (seen_saving store history faults)
+finds_box name guid number uid store history faults r none = record {
+  m = r.mailbox;
+  named = r.named;
+  number_is = r.number_is;
+  next = r.next;
+  room = r.room;
+  more = r.more;
+  unlisted = λ lists shows. sym (refs_shown store.map.boxes (indexes_of store.boxes) lists guid shows.1) ∙ none;
+}
+
+-- the entry, by time and size of the message
+added_as : (uid : Uid) (added : Added) (time : ℕ) (octets : List ℕ) → added.time ≡ time → added.size ≡ length octets → entry_added uid added ≡ made_of octets uid time added.map_uid added.guid
+added_as uid added time octets t n = ap (λ (k : ℕ). box_entry.A uid 0 k added.size added.map_uid added.guid) t ∙ ap (λ (k : ℕ). box_entry.A uid 0 time k added.map_uid added.guid) n
+
+pub adding_saved : {D : Type 0} → (added : Added) (room : LowerRoom) (uid : Uid) (guid : Guid) (name : List ℕ) (time size : ℕ) (octets : List ℕ) (how : Did) (old new : StoreValue D) (before after : Option History) (began faulted : Faults) → EventOf (stage.Adding added room) stage.Ended name time size octets (progress.Done (reply.Saved uid guid)) how old new before after began faulted
+    → DeliveryClause octets (stage.Adding added room) stage.Ended name time (progress.Done (reply.Saved uid guid)) how old new before after began faulted
+adding_saved added room uid guid name time size octets how old new before after began faulted e =
+    let s = e.saves in
+    let p = s.effects.1 in
+    let r = e.ready.1 in
+    let small = e.ready.0.1 in
+    let runs = not_stopped new.stopped (progress.Done (reply.Saved uid guid) ≡ stopped_reply) s.stopped (saved_differs uid guid) in
+    let same = s.unfailed (saved_differs uid guid) in
+    let entry = added_as uid added time octets r.time_is r.size_is in
+    with_did octets (stage.Adding added room) stage.Ended name time (progress.Done (reply.Saved uid guid)) how (did.Step half.Whole) old new before after began faulted s.did_is
+    (subst (λ (g : Guid). DeliveryClause octets (stage.Adding added room) stage.Ended name time (progress.Done (reply.Saved uid g)) (did.Step half.Whole) old new before after began faulted) (sym s.effects.0)
+    (λ behind. saved_message (around_saving octets (stage.Adding added room) old) behind name time octets added.guid added.map_uid.0 p.number.0 uid (IsAtSave stage.Ended) (seen_saving old before began) (seen_saving new after faulted) (sees_around octets (stage.Adding added room) old before began e.is e.order e.whole) (record { timed = e.timed; small = small })
+    (finds_box name added.guid.0 p.number uid old before began p.room r.unlisted)
+    (record {
+      ran = e.ran;
+      runs = runs;
+      map = p.map;
+      drawn = p.drawn;
+      taken = p.taken ∙ ap (λ (x : BoxEntry). meanings_by p.number.0 x old.map.boxes (indexes_of old.boxes)) entry;
+      due = λ other. less_due added.map_uid old new other e.left.1 (p.due p.room.mailbox other p.room.named);
+      tells = tells_store old new before after began faulted (ap (λ (m : MapMeaning). m.store) p.map) (let d = ap (λ (h : Highest). h.file) p.drawn in omega (arith, d)) (same_ends old new (files_ends old new p.files));
+      moments = λ lists t. subst (λ (x : BoxEntry). Leaves lists (lists_by p.number.0 octets x lists) before after) entry (s.moments p.number uid p.room lists octets (r.brings uid) t);
+      settled = λ lists t. subst (λ (x : BoxEntry). IsSettledFor (lists_by p.number.0 octets x lists) after) entry (s.rests runs p.number p.room lists octets (r.brings uid) t);
+      grows = s.grows;
+      reads = same_reads began faulted same;
+      changes = same_changes began faulted same;
+    })))
+
+pub adding_refused : {D : Type 0} → (added : Added) (room : LowerRoom) (why : Refusal) (name : List ℕ) (time size : ℕ) (octets : List ℕ) (how : Did) (old new : StoreValue D) (before after : Option History) (began faulted : Faults) → EventOf (stage.Adding added room) stage.Ended name time size octets (progress.Done (reply.Refused why)) how old new before after began faulted
+    → DeliveryClause octets (stage.Adding added room) stage.Ended name time (progress.Done (reply.Refused why)) how old new before after began faulted
+adding_refused added room why name time size octets how old new before after began faulted e =
+    let s = e.saves in
+    let number = s.effects.0 in
+    let uid = s.effects.1 in
+    let found = s.effects.2 in
+    let r = e.ready.1 in
+    let is = stops_adding added room why old name s.replies in
+    let stop : progress.Done (reply.Refused why) ≡ stopped_reply = ap (λ (w : Refusal). progress.Done (reply.Refused w)) is in
+    let entry = added_as uid added time octets r.time_is r.size_is in
+    with_did octets (stage.Adding added room) stage.Ended name time (progress.Done (reply.Refused why)) how (did.Broken half.Whole) old new before after began faulted s.did_is
+    (subst (λ (w : Refusal). DeliveryClause octets (stage.Adding added room) stage.Ended name time (progress.Done (reply.Refused w)) (did.Broken half.Whole) old new before after began faulted) (sym is)
+    (λ behind. broken_save (around_saving octets (stage.Adding added room) old) behind name time octets added.guid added.map_uid.0 number.0 uid (IsAtSave stage.Ended) (seen_saving old before began) (seen_saving new after faulted) (sees_around octets (stage.Adding added room) old before began e.is e.order e.whole)
+    (finds_box name added.guid.0 number uid old before began found r.unlisted)
+    (record {
+      ran = e.ran;
+      stopped = s.stopped.0 stop;
+      stays = stays_alone old new before after began faulted s.effects.3 s.grows s.fault.reads s.fault.changes;
+      rose = s.fault.rose stop;
+      moments = λ lists t. subst (λ (x : BoxEntry). Leaves lists (lists_by number.0 octets x lists) before after) entry (s.moments number uid found lists octets (r.brings uid) t);
+    })))
+
+pub adding_more : {D : Type 0} → (added : Added) (room left : LowerRoom) (uid : MapUid) (why : Refusal) (name : List ℕ) (time size : ℕ) (octets : List ℕ) (how : Did) (old new : StoreValue D) (before after : Option History) (began faulted : Faults) → EventOf (stage.Adding added room) (stage.GivingBack uid why left) name time size octets progress.More how old new before after began faulted
+    → DeliveryClause octets (stage.Adding added room) (stage.GivingBack uid why left) name time progress.More how old new before after began faulted
+adding_more added room left uid why name time size octets how old new before after began faulted e = by_cause (goes_back added room left uid why old name e.saves.replies)
+  where
+    same : new ≡ old
+    same = e.saves.effects.1
+
+    idle : (after ≡ before) × (faulted ≡ began)
+    idle = e.idle (ap (λ (v : StoreValue _). v.disk) same)
+
+    goes : HasRun (seen_saving old before began) (seen_saving new after faulted)
+    goes =
+        has_run old new before after began faulted e.ran (not_stopped new.stopped (progress.More ≡ stopped_reply) e.saves.stopped more_differs) (ap (λ (v : StoreValue _). v.map.boxes) same) (ap (λ (v : StoreValue _). indexes_of v.boxes) same)
+        (λ lists t. subst (λ (h : Option History). Leaves lists lists before h) (sym idle.0) (leaves_none before lists lists t)) (λ lists t. subst (λ (h : Option History). IsSettledFor lists h) (sym idle.0) t) e.saves.grows idle.1
+
+    stays : StaysSo no_numbers (seen_saving old before began) (seen_saving new after faulted)
+    stays = stays_same old new before after began faulted same e.saves.grows (same_reads began faulted idle.1) (same_changes began faulted idle.1)
+
+    sees : SeesAround octets (around_saving octets (stage.Adding added room) old) (seen_saving old before began)
+    sees = sees_around octets (stage.Adding added room) old before began e.is e.order e.whole
+
+    as_held : (known : Did) → how ≡ known → ((behind : Around) → Steps (IsAddingMessage added.guid.0 added.map_uid.0) (IsLoweringCount added.map_uid.0 why) (around_saving octets (stage.Adding added room) old) behind (request.Deliver name time octets) (seen_saving old before began) (seen_saving new after faulted) known None)
+        → DeliveryClause octets (stage.Adding added room) (stage.GivingBack uid why left) name time progress.More how old new before after began faulted
+    as_held known is does = with_did octets (stage.Adding added room) (stage.GivingBack uid why left) name time progress.More how known old new before after began faulted is
+        (λ behind. subst (λ (u : MapUid). Steps (IsAddingMessage added.guid.0 added.map_uid.0) (IsLoweringCount u.0 why) (around_saving octets (stage.Adding added room) old) behind (request.Deliver name time octets) (seen_saving old before began) (seen_saving new after faulted) known None) (sym e.saves.effects.0) (does behind))
+
+    by_cause : (box_refusal (list_named old name) ≡ Some why) ⊎ ((box_refusal (list_named old name) ≡ None) × (why ≡ refusal.NoMemory)) → DeliveryClause octets (stage.Adding added room) (stage.GivingBack uid why left) name time progress.More how old new before after began faulted
+    by_cause (inl refuses) =
+        let step = box_steps (list_named old name) why refuses in
+        as_held (did.Step half.Whole) (e.saves.did_is ∙ refused_as why step)
+        (λ behind. refused_message (around_saving octets (stage.Adding added room) old) behind name time octets added.guid.0 added.map_uid.0 why (seen_saving old before began) (seen_saving new after faulted) sees step refuses goes stays)
+    by_cause (inr m) =
+        as_held did.Quiet (e.saves.did_is ∙ ap refused_did m.1)
+        (λ behind. subst (λ (w : Refusal). Steps (IsAddingMessage added.guid.0 added.map_uid.0) (IsLoweringCount added.map_uid.0 w) (around_saving octets (stage.Adding added room) old) behind (request.Deliver name time octets) (seen_saving old before began) (seen_saving new after faulted) did.Quiet None) (sym m.1)
+        (forgotten_message (around_saving octets (stage.Adding added room) old) behind name time octets added.guid.0 added.map_uid.0 (seen_saving old before began) (seen_saving new after faulted) sees goes stays))
+
+-- ---- its record is given back
+
+pub giving_refused : {D : Type 0} → (uid : MapUid) (cause : Refusal) (room : LowerRoom) (why : Refusal) (name : List ℕ) (time size : ℕ) (octets : List ℕ) (how : Did) (old new : StoreValue D) (before after : Option History) (began faulted : Faults) → EventOf (stage.GivingBack uid cause room) stage.Ended name time size octets (progress.Done (reply.Refused why)) how old new before after began faulted
+    → DeliveryClause octets (stage.GivingBack uid cause room) stage.Ended name time (progress.Done (reply.Refused why)) how old new before after began faulted
+giving_refused uid cause room why name time size octets how old new before after began faulted e = by_case e.saves.effects
+  where
+    sees : SeesAround octets (around_saving octets (stage.GivingBack uid cause room) old) (seen_saving old before began)
+    sees = sees_around octets (stage.GivingBack uid cause room) old before began e.is e.order e.whole
+
+    by_case : ((why ≡ cause) × LowersRecord uid old new) ⊎ ((why ≡ refusal.Stopped) × IsLeftAlone old new) → DeliveryClause octets (stage.GivingBack uid cause room) stage.Ended name time (progress.Done (reply.Refused why)) how old new before after began faulted
+    by_case (inl k) =
+        let s = e.saves in
+        let other : why ≡ refusal.Stopped → ⊥ = λ is. e.left.1 (sym k.0 ∙ is) in
+        let runs = not_stopped new.stopped (progress.Done (reply.Refused why) ≡ stopped_reply) s.stopped (refused_differs why other) in
+        let p = k.1 in
+        with_did octets (stage.GivingBack uid cause room) stage.Ended name time (progress.Done (reply.Refused why)) how did.Quiet old new before after began faulted (s.did_is ∙ gives_quietly why other)
+        (subst (λ (w : Refusal). DeliveryClause octets (stage.GivingBack uid cause room) stage.Ended name time (progress.Done (reply.Refused w)) did.Quiet old new before after began faulted) (sym k.0)
+        (λ behind. lowers_count (around_saving octets (stage.GivingBack uid cause room) old) behind name time octets uid.0 cause (IsAtSave stage.Ended) (seen_saving old before began) (seen_saving new after faulted) sees
+        (has_run old new before after began faulted e.ran runs p.mailboxes (ap indexes_of p.boxes) s.moments (s.rests runs) s.grows (s.unfailed (refused_differs why other))) p.map p.drawn (λ u. less_due uid old new u e.left.0 (p.due u))
+        (tells_store old new before after began faulted (ap (λ (m : MapMeaning). m.store) p.map) (let d = ap (λ (h : Highest). h.file) p.drawn in omega (arith, d)) (same_ends old new (files_ends old new p.files)))))
+    by_case (inr k) =
+        let s = e.saves in
+        let stop : progress.Done (reply.Refused why) ≡ stopped_reply = ap (λ (w : Refusal). progress.Done (reply.Refused w)) k.0 in
+        with_did octets (stage.GivingBack uid cause room) stage.Ended name time (progress.Done (reply.Refused why)) how did.Failed old new before after began faulted (s.did_is ∙ ap (λ (w : Refusal). giving_did (progress.Done (reply.Refused w))) k.0)
+        (subst (λ (w : Refusal). DeliveryClause octets (stage.GivingBack uid cause room) stage.Ended name time (progress.Done (reply.Refused w)) did.Failed old new before after began faulted) (sym k.0)
+        (λ behind. fallen_save (around_saving octets (stage.GivingBack uid cause room) old) behind name time octets GivesBack (IsAtSave (stage.GivingBack uid cause room)) (IsAtSave stage.Ended) no_numbers (seen_saving old before began) (seen_saving new after faulted) sees (ends_giving name time octets)
+        (lowering_at (around_saving octets (stage.GivingBack uid cause room) old) name time octets uid.0 cause) (λ run event. inl refl) (stays_alone old new before after began faulted k.1 s.grows s.fault.reads s.fault.changes) e.ran (s.stopped.0 stop) (s.fault.rose stop) (λ lists t. s.moments lists t)))

@@ -1,5 +1,5 @@
 -- What each event of a delivery makes of the store.
-use Rattle.std.specs.Prelude.{◌≡◌, ◌≢◌, ◌⊎◌, ◌+◌, ℕ, true, false, List, [], length, Option, Some, None}
+use Rattle.std.specs.Prelude.{◌≡◌, ◌≢◌, ◌⊎◌, ◌<◌, ◌+◌, ℕ, true, false, List, [], length, Option, Some, None}
 use Rattle.attach_detach.specs.Prepared.{IsPlain}
 use Rattle.disk_model.specs.Disk.{History}
 use Rattle.mdbox_base.specs.declared.ids.BoxNo.{BoxNo}
@@ -114,6 +114,7 @@ saved_row origin uid at = stored_row origin 1 uid at.file at.offset at.size at.g
 -- It has the next map uid, and one of it is due. The storage file is given back.
 pub record StoresPlaced {D : Type 0} (at : SavedAt) (origin time size : ℕ) (added : Added) (old new : StoreValue D) : Type 0 where
   pub uid_is : added.map_uid.0 ≡ old.drawn.map + 1
+  pub few : old.drawn.map < 4294967294
   pub guid_is : added.guid ≡ at.guid
   pub time_is : added.time ≡ time
   pub size_is : added.size ≡ size
@@ -171,7 +172,7 @@ SaveEffects (stage.Placing parts file) stage.Ended name time size (progress.Done
 SaveEffects (stage.Storing at origin room) (stage.Adding added left) name time size progress.More old new = StoresPlaced at origin time size added old new
 SaveEffects (stage.Storing at origin room) stage.Ended name time size (progress.Done (reply.Refused why)) old new = StoresNone at why old new
 SaveEffects (stage.Adding added room) stage.Ended name time size (progress.Done (reply.Saved uid guid)) old new = (guid ≡ added.guid) × AddsStored name added uid old new
-SaveEffects (stage.Adding added room) stage.Ended name time size (progress.Done (reply.Refused why)) old new = IsLeftAlone old new
+SaveEffects (stage.Adding added room) stage.Ended name time size (progress.Done (reply.Refused why)) old new = (number : BoxNo) × (uid : Uid) × HasRoomUnder name number uid old × IsLeftAlone old new
 SaveEffects (stage.Adding added room) (stage.GivingBack uid why left) name time size progress.More old new = (uid ≡ added.map_uid) × (new ≡ old)
 SaveEffects (stage.GivingBack uid why room) stage.Ended name time size (progress.Done (reply.Refused given)) old new = ((given ≡ why) × LowersRecord uid old new) ⊎ ((given ≡ refusal.Stopped) × IsLeftAlone old new)
 SaveEffects now next name time size answer old new = ⊥

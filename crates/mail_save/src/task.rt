@@ -1,13 +1,19 @@
 // The task of a delivery.
 ghost use Rattle.std.specs.Prelude.{◌≡◌, ◌≢◌, ◌≤◌, ℕ, List, length, true, false};
 ghost use Rattle.attach_detach.specs.Prepared.{IsPlain};
-ghost use Rattle.mdbox_base.specs.Words.{IsName};
+ghost use Rattle.journal.specs.Events.{Around};
+ghost use Rattle.mdbox_base.specs.Words.{IsName, IsOctets};
 ghost use Rattle.mdbox_base.specs.declared.progress.Did.TheVariants as did;
 ghost use Rattle.mdbox_base.specs.declared.progress.Progress.TheVariants as progress;
 ghost use Rattle.mdbox_base.specs.declared.replies.Refusal.TheVariants as refusal;
 ghost use Rattle.mdbox_base.specs.declared.replies.Reply.TheVariants as reply;
+ghost use Rattle.mdbox_base.specs.declared.requests.Request.TheVariants as request;
 ghost use Rattle.store_core.specs.Dues.{due_at};
+ghost use Rattle.task_steps.specs.Step.{Steps, ended_by};
+ghost use Rattle.mail_save.specs.Events.{has_detachable};
 ghost use Rattle.mail_save.specs.Left.{HoldsFile};
+ghost use Rattle.mail_save.specs.Ready.{IsReadyToSave};
+ghost use Rattle.mail_save.specs.SaveSeen.{IsAtSave, around_saving, seen_saving};
 ghost use Rattle.mail_save.specs.Task.{HasLeft, IsOfMessage, Saves, stopped_reply, refused_did, failing_did};
 ghost use Rattle.mail_save.specs.declared.task.SaveStage.TheVariants as stage;
 
@@ -113,9 +119,12 @@ impl SaveTask {
     pub fn step<D: Disk>(&mut self, store: &mut Store<D>) -> Progress
         requires left { HasLeft self.old.stage self.old.name self.old.time store.old }
         ensures saves { store.old.stopped ≡ false → Saves self.old.stage self.new.stage self.old.name self.old.time self.old.size result self.new.did store.old store.new (D.history store.old.disk) (D.history store.new.disk) (D.faults store.old.disk) (D.faults store.new.disk) }
+        ensures does { (octets : List ℕ) (after : Around) → has_detachable octets ≡ false → (store.old.stopped ≡ false → IsReadyToSave self.old.stage self.old.name self.old.time self.old.size octets store.old (D.history store.old.disk)) → Steps (IsAtSave self.old.stage) (IsAtSave self.new.stage) (around_saving octets self.old.stage store.old) after (request.Deliver self.old.name self.old.time octets) (seen_saving store.old (D.history store.old.disk) (D.faults store.old.disk)) (seen_saving store.new (D.history store.new.disk) (D.faults store.new.disk)) self.new.did (ended_by result) }
         ensures stopped { store.old.stopped ≡ true → (result ≡ stopped_reply) × (store.new ≡ store.old) × (self.new.did ≡ did.Quiet) }
         ensures request { (self.new.name ≡ self.old.name) × (self.new.time ≡ self.old.time) × (self.new.size ≡ self.old.size) }
     {
+        store.facts();
+        known_id(store);
         if store.stopped() {
             self.did = Did::Quiet;
             return Progress::Done(Reply::Refused(Refusal::Stopped));
@@ -207,6 +216,14 @@ fn first_event<D: Disk>(store: &Store<D>, name: &Name, time: u64, prepared: &Pre
         Ok(parts) => goes_on(SaveStage::Taking(parts)),
         Err(why) => ends(why, did_fail(why)),
     }
+}
+
+/// What is true of every store's id.
+fn known_id<D: Disk>(store: &Store<D>)
+    ensures long { length store.now.map.store ≡ 8 }
+    ensures each { IsOctets store.now.map.store }
+{
+    let _ = store.id();
 }
 
 /// What is true of every mailbox name.
