@@ -1,5 +1,9 @@
 pub mod AddLemmas
+pub mod DeliveredListLemmas
+pub mod HeldLemmas
+pub mod OtherLemmas
 pub mod PlaceLemmas
+pub mod ReadyLemmas
 pub mod RecordLemmas
 pub mod RegionSizeLemmas
 pub mod SaveDidLemmas
@@ -9,6 +13,7 @@ pub mod SaveFrontLemmas
 pub mod SaveKeptLemmas
 pub mod SaveLastLemmas
 pub mod SaveListLemmas
+pub mod SaveMomentLemmas
 pub mod SaveRefusedLemmas
 pub mod SaveRoomLemmas
 pub mod SaveRunLemmas

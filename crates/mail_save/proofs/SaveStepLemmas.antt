@@ -498,15 +498,15 @@ gives_quietly refusal.Stopped other = absurd (other refl)
 gives_quietly (refusal.Damaged file offset) other = refl
 
 -- what the event that adds the message replies, where it is refused, and where it goes on
-stops_adding : {D : Type 0} → (added : Added) (room : LowerRoom) (why : Refusal) (old : StoreValue D) (name : List ℕ) → RepliesAt (stage.Adding added room) name (progress.Done (reply.Refused why)) stage.Ended old → why ≡ refusal.Stopped
+stops_adding : {D : Type 0} → (added : Added) (room : LowerRoom) (why : Refusal) (old : StoreValue D) (name : List ℕ) → RepliesAt (stage.Adding added room) name (progress.Done (reply.Refused why)) stage.Ended old → (number : BoxNo) × (uid : Uid) × HasRoomUnder name number uid old × (why ≡ refusal.Stopped)
 stops_adding added room why old name (inl k) = absurd (let r : reply.Refused why ≡ reply.Saved k.1 added.guid = cc k.3 in cc r)
-stops_adding added room why old name (inr (inl k)) = let r : reply.Refused why ≡ reply.Refused refusal.Stopped = cc k in cc r
+stops_adding added room why old name (inr (inl k)) = let r : reply.Refused why ≡ reply.Refused refusal.Stopped = cc k.3 in (k.0, k.1, k.2, cc r)
 stops_adding added room why old name (inr (inr k)) = absurd (cc k.2)
 
 goes_back : {D : Type 0} → (added : Added) (room left : LowerRoom) (uid : MapUid) (why : Refusal) (old : StoreValue D) (name : List ℕ) → RepliesAt (stage.Adding added room) name progress.More (stage.GivingBack uid why left) old
     → (box_refusal (list_named old name) ≡ Some why) ⊎ ((box_refusal (list_named old name) ≡ None) × (why ≡ refusal.NoMemory))
 goes_back added room left uid why old name (inl k) = absurd (cc k.3)
-goes_back added room left uid why old name (inr (inl k)) = absurd (cc k)
+goes_back added room left uid why old name (inr (inl k)) = absurd (cc k.3)
 goes_back added room left uid why old name (inr (inr k)) =
     let is : why ≡ k.0 = cc k.3 in
     subst (λ (w : Refusal). (box_refusal (list_named old name) ≡ Some w) ⊎ ((box_refusal (list_named old name) ≡ None) × (w ≡ refusal.NoMemory))) (sym is) k.1
@@ -562,11 +562,12 @@ pub adding_refused : {D : Type 0} → (added : Added) (room : LowerRoom) (why : 
     → DeliveryClause octets (stage.Adding added room) stage.Ended name time (progress.Done (reply.Refused why)) how old new before after began faulted
 adding_refused added room why name time size octets how old new before after began faulted e =
     let s = e.saves in
-    let number = s.effects.0 in
-    let uid = s.effects.1 in
-    let found = s.effects.2 in
+    let k = stops_adding added room why old name s.replies in
+    let number = k.0 in
+    let uid = k.1 in
+    let found = k.2 in
+    let is = k.3 in
     let r = e.ready.1 in
-    let is = stops_adding added room why old name s.replies in
     let stop : progress.Done (reply.Refused why) ≡ stopped_reply = ap (λ (w : Refusal). progress.Done (reply.Refused w)) is in
     let entry = added_as uid added time octets r.time_is r.size_is in
     with_did octets (stage.Adding added room) stage.Ended name time (progress.Done (reply.Refused why)) how (did.Broken half.Whole) old new before after began faulted s.did_is
@@ -576,7 +577,7 @@ adding_refused added room why name time size octets how old new before after beg
     (record {
       ran = e.ran;
       stopped = s.stopped.0 stop;
-      stays = stays_alone old new before after began faulted s.effects.3 s.grows s.fault.reads s.fault.changes;
+      stays = stays_alone old new before after began faulted s.effects s.grows s.fault.reads s.fault.changes;
       rose = s.fault.rose stop;
       moments = λ lists t. subst (λ (x : BoxEntry). Leaves lists (lists_by number.0 octets x lists) before after) entry (s.moments number uid found lists octets (r.brings uid) t);
     })))

@@ -89,19 +89,20 @@ takes_new size spare end file old reserved taken new order r t m is =
 
 -- ---- none
 
-new_fails : {D : Type 0} → (size spare : ℕ) (file : FileNo) (disk : D) (old : StoreValue D) → IsTakeFor size (roomier_store spare old).files (New file) → FailsToMake size old (faller_store disk (taker_store (New file) (roomier_store spare old)))
-new_fails size spare file disk old is = record {
+new_fails : {D : Type 0} → (size spare : ℕ) (file : FileNo) (disk : D) (old : StoreValue D) → AreFilesInOrder old.files → IsTakeFor size (roomier_store spare old).files (New file) → FailsToMake size old (faller_store disk (taker_store (New file) (roomier_store spare old)))
+new_fails size spare file disk old order is = record {
   file = file;
   is = is;
+  free = ap (λ (o : Option MailFile). option_map_or (λ g. g.taken) o false) (none_begun file old.files order is.1);
   ends = λ number. ends-begun number file old.files.files;
   others = λ number apart. taken_at number (old.files.files ++ file_begun file ∷ []) old.files.files (file-before_begun file number old.files.files apart);
   same = refl;
 }
 
-pub takes_failing : {D : Type 0} → (size spare : ℕ) (file : FileNo) (old reserved taken new : StoreValue D) → reserved ≡ roomier_store spare old → taken ≡ taker_store (New file) reserved → new ≡ faller_store new.disk taken → IsTakeFor size reserved.files (New file)
+pub takes_failing : {D : Type 0} → (size spare : ℕ) (file : FileNo) (old reserved taken new : StoreValue D) → AreFilesInOrder old.files → reserved ≡ roomier_store spare old → taken ≡ taker_store (New file) reserved → new ≡ faller_store new.disk taken → IsTakeFor size reserved.files (New file)
     → TakesNone size refusal.Stopped old new
-takes_failing size spare file old reserved taken new r t m is =
-    inr (inr (refl, subst (FailsToMake size old) (sym (m ∙ ap (faller_store new.disk) (t ∙ ap (taker_store (New file)) r))) (new_fails size spare file new.disk old (subst (λ (v : StoreValue _). IsTakeFor size v.files (New file)) r is))))
+takes_failing size spare file old reserved taken new order r t m is =
+    inr (inr (refl, subst (FailsToMake size old) (sym (m ∙ ap (faller_store new.disk) (t ∙ ap (taker_store (New file)) r))) (new_fails size spare file new.disk old order (subst (λ (v : StoreValue _). IsTakeFor size v.files (New file)) r is))))
 
 full_finds : {D : Type 0} → (size spare : ℕ) (old : StoreValue D) → old.files.highest ≡ old.drawn.file → IsTakeFor size (roomier_store spare old).files Full → FindsNoNumber size old (taker_store Full (roomier_store spare old))
 full_finds size spare old high is = record {

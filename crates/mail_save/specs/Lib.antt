@@ -1,6 +1,8 @@
 pub mod Added
 pub mod Events
+pub mod Held
 pub mod Left
+pub mod Others
 pub mod Parts
 pub mod Ready
 pub mod Record

@@ -83,6 +83,7 @@ pub record FindsNoNumber {D : Type 0} (size : ℕ) (old new : StoreValue D) : Ty
 pub record FailsToMake {D : Type 0} (size : ℕ) (old new : StoreValue D) : Type 0 where
   pub file : FileNo
   pub is : IsTakeFor size old.files (New file)
+  pub free : is_taken_in file.0 old.files.files ≡ false
   pub ends : AreEndsSame old new
   pub others : AreOthersTaken file.0 old new
   pub same : new ≡ record old { disk = new.disk; files = new.files; drawn = record old.drawn { file = file.0 }; stopped = true }
@@ -172,7 +173,7 @@ SaveEffects (stage.Placing parts file) stage.Ended name time size (progress.Done
 SaveEffects (stage.Storing at origin room) (stage.Adding added left) name time size progress.More old new = StoresPlaced at origin time size added old new
 SaveEffects (stage.Storing at origin room) stage.Ended name time size (progress.Done (reply.Refused why)) old new = StoresNone at why old new
 SaveEffects (stage.Adding added room) stage.Ended name time size (progress.Done (reply.Saved uid guid)) old new = (guid ≡ added.guid) × AddsStored name added uid old new
-SaveEffects (stage.Adding added room) stage.Ended name time size (progress.Done (reply.Refused why)) old new = (number : BoxNo) × (uid : Uid) × HasRoomUnder name number uid old × IsLeftAlone old new
+SaveEffects (stage.Adding added room) stage.Ended name time size (progress.Done (reply.Refused why)) old new = IsLeftAlone old new
 SaveEffects (stage.Adding added room) (stage.GivingBack uid why left) name time size progress.More old new = (uid ≡ added.map_uid) × (new ≡ old)
 SaveEffects (stage.GivingBack uid why room) stage.Ended name time size (progress.Done (reply.Refused given)) old new = ((given ≡ why) × LowersRecord uid old new) ⊎ ((given ≡ refusal.Stopped) × IsLeftAlone old new)
 SaveEffects now next name time size answer old new = ⊥

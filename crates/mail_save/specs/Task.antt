@@ -19,12 +19,14 @@ use Rattle.model_lists.specs.Lists.{Lists}
 use Rattle.model_meaning.specs.MapFits.{HasRecord}
 use Rattle.model_store.specs.Settled.{IsSettledFor, Leaves}
 use Rattle.store_core.specs.Append.{Brings}
-use Rattle.store_core.specs.Dues.{due_at}
+use Rattle.store_core.specs.Dues.{Moves, amounts_in, due_at}
 use Rattle.store_core.specs.MapAppend.{IsReadyToStore}
 use Rattle.store_core.specs.Value.{StoreValue, list_named}
 use Rattle.mail_save.specs.Added.{HasRoomUnder, entry_added}
 use Rattle.mail_save.specs.Events.{box_refusal, save_refusal, uid_refusal}
+use Rattle.mail_save.specs.Held.{save_amounts}
 use Rattle.mail_save.specs.Left.{HoldsFile, HoldsRegion}
+use Rattle.mail_save.specs.Others.{KeepsOthers}
 use Rattle.mail_save.specs.Parts.{AreLaidOut}
 use Rattle.mail_save.specs.Ready.{IsReadyToSave}
 use Rattle.mail_save.specs.Record.{entry_stored}
@@ -106,7 +108,7 @@ RepliesAt (stage.Storing at origin room) name answer next store =
     GoesOnOr (λ why. (uid_refusal store.drawn.map ≡ Some why) ⊎ ((uid_refusal store.drawn.map ≡ None) × ((why ≡ refusal.Stopped) ⊎ (why ≡ refusal.NoMemory)))) answer
 RepliesAt (stage.Adding added room) name answer next store =
     ((number : BoxNo) × (uid : Uid) × HasRoomUnder name number uid store × (answer ≡ progress.Done (reply.Saved uid added.guid)))
-    ⊎ ((answer ≡ progress.Done (reply.Refused refusal.Stopped))
+    ⊎ (((number : BoxNo) × (uid : Uid) × HasRoomUnder name number uid store × (answer ≡ progress.Done (reply.Refused refusal.Stopped)))
     ⊎ ((why : Refusal) × ((box_refusal (list_named store name) ≡ Some why) ⊎ ((box_refusal (list_named store name) ≡ None) × (why ≡ refusal.NoMemory))) × (answer ≡ progress.More) × (next ≡ stage.GivingBack added.map_uid why room)))
 RepliesAt (stage.GivingBack uid why room) name answer next store = (answer ≡ progress.Done (reply.Refused why)) ⊎ (answer ≡ progress.Done (reply.Refused refusal.Stopped))
 RepliesAt stage.Ended name answer next store = ⊥
@@ -149,7 +151,10 @@ pub record Saves {D : Type 0} (now next : SaveStage) (name : List ℕ) (time siz
   pub left : answer ≡ progress.More → HasLeft next name time new
   pub fewer : answer ≡ progress.More → save_events_left next < save_events_left now
   pub effects : SaveEffects now next name time size answer old new
+  pub idle : new ≡ old → after ≡ before
   pub spared : new.stopped ≡ false → AreSpared old new before after
+  pub others : KeepsOthers now old new
+  pub moves : new.stopped ≡ false → Moves (save_amounts now) (save_amounts next) (amounts_in old) (amounts_in new)
   pub stopped : (answer ≡ stopped_reply) ↔ (new.stopped ≡ true)
   pub fault : ChangeFaultCounted (answer ≡ stopped_reply) began ended
   pub unfailed : (answer ≡ stopped_reply → ⊥) → NoFault began ended

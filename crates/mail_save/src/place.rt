@@ -3,6 +3,7 @@ ghost use Rattle.std.specs.Prelude.{◌≡◌, ◌↔◌, ◌≤◌, ◌+◌, �
 ghost use Rattle.disk_model.specs.Disk.{Grows, IfTold};
 ghost use Rattle.disk_model.specs.FaultCounts.{NoFault, ChangeFaultCounted};
 ghost use Rattle.disk_model.specs.declared.name.FileName.TheVariants.{Mail};
+ghost use Rattle.mdbox_base.specs.Words.{IsOctets};
 ghost use Rattle.mdbox_base.specs.declared.replies.Refusal.TheVariants as refusal;
 ghost use Rattle.model_appends.specs.Appending.{LeavesAsRead};
 ghost use Rattle.model_lists.specs.Lists.{Lists};
@@ -70,6 +71,13 @@ pub fn take_file<D: Disk>(store: &mut Store<D>, header: &[u8], size: u32) -> Res
     }
 }
 
+/// Octets are below 256.
+fn known_octets(octets: &[u8])
+    ensures { IsOctets octets.now }
+{
+    let _length = octets.len();
+}
+
 /// Sets the GUID of a message in its region, and places the region at the end of a storage file that was taken.
 pub fn place_region<D: Disk>(
     store: &mut Store<D>,
@@ -83,7 +91,9 @@ pub fn place_region<D: Disk>(
     ensures placed { IfOk result (λ at. HoldsRegion at store.new) }
     ensures file { IfOk result (λ at. at.file ≡ file) }
     ensures guid { IfOk result (λ at. at.guid.0 ≡ place_guid store.old.map.store file.0 at.offset) }
+    ensures octets { IfOk result (λ at. (length at.guid.0 ≡ 16) × IsOctets at.guid.0) }
     ensures size { IfOk result (λ at. at.size ≡ length region.old) }
+    ensures long { IfOk result (λ at. (time : ℕ) (octets : List ℕ) → region.old ≡ saved_region name.now time octets no_guid → length (saved_region name.now time octets at.guid.0) ≡ at.size) }
     ensures offset { IfOk result (λ at. end_in file.0 store.old.files.files ≡ Some at.offset) }
     ensures written { IfOk result (λ at. (time : ℕ) (octets : List ℕ) → region.old ≡ saved_region name.now time octets no_guid → IfTold (D.history store.new.disk) (λ now. EndsWith at.offset (saved_region name.now time octets at.guid.0) (now (Mail file.0)))) }
     ensures held { OnOk result ((lists : Lists) → IsSettledFor lists (D.history store.new.disk) → IfTold (D.history store.new.disk) (LeavesAsRead (Mail file.0))) }
@@ -104,6 +114,7 @@ pub fn place_region<D: Disk>(
         unreachable!()
     };
     let guid = guid_at(store.id(), file, end as u32);
+    known_octets(&guid.0);
     set_guid(region, name, guid);
     let size = region.len() as u32;
     let offset = store.place(file, region)?;

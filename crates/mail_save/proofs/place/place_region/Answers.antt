@@ -21,6 +21,9 @@ pub returns-clause-written : goal.returns-clause-written
 returns-clause-written g c = λ time octets is.
     subst (λ (text : List ℕ). IfTold (g.D.Disk.history c.place.new.self.disk) (λ now. EndsWith c.in_ok-offset.offset text (now (Mail c.args.file.0)))) (c.set_guid.ensures time octets is) c.in_ok-offset.ensures.placed
 
+pub returns-clause-long : goal.returns-clause-long
+returns-clause-long g c = λ time octets is. ap length (sym (c.set_guid.ensures time octets is))
+
 pub returns-clause-others : goal.returns-clause-others
 returns-clause-others g c = λ number apart.
     ap (λ v. end_in number v.files.files) c.in_ok-offset.ensures.ok ∙ ends-other c.args.file.0 number (ending_at (c.in_ok-offset.offset + length c.set_guid.new.region)) c.args.store.now.files.files (λ f. refl) apart

@@ -39,9 +39,9 @@ pub returns-in-Ok-clause-settled : goal.returns-in-Ok-clause-settled
 returns-in-Ok-clause-settled g c = λ ran lists s.
     c.in-Ok.ensures.settled lists (unchanged_settled g.D.Disk.history c.args.store.now.disk c.take_for.new.self.disk (ap (λ v. v.disk) c.in-New.ensures.same ∙ ap (λ v. v.disk) c.in_default.ensures.ok) lists s)
 
-pub returns-in-Err-Stopped-clause-none : goal.returns-in-Err-Stopped-clause-none
-returns-in-Err-Stopped-clause-none g c =
-    takes_failing c.args.size _ c.in-New.file c.args.store.now c.reserve.new.self c.take_for.new.self c.make_file.new.self c.in_default.ensures.ok c.in-New.ensures.same c.in-Err-Stopped.ensures.err c.in-New.ensures.take
+pub returns-in-Err-make_file-clause-none : goal.returns-in-Err-make_file-clause-none
+returns-in-Err-make_file-clause-none g c =
+    takes_failing c.args.size _ c.in-New.file c.args.store.now c.reserve.new.self c.take_for.new.self c.make_file.new.self c.facts.ensures.files c.in_default.ensures.ok c.in-New.ensures.same c.in-Err-make_file.ensures.err c.in-New.ensures.take
 
 -- ---- no number is left
 

@@ -14,5 +14,5 @@ returns-in-Ok-clause-lowers g c =
 pub returns-in-Err-Stopped-clause-alone : goal.returns-in-Err-Stopped-clause-alone
 returns-in-Err-Stopped-clause-alone g c = λ e.
     let o = c.append_map.ensures in
-    let k = o.untaken refl in
+    let k = c.in-Err-Stopped.ensures.untaken refl in
     left_alone c.args.store.now c.append_map.new.self o.same k.0 k.1 k.2
