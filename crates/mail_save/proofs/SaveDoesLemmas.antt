@@ -1,5 +1,5 @@
 -- What any step of a delivery did.
-use Rattle.std.proofs.Common.{◌≡◌, ◌<◌, ◌^◌, ℕ, true, false, List, length, Option, Some, None, refl, sym, ap, subst}
+use Rattle.std.proofs.Common.{◌≡◌, ◌<◌, ◌^◌, ℕ, true, false, List, length, Option, refl, ap, subst}
 use Rattle.std.specs.Prelude.{is_none}
 use Rattle.disk_model.specs.Disk.{History, Faults}
 use Rattle.mdbox_base.specs.Words.{IsOctets}
@@ -7,23 +7,18 @@ use Rattle.mdbox_base.specs.declared.progress.Did.{Did}
 use Rattle.mdbox_base.specs.declared.progress.Did.TheVariants as did
 use Rattle.mdbox_base.specs.declared.progress.Progress.{Progress}
 use Rattle.mdbox_base.specs.declared.progress.Progress.TheVariants as progress
-use Rattle.mdbox_base.specs.declared.replies.Refusal.TheVariants as refusal
-use Rattle.mdbox_base.specs.declared.replies.Reply.{Reply}
 use Rattle.mdbox_base.specs.declared.replies.Reply.TheVariants as reply
 use Rattle.mdbox_base.specs.declared.requests.Request.TheVariants as request
-use Rattle.list_machine.specs.Run.{First, TakesFile, PlacesMessage, StoresRecord, GivesBack, Run}
-use Rattle.journal.specs.Events.{Around}
+use Rattle.list_machine.specs.Run.{First, TakesFile, PlacesMessage, StoresRecord, GivesBack}
 use Rattle.storage_files.specs.Files.{AreFilesInOrder}
 use Rattle.store_core.specs.Running.{IsStore}
 use Rattle.store_core.specs.Value.{StoreValue}
-use Rattle.task_steps.specs.Step.{Steps, ended_by}
 use Rattle.mail_save.specs.Events.{has_detachable}
 use Rattle.mail_save.specs.Ready.{IsReadyToSave}
 use Rattle.mail_save.specs.SaveSeen.{seen_saving, around_saving, IsAtSave, room_among}
 use Rattle.mail_save.specs.Task.{SaveValue, HasLeft, Saves, stopped_reply}
 use Rattle.mail_save.specs.declared.task.SaveStage.{SaveStage}
 use Rattle.mail_save.specs.declared.task.SaveStage.TheVariants as stage
-use Rattle.mail_save.proofs.SaveFrontLemmas.{SeesAround}
 use Rattle.mail_save.proofs.SaveLastLemmas.{unsaved_stopped}
 use Rattle.mail_save.proofs.SaveRefusedLemmas.{ends_first, ends_taking, ends_placing, ends_storing, ends_giving, first_at, taking_at, placing_at, storing_at, lowering_at, stopped_save}
 use Rattle.mail_save.proofs.SaveStepLemmas.{EventOf, DeliveryClause, first_more, first_refused, taking_more, taking_refused, placing_more, placing_refused, storing_more, storing_refused, adding_saved, adding_refused, adding_more, giving_refused}

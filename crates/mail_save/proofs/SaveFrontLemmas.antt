@@ -1,10 +1,10 @@
 -- The events of a delivery up to that which stores the message, by the clause of a step.
-use Rattle.std.proofs.Common.{◌≡◌, ◌≤◌, ◌<◌, ◌+◌, ◌==◌, ◌&&◌, ◌||◌, ℕ, Bool, true, false, not, cond, List, [], ◌∷◌, ◌++◌, ◌⊎◌, Option, Some, None, refl, sym, ◌∙◌, ap, subst, arith, inl, inr}
-use Rattle.std.specs.Prelude.{◌≢◌, nat_lt, nat_le, is_none, is_some, length, filter, flat_map, All, if◌then◌else◌, slice_get}
+use Rattle.std.proofs.Common.{◌≡◌, ◌≤◌, ◌<◌, ◌+◌, ◌==◌, ◌||◌, ℕ, Bool, true, false, not, cond, List, [], ◌∷◌, ◌++◌, Option, Some, None, refl, sym, ◌∙◌, ap, subst, arith, inl}
+use Rattle.std.specs.Prelude.{◌≢◌, nat_lt, nat_le, is_none, is_some, length, filter, flat_map, All, if◌then◌else◌}
 use Rattle.std.specs.List.{list_any}
 use Rattle.std.specs.Option.{IfSome, option_map_or, option_or}
 use Rattle.std.specs.Str.{bytes_eq}
-use Rattle.std.proofs.lemmas.Bool.{eq-eqb, ne_eqb}
+use Rattle.std.proofs.lemmas.Bool.{eq-eqb}
 use Rattle.std.proofs.lemmas.Grind.{common_steps}
 use Rattle.std.proofs.lemmas.List.{append-nil}
 use Rattle.std.proofs.lemmas.List.Elements.{All-nil, All-cons, All-append, filter-append}
@@ -17,23 +17,22 @@ use Rattle.mdbox_base.specs.declared.entries.InstRow.{InstRow}
 use Rattle.mdbox_base.specs.declared.entries.MapEntry.TheVariants as map_entry
 use Rattle.mdbox_base.specs.declared.progress.Did.TheVariants as did
 use Rattle.mdbox_base.specs.declared.replies.Refusal.TheVariants as refusal
-use Rattle.mdbox_base.specs.declared.requests.Request.{Request}
 use Rattle.mdbox_base.specs.declared.requests.Request.TheVariants as request
 use Rattle.model_lists.specs.Lists.{Lists}
 use Rattle.model_meaning.specs.MapMeaning.{MapMeaning, map_applied, no_numbers, guid_file, number_at, is_sealed}
 use Rattle.model_mime.specs.Parts.{parts_in}
-use Rattle.list_machine.specs.Run.{EventPart, First, Compares, PlacesInstance, TakesFile, PlacesMessage, StoresRecord, Last, TakenFile, RunEvent, event_of, Run, and_then, own_events, given_by_others, is_one_of, is_doomed, drawn_of, drawn_also}
+use Rattle.list_machine.specs.Run.{First, Compares, PlacesInstance, TakesFile, PlacesMessage, StoresRecord, Last, RunEvent, event_of, Run, and_then, own_events, given_by_others, drawn_of, drawn_also}
 use Rattle.list_machine.specs.Machine.{first_refusal, refused_where, part_checks}
 use Rattle.journal.specs.Events.{Around, next_part, behind_event, instances_found}
 use Rattle.journal.specs.Found.{FindsPlace, IsFreeFile, is_known_instance, took_file}
 use Rattle.journal.proofs.OwnEventLemmas.{own_more}
 use Rattle.task_steps.specs.ExpungeStages.{one_due}
-use Rattle.task_steps.specs.Step.{Seen, ShowsSeen, was_given, HasComeTo, GivesNew, HasNotBegun, Steps}
+use Rattle.task_steps.specs.Step.{Seen, ShowsSeen, was_given, HasComeTo, HasNotBegun, Steps}
 use Rattle.task_steps.proofs.SeenLemmas.{no_guids, is_new}
 use Rattle.journal.proofs.RunLemmas.{drawn_none}
-use Rattle.mail_save.specs.SaveStages.{IsOwnGuid, IsTakingFile, IsPlacingMessage, IsStoringMessage, IsAddingMessage}
+use Rattle.mail_save.specs.SaveStages.{IsTakingFile, IsPlacingMessage, IsStoringMessage, IsAddingMessage}
 use Rattle.mail_save.proofs.SaveRunLemmas.{takes_next, places_next, stores_next, taken_file, given_guid, no_instances}
-use Rattle.mail_save.proofs.SaveDidLemmas.{fall, some_part, given_more, HasRun, KeepsTelling, TellsMore, comes_drawn, comes_stored, comes_to_more, tells_on, quiet_on}
+use Rattle.mail_save.proofs.SaveDidLemmas.{some_part, given_more, HasRun, KeepsTelling, TellsMore, comes_drawn, comes_stored, comes_to_more, tells_on, quiet_on}
 
 -- ---- what an event finds
 

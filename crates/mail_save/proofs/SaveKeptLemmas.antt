@@ -1,11 +1,10 @@
 -- Where a delivery stands, as other requests go on.
-use Rattle.std.proofs.Common.{◌≡◌, ◌||◌, ℕ, Bool, true, List, ◌∙◌, ap}
+use Rattle.std.proofs.Common.{◌≡◌, ◌||◌, ℕ, Bool, List, ◌∙◌, ap}
 use Rattle.std.specs.Prelude.{◌≢◌}
 use Rattle.std.specs.List.{list_any}
 use Rattle.std.specs.Str.{bytes_eq}
 use Rattle.std.proofs.lemmas.Bool.{ne_eqb}
 use Rattle.mdbox_base.specs.declared.replies.Refusal.{Refusal}
-use Rattle.mdbox_base.specs.declared.replies.Reply.{Reply}
 use Rattle.list_machine.specs.Run.{RunEvent, Run, and_then, own_events}
 use Rattle.journal.proofs.OwnEventLemmas.{own_other}
 use Rattle.task_steps.specs.Step.{GivesNew, IsKept}

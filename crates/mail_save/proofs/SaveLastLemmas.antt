@@ -1,6 +1,6 @@
 -- The last events of a delivery, by the clause of a step: the message is added, or refused, and its record given back.
 use Rattle.std.proofs.Common.{◌≡◌, ◌≤◌, ◌<◌, ◌+◌, ◌^◌, ℕ, Bool, true, false, List, [], ◌∷◌, ◌++◌, ◌⊎◌, Option, Some, None, refl, sym, ◌∙◌, ap, subst, arith, inl, inr}
-use Rattle.std.specs.Prelude.{◌≢◌, ◌↔◌, find, length, if◌then◌else◌, slice_get}
+use Rattle.std.specs.Prelude.{find, length, if◌then◌else◌, slice_get}
 use Rattle.std.specs.Option.{option_map, option_or}
 use Rattle.std.specs.Str.{bytes_eq}
 use Rattle.disk_model.specs.Disk.{told_calls, Grows}
@@ -15,14 +15,14 @@ use Rattle.mdbox_base.specs.declared.replies.Refusal.TheVariants as refusal
 use Rattle.mdbox_base.specs.declared.replies.Reply.{Reply}
 use Rattle.mdbox_base.specs.declared.replies.Reply.TheVariants as reply
 use Rattle.mdbox_base.specs.declared.script.Half.TheVariants as half
-use Rattle.model_lists.specs.Lists.{Mailbox, Lists, AreWellFormed, refs_of}
+use Rattle.model_lists.specs.Lists.{Mailbox, Lists, refs_of}
 use Rattle.model_appends.specs.Appending.{lists_by, meanings_by}
 use Rattle.model_meaning.specs.BoxMeaning.{BoxMeaning}
 use Rattle.model_meaning.specs.MapMeaning.{MapBox, MapMeaning, map_applied, no_numbers}
 use Rattle.model_store.specs.Listing.{ShowLists, meaning_named}
 use Rattle.model_store.specs.Settled.{IsSettledFor, Leaves}
-use Rattle.list_machine.specs.Run.{EventPart, Last, GivesBack, RunEvent, event_of, Run, and_then, own_events}
-use Rattle.list_machine.specs.Machine.{HasMailbox, RoomForMessage, NextUid, first_refusal, part_checks, is_step, IsDelivered, add_message}
+use Rattle.list_machine.specs.Run.{Last, GivesBack, RunEvent, event_of, Run, and_then, own_events}
+use Rattle.list_machine.specs.Machine.{first_refusal, part_checks, is_step, IsDelivered, add_message}
 use Rattle.list_machine.proofs.MachineOrderLemmas.{answers_well}
 use Rattle.journal.specs.Journal.{halves_of, refusal_in, IsReplyOf}
 use Rattle.journal.specs.Events.{Around, adds_to, lowers}
@@ -31,10 +31,10 @@ use Rattle.task_steps.specs.ExpungeStages.{one_due}
 use Rattle.task_steps.specs.Step.{Seen, ShowsSeen, HasComeTo, Steps}
 use Rattle.task_steps.proofs.SeenLemmas.{no_guids}
 use Rattle.task_steps.proofs.OneEventLemmas.{never_more}
-use Rattle.mail_save.specs.Events.{box_refusal, full_refusal}
+use Rattle.mail_save.specs.Events.{box_refusal}
 use Rattle.mail_save.specs.SaveStages.{IsAddingMessage, IsLoweringCount, IsOwnGuid}
 use Rattle.mail_save.proofs.SaveRunLemmas.{adds_next, gives_back_behind, gives_back_next, given_before, held_stored, held_refused, saved_refusal, lowered_refusal}
-use Rattle.mail_save.proofs.SaveDidLemmas.{fall, no_reply, some_reply, some_part, one_reply, unstepped, step_runs, HasRun, KeepsTelling, StaysSo, comes_drawn, comes_stored, comes_to_more, tells_on, refused_comes, CanRefuse, did_part, did_check, ends_well, forgets, falls, stops_before, stopped_answer, refusal_event, stands_by}
+use Rattle.mail_save.proofs.SaveDidLemmas.{no_reply, some_reply, some_part, one_reply, unstepped, step_runs, HasRun, KeepsTelling, StaysSo, comes_drawn, comes_stored, comes_to_more, tells_on, refused_comes, CanRefuse, did_part, did_check, ends_well, forgets, falls, stops_before, stopped_answer, refusal_event, stands_by}
 use Rattle.mail_save.proofs.SaveFrontLemmas.{SeesAround, finds_place, own_first}
 use Rattle.mail_save.proofs.SaveListLemmas.{AddsTo, adds_to_box, box_checked, has_room, made_of}
 use Rattle.mail_save.proofs.SaveRefusedLemmas.{deliver, step_replied, lowering_why}

@@ -1,7 +1,7 @@
 -- A mailbox that a message is added to, in the lists that a store shows.
 use Rattle.std.proofs.Common.{◌≡◌, ◌<◌, ◌+◌, ◌==◌, ℕ, Bool, true, false, cond, List, [], ◌∷◌, ◌++◌, map, length, Option, Some, None, refl, sym, ◌∙◌, ap, subst, arith}
 use Rattle.std.specs.Prelude.{nat_le, max, find, if◌then◌else◌}
-use Rattle.std.specs.Option.{option_map, option_map_or, option_or}
+use Rattle.std.specs.Option.{option_map, option_or}
 use Rattle.std.specs.Str.{bytes_eq}
 use Rattle.std.proofs.lemmas.Bool.{cond-true, cond-false}
 use Rattle.std.proofs.lemmas.Grind.{common_steps}
@@ -12,14 +12,12 @@ use Rattle.mdbox_base.specs.declared.ids.Guid.{Guid}
 use Rattle.mdbox_base.specs.declared.ids.MapUid.{MapUid}
 use Rattle.mdbox_base.specs.declared.ids.Uid.{Uid}
 use Rattle.mdbox_base.specs.declared.replies.ListRow.{ListRow}
-use Rattle.mdbox_base.specs.declared.replies.Refusal.{Refusal}
 use Rattle.mdbox_base.specs.declared.replies.Refusal.TheVariants as refusal
 use Rattle.model_lists.specs.Lists.{ListedMessage, Mailbox, Lists, AreWellFormed, listing_row}
-use Rattle.model_meaning.specs.BoxMeaning.{LogRow, BoxMeaning, row_made, row_changed, row_removed, next_named, box_applied}
+use Rattle.model_meaning.specs.BoxMeaning.{LogRow, BoxMeaning, box_applied}
 use Rattle.model_meaning.specs.MapMeaning.{MapBox}
-use Rattle.model_meaning.specs.Rows.{Rules, rows_by}
 use Rattle.model_meaning.proofs.AppliedLemmas.{only_adds}
-use Rattle.model_appends.specs.Appending.{message_made, message_changed, message_removed, mailbox_by, lists_by, meanings_by}
+use Rattle.model_appends.specs.Appending.{mailbox_by, lists_by, meanings_by}
 use Rattle.model_store.specs.Listing.{listed_row, ShowsMailbox, ShowLists, meaning_named}
 use Rattle.list_machine.specs.Run.{Run}
 use Rattle.list_machine.specs.Machine.{Check, HasMailbox, RoomForMessage, NextUid, first_refusal, refused_where, mailbox_named, add_message}

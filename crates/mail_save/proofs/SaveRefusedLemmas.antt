@@ -1,9 +1,7 @@
 -- Events of a delivery that were refused, by the clause of a step.
-use Rattle.std.proofs.Common.{◌≡◌, ◌≤◌, ◌<◌, ◌+◌, ℕ, Bool, true, false, List, [], ◌∷◌, ◌++◌, ◌⊎◌, Option, Some, None, refl, sym, ◌∙◌, ap, subst, arith, inl, inr}
-use Rattle.std.specs.Prelude.{◌≢◌, ◌↔◌, nat_lt, nat_le, is_none, length, if◌then◌else◌, slice_get}
+use Rattle.std.proofs.Common.{◌≡◌, ◌+◌, ℕ, Bool, true, false, List, [], ◌∷◌, ◌++◌, ◌⊎◌, Option, Some, None, refl, sym, ◌∙◌, ap, subst, inl, inr}
+use Rattle.std.specs.Prelude.{nat_lt, nat_le, is_none, length, slice_get}
 use Rattle.std.specs.Option.{option_or}
-use Rattle.std.proofs.lemmas.Grind.{common_steps}
-use Rattle.disk_model.specs.Disk.{told_calls}
 use Rattle.mdbox_base.specs.Streams.{Rose}
 use Rattle.mdbox_base.specs.declared.entries.Highest.{Highest}
 use Rattle.mdbox_base.specs.declared.progress.Did.TheVariants as did
@@ -16,16 +14,16 @@ use Rattle.mdbox_base.specs.declared.requests.Request.TheVariants as request
 use Rattle.mdbox_base.specs.declared.script.Half.TheVariants as half
 use Rattle.model_lists.specs.Lists.{Lists}
 use Rattle.model_meaning.specs.MapMeaning.{no_numbers}
-use Rattle.list_machine.specs.Run.{EventPart, First, TakesFile, PlacesMessage, StoresRecord, Last, GivesBack, RunEvent, event_of, Run, and_then, own_events, is_unpinning, drawn_of}
+use Rattle.list_machine.specs.Run.{EventPart, First, TakesFile, PlacesMessage, StoresRecord, GivesBack, RunEvent, event_of, Run, own_events, is_unpinning, drawn_of}
 use Rattle.list_machine.specs.Machine.{first_refusal, refused_where, part_checks, is_step}
 use Rattle.journal.specs.Journal.{refusal_in, IsReplyOf}
 use Rattle.journal.specs.Events.{Around, next_part, behind_refused, has_memory, draws}
 use Rattle.task_steps.specs.Step.{Seen, ShowsSeen, HasComeTo, HasNotBegun, Steps, Stops}
 use Rattle.task_steps.proofs.OneEventLemmas.{never_more}
-use Rattle.mail_save.specs.SaveStages.{AreLaidSoFar, AreTakenSoFar, ArePlacedSoFar, AreStoredSoFar, AreRefusedSoFar, IsTakingFile, IsPlacingMessage, IsStoringMessage, IsAddingMessage, IsLoweringCount}
-use Rattle.mail_save.proofs.SaveRunLemmas.{takes_next, places_next, stores_next, adds_next, gives_back_next, gives_back_behind}
-use Rattle.mail_save.proofs.SaveDidLemmas.{no_reply, some_reply, some_part, one_reply, step_runs, CanRefuse, HasRun, StaysSo, KeepsTelling, refused_comes, did_check, forgets, stopped_answer, stops_before, falls, refusal_event, stands_by}
-use Rattle.mail_save.proofs.SaveFrontLemmas.{SeesAround, finds_place, own_first}
+use Rattle.mail_save.specs.SaveStages.{IsTakingFile, IsPlacingMessage, IsStoringMessage, IsLoweringCount}
+use Rattle.mail_save.proofs.SaveRunLemmas.{takes_next, places_next, stores_next, gives_back_next}
+use Rattle.mail_save.proofs.SaveDidLemmas.{some_reply, one_reply, step_runs, CanRefuse, HasRun, StaysSo, refused_comes, did_check, forgets, stopped_answer, stops_before, falls}
+use Rattle.mail_save.proofs.SaveFrontLemmas.{SeesAround, finds_place}
 
 abbrev pub deliver : List ℕ → ℕ → List ℕ → Request
 deliver name time octets = request.Deliver name time octets

@@ -1,8 +1,7 @@
 -- The events of a delivery in a run: which part comes next, and what is read of those that were.
-use Rattle.std.proofs.Common.{◌≡◌, ◌≤◌, ◌<◌, ◌+◌, ◌==◌, ℕ, Bool, true, false, List, [], ◌∷◌, ◌++◌, Option, Some, None, refl, sym, ◌∙◌, ap, subst, arith}
-use Rattle.std.specs.Prelude.{◌≢◌, nat_lt, is_none, is_some, length, flat_map, if◌then◌else◌}
+use Rattle.std.proofs.Common.{◌≡◌, ℕ, Bool, false, List, [], ◌∷◌, ◌++◌, Option, Some, None, refl, ◌∙◌, ap, arith}
+use Rattle.std.specs.Prelude.{nat_lt, is_none, is_some, length, flat_map, if◌then◌else◌}
 use Rattle.std.specs.Option.{option_or}
-use Rattle.std.proofs.lemmas.Bool.{eq-eqb, ne_eqb}
 use Rattle.std.proofs.lemmas.Grind.{common_steps}
 use Rattle.mdbox_base.specs.declared.entries.InstRow.{InstRow}
 use Rattle.mdbox_base.specs.declared.entries.MapEntry.{MapEntry}
@@ -11,7 +10,7 @@ use Rattle.mdbox_base.specs.declared.replies.Refusal.TheVariants as refusal
 use Rattle.mdbox_base.specs.declared.requests.Request.TheVariants as request
 use Rattle.list_machine.specs.Run.{EventPart, First, Compares, PlacesInstance, TakesFile, PlacesMessage, StoresRecord, Last, GivesBack, TakenFile, RunEvent, Run, own_events, first_in}
 use Rattle.journal.specs.Events.{Around, next_part, behind_event, behind_delivery, behind_refused, instances_found, file_taken, guid_given, uid_held, uid_raised, last_refusal}
-use Rattle.mail_save.specs.SaveStages.{HasLaidOut, TookFile, HasPlaced, HasStored, WasNotAdded, AreLaidSoFar, AreTakenSoFar, ArePlacedSoFar, AreStoredSoFar, AreRefusedSoFar}
+use Rattle.mail_save.specs.SaveStages.{AreLaidSoFar, AreTakenSoFar, ArePlacedSoFar, AreStoredSoFar, AreRefusedSoFar}
 
 -- ---- the next part
 

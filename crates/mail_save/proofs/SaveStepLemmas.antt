@@ -1,6 +1,6 @@
 -- What each event of a delivery did, by the clause of a step.
-use Rattle.std.proofs.Common.{◌≡◌, ◌≢◌, ◌≤◌, ◌<◌, ◌+◌, ◌^◌, ◌||◌, ℕ, Bool, true, false, List, [], ◌∷◌, ◌⊎◌, length, Option, Some, None, refl, sym, ◌∙◌, ap, subst, arith, inl, inr}
-use Rattle.std.specs.Prelude.{◌↔◌, nat_le, is_some, is_none, All, Contains, if◌then◌else◌}
+use Rattle.std.proofs.Common.{◌≡◌, ◌≤◌, ◌<◌, ◌+◌, ◌^◌, ℕ, Bool, true, false, List, [], ◌∷◌, ◌⊎◌, length, Option, Some, None, refl, sym, ◌∙◌, ap, subst, arith, inl, inr}
+use Rattle.std.specs.Prelude.{◌↔◌, nat_le, is_some, is_none, All, if◌then◌else◌}
 use Rattle.std.specs.List.{list_any}
 use Rattle.std.specs.Option.{option_or}
 use Rattle.std.specs.Str.{bytes_eq}
@@ -11,7 +11,6 @@ use Rattle.mdbox_base.specs.Words.{IsOctets}
 use Rattle.mdbox_base.specs.declared.entries.BoxEntry.{BoxEntry}
 use Rattle.mdbox_base.specs.declared.entries.BoxEntry.TheVariants as box_entry
 use Rattle.mdbox_base.specs.declared.entries.Highest.{Highest}
-use Rattle.mdbox_base.specs.declared.entries.MapEntry.{MapEntry}
 use Rattle.mdbox_base.specs.declared.ids.BoxNo.{BoxNo}
 use Rattle.mdbox_base.specs.declared.ids.FileNo.{FileNo}
 use Rattle.mdbox_base.specs.declared.ids.Guid.{Guid}
@@ -23,7 +22,6 @@ use Rattle.mdbox_base.specs.declared.progress.Progress.{Progress}
 use Rattle.mdbox_base.specs.declared.progress.Progress.TheVariants as progress
 use Rattle.mdbox_base.specs.declared.replies.Refusal.{Refusal}
 use Rattle.mdbox_base.specs.declared.replies.Refusal.TheVariants as refusal
-use Rattle.mdbox_base.specs.declared.replies.Reply.{Reply}
 use Rattle.mdbox_base.specs.declared.replies.Reply.TheVariants as reply
 use Rattle.mdbox_base.specs.declared.requests.Request.TheVariants as request
 use Rattle.mdbox_base.specs.declared.script.Half.TheVariants as half
@@ -32,14 +30,12 @@ use Rattle.model_lists.specs.Lists.{Lists}
 use Rattle.model_meaning.specs.BoxMeaning.{BoxMeaning}
 use Rattle.model_meaning.specs.MapMeaning.{MapMeaning, map_applied, no_numbers, guid_file}
 use Rattle.model_store.specs.Settled.{IsSettledFor, Leaves}
-use Rattle.list_machine.specs.Run.{First, TakesFile, PlacesMessage, StoresRecord, GivesBack, RunEvent, Run, drawn_also, drawn_of}
+use Rattle.list_machine.specs.Run.{First, TakesFile, PlacesMessage, StoresRecord, GivesBack, RunEvent, Run, drawn_of}
 use Rattle.list_machine.specs.Machine.{NextMapUid, first_refusal, refused_where, part_checks, is_step, is_used_up}
 use Rattle.journal.specs.Events.{Around, draws}
-use Rattle.journal.specs.Found.{took_file}
 use Rattle.journal.proofs.RunLemmas.{drawn_none}
 use Rattle.model_store.specs.Listing.{ShowLists}
 use Rattle.storage_files.specs.Files.{AreFilesInOrder, IsTakeFor, MayBeTakenFor, end_in}
-use Rattle.storage_files.specs.declared.file.MailFile.{MailFile}
 use Rattle.storage_files.specs.declared.file.Take.{Take}
 use Rattle.storage_files.specs.declared.file.Take.TheVariants.{Known, New, Full}
 use Rattle.store_core.specs.Running.{IsStore}
@@ -48,13 +44,13 @@ use Rattle.store_core.specs.Knows.{may_have_given}
 use Rattle.store_core.specs.Value.{StoreValue, indexes_of, list_named, references_to}
 use Rattle.store_core.proofs.BoxCrashLemmas.{leaves_none}
 use Rattle.store_core.proofs.ShownLemmas.{refs_shown}
-use Rattle.task_steps.specs.Step.{ShowsSeen, HasComeTo, HasNotBegun, Steps, ended_by}
+use Rattle.task_steps.specs.Step.{HasComeTo, Steps, ended_by}
 use Rattle.mail_save.specs.Added.{HasRoomUnder, entry_added}
-use Rattle.mail_save.specs.Events.{box_refusal, full_refusal, save_refusal, uid_refusal, has_detachable}
+use Rattle.mail_save.specs.Events.{box_refusal, save_refusal, uid_refusal, has_detachable}
 use Rattle.mail_save.specs.Parts.{origin_of}
 use Rattle.mail_save.specs.Ready.{IsReadyToSave}
 use Rattle.mail_save.specs.Record.{entry_stored}
-use Rattle.mail_save.specs.SaveEffects.{AreEndsSame, IsLeftAlone, TookAs, TakesFileFor, FindsNoNumber, FailsToMake, TakesNone, PlacesParts, StoresPlaced, GivesFileBack, StoresNone, AddsStored, LowersRecord}
+use Rattle.mail_save.specs.SaveEffects.{IsLeftAlone, TookAs, TakesNone, GivesFileBack, StoresNone, LowersRecord}
 use Rattle.mail_save.specs.SaveSeen.{seen_saving, around_saving, IsAtSave, room_among}
 use Rattle.mail_save.specs.SaveStages.{IsTakingFile, IsPlacingMessage, IsStoringMessage, IsAddingMessage, IsLoweringCount}
 use Rattle.mail_save.specs.Task.{HasLeft, RepliesAt, Saves, stopped_reply, failing_did, refused_did, giving_did}
@@ -65,13 +61,13 @@ use Rattle.mail_save.specs.declared.record.LowerRoom.{LowerRoom}
 use Rattle.mail_save.specs.declared.task.SaveStage.{SaveStage}
 use Rattle.mail_save.specs.declared.task.SaveStage.TheVariants as stage
 use Rattle.mail_save.proofs.RegionSizeLemmas.{region_some}
-use Rattle.mail_save.proofs.SaveDidLemmas.{fall, step_runs, HasRun, KeepsTelling, TellsMore, StaysSo, stopped_answer}
+use Rattle.mail_save.proofs.SaveDidLemmas.{step_runs, HasRun, StaysSo}
 use Rattle.mail_save.proofs.SaveFrontLemmas.{SeesAround, KeepsMap, begins_save, takes_known, takes_new, places_message, stores_message}
-use Rattle.mail_save.proofs.SaveLastLemmas.{FindsBox, IsInRange, AddsMessage, FailsToAdd, saved_message, broken_save, unsaved_stopped, refused_message, forgotten_message, lowers_count}
+use Rattle.mail_save.proofs.SaveLastLemmas.{FindsBox, saved_message, broken_save, refused_message, forgotten_message, lowers_count}
 use Rattle.mail_save.proofs.SaveListLemmas.{box_checked, made_of}
-use Rattle.mail_save.proofs.SaveRefusedLemmas.{ends_first, ends_taking, ends_placing, ends_storing, ends_giving, first_at, taking_at, placing_at, storing_at, lowering_at, stopped_save, fallen_save, forgotten_save, checked_save, full_files, full_uids}
+use Rattle.mail_save.proofs.SaveRefusedLemmas.{ends_first, ends_taking, ends_placing, ends_storing, ends_giving, first_at, taking_at, placing_at, storing_at, lowering_at, fallen_save, forgotten_save, checked_save, full_files, full_uids}
 use Rattle.mail_save.proofs.SaveRoomLemmas.{known_room, no_room, lt_true, true_lt}
-use Rattle.mail_save.proofs.SaveStoreLemmas.{sees_around, EndsGoOn, same_ends, files_ends, gave_on, tells_store, has_run, due_stays, stays_so, drawn_file, drawn_map, less_due, place_long, place_octets, place_file, place_new, place_given, file_below, is_before}
+use Rattle.mail_save.proofs.SaveStoreLemmas.{sees_around, same_ends, files_ends, gave_on, tells_store, has_run, due_stays, stays_so, drawn_file, drawn_map, less_due, place_long, place_octets, place_file, place_new, place_given, file_below, is_before}
 
 -- ---- an event
 
@@ -479,7 +475,6 @@ storing_refused at origin room why name time size octets how old new before afte
     by_cause (inl used) (inr k) = let u = uid_full (nat_le 4294967294 old.drawn.map) why used in full u.1 u.0 k.0 k.1
     by_cause (inr (some, inl is)) (inr k) = absurd (k.0 is)
     by_cause (inr (some, inr m)) (inr k) = forgotten m k.0 k.1
-
 
 refused_as : (why : Refusal) → is_step why ≡ true → refused_did why ≡ did.Step half.Whole
 refused_as why s = ap (λ (b : Bool). if b then did.Step half.Whole else did.Quiet) s

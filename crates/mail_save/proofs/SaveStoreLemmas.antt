@@ -1,9 +1,8 @@
 -- A store before and after an event of a delivery, as the event sees it.
-use Rattle.std.proofs.Common.{◌≡◌, ◌≢◌, ◌≤◌, ◌<◌, ◌+◌, ◌-◌, ◌^◌, ◌==◌, ◌&&◌, ◌||◌, ℕ, Bool, true, false, not, List, [], ◌∷◌, ◌++◌, ◌⊎◌, length, Option, Some, None, refl, sym, ◌∙◌, ap, subst, arith, inl, inr}
-use Rattle.std.specs.Prelude.{◌/◌, ◌%◌, nat_le, nat_lt, filter, is_some, is_none, All, if◌then◌else◌, cond}
-use Rattle.std.specs.List.{list_any}
+use Rattle.std.proofs.Common.{◌≡◌, ◌≤◌, ◌<◌, ◌+◌, ◌-◌, ◌^◌, ◌==◌, ◌&&◌, ◌||◌, ℕ, Bool, true, false, not, List, [], ◌∷◌, ◌++◌, length, Option, Some, None, refl, sym, ◌∙◌, ap, subst, arith, inl, inr}
+use Rattle.std.specs.Prelude.{◌/◌, ◌%◌, nat_le, nat_lt, is_some, All, if◌then◌else◌, cond}
 use Rattle.std.specs.Int.{w32, to_be_bytes}
-use Rattle.std.specs.Option.{option_map_or, option_or, option_and_then}
+use Rattle.std.specs.Option.{option_map_or, option_and_then}
 use Rattle.std.proofs.lemmas.Bool.{cases_eq, eq-eqb, ne_eqb, cond-false}
 use Rattle.std.proofs.lemmas.Grind.{common_steps}
 use Rattle.std.proofs.lemmas.List.{length-append}
@@ -12,7 +11,7 @@ use Rattle.disk_model.specs.Disk.{History, Faults, Grows}
 use Rattle.mdbox_base.specs.Words.{IsOctets}
 use Rattle.mdbox_base.specs.declared.entries.Highest.{Highest}
 use Rattle.mdbox_base.specs.declared.ids.MapUid.{MapUid}
-use Rattle.model_appends.specs.Amounts.{bit, due_by}
+use Rattle.model_appends.specs.Amounts.{bit}
 use Rattle.model_lists.specs.Lists.{Lists}
 use Rattle.model_meaning.specs.BoxMeaning.{BoxMeaning}
 use Rattle.model_meaning.specs.MapMeaning.{MapBox, MapMeaning, no_numbers, is_own, guid_file, number_at, is_sealed}
@@ -20,7 +19,6 @@ use Rattle.model_mime.specs.Parts.{parts_in}
 use Rattle.model_store.specs.Listing.{ShowLists}
 use Rattle.model_store.specs.Settled.{IsSettledFor, Leaves}
 use Rattle.list_machine.specs.Run.{drawn_also}
-use Rattle.journal.proofs.RunLemmas.{drawn_none}
 use Rattle.storage_files.specs.Files.{AreFilesInOrder, FilesValue, end_in, file_in}
 use Rattle.storage_files.specs.declared.file.MailFile.{MailFile}
 use Rattle.store_core.specs.Dues.{due_at, number_beside}
@@ -30,7 +28,7 @@ use Rattle.store_core.specs.Value.{StoreValue, indexes_of}
 use Rattle.task_steps.specs.ExpungeStages.{one_due}
 use Rattle.task_steps.specs.Step.{ShowsSeen}
 use Rattle.mail_save.specs.Events.{has_detachable}
-use Rattle.mail_save.specs.SaveEffects.{AreEndsSame, AreOtherEndsSame}
+use Rattle.mail_save.specs.SaveEffects.{AreEndsSame}
 use Rattle.mail_save.specs.SaveSeen.{seen_saving, around_saving, room_at}
 use Rattle.mail_save.specs.Saved.{place_guid}
 use Rattle.mail_save.specs.declared.task.SaveStage.{SaveStage}

@@ -1,5 +1,4 @@
 use Rattle.mail_save.proofs.SaveKeptLemmas.{save_kept}
-use Rattle.mail_save.proofs.SaveDoesLemmas.{seen_does, seen_stopped}
 use Rattle.mail_save.proofs.laws.save_stages_are_kept.Goals as goal
 
 pub returns : goal.returns

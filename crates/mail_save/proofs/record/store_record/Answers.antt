@@ -1,4 +1,4 @@
-use Rattle.std.proofs.Common.{Err, inl, inr, List, [], All, Some, ◌≡◌, ap, sym, subst, refl, ◌∙◌}
+use Rattle.std.proofs.Common.{Err, inl, inr, [], Some, ◌≡◌, ap, sym, subst, refl}
 use Rattle.std.proofs.lemmas.List.Elements.{All-head}
 use Rattle.model_appends.specs.MapAppending.{stored_row}
 use Rattle.model_meaning.specs.MapMeaning.{MapRecord, record_at}

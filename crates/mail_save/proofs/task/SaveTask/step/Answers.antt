@@ -1,4 +1,4 @@
-use Rattle.std.proofs.Common.{rules, ◌≡◌, ◌<◌, ◌^◌, ℕ, sym, ◌∙◌}
+use Rattle.std.proofs.Common.{rules, ◌<◌, ◌^◌, sym, ◌∙◌}
 use Rattle.store_core.proofs.BoxCrashLemmas.{leaves_none}
 use Rattle.mail_save.proofs.SaveDoesLemmas.{seen_does, seen_stopped}
 use Rattle.mail_save.proofs.SaveEventLemmas.{seen_saves, unfallen}
