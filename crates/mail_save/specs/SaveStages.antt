@@ -45,11 +45,13 @@ pub record WasNotAdded (why : Refusal) (event : RunEvent) : Type 0 where
 
 -- ---- its events so far
 
+-- It laid the message out.
 pub record AreLaidSoFar (own : List RunEvent) : Type 0 where
   pub first : RunEvent
   pub own_are : own ≡ first ∷ []
   pub laid : HasLaidOut first
 
+-- It also took this storage file.
 pub record AreTakenSoFar (file : ℕ) (own : List RunEvent) : Type 0 where
   pub first : RunEvent
   pub second : RunEvent
@@ -57,6 +59,7 @@ pub record AreTakenSoFar (file : ℕ) (own : List RunEvent) : Type 0 where
   pub laid : HasLaidOut first
   pub took : TookFile file second
 
+-- It also placed the message there, with this GUID.
 pub record ArePlacedSoFar (file : ℕ) (guid : List ℕ) (own : List RunEvent) : Type 0 where
   pub first : RunEvent
   pub second : RunEvent
@@ -66,6 +69,7 @@ pub record ArePlacedSoFar (file : ℕ) (guid : List ℕ) (own : List RunEvent) :
   pub took : TookFile file second
   pub placed : HasPlaced guid third
 
+-- It also stored the message under this map uid.
 pub record AreStoredSoFar (guid : List ℕ) (uid : ℕ) (own : List RunEvent) : Type 0 where
   pub first : RunEvent
   pub second : RunEvent
@@ -78,6 +82,7 @@ pub record AreStoredSoFar (guid : List ℕ) (uid : ℕ) (own : List RunEvent) : 
   pub placed : HasPlaced guid third
   pub stored : HasStored uid fourth
 
+-- It also tried to add the message, and was refused by this.
 pub record AreRefusedSoFar (uid : ℕ) (why : Refusal) (own : List RunEvent) : Type 0 where
   pub first : RunEvent
   pub second : RunEvent
@@ -102,6 +107,8 @@ pub record IsOwnGuid (guid : List ℕ) (run : Run) (place : ℕ) : Type 0 where
   pub given : was_given run guid ≡ true
   pub once : All (λ other. other ≢ guid) (given_by_others place run)
 
+-- Nothing was answered yet at these stages, and they tell the events so far: it takes a file next, places the message in this
+-- file, stores a message of this file with this GUID, or adds that of this GUID under this map uid.
 abbrev pub IsTakingFile : Run → ℕ → List Reply → Type 0
 IsTakingFile run place said = AreLaidSoFar (own_events place run) × (said ≡ [])
 
@@ -115,7 +122,7 @@ IsStoringMessage file guid run place said = ArePlacedSoFar file guid (own_events
 abbrev pub IsAddingMessage : List ℕ → ℕ → Run → ℕ → List Reply → Type 0
 IsAddingMessage guid uid run place said = AreStoredSoFar guid uid (own_events place run) × IsOwnGuid guid run place × (said ≡ [])
 
--- It was refused by a check, which was answered, or for lack of memory.
+-- It lowers the count of this record next: it was refused by a check, which was answered, or for lack of memory.
 abbrev pub IsLoweringCount : ℕ → Refusal → Run → ℕ → List Reply → Type 0
 IsLoweringCount uid why run place said =
     AreRefusedSoFar uid why (own_events place run) × (said ≡ (if is_step why then reply.Refused why ∷ [] else [])) × ((is_step why ≡ true) ⊎ (why ≡ refusal.NoMemory))

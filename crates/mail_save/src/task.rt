@@ -14,7 +14,7 @@ ghost use Rattle.store_core.specs.Dues.{due_at};
 ghost use Rattle.task_steps.specs.Step.{Steps, ended_by};
 ghost use Rattle.mail_save.specs.Events.{has_detachable};
 ghost use Rattle.mail_save.specs.Left.{HoldsFile};
-ghost use Rattle.mail_save.specs.Ready.{IsReadyToSave, save_lists, lists_saved};
+ghost use Rattle.mail_save.specs.Ready.{IsReadyToSave, save_lists, lists_delivered};
 ghost use Rattle.mail_save.specs.SaveSeen.{IsAtSave, around_saving, seen_saving};
 ghost use Rattle.mail_save.specs.Task.{HasLeft, IsOfMessage, Saves, stopped_reply, refused_did, failing_did};
 ghost use Rattle.mail_save.specs.declared.task.SaveStage.TheVariants as stage;
@@ -130,7 +130,7 @@ impl SaveTask {
         // safe for its lists, or for those with the message, whatever fails. Unless the store is stopped then, the disk is
         // settled for those that the answer tells.
         ensures moments { (octets : List ℕ) → IsReadyToSave self.old.stage self.old.name self.old.time self.old.size octets store.old (D.history store.old.disk) → (lists : Lists) → IsSettledFor lists (D.history store.old.disk) → Leaves lists (save_lists self.old.stage self.old.name octets lists) (D.history store.old.disk) (D.history store.new.disk) }
-        ensures settled { store.new.stopped ≡ false → (octets : List ℕ) → IsReadyToSave self.old.stage self.old.name self.old.time self.old.size octets store.old (D.history store.old.disk) → (lists : Lists) → IsSettledFor lists (D.history store.old.disk) → IsSettledFor (lists_saved self.old.stage self.old.name octets result lists) (D.history store.new.disk) }
+        ensures settled { store.new.stopped ≡ false → (octets : List ℕ) → IsReadyToSave self.old.stage self.old.name self.old.time self.old.size octets store.old (D.history store.old.disk) → (lists : Lists) → IsSettledFor lists (D.history store.old.disk) → IsSettledFor (lists_delivered self.old.stage self.old.name octets result lists) (D.history store.new.disk) }
 
         ensures stopped { store.old.stopped ≡ true → (result ≡ stopped_reply) × (store.new ≡ store.old) × (self.new.stage ≡ self.old.stage) × (self.new.did ≡ did.Quiet) }
         ensures request { (self.new.name ≡ self.old.name) × (self.new.time ≡ self.old.time) × (self.new.size ≡ self.old.size) }
