@@ -79,9 +79,17 @@ fn stands_at(file: &[u8], offset: u64, message: &[u8]) -> bool {
         return false;
     }
     match message_at(file, offset) {
-        Ok(at) => &file[at.body as usize..(at.body + at.size) as usize] == message,
+        Ok(at) => at.size == message.len() as u64 && goes_on_with(file, at.body as usize, message),
         Err(_) => false,
     }
+}
+
+/// Whether these octets stand in the file from this place on.
+fn goes_on_with(file: &[u8], place: usize, octets: &[u8]) -> bool {
+    if place > file.len() {
+        return false;
+    }
+    file[place..].starts_with(octets)
 }
 
 /// It gets UID 1 and the GUID of its place, is listed, and stands in the storage file.
@@ -169,8 +177,10 @@ fn with_fault(alloc: Global, failing: u64) -> Result<Option<Reply>, Fail> {
 /// A delivery that opens a storage file makes 14 calls of the disk. Each that fails stops the store, and it is replied so.
 #[test]
 fn each_call_that_fails_stops_the_store(rt: HostRuntime) -> Result<(), Fail> {
-    let (mut unopened, mut stopped, mut saved) = (0, 0, 0);
-    for failing in 1..=40 {
+    let mut unopened: u64 = 0;
+    let mut stopped: u64 = 0;
+    let mut saved: u64 = 0;
+    for failing in 1..41 {
         match with_fault(rt.alloc(), failing)? {
             None => unopened += 1,
             Some(Reply::Refused(Refusal::Stopped)) => stopped += 1,
