@@ -12,6 +12,8 @@ mod large;
 #[cfg(test)]
 mod made_map;
 #[cfg(test)]
+mod many;
+#[cfg(test)]
 mod octets;
 #[cfg(test)]
 mod pieces;
