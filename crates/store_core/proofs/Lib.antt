@@ -7,12 +7,15 @@ pub mod EntryFileLemmas
 pub mod HighestFileLemmas
 pub mod KeptFileLemmas
 pub mod LookupLemmas
+pub mod MadeLogLemmas
 pub mod MapAppendLemmas
 pub mod MapCrashLemmas
 pub mod MapDueLemmas
 pub mod MailChangeLemmas
+pub mod NamingLemmas
 pub mod PickingLemmas
 pub mod PlacingLemmas
 pub mod RoomLemmas
 pub mod ShownLemmas
 pub mod StoreFileLemmas
+pub mod UnnamedLogLemmas
