@@ -8,6 +8,7 @@ pub mod HighestFileLemmas
 pub mod KeptFileLemmas
 pub mod LookupLemmas
 pub mod MadeLogLemmas
+pub mod MadePlaceLemmas
 pub mod MapAppendLemmas
 pub mod MapCrashLemmas
 pub mod MapDueLemmas

@@ -3,7 +3,7 @@ use Rattle.std.specs.Prelude.{Contains, not}
 use Rattle.std.specs.List.{list_any}
 use Rattle.std.proofs.Common.{inl, inr, ◌≡◌, ◌≢◌, ◌≤◌, ◌<◌, ◌+◌, ◌==◌, ◌||◌, ℕ, zero, suc, Bool, true, false, cond, List, [], ◌∷◌, ◌++◌, length, map, filter, find, take, drop, slice_index_or, Option, Some, None, All, refl, sym, ◌∙◌, ap, subst, arith}
 use Rattle.std.specs.Prelude.{AllPairs, remove}
-use Rattle.std.proofs.lemmas.Bool.{cases_Bool, cond-true, cond-false, eq-eqb, ne_eqb, false≢true}
+use Rattle.std.proofs.lemmas.Bool.{cases_Bool, cond-true, cond-false, eq-eqb, ne_eqb, false≢true, true≢false}
 use Rattle.std.proofs.lemmas.List.Elements.{All-nil, All-cons, All-head, All-tail, All-append, All-contains, All-filter}
 use Rattle.std.proofs.lemmas.List.Kept.{AllPairs-filter}
 use Rattle.disk_model.specs.Disk.{FileState, DiskState, History, IfTold, Between, SameState, SameButFor, Keeps, reading, named, no_file}
@@ -79,7 +79,7 @@ apart_from_made m drawn number boxes others are = λ k d lt p.
 made_with : (m n : MapMeaning) (old new : Highest) (b : OpenBox) → n.boxes ≡ m.boxes → n.store ≡ m.store → old.mailbox ≤ new.mailbox → IsMadeLog m old b → IsMadeLog n new b
 made_with m n old new b boxes store more l = record {
   is_number = l.is_number;
-  drawn = let a = l.drawn in omega (arith, a, more);
+  was_drawn = let a = l.was_drawn in omega (arith, a, more);
   unnamed = subst (λ (bs : List MapBox). All (λ (box : MapBox). box.number ≢ b.number.0) bs) (sym boxes) l.unnamed;
   name = l.name;
   head = subst (λ (id : List ℕ). b.log.head ≡ record { store = record { 0 = id }; kind = _; number = b.number.0; generation = 1 }) (sym store) l.head;
@@ -110,20 +110,20 @@ has_number n b = b.number.0 == n
 
 pub none_has : (n : ℕ) (boxes : List OpenBox) → list_any (λ b. b.number.0 == n) boxes ≡ false → All (λ b. b.number.0 ≢ n) boxes
 none_has n [] e = All-nil (λ (b : OpenBox). b.number.0 ≢ n)
-none_has n (b ∷ bs) e = by_test (b.number.0 == n) refl e
+none_has n (b ∷ bs) e = by_test (b.number.0 == n) refl e (none_has n bs)
   where
-    by_test : (t : Bool) → (b.number.0 == n) ≡ t → (t || list_any (λ o. o.number.0 == n) bs) ≡ false → All (λ o. o.number.0 ≢ n) (b ∷ bs)
-    by_test true is h = absurd (let w : true ≡ false = h in cc w)
-    by_test false is h = All-cons (λ (o : OpenBox). o.number.0 ≢ n) b bs (λ p. false≢true (sym is ∙ eq-eqb b.number.0 n p)) (none_has n bs h)
+    by_test : (t : Bool) → (b.number.0 == n) ≡ t → (t || list_any (λ o. o.number.0 == n) bs) ≡ false → (list_any (λ o. o.number.0 == n) bs ≡ false → All (λ o. o.number.0 ≢ n) bs) → All (λ o. o.number.0 ≢ n) (b ∷ bs)
+    by_test true is h rest = absurd (let w : true ≡ false = h in cc w)
+    by_test false is h rest = All-cons (λ (o : OpenBox). o.number.0 ≢ n) b bs (λ p. false≢true (sym is ∙ eq-eqb b.number.0 n p)) (rest h)
 
 -- what is left has other numbers
 pub others_left : (n : ℕ) (boxes : List OpenBox) → All (λ b. b.number.0 ≢ n) (without_box n boxes)
 others_left n [] = All-nil (λ (b : OpenBox). b.number.0 ≢ n)
-others_left n (b ∷ bs) = by_test (b.number.0 == n) refl
+others_left n (b ∷ bs) = by_test (b.number.0 == n) refl (others_left n bs)
   where
-    by_test : (t : Bool) → (b.number.0 == n) ≡ t → All (λ o. o.number.0 ≢ n) (cond (not t) (b ∷ without_box n bs) (without_box n bs))
-    by_test true is = others_left n bs
-    by_test false is = All-cons (λ (o : OpenBox). o.number.0 ≢ n) b (without_box n bs) (λ p. false≢true (sym is ∙ eq-eqb b.number.0 n p)) (others_left n bs)
+    by_test : (t : Bool) → (b.number.0 == n) ≡ t → All (λ o. o.number.0 ≢ n) (without_box n bs) → All (λ o. o.number.0 ≢ n) (cond (not t) (b ∷ without_box n bs) (without_box n bs))
+    by_test true is rest = rest
+    by_test false is rest = All-cons (λ (o : OpenBox). o.number.0 ≢ n) b (without_box n bs) (λ p. false≢true (sym is ∙ eq-eqb b.number.0 n p)) rest
 
 -- where none has the number, all are left
 pub all_left : (n : ℕ) (boxes : List OpenBox) → All (λ b. b.number.0 ≢ n) boxes → without_box n boxes ≡ boxes
@@ -161,33 +161,34 @@ none_found n (b ∷ bs) none =
 -- what was found is one of them, with this number
 pub found_made : (P : OpenBox → Type 0) (n : ℕ) (boxes : List OpenBox) (b : OpenBox) → find (λ o. o.number.0 == n) boxes ≡ Some b → All P boxes → P b × (b.number.0 ≡ n)
 found_made P n [] b e all = absurd (let w : None ≡ Some b = e in cc w)
-found_made P n (o ∷ os) b e all = by_test (o.number.0 == n) refl e
+found_made P n (o ∷ os) b e all = by_test (o.number.0 == n) refl e (λ f. found_made P n os b f (All-tail P o os all))
   where
-    by_test : (t : Bool) → (o.number.0 == n) ≡ t → cond t (Some o) (find (λ x. x.number.0 == n) os) ≡ Some b → P b × (b.number.0 ≡ n)
-    by_test true is h =
+    by_test : (t : Bool) → (o.number.0 == n) ≡ t → cond t (Some o) (find (λ x. x.number.0 == n) os) ≡ Some b → (find (λ x. x.number.0 == n) os ≡ Some b → P b × (b.number.0 ≡ n)) → P b × (b.number.0 ≡ n)
+    by_test true is h rest =
         let same : o ≡ b = cc h in
         (subst P same (All-head P o os all), ap (λ (x : OpenBox). x.number.0) (sym same) ∙ equal_is o.number.0 n is)
-    by_test false is h = found_made P n os b h (All-tail P o os all)
+    by_test false is h rest = rest h
 
 pub has_found : (n : ℕ) (boxes : List OpenBox) → list_any (λ b. b.number.0 == n) boxes ≡ true → find (λ b. b.number.0 == n) boxes ≡ None → ⊥
 has_found n [] has none = absurd (false≢true has)
-has_found n (b ∷ bs) has none = by_test (b.number.0 == n) refl has none
+has_found n (b ∷ bs) has none = by_test (b.number.0 == n) has none (has_found n bs)
   where
-    by_test : (t : Bool) → (b.number.0 == n) ≡ t → (t || list_any (λ o. o.number.0 == n) bs) ≡ true → cond t (Some b) (find (λ o. o.number.0 == n) bs) ≡ None → ⊥
-    by_test true is h e = absurd (let w : Some b ≡ None = e in cc w)
-    by_test false is h e = has_found n bs h e
+    by_test : (t : Bool) → (t || list_any (λ o. o.number.0 == n) bs) ≡ true → cond t (Some b) (find (λ o. o.number.0 == n) bs) ≡ None → (list_any (λ o. o.number.0 == n) bs ≡ true → find (λ o. o.number.0 == n) bs ≡ None → ⊥) → ⊥
+    by_test true h e rest = absurd (let w : Some b ≡ None = e in cc w)
+    by_test false h e rest = rest h e
 
 -- ---- the others are spared
 
 pub left_has : (n other : ℕ) (boxes : List OpenBox) → other ≢ n → list_any (λ b. b.number.0 == other) boxes ≡ true → list_any (λ b. b.number.0 == other) (without_box n boxes) ≡ true
 left_has n other [] apart has = has
-left_has n other (b ∷ bs) apart has = by_tests (b.number.0 == n) (b.number.0 == other) refl refl has
+left_has n other (b ∷ bs) apart has = by_tests (b.number.0 == n) (b.number.0 == other) refl refl has (left_has n other bs apart)
   where
-    by_tests : (t s : Bool) → (b.number.0 == n) ≡ t → (b.number.0 == other) ≡ s → (s || list_any (λ o. o.number.0 == other) bs) ≡ true → list_any (λ o. o.number.0 == other) (cond (not t) (b ∷ without_box n bs) (without_box n bs)) ≡ true
-    by_tests true true is too h = absurd (apart (sym (equal_is b.number.0 other too) ∙ equal_is b.number.0 n is))
-    by_tests true false is too h = left_has n other bs apart h
-    by_tests false true is too h = ap (λ (t : Bool). t || list_any (λ o. o.number.0 == other) (without_box n bs)) too
-    by_tests false false is too h = ap (λ (t : Bool). t || list_any (λ o. o.number.0 == other) (without_box n bs)) too ∙ left_has n other bs apart h
+    by_tests : (t s : Bool) → (b.number.0 == n) ≡ t → (b.number.0 == other) ≡ s → (s || list_any (λ o. o.number.0 == other) bs) ≡ true → (list_any (λ o. o.number.0 == other) bs ≡ true → list_any (λ o. o.number.0 == other) (without_box n bs) ≡ true)
+        → list_any (λ o. o.number.0 == other) (cond (not t) (b ∷ without_box n bs) (without_box n bs)) ≡ true
+    by_tests true true is too h rest = absurd (apart (sym (equal_is b.number.0 other too) ∙ equal_is b.number.0 n is))
+    by_tests true false is too h rest = rest h
+    by_tests false true is too h rest = ap (λ (t : Bool). t || list_any (λ o. o.number.0 == other) (without_box n bs)) too
+    by_tests false false is too h rest = ap (λ (t : Bool). t || list_any (λ o. o.number.0 == other) (without_box n bs)) too ∙ rest h
 
 pub more_has : (other : ℕ) (boxes : List OpenBox) (b : OpenBox) → list_any (λ o. o.number.0 == other) boxes ≡ true → list_any (λ o. o.number.0 == other) (boxes ++ b ∷ []) ≡ true
 more_has other [] b has = absurd (false≢true has)
@@ -204,3 +205,29 @@ last_has n (o ∷ os) b is = by_test (o.number.0 == n) (last_has n os b is)
     by_test : (t : Bool) → list_any (λ x. x.number.0 == n) (os ++ b ∷ []) ≡ true → (t || list_any (λ x. x.number.0 == n) (os ++ b ∷ [])) ≡ true
     by_test true h = refl
     by_test false h = h
+
+-- ---- after a call that changes other files
+
+-- the disk is as it was
+pub made_still : {D : Type 0} → (h : Option History) (v w : StoreValue D) → w.made ≡ v.made → w.map.boxes ≡ v.map.boxes → w.map.store ≡ v.map.store → v.drawn.mailbox ≤ w.drawn.mailbox → w.stopped ≡ v.stopped → KeepsMadeLogs h v → KeepsMadeLogs h w
+made_still h v w made boxes store drawn stopped k = made_kept h h v w made boxes store drawn (λ runs. k.held (sym stopped ∙ runs)) k
+
+pub made_idle : {D : Type 0} → (old new : Option History) (v w : StoreValue D) → w.made ≡ v.made → w.map.boxes ≡ v.map.boxes → w.map.store ≡ v.map.store → v.drawn.mailbox ≤ w.drawn.mailbox → w.stopped ≡ v.stopped → SameState old new
+    → KeepsMadeLogs old v → KeepsMadeLogs new w
+made_idle old new v w made boxes store drawn stopped same k = made_kept old new v w made boxes store drawn (λ runs. held_same old new v.made same (k.held (sym stopped ∙ runs))) k
+
+-- a file of another name has changed
+pub made_beside : {D : Type 0} → (old new : Option History) (v w : StoreValue D) (name : FileName) → w.made ≡ v.made → w.map.boxes ≡ v.map.boxes → w.map.store ≡ v.map.store → v.drawn.mailbox ≤ w.drawn.mailbox → w.stopped ≡ v.stopped
+    → ((number : ℕ) → file.Box number 1 ≢ name) → SameButFor name old new → KeepsMadeLogs old v → KeepsMadeLogs new w
+made_beside old new v w name made boxes store drawn stopped apart same k =
+    made_kept old new v w made boxes store drawn (λ runs. held_beside name old new v.made same (apart_from v.map v.drawn name v.made apart k.are_made) (k.held (sym stopped ∙ runs))) k
+
+-- and all names were synced
+pub made_named : {D : Type 0} → (old new : Option History) (v w : StoreValue D) (name : FileName) → w.made ≡ v.made → w.map.boxes ≡ v.map.boxes → w.map.store ≡ v.map.store → v.drawn.mailbox ≤ w.drawn.mailbox → w.stopped ≡ v.stopped
+    → ((number : ℕ) → file.Box number 1 ≢ name) → OthersAreNamed name old new → KeepsMadeLogs old v → KeepsMadeLogs new w
+made_named old new v w name made boxes store drawn stopped apart same k =
+    made_kept old new v w made boxes store drawn (λ runs. held_named name old new v.made same (apart_from v.map v.drawn name v.made apart k.are_made) (k.held (sym stopped ∙ runs))) k
+
+-- a change failed
+pub made_stopped : {D : Type 0} → (old new : Option History) (v w : StoreValue D) → w.made ≡ v.made → w.map.boxes ≡ v.map.boxes → w.map.store ≡ v.map.store → v.drawn.mailbox ≤ w.drawn.mailbox → w.stopped ≡ true → KeepsMadeLogs old v → KeepsMadeLogs new w
+made_stopped old new v w made boxes store drawn stopped k = made_kept old new v w made boxes store drawn (λ runs. absurd (true≢false (sym stopped ∙ runs))) k

@@ -212,7 +212,7 @@ store_named old new v disk log b made mailbox name c same others added =
       boxes_are = map-append (λ (o : OpenBox). o.index.meaning) v.boxes (b ∷ []) ∙ ap (λ (ms : List BoxMeaning). ms ++ b.index.meaning ∷ []) s.boxes_are ∙ ap (λ (m : BoxMeaning). map box_meaning s.logs ++ m ∷ []) c.is_made.empty
           ∙ sym (map-append box_meaning s.logs ([] ∷ []));
       counts = subst (λ (rows : List MapRecord). CoverDues (logs_made e s.logs) rows v.dues) (sym (same_records v.map mailbox name)) (cover_more s.logs v.map.records v.dues e mailbox name refl s.counts);
-      drawn = drawn_named v.map v.drawn mailbox name (let d = c.is_made.drawn in let n = c.number in omega (arith, d, n)) s.drawn;
+      drawn = drawn_named v.map v.drawn mailbox name (let d = c.is_made.was_drawn in let n = c.number in omega (arith, d, n)) s.drawn;
       files = kept_applied v.files v.drawn v.drawn v.map e tt refl (All-nil (LiesBelowEnd v.map.store v.files.files)) s.files;
       root_name = s.root_name;
       root_head = s.root_head;
@@ -232,7 +232,7 @@ record Names (old : History) (lists : Lists) (s : IsSettled old.now lists) (log 
   pub texts : List (List ℕ)
   pub append : IsMapAppend (files_of old.now) s.store s.entries lists (lists ++ empty_mailbox mailbox.0 name ∷ []) (naming mailbox name)
   pub alike : LeavesAlike s.safe.stands.map_log.generation (map_meaning s.store (s.entries ++ naming mailbox name ∷ [])) old.now
-  pub name : log.name ≡ file.Map s.safe.stands.map_log.generation
+  pub log_name : log.name ≡ file.Map s.safe.stands.map_log.generation
   pub held : IsLogHeld log texts old.now
 
 -- a crash leaves its log as it is
@@ -259,7 +259,7 @@ names old v b mailbox name lists s c own =
           (subst (λ (store : List ℕ). HasBox (files_of old.now) store (box_named mailbox name) []) id
           (box_there old.now v.map.store b.log mailbox name named (headed_so (Some old) v b mailbox name c) c.held.reads));
       alike = leaves_added old.now lists (naming mailbox name) s tt (named_synced old.now b.log mailbox name named c.held);
-      name = is;
+      log_name = is;
       held = held_map old.now lists s v.map_log (map map_text c.store.entries) own is runs.map_log_reads;
     }
 
@@ -279,10 +279,10 @@ leaves_named None new v b mailbox name c own adds lists settled = absurd settled
 leaves_named (Some old) new v b mailbox name c own adds lists s =
     let later : Lists = lists ++ empty_mailbox mailbox.0 name ∷ [] in
     let a : Names old lists s v.map_log mailbox name = names old v b mailbox name lists s c own in
-    let is : IsLogFile (reading (old.now (file.Map s.safe.stands.map_log.generation))) v.map_log.head a.texts = subst (λ (n : FileName). IsLogFile (reading (old.now n)) v.map_log.head a.texts) a.name (is_log v.map_log a.texts old.now a.held.reads) in
+    let is : IsLogFile (reading (old.now (file.Map s.safe.stands.map_log.generation))) v.map_log.head a.texts = subst (λ (n : FileName). IsLogFile (reading (old.now n)) v.map_log.head a.texts) a.log_name (is_log v.map_log a.texts old.now a.held.reads) in
     each_image-map (λ _ image. IsLogWithOrWithout v.map_log.head a.texts (map_text (naming mailbox name)) (image v.map_log.name) × OthersStay v.map_log.name (Some old) image) (λ _ image. Safe image lists ⊎ Safe image later) (Some old) new
     (λ moment image i. image_safe old.now lists later s (naming mailbox name) v.map_log.head a.texts image own a.append a.alike is
-    (subst (λ (n : FileName). IsLogWithOrWithout v.map_log.head a.texts (map_text (naming mailbox name)) (image n)) a.name i.0) (λ other apart. i.1 other (λ q. apart (q ∙ a.name))))
+    (subst (λ (n : FileName). IsLogWithOrWithout v.map_log.head a.texts (map_text (naming mailbox name)) (image n)) a.log_name i.0) (λ other apart. i.1 other (λ q. apart (q ∙ a.log_name))))
     (adds a.texts a.held)
 
 pub settled_named : {D : Type 0} → (old new : Option History) (v : StoreValue D) (b : OpenBox) (mailbox : BoxNo) (name : List ℕ) (log : LogState) → CanName old v b mailbox name → IfTold old ReadsImage → IsSameLog v.map_log log → SameButFor v.map_log.name old new
@@ -293,11 +293,11 @@ settled_named (Some old) (Some new) v b mailbox name log c own same others hold 
     let e : MapEntry = naming mailbox name in
     let a : Names old lists s v.map_log mailbox name = names old v b mailbox name lists s c own in
     let now : IsLogHeld log (a.texts ++ map_text e ∷ []) new.now = hold a.texts a.held in
-    settled_by_map_append old.now new.now lists (lists ++ empty_mailbox mailbox.0 name ∷ []) e s own a.append a.alike (λ other apart. others other (λ q. apart (q ∙ a.name)))
-    (subst (λ (n : FileName). HasOneMore (map_text e) (reading (old.now n)) (reading (new.now n))) a.name (disk_more v.map_log log a.texts (map_text e) old.now new.now same.name same.head a.held.reads now.reads))
+    settled_by_map_append old.now new.now lists (lists ++ empty_mailbox mailbox.0 name ∷ []) e s own a.append a.alike (λ other apart. others other (λ q. apart (q ∙ a.log_name)))
+    (subst (λ (n : FileName). HasOneMore (map_text e) (reading (old.now n)) (reading (new.now n))) a.log_name (disk_more v.map_log log a.texts (map_text e) old.now new.now same.name same.head a.held.reads now.reads))
     (λ left may.
-    let there : MayLeave (new.now log.name) left = subst (λ (n : FileName). MayLeave (new.now n) left) (sym (same.name ∙ a.name)) may in
-    (now.keeps.leaves left).0 there ∙ sym now.keeps.reads ∙ ap (λ (n : FileName). reading (new.now n)) (same.name ∙ a.name))
+    let there : MayLeave (new.now log.name) left = subst (λ (n : FileName). MayLeave (new.now n) left) (sym (same.name ∙ a.log_name)) may in
+    (now.keeps.leaves left).0 there ∙ sym now.keeps.reads ∙ ap (λ (n : FileName). reading (new.now n)) (same.name ∙ a.log_name))
 
 pub stored_named : {D : Type 0} → (old new : Option History) (v : StoreValue D) → IsStore old v → SameButFor v.map_log.name old new → KeepsStored old new
 stored_named None new v s same = same

@@ -94,6 +94,7 @@ made_of alloc disk logs files lanes map_log boxes drawn dues = record {
   map_log = map_log;
   map = logs.map.meaning;
   boxes = boxes;
+  made = [];
   files = files;
   drawn = drawn;
   dues = dues;

@@ -2,7 +2,7 @@
 use Rattle.std.specs.Prelude.{◌⊎◌}
 use Rattle.std.specs.List.{list_any}
 use Rattle.std.specs.Option.{option_map}
-use Rattle.std.proofs.Common.{inl, inr, ◌≡◌, ◌≢◌, ◌≤◌, ◌+◌, ◌==◌, ℕ, Bool, true, false, List, [], ◌∷◌, map, length, Option, Some, None, All, refl, sym, ◌∙◌, ap, subst, arith}
+use Rattle.std.proofs.Common.{inl, inr, ◌≡◌, ◌≢◌, ◌≤◌, ◌+◌, ◌==◌, ℕ, Bool, true, false, List, [], ◌∷◌, map, length, slice_index_or, Option, Some, None, All, refl, sym, ◌∙◌, ap, subst, arith}
 use Rattle.std.proofs.lemmas.List.Elements.{All-head, All-tail, All-weaker}
 use Rattle.disk_model.specs.Disk.{Files, FileState, DiskState, History, IfTold, Between, IsImage, IsThere, MayLeave, EachImage, OthersStay, reading, named}
 use Rattle.disk_model.specs.Name.{same_name}
@@ -137,7 +137,7 @@ alike_beside : (g : ℕ) (m : MapMeaning) (n : ℕ) (a b : DiskState) (image : F
 alike_beside g m n a b image c unnamed e = record {
   root = at file.Root (λ p. absurd (let w : file.Root ≡ file.Box n 1 = p in cc w)) e.root;
   map = at (file.Map g) (λ p. absurd (let w : file.Map g ≡ file.Box n 1 = p in cc w)) e.map;
-  boxes = λ k d lt. at (file.Box _ _) (other_log n _ (unnamed k d lt)) (e.boxes k d lt);
+  boxes = λ k d lt. let box : MapBox = slice_index_or m.boxes k d in at (file.Box box.number box.generation) (other_log n box (unnamed k d lt)) (e.boxes k d lt);
   regions = All-weaker (HasSameRegion (files_of a) was) (HasSameRegion (files_of b) image) (λ row r. region row r) m.records e.regions;
   instances = All-weaker (λ (row : MapRecord). All (HasSameInstance (files_of a) was) row.instances) (λ (row : MapRecord). All (HasSameInstance (files_of b) image) row.instances)
       (λ row r. All-weaker (HasSameInstance (files_of a) was) (HasSameInstance (files_of b) image)

@@ -37,7 +37,7 @@ SparesLogs number old new = (other : ℕ) → other ≢ number → has_made_log 
 -- and room for one of 64 octets.
 pub record IsMadeLog (m : MapMeaning) (drawn : Highest) (open_box : OpenBox) : Type 0 where
   pub is_number : IsNumber open_box.number.0
-  pub drawn : open_box.number.0 ≤ drawn.mailbox
+  pub was_drawn : open_box.number.0 ≤ drawn.mailbox
   pub unnamed : IsUnnamed open_box.number.0 m
   pub name : open_box.log.name ≡ file.Box open_box.number.0 1
   pub head : open_box.log.head ≡ head_of m.store kind.Box open_box.number.0 1

@@ -1,5 +1,5 @@
 // New mailboxes: their numbers, their logs, and the entries of the map log that name them.
-ghost use Rattle.std.specs.Prelude.{◌≡◌, ◌↔◌, ◌<◌, ◌≤◌, ◌+◌, ◌==◌, ◌++◌, ◌∷◌, ◌×◌, [], ℕ, List, All, AllPairs, Some, IfOk, IfSome, IfNone, OnOk, OnErr, IsErr, IsErrOf, find, length, vec_len, vec_capacity, true, false};
+ghost use Rattle.std.specs.Prelude.{◌≡◌, ◌↔◌, ◌<◌, ◌≤◌, ◌+◌, ◌==◌, ◌++◌, ◌∷◌, [], ℕ, List, All, AllPairs, Some, IfOk, IfSome, IfNone, OnOk, OnErr, IsErr, IsErrOf, find, length, vec_len, vec_capacity, true, false};
 ghost use Rattle.disk_model.specs.Disk.{EachImage, Grows, IfTold, OthersStay, SameButFor, no_file};
 ghost use Rattle.disk_model.specs.FaultCounts.{NoFault, ChangeFaultCounted};
 ghost use Rattle.disk_model.specs.declared.name.FileName.TheVariants as file;

@@ -2,6 +2,7 @@ use Rattle.std.proofs.Common.{sym, ◌∙◌, ap, subst}
 use Rattle.store_core.specs.Value.{StoreValue, indexes_of, newly_open}
 use Rattle.store_core.specs.Running.{HasEntryRoom, IsStore}
 use Rattle.store_core.proofs.RoomLemmas.{roomy_by, opened_as, dues_taken, store_roomy, room_there, indexes_roomy}
+use Rattle.store_core.proofs.MadeLogLemmas.{none_made}
 use Rattle.store_core.proofs.store.Store.of.Goals as goal
 
 pub invariant_of-result : goal.invariant_of-result
@@ -12,6 +13,7 @@ invariant_of-result g c =
       sym c.requires.id,
       subst (λ (v : StoreValue _). IsStore (g.D.Disk.history c.args.disk) v) (sym is) (store_roomy (g.D.Disk.history c.args.disk) (newly_open c.args.alloc c.args.disk c.args.logs c.args.files c.args.lanes) c.requires.store),
       subst (λ (v : StoreValue _). HasEntryRoom v) (sym is) (room_there (newly_open c.args.alloc c.args.disk c.args.logs c.args.files c.args.lanes)),
+      none_made _ _ refl,
     )
 
 pub returns-clause-store : goal.returns-clause-store
