@@ -7,12 +7,14 @@ pub mod EntryFileLemmas
 pub mod HighestFileLemmas
 pub mod KeptFileLemmas
 pub mod LookupLemmas
+pub mod MadeCallLemmas
 pub mod MadeLogLemmas
 pub mod MadePlaceLemmas
 pub mod MapAppendLemmas
 pub mod MapCrashLemmas
 pub mod MapDueLemmas
 pub mod MailChangeLemmas
+pub mod NamingCallLemmas
 pub mod NamingLemmas
 pub mod PickingLemmas
 pub mod PlacingLemmas

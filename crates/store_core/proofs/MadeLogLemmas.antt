@@ -14,7 +14,9 @@ use Rattle.disk_model.proofs.FirmLemmas.{firm_from_keeps}
 use Rattle.gate_log.specs.State.{LogState}
 use Rattle.gate_log.specs.Log.{log_text, IsLogRead, IsLogHeld, Holds}
 use Rattle.mdbox_base.specs.declared.entries.Highest.{Highest}
+use Rattle.model_logs.specs.declared.log_head.LogKind.TheVariants as kind
 use Rattle.model_meaning.specs.MapMeaning.{MapBox, MapMeaning}
+use Rattle.model_store.specs.Stands.{head_of}
 use Rattle.model_meaning.proofs.MapPlaceLemmas.{equal_is}
 use Rattle.model_octets.proofs.PairLemmas.{pairs_head, pairs_tail, pairs_nil, pairs_push}
 use Rattle.storage_files.specs.OnDisk.{OthersAreNamed}
@@ -82,7 +84,7 @@ made_with m n old new b boxes store more l = record {
   was_drawn = let a = l.was_drawn in omega (arith, a, more);
   unnamed = subst (λ (bs : List MapBox). All (λ (box : MapBox). box.number ≢ b.number.0) bs) (sym boxes) l.unnamed;
   name = l.name;
-  head = subst (λ (id : List ℕ). b.log.head ≡ record { store = record { 0 = id }; kind = _; number = b.number.0; generation = 1 }) (sym store) l.head;
+  head = subst (λ (id : List ℕ). b.log.head ≡ head_of id kind.Box b.number.0 1) (sym store) l.head;
   empty = l.empty;
   room = l.room;
 }
@@ -208,26 +210,38 @@ last_has n (o ∷ os) b is = by_test (o.number.0 == n) (last_has n os b is)
 
 -- ---- after a call that changes other files
 
--- the disk is as it was
-pub made_still : {D : Type 0} → (h : Option History) (v w : StoreValue D) → w.made ≡ v.made → w.map.boxes ≡ v.map.boxes → w.map.store ≡ v.map.store → v.drawn.mailbox ≤ w.drawn.mailbox → w.stopped ≡ v.stopped → KeepsMadeLogs h v → KeepsMadeLogs h w
-made_still h v w made boxes store drawn stopped k = made_kept h h v w made boxes store drawn (λ runs. k.held (sym stopped ∙ runs)) k
+pub no_less : {D : Type 0} → (v w : StoreValue D) → w.drawn.mailbox ≡ v.drawn.mailbox → v.drawn.mailbox ≤ w.drawn.mailbox
+no_less v w same = omega (arith, same)
 
-pub made_idle : {D : Type 0} → (old new : Option History) (v w : StoreValue D) → w.made ≡ v.made → w.map.boxes ≡ v.map.boxes → w.map.store ≡ v.map.store → v.drawn.mailbox ≤ w.drawn.mailbox → w.stopped ≡ v.stopped → SameState old new
+-- the disk is as it was
+pub made_still : {D : Type 0} → (h : Option History) (v w : StoreValue D) → w.made ≡ v.made → w.map.boxes ≡ v.map.boxes → w.map.store ≡ v.map.store → w.drawn.mailbox ≡ v.drawn.mailbox → w.stopped ≡ v.stopped → KeepsMadeLogs h v → KeepsMadeLogs h w
+made_still h v w made boxes store drawn stopped k = made_kept h h v w made boxes store (no_less v w drawn) (λ runs. k.held (sym stopped ∙ runs)) k
+
+pub made_idle : {D : Type 0} → (old new : Option History) (v w : StoreValue D) → w.made ≡ v.made → w.map.boxes ≡ v.map.boxes → w.map.store ≡ v.map.store → w.drawn.mailbox ≡ v.drawn.mailbox → w.stopped ≡ v.stopped → SameState old new
     → KeepsMadeLogs old v → KeepsMadeLogs new w
-made_idle old new v w made boxes store drawn stopped same k = made_kept old new v w made boxes store drawn (λ runs. held_same old new v.made same (k.held (sym stopped ∙ runs))) k
+made_idle old new v w made boxes store drawn stopped same k = made_kept old new v w made boxes store (no_less v w drawn) (λ runs. held_same old new v.made same (k.held (sym stopped ∙ runs))) k
 
 -- a file of another name has changed
-pub made_beside : {D : Type 0} → (old new : Option History) (v w : StoreValue D) (name : FileName) → w.made ≡ v.made → w.map.boxes ≡ v.map.boxes → w.map.store ≡ v.map.store → v.drawn.mailbox ≤ w.drawn.mailbox → w.stopped ≡ v.stopped
+pub made_beside : {D : Type 0} → (old new : Option History) (v w : StoreValue D) (name : FileName) → w.made ≡ v.made → w.map.boxes ≡ v.map.boxes → w.map.store ≡ v.map.store → w.drawn.mailbox ≡ v.drawn.mailbox → w.stopped ≡ v.stopped
     → ((number : ℕ) → file.Box number 1 ≢ name) → SameButFor name old new → KeepsMadeLogs old v → KeepsMadeLogs new w
 made_beside old new v w name made boxes store drawn stopped apart same k =
-    made_kept old new v w made boxes store drawn (λ runs. held_beside name old new v.made same (apart_from v.map v.drawn name v.made apart k.are_made) (k.held (sym stopped ∙ runs))) k
+    made_kept old new v w made boxes store (no_less v w drawn) (λ runs. held_beside name old new v.made same (apart_from v.map v.drawn name v.made apart k.are_made) (k.held (sym stopped ∙ runs))) k
 
 -- and all names were synced
-pub made_named : {D : Type 0} → (old new : Option History) (v w : StoreValue D) (name : FileName) → w.made ≡ v.made → w.map.boxes ≡ v.map.boxes → w.map.store ≡ v.map.store → v.drawn.mailbox ≤ w.drawn.mailbox → w.stopped ≡ v.stopped
+pub made_named : {D : Type 0} → (old new : Option History) (v w : StoreValue D) (name : FileName) → w.made ≡ v.made → w.map.boxes ≡ v.map.boxes → w.map.store ≡ v.map.store → w.drawn.mailbox ≡ v.drawn.mailbox → w.stopped ≡ v.stopped
     → ((number : ℕ) → file.Box number 1 ≢ name) → OthersAreNamed name old new → KeepsMadeLogs old v → KeepsMadeLogs new w
 made_named old new v w name made boxes store drawn stopped apart same k =
-    made_kept old new v w made boxes store drawn (λ runs. held_named name old new v.made same (apart_from v.map v.drawn name v.made apart k.are_made) (k.held (sym stopped ∙ runs))) k
+    made_kept old new v w made boxes store (no_less v w drawn) (λ runs. held_named name old new v.made same (apart_from v.map v.drawn name v.made apart k.are_made) (k.held (sym stopped ∙ runs))) k
 
 -- a change failed
-pub made_stopped : {D : Type 0} → (old new : Option History) (v w : StoreValue D) → w.made ≡ v.made → w.map.boxes ≡ v.map.boxes → w.map.store ≡ v.map.store → v.drawn.mailbox ≤ w.drawn.mailbox → w.stopped ≡ true → KeepsMadeLogs old v → KeepsMadeLogs new w
-made_stopped old new v w made boxes store drawn stopped k = made_kept old new v w made boxes store drawn (λ runs. absurd (true≢false (sym stopped ∙ runs))) k
+pub made_stopped : {D : Type 0} → (old new : Option History) (v w : StoreValue D) → w.made ≡ v.made → w.map.boxes ≡ v.map.boxes → w.map.store ≡ v.map.store → w.drawn.mailbox ≡ v.drawn.mailbox → w.stopped ≡ true → KeepsMadeLogs old v → KeepsMadeLogs new w
+made_stopped old new v w made boxes store drawn stopped k = made_kept old new v w made boxes store (no_less v w drawn) (λ runs. absurd (true≢false (sym stopped ∙ runs))) k
+
+-- ---- one that is there
+
+pub find_made : (n : ℕ) (boxes : List OpenBox) → list_any (λ b. b.number.0 == n) boxes ≡ true → (b : OpenBox) × (find (λ o. o.number.0 == n) boxes ≡ Some b)
+find_made n boxes has = by_found (find (λ o. o.number.0 == n) boxes) refl
+  where
+    by_found : (o : Option OpenBox) → find (λ x. x.number.0 == n) boxes ≡ o → (b : OpenBox) × (find (λ x. x.number.0 == n) boxes ≡ Some b)
+    by_found None is = absurd (has_found n boxes has is)
+    by_found (Some b) is = (b, is)

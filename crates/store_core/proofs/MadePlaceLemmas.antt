@@ -13,18 +13,18 @@ use Rattle.store_core.specs.MapAppend.{drawn_by}
 use Rattle.store_core.specs.Value.{StoreValue}
 use Rattle.store_core.specs.declared.store.OpenBox.{OpenBox}
 use Rattle.store_core.proofs.BoxAppendLemmas.{Placed, own_box}
-use Rattle.store_core.proofs.MadeLogLemmas.{made_kept, held_beside, apart_from, apart_from_named}
+use Rattle.store_core.proofs.MadeLogLemmas.{made_kept, no_less, held_beside, apart_from, apart_from_named}
 use Rattle.store_core.proofs.MapAppendLemmas.{Readied}
 use Rattle.store_core.proofs.MapDueLemmas.{mailboxes_stay}
 use Rattle.store_core.proofs.PickingLemmas.{Picked}
 
 -- an entry was added to the log of a mailbox
 pub made_placed : {D : Type 0} → (old new : Option History) (v w : StoreValue D) (k : ℕ) (b : OpenBox) (number : ℕ) (e : BoxEntry) → Placed old v k b number e → w.made ≡ v.made → w.map.boxes ≡ v.map.boxes → w.map.store ≡ v.map.store → w.stopped ≡ v.stopped
-    → v.drawn.mailbox ≤ w.drawn.mailbox → SameButFor b.log.name old new → KeepsMadeLogs old v → KeepsMadeLogs new w
+    → w.drawn.mailbox ≡ v.drawn.mailbox → SameButFor b.log.name old new → KeepsMadeLogs old v → KeepsMadeLogs new w
 made_placed old new v w k b number e p made boxes store stopped drawn same kept =
     let s = p.store in
     let q : Picked old v.map.store (map_meaning v.map.store s.entries).boxes s.logs b = own_box old v k b number e p in
-    made_kept old new v w made boxes store drawn (λ runs. held_beside b.log.name old new v.made same
+    made_kept old new v w made boxes store (no_less v w drawn) (λ runs. held_beside b.log.name old new v.made same
     (apart_from_named (map_meaning v.map.store s.entries) v.drawn b.log.name q.box v.made q.there q.name (subst (λ (m : MapMeaning). All (λ (o : OpenBox). IsMadeLog m v.drawn o) v.made) s.map_is kept.are_made))
     (kept.held (sym stopped ∙ runs))) kept
 

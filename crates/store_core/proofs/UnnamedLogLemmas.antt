@@ -4,7 +4,7 @@ use Rattle.std.specs.List.{list_any}
 use Rattle.std.specs.Option.{option_map}
 use Rattle.std.proofs.Common.{inl, inr, ◌≡◌, ◌≢◌, ◌≤◌, ◌+◌, ◌==◌, ℕ, Bool, true, false, List, [], ◌∷◌, map, length, slice_index_or, Option, Some, None, All, refl, sym, ◌∙◌, ap, subst, arith}
 use Rattle.std.proofs.lemmas.List.Elements.{All-head, All-tail, All-weaker}
-use Rattle.disk_model.specs.Disk.{Files, FileState, DiskState, History, IfTold, Between, IsImage, IsThere, MayLeave, EachImage, OthersStay, reading, named}
+use Rattle.disk_model.specs.Disk.{Files, FileState, DiskState, History, IfTold, Between, IsImage, IsThere, MayLeave, EachImage, OthersStay, after, change, change_all, removed, no_file, reading, named}
 use Rattle.disk_model.specs.Name.{same_name}
 use Rattle.disk_model.specs.declared.name.FileName.{FileName}
 use Rattle.disk_model.specs.declared.name.FileName.TheVariants as file
@@ -12,7 +12,7 @@ use Rattle.disk_model.proofs.BetweenLemmas.{between-on, between-map}
 use Rattle.disk_model.proofs.FirmLemmas.{reads_there, reading_from_there}
 use Rattle.disk_model.proofs.MomentLemmas.{each_image-map}
 use Rattle.disk_model.proofs.NameLemmas.{same_name-true, same_name-apart}
-use Rattle.disk_model.proofs.OneFileLemmas.{named-narrows}
+use Rattle.disk_model.proofs.OneFileLemmas.{change-here, change-other, named-narrows}
 use Rattle.gate_log.specs.State.{LogState}
 use Rattle.gate_log.specs.Log.{IsLogRead, Reads, NamedButFor}
 use Rattle.mdbox_base.specs.declared.entries.BoxEntry.{BoxEntry}
@@ -257,3 +257,13 @@ store_beside n old new v disk made s runs unnamed change = record {
   few_lanes = s.few_lanes;
   running = λ _. runs_beside n old new v disk made s change unnamed (s.running runs);
 }
+
+-- ---- a log that was removed, before a sync of all names
+
+pub removed_gone : (name : FileName) (old now new : Option History) → now ≡ after (change name removed) old → new ≡ after (change_all named) now → IfTold new (λ disk. disk name ≡ no_file)
+removed_gone name None now new a b = subst (λ (h : Option History). IfTold h (λ disk. disk name ≡ no_file)) (sym (b ∙ ap (after (change_all named)) a)) tt
+removed_gone name (Some old) now new a b = subst (λ (h : Option History). IfTold h (λ disk. disk name ≡ no_file)) (sym (b ∙ ap (after (change_all named)) a)) (ap named (change-here name removed old.now))
+
+pub removed_others : (name : FileName) (old now new : Option History) → now ≡ after (change name removed) old → new ≡ after (change_all named) now → NamedButFor name old new
+removed_others name None now new a b = b ∙ ap (after (change_all named)) a
+removed_others name (Some old) now new a b = subst (λ (h : Option History). NamedButFor name (Some old) h) (sym (b ∙ ap (after (change_all named)) a)) (λ other apart. ap named (change-other name other removed old.now apart))

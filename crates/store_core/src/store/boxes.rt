@@ -1,11 +1,13 @@
 // New mailboxes: their numbers, their logs, and the entries of the map log that name them.
-ghost use Rattle.std.specs.Prelude.{◌≡◌, ◌↔◌, ◌<◌, ◌≤◌, ◌+◌, ◌==◌, ◌++◌, ◌∷◌, [], ℕ, List, All, AllPairs, Some, IfOk, IfSome, IfNone, OnOk, OnErr, IsErr, IsErrOf, find, length, vec_len, vec_capacity, true, false};
+ghost use Rattle.std.specs.Prelude.{◌≡◌, ◌↔◌, ◌<◌, ◌≤◌, ◌+◌, ◌==◌, ◌++◌, ◌∷◌, [], ℕ, List, All, AllPairs, Some, IfOk, IfSome, IfNone, OnOk, OnErr, IsErr, IsErrOf, find, length, max, vec_len, vec_capacity, true, false};
+ghost use Rattle.std.specs.List.{list_any};
 ghost use Rattle.disk_model.specs.Disk.{EachImage, Grows, IfTold, OthersStay, SameButFor, no_file};
 ghost use Rattle.disk_model.specs.FaultCounts.{NoFault, ChangeFaultCounted};
 ghost use Rattle.disk_model.specs.declared.name.FileName.TheVariants as file;
 ghost use Rattle.gate_log.specs.Log.{Reads, Holds, NamedButFor};
 ghost use Rattle.gate_log.specs.State.{IsSameLog};
-ghost use Rattle.mdbox_base.specs.Words.{IsNumber};
+ghost use Rattle.map_index.specs.Value.{HasRoomFor};
+ghost use Rattle.mdbox_base.specs.Words.{IsName, IsNumber};
 ghost use Rattle.mdbox_base.specs.declared.entries.MapEntry.TheVariants as map_entry;
 ghost use Rattle.model_lists.specs.Lists.{Lists, empty_mailbox};
 ghost use Rattle.model_logs.specs.Entries.{map_text, MapInRange};
@@ -20,6 +22,7 @@ ghost use Rattle.store_core.specs.Dues.{due_at, leak_at, KeepsStored};
 ghost use Rattle.store_core.specs.MadeLogs.{HaveOtherNumbers, IsUnnamed, SparesLogs, has_made_log, without_box};
 ghost use Rattle.store_core.specs.Value.{entry_room, indexes_of};
 ghost use Rattle.store_core.specs.declared.error.StepError.TheVariants as step_error;
+ghost use Rattle.store_core.specs.declared.store.OpenBox.{OpenBox};
 
 use super::{OpenBox, Store};
 use crate::append::place_of;
@@ -28,6 +31,7 @@ use box_index::BoxIndex;
 use disk_model::{Disk, FileName};
 use gate_log::{DiskFault, GateLog, LogRoom, create_log};
 use log_records::{map_entry_size, put_map_entry};
+use map_index::MapIndex;
 use mdbox_base::{BoxNo, MapEntry, Name, NoMemory, StoreId, name_of};
 use model_logs::{LogHead, LogKind};
 use std::alloc::Global;
@@ -85,9 +89,8 @@ impl<D: Disk> Store<D> {
         let index = BoxIndex::empty(self.alloc)?;
         reserve_one(&mut self.made)?;
         match make_log(self.alloc, &mut self.disk, self.id, number) {
-            Ok(mut log) => {
-                log.take_room(room);
-                self.made.push_reserved(OpenBox { number, log, index });
+            Ok(log) => {
+                keep_log(&mut self.made, number, log, room, index);
                 Ok(())
             }
             Err(DiskFault) => {
@@ -119,16 +122,12 @@ impl<D: Disk> Store<D> {
         ensures fault { ChangeFaultCounted (IsErr result) (D.faults self.old.disk) (D.faults self.new.disk) }
         ensures unfailed { OnOk result (NoFault (D.faults self.old.disk) (D.faults self.new.disk)) }
     {
-        match remove_log(&mut self.disk, number) {
-            Ok(()) => {
-                let _gone = take_made(&mut self.made, number);
-                Ok(())
-            }
-            Err(DiskFault) => {
-                self.stopped = true;
-                Err(Stopped)
-            }
+        if let Err(_fault) = remove_log(&mut self.disk, number) {
+            self.stopped = true;
+            return Err(Stopped);
         }
+        forget_log(&mut self.made, number);
+        Ok(())
     }
 
     /// Adds an entry to the map log that names a mailbox whose log was made: it is a mailbox then. Memory is taken before
@@ -162,16 +161,17 @@ impl<D: Disk> Store<D> {
         ensures fault { ChangeFaultCounted (IsErrOf result step_error.Stopped) (D.faults self.old.disk) (D.faults self.new.disk) }
         ensures unfailed { OnOk result (NoFault (D.faults self.old.disk) (D.faults self.new.disk)) }
     {
-        let entry = naming(self.alloc, mailbox, name)?;
-        self.map.reserve_for(&entry)?;
-        reserve_one(&mut self.boxes)?;
-        self.map_log.reserve(map_entry_size(&entry) + 5)?;
+        let entry = take_naming(
+            self.alloc,
+            &mut self.map_log,
+            &mut self.map,
+            &mut self.boxes,
+            mailbox,
+            name,
+        )?;
         match append_name(&mut self.map_log, &mut self.disk, &entry) {
             Ok(()) => {
-                let Some(open_box) = take_made(&mut self.made, mailbox) else {
-                    unreachable!()
-                };
-                self.boxes.push_reserved(open_box);
+                move_made(&mut self.boxes, &mut self.made, mailbox);
                 self.map.take_in(entry);
                 Ok(())
             }
@@ -181,6 +181,32 @@ impl<D: Disk> Store<D> {
             }
         }
     }
+}
+
+/// Takes the memory for naming a mailbox, and hands out the entry: there is room for it in the map log and in the map, and for
+/// one mailbox more.
+fn take_naming(
+    alloc: Global,
+    log: &mut GateLog,
+    map: &mut MapIndex,
+    boxes: &mut Vec<OpenBox>,
+    mailbox: BoxNo,
+    name: &Name,
+) -> Result<MapEntry, NoMemory>
+    ensures entry { IfOk result (λ entry. (entry ≡ map_entry.B mailbox 1 name.now) × HasRoomFor entry map.new.room × (length (map_text entry) + 5 ≤ log.new.room)) }
+    ensures space { OnOk result (vec_len boxes.new < vec_capacity boxes.new) }
+    ensures name { IsName name.now }
+    ensures no_less { log.old.room ≤ log.new.room }
+    ensures log { log.new ≡ record log.old { room = log.new.room } }
+    ensures map { map.new.meaning ≡ map.old.meaning }
+    ensures boxes { boxes.new.items ≡ boxes.old.items }
+    ensures err { OnErr result (log.new ≡ log.old) }
+{
+    let entry = naming(alloc, mailbox, name)?;
+    map.reserve_for(&entry)?;
+    reserve_one(boxes)?;
+    log.reserve(map_entry_size(&entry) + 5)?;
+    Ok(entry)
 }
 
 /// Makes room for one mailbox more.
@@ -230,7 +256,8 @@ fn remove_log<D: Disk>(disk: &mut D, number: BoxNo) -> Result<(), DiskFault>
 
 /// The entry that names a mailbox.
 fn naming(alloc: Global, mailbox: BoxNo, name: &Name) -> Result<MapEntry, NoMemory>
-    ensures { IfOk result (λ entry. entry ≡ map_entry.B mailbox 1 name.now) }
+    ensures entry { IfOk result (λ entry. entry ≡ map_entry.B mailbox 1 name.now) }
+    ensures name { IsName name.now }
 {
     let Some(name) = name_of(alloc, name.as_octets())? else {
         unreachable!()
@@ -263,12 +290,52 @@ fn append_name<D: Disk>(log: &mut GateLog, disk: &mut D, entry: &MapEntry) -> Re
     log.append(disk, text)
 }
 
+/// Keeps the log of a mailbox, with its room, beside those that were made.
+fn keep_log(
+    made: &mut Vec<OpenBox>,
+    number: BoxNo,
+    log: GateLog,
+    room: LogRoom,
+    index: BoxIndex,
+)
+    requires { vec_len made.old < vec_capacity made.old }
+    ensures { (open_box : OpenBox) × (made.new.items ≡ made.old.items ++ open_box ∷ []) × (open_box.number ≡ number) × (open_box.log ≡ record log { room = max log.room room }) × (open_box.index ≡ index) }
+{
+    let mut log = log;
+    log.take_room(room);
+    made.push_reserved(OpenBox { number, log, index });
+}
+
+/// Removes the mailbox with this number from those whose logs were made, if it is there.
+fn forget_log(made: &mut Vec<OpenBox>, number: BoxNo)
+    requires { AllPairs HaveOtherNumbers made.old.items }
+    ensures { made.new.items ≡ without_box number.0 made.old.items }
+{
+    let _gone = take_made(made, number);
+}
+
+/// Moves the mailbox with this number from those whose logs were made to those of the map.
+fn move_made(boxes: &mut Vec<OpenBox>, made: &mut Vec<OpenBox>, number: BoxNo)
+    requires apart { AllPairs HaveOtherNumbers made.old.items }
+    requires there { list_any (λ open_box. open_box.number.0 == number.0) made.old.items ≡ true }
+    requires space { vec_len boxes.old < vec_capacity boxes.old }
+    ensures moved { (open_box : OpenBox) × (find (λ other. other.number.0 == number.0) made.old.items ≡ Some open_box) × (boxes.new.items ≡ boxes.old.items ++ open_box ∷ []) }
+    ensures left { made.new.items ≡ without_box number.0 made.old.items }
+{
+    match take_made(made, number) {
+        Some(open_box) => boxes.push_reserved(open_box),
+        None => unreachable!(),
+    }
+}
+
 /// Takes the mailbox with this number out of those whose logs were made. None if there is none.
 fn take_made(made: &mut Vec<OpenBox>, number: BoxNo) -> Option<OpenBox>
     requires apart { AllPairs HaveOtherNumbers made.old.items }
     ensures taken { result ≡ find (λ open_box. open_box.number.0 == number.0) made.old.items }
     ensures left { made.new.items ≡ without_box number.0 made.old.items }
 {
-    let place = place_of(made, number)?;
-    Some(made.remove(place))
+    match place_of(made, number) {
+        Some(place) => Some(made.remove(place)),
+        None => None,
+    }
 }

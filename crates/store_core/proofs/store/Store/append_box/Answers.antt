@@ -1,4 +1,4 @@
-use Rattle.std.proofs.Common.{◌≡◌, ◌+◌, ◌-◌, ◌==◌, ℕ, List, map, slice_set, sym, ◌∙◌, ap, subst, refl, Err, Some, arith}
+use Rattle.std.proofs.Common.{◌≡◌, ◌+◌, ◌-◌, ◌==◌, ℕ, List, map, slice_set, sym, ◌∙◌, ap, subst, refl, Err, Some}
 use Rattle.std.specs.Prelude.{count_by, sum_by}
 use Rattle.model_appends.specs.Amounts.{due_by_box}
 use Rattle.model_appends.specs.Appending.{lists_by, meanings_by}
@@ -41,7 +41,7 @@ invariant_of-self g c = (
   store_there _ _ _ _ c.in-Some.place c.index_mut.result.now c.append_in.new.open_box c.args.mailbox.0 c.args.entry.now _ (placed _ _ c.args.self.now c.deref.result.now c.in-Some.place c.index_mut.result.now c.args.mailbox.0 c.args.entry.now c.self.invariant.1 c.self.view_is c.deref.ensures.value c.requires.running c.requires.range c.requires.fits c.requires.held c.requires.record c.in-Some.ensures.some c.index_mut.ensures.value) c.in-Ok.ensures.same c.in-Ok.ensures.taken c.in-Ok.ensures.others c.in-Ok.ensures.added
       (dues_are_by c.self.inside.map.meaning.records c.self.inside.dues.items c.change_due.new.dues.items c.self.inside.boxes.items c.in-Some.place c.index.result.now c.index_mut.result.now c.args.entry.now c.due_change-how.result c.change_due.ensures c.due_change-how.ensures (place_below c.self.inside.boxes.items c.deref.result.now c.in-Some.place c.args.mailbox.0 c.deref.ensures.value c.in-Some.ensures.some) c.index.ensures c.index_mut.ensures.value),
   room_stays _ _ _ c.in-Some.place c.index_mut.result.now c.append_in.new.open_box c.args.mailbox.0 c.args.entry.now (placed _ _ c.args.self.now c.deref.result.now c.in-Some.place c.index_mut.result.now c.args.mailbox.0 c.args.entry.now c.self.invariant.1 c.self.view_is c.deref.ensures.value c.requires.running c.requires.range c.requires.fits c.requires.held c.requires.record c.in-Some.ensures.some c.index_mut.ensures.value) c.self.invariant.2 c.in-Ok.ensures.same.log.room refl refl,
-  made_placed _ _ _ _ c.in-Some.place c.index_mut.result.now c.args.mailbox.0 c.args.entry.now (placed _ _ c.args.self.now c.deref.result.now c.in-Some.place c.index_mut.result.now c.args.mailbox.0 c.args.entry.now c.self.invariant.1 c.self.view_is c.deref.ensures.value c.requires.running c.requires.range c.requires.fits c.requires.held c.requires.record c.in-Some.ensures.some c.index_mut.ensures.value) refl refl refl refl (omega arith) c.in-Ok.ensures.others c.self.invariant.3,
+  made_placed _ _ _ _ c.in-Some.place c.index_mut.result.now c.args.mailbox.0 c.args.entry.now (placed _ _ c.args.self.now c.deref.result.now c.in-Some.place c.index_mut.result.now c.args.mailbox.0 c.args.entry.now c.self.invariant.1 c.self.view_is c.deref.ensures.value c.requires.running c.requires.range c.requires.fits c.requires.held c.requires.record c.in-Some.ensures.some c.index_mut.ensures.value) refl refl refl refl refl c.in-Ok.ensures.others c.self.invariant.3,
 )
 
 pub invariant_of-self-in-Err-Stopped : goal.invariant_of-self-in-Err-Stopped
@@ -49,7 +49,7 @@ invariant_of-self-in-Err-Stopped g c = (
   c.self.invariant.0,
   stopped_there _ _ _ _ c.in-Some.place c.index_mut.result.now c.append_in.new.open_box c.args.mailbox.0 c.args.entry.now (placed _ _ c.args.self.now c.deref.result.now c.in-Some.place c.index_mut.result.now c.args.mailbox.0 c.args.entry.now c.self.invariant.1 c.self.view_is c.deref.ensures.value c.requires.running c.requires.range c.requires.fits c.requires.held c.requires.record c.in-Some.ensures.some c.index_mut.ensures.value) c.in-Err-Stopped.ensures.same (c.in-Err-Stopped.ensures.untaken refl),
   room_stays _ _ _ c.in-Some.place c.index_mut.result.now c.append_in.new.open_box c.args.mailbox.0 c.args.entry.now (placed _ _ c.args.self.now c.deref.result.now c.in-Some.place c.index_mut.result.now c.args.mailbox.0 c.args.entry.now c.self.invariant.1 c.self.view_is c.deref.ensures.value c.requires.running c.requires.range c.requires.fits c.requires.held c.requires.record c.in-Some.ensures.some c.index_mut.ensures.value) c.self.invariant.2 c.in-Err-Stopped.ensures.same.log.room refl refl,
-  made_stopped _ _ _ _ refl refl refl (omega arith) refl c.self.invariant.3,
+  made_stopped _ _ _ _ refl refl refl refl refl c.self.invariant.3,
 )
 
 pub returns-in-Ok-clause-any_moment : goal.returns-in-Ok-clause-any_moment
