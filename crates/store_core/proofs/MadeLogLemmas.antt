@@ -1,26 +1,25 @@
 -- Logs that were made and that the map doesn't name yet, as other files change.
 use Rattle.std.specs.Prelude.{Contains, not}
 use Rattle.std.specs.List.{list_any}
-use Rattle.std.proofs.Common.{inl, inr, ◌≡◌, ◌≢◌, ◌≤◌, ◌<◌, ◌+◌, ◌==◌, ◌||◌, ℕ, zero, suc, Bool, true, false, cond, List, [], ◌∷◌, ◌++◌, length, map, filter, find, take, drop, slice_index_or, Option, Some, None, All, refl, sym, ◌∙◌, ap, subst, arith}
+use Rattle.std.proofs.Common.{◌≡◌, ◌≢◌, ◌≤◌, ◌<◌, ◌==◌, ◌||◌, ℕ, zero, suc, Bool, true, false, cond, List, [], ◌∷◌, ◌++◌, length, find, slice_index_or, Option, Some, None, All, refl, sym, ◌∙◌, ap, subst, arith}
 use Rattle.std.specs.Prelude.{AllPairs, remove}
-use Rattle.std.proofs.lemmas.Bool.{cases_Bool, cond-true, cond-false, eq-eqb, ne_eqb, false≢true, true≢false}
-use Rattle.std.proofs.lemmas.List.Elements.{All-nil, All-cons, All-head, All-tail, All-append, All-contains, All-filter}
-use Rattle.std.proofs.lemmas.List.Kept.{AllPairs-filter}
-use Rattle.disk_model.specs.Disk.{FileState, DiskState, History, IfTold, Between, SameState, SameButFor, Keeps, reading, named, no_file}
+use Rattle.std.proofs.lemmas.Bool.{cond-true, cond-false, eq-eqb, ne_eqb, false≢true, true≢false}
+use Rattle.std.proofs.lemmas.List.Elements.{All-nil, All-cons, All-head, All-tail, All-contains}
+use Rattle.disk_model.specs.Disk.{FileState, DiskState, History, SameState, SameButFor, Keeps, reading, named, no_file}
 use Rattle.disk_model.specs.declared.name.FileName.{FileName}
 use Rattle.disk_model.specs.declared.name.FileName.TheVariants as file
 use Rattle.disk_model.proofs.BetweenLemmas.{between-on}
 use Rattle.disk_model.proofs.FirmLemmas.{firm_from_keeps}
 use Rattle.gate_log.specs.State.{LogState}
-use Rattle.gate_log.specs.Log.{log_text, IsLogRead, IsLogHeld, Holds}
+use Rattle.gate_log.specs.Log.{log_text, IsLogHeld, Holds}
 use Rattle.mdbox_base.specs.declared.entries.Highest.{Highest}
 use Rattle.model_logs.specs.declared.log_head.LogKind.TheVariants as kind
 use Rattle.model_meaning.specs.MapMeaning.{MapBox, MapMeaning}
 use Rattle.model_store.specs.Stands.{head_of}
 use Rattle.model_meaning.proofs.MapPlaceLemmas.{equal_is}
-use Rattle.model_octets.proofs.PairLemmas.{pairs_head, pairs_tail, pairs_nil, pairs_push}
+use Rattle.model_octets.proofs.PairLemmas.{pairs_head, pairs_tail, pairs_nil}
 use Rattle.storage_files.specs.OnDisk.{OthersAreNamed}
-use Rattle.store_core.specs.MadeLogs.{HaveOtherNumbers, IsMadeLog, IsUnnamed, KeepsMadeLogs, SparesLogs, has_made_log, without_box}
+use Rattle.store_core.specs.MadeLogs.{HaveOtherNumbers, IsMadeLog, KeepsMadeLogs, without_box}
 use Rattle.store_core.specs.Value.{StoreValue}
 use Rattle.store_core.specs.declared.store.OpenBox.{OpenBox}
 

@@ -1,13 +1,12 @@
 -- Logs that were made, beside an append to the log of a mailbox or to the map log.
-use Rattle.std.proofs.Common.{◌≡◌, ◌≢◌, ◌≤◌, ℕ, false, List, Option, Some, All, refl, sym, ◌∙◌, ap, subst, arith}
+use Rattle.std.proofs.Common.{◌≡◌, ℕ, Option, All, refl, sym, ◌∙◌, ap, subst, arith}
 use Rattle.disk_model.specs.Disk.{History, SameButFor}
-use Rattle.disk_model.specs.declared.name.FileName.{FileName}
 use Rattle.disk_model.specs.declared.name.FileName.TheVariants as file
 use Rattle.mdbox_base.specs.declared.entries.BoxEntry.{BoxEntry}
 use Rattle.mdbox_base.specs.declared.entries.Highest.{Highest}
 use Rattle.mdbox_base.specs.declared.entries.MapEntry.{MapEntry}
 use Rattle.mdbox_base.specs.declared.entries.MapEntry.TheVariants as entry
-use Rattle.model_meaning.specs.MapMeaning.{MapBox, MapMeaning, map_meaning, map_applied}
+use Rattle.model_meaning.specs.MapMeaning.{MapMeaning, map_meaning, map_applied}
 use Rattle.store_core.specs.MadeLogs.{IsMadeLog, KeepsMadeLogs}
 use Rattle.store_core.specs.MapAppend.{drawn_by}
 use Rattle.store_core.specs.Value.{StoreValue}

@@ -1,9 +1,9 @@
 -- A store with one entry more in the map log, which names a mailbox whose log was made.
 use Rattle.std.specs.Prelude.{◌⊎◌}
-use Rattle.std.proofs.Common.{inl, inr, ◌≡◌, ◌≢◌, ◌<◌, ◌≤◌, ◌+◌, ◌-◌, ◌^◌, ℕ, true, false, List, [], ◌∷◌, ◌++◌, map, length, Option, Some, None, All, refl, sym, ◌∙◌, ap, subst, arith}
+use Rattle.std.proofs.Common.{inl, inr, ◌≡◌, ◌≢◌, ◌≤◌, ℕ, false, List, [], ◌∷◌, ◌++◌, map, length, Option, Some, None, All, refl, sym, ◌∙◌, ap, subst, arith}
 use Rattle.std.proofs.lemmas.List.{map-append}
-use Rattle.std.proofs.lemmas.List.Elements.{All-nil, All-cons, All-append}
-use Rattle.disk_model.specs.Disk.{Files, DiskState, History, MayLeave, IfTold, OthersStay, SameButFor, IsImage, reading}
+use Rattle.std.proofs.lemmas.List.Elements.{All-nil, All-cons}
+use Rattle.disk_model.specs.Disk.{Files, DiskState, History, MayLeave, IfTold, OthersStay, SameButFor, reading}
 use Rattle.disk_model.specs.declared.name.FileName.{FileName}
 use Rattle.disk_model.specs.declared.name.FileName.TheVariants as file
 use Rattle.disk_model.proofs.MomentLemmas.{each_image-map, if_told-map}
@@ -11,13 +11,12 @@ use Rattle.gate_log.specs.State.{LogState, IsSameLog}
 use Rattle.gate_log.specs.Log.{IsLogRead, IsLogHeld, Reads, Holds, IsLogWithOrWithout}
 use Rattle.mdbox_base.specs.declared.entries.BoxEntry.{BoxEntry}
 use Rattle.mdbox_base.specs.declared.entries.Highest.{Highest}
-use Rattle.mdbox_base.specs.declared.entries.InstRow.{InstRow}
 use Rattle.mdbox_base.specs.declared.entries.MapEntry.{MapEntry}
 use Rattle.mdbox_base.specs.declared.entries.MapEntry.TheVariants as entry
 use Rattle.mdbox_base.specs.declared.ids.BoxNo.{BoxNo}
 use Rattle.mdbox_base.specs.Words.{IsName}
 use Rattle.model_appends.specs.Amounts.{IsAccounted}
-use Rattle.model_appends.specs.Appending.{HasOneMore, LeftBut, LeavesAsRead}
+use Rattle.model_appends.specs.Appending.{HasOneMore, LeftBut}
 use Rattle.model_appends.specs.MapAppending.{logs_made, IsMapAppend, AddsSynced, LeavesAlike}
 use Rattle.model_appends.proofs.AmountLemmas.{accounted_by_map_entry, accounted_counted, listed_made}
 use Rattle.model_appends.proofs.AppendFileLemmas.{kept_as, map_stored, count_itself}
@@ -25,7 +24,7 @@ use Rattle.model_appends.proofs.AppendMapOpenLemmas.{good_by_map_entry, opens_by
 use Rattle.model_appends.proofs.AppendSafeLemmas.{same_log, more_log, safe_without}
 use Rattle.model_appends.proofs.AppendSafeMapLemmas.{made_append, leaves_added, safe_with_map_entry, settled_by_map_append}
 use Rattle.model_lists.specs.Lists.{Lists, empty_mailbox}
-use Rattle.model_logs.specs.Entries.{map_text, box_text, MapInRange}
+use Rattle.model_logs.specs.Entries.{map_text, MapInRange}
 use Rattle.model_logs.specs.LogFile.{IsLogFile}
 use Rattle.model_logs.specs.declared.log_head.LogHead.{LogHead}
 use Rattle.model_logs.specs.declared.log_head.LogKind.TheVariants as kind
@@ -40,14 +39,13 @@ use Rattle.model_store.specs.GoodLogs.{AreGoodLogs}
 use Rattle.model_store.specs.Opening.{Opens, IsCounted, listed_of}
 use Rattle.model_store.specs.Safe.{LiesInFile, IsThereWhole, Safe}
 use Rattle.model_store.specs.Settled.{files_of, IsSettled, IsSettledFor, Leaves, HasSameRegion, HasSameInstance}
-use Rattle.model_store.specs.Stands.{head_of, HasRoot, HasBox}
-use Rattle.storage_files.specs.OnDisk.{IsAsKnown}
+use Rattle.model_store.specs.Stands.{head_of, HasBox}
 use Rattle.store_core.specs.Append.{AddsText}
-use Rattle.store_core.specs.Dues.{KeepsStored, due_at, leak_at}
-use Rattle.store_core.specs.Files.{LiesBelowEnd, StayThere}
+use Rattle.store_core.specs.Dues.{KeepsStored, leak_at}
+use Rattle.store_core.specs.Files.{LiesBelowEnd}
 use Rattle.store_core.specs.MadeLogs.{IsMadeLog}
 use Rattle.store_core.specs.Running.{AreBoxLogs, ReadBoxLogs, IsRunning, CoverDues, IsUpTo, IsStore}
-use Rattle.store_core.specs.Value.{StoreValue, indexes_of}
+use Rattle.store_core.specs.Value.{StoreValue}
 use Rattle.store_core.specs.declared.store.OpenBox.{OpenBox}
 use Rattle.store_core.proofs.BoxAppendLemmas.{dues_of, store_sound, is_log, disk_more, root_stays}
 use Rattle.store_core.proofs.BoxCrashLemmas.{ReadsImage}
@@ -138,7 +136,7 @@ headed_so h v b mailbox name c = c.is_made.head ∙ ap (λ (n : ℕ). head_of v.
 box_there : (disk : DiskState) (store : List ℕ) (log : LogState) (mailbox : BoxNo) (name : List ℕ) → log.name ≡ file.Box mailbox.0 1 → log.head ≡ head_of store kind.Box mailbox.0 1 → IsLogRead log [] disk → HasBox (files_of disk) store (box_named mailbox name) []
 box_there disk store log mailbox name named headed r =
     let is : IsLogFile (reading (disk (file.Box mailbox.0 1))) (head_of store kind.Box mailbox.0 1) [] =
-        subst (λ (h : LogHead). IsLogFile (reading (disk (file.Box mailbox.0 1))) h []) headed (subst (λ (n : FileName). IsLogFile (reading (disk n)) log.head []) named (is_log log [] disk r)) in
+    subst (λ (h : LogHead). IsLogFile (reading (disk (file.Box mailbox.0 1))) h []) headed (subst (λ (n : FileName). IsLogFile (reading (disk n)) log.head []) named (is_log log [] disk r)) in
     let o = log_in (reading (disk (file.Box mailbox.0 1))) (head_of store kind.Box mailbox.0 1) [] is in
     record { log = record { octets = o.0; there = o.1; whole = o.2 }; in_range = tt; fit = tt }
 

@@ -1,8 +1,7 @@
 -- Disks on which one log was made or removed that the map doesn't name: nothing that a store reads has changed.
 use Rattle.std.specs.Prelude.{◌⊎◌}
-use Rattle.std.specs.List.{list_any}
 use Rattle.std.specs.Option.{option_map}
-use Rattle.std.proofs.Common.{inl, inr, ◌≡◌, ◌≢◌, ◌≤◌, ◌+◌, ◌==◌, ℕ, Bool, true, false, List, [], ◌∷◌, map, length, slice_index_or, Option, Some, None, All, refl, sym, ◌∙◌, ap, subst, arith}
+use Rattle.std.proofs.Common.{inl, inr, ◌≡◌, ◌≢◌, ℕ, Bool, true, false, List, [], ◌∷◌, map, length, slice_index_or, Option, Some, None, All, refl, sym, ◌∙◌, ap, subst, arith}
 use Rattle.std.proofs.lemmas.List.Elements.{All-head, All-tail, All-weaker}
 use Rattle.disk_model.specs.Disk.{Files, FileState, DiskState, History, IfTold, Between, IsImage, IsThere, MayLeave, EachImage, OthersStay, after, change, change_all, removed, no_file, reading, named}
 use Rattle.disk_model.specs.Name.{same_name}
@@ -16,7 +15,6 @@ use Rattle.disk_model.proofs.OneFileLemmas.{change-here, change-other, named-nar
 use Rattle.gate_log.specs.State.{LogState}
 use Rattle.gate_log.specs.Log.{IsLogRead, Reads, NamedButFor}
 use Rattle.mdbox_base.specs.declared.entries.BoxEntry.{BoxEntry}
-use Rattle.mdbox_base.specs.declared.entries.InstRow.{InstRow}
 use Rattle.mdbox_base.specs.declared.entries.MapEntry.{MapEntry}
 use Rattle.model_lists.specs.Lists.{Lists}
 use Rattle.model_logs.specs.Entries.{box_text, map_text}
@@ -30,11 +28,11 @@ use Rattle.model_store.proofs.CarryingLemmas.{each_name}
 use Rattle.model_store.proofs.SettledLemmas.{safe_carried, has_all_carried, map_along, kept_along}
 use Rattle.model_store.proofs.StandsLemmas.{map_same, root_same}
 use Rattle.model_appends.specs.Appending.{LeftBut}
-use Rattle.model_appends.proofs.AppendFileLemmas.{log_as, mixed, mixed-here, mixed-other}
+use Rattle.model_appends.proofs.AppendFileLemmas.{log_as, mixed, mixed-other}
 use Rattle.model_appends.proofs.AppendSafeLemmas.{mixed_image, others_carry}
 use Rattle.storage_files.specs.declared.file.MailFile.{MailFile}
 use Rattle.storage_files.specs.Files.{end_in}
-use Rattle.storage_files.specs.OnDisk.{IsAsKnown, OthersAreNamed}
+use Rattle.storage_files.specs.OnDisk.{OthersAreNamed}
 use Rattle.store_core.specs.Dues.{KeepsStored}
 use Rattle.store_core.specs.Files.{StayThere}
 use Rattle.store_core.specs.MadeLogs.{IsUnnamed}

@@ -10,6 +10,7 @@ use test_stores::{BOX_HEAD, ID, each_crash, file_octets, log_octets};
 
 /// How many calls it takes to make a log, or to add an entry to one, and how many to remove a log.
 const CALLS: u64 = 4;
+
 const REMOVE_CALLS: u64 = 2;
 
 fn named(alloc: Global, octets: &[u8]) -> Result<Name, Fail> {
@@ -41,7 +42,12 @@ fn new_store(alloc: Global, fails: Seq<u64>) -> Result<Store<MemDisk>, Fail> {
 /// How many calls an opening of this disk takes.
 fn opening_calls(alloc: Global, disk: MemDisk) -> Result<u64, Fail> {
     let before = disk.calls();
-    Ok(opened(alloc, disk)?.into_disk().calls().saturating_sub(before))
+    Ok(
+        opened(alloc, disk)?
+            .into_disk()
+            .calls()
+            .saturating_sub(before),
+    )
 }
 
 fn opened(alloc: Global, disk: MemDisk) -> Result<Store<MemDisk>, Fail> {
@@ -109,11 +115,17 @@ fn a_log_that_is_not_named_is_removed(rt: HostRuntime) -> Result<(), Fail> {
     let mut disk = store.into_disk();
     assert_eq!(rt; (first, second, again), (BoxNo(2), BoxNo(3), BoxNo(4)));
     assert_eq!(rt; (named_second, removed), (Ok(()), Ok(())));
-    assert_eq!(rt; disk.next_name(Some(FileName::Box(1, 1))), Ok(Some(FileName::Box(3, 1))));
+    assert_eq!(rt;
+        disk.next_name(Some(FileName::Box(1, 1))),
+        Ok(Some(FileName::Box(3, 1)))
+    );
     let mut head = BOX_HEAD;
     head.number = 3;
     let log = log_octets(rt.alloc(), head, &[])?;
-    assert_eq!(rt; file_octets(rt.alloc(), &mut disk, FileName::Box(3, 1))?, log);
+    assert_eq!(rt;
+        file_octets(rt.alloc(), &mut disk, FileName::Box(3, 1))?,
+        log
+    );
     let store = opened(rt.alloc(), disk)?;
     let found = length(&store, &name);
     let mut disk = store.into_disk();
@@ -140,8 +152,15 @@ fn a_making_of_a_mailbox_that_fails(rt: HostRuntime) -> Result<(), Fail> {
         let store = opened(rt.alloc(), disk)?;
         let found = length(&store, &name);
         let _disk = store.into_disk();
-        assert_eq!(rt; (answer, stopped, before), (Err(StepError::Stopped), true, None), "call {call}");
-        assert!(rt; found == None || (found == Some(0) && call == 8), "call {call}");
+        assert_eq!(rt;
+            (answer, stopped, before),
+            (Err(StepError::Stopped), true, None),
+            "call {call}"
+        );
+        assert!(rt;
+            found == None || (found == Some(0) && call == 8),
+            "call {call}"
+        );
     }
     for call in 1..=REMOVE_CALLS {
         let fails = Seq::of(vec![in rt.alloc(); call.saturating_add(CALLS)]?);

@@ -291,13 +291,7 @@ fn append_name<D: Disk>(log: &mut GateLog, disk: &mut D, entry: &MapEntry) -> Re
 }
 
 /// Keeps the log of a mailbox, with its room, beside those that were made.
-fn keep_log(
-    made: &mut Vec<OpenBox>,
-    number: BoxNo,
-    log: GateLog,
-    room: LogRoom,
-    index: BoxIndex,
-)
+fn keep_log(made: &mut Vec<OpenBox>, number: BoxNo, log: GateLog, room: LogRoom, index: BoxIndex)
     requires { vec_len made.old < vec_capacity made.old }
     ensures { (open_box : OpenBox) × (made.new.items ≡ made.old.items ++ open_box ∷ []) × (open_box.number ≡ number) × (open_box.log ≡ record log { room = max log.room room }) × (open_box.index ≡ index) }
 {
