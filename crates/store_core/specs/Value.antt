@@ -1,5 +1,5 @@
 -- What a caller sees of an open store.
-use Rattle.std.specs.Prelude.{ℕ, max, Bool, false, List, map, Option}
+use Rattle.std.specs.Prelude.{ℕ, max, Bool, false, List, [], map, Option}
 use Rattle.std.specs.declared.alloc.Global.{Global}
 use Rattle.gate_log.specs.State.{LogState}
 use Rattle.mdbox_base.specs.declared.entries.Highest.{Highest}
@@ -10,9 +10,10 @@ use Rattle.storage_files.specs.Files.{FilesValue}
 use Rattle.store_core.specs.declared.store.OpenBox.{OpenBox}
 use Rattle.store_core.specs.declared.store.OpenLogs.{OpenLogs}
 
--- The allocator that it keeps; its disk; the root log; the map's log, and what it means; its mailboxes in order of number; its
--- storage files; the highest numbers drawn; what is due of each record, in the order of the map's records; for how many lanes
--- it was opened; and whether it is stopped, since a change of the disk failed.
+-- The allocator that it keeps; its disk; the root log; the map's log, and what it means; its mailboxes in order of number;
+-- those whose logs were made and which the map doesn't name yet; its storage files; the highest numbers drawn; what is due of
+-- each record, in the order of the map's records; for how many lanes it was opened; and whether it is stopped, since a change
+-- of the disk failed.
 pub record StoreValue (D : Type 0) : Type 0 where
   pub alloc : Global
   pub disk : D
@@ -20,6 +21,7 @@ pub record StoreValue (D : Type 0) : Type 0 where
   pub map_log : LogState
   pub map : MapMeaning
   pub boxes : List OpenBox
+  pub made : List OpenBox
   pub files : FilesValue
   pub drawn : Highest
   pub dues : List ℕ
@@ -40,6 +42,7 @@ newly_open alloc disk logs files lanes = record {
   map_log = logs.map_log;
   map = logs.map.meaning;
   boxes = logs.boxes.items;
+  made = [];
   files = files;
   drawn = logs.map.meaning.highest;
   dues = none_due logs.map.meaning.records;

@@ -35,6 +35,7 @@ use std::marker::Model;
 use storage_files::MailFiles;
 
 mod append_map;
+mod boxes;
 mod files;
 
 /// A mailbox of an open store: its log, and what that means.
@@ -66,6 +67,8 @@ pub struct Store<D: Disk> {
     map_log: GateLog,
     map: MapIndex,
     boxes: Vec<OpenBox>,
+    /// The mailboxes whose logs were made and which the map doesn't name yet.
+    made: Vec<OpenBox>,
     files: MailFiles,
     drawn: Highest,
     /// What is due of each record, in the order of the map's records.
@@ -78,12 +81,13 @@ impl<D: Disk> Model for Store<D> {
     ghost use Rattle.std.specs.Prelude.{◌≡◌};
     ghost use Rattle.store_core.specs.Value.{StoreValue};
     ghost use Rattle.store_core.specs.Running.{HasEntryRoom, IsStore};
+    ghost use Rattle.store_core.specs.MadeLogs.{KeepsMadeLogs};
 
     ghost Value = { StoreValue D };
 
-    ghost view = { λ s. record { alloc = s.alloc; disk = s.disk; root_log = s.root_log; map_log = s.map_log; map = s.map.meaning; boxes = s.boxes.items; files = s.files; drawn = s.drawn; dues = s.dues.items; lanes = s.lanes; stopped = s.stopped } };
+    ghost view = { λ s. record { alloc = s.alloc; disk = s.disk; root_log = s.root_log; map_log = s.map_log; map = s.map.meaning; boxes = s.boxes.items; made = s.made.items; files = s.files; drawn = s.drawn; dues = s.dues.items; lanes = s.lanes; stopped = s.stopped } };
 
-    ghost invariant = { λ s. (s.id.0 ≡ s.map.meaning.store) × IsStore (D.history s.disk) (record { alloc = s.alloc; disk = s.disk; root_log = s.root_log; map_log = s.map_log; map = s.map.meaning; boxes = s.boxes.items; files = s.files; drawn = s.drawn; dues = s.dues.items; lanes = s.lanes; stopped = s.stopped }) × HasEntryRoom (record { alloc = s.alloc; disk = s.disk; root_log = s.root_log; map_log = s.map_log; map = s.map.meaning; boxes = s.boxes.items; files = s.files; drawn = s.drawn; dues = s.dues.items; lanes = s.lanes; stopped = s.stopped }) };
+    ghost invariant = { λ s. (s.id.0 ≡ s.map.meaning.store) × IsStore (D.history s.disk) (record { alloc = s.alloc; disk = s.disk; root_log = s.root_log; map_log = s.map_log; map = s.map.meaning; boxes = s.boxes.items; made = s.made.items; files = s.files; drawn = s.drawn; dues = s.dues.items; lanes = s.lanes; stopped = s.stopped }) × HasEntryRoom (record { alloc = s.alloc; disk = s.disk; root_log = s.root_log; map_log = s.map_log; map = s.map.meaning; boxes = s.boxes.items; made = s.made.items; files = s.files; drawn = s.drawn; dues = s.dues.items; lanes = s.lanes; stopped = s.stopped }) × KeepsMadeLogs (D.history s.disk) (record { alloc = s.alloc; disk = s.disk; root_log = s.root_log; map_log = s.map_log; map = s.map.meaning; boxes = s.boxes.items; made = s.made.items; files = s.files; drawn = s.drawn; dues = s.dues.items; lanes = s.lanes; stopped = s.stopped }) };
 }
 
 impl<D: Disk> Store<D> {
@@ -127,6 +131,7 @@ impl<D: Disk> Store<D> {
             map_log,
             map,
             boxes,
+            made: Vec::new(alloc),
             files,
             drawn,
             dues,
@@ -287,6 +292,7 @@ impl<D: Disk> Store<D> {
             map_log: _map_log,
             map: _map,
             boxes: _boxes,
+            made: _made,
             files: _files,
             drawn: _,
             dues: _dues,

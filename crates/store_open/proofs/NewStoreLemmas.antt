@@ -81,7 +81,7 @@ pub record HasNewLogs (store : List ℕ) (root_log map_log box_log : LogState) (
 
 -- logs that are opened, with this meaning and these mailboxes
 abbrev opened_with : {D : Type 0} → Global → D → OpenLogs → MapMeaning → List OpenBox → StoreValue D
-opened_with alloc disk o m boxes = record { alloc = alloc; disk = disk; root_log = o.root_log; map_log = o.map_log; map = m; boxes = boxes; files = no_files; drawn = m.highest; dues = none_due m.records; lanes = 1; stopped = false }
+opened_with alloc disk o m boxes = record { alloc = alloc; disk = disk; root_log = o.root_log; map_log = o.map_log; map = m; boxes = boxes; made = []; files = no_files; drawn = m.highest; dues = none_due m.records; lanes = 1; stopped = false }
 
 pub new_store : {D : Type 0} (alloc : Global) (disk : D) (store : List ℕ) (box : OpenBox) (o : OpenLogs) (new : Option History) → o.map.meaning ≡ map_meaning store (first_box ∷ []) → HasNewLogs store o.root_log o.map_log box.log new
     → box.number.0 ≡ 1 → box.index.meaning ≡ box_meaning [] → o.boxes.items ≡ box ∷ [] → IsStore new (newly_open alloc disk o no_files 1)
