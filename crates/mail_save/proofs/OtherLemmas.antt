@@ -115,13 +115,12 @@ other_message at place store h other apart is = apart (sym other.guid_file ∙ (
 pub storing_keeps : {D : Type 0} → (at : SavedAt) (origin time size : ℕ) (room : Unit {0}) (added : Added) (old new : StoreValue D) → HoldsRegion at old → StoresPlaced at origin time size added old new → KeepsOthers (stage.Storing at origin room) old new
 storing_keeps at origin time size room added old new mine s =
     keeps_by (stage.Storing at origin room) old new (λ number taken other. (s.others number other, s.ends number)) (λ place h other.
-        subst (λ (m : MapMeaning). IsFree m place.file.0 place.offset place.size × All (λ row. row.guid ≢ place.guid.0) m.records) (sym s.map)
-        (
-          free_by old.map (entry_stored origin added.map_uid at) place.file.0 place.offset place.size (λ row. counted_as false 0 row)
+    subst (λ (m : MapMeaning). IsFree m place.file.0 place.offset place.size × All (λ row. row.guid ≢ place.guid.0) m.records) (sym s.map) (
+      free_by old.map (entry_stored origin added.map_uid at) place.file.0 place.offset place.size (λ row. counted_as false 0 row)
           (All-cons (λ (row : MapRecord). row.file ≡ place.file.0 → ⊥) (saved_row origin added.map_uid at) [] (λ is. other (sym is)) (All-nil (λ (row : MapRecord). row.file ≡ place.file.0 → ⊥))) h.free,
-          new_by old.map (entry_stored origin added.map_uid at) place.guid.0 (λ row. counted_as false 0 row)
+      new_by old.map (entry_stored origin added.map_uid at) place.guid.0 (λ row. counted_as false 0 row)
           (All-cons (λ (row : MapRecord). row.guid ≢ place.guid.0) (saved_row origin added.map_uid at) [] (other_message at place old mine h other) (All-nil (λ (row : MapRecord). row.guid ≢ place.guid.0))) h.guid_new,
-        ))
+    ))
 
 pub unstored_keeps : {D : Type 0} → (at : SavedAt) (origin : ℕ) (room : Unit {0}) (why : Refusal) (old new : StoreValue D) → StoresNone at why old new → KeepsOthers (stage.Storing at origin room) old new
 unstored_keeps at origin room why old new (inl k) = keeps_same (stage.Storing at origin room) old new k.1.map (ap (λ (f : FilesValue). f.files) k.1.files)
@@ -134,8 +133,7 @@ alone_keeps now old new k = keeps_same now old new k.map (ap (λ (f : FilesValue
 pub lowering_keeps : {D : Type 0} → (uid : MapUid) (why : Refusal) (room : Unit {0}) (old new : StoreValue D) → LowersRecord uid old new → KeepsOthers (stage.GivingBack uid why room) old new
 lowering_keeps uid why room old new l =
     keeps_by (stage.GivingBack uid why room) old new (λ number taken other. (ap (λ (f : FilesValue). is_taken_in number f.files) l.files, ap (λ (f : FilesValue). end_in number f.files) l.files)) (λ place h other.
-        subst (λ (m : MapMeaning). IsFree m place.file.0 place.offset place.size × All (λ row. row.guid ≢ place.guid.0) m.records) (sym l.map)
-        (
-          free_by old.map (entry_lowered uid) place.file.0 place.offset place.size (λ row. counted_as (has_map_uid row.uid (uid ∷ [])) (row.count - 1) row) (All-nil (λ (row : MapRecord). row.file ≡ place.file.0 → ⊥)) h.free,
-          new_by old.map (entry_lowered uid) place.guid.0 (λ row. counted_as (has_map_uid row.uid (uid ∷ [])) (row.count - 1) row) (All-nil (λ (row : MapRecord). row.guid ≢ place.guid.0)) h.guid_new,
-        ))
+    subst (λ (m : MapMeaning). IsFree m place.file.0 place.offset place.size × All (λ row. row.guid ≢ place.guid.0) m.records) (sym l.map) (
+      free_by old.map (entry_lowered uid) place.file.0 place.offset place.size (λ row. counted_as (has_map_uid row.uid (uid ∷ [])) (row.count - 1) row) (All-nil (λ (row : MapRecord). row.file ≡ place.file.0 → ⊥)) h.free,
+      new_by old.map (entry_lowered uid) place.guid.0 (λ row. counted_as (has_map_uid row.uid (uid ∷ [])) (row.count - 1) row) (All-nil (λ (row : MapRecord). row.guid ≢ place.guid.0)) h.guid_new,
+    ))

@@ -1,6 +1,6 @@
 -- Where messages are placed: the GUID of a place, and the files that are known then.
 use Rattle.std.proofs.Common.{◌≡◌, ◌<◌, ◌+◌, ◌^◌, ℕ, true, List, [], ◌++◌, Option, Some, All, refl, sym, ◌∙◌, ap, subst, append_assoc, append-nil, arith, take, drop, length}
-use Rattle.std.specs.Prelude.{◌≢◌, not}
+use Rattle.std.specs.Prelude.{◌≢◌}
 use Rattle.std.specs.Int.{w32, to_be_bytes, from_be_bytes}
 use Rattle.std.specs.Str.{bytes_eq}
 use Rattle.std.proofs.lemmas.List.{length-append}

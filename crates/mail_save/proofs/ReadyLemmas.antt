@@ -1,5 +1,5 @@
 -- What events of a delivery leave ready for the next one.
-use Rattle.std.proofs.Common.{◌≡◌, ◌==◌, ◌≢◌, ◌+◌, ◌||◌, ◌∷◌, ◌++◌, ℕ, Bool, true, false, List, [], map, Option, All, refl, sym, ◌∙◌, ap, subst, arith, take, drop, length, inl, inr}
+use Rattle.std.proofs.Common.{◌≡◌, ◌==◌, ◌≢◌, ◌||◌, ◌∷◌, ◌++◌, ℕ, Bool, true, false, List, [], map, Option, All, refl, sym, ◌∙◌, ap, subst, arith, take, drop, length, inl, inr}
 use Rattle.std.specs.Prelude.{cond, count_by, filter, if◌then◌else◌}
 use Rattle.std.specs.List.{AllByRecursion, list_any}
 use Rattle.std.specs.Str.{bytes_eq}

@@ -14,7 +14,7 @@ use Rattle.store_core.proofs.BoxCrashLemmas.{leaves_none}
 use Rattle.store_core.specs.Running.{IsStore}
 use Rattle.store_core.specs.Value.{StoreValue}
 use Rattle.mail_save.specs.Added.{HasRoomUnder}
-use Rattle.mail_save.specs.Ready.{IsReadyToSave, IsRecordReady, delivered_lists, save_lists, lists_saved}
+use Rattle.mail_save.specs.Ready.{IsReadyToSave, IsRecordReady, delivered_lists, save_lists, lists_delivered}
 use Rattle.mail_save.specs.SaveEffects.{SaveEffects}
 use Rattle.mail_save.specs.Task.{Saves, RestsAt}
 use Rattle.mail_save.specs.declared.add.Added.{Added}
@@ -54,22 +54,22 @@ save_moments stage.Ended next name time size answer how old new before after beg
 -- ---- afterwards
 
 adding_rests : {D : Type 0} → (added : Added) (room : Unit {0}) (name : List ℕ) (time size : ℕ) (next : SaveStage) (answer : Progress) (how : Did) (old new : StoreValue D) (before after : Option History) (began ended : Faults) → LogsShowLists → IsStore before old → old.stopped ≡ false
-    → Saves (stage.Adding added room) next name time size answer how old new before after began ended → new.stopped ≡ false → (octets : List ℕ) → IsRecordReady added time octets old before → (lists : Lists) → IsSettledFor lists before → IsSettledFor (lists_saved (stage.Adding added room) name octets answer lists) after
+    → Saves (stage.Adding added room) next name time size answer how old new before after began ended → new.stopped ≡ false → (octets : List ℕ) → IsRecordReady added time octets old before → (lists : Lists) → IsSettledFor lists before → IsSettledFor (lists_delivered (stage.Adding added room) name octets answer lists) after
 adding_rests added room name time size next answer how old new before after began ended show is runs s ran octets ready lists at = elim s.replies [
   | inl k ↦
       let rests : RestsAt (stage.Adding added room) name (progress.Done (reply.Saved k.1 added.guid)) old before after = subst (λ (a : Progress). RestsAt (stage.Adding added room) name a old before after) k.3 (s.rests ran) in
-      subst (λ (a : Progress). IsSettledFor (lists_saved (stage.Adding added room) name octets a lists) after) (sym k.3)
+      subst (λ (a : Progress). IsSettledFor (lists_delivered (stage.Adding added room) name octets a lists) after) (sym k.3)
       (subst (λ (later : Lists). IsSettledFor later after) (delivered_settled name k.0 k.1 added octets old lists before show is runs k.2 at) (rests k.0 k.2 lists octets (ready.brings k.1) at))
   | inr (inl k) ↦
       let rests : RestsAt (stage.Adding added room) name (progress.Done (reply.Refused refusal.Stopped)) old before after = subst (λ (a : Progress). RestsAt (stage.Adding added room) name a old before after) k.3 (s.rests ran) in
-      subst (λ (a : Progress). IsSettledFor (lists_saved (stage.Adding added room) name octets a lists) after) (sym k.3) (rests lists at)
+      subst (λ (a : Progress). IsSettledFor (lists_delivered (stage.Adding added room) name octets a lists) after) (sym k.3) (rests lists at)
   | inr (inr k) ↦
       let rests : RestsAt (stage.Adding added room) name progress.More old before after = subst (λ (a : Progress). RestsAt (stage.Adding added room) name a old before after) k.2 (s.rests ran) in
-      subst (λ (a : Progress). IsSettledFor (lists_saved (stage.Adding added room) name octets a lists) after) (sym k.2) (rests lists at)
+      subst (λ (a : Progress). IsSettledFor (lists_delivered (stage.Adding added room) name octets a lists) after) (sym k.2) (rests lists at)
 ]
 
 pub save_rests : {D : Type 0} → (now next : SaveStage) (name : List ℕ) (time size : ℕ) (answer : Progress) (how : Did) (old new : StoreValue D) (before after : Option History) (began ended : Faults) → LogsShowLists → IsStore before old → old.stopped ≡ false
-    → Saves now next name time size answer how old new before after began ended → new.stopped ≡ false → (octets : List ℕ) → IsReadyToSave now name time size octets old before → (lists : Lists) → IsSettledFor lists before → IsSettledFor (lists_saved now name octets answer lists) after
+    → Saves now next name time size answer how old new before after began ended → new.stopped ≡ false → (octets : List ℕ) → IsReadyToSave now name time size octets old before → (lists : Lists) → IsSettledFor lists before → IsSettledFor (lists_delivered now name octets answer lists) after
 save_rests (stage.First prepared) next name time size answer how old new before after began ended show is runs s ran octets ready lists at = s.rests ran lists at
 save_rests (stage.Taking parts) next name time size answer how old new before after began ended show is runs s ran octets ready lists at = s.rests ran lists at
 save_rests (stage.Placing parts file) next name time size answer how old new before after began ended show is runs s ran octets ready lists at = s.rests ran lists at

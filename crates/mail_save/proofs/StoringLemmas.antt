@@ -1,5 +1,5 @@
 -- What storing a record, and lowering its count, make of a store.
-use Rattle.std.proofs.Common.{◌≡◌, ◌+◌, ℕ, List, [], Option, Some, inl, inr, refl, ◌∙◌, ap}
+use Rattle.std.proofs.Common.{◌≡◌, ◌≤◌, ◌+◌, ℕ, List, [], Option, Some, inl, inr, refl, ◌∙◌, ap, arith}
 use Rattle.disk_model.specs.Disk.{History, Between}
 use Rattle.disk_model.proofs.BetweenLemmas.{between-map}
 use Rattle.mdbox_base.specs.declared.entries.InstRow.{InstRow}
@@ -31,15 +31,16 @@ IsMapChange old new = new ≡ record old { disk = new.disk; map_log = new.map_lo
 abbrev pub giver_store : {D : Type 0} → ℕ → StoreValue D → StoreValue D
 giver_store file store = record store { files = record store.files { files = released_in file store.files.files } }
 
-pub stores_placed : {D : Type 0} → (at : SavedAt) (origin time size : ℕ) (uid : MapUid) (instances : List InstRow) (old mid new : StoreValue D) → instances ≡ [] → uid.0 ≡ old.drawn.map + 1
+pub stores_placed : {D : Type 0} → (at : SavedAt) (origin time size : ℕ) (uid : MapUid) (instances : List InstRow) (old mid new : StoreValue D) → instances ≡ [] → uid.0 ≡ old.drawn.map + 1 → uid.0 ≤ 4294967294
     → mid.map ≡ map_applied (map_entry.S origin 1 uid at.file at.offset at.size at.guid instances) old.map
     → record_at mid.map uid.0 ≡ Some (stored_row origin 1 uid at.file at.offset at.size at.guid instances)
     → mid.drawn ≡ record old.drawn { map = uid.0 }
     → ((other : ℕ) → due_at other mid ≡ due_by (entry_stored origin uid at) (λ k. due_at k old) other)
     → mid.map.boxes ≡ old.map.boxes → IsMapChange old mid → new ≡ giver_store at.file.0 mid → ((number : ℕ) → end_in number new.files.files ≡ end_in number mid.files.files)
     → StoresPlaced at origin time size (record { map_uid = uid; guid = at.guid; time = time; size = size }) old new
-stores_placed at origin time size uid instances old mid new none next taken there drawn due boxes same given ends = record {
+stores_placed at origin time size uid instances old mid new none next high taken there drawn due boxes same given ends = record {
   uid_is = next;
+  few = omega (arith, next, high);
   guid_is = refl;
   time_is = refl;
   size_is = refl;

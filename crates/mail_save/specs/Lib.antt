@@ -7,6 +7,8 @@ pub mod Parts
 pub mod Ready
 pub mod Record
 pub mod SaveEffects
+pub mod SaveSeen
+pub mod SaveStages
 pub mod Saved
 pub mod Stored
 pub mod Task

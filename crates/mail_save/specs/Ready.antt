@@ -61,6 +61,6 @@ abbrev pub save_lists : SaveStage → List ℕ → List ℕ → Lists → Lists
 save_lists (stage.Adding added room) name octets lists = delivered_lists name added octets lists
 save_lists now name octets lists = lists
 
-abbrev pub lists_saved : SaveStage → List ℕ → List ℕ → Progress → Lists → Lists
-lists_saved (stage.Adding added room) name octets (progress.Done (reply.Saved uid guid)) lists = delivered_lists name added octets lists
-lists_saved now name octets answer lists = lists
+abbrev pub lists_delivered : SaveStage → List ℕ → List ℕ → Progress → Lists → Lists
+lists_delivered (stage.Adding added room) name octets (progress.Done (reply.Saved uid guid)) lists = delivered_lists name added octets lists
+lists_delivered now name octets answer lists = lists

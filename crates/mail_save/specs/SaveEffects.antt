@@ -1,5 +1,5 @@
 -- What each event of a delivery makes of the store.
-use Rattle.std.specs.Prelude.{◌≡◌, ◌≢◌, ◌⊎◌, ◌+◌, ℕ, true, false, List, [], length, Option, Some, None}
+use Rattle.std.specs.Prelude.{◌≡◌, ◌≢◌, ◌⊎◌, ◌<◌, ◌+◌, ℕ, true, false, List, [], length, Option, Some, None}
 use Rattle.attach_detach.specs.Prepared.{IsPlain}
 use Rattle.disk_model.specs.Disk.{History}
 use Rattle.mdbox_base.specs.declared.ids.BoxNo.{BoxNo}
@@ -115,6 +115,7 @@ saved_row origin uid at = stored_row origin 1 uid at.file at.offset at.size at.g
 -- It has the next map uid, and one of it is due. The storage file is given back.
 pub record StoresPlaced {D : Type 0} (at : SavedAt) (origin time size : ℕ) (added : Added) (old new : StoreValue D) : Type 0 where
   pub uid_is : added.map_uid.0 ≡ old.drawn.map + 1
+  pub few : old.drawn.map < 4294967294
   pub guid_is : added.guid ≡ at.guid
   pub time_is : added.time ≡ time
   pub size_is : added.size ≡ size

@@ -1,16 +1,21 @@
 // The task of a delivery.
 ghost use Rattle.std.specs.Prelude.{◌≡◌, ◌≢◌, ◌≤◌, ℕ, List, length, true, false};
 ghost use Rattle.attach_detach.specs.Prepared.{IsPlain};
-ghost use Rattle.mdbox_base.specs.Words.{IsName};
+ghost use Rattle.journal.specs.Events.{Around};
+ghost use Rattle.mdbox_base.specs.Words.{IsName, IsOctets};
 ghost use Rattle.mdbox_base.specs.declared.progress.Did.TheVariants as did;
 ghost use Rattle.mdbox_base.specs.declared.progress.Progress.TheVariants as progress;
 ghost use Rattle.mdbox_base.specs.declared.replies.Refusal.TheVariants as refusal;
 ghost use Rattle.mdbox_base.specs.declared.replies.Reply.TheVariants as reply;
+ghost use Rattle.mdbox_base.specs.declared.requests.Request.TheVariants as request;
 ghost use Rattle.model_lists.specs.Lists.{Lists};
 ghost use Rattle.model_store.specs.Settled.{IsSettledFor, Leaves};
 ghost use Rattle.store_core.specs.Dues.{due_at};
+ghost use Rattle.task_steps.specs.Step.{Steps, ended_by};
+ghost use Rattle.mail_save.specs.Events.{has_detachable};
 ghost use Rattle.mail_save.specs.Left.{HoldsFile};
-ghost use Rattle.mail_save.specs.Ready.{IsReadyToSave, save_lists, lists_saved};
+ghost use Rattle.mail_save.specs.Ready.{IsReadyToSave, save_lists, lists_delivered};
+ghost use Rattle.mail_save.specs.SaveSeen.{IsAtSave, around_saving, seen_saving};
 ghost use Rattle.mail_save.specs.Task.{HasLeft, IsOfMessage, Saves, stopped_reply, refused_did, failing_did};
 ghost use Rattle.mail_save.specs.declared.task.SaveStage.TheVariants as stage;
 
@@ -117,17 +122,22 @@ impl SaveTask {
         requires left { HasLeft self.old.stage self.old.name self.old.time store.old }
         ensures saves { store.old.stopped ≡ false → Saves self.old.stage self.new.stage self.old.name self.old.time self.old.size result self.new.did store.old store.new (D.history store.old.disk) (D.history store.new.disk) (D.faults store.old.disk) (D.faults store.new.disk) }
 
+        // Of the message with these octets, of which no part can be detached, where the task is ready for it: which event of a
+        // run it was, of every run that has come to the store.
+        ensures does { (octets : List ℕ) (after : Around) → has_detachable octets ≡ false → (store.old.stopped ≡ false → IsReadyToSave self.old.stage self.old.name self.old.time self.old.size octets store.old (D.history store.old.disk)) → Steps (IsAtSave self.old.stage) (IsAtSave self.new.stage) (around_saving octets self.old.stage store.old) after (request.Deliver self.old.name self.old.time octets) (seen_saving store.old (D.history store.old.disk) (D.faults store.old.disk)) (seen_saving store.new (D.history store.new.disk) (D.faults store.new.disk)) self.new.did (ended_by result) }
+
         // Of the message with these octets, where the task is ready for it: of a settled disk each crash image at every moment is
         // safe for its lists, or for those with the message, whatever fails. Unless the store is stopped then, the disk is
         // settled for those that the answer tells.
         ensures moments { (octets : List ℕ) → IsReadyToSave self.old.stage self.old.name self.old.time self.old.size octets store.old (D.history store.old.disk) → (lists : Lists) → IsSettledFor lists (D.history store.old.disk) → Leaves lists (save_lists self.old.stage self.old.name octets lists) (D.history store.old.disk) (D.history store.new.disk) }
-        ensures settled { store.new.stopped ≡ false → (octets : List ℕ) → IsReadyToSave self.old.stage self.old.name self.old.time self.old.size octets store.old (D.history store.old.disk) → (lists : Lists) → IsSettledFor lists (D.history store.old.disk) → IsSettledFor (lists_saved self.old.stage self.old.name octets result lists) (D.history store.new.disk) }
+        ensures settled { store.new.stopped ≡ false → (octets : List ℕ) → IsReadyToSave self.old.stage self.old.name self.old.time self.old.size octets store.old (D.history store.old.disk) → (lists : Lists) → IsSettledFor lists (D.history store.old.disk) → IsSettledFor (lists_delivered self.old.stage self.old.name octets result lists) (D.history store.new.disk) }
 
         ensures stopped { store.old.stopped ≡ true → (result ≡ stopped_reply) × (store.new ≡ store.old) × (self.new.stage ≡ self.old.stage) × (self.new.did ≡ did.Quiet) }
         ensures request { (self.new.name ≡ self.old.name) × (self.new.time ≡ self.old.time) × (self.new.size ≡ self.old.size) }
     {
         listings_are_shown();
         store.facts();
+        known_id(store);
         if store.stopped() {
             self.did = Did::Quiet;
             return Progress::Done(Reply::Refused(Refusal::Stopped));
@@ -219,6 +229,14 @@ fn first_event<D: Disk>(store: &Store<D>, name: &Name, time: u64, prepared: &Pre
         Ok(parts) => goes_on(SaveStage::Taking(parts)),
         Err(why) => ends(why, did_fail(why)),
     }
+}
+
+/// What is true of every store's id.
+fn known_id<D: Disk>(store: &Store<D>)
+    ensures long { length store.now.map.store ≡ 8 }
+    ensures each { IsOctets store.now.map.store }
+{
+    let _ = store.id();
 }
 
 /// What is true of every mailbox name.

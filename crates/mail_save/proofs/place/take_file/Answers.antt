@@ -1,5 +1,4 @@
-use Rattle.std.proofs.Common.{arith, ap, inl, refl, sym, ◌≡◌, ◌∙◌}
-use Rattle.storage_files.specs.Files.{is_taken_in}
+use Rattle.std.proofs.Common.{ap, inl, refl, ◌∙◌}
 use Rattle.mail_save.proofs.PlaceLemmas.{unchanged_leaves, unchanged_settled}
 use Rattle.mail_save.proofs.TakingLemmas.{takes_known, takes_new, takes_failing, takes_full, holds_known, holds_new}
 use Rattle.mail_save.proofs.place.take_file.Goals as goal

@@ -1,4 +1,4 @@
-use Rattle.std.proofs.Common.{Err, inl, inr, List, [], All, Some, ◌≡◌, ap, sym, subst, refl, ◌∙◌}
+use Rattle.std.proofs.Common.{Err, inl, inr, [], Some, ◌≡◌, ap, sym, subst, refl}
 use Rattle.std.proofs.lemmas.List.Elements.{All-head}
 use Rattle.model_appends.specs.MapAppending.{stored_row}
 use Rattle.model_meaning.specs.MapMeaning.{MapRecord, record_at}
@@ -65,7 +65,7 @@ pub returns-in-Ok-clause-stores : goal.returns-in-Ok-clause-stores
 returns-in-Ok-clause-stores g c = λ time size.
     let row = stored_row c.args.origin 1 c.in-Some.uid c.args.at.file c.args.at.offset c.args.at.size c.args.at.guid c.empty.result in
     let made = All-head (λ (r : MapRecord). record_at c.append_map.new.self.map r.uid ≡ Some r) row [] c.in-Ok.ensures.made in
-    stores_placed c.args.at c.args.origin time size c.in-Some.uid c.empty.result c.args.store.now c.append_map.new.self c.release-in-Ok.new.self c.empty.ensures c.in-Some.ensures.some.0 c.in-Ok.ensures.taken made c.in-Ok.ensures.drawn c.in-Ok.ensures.due
+    stores_placed c.args.at c.args.origin time size c.in-Some.uid c.empty.result c.args.store.now c.append_map.new.self c.release-in-Ok.new.self c.empty.ensures c.in-Some.ensures.some.0 c.in-Some.ensures.some.1.high c.in-Ok.ensures.taken made c.in-Ok.ensures.drawn c.in-Ok.ensures.due
     c.append_map.ensures.mailboxes c.append_map.ensures.same c.release-in-Ok.ensures.same c.release-in-Ok.ensures.ends
 
 pub returns-in-Ok-clause-spared : goal.returns-in-Ok-clause-spared

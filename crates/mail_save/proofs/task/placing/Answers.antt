@@ -1,4 +1,4 @@
-use Rattle.std.proofs.Common.{rules, ap, sym, subst, refl, arith, ◌∙◌, ◌≡◌, ◌<◌, ◌^◌, ℕ, Bool, List, length}
+use Rattle.std.proofs.Common.{rules, ap, sym, subst, refl, arith, ◌∙◌, ◌<◌, ◌^◌, ℕ, Bool, List, length}
 use Rattle.disk_model.specs.Disk.{IfTold}
 use Rattle.disk_model.specs.declared.name.FileName.TheVariants.{Mail}
 use Rattle.mdbox_base.specs.declared.ids.FileNo.{FileNo}
@@ -52,8 +52,8 @@ returns-in-Ok g c = λ size_now.
       ready = λ e octets h. (
         h.0,
         region_ready c.in-Ok.at c.args.parts.origin c.args.time c.args.name.now octets (g.D.Disk.history c.place_region.new.store.disk) h.1.origin (record { named = c.known_name.ensures; timed = timed; small = h.0.1 }) o.octets.0 o.octets.1 (o.long c.args.time octets (laid_as octets h.1))
-        (subst (λ (f : FileNo). IfTold (g.D.Disk.history c.place_region.new.store.disk) (λ now. EndsWith c.in-Ok.at.offset (saved_region c.args.name.now c.args.time octets c.in-Ok.at.guid.0) (now (Mail f.0)))) (sym o.file) (o.written c.args.time octets (laid_as octets h.1)))
-        (subst (λ (f : FileNo). (lists : Lists) → IsSettledFor lists (g.D.Disk.history c.place_region.new.store.disk) → IfTold (g.D.Disk.history c.place_region.new.store.disk) (LeavesAsRead (Mail f.0))) (sym o.file) o.held),
+            (subst (λ (f : FileNo). IfTold (g.D.Disk.history c.place_region.new.store.disk) (λ now. EndsWith c.in-Ok.at.offset (saved_region c.args.name.now c.args.time octets c.in-Ok.at.guid.0) (now (Mail f.0)))) (sym o.file) (o.written c.args.time octets (laid_as octets h.1)))
+            (subst (λ (f : FileNo). (lists : Lists) → IsSettledFor lists (g.D.Disk.history c.place_region.new.store.disk) → IfTold (g.D.Disk.history c.place_region.new.store.disk) (LeavesAsRead (Mail f.0))) (sym o.file) o.held),
       );
       left = λ e. (o.placed, origin_known c.args.name.now c.args.time c.args.parts c.requires.message, omega (arith, some, size));
       fewer = λ e. omega arith;
