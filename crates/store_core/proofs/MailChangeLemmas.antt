@@ -171,7 +171,7 @@ mail_added n a b octets own same added = record {
   ];
 }
 
-named_reads : (f : FileState) → reading (named f) ≡ reading f
+pub named_reads : (f : FileState) → reading (named f) ≡ reading f
 named_reads f = elim (cases_Bool f.is_there) [
   | inl there ↦ ap reading (cond-true f.is_there (record f { is_name_loose = false }) no_file there)
   | inr gone ↦ ap reading (cond-false f.is_there (record f { is_name_loose = false }) no_file gone) ∙ sym (cond-false f.is_there (Some f.octets) None gone)

@@ -1,7 +1,8 @@
 pub mod Append
 pub mod Dues
-pub mod MapAppend
 pub mod Files
 pub mod Knows
+pub mod MapAppend
 pub mod Running
+pub mod StoreInstances
 pub mod Value
