@@ -1,10 +1,10 @@
 -- What a store knows of its instances, over changes of other files and entries of the map log.
 use Rattle.std.specs.Prelude.{◌⊎◌, Contains, not, filter}
-use Rattle.std.proofs.Common.{inl, inr, ◌≡◌, ◌≢◌, ◌+◌, ◌-◌, ◌==◌, ℕ, Bool, true, false, List, [], ◌∷◌, ◌++◌, map, flat_map, Option, Some, All, if◌then◌else◌, refl, sym, ◌∙◌, ap, subst, append-nil}
+use Rattle.std.proofs.Common.{inl, inr, ◌≡◌, ◌≢◌, ℕ, Bool, true, false, List, [], ◌∷◌, ◌++◌, map, flat_map, Option, Some, All, if◌then◌else◌, refl, sym, ◌∙◌, ap, subst, append-nil}
 use Rattle.std.proofs.lemmas.Bool.{cond-true, true≢false}
 use Rattle.std.proofs.lemmas.Grind.{flat_map-append}
 use Rattle.std.specs.Option.{option_map}
-use Rattle.std.proofs.lemmas.List.Elements.{All-nil, All-cons, All-head, All-tail, All-weaker}
+use Rattle.std.proofs.lemmas.List.Elements.{All-nil, All-cons, All-head, All-tail, All-contains, All-contains_itself, All-weaker}
 use Rattle.disk_model.specs.Disk.{FileState, DiskState, History, MayLeave, IfTold, Between, SameState, SameButFor, reading, named}
 use Rattle.disk_model.specs.declared.name.FileName.{FileName}
 use Rattle.disk_model.specs.declared.name.FileName.TheVariants as file
@@ -18,8 +18,9 @@ use Rattle.mdbox_base.specs.declared.entries.MapEntry.{MapEntry}
 use Rattle.mdbox_base.specs.declared.entries.MapEntry.TheVariants as entry
 use Rattle.mdbox_base.specs.declared.ids.InstId.{InstId}
 use Rattle.model_appends.specs.Appending.{LeavesAsRead}
-use Rattle.model_meaning.specs.MapMeaning.{MapRecord, MapMeaning, map_applied, record_made, record_changed, record_dropped, record_rules, has_map_uid, named_instances}
+use Rattle.model_meaning.specs.MapMeaning.{MapRecord, MapMeaning, map_applied, record_made, record_changed, record_dropped, record_rules, named_instances}
 use Rattle.model_meaning.proofs.KeptRowLemmas.{kept_rows}
+use Rattle.model_meaning.proofs.MapPlaceLemmas.{changed_same}
 use Rattle.model_store.specs.Safe.{IsThereWhole}
 use Rattle.model_store.specs.Settled.{files_of}
 use Rattle.sis_store.specs.Instances.{InstancesValue, instance_in, has_id, with_holders}
@@ -90,6 +91,7 @@ there_on known m n a b names c t = record {
     | inl is ↦ inl (names k.row is)
     | inr firm ↦ inr (λ left may. firm left (c.leaves k.row.hash.0 k.row.id.0 left may) ∙ sym (c.reads k.row.hash.0 k.row.id.0))
   ]) known t.firm;
+  only = λ hash id octets e. t.only hash id octets (sym (c.reads hash id) ∙ e);
 }
 
 -- ---- the store
@@ -140,15 +142,15 @@ instances_boxed old new v w k b number e p known same instances drawn m =
 
 row_held : (id other : InstId) (holders : ℕ) (known : List KnownInstance) → option_map (λ k. k.row) (instance_in other (with_holders id holders known)) ≡ option_map (λ k. k.row) (instance_in other known)
 row_held id other holders [] = refl
-row_held id other holders (k ∷ known) = by_hit (has_id id k) (has_id other k) refl
+row_held id other holders (k ∷ known) = by_hit (has_id id k) (has_id other k) refl (row_held id other holders known)
   where
-    by_hit : (hit found : Bool) → has_id other k ≡ found
+    by_hit : (hit found : Bool) → has_id other k ≡ found → option_map (λ k. k.row) (instance_in other (with_holders id holders known)) ≡ option_map (λ k. k.row) (instance_in other known)
         → option_map (λ k. k.row) (if has_id other (if hit then record k { holders = holders } else k) then Some (if hit then record k { holders = holders } else k) else instance_in other (with_holders id holders known))
         ≡ option_map (λ k. k.row) (if found then Some k else instance_in other known)
-    by_hit true true e = ap (λ (t : Bool). option_map (λ (k : KnownInstance). k.row) (if t then Some (record k { holders = holders }) else instance_in other (with_holders id holders known))) e
-    by_hit true false e = ap (λ (t : Bool). option_map (λ (k : KnownInstance). k.row) (if t then Some (record k { holders = holders }) else instance_in other (with_holders id holders known))) e ∙ row_held id other holders known
-    by_hit false true e = ap (λ (t : Bool). option_map (λ (k : KnownInstance). k.row) (if t then Some k else instance_in other (with_holders id holders known))) e
-    by_hit false false e = ap (λ (t : Bool). option_map (λ (k : KnownInstance). k.row) (if t then Some k else instance_in other (with_holders id holders known))) e ∙ row_held id other holders known
+    by_hit true true e rest = ap (λ (t : Bool). option_map (λ (k : KnownInstance). k.row) (if t then Some (record k { holders = holders }) else instance_in other (with_holders id holders known))) e
+    by_hit true false e rest = ap (λ (t : Bool). option_map (λ (k : KnownInstance). k.row) (if t then Some (record k { holders = holders }) else instance_in other (with_holders id holders known))) e ∙ rest
+    by_hit false true e rest = ap (λ (t : Bool). option_map (λ (k : KnownInstance). k.row) (if t then Some k else instance_in other (with_holders id holders known))) e
+    by_hit false false e rest = ap (λ (t : Bool). option_map (λ (k : KnownInstance). k.row) (if t then Some k else instance_in other (with_holders id holders known))) e ∙ rest
 
 -- what holds of a row holds of it with other holders
 all_held : (P : InstRow → Type 0) (id : InstId) (holders : ℕ) (known : List KnownInstance) → All (λ k. P k.row) known → All (λ k. P k.row) (with_holders id holders known)
@@ -161,11 +163,25 @@ all_held P id holders (k ∷ known) a =
     by_hit true = All-head (λ (j : KnownInstance). P j.row) k known a
     by_hit false = All-head (λ (j : KnownInstance). P j.row) k known a
 
+contains_map : {X Y : Type 0} → (f : X → Y) (xs : List X) (x : X) → Contains xs x → Contains (map f xs) (f x)
+contains_map f xs x c = All-contains (λ y. Contains (map f xs) (f y)) xs x (back xs (All-contains_itself (map f xs))) c
+  where
+    back : (ys : List _) → All (Contains (map f xs)) (map f ys) → All (λ y. Contains (map f xs) (f y)) ys
+    back [] a = All-nil (λ y. Contains (map f xs) (f y))
+    back (y ∷ ys) a = All-cons (λ z. Contains (map f xs) (f z)) y ys (All-head (Contains (map f xs)) (f y) (map f ys) a) (back ys (All-tail (Contains (map f xs)) (f y) (map f ys) a))
+
 there_held : (id : InstId) (holders : ℕ) (known : List KnownInstance) (m : MapMeaning) (disk : DiskState) → AreInstancesThere known m disk → AreInstancesThere (with_holders id holders known) m disk
 there_held id holders known m disk t = record {
   whole = all_held (IsThereWhole (files_of disk)) id holders known t.whole;
   firm = all_held (λ row. Contains (named_instances m) row ⊎ LeavesAsRead (file.Inst row.hash.0 row.id.0) disk) id holders known t.firm;
+  only = λ hash other octets e.
+      let k = t.only hash other octets e in
+      (if has_id id k.0 then record k.0 { holders = holders } else k.0, contains_map (λ (j : KnownInstance). if has_id id j then record j { holders = holders } else j) known k.0 k.1, ap (λ (row : InstRow). file.Inst row.hash.0 row.id.0) (same_row (has_id id k.0) k.0) ∙ k.2);
 }
+  where
+    same_row : (hit : Bool) (k : KnownInstance) → (if hit then record k { holders = holders } else k).row ≡ k.row
+    same_row true k = refl
+    same_row false k = refl
 
 pub instances_holding : {D : Type 0} → (h : Option History) (v : StoreValue D) (instances : InstancesValue) (id : InstId) (holders : ℕ) → instances ≡ record v.instances { known = with_holders id holders v.instances.known } → HasKnownInstances h v → HasKnownInstances h (record v { instances = instances })
 instances_holding h v instances id holders is k =
@@ -211,21 +227,6 @@ store_holding h v instances s = record {
 
 -- ---- an entry of the map log
 
-counted_instances : (hit : Bool) (n : ℕ) (row : MapRecord) → (if hit then record row { count = n } else row).instances ≡ row.instances
-counted_instances true n row = refl
-counted_instances false n row = refl
-
-same_instances : (e : MapEntry) (row : MapRecord) → LeavesPlaces e → (record_changed e row).instances ≡ row.instances
-same_instances (entry.H h) row l = refl
-same_instances (entry.B b g n) row l = refl
-same_instances (entry.G b g) row l = refl
-same_instances (entry.S o c u f a z g is) row l = refl
-same_instances (entry.U u) row l = counted_instances (u.0 == row.uid) (row.count + 1) row
-same_instances (entry.D us) row l = counted_instances (has_map_uid row.uid us) (row.count - 1) row
-same_instances (entry.T cs) row l = refl
-same_instances (entry.P f t ms us) row l = absurd l
-same_instances (entry.E f) row l = absurd l
-
 abbrev names_of : List MapRecord → List InstRow
 names_of rows = flat_map (λ row. row.instances) rows
 
@@ -234,7 +235,7 @@ names_kept e [] l = refl
 names_kept e (row ∷ rows) l =
     let stays : not (record_dropped e row) ≡ true = ap not (none_dropped e row l) in
     ap (λ (rs : List MapRecord). names_of (map (record_changed e) rs)) (cond-true (not (record_dropped e row)) (row ∷ filter (λ r. not (record_dropped e r)) rows) (filter (λ r. not (record_dropped e r)) rows) stays)
-    ∙ ap (λ (is : List InstRow). is ++ names_of (kept_rows record_rules e rows)) (same_instances e row l)
+    ∙ ap (λ (is : List InstRow). is ++ names_of (kept_rows record_rules e rows)) (changed_same e row).instances
     ∙ ap (λ (is : List InstRow). row.instances ++ is) (names_kept e rows l)
 
 -- records name what they did, and the one that is made names its own

@@ -13,6 +13,7 @@ pub mod MapCrashLemmas
 pub mod MapDueLemmas
 pub mod MailChangeLemmas
 pub mod PickingLemmas
+pub mod PlacedInstanceLemmas
 pub mod PlacingLemmas
 pub mod RoomLemmas
 pub mod ShownLemmas

@@ -83,7 +83,7 @@ region_untaken end o (Some x) row h = subst (λ (z : List ℕ). IsSameRegion o (
 
 -- ---- images of a settled disk
 
-left_image : (name : FileName) (disk : DiskState) (left : Option (List ℕ)) (image : Files) → MayLeave (disk name) left → LeftBut name disk image → IsImage disk (mixed name (λ _. left) image)
+pub left_image : (name : FileName) (disk : DiskState) (left : Option (List ℕ)) (image : Files) → MayLeave (disk name) left → LeftBut name disk image → IsImage disk (mixed name (λ _. left) image)
 left_image name disk left image here others = λ other. by_test (same_name other name) other refl
   where
     by_test : (t : Bool) (other : FileName) → same_name other name ≡ t → MayLeave (disk other) (mixed name (λ _. left) image other)
@@ -200,7 +200,7 @@ mail_same n a = record {
 
 -- ---- what a store reads
 
-same_entries : (a b : Option (List ℕ)) → b ≡ a → HasSameEntries a b
+pub same_entries : (a b : Option (List ℕ)) → b ≡ a → HasSameEntries a b
 same_entries a b e = λ head entries h. subst (λ (o : Option (List ℕ)). IsLogFile o head entries) (sym e) h
 
 pub region_on : (n : ℕ) (a b : DiskState) (row : MapRecord) → MailChange n a b → LiesInFile (files_of a) row → HasSameRegion (files_of a) (files_of b) row
@@ -237,7 +237,7 @@ stored_on n a b row octets c h =
 abbrev SameLog : Files → Files → MapBox → Type 0
 SameLog a b box = HasSameEntries (a (file.Box box.number box.generation)) (b (file.Box box.number box.generation))
 
-boxes_pass : (m : MapMeaning) (a b : Files) (boxes : List MapBox) (logs : List (List BoxEntry)) → All (SameLog a b) boxes → PassBoxes a m boxes logs → PassBoxes b m boxes logs
+pub boxes_pass : (m : MapMeaning) (a b : Files) (boxes : List MapBox) (logs : List (List BoxEntry)) → All (SameLog a b) boxes → PassBoxes a m boxes logs → PassBoxes b m boxes logs
 boxes_pass m a b [] [] s h = tt
 boxes_pass m a b [] (l ∷ ls) s h = absurd h
 boxes_pass m a b (x ∷ xs) [] s h = absurd h

@@ -1,14 +1,20 @@
-// The instances of a store: which are known and who holds them, and what is read of them.
-ghost use Rattle.std.specs.Prelude.{◌≡◌, ◌↔◌, ◌<◌, ◌≤◌, ◌+◌, ◌-◌, nat_lt, ℕ, length, take, drop, Some, IfOk, OnOk, IsErr, IsTrue};
-ghost use Rattle.disk_model.specs.Disk.{IfTold, IsIdle, reading};
-ghost use Rattle.disk_model.specs.FaultCounts.{NoFault, ReadFaultCounted};
-ghost use Rattle.sis_store.specs.Instances.{IsInstanceKnown, candidate_in, holders_in, instance_past, with_holders};
-ghost use Rattle.sis_store.specs.OnDisk.{file_of, octets_read};
+// The instances of a store: which are known and who holds them, what is read of them, and how one is placed.
+ghost use Rattle.std.specs.Prelude.{◌≡◌, ◌≢◌, ◌↔◌, ◌<◌, ◌≤◌, ◌+◌, ◌-◌, nat_lt, true, ℕ, length, take, drop, Some, IfOk, IfErr, OnOk, IsErr, IsErrOf, IsTrue};
+ghost use Rattle.disk_model.specs.Disk.{Grows, IfTold, IsIdle, Keeps, reading};
+ghost use Rattle.disk_model.specs.FaultCounts.{NoFault, ChangeFaultCounted, ReadFaultCounted};
+ghost use Rattle.model_lists.specs.Lists.{Lists};
+ghost use Rattle.model_store.specs.Settled.{IsSettledFor, Leaves};
+ghost use Rattle.sis_store.specs.Instances.{IsInstanceKnown, after_placing, candidate_in, holders_in, instance_past, next_id, with_holders};
+ghost use Rattle.sis_store.specs.OnDisk.{IsUnlikeKnown, OnlyNamesSynced, file_of, next_instance_file, octets_read};
+ghost use Rattle.store_core.specs.Dues.{KeepsStored};
+ghost use Rattle.store_core.specs.StoreInstances.{with_placed};
+ghost use Rattle.store_core.specs.declared.error.PlaceStop.TheVariants as place_stop;
 
 use super::Store;
+use crate::error::PlaceStop;
 use disk_model::Disk;
 use mdbox_base::{Hash, InstId};
-use sis_store::DiskFault;
+use sis_store::{DiskFault, PlaceFault};
 
 impl<D: Disk> Store<D> {
     /// The known instance of this hash and size with the least id greater than `after`, or with the least of all. None if and
@@ -81,5 +87,48 @@ impl<D: Disk> Store<D> {
     {
         self.instances
             .read_instance(&mut self.disk, id, offset, into)
+    }
+
+    /// Places new octets as an instance, with the next running number, and answers its id. The file is synced, and all names
+    /// are. It is known then, and held once. A change of the disk that fails stops the store; the number stays drawn.
+    pub fn place_instance(&mut self, hash: Hash, octets: &[u8]) -> Result<InstId, PlaceStop>
+        requires running { self.old.stopped ≡ false }
+        requires size { length octets.now ≤ 4294967295 }
+        requires new { IsUnlikeKnown hash (length octets.now) octets.now self.old.instances.known (D.history self.old.disk) }
+
+        // Of a settled disk each image at every moment is safe for its lists, whichever call fails; and after Ok the disk is
+        // settled for them again.
+        ensures any_moment { (lists : Lists) → IsSettledFor lists (D.history self.old.disk) → Leaves lists lists (D.history self.old.disk) (D.history self.new.disk) }
+        ensures settled { OnOk result ((lists : Lists) → IsSettledFor lists (D.history self.old.disk) → IsSettledFor lists (D.history self.new.disk)) }
+
+        // After Ok the octets are a file, and a crash leaves it so. No other file has changed, and their names are synced.
+        ensures id { IfOk result (λ id. id ≡ next_id self.old.instances) }
+        ensures made { OnOk result (IfTold (D.history self.new.disk) (λ now. Keeps (now (next_instance_file hash self.old.instances)) octets.now)) }
+        ensures others { OnOk result (OnlyNamesSynced (next_instance_file hash self.old.instances) (D.history self.old.disk) (D.history self.new.disk)) }
+        ensures stored { OnOk result (KeepsStored (D.history self.old.disk) (D.history self.new.disk)) }
+
+        ensures ok { OnOk result (self.new ≡ with_placed self.new.disk (after_placing hash (length octets.now) self.old.instances) self.old) }
+        ensures stopped { IsErrOf result place_stop.Stopped → self.new ≡ record (with_placed self.new.disk (record self.old.instances { highest = self.old.instances.highest + 1 }) self.old) { stopped = true } }
+        ensures refused { IfErr result (λ why. why ≢ place_stop.Stopped → self.new ≡ self.old) }
+        ensures full { (self.old.drawn.instance ≡ 4294967294) ↔ IsErrOf result (place_stop.Full 4294967294) }
+        ensures grows { Grows (D.history self.old.disk) (D.history self.new.disk) }
+        ensures fault { ChangeFaultCounted (IsErrOf result place_stop.Stopped) (D.faults self.old.disk) (D.faults self.new.disk) }
+        ensures unfailed { OnOk result (NoFault (D.faults self.old.disk) (D.faults self.new.disk)) }
+    {
+        self.instances.known_facts();
+        match self.instances.place_instance(&mut self.disk, hash, octets) {
+            Ok(id) => {
+                self.instances.known_facts();
+                self.drawn.instance += 1;
+                Ok(id)
+            }
+            Err(PlaceFault::Full(last)) => Err(PlaceStop::Full(last)),
+            Err(PlaceFault::NoMemory) => Err(PlaceStop::NoMemory),
+            Err(PlaceFault::DiskFault) => {
+                self.drawn.instance += 1;
+                self.stopped = true;
+                Err(PlaceStop::Stopped)
+            }
+        }
     }
 }
