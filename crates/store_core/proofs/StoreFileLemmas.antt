@@ -40,7 +40,7 @@ use Rattle.store_core.specs.Running.{AreBoxLogs, ReadBoxLogs, IsRunning, IsUpTo,
 use Rattle.store_core.specs.declared.store.OpenBox.{OpenBox}
 use Rattle.store_core.proofs.BoxAppendLemmas.{store_sound}
 use Rattle.store_core.proofs.HighestFileLemmas.{NamesUpTo, names_up_to}
-use Rattle.store_core.proofs.KeptFileLemmas.{with_change, CameAll, HasFile, came_itself, came_longer, came_made, came_taken, came_released, grew, kept_on, kept_begun, none_begun, begun_or_before}
+use Rattle.store_core.proofs.KeptFileLemmas.{with_change, CameAll, HasFile, came_longer, came_made, came_taken, came_released, grew, kept_on, kept_begun, none_begun, begun_or_before}
 use Rattle.store_core.proofs.MailChangeLemmas.{Own, MailChange, mail_added, mail_made, mail_same, region_firm, added_as_read, opens_on, root_on, settled_on, stored_on, front_safe, absent_safe}
 
 -- ---- files that no crash takes away
@@ -402,12 +402,6 @@ made_store n header old new v disk files s runs own none is same keeps still =
     (λ number. subst (λ (f : FilesValue). IsAsKnown f.files number new) is (still number (r.files_known number)))
     (stay_new v.files.files later.files v.map.records n header old new came same keeps r.files_stay)
     (kept_on v.files later v.drawn v.map came refl s.files))
-
--- room for more files
-pub spare_store : {D : Type 0} → (h : Option History) (v : StoreValue D) (files : FilesValue) (spare : ℕ) → files ≡ record v.files { spare = spare } → IsStore h v → IsStore h (record v { files = files })
-spare_store h v files spare is s =
-    subst (λ (f : FilesValue). IsStore h (record v { files = f })) (sym is)
-    (store_came h v (record v.files { spare = spare }) (λ number now found. came_itself v.files.files number now found) refl (λ number. refl) s)
 
 -- a file that is given back
 pub released_store : {D : Type 0} → (h : Option History) (v : StoreValue D) (files : FilesValue) (n : ℕ) → files ≡ record v.files { files = released_in n v.files.files } → ((number : ℕ) → end_in number files.files ≡ end_in number v.files.files)

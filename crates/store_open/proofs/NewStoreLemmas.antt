@@ -1,5 +1,5 @@
 -- A new store, as it is opened.
-use Rattle.std.proofs.Common.{◌≡◌, ℕ, false, List, [], ◌∷◌, length, Option, Some, None, refl, sym, ap, subst, arith, lit≤, lit<}
+use Rattle.std.proofs.Common.{◌≡◌, ℕ, false, List, [], ◌∷◌, length, Option, Some, None, refl, sym, ◌∙◌, ap, subst, arith, lit≤, lit<}
 use Rattle.std.proofs.lemmas.List.Elements.{All-nil}
 use Rattle.disk_model.specs.Disk.{FileState, DiskState, History, IfTold, reading}
 use Rattle.disk_model.specs.declared.name.FileName.TheVariants as file
@@ -103,7 +103,7 @@ new_store alloc disk store box o instances new is l number index one =
       boxes_are = ap (λ (i : _). i ∷ []) index;
       counts = tt;
       drawn = record { file = omega arith; map = omega arith; instance = omega arith; mailbox = omega arith };
-      files = record { highest = refl; taken = λ number f e taken. absurd (no_file_in number f e); sealed = λ number f e is. absurd (no_file_in number f e); below = All-nil (LiesBelowEnd store []) };
+      files = record { highest = refl; numbered = λ number f e. absurd (no_file_in number f e); taken = λ number f e taken. absurd (no_file_in number f e); sealed = λ number f e is. absurd (no_file_in number f e); below = All-nil (LiesBelowEnd store []) };
       root_name = l.root_name;
       root_head = l.root_head_is;
       map_name = l.map_name;
@@ -124,14 +124,15 @@ new_store alloc disk store box o instances new is l number index one =
     }))
 
 -- it knows no instance
-pub new_instances : {D : Type 0} (alloc : Global) (disk : D) (id : StoreId) (o : OpenLogs) (instances : InstancesValue) (new : Option History) → o.map.meaning ≡ map_meaning id.0 (first_box ∷ []) → instances ≡ no_instances id → HasKnownInstances new (newly_open alloc disk o no_files instances 1)
-new_instances alloc disk id o instances new is none =
+pub new_instances : {D : Type 0} (alloc : Global) (disk : D) (id : StoreId) (o : OpenLogs) (instances : InstancesValue) (new : Option History) → o.map.meaning ≡ map_meaning id.0 (first_box ∷ []) → instances ≡ no_instances id → IfTold new (IsMadeStore id.0) → HasKnownInstances new (newly_open alloc disk o no_files instances 1)
+new_instances alloc disk id o instances new is none made =
     let F : InstancesValue → Type 0 = λ i. HasKnownInstances new (opened_with alloc disk o i o.map.meaning o.boxes.items) in
     let G : MapMeaning → Type 0 = λ k. HasKnownInstances new (opened_with alloc disk o (no_instances id) k o.boxes.items) in
     subst F (sym none) (subst G (sym is) (record {
       kept = record { store = refl; highest = refl; named = All-nil (IsKnownRow []) };
-      running = λ on. if_told-all (AreInstancesThere [] (map_meaning id.0 (first_box ∷ []))) new (λ disk. record {
+      running = λ on. if_told-map (IsMadeStore id.0) (AreInstancesThere [] (map_meaning id.0 (first_box ∷ []))) new (λ disk m. record {
         whole = All-nil (λ (k : KnownInstance). IsThereWhole (files_of disk) k.row);
         firm = All-nil (IsNamedOrFirm (map_meaning id.0 (first_box ∷ [])) disk);
-      });
+        only = λ hash i octets e. absurd (let w : None ≡ Some octets = sym (ap reading (m.nothing_else (file.Inst hash i) (λ e. cc e) (λ e. cc e) (λ e. cc e))) ∙ e in cc w);
+      }) made;
     }))

@@ -60,7 +60,7 @@ pub returns-clause-known : goal.returns-clause-known
 returns-clause-known g c =
     let none : c.in_ok-files.files ≡ no_files = search rules in
     let empty : c.in_ok-instances.instances ≡ no_instances c.args.id = search rules in
-    rw none (new_instances c.args.alloc c.make_files.new.disk c.args.id (record { id = c.args.id; root_log = c.in_ok-made.made.root_log; map_log = c.in_ok-made.made.map_log; map = c.in_ok-map.map; boxes = c.push_box.new.boxes }) c.in_ok-instances.instances _ c.in_ok-map.ensures empty)
+    rw none (new_instances c.args.alloc c.make_files.new.disk c.args.id (record { id = c.args.id; root_log = c.in_ok-made.made.root_log; map_log = c.in_ok-made.made.map_log; map = c.in_ok-map.map; boxes = c.push_box.new.boxes }) c.in_ok-instances.instances _ c.in_ok-map.ensures empty c.in_ok-made.ensures.store)
 
 pub returns-in_err-instances-clause-any_moment : goal.returns-in_err-instances-clause-any_moment
 returns-in_err-instances-clause-any_moment g c = checked-images _ _ _ (idle-begins _)
