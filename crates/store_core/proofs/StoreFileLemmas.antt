@@ -369,7 +369,7 @@ held_now n offset octets old new v disk files lists s runs h own added later set
 pub held_then : {D : Type 0} → (n offset : ℕ) (octets : List ℕ) (old new : Option History) (v : StoreValue D) (disk : D) (files : FilesValue) → IsStore old v → v.stopped ≡ false → HasFile n offset v.files.files → IfTold new Own → Between (λ a b. IsAddedTo octets (a (file.Mail n)) (b (file.Mail n))) old new
     → IsStore new (record v { disk = disk; files = files }) → (lists : Lists) → IsSettledFor lists new → IfTold new (LeavesAsRead (file.Mail n))
 held_then n offset octets old None v disk files s runs h own added later lists settled = absurd settled
-held_then n offset octets None (Some new) v disk files s runs h own added later lists settled = absurd added
+held_then n offset octets None (Some new) v disk files s runs h own added later lists settled = absurd (let e : Some new ≡ None = added in cc e)
 held_then n offset octets (Some old) (Some new) v disk files s runs h own added later lists settled = held_now n offset octets old new v disk files lists s runs h own added later settled
 
 -- ---- by what the calls have at hand
