@@ -80,7 +80,7 @@ file_numbered m history states number f sound found e =
     let w = was_found m states number f found.marks e in
     elim (cases_Bool (is_sealed m number)) [
       | inl closed ↦ any_number (λ (n : ℕ). n) m.sealed number (λ k d lt. (sound.sealed k d lt).low) closed
-      | inr open ↦ any_number (λ (row : MapRecord). row.file) m.records number (λ k d lt. (sound.records k d lt).file.low) (has_last m number w.s.end (sym ((found.ends number).unsealed open) ∙ w.ends)).0
+      | inr growing ↦ any_number (λ (row : MapRecord). row.file) m.records number (λ k d lt. (sound.records k d lt).file.low) (has_last m number w.s.end (sym ((found.ends number).unsealed growing) ∙ w.ends)).0
     ]
 
 -- ---- all that records name lies below the ends
