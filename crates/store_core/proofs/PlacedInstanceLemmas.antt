@@ -7,7 +7,7 @@ use Rattle.std.specs.Ordering.{nat_cmp, is_lt}
 use Rattle.std.specs.Cmp.Lexicographic.{slice_cmp}
 use Rattle.std.specs.declared.cmp.Ordering.{Ordering}
 use Rattle.std.specs.declared.cmp.Ordering.TheVariants.{Less, Equal, Greater}
-use Rattle.std.proofs.lemmas.Bool.{cases_Bool, cond-true, cond-false}
+use Rattle.std.proofs.lemmas.Bool.{cases_Bool, cases_eq, cond-true, cond-false, true≢false}
 use Rattle.std.proofs.lemmas.List.Elements.{All-nil, All-cons, All-head, All-tail, All-append, All-filter, All-contains, All-weaker, Contains-append_left, Contains-append_right}
 use Rattle.disk_model.specs.Disk.{Files, FileState, DiskState, History, IsImage, IsThere, IfTold, Between, EachImage, OthersStay, Keeps, MayLeave, reading, named}
 use Rattle.disk_model.specs.Name.{same_name}
@@ -49,7 +49,7 @@ use Rattle.storage_files.specs.Files.{end_in}
 use Rattle.storage_files.specs.declared.file.MailFile.{MailFile}
 use Rattle.store_core.specs.Dues.{KeepsStored}
 use Rattle.store_core.specs.Files.{StayThere}
-use Rattle.store_core.specs.Running.{AreBoxLogs, ReadBoxLogs, IsRunning, IsStore}
+use Rattle.store_core.specs.Running.{AreBoxLogs, ReadBoxLogs, HasEntryRoom, IsStore}
 use Rattle.store_core.specs.StoreInstances.{IsKnownRow, IsNamedOrFirm, AreInstancesThere, HasKnownInstances}
 use Rattle.store_core.specs.Value.{StoreValue}
 use Rattle.store_core.specs.declared.store.OpenBox.{OpenBox}
@@ -283,18 +283,18 @@ placed_store hash id old new v disk instances drawn s runs change is = subst (λ
 
 -- ---- what is known then
 
-contains_filter : {X : Type 0} → (p : X → Bool) (xs : List X) (x : X) → Contains xs x → p x ≡ true → Contains (filter p xs) x
-contains_filter p xs x c t = All-contains (λ y. p y ≡ true → Contains (filter p xs) y) xs x (each xs) c t
-  where
-    step : (b : Bool) (x y : _) (ys : List _) → Contains ys y → Contains (cond b (x ∷ ys) ys) y
-    step true x y ys c = Contains-append_right (x ∷ []) ys y c
-    step false x y ys c = c
+kept_step : {X : Type 0} → (b : Bool) (x y : X) (ys : List X) → Contains ys y → Contains (cond b (x ∷ ys) ys) y
+kept_step true x y ys c = Contains-append_right (x ∷ []) ys y c
+kept_step false x y ys c = c
 
-    each : (xs : List _) → All (λ y. p y ≡ true → Contains (filter p xs) y) xs
-    each [] = All-nil (λ y. p y ≡ true → Contains [] y)
-    each (x ∷ xs) =
-        All-cons (λ y. p y ≡ true → Contains (filter p (x ∷ xs)) y) x xs (λ t. subst (λ (l : List _). Contains l x) (sym (cond-true (p x) (x ∷ filter p xs) (filter p xs) t)) (0, omega arith, refl))
-        (All-weaker (λ y. p y ≡ true → Contains (filter p xs) y) (λ y. p y ≡ true → Contains (filter p (x ∷ xs)) y) (λ y h t. step (p x) x y (filter p xs) (h t)) xs (each xs))
+each_kept : {X : Type 0} → (p : X → Bool) (xs : List X) → All (λ y. p y ≡ true → Contains (filter p xs) y) xs
+each_kept p [] = All-nil (λ y. p y ≡ true → Contains [] y)
+each_kept {X} p (x ∷ xs) =
+    All-cons (λ y. p y ≡ true → Contains (filter p (x ∷ xs)) y) x xs (λ t. subst (λ (l : List X). Contains l x) (sym (cond-true (p x) (x ∷ filter p xs) (filter p xs) t)) (0, omega arith, refl))
+    (All-weaker (λ y. p y ≡ true → Contains (filter p xs) y) (λ y. p y ≡ true → Contains (filter p (x ∷ xs)) y) (λ y h t. kept_step (p x) x y (filter p xs) (h t)) xs (each_kept p xs))
+
+contains_filter : {X : Type 0} → (p : X → Bool) (xs : List X) (x : X) → Contains xs x → p x ≡ true → Contains (filter p xs) x
+contains_filter p xs x c t = All-contains (λ y. p y ≡ true → Contains (filter p xs) y) xs x (each_kept p xs) c t
 
 -- an instance that was known is known beside the new one
 abbrev before_new : KnownInstance → KnownInstance → Bool
@@ -397,3 +397,42 @@ placed_known hash octets old new v disk instances drawn k runs are later less is
     between-since-if R P Q S None new f r p q = subst (λ (h : Option History). IfTold h S) (sym r) tt
     between-since-if R P Q S (Some old) None f r p q = absurd r
     between-since-if R P Q S (Some old) (Some new) f r p q = f old.now new.now r p q
+
+-- ---- where the disk failed
+
+pub number_left : (highest : ℕ) → highest ≤ 4294967294 → (highest ≡ 4294967294 → ⊥) → highest < 4294967294
+number_left highest last apart = elim (cases_eq highest 4294967294) [
+  | inl same ↦ absurd (apart same)
+  | inr other ↦ omega (arith, last, other)
+]
+
+pub room_placed : {D : Type 0} → (v : StoreValue D) (disk : D) (instances : InstancesValue) (drawn : Highest) (stopped : Bool) → HasEntryRoom v → HasEntryRoom (record v { disk = disk; instances = instances; drawn = drawn; stopped = stopped })
+room_placed v disk instances drawn stopped r = record { map_log = r.map_log; box_logs = r.box_logs }
+
+pub stopped_store : {D : Type 0} → (old new : Option History) (v : StoreValue D) (disk : D) (instances : InstancesValue) → IsStore old v → IsStore new (record v { disk = disk; instances = instances; drawn = record v.drawn { instance = v.drawn.instance + 1 }; stopped = true })
+stopped_store old new v disk instances s = record {
+  entries = s.entries;
+  logs = s.logs;
+  generation = s.generation;
+  good = s.good;
+  map_is = s.map_is;
+  boxes_are = s.boxes_are;
+  counts = s.counts;
+  drawn = record { file = s.drawn.file; map = s.drawn.map; instance = (let l : v.map.highest.instance ≤ v.drawn.instance = s.drawn.instance in omega (arith, l)); mailbox = s.drawn.mailbox };
+  files = record { highest = s.files.highest; taken = s.files.taken; sealed = s.files.sealed; numbered = s.files.numbered; below = s.files.below };
+  root_name = s.root_name;
+  root_head = s.root_head;
+  map_name = s.map_name;
+  map_head = s.map_head;
+  box_logs = s.box_logs;
+  some_lanes = s.some_lanes;
+  few_lanes = s.few_lanes;
+  running = λ runs. absurd (true≢false runs);
+}
+
+pub stopped_known : {D : Type 0} → (old new : Option History) (v : StoreValue D) (disk : D) (instances : InstancesValue) → HasKnownInstances old v → instances ≡ record v.instances { highest = v.instances.highest + 1 }
+    → HasKnownInstances new (record v { disk = disk; instances = instances; drawn = record v.drawn { instance = v.drawn.instance + 1 }; stopped = true })
+stopped_known old new v disk instances k is = subst (λ (i : InstancesValue). HasKnownInstances new (record v { disk = disk; instances = i; drawn = record v.drawn { instance = v.drawn.instance + 1 }; stopped = true })) (sym is) (record {
+  kept = record { store = k.kept.store; highest = ap (λ (n : ℕ). n + 1) k.kept.highest; named = k.kept.named };
+  running = λ runs. absurd (true≢false runs);
+})
