@@ -43,15 +43,19 @@ use Rattle.sis_store.proofs.IdLemmas.{turned, same_octets, same_id, instance-in}
 use Rattle.sis_store.proofs.KeysLemmas.{found-among}
 use Rattle.sis_store.specs.Instances.{InstancesValue, AreInstances, HasDrawnNumber, after_placing, instance_in, instance_placed, next_id, with_instance}
 use Rattle.sis_store.specs.OnDisk.{OnlyNamesSynced, instance_file, next_instance_file}
+use Rattle.sis_store.specs.Refusals.{IsPlaceError}
+use Rattle.sis_store.specs.declared.error.PlaceFault.TheVariants as fault
 use Rattle.sis_store.specs.declared.instance.KnownInstance.{KnownInstance}
 use Rattle.storage_files.specs.OnDisk.{IsAsKnown}
 use Rattle.storage_files.specs.Files.{end_in}
 use Rattle.storage_files.specs.declared.file.MailFile.{MailFile}
 use Rattle.store_core.specs.Dues.{KeepsStored}
 use Rattle.store_core.specs.Files.{StayThere}
+use Rattle.store_core.specs.PlaceStops.{IsPlaceStop}
 use Rattle.store_core.specs.Running.{AreBoxLogs, ReadBoxLogs, HasEntryRoom, IsStore}
 use Rattle.store_core.specs.StoreInstances.{IsKnownRow, IsNamedOrFirm, AreInstancesThere, HasKnownInstances}
 use Rattle.store_core.specs.Value.{StoreValue}
+use Rattle.store_core.specs.declared.error.PlaceStop.TheVariants as stop
 use Rattle.store_core.specs.declared.store.OpenBox.{OpenBox}
 use Rattle.store_core.proofs.MailChangeLemmas.{Own, boxes_pass, same_entries, left_image, named_reads}
 use Rattle.store_core.proofs.StoreFileLemmas.{named_there}
@@ -436,3 +440,19 @@ stopped_known old new v disk instances k is = subst (λ (i : InstancesValue). Ha
   kept = record { store = k.kept.store; highest = ap (λ (n : ℕ). n + 1) k.kept.highest; named = k.kept.named };
   running = λ runs. absurd (true≢false runs);
 })
+
+-- ---- why it was not placed
+
+pub stopped_full : {D : Type 0} → (v now : StoreValue D) (disk : D) (instances : InstancesValue) (last : ℕ) → v ≡ now → v.instances.highest ≡ v.drawn.instance → IsPlaceError v.instances instances (fault.Full last) → IsPlaceStop now (record v { disk = disk; instances = instances }) (stop.Full last)
+stopped_full v now disk instances last is kept p =
+    subst (λ (n : StoreValue _). IsPlaceStop n (record v { disk = disk; instances = instances }) (stop.Full last)) is (p.0, sym kept ∙ p.1, ap (λ (i : InstancesValue). record v { disk = disk; instances = i }) p.2)
+
+pub stopped_memory : {D : Type 0} → (v now : StoreValue D) (disk : D) (instances : InstancesValue) → v ≡ now → v.instances.highest ≡ v.drawn.instance → IsPlaceError v.instances instances fault.NoMemory → IsPlaceStop now (record v { disk = disk; instances = instances }) stop.NoMemory
+stopped_memory v now disk instances is kept p =
+    subst (λ (n : StoreValue _). IsPlaceStop n (record v { disk = disk; instances = instances }) stop.NoMemory) is ((let l = p.0 in omega (arith, l, kept)), ap (λ (i : InstancesValue). record v { disk = disk; instances = i }) p.1)
+
+pub stopped_fault : {D : Type 0} → (v now : StoreValue D) (disk : D) (instances : InstancesValue) → v ≡ now → v.instances.highest ≡ v.drawn.instance → IsPlaceError v.instances instances fault.DiskFault
+    → IsPlaceStop now (record v { disk = disk; instances = instances; drawn = record v.drawn { instance = v.drawn.instance + 1 }; stopped = true }) stop.Stopped
+stopped_fault v now disk instances is kept p =
+    subst (λ (n : StoreValue _). IsPlaceStop n (record v { disk = disk; instances = instances; drawn = record v.drawn { instance = v.drawn.instance + 1 }; stopped = true }) stop.Stopped) is
+    ((let l = p.0 in omega (arith, l, kept)), ap (λ (i : InstancesValue). record v { disk = disk; instances = i; drawn = record v.drawn { instance = v.drawn.instance + 1 }; stopped = true }) p.1)

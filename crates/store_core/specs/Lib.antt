@@ -3,6 +3,7 @@ pub mod Dues
 pub mod Files
 pub mod Knows
 pub mod MapAppend
+pub mod PlaceStops
 pub mod Running
 pub mod StoreInstances
 pub mod Value

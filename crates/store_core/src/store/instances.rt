@@ -1,5 +1,5 @@
 // The instances of a store: which are known and who holds them, what is read of them, and how one is placed.
-ghost use Rattle.std.specs.Prelude.{◌≡◌, ◌≢◌, ◌↔◌, ◌<◌, ◌≤◌, ◌+◌, ◌-◌, nat_lt, true, false, ℕ, length, take, drop, Some, IfOk, IfErr, OnOk, IsErr, IsErrOf, IsTrue};
+ghost use Rattle.std.specs.Prelude.{◌≡◌, ◌≢◌, ◌↔◌, ◌<◌, ◌≤◌, ◌+◌, ◌-◌, nat_lt, false, ℕ, length, take, drop, Some, IfOk, IfErr, OnOk, IsErr, IsErrOf, IsTrue};
 ghost use Rattle.disk_model.specs.Disk.{Grows, IfTold, IsIdle, Keeps, reading};
 ghost use Rattle.disk_model.specs.FaultCounts.{NoFault, ChangeFaultCounted, ReadFaultCounted};
 ghost use Rattle.model_lists.specs.Lists.{Lists};
@@ -7,6 +7,7 @@ ghost use Rattle.model_store.specs.Settled.{IsSettledFor, Leaves};
 ghost use Rattle.sis_store.specs.Instances.{IsInstanceKnown, after_placing, candidate_in, holders_in, instance_past, next_id, with_holders};
 ghost use Rattle.sis_store.specs.OnDisk.{IsUnlikeKnown, OnlyNamesSynced, file_of, next_instance_file, octets_read};
 ghost use Rattle.store_core.specs.Dues.{KeepsStored};
+ghost use Rattle.store_core.specs.PlaceStops.{IsPlaceStop};
 ghost use Rattle.store_core.specs.StoreInstances.{with_placed};
 ghost use Rattle.store_core.specs.declared.error.PlaceStop.TheVariants as place_stop;
 
@@ -108,9 +109,9 @@ impl<D: Disk> Store<D> {
         ensures stored { OnOk result (KeepsStored (D.history self.old.disk) (D.history self.new.disk)) }
 
         ensures ok { OnOk result (self.new ≡ with_placed self.new.disk (after_placing hash (length octets.now) self.old.instances) self.old) }
-        ensures stopped { IsErrOf result place_stop.Stopped → self.new ≡ record (with_placed self.new.disk (record self.old.instances { highest = self.old.instances.highest + 1 }) self.old) { stopped = true } }
-        ensures refused { IfErr result (λ why. why ≢ place_stop.Stopped → (self.new ≡ record self.old { disk = self.new.disk }) × (D.history self.new.disk ≡ D.history self.old.disk)) }
-        ensures full { (self.old.drawn.instance ≡ 4294967294) ↔ IsErrOf result (place_stop.Full 4294967294) }
+        ensures refused { IfErr result (IsPlaceStop self.old self.new) }
+        ensures full { self.old.drawn.instance ≡ 4294967294 → IsErrOf result (place_stop.Full 4294967294) }
+        ensures untouched { IfErr result (λ why. why ≢ place_stop.Stopped → D.history self.new.disk ≡ D.history self.old.disk) }
         ensures grows { Grows (D.history self.old.disk) (D.history self.new.disk) }
         ensures fault { ChangeFaultCounted (IsErrOf result place_stop.Stopped) (D.faults self.old.disk) (D.faults self.new.disk) }
         ensures unfailed { (IsErrOf result place_stop.Stopped → ⊥) → NoFault (D.faults self.old.disk) (D.faults self.new.disk) }

@@ -1,7 +1,9 @@
 use Rattle.std.proofs.Common.{◌≡◌, rules, ◌++◌, ◌∷◌, [], refl, List, ◌∙◌, ap}
+use Rattle.std.proofs.lemmas.Result.{err_from_is_err_and}
 use Rattle.disk_model.proofs.IdleLemmas.{idle-begins}
 use Rattle.store_core.specs.declared.store.OpenBox.{OpenBox}
 use Rattle.store_open.specs.Making.{IsFreeForStore, no_files, no_instances}
+use Rattle.store_open.proofs.FaultLemmas.{kept_err}
 use Rattle.store_open.proofs.IdleUnlessLemmas.{stays}
 use Rattle.store_open.proofs.FirstLogsLemmas.{checked-images}
 use Rattle.store_open.proofs.NewStoreLemmas.{new_store, new_instances}
@@ -67,3 +69,8 @@ returns-in_err-instances-clause-any_moment g c = checked-images _ _ _ (idle-begi
 
 pub returns-in_err-instances-clause-untouched : goal.returns-in_err-instances-clause-untouched
 returns-in_err-instances-clause-untouched g c = stays IsFreeForStore _ _ (idle-begins _)
+
+pub returns-in_err-made-clause-idle : goal.returns-in_err-made-clause-idle
+returns-in_err-made-clause-idle g c =
+    let p = err_from_is_err_and c.from_residual-in_err-made.result c.from_residual-in_err-made.ensures.1 in
+    kept_err c.from_residual-in_err-made.result p.0 _ _ p.1 p.2 c.in_err-made.ensures.idle

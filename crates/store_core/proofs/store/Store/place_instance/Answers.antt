@@ -5,7 +5,7 @@ use Rattle.sis_store.specs.Refusals.{IsPlaceError}
 use Rattle.sis_store.specs.declared.error.PlaceFault.{PlaceFault}
 use Rattle.store_core.specs.Dues.{KeepsStored}
 use Rattle.store_core.proofs.BoxCrashLemmas.{leaves_none}
-use Rattle.store_core.proofs.PlacedInstanceLemmas.{next_absent, file_made, placed_safe, placed_settled, placed_stored, placed_store, placed_known, stopped_store, stopped_known, room_placed, number_left}
+use Rattle.store_core.proofs.PlacedInstanceLemmas.{next_absent, file_made, placed_safe, placed_settled, placed_stored, placed_store, placed_known, stopped_store, stopped_known, room_placed, number_left, stopped_full, stopped_memory, stopped_fault}
 use Rattle.store_core.proofs.store.Store.place_instance.Goals as goal
 
 pub invariant_of-self : goal.invariant_of-self
@@ -65,3 +65,15 @@ returns-in-Ok-clause-stored g c =
     let less = number_left c.self.inside.instances.highest c.known_facts.ensures.last (λ e. absurd (cc (c.in-Ok.ensures.full e))) in
     subst (λ v. KeepsStored (g.D.Disk.history v.disk) (g.D.Disk.history c.place_instance.new.disk)) c.self.view_is
     (placed_stored _ _ _ _ (file_made _ _ _ (next_absent c.args.hash _ _ c.self.invariant.3 runs c.known_facts.ensures less) c.in-Ok.ensures.others))
+
+pub returns-in-Err-Full-clause-refused : goal.returns-in-Err-Full-clause-refused
+returns-in-Err-Full-clause-refused g c =
+    stopped_full _ c.args.self.now c.place_instance.new.disk c.place_instance.new.self c.in-Err-Full.last c.self.view_is c.self.invariant.3.kept.highest (subst (λ (f : PlaceFault). IsPlaceError c.self.inside.instances c.place_instance.new.self f) c.in-Err-Full.field-0-is c.in-Err-Full.ensures.refused)
+
+pub returns-in-Err-NoMemory-clause-refused : goal.returns-in-Err-NoMemory-clause-refused
+returns-in-Err-NoMemory-clause-refused g c =
+    stopped_memory _ c.args.self.now c.place_instance.new.disk c.place_instance.new.self c.self.view_is c.self.invariant.3.kept.highest (subst (λ (f : PlaceFault). IsPlaceError c.self.inside.instances c.place_instance.new.self f) c.in-Err-NoMemory.field-0-is c.in-Err-NoMemory.ensures.refused)
+
+pub returns-in-Err-DiskFault-clause-refused : goal.returns-in-Err-DiskFault-clause-refused
+returns-in-Err-DiskFault-clause-refused g c =
+    stopped_fault _ c.args.self.now c.place_instance.new.disk c.place_instance.new.self c.self.view_is c.self.invariant.3.kept.highest (subst (λ (f : PlaceFault). IsPlaceError c.self.inside.instances c.place_instance.new.self f) c.in-Err-DiskFault.field-0-is c.in-Err-DiskFault.ensures.refused)
