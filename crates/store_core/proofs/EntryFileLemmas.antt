@@ -44,7 +44,7 @@ place_same (entry.T cs) row l = record { file = refl; offset = refl; size = refl
 place_same (entry.P f t ms us) row l = absurd l
 place_same (entry.E f) row l = absurd l
 
-none_dropped : (e : MapEntry) (row : MapRecord) → LeavesPlaces e → record_dropped e row ≡ false
+pub none_dropped : (e : MapEntry) (row : MapRecord) → LeavesPlaces e → record_dropped e row ≡ false
 none_dropped (entry.H h) row l = refl
 none_dropped (entry.B b g n) row l = refl
 none_dropped (entry.G b g) row l = refl

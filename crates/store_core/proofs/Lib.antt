@@ -6,6 +6,7 @@ pub mod DueLemmas
 pub mod EntryFileLemmas
 pub mod HighestFileLemmas
 pub mod KeptFileLemmas
+pub mod KnownInstanceLemmas
 pub mod LookupLemmas
 pub mod MadeCallLemmas
 pub mod MadeLogLemmas
@@ -17,6 +18,7 @@ pub mod MailChangeLemmas
 pub mod NamingCallLemmas
 pub mod NamingLemmas
 pub mod PickingLemmas
+pub mod PlacedInstanceLemmas
 pub mod PlacingLemmas
 pub mod RoomLemmas
 pub mod ShownLemmas

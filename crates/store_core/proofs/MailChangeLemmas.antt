@@ -79,7 +79,7 @@ region_untaken end o (Some x) row h = subst (λ (z : List ℕ). IsSameRegion o (
 
 -- ---- images of a settled disk
 
-left_image : (name : FileName) (disk : DiskState) (left : Option (List ℕ)) (image : Files) → MayLeave (disk name) left → LeftBut name disk image → IsImage disk (mixed name (λ _. left) image)
+pub left_image : (name : FileName) (disk : DiskState) (left : Option (List ℕ)) (image : Files) → MayLeave (disk name) left → LeftBut name disk image → IsImage disk (mixed name (λ _. left) image)
 left_image name disk left image here others = λ other. by_test (same_name other name) other refl
   where
     by_test : (t : Bool) (other : FileName) → same_name other name ≡ t → MayLeave (disk other) (mixed name (λ _. left) image other)

@@ -62,7 +62,7 @@ pub record Readied {D : Type 0} (h : Option History) (v : StoreValue D) (e : Map
   pub region : HasRegion e h
 
 -- such an entry leaves each record where it is, seals nothing, and draws no file number
-leaves_places : (e : MapEntry) → IsAppendable e → LeavesPlaces e
+pub leaves_places : (e : MapEntry) → IsAppendable e → LeavesPlaces e
 leaves_places (entry.U u) k = tt
 leaves_places (entry.D us) k = tt
 leaves_places (entry.T cs) k = tt

@@ -71,7 +71,7 @@ stay_added old new rows n a b octets came same added stay = λ number f found gr
           (stay number c.was c.found grown (subst IsThere e there))
     ]
 
-named_there : (f : FileState) → IsThere (named f) → IsThere f
+pub named_there : (f : FileState) → IsThere (named f) → IsThere f
 named_there f there = elim (cases_Bool f.is_there) [
   | inl is ↦ is
   | inr gone ↦ absurd (let e : named f ≡ no_file = cond-false f.is_there (record f { is_name_loose = false }) no_file gone in false≢true (subst IsThere e there))

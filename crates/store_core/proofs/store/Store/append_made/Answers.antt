@@ -1,6 +1,7 @@
 use Rattle.std.proofs.Common.{rules, ◌≡◌, ◌++◌, ◌∷◌, [], true, List, refl, sym, ◌∙◌, ap, subst}
 use Rattle.mdbox_base.specs.declared.entries.MapEntry.{MapEntry}
 use Rattle.mdbox_base.specs.declared.entries.MapEntry.TheVariants as entry
+use Rattle.gate_log.specs.State.{LogState}
 use Rattle.model_lists.specs.Lists.{Lists, empty_mailbox}
 use Rattle.model_logs.specs.Entries.{map_text}
 use Rattle.model_meaning.specs.BoxMeaning.{box_meaning}
@@ -12,6 +13,7 @@ use Rattle.store_core.specs.MadeLogs.{has_made_log}
 use Rattle.store_core.specs.Value.{indexes_of}
 use Rattle.store_core.specs.declared.store.OpenBox.{OpenBox}
 use Rattle.store_core.proofs.BoxCrashLemmas.{leaves_none}
+use Rattle.store_core.proofs.KnownInstanceLemmas.{instances_naming}
 use Rattle.store_core.proofs.MadeCallLemmas.{left_others}
 use Rattle.store_core.proofs.NamingLemmas.{same_records, leaves_named, settled_named, stored_named}
 use Rattle.store_core.proofs.NamingCallLemmas.{AddsRead, AddsHeld, can_name, some_name, read_named, store_after_naming, made_after_naming, room_after_naming, indexes_more, due_stays, leak_stays}
@@ -39,6 +41,9 @@ invariant_of-self-in-Ok g c =
           (subst (AddsRead c.take_naming.new.log c.append_name.new.log (g.D.Disk.history c.self.inside.disk) (g.D.Disk.history c.append_name.new.disk)) is c.in-Ok.ensures.added) applied c.take_naming.ensures.boxes c.move_made.ensures.moved.2,
       room_after_naming _ _ c.take_naming.new.log b c.self.invariant.2 c.take_naming.ensures.no_less c.in-Ok.ensures.log.room can.is_made.room more,
       made_after_naming _ _ _ _ c.take_naming.new.log c.take_naming.new.map.meaning b c.args.mailbox c.args.name.now can c.self.invariant.3 c.in-Ok.ensures.others c.take_naming.ensures.map applied refl c.move_made.ensures.left,
+      instances_naming c.take_naming.new.log.name c.self.invariant.1.generation _ _ _ _ c.self.invariant.4 (ap (λ (l : LogState). l.name) c.take_naming.ensures.log ∙ c.self.invariant.1.map_name) c.in-Ok.ensures.others refl refl
+          (ap (λ (m : MapMeaning). m.store) (applied ∙ ap (map_applied (entry.B c.args.mailbox 1 c.args.name.now)) c.take_naming.ensures.map))
+          (ap (λ (m : MapMeaning). m.records) (applied ∙ ap (map_applied (entry.B c.args.mailbox 1 c.args.name.now)) c.take_naming.ensures.map) ∙ same_records c.self.inside.map.meaning c.args.mailbox c.args.name.now) (λ on. on),
     )
 
 pub returns-in-Ok-clause-any_moment : goal.returns-in-Ok-clause-any_moment

@@ -6,6 +6,7 @@ use Rattle.store_core.specs.Dues.{KeepsStored}
 use Rattle.store_core.specs.MadeLogs.{IsUnnamed, has_made_log}
 use Rattle.store_core.specs.declared.store.OpenBox.{OpenBox}
 use Rattle.store_core.proofs.BoxCrashLemmas.{leaves_none}
+use Rattle.store_core.proofs.KnownInstanceLemmas.{instances_logged}
 use Rattle.store_core.proofs.MadeCallLemmas.{created, keeps_last, keeps_others, logged_as, room_same}
 use Rattle.store_core.proofs.UnnamedLogLemmas.{besides, leaves_beside, named_but, settled_then, store_beside, stored_then}
 use Rattle.store_core.proofs.store.Store.create_box.Goals as goal
@@ -32,6 +33,7 @@ invariant_of-self-in-Ok g c =
           c.requires.number (subst (λ v. c.args.number.0 ≤ v.drawn.mailbox) (sym c.self.view_is) c.requires.drawn) unnamed (subst (λ v. has_made_log c.args.number.0 v ≡ false) (sym c.self.view_is) c.requires.unmade)
           (ap (λ n. n.0) c.keep_log.ensures.2) (logged_as c.in-Ok.log _ _ c.args.number.0 c.in-Ok.ensures.log c.self.invariant.0) c.keep_log.ensures.3 (let r = c.in_ok-room.ensures in omega (arith, r))
           (ap (λ i. i.meaning) (c.keep_log.ensures.4 ∙ c.in_ok-index.ensures)) c.in-Ok.ensures.made others,
+      instances_logged c.args.number.0 _ _ _ _ c.self.invariant.4 others refl refl refl (λ on. on),
     )
 
 pub returns-in-Ok-clause-any_moment : goal.returns-in-Ok-clause-any_moment

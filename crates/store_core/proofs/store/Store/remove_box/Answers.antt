@@ -4,6 +4,7 @@ use Rattle.model_lists.specs.Lists.{Lists}
 use Rattle.model_store.specs.Settled.{IsSettledFor, Leaves}
 use Rattle.store_core.specs.Dues.{KeepsStored}
 use Rattle.store_core.specs.MadeLogs.{IsUnnamed, has_made_log}
+use Rattle.store_core.proofs.KnownInstanceLemmas.{instances_logged}
 use Rattle.store_core.proofs.MadeCallLemmas.{left_others, removed, room_same}
 use Rattle.store_core.proofs.UnnamedLogLemmas.{besides, leaves_beside, named_but, settled_then, store_beside, stored_then}
 use Rattle.store_core.proofs.store.Store.remove_box.Goals as goal
@@ -17,6 +18,7 @@ invariant_of-self-2 g c =
       store_beside c.args.number.0 _ _ _ c.remove_log.new.disk c.forget_log.new.made.items c.self.invariant.1 runs unnamed (besides (file.Box c.args.number.0 1) _ _ others),
       room_same _ _ refl refl c.self.invariant.2,
       removed _ _ _ _ c.args.number.0 c.self.invariant.3 runs c.forget_log.ensures refl refl others,
+      instances_logged c.args.number.0 _ _ _ _ c.self.invariant.4 others refl refl refl (λ on. on),
     )
 
 pub returns-clause-any_moment : goal.returns-clause-any_moment
