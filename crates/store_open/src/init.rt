@@ -55,12 +55,14 @@ pub fn init_store<D: Disk>(alloc: Global, disk: D, id: StoreId) -> Result<Store<
 {
     let mut disk = disk;
     match new_logs(alloc, &mut disk, id) {
-        Ok(OpenParts {
-            logs,
-            files,
-            instances,
-            room,
-        }) => Ok(Store::of(alloc, disk, logs, files, instances, room, 1)),
+        Ok(
+            OpenParts {
+                logs,
+                files,
+                instances,
+                room,
+            },
+        ) => Ok(Store::of(alloc, disk, logs, files, instances, room, 1)),
         Err(error) => Err(OpenRefused { error, disk }),
     }
 }

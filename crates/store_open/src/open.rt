@@ -76,14 +76,14 @@ pub fn open_store<D: Disk>(alloc: Global, disk: D, lanes: u32) -> Result<Store<D
 {
     let mut disk = disk;
     match open_logs(alloc, &mut disk) {
-        Ok(OpenParts {
-            logs,
-            files,
-            instances,
-            room,
-        }) => Ok(Store::of(
-            alloc, disk, logs, files, instances, room, lanes,
-        )),
+        Ok(
+            OpenParts {
+                logs,
+                files,
+                instances,
+                room,
+            },
+        ) => Ok(Store::of(alloc, disk, logs, files, instances, room, lanes)),
         Err(error) => Err(OpenRefused { error, disk }),
     }
 }
