@@ -1,7 +1,11 @@
-//! Tests of whole stores on a disk in memory: what an opening checks, sweeps and lists, and how
-//! a store is made.
+//! Tests of whole stores on a disk in memory: what an opening checks, sweeps and lists, how a store
+//! is made, and how it saves attachments once.
 #![tactic(auto)]
 
+#[cfg(test)]
+mod attachments;
+#[cfg(test)]
+mod boxes;
 #[cfg(test)]
 mod checks;
 #[cfg(test)]
