@@ -1,6 +1,6 @@
 // A store that is open.
 ghost use Rattle.std.specs.Prelude.{◌≡◌, ◌↔◌, ◌<◌, ◌≤◌, ◌^◌, ◌==◌, ℕ, List, All, Some, None, IfSome, IfNone, OnOk, IsErr, IsErrOf, map, true, false, length, find, count_by, sum_by, if◌then◌else◌};
-ghost use Rattle.std.specs.Option.{option_copied, option_map, option_map_or};
+ghost use Rattle.std.specs.Option.{option_copied, option_map};
 ghost use Rattle.std.specs.Str.{bytes_eq};
 ghost use Rattle.box_index.specs.Row.{IsAdded};
 ghost use Rattle.disk_model.specs.Disk.{Grows};
@@ -347,26 +347,18 @@ fn listed_in(index: &BoxIndex, guid: Guid) -> u64
     ensures count { result ≡ count_by (λ row. bytes_eq row.guid guid.0) index.now.meaning.rows }
     ensures short { result < 2 ^ 32 }
 {
+    index.known_facts();
     let mut count = 0;
-    for place in 0..index.length() {
-        count += one_if(index.row_at(place), guid);
+    for row in index.rows() {
+        count += one_if(row, guid);
     }
     count
 }
 
-/// 1 where the message is there and has this GUID, else 0.
-fn one_if(row: Option<BoxRow>, guid: Guid) -> u64
-    ensures one { result ≡ if option_map_or (λ row. bytes_eq row.guid.0 guid.0) row false then 1 else 0 }
+/// 1 where the message has this GUID, else 0.
+fn one_if(row: BoxRow, guid: Guid) -> u64
+    ensures one { result ≡ if bytes_eq row.guid.0 guid.0 then 1 else 0 }
     ensures most { result ≤ 1 }
 {
-    if has_guid(row, guid) { 1 } else { 0 }
-}
-
-fn has_guid(row: Option<BoxRow>, guid: Guid) -> bool
-    ensures { result ≡ option_map_or (λ row. bytes_eq row.guid.0 guid.0) row false }
-{
-    match row {
-        Some(row) => row.guid.0 == guid.0,
-        None => false,
-    }
+    if row.guid.0 == guid.0 { 1 } else { 0 }
 }
