@@ -3,7 +3,9 @@ use Rattle.std.specs.Prelude.{AllPairs, not, remove, slice_get, max}
 use Rattle.std.specs.List.{list_any}
 use Rattle.std.specs.Option.{option_map}
 use Rattle.std.proofs.Common.{◌≡◌, ◌≢◌, ◌<◌, ◌≤◌, ◌==◌, ℕ, true, false, List, [], ◌∷◌, ◌++◌, length, find, slice_index_or, Option, Some, All, sym, ◌∙◌, ap, subst, arith}
-use Rattle.std.proofs.lemmas.List.Elements.{All-nil, All-cons, All-append, All-filter}
+use Rattle.std.proofs.lemmas.List.Elements.{All-nil, All-cons, All-append, All-filter, All-weaker}
+use Rattle.std.proofs.lemmas.Bool.{ne_eqb}
+use Rattle.std.proofs.lemmas.List.Folds.{list_any_none}
 use Rattle.std.proofs.lemmas.List.Kept.{AllPairs-filter}
 use Rattle.disk_model.specs.Disk.{History}
 use Rattle.disk_model.specs.declared.name.FileName.TheVariants as file
@@ -13,15 +15,17 @@ use Rattle.gate_log.specs.Log.{IsLogHeld, Holds}
 use Rattle.mdbox_base.specs.Words.{IsNumber}
 use Rattle.model_logs.specs.declared.log_head.LogKind.TheVariants as kind
 use Rattle.model_meaning.specs.BoxMeaning.{box_meaning}
-use Rattle.model_meaning.specs.MapMeaning.{MapMeaning}
+use Rattle.model_meaning.specs.MapMeaning.{MapBox, MapMeaning}
+use Rattle.model_meaning.specs.Sound.{IsSoundMapBox}
 use Rattle.model_octets.proofs.PairLemmas.{pairs_push}
 use Rattle.model_store.specs.Stands.{head_of}
 use Rattle.storage_files.specs.OnDisk.{OthersAreNamed}
 use Rattle.store_core.specs.MadeLogs.{HaveOtherNumbers, IsMadeLog, IsUnnamed, KeepsMadeLogs, has_made_log, without_box}
-use Rattle.store_core.specs.Running.{HasEntryRoom}
+use Rattle.store_core.specs.Running.{HasEntryRoom, IsStore}
 use Rattle.store_core.specs.Value.{StoreValue, entry_room}
 use Rattle.store_core.specs.declared.store.OpenBox.{OpenBox}
-use Rattle.store_core.proofs.MadeLogLemmas.{IsHeldBy, apart_from_made, held_named, none_has, others_left, taken_left, taken_found, left_has, last_has, more_has}
+use Rattle.store_core.proofs.BoxAppendLemmas.{store_sound}
+use Rattle.store_core.proofs.MadeLogLemmas.{IsHeldBy, apart_from_made, held_named, none_has, others_left, taken_left, taken_found, left_has, last_has, more_has, find_made, found_made}
 use Rattle.store_core.proofs.PlacingLemmas.{number_at}
 
 -- ---- one that is taken out
@@ -99,3 +103,18 @@ keeps_others other old before later b is same has =
 
 pub left_others : (n other : ℕ) (old later : List OpenBox) → later ≡ without_box n old → other ≢ n → list_any (λ o. o.number.0 == other) old ≡ true → list_any (λ o. o.number.0 == other) later ≡ true
 left_others n other old later is apart has = subst (λ (bs : List OpenBox). list_any (λ o. o.number.0 == other) bs ≡ true) (sym is) (left_has n other old apart has)
+
+-- ---- what is known of them
+
+pub log_known : {D : Type 0} → (h : Option History) (v : StoreValue D) (n : ℕ) → KeepsMadeLogs h v → has_made_log n v ≡ true → IsNumber n × (n ≤ v.drawn.mailbox) × IsUnnamed n v.map
+log_known h v n k has =
+    let f = find_made n v.made has in
+    let m = found_made (IsMadeLog v.map v.drawn) n v.made f.0 f.1 k.are_made in
+    (subst IsNumber m.1 m.0.is_number, subst (λ (j : ℕ). j ≤ v.drawn.mailbox) m.1 m.0.was_drawn, subst (λ (j : ℕ). IsUnnamed j v.map) m.1 m.0.unnamed)
+
+pub number_fresh : {D : Type 0} → (h : Option History) (v : StoreValue D) (n : ℕ) → IsStore h v → KeepsMadeLogs h v → v.drawn.mailbox < n → IsUnnamed n v.map × (has_made_log n v ≡ false)
+number_fresh h v n s k less = (
+  All-weaker (IsSoundMapBox v.map.highest.mailbox) (λ (box : MapBox). box.number ≢ n) (λ box b e. let below = b.below in let up = s.drawn.mailbox in absurd (omega (arith, below, up, less, e))) v.map.boxes (store_sound h v s).boxes,
+  list_any_none (λ (o : OpenBox). o.number.0 == n) v.made
+      (All-weaker (IsMadeLog v.map v.drawn) (λ (o : OpenBox). (o.number.0 == n) ≡ false) (λ o l. let d = l.was_drawn in ne_eqb o.number.0 n (λ (e : o.number.0 ≡ n). omega (arith, d, less, e))) v.made k.are_made),
+)

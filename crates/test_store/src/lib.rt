@@ -5,8 +5,6 @@
 #[cfg(test)]
 mod attachments;
 #[cfg(test)]
-mod boxes;
-#[cfg(test)]
 mod checks;
 #[cfg(test)]
 mod damage;

@@ -46,6 +46,15 @@ const LONGEST: usize = 265;
 const ENTRY_ROOM: u32 = 69;
 
 impl<D: Disk> Store<D> {
+    /// A log that was made and isn't named yet has a number that was drawn, and the map has no such mailbox. A number that isn't
+    /// drawn yet is of no mailbox and of no such log.
+    pub fn known_logs(&self)
+        ensures made { (number : ℕ) → has_made_log number self.now ≡ true → IsNumber number × (number ≤ self.now.drawn.mailbox) × IsUnnamed number self.now.map }
+        ensures fresh { (number : ℕ) → self.now.drawn.mailbox < number → IsUnnamed number self.now.map × (has_made_log number self.now ≡ false) }
+    {
+        let _ = &self.made;
+    }
+
     /// Draws the number of a new mailbox. None if and only if there is none left.
     pub fn draw_box(&mut self) -> Option<BoxNo>
         ensures some { IfSome result (λ number. (number.0 ≡ self.old.drawn.mailbox + 1) × IsNumber number.0 × (self.new ≡ record self.old { drawn = record self.old.drawn { mailbox = number.0 } })) }
