@@ -11,6 +11,8 @@ pub mod ExpungeEventLemmas
 pub mod ExpungeStepLemmas
 pub mod FlagEventLemmas
 pub mod FlagListLemmas
+pub mod KeepingLemmas
+pub mod KeptRowLemmas
 pub mod KeptUidLemmas
 pub mod ListEventLemmas
 pub mod LoweringLemmas
