@@ -22,6 +22,7 @@ pub mod MoveKnownLemmas
 pub mod MovePartLemmas
 pub mod MoveStepLemmas
 pub mod NamedListLemmas
+pub mod ReadyLemmas
 pub mod RemovalLemmas
 pub mod RowLemmas
 pub mod SettledFlagLemmas
