@@ -98,7 +98,7 @@ pub fn uids(store: &Store<MemDisk>, name: &Name) -> u64 {
     let mut digits = 0;
     if let Some(index) = store.list_of(name) {
         for row in index.rows() {
-            digits = digits * 10 + u64::from(row.uid.0);
+            digits = digits.wrapping_mul(10).wrapping_add(u64::from(row.uid.0));
         }
     }
     digits
