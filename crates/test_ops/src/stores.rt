@@ -95,7 +95,7 @@ pub fn last_uid_free(alloc: Global) -> Result<Store<MemDisk>, Fail> {
 
 /// The UIDs that the mailbox with this name lists, as digits: 12 for the UIDs 1 and 2.
 pub fn uids(store: &Store<MemDisk>, name: &Name) -> u64 {
-    let mut digits = 0;
+    let mut digits = 0u64;
     if let Some(index) = store.list_of(name) {
         for row in index.rows() {
             digits = digits.wrapping_mul(10).wrapping_add(u64::from(row.uid.0));
