@@ -1,9 +1,7 @@
-//! Tests of whole stores on a disk in memory: what an opening checks, sweeps and lists, how a store
-//! is made, and how it saves attachments once.
+//! Tests of whole stores on a disk in memory: what an opening checks, sweeps and lists, and how
+//! a store is made.
 #![tactic(auto)]
 
-#[cfg(test)]
-mod attachments;
 #[cfg(test)]
 mod checks;
 #[cfg(test)]
