@@ -1,7 +1,7 @@
 // Runs that fetch, from stores that are laid out by hand from docs/formats.md.
 use disk_mem::MemDisk;
 use disk_model::{Disk, FileName};
-use mdbox_base::{MemSink, MemSource, Octets, Seq};
+use mdbox_base::{MemClock, MemSink, MemSource, Octets, Seq};
 use mdbox_top::{Status, mdbox_run};
 use std::alloc::Global;
 use std::test::Fail;
@@ -90,6 +90,7 @@ pub(crate) fn run(
         &mut input,
         &mut output,
         &mut errors,
+        &mut MemClock::of(0, Seq::empty(alloc)),
     );
     Ok(Ran {
         disk,
