@@ -1,23 +1,19 @@
 -- Where messages are placed: the GUID of a place, and the files that are known then.
-use Rattle.std.proofs.Common.{◌≡◌, ◌≤◌, ◌<◌, ◌+◌, ◌^◌, ℕ, Bool, true, false, List, [], ◌∷◌, ◌++◌, Option, Some, All, refl, sym, ◌∙◌, ap, subst, append_assoc, append-nil, arith, take, drop, length}
-use Rattle.std.specs.Prelude.{◌≢◌, ◌==◌, not, if◌then◌else◌, is_some}
+use Rattle.std.proofs.Common.{◌≡◌, ◌<◌, ◌+◌, ◌^◌, ℕ, true, List, [], ◌++◌, Option, Some, All, refl, sym, ◌∙◌, ap, subst, append_assoc, append-nil, arith, take, drop, length}
+use Rattle.std.specs.Prelude.{◌≢◌}
 use Rattle.std.specs.Int.{w32, to_be_bytes, from_be_bytes}
 use Rattle.std.specs.Str.{bytes_eq}
 use Rattle.std.proofs.lemmas.List.{length-append}
 use Rattle.std.proofs.lemmas.Slice.Eq.{bytes_eq-Decides}
 use Rattle.std.proofs.lemmas.Nat.{from_be_bytes-to_be_bytes_4}
 use Rattle.std.proofs.Math.Seq.{take-append_seam, drop-append_seam}
-use Rattle.std.proofs.lemmas.List.Elements.{All-nil, All-cons, All-head, All-tail, All-append, All-filter}
-use Rattle.mdbox_base.specs.declared.ids.FileNo.{FileNo}
 use Rattle.disk_model.specs.Disk.{History}
 use Rattle.model_lists.specs.Lists.{Lists}
 use Rattle.model_meaning.specs.MapFits.{IsFree}
 use Rattle.model_store.specs.Settled.{IsSettledFor, Leaves}
 use Rattle.store_core.proofs.BoxCrashLemmas.{leaves_none}
 use Rattle.model_meaning.specs.MapMeaning.{MapMeaning, is_own, number_at}
-use Rattle.storage_files.proofs.FileListLemmas.{KeepsNumber, number_kept}
-use Rattle.storage_files.specs.Files.{changed_in, end_in, ending_at, file_begun, is_taken_in, released_in, with_taken, without_file}
-use Rattle.storage_files.specs.declared.file.MailFile.{MailFile}
+use Rattle.storage_files.specs.Files.{end_in, is_taken_in}
 use Rattle.store_core.specs.Files.{IsNewPlace}
 use Rattle.store_core.specs.Value.{StoreValue}
 use Rattle.mail_save.specs.Left.{HoldsFile, HoldsRegion}
@@ -56,33 +52,6 @@ offset_of_place store file offset long small =
 pub guid_is_new : (m : MapMeaning) (file offset : ℕ) → length m.store ≡ 8 → file < 2 ^ 32 → offset < 2 ^ 32 → IsNewPlace m file offset → All (λ row. row.guid ≢ place_guid m.store file offset) m.records
 guid_is_new m file offset long f o new = λ k d lt e.
     new k d lt (ap (is_own m.store) e ∙ own_place m.store file offset long) (ap (number_at 8) e ∙ file_of_place m.store file offset long f) (ap (number_at 12) e ∙ offset_of_place m.store file offset long o)
-
--- ---- numbers of files
-
-abbrev pub HasNumber : MailFile → Type 0
-HasNumber f = 1 ≤ f.file.0
-
-pub numbered_changed : (n : ℕ) (step : MailFile → MailFile) (files : List MailFile) → KeepsNumber step → All HasNumber files → All HasNumber (changed_in n step files)
-numbered_changed n step [] keeps h = All-nil HasNumber
-numbered_changed n step (x ∷ xs) keeps h =
-    All-cons HasNumber (if x.file.0 == n then step x else x) (changed_in n step xs) (subst (λ (k : ℕ). 1 ≤ k) (sym (number_kept n step x keeps)) (All-head HasNumber x xs h)) (numbered_changed n step xs keeps (All-tail HasNumber x xs h))
-
-numbered_either : (which : Bool) (a b : List MailFile) → All HasNumber a → All HasNumber b → All HasNumber (if which then a else b)
-numbered_either true a b x y = x
-numbered_either false a b x y = y
-
-pub numbered_ending : (n end : ℕ) (files : List MailFile) → All HasNumber files → All HasNumber (changed_in n (ending_at end) files)
-numbered_ending n end files h = numbered_changed n (ending_at end) files (λ f. refl) h
-
-pub numbered_taken : (n : ℕ) (files : List MailFile) → All HasNumber files → All HasNumber (changed_in n (with_taken true) files)
-numbered_taken n files h = numbered_changed n (with_taken true) files (λ f. refl) h
-
-pub numbered_begun : (file : FileNo) (files : List MailFile) → 1 ≤ file.0 → All HasNumber files → All HasNumber (files ++ file_begun file ∷ [])
-numbered_begun file files some h = All-append HasNumber files (file_begun file ∷ []) h (All-cons HasNumber (file_begun file) [] some (All-nil HasNumber))
-
-pub numbered_released : (n : ℕ) (files : List MailFile) → All HasNumber files → All HasNumber (released_in n files)
-numbered_released n files h =
-    numbered_either (is_some (end_in n files)) (changed_in n (with_taken false) files) (without_file n files) (numbered_changed n (with_taken false) files (λ f. refl) h) (All-filter (λ f. not (f.file.0 == n)) HasNumber files h)
 
 -- ---- a region that was placed
 

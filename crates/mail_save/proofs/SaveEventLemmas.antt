@@ -150,6 +150,6 @@ one_is_due uid old new is = let one = ap (λ (b : Bool). old + (if b then 1 else
 
 -- what is said of the task as it is kept is said of it as it is seen
 pub seen_saves : {D : Type 0} (task seen : SaveValue) (now next : SaveStage) (answer : Progress) (how : Did) (old new : StoreValue D) (before after : Option History) (began ended : Faults) → task ≡ seen → now ≡ task.stage
-    → Saves now next task.name task.time answer how old new before after began ended → Saves seen.stage next seen.name seen.time answer how old new before after began ended
+    → Saves now next task.name task.time task.size answer how old new before after began ended → Saves seen.stage next seen.name seen.time seen.size answer how old new before after began ended
 seen_saves task seen now next answer how old new before after began ended same at s =
-    subst (λ (v : SaveValue). Saves v.stage next v.name v.time answer how old new before after began ended) same (subst (λ (st : SaveStage). Saves st next task.name task.time answer how old new before after began ended) at s)
+    subst (λ (v : SaveValue). Saves v.stage next v.name v.time v.size answer how old new before after began ended) same (subst (λ (st : SaveStage). Saves st next task.name task.time task.size answer how old new before after began ended) at s)

@@ -6,10 +6,6 @@ use Rattle.storage_files.specs.Files.{is_taken_in, end_in}
 use Rattle.store_core.specs.Value.{StoreValue}
 use Rattle.mail_save.specs.declared.place.SavedAt.{SavedAt}
 
--- each storage file has a number of at least 1
-abbrev pub AreNumbered : {D : Type 0} → StoreValue D → Type 0
-AreNumbered store = All (λ f. 1 ≤ f.file.0) store.files.files
-
 -- The storage file is taken, and has room for so many octets.
 pub record HoldsFile {D : Type 0} (file size : ℕ) (store : StoreValue D) : Type 0 where
   pub some : 1 ≤ file

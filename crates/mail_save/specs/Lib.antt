@@ -1,8 +1,14 @@
 pub mod Added
 pub mod Events
+pub mod Held
 pub mod Left
+pub mod Others
 pub mod Parts
+pub mod Ready
 pub mod Record
+pub mod SaveEffects
+pub mod SaveSeen
+pub mod SaveStages
 pub mod Saved
 pub mod Stored
 pub mod Task

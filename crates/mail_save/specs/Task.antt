@@ -1,8 +1,7 @@
 -- What a caller sees of a delivery, and what a step of it says.
 use Rattle.std.specs.Prelude.{◌≡◌, ◌↔◌, ◌⊎◌, ◌≢◌, ◌≤◌, ◌<◌, ◌+◌, ℕ, true, false, List, length, if◌then◌else◌, Option, Some, None}
 use Rattle.attach_detach.specs.Prepared.{IsPlain}
-use Rattle.disk_model.specs.Disk.{History, Faults, Grows, IfTold}
-use Rattle.disk_model.specs.declared.name.FileName.TheVariants as file
+use Rattle.disk_model.specs.Disk.{History, Faults, Grows}
 use Rattle.disk_model.specs.FaultCounts.{NoFault, ChangeFaultCounted}
 use Rattle.mdbox_base.specs.declared.ids.BoxNo.{BoxNo}
 use Rattle.mdbox_base.specs.declared.ids.Uid.{Uid}
@@ -15,21 +14,23 @@ use Rattle.mdbox_base.specs.declared.progress.Progress.TheVariants as progress
 use Rattle.mdbox_base.specs.declared.replies.Refusal.{Refusal}
 use Rattle.mdbox_base.specs.declared.replies.Refusal.TheVariants as refusal
 use Rattle.mdbox_base.specs.declared.replies.Reply.TheVariants as reply
-use Rattle.model_appends.specs.Appending.{LeavesAsRead, lists_by}
+use Rattle.model_appends.specs.Appending.{lists_by}
 use Rattle.model_lists.specs.Lists.{Lists}
 use Rattle.model_meaning.specs.MapFits.{HasRecord}
 use Rattle.model_store.specs.Settled.{IsSettledFor, Leaves}
 use Rattle.store_core.specs.Append.{Brings}
-use Rattle.store_core.specs.Dues.{due_at}
-use Rattle.store_core.specs.Files.{EndsWith}
+use Rattle.store_core.specs.Dues.{Moves, amounts_in, due_at}
 use Rattle.store_core.specs.MapAppend.{IsReadyToStore}
 use Rattle.store_core.specs.Value.{StoreValue, list_named}
 use Rattle.mail_save.specs.Added.{HasRoomUnder, entry_added}
 use Rattle.mail_save.specs.Events.{box_refusal, save_refusal, uid_refusal}
-use Rattle.mail_save.specs.Left.{AreNumbered, HoldsFile, HoldsRegion}
+use Rattle.mail_save.specs.Held.{save_amounts}
+use Rattle.mail_save.specs.Left.{HoldsFile, HoldsRegion}
+use Rattle.mail_save.specs.Others.{KeepsOthers}
 use Rattle.mail_save.specs.Parts.{AreLaidOut}
+use Rattle.mail_save.specs.Ready.{IsReadyToSave}
 use Rattle.mail_save.specs.Record.{entry_stored}
-use Rattle.mail_save.specs.Saved.{saved_region}
+use Rattle.mail_save.specs.SaveEffects.{AreSpared, SaveEffects}
 use Rattle.mail_save.specs.declared.first.SavedParts.{SavedParts}
 use Rattle.mail_save.specs.declared.task.SaveStage.{SaveStage}
 use Rattle.mail_save.specs.declared.task.SaveStage.TheVariants as stage
@@ -107,7 +108,7 @@ RepliesAt (stage.Storing at origin room) name answer next store =
     GoesOnOr (λ why. (uid_refusal store.drawn.map ≡ Some why) ⊎ ((uid_refusal store.drawn.map ≡ None) × ((why ≡ refusal.Stopped) ⊎ (why ≡ refusal.NoMemory)))) answer
 RepliesAt (stage.Adding added room) name answer next store =
     ((number : BoxNo) × (uid : Uid) × HasRoomUnder name number uid store × (answer ≡ progress.Done (reply.Saved uid added.guid)))
-    ⊎ ((answer ≡ progress.Done (reply.Refused refusal.Stopped))
+    ⊎ (((number : BoxNo) × (uid : Uid) × HasRoomUnder name number uid store × (answer ≡ progress.Done (reply.Refused refusal.Stopped)))
     ⊎ ((why : Refusal) × ((box_refusal (list_named store name) ≡ Some why) ⊎ ((box_refusal (list_named store name) ≡ None) × (why ≡ refusal.NoMemory))) × (answer ≡ progress.More) × (next ≡ stage.GivingBack added.map_uid why room)))
 RepliesAt (stage.GivingBack uid why room) name answer next store = (answer ≡ progress.Done (reply.Refused why)) ⊎ (answer ≡ progress.Done (reply.Refused refusal.Stopped))
 RepliesAt stage.Ended name answer next store = ⊥
@@ -140,25 +141,20 @@ saved_did now next answer = did.Quiet
 abbrev pub stopped_reply : Progress
 stopped_reply = progress.Done (reply.Refused refusal.Stopped)
 
--- Behind the event that places a message its region stands at the end of the storage file, with its GUID, and a crash leaves the
--- file of a settled disk as it reads. Its record will have the origin that was decided.
-abbrev pub PlacesAt : SaveStage → SaveStage → List ℕ → ℕ → Option History → Option History → Type 0
-PlacesAt (stage.Placing parts file_no) (stage.Storing at origin room) name time before after =
-    (at.file ≡ file_no) × (origin ≡ parts.origin) × (at.size ≡ length parts.region)
-    × ((octets : List ℕ) → AreLaidOut name time octets parts → IfTold after (λ now. EndsWith at.offset (saved_region name time octets at.guid.0) (now (file.Mail file_no.0))))
-    × ((lists : Lists) → IsSettledFor lists before → IfTold after (LeavesAsRead (file.Mail file_no.0)))
-PlacesAt now next name time before after = Unit {0}
-
 -- What a step of a delivery says, of a store that isn't stopped: from this stage to the next one.
-pub record Saves {D : Type 0} (now next : SaveStage) (name : List ℕ) (time : ℕ) (answer : Progress) (how : Did) (old new : StoreValue D) (before after : Option History) (began ended : Faults) : Type 0 where
+pub record Saves {D : Type 0} (now next : SaveStage) (name : List ℕ) (time size : ℕ) (answer : Progress) (how : Did) (old new : StoreValue D) (before after : Option History) (began ended : Faults) : Type 0 where
   pub replies : RepliesAt now name answer next old
   pub did_is : how ≡ saved_did now next answer
   pub moments : MomentsAt now name old before after
   pub rests : new.stopped ≡ false → RestsAt now name answer old before after
-  pub placed : PlacesAt now next name time before after
+  pub ready : answer ≡ progress.More → (octets : List ℕ) → IsReadyToSave now name time size octets old before → IsReadyToSave next name time size octets new after
   pub left : answer ≡ progress.More → HasLeft next name time new
   pub fewer : answer ≡ progress.More → save_events_left next < save_events_left now
-  pub numbered : AreNumbered new
+  pub effects : SaveEffects now next name time size answer old new
+  pub idle : new ≡ old → after ≡ before
+  pub spared : new.stopped ≡ false → AreSpared old new before after
+  pub others : KeepsOthers now old new
+  pub moves : new.stopped ≡ false → Moves (save_amounts now) (save_amounts next) (amounts_in old) (amounts_in new)
   pub stopped : (answer ≡ stopped_reply) ↔ (new.stopped ≡ true)
   pub fault : ChangeFaultCounted (answer ≡ stopped_reply) began ended
   pub unfailed : (answer ≡ stopped_reply → ⊥) → NoFault began ended

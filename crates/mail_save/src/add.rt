@@ -2,6 +2,8 @@
 ghost use Rattle.std.specs.Prelude.{◌≡◌, ◌↔◌, ◌⊎◌, ◌≤◌, ℕ, List, true, false, Some, None, IfOk, IfErr, IsErr, IsErrOf};
 ghost use Rattle.disk_model.specs.Disk.{Grows};
 ghost use Rattle.disk_model.specs.FaultCounts.{NoFault, ChangeFaultCounted};
+ghost use Rattle.mdbox_base.specs.declared.ids.BoxNo.{BoxNo};
+ghost use Rattle.mdbox_base.specs.declared.ids.Uid.{Uid};
 ghost use Rattle.mdbox_base.specs.declared.replies.Refusal.TheVariants as refusal;
 ghost use Rattle.model_appends.specs.Amounts.{due_by_box};
 ghost use Rattle.model_appends.specs.Appending.{lists_by, meanings_by};
@@ -72,6 +74,7 @@ pub fn add_message<D: Disk>(store: &mut Store<D>, name: &Name, added: Added) -> 
     ensures due { IfOk result (λ uid. (m : BoxMeaning) (other : ℕ) → list_named store.old name.now ≡ Some m → due_at other store.new ≡ due_by_box m (entry_added uid added) (λ k. due_at k store.old) other) }
     ensures stored { store.new.stopped ≡ false → KeepsStored (D.history store.old.disk) (D.history store.new.disk) }
     ensures refused { IfErr result (λ why. (box_refusal (list_named store.old name.now) ≡ Some why) ⊎ ((box_refusal (list_named store.old name.now) ≡ None) × ((why ≡ refusal.Stopped) ⊎ (why ≡ refusal.NoMemory)))) }
+    ensures fell { IsErrOf result refusal.Stopped → (number : BoxNo) × (uid : Uid) × HasRoomUnder name.now number uid store.old }
     ensures stopped { IsErrOf result refusal.Stopped ↔ (store.new.stopped ≡ true) }
     ensures untaken { IsErr result → (indexes_of store.new.boxes ≡ indexes_of store.old.boxes) × (store.new.dues ≡ store.old.dues) }
     ensures same { store.new ≡ record store.old { disk = store.new.disk; boxes = store.new.boxes; dues = store.new.dues; stopped = store.new.stopped } }

@@ -3,7 +3,7 @@
 
 pub use add::Added;
 pub use first::SavedParts;
-pub use laws::{saved_regions_store_messages, whole_messages_are_detached};
+pub use laws::{save_stages_are_kept, saved_regions_store_messages, whole_messages_are_detached};
 pub use place::SavedAt;
 pub use record::LowerRoom;
 pub use region::{guid_at, lay_out, set_guid};

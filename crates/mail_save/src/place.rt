@@ -1,16 +1,18 @@
 // Where a message is placed.
-ghost use Rattle.std.specs.Prelude.{◌≡◌, ◌↔◌, ◌⊎◌, ◌≤◌, ◌+◌, ℕ, List, length, true, false, Some, IfOk, IfErr, OnOk, IsErr, IsErrOf};
+ghost use Rattle.std.specs.Prelude.{◌≡◌, ◌↔◌, ◌≤◌, ◌+◌, ℕ, List, length, true, false, Some, IfOk, IfErr, OnOk, IsErr, IsErrOf};
 ghost use Rattle.disk_model.specs.Disk.{Grows, IfTold};
 ghost use Rattle.disk_model.specs.FaultCounts.{NoFault, ChangeFaultCounted};
 ghost use Rattle.disk_model.specs.declared.name.FileName.TheVariants.{Mail};
+ghost use Rattle.mdbox_base.specs.Words.{IsOctets};
 ghost use Rattle.mdbox_base.specs.declared.replies.Refusal.TheVariants as refusal;
 ghost use Rattle.model_appends.specs.Appending.{LeavesAsRead};
 ghost use Rattle.model_lists.specs.Lists.{Lists};
 ghost use Rattle.model_store.specs.Settled.{IsSettledFor, Leaves};
-ghost use Rattle.storage_files.specs.Files.{end_in};
+ghost use Rattle.storage_files.specs.Files.{end_in, is_taken_in};
 ghost use Rattle.store_core.specs.Dues.{KeepsStored};
 ghost use Rattle.store_core.specs.Files.{EndsWith};
-ghost use Rattle.mail_save.specs.Left.{AreNumbered, HoldsFile, HoldsRegion};
+ghost use Rattle.mail_save.specs.Left.{HoldsFile, HoldsRegion};
+ghost use Rattle.mail_save.specs.SaveEffects.{AreOtherEndsSame, IsLeftAlone, TakesFileFor, TakesNone};
 ghost use Rattle.mail_save.specs.Saved.{saved_region, no_guid, place_guid};
 
 use crate::region::{guid_at, set_guid};
@@ -36,11 +38,10 @@ pub struct SavedAt {
 /// Takes a storage file for so many octets, and makes it with this header where it is new.
 pub fn take_file<D: Disk>(store: &mut Store<D>, header: &[u8], size: u32) -> Result<FileNo, Refusal>
     requires running { store.old.stopped ≡ false }
-    requires numbered { AreNumbered store.old }
     requires size { length header.now + size ≤ 4294967295 }
     ensures taken { IfOk result (λ file. HoldsFile file.0 size store.new) }
-    ensures causes { IfErr result (λ why. (why ≡ refusal.Stopped) ⊎ ((why ≡ refusal.NoMemory) ⊎ (why ≡ refusal.StoreFull 4294967294))) }
-    ensures numbered { AreNumbered store.new }
+    ensures takes { IfOk result (λ file. TakesFileFor size file store.old store.new) }
+    ensures none { IfErr result (λ why. TakesNone size why store.old store.new) }
     ensures any_moment { (lists : Lists) → IsSettledFor lists (D.history store.old.disk) → Leaves lists lists (D.history store.old.disk) (D.history store.new.disk) }
     ensures settled { store.new.stopped ≡ false → (lists : Lists) → IsSettledFor lists (D.history store.old.disk) → IsSettledFor lists (D.history store.new.disk) }
     ensures stored { store.new.stopped ≡ false → KeepsStored (D.history store.old.disk) (D.history store.new.disk) }
@@ -55,13 +56,26 @@ pub fn take_file<D: Disk>(store: &mut Store<D>, header: &[u8], size: u32) -> Res
         return Err(Refusal::NoMemory);
     }
     match store.take_for(size) {
-        Take::Known(file) => Ok(file),
+        Take::Known(file) => {
+            store.facts();
+            Ok(file)
+        }
         Take::New(file) => match store.make_file(file, header) {
-            Ok(()) => Ok(file),
+            Ok(()) => {
+                store.facts();
+                Ok(file)
+            }
             Err(Stopped) => Err(Refusal::Stopped),
         },
         Take::Full => Err(Refusal::StoreFull(LAST_NUMBER)),
     }
+}
+
+/// Octets are below 256.
+fn known_octets(octets: &[u8])
+    ensures { IsOctets octets.now }
+{
+    let _length = octets.len();
 }
 
 /// Sets the GUID of a message in its region, and places the region at the end of a storage file that was taken.
@@ -77,11 +91,16 @@ pub fn place_region<D: Disk>(
     ensures placed { IfOk result (λ at. HoldsRegion at store.new) }
     ensures file { IfOk result (λ at. at.file ≡ file) }
     ensures guid { IfOk result (λ at. at.guid.0 ≡ place_guid store.old.map.store file.0 at.offset) }
+    ensures octets { IfOk result (λ at. (length at.guid.0 ≡ 16) × IsOctets at.guid.0) }
     ensures size { IfOk result (λ at. at.size ≡ length region.old) }
+    ensures long { IfOk result (λ at. (time : ℕ) (octets : List ℕ) → region.old ≡ saved_region name.now time octets no_guid → length (saved_region name.now time octets at.guid.0) ≡ at.size) }
     ensures offset { IfOk result (λ at. end_in file.0 store.old.files.files ≡ Some at.offset) }
     ensures written { IfOk result (λ at. (time : ℕ) (octets : List ℕ) → region.old ≡ saved_region name.now time octets no_guid → IfTold (D.history store.new.disk) (λ now. EndsWith at.offset (saved_region name.now time octets at.guid.0) (now (Mail file.0)))) }
-    ensures held { OnOk result ((lists : Lists) → IsSettledFor lists (D.history store.old.disk) → IfTold (D.history store.new.disk) (LeavesAsRead (Mail file.0))) }
-    ensures numbered { AreNumbered store.old → AreNumbered store.new }
+    ensures held { OnOk result ((lists : Lists) → IsSettledFor lists (D.history store.new.disk) → IfTold (D.history store.new.disk) (LeavesAsRead (Mail file.0))) }
+    ensures ends { IfOk result (λ at. end_in file.0 store.new.files.files ≡ Some (at.offset + at.size)) }
+    ensures others { OnOk result (AreOtherEndsSame file.0 store.old store.new) }
+    ensures still_taken { (number : ℕ) → is_taken_in number store.new.files.files ≡ is_taken_in number store.old.files.files }
+    ensures alone { IsErr result → IsLeftAlone store.old store.new }
     ensures any_moment { (lists : Lists) → IsSettledFor lists (D.history store.old.disk) → Leaves lists lists (D.history store.old.disk) (D.history store.new.disk) }
     ensures settled { OnOk result ((lists : Lists) → IsSettledFor lists (D.history store.old.disk) → IsSettledFor lists (D.history store.new.disk)) }
     ensures stored { OnOk result (KeepsStored (D.history store.old.disk) (D.history store.new.disk)) }
@@ -95,6 +114,7 @@ pub fn place_region<D: Disk>(
         unreachable!()
     };
     let guid = guid_at(store.id(), file, end as u32);
+    known_octets(&guid.0);
     set_guid(region, name, guid);
     let size = region.len() as u32;
     let offset = store.place(file, region)?;

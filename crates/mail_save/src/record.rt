@@ -2,18 +2,15 @@
 ghost use Rattle.std.specs.Prelude.{◌≡◌, ◌≢◌, ◌↔◌, ◌⊎◌, ◌≤◌, ◌<◌, ◌+◌, ◌∷◌, [], ℕ, true, false, Some, None, IfOk, IfErr, OnOk, IsErr, IsErrOf};
 ghost use Rattle.disk_model.specs.Disk.{Grows};
 ghost use Rattle.disk_model.specs.FaultCounts.{NoFault, ChangeFaultCounted};
-ghost use Rattle.mdbox_base.specs.declared.entries.MapEntry.TheVariants as map_entry;
 ghost use Rattle.mdbox_base.specs.declared.replies.Refusal.TheVariants as refusal;
-ghost use Rattle.model_appends.specs.Amounts.{due_by};
 ghost use Rattle.model_lists.specs.Lists.{Lists};
-ghost use Rattle.model_meaning.specs.MapMeaning.{map_applied};
-ghost use Rattle.model_meaning.specs.MapFits.{HasRecord};
 ghost use Rattle.model_store.specs.Settled.{IsSettledFor, Leaves};
 ghost use Rattle.store_core.specs.Dues.{due_at, KeepsStored};
 ghost use Rattle.store_core.specs.MapAppend.{IsReadyToStore};
 ghost use Rattle.mail_save.specs.Events.{uid_refusal};
-ghost use Rattle.mail_save.specs.Left.{AreNumbered, HoldsRegion};
+ghost use Rattle.mail_save.specs.Left.{HoldsRegion};
 ghost use Rattle.mail_save.specs.Record.{entry_stored, entry_lowered};
+ghost use Rattle.mail_save.specs.SaveEffects.{AreSpared, IsLeftAlone, LowersRecord, StoresPlaced, StoresNone};
 
 use crate::place::SavedAt;
 use disk_model::Disk;
@@ -72,18 +69,14 @@ pub fn store_record<D: Disk>(
     requires origin { origin ≤ 1 }
     requires placed { HoldsRegion at store.old }
     requires size { 1 ≤ at.size }
-    ensures uid { IfOk result (λ uid. uid.0 ≡ store.old.drawn.map + 1) }
-    ensures taken { IfOk result (λ uid. store.new.map ≡ map_applied (entry_stored origin uid at) store.old.map) }
-    ensures record { IfOk result (λ uid. HasRecord store.new.map uid.0 (λ row. row.guid ≡ at.guid.0)) }
-    ensures due { IfOk result (λ uid. (other : ℕ) → due_at other store.new ≡ due_by (entry_stored origin uid at) (λ k. due_at k store.old) other) }
+    ensures stores { IfOk result (λ uid. (time size : ℕ) → StoresPlaced at origin time size (record { map_uid = uid; guid = at.guid; time = time; size = size }) store.old store.new) }
+    ensures none { IfErr result (λ why. StoresNone at why store.old store.new) }
+    ensures spared { OnOk result (AreSpared store.old store.new (D.history store.old.disk) (D.history store.new.disk)) }
     ensures any_moment { (lists : Lists) → IsReadyToStore (entry_stored origin (record { 0 = store.old.drawn.map + 1 }) at) (D.history store.old.disk) → IsSettledFor lists (D.history store.old.disk) → Leaves lists lists (D.history store.old.disk) (D.history store.new.disk) }
     ensures settled { store.new.stopped ≡ false → (lists : Lists) → IsReadyToStore (entry_stored origin (record { 0 = store.old.drawn.map + 1 }) at) (D.history store.old.disk) → IsSettledFor lists (D.history store.old.disk) → IsSettledFor lists (D.history store.new.disk) }
     ensures stored { store.new.stopped ≡ false → KeepsStored (D.history store.old.disk) (D.history store.new.disk) }
     ensures refused { IfErr result (λ why. (uid_refusal store.old.drawn.map ≡ Some why) ⊎ ((uid_refusal store.old.drawn.map ≡ None) × ((why ≡ refusal.Stopped) ⊎ (why ≡ refusal.NoMemory)))) }
     ensures stopped { IsErrOf result refusal.Stopped ↔ (store.new.stopped ≡ true) }
-    ensures untaken { IsErr result → (store.new.map ≡ store.old.map) × (store.new.drawn ≡ store.old.drawn) × (store.new.dues ≡ store.old.dues) }
-    ensures boxes { (store.new.boxes ≡ store.old.boxes) × (store.new.map.boxes ≡ store.old.map.boxes) }
-    ensures numbered { AreNumbered store.old → AreNumbered store.new }
     ensures grows { Grows (D.history store.old.disk) (D.history store.new.disk) }
     ensures fault { ChangeFaultCounted (IsErrOf result refusal.Stopped) (D.faults store.old.disk) (D.faults store.new.disk) }
     ensures unfailed { store.new.stopped ≡ false → NoFault (D.faults store.old.disk) (D.faults store.new.disk) }
@@ -120,14 +113,13 @@ pub fn store_record<D: Disk>(
 pub fn give_back<D: Disk>(store: &mut Store<D>, uid: MapUid, room: LowerRoom) -> Result<(), Stopped>
     requires running { store.old.stopped ≡ false }
     requires due { 1 ≤ due_at uid.0 store.old }
-    ensures taken { OnOk result (store.new.map ≡ map_applied (entry_lowered uid) store.old.map) }
-    ensures due { OnOk result ((other : ℕ) → due_at other store.new ≡ due_by (entry_lowered uid) (λ k. due_at k store.old) other) }
+    ensures lowers { OnOk result (LowersRecord uid store.old store.new) }
+    ensures alone { IsErr result → IsLeftAlone store.old store.new }
+    ensures spared { OnOk result (AreSpared store.old store.new (D.history store.old.disk) (D.history store.new.disk)) }
     ensures any_moment { (lists : Lists) → IsSettledFor lists (D.history store.old.disk) → Leaves lists lists (D.history store.old.disk) (D.history store.new.disk) }
     ensures settled { OnOk result ((lists : Lists) → IsSettledFor lists (D.history store.old.disk) → IsSettledFor lists (D.history store.new.disk)) }
     ensures stored { OnOk result (KeepsStored (D.history store.old.disk) (D.history store.new.disk)) }
     ensures stopped { IsErr result ↔ (store.new.stopped ≡ true) }
-    ensures untaken { IsErr result → (store.new.map ≡ store.old.map) × (store.new.drawn ≡ store.old.drawn) × (store.new.dues ≡ store.old.dues) }
-    ensures files { store.new.files ≡ store.old.files }
     ensures grows { Grows (D.history store.old.disk) (D.history store.new.disk) }
     ensures fault { ChangeFaultCounted (IsErr result) (D.faults store.old.disk) (D.faults store.new.disk) }
     ensures unfailed { OnOk result (NoFault (D.faults store.old.disk) (D.faults store.new.disk)) }

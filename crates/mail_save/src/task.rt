@@ -1,13 +1,21 @@
 // The task of a delivery.
 ghost use Rattle.std.specs.Prelude.{◌≡◌, ◌≢◌, ◌≤◌, ℕ, List, length, true, false};
 ghost use Rattle.attach_detach.specs.Prepared.{IsPlain};
-ghost use Rattle.mdbox_base.specs.Words.{IsName};
+ghost use Rattle.journal.specs.Events.{Around};
+ghost use Rattle.mdbox_base.specs.Words.{IsName, IsOctets};
 ghost use Rattle.mdbox_base.specs.declared.progress.Did.TheVariants as did;
 ghost use Rattle.mdbox_base.specs.declared.progress.Progress.TheVariants as progress;
 ghost use Rattle.mdbox_base.specs.declared.replies.Refusal.TheVariants as refusal;
 ghost use Rattle.mdbox_base.specs.declared.replies.Reply.TheVariants as reply;
+ghost use Rattle.mdbox_base.specs.declared.requests.Request.TheVariants as request;
+ghost use Rattle.model_lists.specs.Lists.{Lists};
+ghost use Rattle.model_store.specs.Settled.{IsSettledFor, Leaves};
 ghost use Rattle.store_core.specs.Dues.{due_at};
-ghost use Rattle.mail_save.specs.Left.{AreNumbered, HoldsFile};
+ghost use Rattle.task_steps.specs.Step.{Steps, ended_by};
+ghost use Rattle.mail_save.specs.Events.{has_detachable};
+ghost use Rattle.mail_save.specs.Left.{HoldsFile};
+ghost use Rattle.mail_save.specs.Ready.{IsReadyToSave, save_lists, lists_delivered};
+ghost use Rattle.mail_save.specs.SaveSeen.{IsAtSave, around_saving, seen_saving};
 ghost use Rattle.mail_save.specs.Task.{HasLeft, IsOfMessage, Saves, stopped_reply, refused_did, failing_did};
 ghost use Rattle.mail_save.specs.declared.task.SaveStage.TheVariants as stage;
 
@@ -20,7 +28,7 @@ use disk_model::Disk;
 use mdbox_base::{Did, FileNo, Half, MapUid, Name, Progress, Refusal, Reply};
 use std::marker::Model;
 use std::mem;
-use store_core::{Stopped, Store};
+use store_core::{Stopped, Store, listings_are_shown};
 
 /// Which event of a delivery is the next.
 #[derive(Drop)]
@@ -112,11 +120,24 @@ impl SaveTask {
     /// store has to have what the event before left.
     pub fn step<D: Disk>(&mut self, store: &mut Store<D>) -> Progress
         requires left { HasLeft self.old.stage self.old.name self.old.time store.old }
-        requires numbered { AreNumbered store.old }
-        ensures saves { store.old.stopped ≡ false → Saves self.old.stage self.new.stage self.old.name self.old.time result self.new.did store.old store.new (D.history store.old.disk) (D.history store.new.disk) (D.faults store.old.disk) (D.faults store.new.disk) }
-        ensures stopped { store.old.stopped ≡ true → (result ≡ stopped_reply) × (store.new ≡ store.old) × (self.new.did ≡ did.Quiet) }
+        ensures saves { store.old.stopped ≡ false → Saves self.old.stage self.new.stage self.old.name self.old.time self.old.size result self.new.did store.old store.new (D.history store.old.disk) (D.history store.new.disk) (D.faults store.old.disk) (D.faults store.new.disk) }
+
+        // Of the message with these octets, of which no part can be detached, where the task is ready for it: which event of a
+        // run it was, of every run that has come to the store.
+        ensures does { (octets : List ℕ) (after : Around) → has_detachable octets ≡ false → (store.old.stopped ≡ false → IsReadyToSave self.old.stage self.old.name self.old.time self.old.size octets store.old (D.history store.old.disk)) → Steps (IsAtSave self.old.stage) (IsAtSave self.new.stage) (around_saving octets self.old.stage store.old) after (request.Deliver self.old.name self.old.time octets) (seen_saving store.old (D.history store.old.disk) (D.faults store.old.disk)) (seen_saving store.new (D.history store.new.disk) (D.faults store.new.disk)) self.new.did (ended_by result) }
+
+        // Of the message with these octets, where the task is ready for it: of a settled disk each crash image at every moment is
+        // safe for its lists, or for those with the message, whatever fails. Unless the store is stopped then, the disk is
+        // settled for those that the answer tells.
+        ensures moments { (octets : List ℕ) → IsReadyToSave self.old.stage self.old.name self.old.time self.old.size octets store.old (D.history store.old.disk) → (lists : Lists) → IsSettledFor lists (D.history store.old.disk) → Leaves lists (save_lists self.old.stage self.old.name octets lists) (D.history store.old.disk) (D.history store.new.disk) }
+        ensures settled { store.new.stopped ≡ false → (octets : List ℕ) → IsReadyToSave self.old.stage self.old.name self.old.time self.old.size octets store.old (D.history store.old.disk) → (lists : Lists) → IsSettledFor lists (D.history store.old.disk) → IsSettledFor (lists_delivered self.old.stage self.old.name octets result lists) (D.history store.new.disk) }
+
+        ensures stopped { store.old.stopped ≡ true → (result ≡ stopped_reply) × (store.new ≡ store.old) × (self.new.stage ≡ self.old.stage) × (self.new.did ≡ did.Quiet) }
         ensures request { (self.new.name ≡ self.old.name) × (self.new.time ≡ self.old.time) × (self.new.size ≡ self.old.size) }
     {
+        listings_are_shown();
+        store.facts();
+        known_id(store);
         if store.stopped() {
             self.did = Did::Quiet;
             return Progress::Done(Reply::Refused(Refusal::Stopped));
@@ -139,9 +160,8 @@ fn next_event<D: Disk>(
 ) -> Led
     requires running { store.old.stopped ≡ false }
     requires left { HasLeft now name.now time store.old }
-    requires numbered { AreNumbered store.old }
     requires size { size ≤ 67108864 }
-    ensures { Saves now result.next name.now time result.answer result.did store.old store.new (D.history store.old.disk) (D.history store.new.disk) (D.faults store.old.disk) (D.faults store.new.disk) }
+    ensures { Saves now result.next name.now time size result.answer result.did store.old store.new (D.history store.old.disk) (D.history store.new.disk) (D.faults store.old.disk) (D.faults store.new.disk) }
 {
     match now {
         SaveStage::First(prepared) => first_event(store, name, time, &prepared),
@@ -203,13 +223,20 @@ fn did_fail(why: Refusal) -> Did
 fn first_event<D: Disk>(store: &Store<D>, name: &Name, time: u64, prepared: &Prepared) -> Led
     requires running { store.now.stopped ≡ false }
     requires message { (octets : List ℕ) × (length octets ≤ 67108864) × IsPlain octets prepared.now }
-    requires numbered { AreNumbered store.now }
-    ensures { Saves (stage.First prepared.now) result.next name.now time result.answer result.did store.now store.now (D.history store.now.disk) (D.history store.now.disk) (D.faults store.now.disk) (D.faults store.now.disk) }
+    ensures { (size : ℕ) → Saves (stage.First prepared.now) result.next name.now time size result.answer result.did store.now store.now (D.history store.now.disk) (D.history store.now.disk) (D.faults store.now.disk) (D.faults store.now.disk) }
 {
     match begin(store, name, time, prepared) {
         Ok(parts) => goes_on(SaveStage::Taking(parts)),
         Err(why) => ends(why, did_fail(why)),
     }
+}
+
+/// What is true of every store's id.
+fn known_id<D: Disk>(store: &Store<D>)
+    ensures long { length store.now.map.store ≡ 8 }
+    ensures each { IsOctets store.now.map.store }
+{
+    let _ = store.id();
 }
 
 /// What is true of every mailbox name.
@@ -223,8 +250,7 @@ fn known_name(name: &Name)
 fn taking<D: Disk>(store: &mut Store<D>, name: &Name, time: u64, parts: SavedParts) -> Led
     requires running { store.old.stopped ≡ false }
     requires message { IsOfMessage name.now time parts }
-    requires numbered { AreNumbered store.old }
-    ensures { Saves (stage.Taking parts) result.next name.now time result.answer result.did store.old store.new (D.history store.old.disk) (D.history store.new.disk) (D.faults store.old.disk) (D.faults store.new.disk) }
+    ensures { (size : ℕ) → Saves (stage.Taking parts) result.next name.now time size result.answer result.did store.old store.new (D.history store.old.disk) (D.history store.new.disk) (D.faults store.old.disk) (D.faults store.new.disk) }
 {
     known_name(name);
     let size = parts.region.length() as u32;
@@ -245,8 +271,7 @@ fn placing<D: Disk>(
     requires running { store.old.stopped ≡ false }
     requires message { IsOfMessage name.now time parts }
     requires taken { HoldsFile file.0 (length parts.region) store.old }
-    requires numbered { AreNumbered store.old }
-    ensures { Saves (stage.Placing parts file) result.next name.now time result.answer result.did store.old store.new (D.history store.old.disk) (D.history store.new.disk) (D.faults store.old.disk) (D.faults store.new.disk) }
+    ensures { (size : ℕ) → Saves (stage.Placing parts file) result.next name.now time size result.answer result.did store.old store.new (D.history store.old.disk) (D.history store.new.disk) (D.faults store.old.disk) (D.faults store.new.disk) }
 {
     let SavedParts {
         header: _header,
@@ -255,6 +280,7 @@ fn placing<D: Disk>(
         room,
     } = parts;
     let mut region = region.into_vec();
+    known_name(name);
     match place_region(store, name, &mut region, file) {
         Ok(at) => goes_on(SaveStage::Storing { at, origin, room }),
         Err(Stopped) => ends(Refusal::Stopped, Did::Failed),
@@ -273,10 +299,10 @@ fn storing<D: Disk>(
 ) -> Led
     requires running { store.old.stopped ≡ false }
     requires left { HasLeft (stage.Storing at origin room) name.now time store.old }
-    requires numbered { AreNumbered store.old }
     requires size { size ≤ 67108864 }
-    ensures { Saves (stage.Storing at origin room) result.next name.now time result.answer result.did store.old store.new (D.history store.old.disk) (D.history store.new.disk) (D.faults store.old.disk) (D.faults store.new.disk) }
+    ensures { Saves (stage.Storing at origin room) result.next name.now time size result.answer result.did store.old store.new (D.history store.old.disk) (D.history store.new.disk) (D.faults store.old.disk) (D.faults store.new.disk) }
 {
+    store.facts();
     let alloc = store.alloc();
     match store_record(store, alloc, at, origin) {
         Ok(map_uid) => goes_on(SaveStage::Adding {
@@ -302,8 +328,7 @@ fn adding<D: Disk>(
 ) -> Led
     requires running { store.old.stopped ≡ false }
     requires left { HasLeft (stage.Adding added room) name.now time store.old }
-    requires numbered { AreNumbered store.old }
-    ensures { Saves (stage.Adding added room) result.next name.now time result.answer result.did store.old store.new (D.history store.old.disk) (D.history store.new.disk) (D.faults store.old.disk) (D.faults store.new.disk) }
+    ensures { (size : ℕ) → Saves (stage.Adding added room) result.next name.now time size result.answer result.did store.old store.new (D.history store.old.disk) (D.history store.new.disk) (D.faults store.old.disk) (D.faults store.new.disk) }
 {
     match add_message(store, name, added) {
         Ok(uid) => Led {
@@ -336,8 +361,7 @@ fn giving_back<D: Disk>(store: &mut Store<D>, uid: MapUid, why: Refusal, room: L
     requires running { store.old.stopped ≡ false }
     requires due { 1 ≤ due_at uid.0 store.old }
     requires why { why ≢ refusal.Stopped }
-    requires numbered { AreNumbered store.old }
-    ensures { (name : List ℕ) (time : ℕ) → Saves (stage.GivingBack uid why room) result.next name time result.answer result.did store.old store.new (D.history store.old.disk) (D.history store.new.disk) (D.faults store.old.disk) (D.faults store.new.disk) }
+    ensures { (name : List ℕ) (time size : ℕ) → Saves (stage.GivingBack uid why room) result.next name time size result.answer result.did store.old store.new (D.history store.old.disk) (D.history store.new.disk) (D.faults store.old.disk) (D.faults store.new.disk) }
 {
     match give_back(store, uid, room) {
         Ok(()) => ends(why, Did::Quiet),

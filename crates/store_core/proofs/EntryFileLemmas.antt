@@ -81,6 +81,7 @@ below_same store files a b s l =
 pub kept_applied : (files : FilesValue) (drawn later : Highest) (m : MapMeaning) (e : MapEntry) → LeavesPlaces e → later.file ≡ drawn.file → All (LiesBelowEnd m.store files.files) (record_made e) → AreFilesKept files drawn m → AreFilesKept files later (map_applied e m)
 kept_applied files drawn later m e l same made k = record {
   highest = k.highest ∙ sym same;
+  numbered = k.numbered;
   taken = k.taken;
   sealed = λ number f found is. k.sealed number f found (sym (ap (λ (ns : List ℕ). list_any (λ n. n == number) ns) (none_sealed e m.sealed l)) ∙ is);
   below = All-append (LiesBelowEnd m.store files.files) (kept_rows record_rules e m.records) (record_made e)

@@ -9,12 +9,11 @@ use Rattle.std.proofs.lemmas.List.Elements.{All-weaker}
 use Rattle.mdbox_base.specs.declared.entries.Highest.{Highest}
 use Rattle.mdbox_base.specs.declared.ids.FileNo.{FileNo}
 use Rattle.model_meaning.specs.MapMeaning.{MapRecord, MapMeaning, is_own, number_at, is_sealed, guid_file}
-use Rattle.model_meaning.specs.MapFits.{IsApart, IsFree}
 use Rattle.storage_files.specs.declared.file.MailFile.{MailFile}
 use Rattle.storage_files.specs.Files.{FilesValue, AreFilesInOrder, MayBeTakenFor, file_in, end_in, is_taken_in, changed_in, without_file, released_in, ending_at, with_taken, file_begun}
 use Rattle.storage_files.proofs.FileListLemmas.{KeepsNumber, file-none, file-found, file-here, file-other, file-gone, file-without, file-begun, file-before_begun, ends-here}
 use Rattle.storage_files.proofs.KnownLemmas.{taken-there}
-use Rattle.store_core.specs.Files.{MayGrow, EndsBehind, LiesBelowEnd, AreFilesKept, IsNewPlace}
+use Rattle.store_core.specs.Files.{MayGrow, EndsBehind, LiesBelowEnd, AreFilesKept}
 use Rattle.store_core.proofs.HighestFileLemmas.{NamesUpTo, sealed_low, guid_low}
 
 -- ---- a file that was there before
@@ -58,6 +57,7 @@ taken_on old drawn m number now k c is = grows_on old.files number now c (elim (
 pub kept_on : (old new : FilesValue) (drawn : Highest) (m : MapMeaning) → CameAll old.files new.files → new.highest ≡ old.highest → AreFilesKept old drawn m → AreFilesKept new drawn m
 kept_on old new drawn m came same k = record {
   highest = same ∙ k.highest;
+  numbered = λ number f found. let c = came number f found in k.numbered number c.was c.found;
   taken = λ number f found is. taken_on old drawn m number f k (came number f found) is;
   sealed = λ number f found is. let c = came number f found in c.sealed ∙ k.sealed number c.was c.found is;
   below = All-weaker (LiesBelowEnd m.store old.files) (LiesBelowEnd m.store new.files) (λ row b. below_on m.store old.files new.files row came b) m.records k.below;
@@ -186,6 +186,10 @@ kept_begun old file spare drawn m order next last up rows names k =
     let high : old.highest ≡ drawn.file = k.highest in
     record {
       highest = refl;
+      numbered = λ number f found. elim (begun_or_before file old.files number f none found) [
+        | inl begun ↦ let e : number ≡ file.0 = begun.0 in omega (arith, e, next)
+        | inr before ↦ k.numbered number f before
+      ];
       taken = λ number f found is. elim (begun_or_before file old.files number f none found) [
         | inl begun ↦ subst MayGrow begun.1 (record { unsealed = refl; unbarred = refl })
         | inr before ↦ k.taken number f before is
@@ -206,30 +210,6 @@ kept_begun old file spare drawn m order next last up rows names k =
                 absurd (omega (arith, l, e, next, high, up))) (b.guid own);
           };
     }
-
--- ---- where octets are placed
-
--- they overlap no region
-pub free_behind : (n end size : ℕ) (value : FilesValue) (drawn : Highest) (m : MapMeaning) → HasFile n end value.files → AreFilesKept value drawn m → IsFree m n end size
-free_behind n end size value drawn m h k = λ at d lt same.
-    let row : MapRecord = slice_index_or m.records at d in
-    let b : LiesBelowEnd m.store value.files row = k.below at d lt in
-    let region : EndsBehind n (row.offset + row.size) value.files = subst (λ (j : ℕ). EndsBehind j (row.offset + row.size) value.files) same b.region in
-    let e = region h.f h.found (k.taken n h.f h.found h.taken) in
-    let is : e.0 ≡ end = same_Some _ _ (sym e.1 ∙ h.ends) in
-    let le : row.offset + row.size ≤ e.0 = e.2 in
-    inr (omega (arith, is, le))
-
--- and no record's GUID names their place
-pub new_behind : (n end : ℕ) (value : FilesValue) (drawn : Highest) (m : MapMeaning) → HasFile n end value.files → AreFilesKept value drawn m → IsNewPlace m n end
-new_behind n end value drawn m h k = λ at d lt own number offset.
-    let row : MapRecord = slice_index_or m.records at d in
-    let b : LiesBelowEnd m.store value.files row = k.below at d lt in
-    let guid : EndsBehind n (number_at 12 row.guid + 1) value.files = subst (λ (j : ℕ). EndsBehind j (number_at 12 row.guid + 1) value.files) number (b.guid own) in
-    let e = guid h.f h.found (k.taken n h.f h.found h.taken) in
-    let is : e.0 ≡ end = same_Some _ _ (sym e.1 ∙ h.ends) in
-    let le : number_at 12 row.guid + 1 ≤ e.0 = e.2 in
-    omega (arith, is, le, offset)
 
 -- ---- where it ends afterwards
 

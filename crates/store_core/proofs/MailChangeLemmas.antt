@@ -73,9 +73,6 @@ region_grown o x y row h =
 region_nowhere : (o : Option (List ℕ)) (row : MapRecord) → IsSameRegion o None row → ⊥
 region_nowhere o row h = absurd (let w : None ≡ Some h.second = h.in_second in cc w)
 
-region_from_nowhere : (o : Option (List ℕ)) (row : MapRecord) → IsSameRegion None o row → ⊥
-region_from_nowhere o row h = absurd (let w : None ≡ Some h.first = h.in_first in cc w)
-
 -- it stands in a file where it stands in the file's front
 region_untaken : (end : ℕ) (o i : Option (List ℕ)) (row : MapRecord) → IsSameRegion o (option_map (take end) i) row → IsSameRegion o i row
 region_untaken end o None row h = absurd (region_nowhere o row h)

@@ -40,7 +40,7 @@ use Rattle.store_core.specs.Running.{AreBoxLogs, ReadBoxLogs, IsRunning, IsUpTo,
 use Rattle.store_core.specs.declared.store.OpenBox.{OpenBox}
 use Rattle.store_core.proofs.BoxAppendLemmas.{store_sound}
 use Rattle.store_core.proofs.HighestFileLemmas.{NamesUpTo, names_up_to}
-use Rattle.store_core.proofs.KeptFileLemmas.{with_change, CameAll, HasFile, came_itself, came_longer, came_made, came_taken, came_released, grew, kept_on, kept_begun, none_begun, begun_or_before}
+use Rattle.store_core.proofs.KeptFileLemmas.{with_change, CameAll, HasFile, came_longer, came_made, came_taken, came_released, grew, kept_on, kept_begun, none_begun, begun_or_before}
 use Rattle.store_core.proofs.MailChangeLemmas.{Own, MailChange, mail_added, mail_made, mail_same, region_firm, added_as_read, opens_on, root_on, settled_on, stored_on, front_safe, absent_safe}
 
 -- ---- files that no crash takes away
@@ -350,27 +350,27 @@ ends_with n offset octets files old new is known added =
     (λ a b r e. record { before = r.before; long = same_Some _ _ (sym (ap (option_map length) r.read) ∙ e ∙ is); reads = r.reads }) added known
 
 -- a crash leaves it, since it was there to stay
-held_now : {D : Type 0} → (n offset : ℕ) (octets : List ℕ) (old new : History) (v : StoreValue D) (lists : Lists) → IsStore (Some old) v → v.stopped ≡ false → HasFile n offset v.files.files → Own old.now → IsAddedTo octets (old.now (file.Mail n)) (new.now (file.Mail n))
-    → IsSettled old.now lists → LeavesAsRead (file.Mail n) new.now
-held_now n offset octets old new v lists s runs h own added settled =
+held_now : {D : Type 0} → (n offset : ℕ) (octets : List ℕ) (old new : History) (v : StoreValue D) (disk : D) (files : FilesValue) (lists : Lists) → IsStore (Some old) v → v.stopped ≡ false → HasFile n offset v.files.files → Own new.now → IsAddedTo octets (old.now (file.Mail n)) (new.now (file.Mail n))
+    → IsStore (Some new) (record v { disk = disk; files = files }) → IsSettled new.now lists → LeavesAsRead (file.Mail n) new.now
+held_now n offset octets old new v disk files lists s runs h own added later settled =
     let r = s.running runs in
     let grows : MayGrow h.f = s.files.taken n h.f h.found h.taken in
     let here : IsThere (old.now (file.Mail n)) = is_there_from (old.now (file.Mail n)) added.before added.read in
     added_as_read n old.now new.now octets added (elim (r.files_stay n h.f h.found grows here) [
-      | inl has ↦ region_firm old.now lists settled n own (subst (λ (m : MapMeaning). list_any (λ row. row.file == n) m.records ≡ true) same has)
+      | inl has ↦ λ gone. region_firm new.now lists settled n own (subst (λ (m : MapMeaning). list_any (λ row. row.file == n) m.records ≡ true) same has) ((added.leaves None).1 (inr (refl, gone)))
       | inr firm ↦ firm
     ])
   where
     same : v.map ≡ map_meaning settled.store settled.entries
     same =
-        let one = map_same (files_of old.now) v.map.store settled.store s.entries settled.entries (s.running runs).opens.passed.map_log settled.safe.stands.map_log in
-        s.map_is ∙ ap (λ (id : List ℕ). map_meaning id s.entries) one.0 ∙ ap (map_meaning settled.store) one.1
+        let one = map_same (files_of new.now) v.map.store settled.store later.entries settled.entries (later.running runs).opens.passed.map_log settled.safe.stands.map_log in
+        later.map_is ∙ ap (λ (id : List ℕ). map_meaning id later.entries) one.0 ∙ ap (map_meaning settled.store) one.1
 
-pub held_then : {D : Type 0} → (n offset : ℕ) (octets : List ℕ) (old new : Option History) (v : StoreValue D) → IsStore old v → v.stopped ≡ false → HasFile n offset v.files.files → IfTold old Own → Between (λ a b. IsAddedTo octets (a (file.Mail n)) (b (file.Mail n))) old new
-    → (lists : Lists) → IsSettledFor lists old → IfTold new (LeavesAsRead (file.Mail n))
-held_then n offset octets None new v s runs h own added lists settled = absurd settled
-held_then n offset octets (Some old) None v s runs h own added lists settled = absurd added
-held_then n offset octets (Some old) (Some new) v s runs h own added lists settled = held_now n offset octets old new v lists s runs h own added settled
+pub held_then : {D : Type 0} → (n offset : ℕ) (octets : List ℕ) (old new : Option History) (v : StoreValue D) (disk : D) (files : FilesValue) → IsStore old v → v.stopped ≡ false → HasFile n offset v.files.files → IfTold new Own → Between (λ a b. IsAddedTo octets (a (file.Mail n)) (b (file.Mail n))) old new
+    → IsStore new (record v { disk = disk; files = files }) → (lists : Lists) → IsSettledFor lists new → IfTold new (LeavesAsRead (file.Mail n))
+held_then n offset octets old None v disk files s runs h own added later lists settled = absurd settled
+held_then n offset octets None (Some new) v disk files s runs h own added later lists settled = absurd (let e : Some new ≡ None = added in cc e)
+held_then n offset octets (Some old) (Some new) v disk files s runs h own added later lists settled = held_now n offset octets old new v disk files lists s runs h own added later settled
 
 -- ---- by what the calls have at hand
 
@@ -402,12 +402,6 @@ made_store n header old new v disk files s runs own none is same keeps still =
     (λ number. subst (λ (f : FilesValue). IsAsKnown f.files number new) is (still number (r.files_known number)))
     (stay_new v.files.files later.files v.map.records n header old new came same keeps r.files_stay)
     (kept_on v.files later v.drawn v.map came refl s.files))
-
--- room for more files
-pub spare_store : {D : Type 0} → (h : Option History) (v : StoreValue D) (files : FilesValue) (spare : ℕ) → files ≡ record v.files { spare = spare } → IsStore h v → IsStore h (record v { files = files })
-spare_store h v files spare is s =
-    subst (λ (f : FilesValue). IsStore h (record v { files = f })) (sym is)
-    (store_came h v (record v.files { spare = spare }) (λ number now found. came_itself v.files.files number now found) refl (λ number. refl) s)
 
 -- a file that is given back
 pub released_store : {D : Type 0} → (h : Option History) (v : StoreValue D) (files : FilesValue) (n : ℕ) → files ≡ record v.files { files = released_in n v.files.files } → ((number : ℕ) → end_in number files.files ≡ end_in number v.files.files)

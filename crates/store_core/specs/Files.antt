@@ -25,11 +25,12 @@ pub record LiesBelowEnd (store : List ℕ) (files : List MailFile) (row : MapRec
   pub region : EndsBehind row.file (row.offset + row.size) files
   pub guid : is_own store row.guid ≡ true → EndsBehind (number_at 8 row.guid) (number_at 12 row.guid + 1) files
 
--- What the store knows of its storage files: the greatest number is the one that was drawn, somebody who has taken a file may
--- add to it, files that the map has sealed are sealed, and all that records name lies below the ends. So what is added
--- overlaps no region, and its GUID is new.
+-- What the store knows of its storage files: the greatest number is the one that was drawn, the least is at least 1, somebody
+-- who has taken a file may add to it, files that the map has sealed are sealed, and all that records name lies below the ends.
+-- So what is added overlaps no region, and its GUID is new.
 pub record AreFilesKept (files : FilesValue) (drawn : Highest) (m : MapMeaning) : Type 0 where
   pub highest : files.highest ≡ drawn.file
+  pub numbered : (number : ℕ) (f : MailFile) → file_in number files.files ≡ Some f → 1 ≤ number
   pub taken : (number : ℕ) (f : MailFile) → file_in number files.files ≡ Some f → f.taken ≡ true → MayGrow f
   pub sealed : (number : ℕ) (f : MailFile) → file_in number files.files ≡ Some f → is_sealed m number ≡ true → f.sealed ≡ true
   pub below : All (LiesBelowEnd m.store files.files) m.records

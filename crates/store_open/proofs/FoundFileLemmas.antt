@@ -1,16 +1,18 @@
 -- The storage files that an opening found, as the store keeps them.
 use Rattle.std.specs.Prelude.{find}
-use Rattle.std.proofs.Common.{◌≡◌, ◌<◌, ◌≤◌, ◌+◌, ◌==◌, ◌&&◌, nat_le, inl, inr, ℕ, Bool, true, false, List, length, map, get_or, Option, Some, None, All, refl, sym, ◌∙◌, ap, subst, arith}
+use Rattle.std.proofs.Common.{◌≡◌, ◌<◌, ◌≤◌, ◌+◌, ◌==◌, ◌&&◌, ◌||◌, nat_le, inl, inr, ℕ, Bool, true, false, List, [], ◌∷◌, length, map, get_or, Option, Some, None, All, refl, sym, ◌∙◌, ap, subst, arith}
 use Rattle.std.specs.Option.{option_map}
-use Rattle.std.proofs.lemmas.Bool.{cases_Bool, cond-true, cond-false, eq-eqb, true≢false}
+use Rattle.std.specs.List.{list_any}
+use Rattle.std.proofs.lemmas.Bool.{cases_Bool, cond-true, cond-false, eq-eqb, true≢false, false≢true}
 use Rattle.std.proofs.lemmas.Grind.{common_steps}
-use Rattle.std.proofs.lemmas.List.Elements.{All-map}
+use Rattle.std.proofs.lemmas.List.Elements.{All-map, All-head, All-tail}
 use Rattle.std.proofs.lemmas.List.Folds.{list_any_at}
 use Rattle.disk_model.specs.Disk.{DiskState, History, IfTold, IsIdle}
 use Rattle.disk_model.proofs.IdleLemmas.{idle-on, idle-back}
 use Rattle.disk_model.proofs.MomentLemmas.{if_told-all}
 use Rattle.mdbox_base.specs.declared.entries.Highest.{Highest}
 use Rattle.model_meaning.specs.MapMeaning.{MapRecord, MapMeaning, is_own, number_at, is_sealed}
+use Rattle.model_meaning.specs.Sound.{IsSoundMap}
 use Rattle.model_octets.proofs.PairLemmas.{found_holds}
 use Rattle.storage_files.specs.Files.{FilesValue, file_in, file_found}
 use Rattle.storage_files.specs.OnDisk.{IsAsKnown}
@@ -60,6 +62,27 @@ has_last m number end e = elim (cases_Bool (has_region m number)) [
 last_of : (m : MapMeaning) (history : Option History) (states : List FileState) (number : ℕ) (f : MailFile) → AreFilesFound m history states → (w : WasFound m states number f) → MayGrow f → (has_region m number ≡ true) × (end_of m number ≡ w.s.end)
 last_of m history states number f found w g = has_last m number w.s.end (sym ((found.ends number).unsealed (grows_open m states number f w g)) ∙ w.ends)
 
+-- ---- numbers
+
+any_number : {A : Type 0} → (number_in : A → ℕ) (xs : List A) (number : ℕ) → All (λ x. 1 ≤ number_in x) xs → list_any (λ x. number_in x == number) xs ≡ true → 1 ≤ number
+any_number number_in [] number some is = absurd (false≢true is)
+any_number number_in (x ∷ xs) number some is = elim (cases_Bool (number_in x == number)) [
+  | inl hit ↦
+      let same : number_in x ≡ number = same_number (number_in x) number hit in
+      let l : 1 ≤ number_in x = All-head (λ y. 1 ≤ number_in y) x xs some in
+      omega (arith, same, l)
+  | inr miss ↦ any_number number_in xs number (All-tail (λ y. 1 ≤ number_in y) x xs some) (sym (ap (λ (t : Bool). t || list_any (λ y. number_in y == number) xs) miss) ∙ is)
+]
+
+-- a region lies in the file, or it is sealed
+file_numbered : (m : MapMeaning) (history : Option History) (states : List FileState) (number : ℕ) (f : MailFile) → IsSoundMap m → AreFilesFound m history states → file_in number (map file_found states) ≡ Some f → 1 ≤ number
+file_numbered m history states number f sound found e =
+    let w = was_found m states number f found.marks e in
+    elim (cases_Bool (is_sealed m number)) [
+      | inl closed ↦ any_number (λ (n : ℕ). n) m.sealed number (λ k d lt. (sound.sealed k d lt).low) closed
+      | inr growing ↦ any_number (λ (row : MapRecord). row.file) m.records number (λ k d lt. (sound.records k d lt).file.low) (has_last m number w.s.end (sym ((found.ends number).unsealed growing) ∙ w.ends)).0
+    ]
+
 -- ---- all that records name lies below the ends
 
 region_below : (m : MapMeaning) (history : Option History) (states : List FileState) (row : MapRecord) → AreFilesFound m history states → row.offset + row.size ≤ end_of m row.file → EndsBehind row.file (row.offset + row.size) (map file_found states)
@@ -89,10 +112,11 @@ guid_below m history states k d lt found own = λ f e g.
 each_below : (m : MapMeaning) (k : ℕ) (d : MapRecord) → k < length m.records → (get_or m.records k d).offset + (get_or m.records k d).size ≤ end_of m (get_or m.records k d).file
 each_below m k d lt = end_by m (get_or m.records k d).file k d lt refl
 
-files_kept : (m : MapMeaning) (history : Option History) (files : FilesValue) (drawn : Highest) → m.highest.file ≡ drawn.file → IsFoundFiles m history files → AreFilesKept files drawn m
-files_kept m history files drawn highest found =
+files_kept : (m : MapMeaning) (history : Option History) (files : FilesValue) (drawn : Highest) → IsSoundMap m → m.highest.file ≡ drawn.file → IsFoundFiles m history files → AreFilesKept files drawn m
+files_kept m history files drawn sound highest found =
     subst (λ (v : FilesValue). AreFilesKept v drawn m) (sym found.is) (record {
       highest = highest;
+      numbered = λ number f e. file_numbered m history found.states number f sound found.found e;
       taken = λ number f e taken.
           let w = was_found m found.states number f found.found.marks e in
           absurd (true≢false (sym taken ∙ ap (λ (x : MailFile). x.taken) w.is));
@@ -124,9 +148,9 @@ pub record HasFiles (m : MapMeaning) (files : FilesValue) (new : Option History)
   pub known : (number : ℕ) → IsAsKnown files.files number new
   pub stay : IfTold new (StayThere files.files m.records)
 
-pub has_files : (generation : ℕ) (m : MapMeaning) (files : FilesValue) (now new : Option History) → SweptFilesAreKnown → IfTold now (OpensWith generation m) → IsFoundFiles m now files → IsSwept generation m now new → HasFiles m files new
-has_files generation m files now new law opens found swept = record {
-  kept = files_kept m now files m.highest refl found;
+pub has_files : (generation : ℕ) (m : MapMeaning) (files : FilesValue) (now new : Option History) → IsSoundMap m → SweptFilesAreKnown → IfTold now (OpensWith generation m) → IsFoundFiles m now files → IsSwept generation m now new → HasFiles m files new
+has_files generation m files now new sound law opens found swept = record {
+  kept = files_kept m now files m.highest sound refl found;
   known = λ number. subst (λ (v : FilesValue). IsAsKnown v.files number new) (sym found.is) (law generation m found.states now new opens found.found swept number);
   stay = files_stay m now new files found;
 }

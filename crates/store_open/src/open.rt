@@ -17,6 +17,7 @@ ghost use Rattle.store_sweep.specs.Swept.{IsSwept};
 
 use crate::error::{OpenError, OpenRefused};
 use disk_model::Disk;
+use model_meaning::meanings_are_sound;
 use std::alloc::Global;
 use storage_files::MailFiles;
 use store_checks::check_store;
@@ -101,5 +102,6 @@ fn open_logs<D: Disk>(alloc: Global, disk: &mut D) -> Result<OpenParts, OpenErro
     listings_are_shown();
     counts_cover_listings();
     swept_files_are_known();
+    meanings_are_sound();
     Ok(OpenParts { logs, files, room })
 }

@@ -3,3 +3,5 @@
 
 #[cfg(test)]
 mod saves;
+#[cfg(test)]
+mod stepping;

@@ -122,10 +122,10 @@ impl<D: Disk> Store<D> {
         requires fits { (end : ℕ) × (end_in file.0 self.old.files.files ≡ Some end) × (end + length octets.now ≤ 4294967295) }
 
         // Of a settled disk each image at every moment is safe for its lists, whichever call fails; and after Ok the disk is
-        // settled for them again, and a crash leaves the file as it reads.
+        // settled for them again, and of a disk that is settled then a crash leaves the file as it reads.
         ensures any_moment { (lists : Lists) → IsSettledFor lists (D.history self.old.disk) → Leaves lists lists (D.history self.old.disk) (D.history self.new.disk) }
         ensures settled { OnOk result ((lists : Lists) → IsSettledFor lists (D.history self.old.disk) → IsSettledFor lists (D.history self.new.disk)) }
-        ensures held { OnOk result ((lists : Lists) → IsSettledFor lists (D.history self.old.disk) → IfTold (D.history self.new.disk) (LeavesAsRead (Mail file.0))) }
+        ensures held { OnOk result ((lists : Lists) → IsSettledFor lists (D.history self.new.disk) → IfTold (D.history self.new.disk) (LeavesAsRead (Mail file.0))) }
 
         // After Ok the octets stand at the old end, which is the answer. They overlap no region, and no GUID names their place.
         ensures offset { IfOk result (λ offset. end_in file.0 self.old.files.files ≡ Some offset) }

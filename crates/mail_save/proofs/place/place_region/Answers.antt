@@ -1,9 +1,11 @@
-use Rattle.std.proofs.Common.{rules, ◌≡◌, ◌<◌, ◌+◌, ◌^◌, ℕ, List, All, length, ap, sym, subst, ◌∙◌}
+use Rattle.std.proofs.Common.{rules, ◌≡◌, ◌<◌, ◌+◌, ◌^◌, ℕ, List, length, refl, ap, sym, subst, ◌∙◌}
 use Rattle.disk_model.specs.Disk.{IfTold}
 use Rattle.disk_model.specs.declared.name.FileName.TheVariants.{Mail}
-use Rattle.storage_files.specs.declared.file.MailFile.{MailFile}
+use Rattle.storage_files.proofs.FileListLemmas.{ends-other}
+use Rattle.storage_files.specs.Files.{end_in, ending_at}
 use Rattle.store_core.specs.Files.{EndsWith}
-use Rattle.mail_save.proofs.PlaceLemmas.{HasNumber, numbered_ending, region_placed, place_named}
+use Rattle.store_core.specs.Value.{indexes_of}
+use Rattle.mail_save.proofs.PlaceLemmas.{region_placed, place_named}
 use Rattle.mail_save.proofs.place.place_region.Goals as goal
 
 pub returns-clause-placed : goal.returns-clause-placed
@@ -19,6 +21,14 @@ pub returns-clause-written : goal.returns-clause-written
 returns-clause-written g c = λ time octets is.
     subst (λ (text : List ℕ). IfTold (g.D.Disk.history c.place.new.self.disk) (λ now. EndsWith c.in_ok-offset.offset text (now (Mail c.args.file.0)))) (c.set_guid.ensures time octets is) c.in_ok-offset.ensures.placed
 
-pub returns-clause-numbered : goal.returns-clause-numbered
-returns-clause-numbered g c = λ h.
-    subst (λ (files : List MailFile). All HasNumber files) (ap (λ v. v.files.files) (sym c.in_ok-offset.ensures.ok)) (numbered_ending c.args.file.0 (c.in_ok-offset.offset + length c.set_guid.new.region) c.args.store.now.files.files h)
+pub returns-clause-long : goal.returns-clause-long
+returns-clause-long g c = λ time octets is. ap length (sym (c.set_guid.ensures time octets is))
+
+pub returns-clause-others : goal.returns-clause-others
+returns-clause-others g c = λ number apart.
+    ap (λ v. end_in number v.files.files) c.in_ok-offset.ensures.ok ∙ ends-other c.args.file.0 number (ending_at (c.in_ok-offset.offset + length c.set_guid.new.region)) c.args.store.now.files.files (λ f. refl) apart
+
+pub returns-in_err-offset-clause-alone : goal.returns-in_err-offset-clause-alone
+returns-in_err-offset-clause-alone g c = λ e.
+    let o = c.in_err-offset.ensures.err in
+    record { map = ap (λ v. v.map) o; indexes = ap (λ v. indexes_of v.boxes) o; dues = ap (λ v. v.dues) o; drawn = ap (λ v. v.drawn) o; files = ap (λ v. v.files) o }

@@ -1,31 +1,52 @@
-use Rattle.std.proofs.Common.{List, All, length, arith, ap, sym, subst, ◌∙◌}
-use Rattle.storage_files.specs.declared.file.MailFile.{MailFile}
-use Rattle.mail_save.proofs.PlaceLemmas.{HasNumber, numbered_begun, numbered_ending, numbered_taken, unchanged_leaves, unchanged_settled}
+use Rattle.std.proofs.Common.{ap, inl, refl, ◌∙◌}
+use Rattle.mail_save.proofs.PlaceLemmas.{unchanged_leaves, unchanged_settled}
+use Rattle.mail_save.proofs.TakingLemmas.{takes_known, takes_new, takes_failing, takes_full, holds_known, holds_new}
 use Rattle.mail_save.proofs.place.take_file.Goals as goal
+
+-- ---- no memory
 
 pub returns-in-Err-clause-any_moment : goal.returns-in-Err-clause-any_moment
 returns-in-Err-clause-any_moment g c = λ lists s. unchanged_leaves g.D.Disk.history c.args.store.now.disk c.reserve.new.self.disk (ap (λ v. v.disk) c.in-Err.ensures.err) lists lists s
 
-pub returns-in-Known-clause-numbered : goal.returns-in-Known-clause-numbered
-returns-in-Known-clause-numbered g c =
-    let kept = subst (λ (files : List MailFile). All HasNumber files) (ap (λ v. v.files.files) (sym c.in_default.ensures.ok)) c.requires.numbered in
-    subst (λ (files : List MailFile). All HasNumber files) (ap (λ v. v.files.files) (sym c.in-Known.ensures.same)) (numbered_taken c.in-Known.file.0 c.reserve.new.self.files.files kept)
+pub returns-in-Err-clause-none : goal.returns-in-Err-clause-none
+returns-in-Err-clause-none g c = inl (refl, c.in-Err.ensures.err)
+
+-- ---- a file that is there
+
+pub returns-in-Known-clause-taken : goal.returns-in-Known-clause-taken
+returns-in-Known-clause-taken g c = holds_known c.args.size c.in-Known.file c.take_for.new.self _ c.facts-in-Known.ensures.store c.in-Known.ensures.given
+
+pub returns-in-Known-clause-takes : goal.returns-in-Known-clause-takes
+returns-in-Known-clause-takes g c =
+    takes_known c.args.size _ c.in-Known.file c.args.store.now c.reserve.new.self c.take_for.new.self c.facts.ensures.files c.facts.ensures.store.files.highest c.in_default.ensures.ok c.in-Known.ensures.same c.in-Known.ensures.take
 
 pub returns-in-Known-clause-any_moment : goal.returns-in-Known-clause-any_moment
 returns-in-Known-clause-any_moment g c = λ lists s.
     unchanged_leaves g.D.Disk.history c.args.store.now.disk c.take_for.new.self.disk (ap (λ v. v.disk) c.in-Known.ensures.same ∙ ap (λ v. v.disk) c.in_default.ensures.ok) lists lists s
 
-pub returns-in-Ok-clause-numbered : goal.returns-in-Ok-clause-numbered
-returns-in-Ok-clause-numbered g c =
-    let kept = subst (λ (files : List MailFile). All HasNumber files) (ap (λ v. v.files.files) (sym c.in_default.ensures.ok)) c.requires.numbered in
-    let next = c.in-New.ensures.take.1 in
-    let begun = subst (λ (files : List MailFile). All HasNumber files) (ap (λ v. v.files.files) (sym c.in-New.ensures.same)) (numbered_begun c.in-New.file c.reserve.new.self.files.files (omega (arith, next)) kept) in
-    subst (λ (files : List MailFile). All HasNumber files) (ap (λ v. v.files.files) (sym c.in-Ok.ensures.ok)) (numbered_ending c.in-New.file.0 (length c.args.header.now) c.take_for.new.self.files.files begun)
+-- ---- a new one
+
+pub returns-in-Ok-clause-taken : goal.returns-in-Ok-clause-taken
+returns-in-Ok-clause-taken g c =
+    holds_new c.args.size _ c.in-New.file c.make_file.new.self _ c.facts-in-Ok.ensures.store (c.make_file.ensures.taken c.in-New.file.0 ∙ c.in-New.ensures.given.0) c.in-Ok.ensures.ends c.requires.size
+
+pub returns-in-Ok-clause-takes : goal.returns-in-Ok-clause-takes
+returns-in-Ok-clause-takes g c =
+    takes_new c.args.size _ _ c.in-New.file c.args.store.now c.reserve.new.self c.take_for.new.self c.make_file.new.self c.facts.ensures.files c.in_default.ensures.ok c.in-New.ensures.same c.in-Ok.ensures.ok c.in-New.ensures.take
 
 pub returns-in-Ok-clause-settled : goal.returns-in-Ok-clause-settled
 returns-in-Ok-clause-settled g c = λ ran lists s.
     c.in-Ok.ensures.settled lists (unchanged_settled g.D.Disk.history c.args.store.now.disk c.take_for.new.self.disk (ap (λ v. v.disk) c.in-New.ensures.same ∙ ap (λ v. v.disk) c.in_default.ensures.ok) lists s)
 
+pub returns-in-Err-make_file-clause-none : goal.returns-in-Err-make_file-clause-none
+returns-in-Err-make_file-clause-none g c =
+    takes_failing c.args.size _ c.in-New.file c.args.store.now c.reserve.new.self c.take_for.new.self c.make_file.new.self c.facts.ensures.files c.in_default.ensures.ok c.in-New.ensures.same c.in-Err-make_file.ensures.err c.in-New.ensures.take
+
+-- ---- no number is left
+
 pub returns-in-Full-clause-any_moment : goal.returns-in-Full-clause-any_moment
 returns-in-Full-clause-any_moment g c = λ lists s.
     unchanged_leaves g.D.Disk.history c.args.store.now.disk c.take_for.new.self.disk (ap (λ v. v.disk) c.in-Full.ensures.same ∙ ap (λ v. v.disk) c.in_default.ensures.ok) lists lists s
+
+pub returns-in-Full-clause-none : goal.returns-in-Full-clause-none
+returns-in-Full-clause-none g c = takes_full c.args.size _ c.args.store.now c.reserve.new.self c.take_for.new.self c.facts.ensures.store.files.highest c.in_default.ensures.ok c.in-Full.ensures.same c.in-Full.ensures.take

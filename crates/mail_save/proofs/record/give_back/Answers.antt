@@ -1,7 +1,18 @@
-use Rattle.std.proofs.Common.{sym, subst}
+use Rattle.std.proofs.Common.{refl, sym, subst}
 use Rattle.mdbox_base.specs.declared.entries.MapEntry.{MapEntry}
 use Rattle.store_core.specs.MapAppend.{IsReadyToStore}
+use Rattle.mail_save.proofs.StoringLemmas.{left_alone, lowers_record}
 use Rattle.mail_save.proofs.record.give_back.Goals as goal
 
 pub returns-in-Ok-clause-settled : goal.returns-in-Ok-clause-settled
 returns-in-Ok-clause-settled g c = λ lists s. c.in-Ok.ensures.settled lists (subst (λ (e : MapEntry). IsReadyToStore e (g.D.Disk.history c.args.store.now.disk)) (sym c.entry_of.ensures) tt) s
+
+pub returns-in-Ok-clause-lowers : goal.returns-in-Ok-clause-lowers
+returns-in-Ok-clause-lowers g c =
+    lowers_record c.args.uid c.entry_of.result c.args.store.now c.append_map.new.self c.entry_of.ensures c.append_map.ensures.same c.in-Ok.ensures.taken c.append_map.ensures.mailboxes c.in-Ok.ensures.drawn c.in-Ok.ensures.due
+
+pub returns-in-Err-Stopped-clause-alone : goal.returns-in-Err-Stopped-clause-alone
+returns-in-Err-Stopped-clause-alone g c = λ e.
+    let o = c.append_map.ensures in
+    let k = c.in-Err-Stopped.ensures.untaken refl in
+    left_alone c.args.store.now c.append_map.new.self o.same k.0 k.1 k.2

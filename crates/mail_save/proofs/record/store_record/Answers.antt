@@ -1,19 +1,17 @@
-use Rattle.std.proofs.Common.{inl, inr, List, [], All, Some, ◌≡◌, ap, sym, subst, refl, ◌∙◌}
+use Rattle.std.proofs.Common.{Err, inl, inr, [], Some, ◌≡◌, ap, sym, subst, refl}
 use Rattle.std.proofs.lemmas.List.Elements.{All-head}
 use Rattle.model_appends.specs.MapAppending.{stored_row}
 use Rattle.model_meaning.specs.MapMeaning.{MapRecord, record_at}
 use Rattle.model_store.specs.Settled.{IsSettledFor, Leaves}
-use Rattle.storage_files.specs.declared.file.MailFile.{MailFile}
-use Rattle.mail_save.proofs.PlaceLemmas.{HasNumber, numbered_released, unchanged_leaves}
+use Rattle.mail_save.proofs.PlaceLemmas.{unchanged_leaves}
 use Rattle.mail_save.proofs.RecordLemmas.{file_drawn, guid_drawn, record_fits, record_below, record_lies, ready_as}
 use Rattle.mail_save.proofs.SaveEventLemmas.{uids_full, uids_left}
+use Rattle.mail_save.proofs.StoringLemmas.{gives_back, left_alone, spared_as, stores_placed}
+use Rattle.mail_save.specs.SaveEffects.{AreSpared}
 use Rattle.mail_save.proofs.record.store_record.Goals as goal
 
 pub returns-in_default-clause-any_moment : goal.returns-in_default-clause-any_moment
 returns-in_default-clause-any_moment g c = λ lists ready s. unchanged_leaves g.D.Disk.history c.args.store.now.disk c.release.new.self.disk (ap (λ v. v.disk) c.release.ensures.same) lists lists s
-
-pub returns-in_default-clause-numbered : goal.returns-in_default-clause-numbered
-returns-in_default-clause-numbered g c = λ h. subst (λ (files : List MailFile). All HasNumber files) (ap (λ v. v.files.files) (sym c.release.ensures.same)) (numbered_released c.args.at.file.0 c.args.store.now.files.files h)
 
 pub append_map-requires-clause-fits : goal.append_map-requires-clause-fits
 append_map-requires-clause-fits g c =
@@ -30,12 +28,6 @@ pub append_map-requires-clause-region : goal.append_map-requires-clause-region
 append_map-requires-clause-region g c =
     record_lies c.args.origin c.in-Some.uid c.args.at c.empty.result c.args.store.now _ c.requires.placed ((c.facts.ensures.store.running c.requires.running).files_known c.args.at.file.0)
 
-pub returns-in-Ok-clause-record : goal.returns-in-Ok-clause-record
-returns-in-Ok-clause-record g c =
-    let row = stored_row c.args.origin 1 c.in-Some.uid c.args.at.file c.args.at.offset c.args.at.size c.args.at.guid c.empty.result in
-    let made = All-head (λ (r : MapRecord). record_at c.append_map.new.self.map r.uid ≡ Some r) row [] c.in-Ok.ensures.made in
-    (row, ap (λ v. record_at v.map c.in-Some.uid.0) c.release-in-Ok.ensures.same ∙ made, refl)
-
 pub returns-in-Ok-clause-any_moment : goal.returns-in-Ok-clause-any_moment
 returns-in-Ok-clause-any_moment g c = λ lists ready s.
     subst (λ d. Leaves lists lists (g.D.Disk.history c.args.store.now.disk) (g.D.Disk.history d)) (ap (λ v. v.disk) (sym c.release-in-Ok.ensures.same))
@@ -46,11 +38,6 @@ returns-in-Ok-clause-settled g c = λ ran lists ready s.
     subst (λ d. IsSettledFor lists (g.D.Disk.history d)) (ap (λ v. v.disk) (sym c.release-in-Ok.ensures.same))
     (c.in-Ok.ensures.settled lists (ready_as c.args.origin c.in-Some.uid c.args.at _ c.empty.result _ c.in-Some.ensures.some.0 c.empty.ensures ready) s)
 
-pub returns-in-Ok-clause-numbered : goal.returns-in-Ok-clause-numbered
-returns-in-Ok-clause-numbered g c = λ h.
-    let kept = subst (λ (files : List MailFile). All HasNumber files) (ap (λ v. v.files.files) (sym c.in-Ok.ensures.same)) h in
-    subst (λ (files : List MailFile). All HasNumber files) (ap (λ v. v.files.files) (sym c.release-in-Ok.ensures.same)) (numbered_released c.args.at.file.0 c.append_map.new.self.files.files kept)
-
 pub returns-in-Err-Stopped-clause-any_moment : goal.returns-in-Err-Stopped-clause-any_moment
 returns-in-Err-Stopped-clause-any_moment g c = λ lists ready s.
     c.append_map.ensures.any_moment lists (ready_as c.args.origin c.in-Some.uid c.args.at _ c.empty.result _ c.in-Some.ensures.some.0 c.empty.ensures ready) s
@@ -60,11 +47,6 @@ returns-clause-any_moment g c = λ lists ready s.
     subst (λ d. Leaves lists lists (g.D.Disk.history c.args.store.now.disk) (g.D.Disk.history d)) (ap (λ v. v.disk) (sym c.release-in-Err-NoMemory.ensures.same))
     (c.append_map.ensures.any_moment lists (ready_as c.args.origin c.in-Some.uid c.args.at _ c.empty.result _ c.in-Some.ensures.some.0 c.empty.ensures ready) s)
 
-pub returns-clause-numbered : goal.returns-clause-numbered
-returns-clause-numbered g c = λ h.
-    let kept = subst (λ (files : List MailFile). All HasNumber files) (ap (λ v. v.files.files) (sym c.append_map.ensures.same)) h in
-    subst (λ (files : List MailFile). All HasNumber files) (ap (λ v. v.files.files) (sym c.release-in-Err-NoMemory.ensures.same)) (numbered_released c.args.at.file.0 c.append_map.new.self.files.files kept)
-
 pub returns-in_default-clause-refused : goal.returns-in_default-clause-refused
 returns-in_default-clause-refused g c = inl (uids_full c.args.store.now.drawn.map c.in_default.ensures.none)
 
@@ -73,3 +55,29 @@ returns-in-Err-Stopped-clause-refused g c = inr (uids_left c.args.store.now.draw
 
 pub returns-clause-refused : goal.returns-clause-refused
 returns-clause-refused g c = inr (uids_left c.args.store.now.drawn.map c.in-Some.uid.0 c.in-Some.ensures.some.0 c.in-Some.ensures.some.1.high, inr refl)
+
+-- ---- what it makes of the store
+
+pub returns-in_default-clause-none : goal.returns-in_default-clause-none
+returns-in_default-clause-none g c = inr ((λ e. cc e), gives_back c.args.at.file.0 c.args.store.now c.args.store.now c.release.new.self refl c.release.ensures.same c.release.ensures.ends)
+
+pub returns-in-Ok-clause-stores : goal.returns-in-Ok-clause-stores
+returns-in-Ok-clause-stores g c = λ time size.
+    let row = stored_row c.args.origin 1 c.in-Some.uid c.args.at.file c.args.at.offset c.args.at.size c.args.at.guid c.empty.result in
+    let made = All-head (λ (r : MapRecord). record_at c.append_map.new.self.map r.uid ≡ Some r) row [] c.in-Ok.ensures.made in
+    stores_placed c.args.at c.args.origin time size c.in-Some.uid c.empty.result c.args.store.now c.append_map.new.self c.release-in-Ok.new.self c.empty.ensures c.in-Some.ensures.some.0 c.in-Some.ensures.some.1.high c.in-Ok.ensures.taken made c.in-Ok.ensures.drawn c.in-Ok.ensures.due
+    c.append_map.ensures.mailboxes c.append_map.ensures.same c.release-in-Ok.ensures.same c.release-in-Ok.ensures.ends
+
+pub returns-in-Ok-clause-spared : goal.returns-in-Ok-clause-spared
+returns-in-Ok-clause-spared g c =
+    subst (λ d. AreSpared c.args.store.now c.release-in-Ok.new.self (g.D.Disk.history c.args.store.now.disk) (g.D.Disk.history d)) (ap (λ v. v.disk) (sym c.release-in-Ok.ensures.same))
+    (spared_as c.args.store.now c.append_map.new.self c.release-in-Ok.new.self _ _ (ap (λ v. v.map) c.release-in-Ok.ensures.same) c.in-Ok.ensures.spared)
+
+pub returns-in-Err-Stopped-clause-none : goal.returns-in-Err-Stopped-clause-none
+returns-in-Err-Stopped-clause-none g c =
+    let o = c.append_map.ensures in
+    let k = c.in-Err-Stopped.ensures.untaken refl in
+    inl (refl, left_alone c.args.store.now c.append_map.new.self o.same k.0 k.1 k.2)
+
+pub returns-clause-none : goal.returns-clause-none
+returns-clause-none g c = inr ((λ e. cc e), gives_back c.args.at.file.0 c.args.store.now c.append_map.new.self c.release-in-Err-NoMemory.new.self (c.in-Err-NoMemory.ensures.memory (ap Err c.in-Err-NoMemory.field-0-is)).0 c.release-in-Err-NoMemory.ensures.same c.release-in-Err-NoMemory.ensures.ends)

@@ -1,14 +1,18 @@
-use Rattle.std.proofs.Common.{ap, sym, subst, refl, ◌∙◌, List, All, inl, inr}
+use Rattle.std.proofs.Common.{ap, sym, subst, refl, arith, ◌∙◌, ◌≡◌, ◌≤◌, Err, inl, inr}
 use Rattle.mdbox_base.specs.declared.replies.Refusal.TheVariants as refusal
-use Rattle.storage_files.specs.declared.file.MailFile.{MailFile}
+use Rattle.store_core.specs.Dues.{due_at}
 use Rattle.mail_save.specs.Task.{Saves}
 use Rattle.mail_save.specs.declared.task.SaveStage.TheVariants as stage
-use Rattle.mail_save.proofs.PlaceLemmas.{HasNumber}
-use Rattle.mail_save.proofs.SaveEventLemmas.{done_goes_on, faults_by, is_false, ok_apart, saved_apart, saved_runs, refused_stops, unfallen}
+use Rattle.mail_save.proofs.PlaceLemmas.{unchanged_settled}
+use Rattle.mail_save.proofs.SaveEventLemmas.{add_refused, done_goes_on, faults_by, is_false, more_apart, more_runs, ok_apart, saved_apart, saved_runs, refused_stops, unfallen}
+use Rattle.mail_save.proofs.StoringLemmas.{spared_kept}
+use Rattle.mail_save.proofs.HeldLemmas.{nothing_moves, one_less}
+use Rattle.mail_save.specs.Held.{save_amounts}
+use Rattle.mail_save.proofs.OtherLemmas.{keeps_same}
 use Rattle.mail_save.proofs.task.adding.Goals as goal
 
 pub returns-in-Ok : goal.returns-in-Ok
-returns-in-Ok g c =
+returns-in-Ok g c = λ size.
     let o = c.in-Ok.ensures in
     let runs = is_false c.add_message.new.store.stopped (λ e. ok_apart _ _ (o.stopped.1 e)) in
     record {
@@ -16,10 +20,14 @@ returns-in-Ok g c =
       did_is = refl;
       moments = o.any_moment;
       rests = λ ran. o.settled;
-      placed = tt;
+      ready = λ e. absurd (done_goes_on _ e);
       left = λ e. absurd (done_goes_on _ e);
       fewer = λ e. absurd (done_goes_on _ e);
-      numbered = subst (λ (files : List MailFile). All HasNumber files) (ap (λ v. v.files.files) (sym o.same)) c.requires.numbered;
+      effects = (refl, record { number = o.uid.0; room = o.uid.1; taken = o.uid.2; due = o.due; map = ap (λ v. v.map) o.same; drawn = ap (λ v. v.drawn) o.same; files = ap (λ v. v.files) o.same });
+      idle = λ e. ap (λ v. g.D.Disk.history v.disk) e;
+      spared = λ ran. spared_kept c.args.store.now c.add_message.new.store _ _ (ap (λ v. v.map) o.same) (o.stored ran);
+      others = keeps_same (stage.Adding c.args.added c.args.room) c.args.store.now c.add_message.new.store (ap (λ v. v.map) o.same) (ap (λ v. v.files.files) o.same);
+      moves = λ ran. one_less c.args.added.map_uid (save_amounts (stage.Adding c.args.added c.args.room)) (save_amounts stage.Ended) c.args.store.now c.add_message.new.store (λ uid. refl) (λ uid. refl) c.requires.left.1 (λ uid. o.due o.uid.1.mailbox uid o.uid.1.named);
       stopped = saved_runs _ _ c.add_message.new.store.stopped runs;
       fault = faults_by _ _ _ _ (λ e. absurd (saved_apart _ _ e)) o.fault;
       unfailed = λ e. o.unfailed runs;
@@ -27,20 +35,49 @@ returns-in-Ok g c =
     }
 
 pub returns-then-stopped : goal.returns-then-stopped
-returns-then-stopped g c =
+returns-then-stopped g c = λ size.
     let o = c.in-Err.ensures in
     let fell = sym c.stopped.ensures ∙ c.if-stopped.true in
-    subst (λ l. Saves (stage.Adding c.args.added c.args.room) l.next c.args.name.now c.args.time l.answer l.did c.args.store.now c.add_message.new.store (g.D.Disk.history c.args.store.now.disk) (g.D.Disk.history c.add_message.new.store.disk) (g.D.Disk.faults c.args.store.now.disk) (g.D.Disk.faults c.add_message.new.store.disk)) (sym c.ends.ensures) (record {
-      replies = inr (inl refl);
+    subst (λ l. Saves (stage.Adding c.args.added c.args.room) l.next c.args.name.now c.args.time size l.answer l.did c.args.store.now c.add_message.new.store (g.D.Disk.history c.args.store.now.disk) (g.D.Disk.history c.add_message.new.store.disk) (g.D.Disk.faults c.args.store.now.disk) (g.D.Disk.faults c.add_message.new.store.disk)) (sym c.ends.ensures) (record {
+      replies = (let room = o.fell (o.stopped.1 fell) in inr (inl (room.0, room.1, room.2, refl)));
       did_is = refl;
       moments = o.any_moment;
       rests = λ ran. absurd (unfallen c.add_message.new.store.stopped fell ran);
-      placed = tt;
+      ready = λ e. absurd (done_goes_on _ e);
       left = λ e. absurd (done_goes_on _ e);
       fewer = λ e. absurd (done_goes_on _ e);
-      numbered = subst (λ (files : List MailFile). All HasNumber files) (ap (λ v. v.files.files) (sym o.same)) c.requires.numbered;
+      effects = record { map = ap (λ v. v.map) o.same; indexes = (o.untaken refl).0; dues = (o.untaken refl).1; drawn = ap (λ v. v.drawn) o.same; files = ap (λ v. v.files) o.same };
+      idle = λ e. ap (λ v. g.D.Disk.history v.disk) e;
+      spared = λ ran. absurd (unfallen c.add_message.new.store.stopped fell ran);
+      others = keeps_same (stage.Adding c.args.added c.args.room) c.args.store.now c.add_message.new.store (ap (λ v. v.map) o.same) (ap (λ v. v.files.files) o.same);
+      moves = λ ran. absurd (unfallen c.add_message.new.store.stopped fell ran);
       stopped = refused_stops refusal.Stopped c.add_message.new.store.stopped (record { 0 = λ e. fell; 1 = λ e. refl });
       fault = faults_by _ _ _ _ (λ e. o.stopped.1 fell) o.fault;
       unfailed = λ e. absurd (e refl);
       grows = o.grows;
     })
+
+pub returns-else-stopped : goal.returns-else-stopped
+returns-else-stopped g c = λ size.
+    let o = c.in-Err.ensures in
+    let runs = sym c.stopped.ensures ∙ c.if-stopped.false in
+    let calm : c.in-Err.why ≡ refusal.Stopped → ⊥ = λ e. unfallen c.add_message.new.store.stopped (o.stopped.0 (ap Err e)) runs in
+    let same = o.unadded refl runs in
+    record {
+      replies = inr (inr (c.in-Err.why, add_refused _ c.in-Err.why o.refused calm, refl, refl));
+      did_is = c.did_refuse.ensures;
+      moments = o.any_moment;
+      rests = λ ran lists s. unchanged_settled g.D.Disk.history c.args.store.now.disk c.add_message.new.store.disk (ap (λ v. v.disk) same) lists s;
+      ready = λ e octets h. h.0;
+      left = λ e. (subst (λ v. 1 ≤ due_at c.args.added.map_uid.0 v) (sym same) c.requires.left.1, calm);
+      fewer = λ e. omega arith;
+      effects = (refl, same);
+      idle = λ e. ap (λ v. g.D.Disk.history v.disk) e;
+      spared = λ ran. spared_kept c.args.store.now c.add_message.new.store _ _ (ap (λ v. v.map) same) (o.stored ran);
+      others = keeps_same (stage.Adding c.args.added c.args.room) c.args.store.now c.add_message.new.store (ap (λ v. v.map) same) (ap (λ v. v.files.files) same);
+      moves = λ ran. nothing_moves (save_amounts (stage.Adding c.args.added c.args.room)) (save_amounts (stage.GivingBack c.args.added.map_uid c.in-Err.why c.args.room)) c.args.store.now c.add_message.new.store (λ uid. refl) (λ uid. ap (λ v. due_at uid v) same);
+      stopped = more_runs c.add_message.new.store.stopped runs;
+      fault = faults_by _ _ _ _ (λ e. absurd (more_apart e)) o.fault;
+      unfailed = λ e. o.unfailed runs;
+      grows = o.grows;
+    }

@@ -1,25 +1,30 @@
-use Rattle.std.proofs.Common.{ap, sym, subst, refl, List, All, inl, inr}
+use Rattle.std.proofs.Common.{ap, sym, subst, refl, inl, inr}
 use Rattle.mdbox_base.specs.declared.replies.Refusal.TheVariants as refusal
-use Rattle.storage_files.specs.declared.file.MailFile.{MailFile}
 use Rattle.mail_save.specs.Task.{Saves}
 use Rattle.mail_save.specs.declared.task.SaveStage.TheVariants as stage
-use Rattle.mail_save.proofs.PlaceLemmas.{HasNumber}
 use Rattle.mail_save.proofs.SaveEventLemmas.{done_goes_on, faults_by, gives_quietly, is_false, never_stops, never_true, refused_rose, refused_stops, unfallen}
+use Rattle.mail_save.proofs.HeldLemmas.{one_less}
+use Rattle.mail_save.specs.Held.{save_amounts}
+use Rattle.mail_save.proofs.OtherLemmas.{alone_keeps, lowering_keeps}
 use Rattle.mail_save.proofs.task.giving_back.Goals as goal
 
 pub returns-in-Ok : goal.returns-in-Ok
-returns-in-Ok g c = λ name time.
+returns-in-Ok g c = λ name time size.
     let o = c.in-Ok.ensures in
     let runs = is_false c.give_back.new.store.stopped (λ e. never_true (o.stopped.1 e)) in
-    subst (λ l. Saves (stage.GivingBack c.args.uid c.args.why c.args.room) l.next name time l.answer l.did c.args.store.now c.give_back.new.store (g.D.Disk.history c.args.store.now.disk) (g.D.Disk.history c.give_back.new.store.disk) (g.D.Disk.faults c.args.store.now.disk) (g.D.Disk.faults c.give_back.new.store.disk)) (sym c.ends.ensures) (record {
+    subst (λ l. Saves (stage.GivingBack c.args.uid c.args.why c.args.room) l.next name time size l.answer l.did c.args.store.now c.give_back.new.store (g.D.Disk.history c.args.store.now.disk) (g.D.Disk.history c.give_back.new.store.disk) (g.D.Disk.faults c.args.store.now.disk) (g.D.Disk.faults c.give_back.new.store.disk)) (sym c.ends.ensures) (record {
       replies = inl refl;
       did_is = gives_quietly c.args.why c.requires.why;
       moments = o.any_moment;
       rests = λ ran. o.settled;
-      placed = tt;
+      ready = λ e. absurd (done_goes_on _ e);
       left = λ e. absurd (done_goes_on _ e);
       fewer = λ e. absurd (done_goes_on _ e);
-      numbered = subst (λ (files : List MailFile). All HasNumber files) (ap (λ f. f.files) (sym o.files)) c.requires.numbered;
+      effects = inl (refl, o.lowers);
+      idle = λ e. ap (λ v. g.D.Disk.history v.disk) e;
+      spared = λ ran. o.spared;
+      others = lowering_keeps c.args.uid c.args.why c.args.room c.args.store.now c.give_back.new.store o.lowers;
+      moves = λ ran. one_less c.args.uid (save_amounts (stage.GivingBack c.args.uid c.args.why c.args.room)) (save_amounts stage.Ended) c.args.store.now c.give_back.new.store (λ uid. refl) (λ uid. refl) c.requires.due o.lowers.due;
       stopped = refused_stops c.args.why c.give_back.new.store.stopped (never_stops c.args.why c.give_back.new.store.stopped runs c.requires.why);
       fault = faults_by _ _ _ _ (λ e. absurd (c.requires.why (refused_rose c.args.why e))) o.fault;
       unfailed = λ e. o.unfailed;
@@ -27,18 +32,22 @@ returns-in-Ok g c = λ name time.
     })
 
 pub returns-in-Err : goal.returns-in-Err
-returns-in-Err g c = λ name time.
+returns-in-Err g c = λ name time size.
     let o = c.in-Err.ensures in
     let fell = o.stopped.0 refl in
-    subst (λ l. Saves (stage.GivingBack c.args.uid c.args.why c.args.room) l.next name time l.answer l.did c.args.store.now c.give_back.new.store (g.D.Disk.history c.args.store.now.disk) (g.D.Disk.history c.give_back.new.store.disk) (g.D.Disk.faults c.args.store.now.disk) (g.D.Disk.faults c.give_back.new.store.disk)) (sym c.ends-in-Err.ensures) (record {
+    subst (λ l. Saves (stage.GivingBack c.args.uid c.args.why c.args.room) l.next name time size l.answer l.did c.args.store.now c.give_back.new.store (g.D.Disk.history c.args.store.now.disk) (g.D.Disk.history c.give_back.new.store.disk) (g.D.Disk.faults c.args.store.now.disk) (g.D.Disk.faults c.give_back.new.store.disk)) (sym c.ends-in-Err.ensures) (record {
       replies = inr refl;
       did_is = refl;
       moments = o.any_moment;
       rests = λ ran. absurd (unfallen c.give_back.new.store.stopped fell ran);
-      placed = tt;
+      ready = λ e. absurd (done_goes_on _ e);
       left = λ e. absurd (done_goes_on _ e);
       fewer = λ e. absurd (done_goes_on _ e);
-      numbered = subst (λ (files : List MailFile). All HasNumber files) (ap (λ f. f.files) (sym o.files)) c.requires.numbered;
+      effects = inr (refl, o.alone refl);
+      idle = λ e. ap (λ v. g.D.Disk.history v.disk) e;
+      spared = λ ran. absurd (unfallen c.give_back.new.store.stopped fell ran);
+      others = alone_keeps (stage.GivingBack c.args.uid c.args.why c.args.room) c.args.store.now c.give_back.new.store (o.alone refl);
+      moves = λ ran. absurd (unfallen c.give_back.new.store.stopped fell ran);
       stopped = refused_stops refusal.Stopped c.give_back.new.store.stopped (record { 0 = λ e. fell; 1 = λ e. refl });
       fault = faults_by _ _ _ _ (λ e. refl) o.fault;
       unfailed = λ e. absurd (e refl);

@@ -5,6 +5,7 @@ use Rattle.disk_model.proofs.FaultCountLemmas.{no_fault-then}
 use Rattle.disk_model.proofs.IdleLemmas.{idle-then}
 use Rattle.gate_log.specs.State.{LogState}
 use Rattle.model_meaning.specs.MapMeaning.{MapMeaning}
+use Rattle.model_meaning.specs.Sound.{IsSoundMap}
 use Rattle.store_files.specs.Found.{IsFoundFiles}
 use Rattle.store_sweep.specs.Swept.{IsSwept}
 use Rattle.store_open.specs.Opened.{Opening}
@@ -81,7 +82,8 @@ returns-clause-store g c = λ lanes some few.
     let s = checked_since c.in_ok-checked.checked k.0 k.1 k.2 _ _ _ c.in_ok-files.ensures.idle k.3 in
     let idle = idle-then _ _ _ c.in_ok-checked.ensures.idle c.in_ok-files.ensures.idle in
     let opens = opens_with c.in_ok-checked.checked.id.0 c.in_ok-checked.checked.generation k.1 k.2 c.in_ok-checked.checked.map.meaning _ k.3.map_is (opens_at c.in_ok-checked.checked k.0 k.1 k.2 _ _ idle s) in
-    let has = has_files c.in_ok-checked.checked.generation c.in_ok-checked.checked.map.meaning c.in_ok-files.files _ _ c.swept_files_are_known.ensures opens (found_on c.in_ok-checked.checked.map.meaning _ _ c.in_ok-files.files c.in_ok-files.ensures.idle c.in_ok-files.ensures.found) e.swept in
+    let sound : IsSoundMap c.in_ok-checked.checked.map.meaning = rw k.3.map_is (c.meanings_are_sound.ensures.map c.in_ok-checked.checked.id.0 k.1 k.3.good.map_entries.1 k.3.good.map_entries.0) in
+    let has = has_files c.in_ok-checked.checked.generation c.in_ok-checked.checked.map.meaning c.in_ok-files.files _ _ sound c.swept_files_are_known.ensures opens (found_on c.in_ok-checked.checked.map.meaning _ _ c.in_ok-files.files c.in_ok-files.ensures.idle c.in_ok-files.ensures.found) e.swept in
     opened_store c.args.alloc c.sweep.new.disk c.in_ok-checked.checked k.0 k.1 k.2 c.in_ok-logs.logs c.in_ok-files.files lanes _ _ _ c.counts_cover_listings.ensures.nothing_due has idle s e.swept.reads (ap (λ i. i.meaning) e.same.1) e.root_log e.map_log e.box_logs e.same.2 some few
 
 pub returns-clause-files : goal.returns-clause-files

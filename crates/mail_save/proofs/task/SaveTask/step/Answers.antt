@@ -1,5 +1,35 @@
-use Rattle.mail_save.proofs.SaveEventLemmas.{seen_saves}
+use Rattle.std.proofs.Common.{rules, ◌<◌, ◌^◌, sym, ◌∙◌}
+use Rattle.store_core.proofs.BoxCrashLemmas.{leaves_none}
+use Rattle.mail_save.proofs.SaveDoesLemmas.{seen_does, seen_stopped}
+use Rattle.mail_save.proofs.SaveEventLemmas.{seen_saves, unfallen}
+use Rattle.mail_save.proofs.SaveMomentLemmas.{save_moments, save_rests}
 use Rattle.mail_save.proofs.task.SaveTask.step.Goals as goal
 
 pub returns-clause-saves : goal.returns-clause-saves
 returns-clause-saves g c = λ ran. seen_saves _ c.args.self.now c.replace-now.result _ _ _ _ _ _ _ _ _ c.self.view_is c.replace-now.ensures.value c.next_event-next.ensures
+
+pub returns-then-stopped-clause-does : goal.returns-then-stopped-clause-does
+returns-then-stopped-clause-does g c = λ octets after whole ready.
+    seen_stopped g.D.Disk.history g.D.Disk.faults _ c.args.self.now octets c.args.store.now c.self.view_is c.facts.ensures.store c.facts.ensures.files c.requires.left whole (sym c.stopped.ensures ∙ c.if-stopped.true) after
+
+pub returns-clause-does : goal.returns-clause-does
+returns-clause-does g c = λ octets after whole ready.
+    let timed : c.args.self.now.time < 2 ^ 64 = search rules in
+    let ran = sym c.stopped.ensures ∙ c.if-stopped.false in
+    seen_does g.D.Disk.history g.D.Disk.faults _ c.args.self.now c.replace-now.result _ octets _ _ c.args.store.now c.next_event-next.new.store c.self.view_is c.replace-now.ensures.value c.facts.ensures.store c.facts.ensures.files c.known_id.ensures.long c.known_id.ensures.each timed ran c.requires.left whole (ready ran) c.next_event-next.ensures after
+
+pub returns-then-stopped-clause-moments : goal.returns-then-stopped-clause-moments
+returns-then-stopped-clause-moments g c = λ octets ready lists at. leaves_none _ lists _ at
+
+pub returns-then-stopped-clause-settled : goal.returns-then-stopped-clause-settled
+returns-then-stopped-clause-settled g c = λ ran octets ready lists at. absurd (unfallen c.args.store.now.stopped (sym c.stopped.ensures ∙ c.if-stopped.true) ran)
+
+pub returns-clause-moments : goal.returns-clause-moments
+returns-clause-moments g c = λ octets ready lists at.
+    let s = seen_saves _ c.args.self.now c.replace-now.result _ _ _ _ _ _ _ _ _ c.self.view_is c.replace-now.ensures.value c.next_event-next.ensures in
+    save_moments c.args.self.now.stage _ _ _ _ _ _ c.args.store.now _ _ _ _ _ c.listings_are_shown.ensures.logs c.facts.ensures.store (sym c.stopped.ensures ∙ c.if-stopped.false) s octets ready lists at
+
+pub returns-clause-settled : goal.returns-clause-settled
+returns-clause-settled g c = λ ran octets ready lists at.
+    let s = seen_saves _ c.args.self.now c.replace-now.result _ _ _ _ _ _ _ _ _ c.self.view_is c.replace-now.ensures.value c.next_event-next.ensures in
+    save_rests c.args.self.now.stage _ _ _ _ _ _ c.args.store.now _ _ _ _ _ c.listings_are_shown.ensures.logs c.facts.ensures.store (sym c.stopped.ensures ∙ c.if-stopped.false) s ran octets ready lists at

@@ -1,7 +1,5 @@
 use Rattle.std.proofs.Common.{◌≡◌, ℕ, true, false, Some, sym, ◌∙◌, ap, subst}
-use Rattle.disk_model.specs.Disk.{Grows, IfTold}
-use Rattle.disk_model.specs.declared.name.FileName.TheVariants.{Mail}
-use Rattle.model_appends.specs.Appending.{LeavesAsRead}
+use Rattle.disk_model.specs.Disk.{Grows}
 use Rattle.model_lists.specs.Lists.{Lists}
 use Rattle.model_store.specs.Settled.{IsSettledFor, Leaves}
 use Rattle.storage_files.specs.Files.{end_in, is_taken_in}
@@ -48,8 +46,8 @@ pub returns-in-Ok-clause-held : goal.returns-in-Ok-clause-held
 returns-in-Ok-clause-held g c =
     let runs = ap (λ v. v.stopped) c.self.view_is ∙ c.requires.running in
     let taken = ap (λ v. is_taken_in c.args.file.0 v.files.files) c.self.view_is ∙ c.requires.taken in
-    subst (λ v. (lists : Lists) → IsSettledFor lists (g.D.Disk.history v.disk) → IfTold (g.D.Disk.history c.place.new.disk) (LeavesAsRead (Mail c.args.file.0))) c.self.view_is
-    (held_then c.args.file.0 c.in-Ok.offset c.args.octets.now _ _ _ c.self.invariant.1 runs (file_there c.args.file.0 c.in-Ok.offset _ taken c.in-Ok.ensures.offset) (g.met.D.Disk.reads_image c.self.inside.disk) c.in-Ok.ensures.added)
+    let later = placed_store c.args.file.0 c.in-Ok.offset c.args.octets.now _ _ _ c.place.new.disk c.place.new.self c.self.invariant.1 runs (g.met.D.Disk.reads_image c.self.inside.disk) c.in-Ok.ensures.offset c.in-Ok.ensures.ok c.in-Ok.ensures.others c.in-Ok.ensures.added c.in-Ok.ensures.still_known in
+    held_then c.args.file.0 c.in-Ok.offset c.args.octets.now _ _ _ c.place.new.disk c.place.new.self c.self.invariant.1 runs (file_there c.args.file.0 c.in-Ok.offset _ taken c.in-Ok.ensures.offset) (g.met.D.Disk.reads_image c.place.new.disk) c.in-Ok.ensures.added later
 
 pub returns-in-Ok-clause-placed : goal.returns-in-Ok-clause-placed
 returns-in-Ok-clause-placed g c =

@@ -1,0 +1,327 @@
+-- The events of a delivery up to that which stores the message, by the clause of a step.
+use Rattle.std.proofs.Common.{◌≡◌, ◌≤◌, ◌<◌, ◌+◌, ◌==◌, ◌||◌, ℕ, Bool, true, false, not, cond, List, [], ◌∷◌, ◌++◌, Option, Some, None, refl, sym, ◌∙◌, ap, subst, arith, inl}
+use Rattle.std.specs.Prelude.{◌≢◌, nat_lt, nat_le, is_none, is_some, length, filter, flat_map, All, if◌then◌else◌}
+use Rattle.std.specs.List.{list_any}
+use Rattle.std.specs.Option.{IfSome, option_map_or, option_or}
+use Rattle.std.specs.Str.{bytes_eq}
+use Rattle.std.proofs.lemmas.Bool.{eq-eqb}
+use Rattle.std.proofs.lemmas.Grind.{common_steps}
+use Rattle.std.proofs.lemmas.List.{append-nil}
+use Rattle.std.proofs.lemmas.List.Elements.{All-nil, All-cons, All-append, filter-append}
+use Rattle.std.proofs.lemmas.List.Folds.{list_any-append}
+use Rattle.std.proofs.lemmas.Slice.Eq.{bytes_eq-Decides}
+use Rattle.disk_model.specs.Disk.{told_calls}
+use Rattle.mdbox_base.specs.Words.{IsOctets}
+use Rattle.mdbox_base.specs.declared.entries.Highest.{Highest}
+use Rattle.mdbox_base.specs.declared.entries.InstRow.{InstRow}
+use Rattle.mdbox_base.specs.declared.entries.MapEntry.TheVariants as map_entry
+use Rattle.mdbox_base.specs.declared.progress.Did.TheVariants as did
+use Rattle.mdbox_base.specs.declared.replies.Refusal.TheVariants as refusal
+use Rattle.mdbox_base.specs.declared.requests.Request.TheVariants as request
+use Rattle.model_lists.specs.Lists.{Lists}
+use Rattle.model_meaning.specs.MapMeaning.{MapMeaning, map_applied, no_numbers, guid_file, number_at, is_sealed}
+use Rattle.model_mime.specs.Parts.{parts_in}
+use Rattle.list_machine.specs.Run.{First, Compares, PlacesInstance, TakesFile, PlacesMessage, StoresRecord, Last, RunEvent, event_of, Run, and_then, own_events, given_by_others, drawn_of, drawn_also}
+use Rattle.list_machine.specs.Machine.{first_refusal, refused_where, part_checks}
+use Rattle.journal.specs.Events.{Around, next_part, behind_event, instances_found}
+use Rattle.journal.specs.Found.{FindsPlace, IsFreeFile, is_known_instance, took_file}
+use Rattle.journal.proofs.OwnEventLemmas.{own_more}
+use Rattle.task_steps.specs.ExpungeStages.{one_due}
+use Rattle.task_steps.specs.Step.{Seen, ShowsSeen, was_given, HasComeTo, HasNotBegun, Steps}
+use Rattle.task_steps.proofs.SeenLemmas.{no_guids, is_new}
+use Rattle.journal.proofs.RunLemmas.{drawn_none}
+use Rattle.mail_save.specs.SaveStages.{IsTakingFile, IsPlacingMessage, IsStoringMessage, IsAddingMessage}
+use Rattle.mail_save.proofs.SaveRunLemmas.{takes_next, places_next, stores_next, taken_file, given_guid, no_instances}
+use Rattle.mail_save.proofs.SaveDidLemmas.{some_part, given_more, HasRun, KeepsTelling, TellsMore, comes_drawn, comes_stored, comes_to_more, tells_on, quiet_on}
+
+-- ---- what an event finds
+
+-- No part of the message is to be detached, and a file that has room may be taken.
+pub record SeesAround (octets : List ℕ) (around : Around) (seen : Seen) : Type 0 where
+  pub parts : around.parts ≡ length (filter (λ part. part.detachable) (parts_in octets))
+  pub whole : around.parts ≡ 0
+  pub candidate : around.candidate ≡ None
+  pub some : (file : ℕ) → around.room ≡ Some file → 1 ≤ file
+  pub known : (file : ℕ) → around.room ≡ Some file → seen.files file ≡ true
+  pub unsealed : (file : ℕ) → around.room ≡ Some file → is_sealed seen.map file ≡ false
+  pub undoomed : (file : ℕ) → around.room ≡ Some file → seen.doomed file ≡ false
+
+pub finds_place : (octets : List ℕ) (around : Around) (run : Run) (seen : Seen) → SeesAround octets around seen → HasComeTo run seen → FindsPlace run around
+finds_place octets around run seen s come = record {
+  candidate = subst (λ (o : Option InstRow). IfSome o (λ instance. is_known_instance run instance ≡ true)) (sym s.candidate) tt;
+  room = by_room around.room refl;
+}
+  where
+    by_room : (o : Option ℕ) → around.room ≡ o → IfSome o (IsFreeFile run)
+    by_room None e = tt
+    by_room (Some file) e = record { some = s.some file e; known = come.files file (s.known file e); unsealed = ap (λ (m : MapMeaning). is_sealed m file) come.come.map_is ∙ s.unsealed file e; undoomed = come.doomed file ∙ s.undoomed file e }
+
+-- ---- the message is laid out
+
+pub own_first : (place : ℕ) (run : Run) (event : RunEvent) (before : List RunEvent) → event.request ≡ place → own_events place run ≡ before → own_events place (and_then run event) ≡ before ++ event ∷ []
+own_first place run event before own is = own_more place run event (eq-eqb event.request place own) ∙ ap (λ (es : List RunEvent). es ++ event ∷ []) is
+
+-- a store that goes on, and keeps its map and what is due
+pub record KeepsMap (old new : Seen) : Type 0 where
+  pub run : HasRun old new
+  pub map : new.map ≡ old.map
+  pub due : (uid : ℕ) → new.due uid ≡ old.due uid
+
+pub begins_save : (around after : Around) (name : List ℕ) (time : ℕ) (octets : List ℕ) (old new : Seen) → SeesAround octets around old → KeepsMap old new → new.drawn ≡ old.drawn → KeepsTelling old new
+    → ((run : Run) (lists : Lists) (event : RunEvent) → HasComeTo run old → ShowsSeen old lists → first_refusal run lists (part_checks run event (request.Deliver name time octets) First) ≡ None)
+    → Steps HasNotBegun IsTakingFile around after (request.Deliver name time octets) old new did.Quiet None
+begins_save around after name time octets old new sees keeps drawn tells allowed = λ run lane place said lists come shows stood.
+    let q = request.Deliver name time octets in
+    let event : RunEvent = event_of lane place First (told_calls new.history) in
+    quiet_on around after run lane place said q lists old new event IsTakingFile
+    (record {
+      lane_is = refl;
+      request_is = refl;
+      moment_is = refl;
+      ended_is = refl;
+      unrefused = refl;
+      finds = sees.parts;
+      found = finds_place octets around run old sees come;
+      part_is = ap (λ (es : List RunEvent). next_part around run q es) stood.0;
+      allowed = allowed run lists event come shows;
+      did = refl;
+      ends = record { 0 = λ h. absurd (h refl); 1 = λ h. absurd (never_ends after (and_then run event) lane place (told_calls new.history) h) };
+      replied = tt;
+    })
+    refl keeps.run
+    (comes_to_more run event old new come (comes_drawn run event old new come keeps.map (drawn ∙ sym (drawn_none old.drawn)) keeps.run.grows refl refl) (λ uid. let e = keeps.due uid in omega (arith, e)) (record { pins = refl; unpins = refl; doomed = refl; removed = refl; gone = refl }) (tells_on event old new refl tells))
+    (no_guids run event refl) shows
+    (record { first = event; own_are = own_first place run event [] refl stood.0; laid = record { part = refl; did = refl } }, stood.1)
+  where
+    by_tests : (b : Bool) (c : Bool) (d : Bool) → (if b then (if c then Some Compares else Some PlacesInstance) else Some (TakesFile d)) ≡ None → ⊥
+    by_tests true true d e = some_part Compares e
+    by_tests true false d e = some_part PlacesInstance e
+    by_tests false c d e = some_part (TakesFile d) e
+
+    never_ends : (around : Around) (run : Run) (lane place calls : ℕ) → behind_event around run (request.Deliver name time octets) (event_of lane place First calls) None ≡ None → ⊥
+    never_ends around run lane place calls e = by_tests (nat_lt (length (instances_found place run)) around.parts) (is_some around.candidate) (is_none around.room) e
+
+-- ---- a file is taken
+
+took_itself : (lane place : ℕ) (new : Bool) (drew : Highest) (file other calls : ℕ) → file ≡ other → took_file other (record (event_of lane place (TakesFile new) calls) { files = record { file = file; target = 0 } ∷ []; drew = drew }) ≡ true
+took_itself lane place new drew file other calls e = ap (λ (b : Bool). (b || (0 == other)) || false) (eq-eqb file other e)
+
+-- one that is there and has room
+pub takes_known : (around after : Around) (name : List ℕ) (time : ℕ) (octets : List ℕ) (file : ℕ) (old new : Seen) → SeesAround octets around old → around.room ≡ Some file → KeepsMap old new → new.drawn ≡ old.drawn → KeepsTelling old new
+    → Steps IsTakingFile (IsPlacingMessage file) around after (request.Deliver name time octets) old new did.Quiet None
+takes_known around after name time octets file old new sees room keeps drawn tells = λ run lane place said lists come shows stood.
+    let q = request.Deliver name time octets in
+    let event : RunEvent = record (event_of lane place (TakesFile false) (told_calls new.history)) { files = record { file = file; target = 0 } ∷ [] } in
+    let s = stood.0 in
+    quiet_on around after run lane place said q lists old new event (IsPlacingMessage file)
+    (record {
+      lane_is = refl;
+      request_is = refl;
+      moment_is = refl;
+      ended_is = refl;
+      unrefused = refl;
+      finds = sees.parts;
+      found = finds_place octets around run old sees come;
+      part_is = takes_next around run name time octets (own_events place run) sees.whole s ∙ ap (λ (r : Option ℕ). Some (TakesFile (is_none r))) room;
+      allowed = refl;
+      did = ap (λ (r : Option ℕ). record (event_of lane place (TakesFile false) (told_calls new.history)) { files = record { file = option_map_or (λ f. f) r ((drawn_of run).file + 1); target = 0 } ∷ [] }) (sym room);
+      ends = record { 0 = λ h. absurd (h refl); 1 = λ h. absurd (some_part PlacesMessage h) };
+      replied = tt;
+    })
+    refl keeps.run
+    (comes_to_more run event old new come (comes_drawn run event old new come keeps.map (drawn ∙ sym (drawn_none old.drawn)) keeps.run.grows refl refl) (λ uid. let e = keeps.due uid in omega (arith, e)) (record { pins = refl; unpins = refl; doomed = refl; removed = refl; gone = refl }) (tells_on event old new refl tells))
+    (no_guids run event refl) shows
+    (record { first = s.first; second = event; own_are = own_first place run event (s.first ∷ []) refl s.own_are; laid = s.laid; took = record { new = false; part = refl; did = refl } }, stood.1)
+
+-- a new one, with the next number
+next_fits : (drawn : ℕ) → drawn < 4294967294 → nat_lt 4294967294 (drawn + 1) ≡ false
+next_fits drawn l = grind (arith, common_steps, l)
+
+pub takes_new : (around after : Around) (name : List ℕ) (time : ℕ) (octets : List ℕ) (file : ℕ) (old new : Seen) → SeesAround octets around old → around.room ≡ None → file ≡ old.drawn.file + 1 → old.drawn.file < 4294967294 → KeepsMap old new → new.drawn ≡ drawn_also old.drawn (record no_numbers { file = 1 })
+    → ((event : RunEvent) → event.given ≡ [] → ((other : ℕ) → file ≡ other → took_file other event ≡ true) → TellsMore event old new)
+    → Steps IsTakingFile (IsPlacingMessage file) around after (request.Deliver name time octets) old new did.Quiet None
+takes_new around after name time octets file old new sees room next few keeps drawn tells = λ run lane place said lists come shows stood.
+    let q = request.Deliver name time octets in
+    let event : RunEvent = record (event_of lane place (TakesFile true) (told_calls new.history)) { files = record { file = file; target = 0 } ∷ []; drew = record no_numbers { file = 1 } } in
+    let s = stood.0 in
+    let same : (drawn_of run).file ≡ old.drawn.file = ap (λ (d : Highest). d.file) come.come.drawn_is in
+    let number : file ≡ (drawn_of run).file + 1 = next ∙ ap (λ (n : ℕ). n + 1) (sym same) in
+    quiet_on around after run lane place said q lists old new event (IsPlacingMessage file)
+    (record {
+      lane_is = refl;
+      request_is = refl;
+      moment_is = refl;
+      ended_is = refl;
+      unrefused = refl;
+      finds = sees.parts;
+      found = finds_place octets around run old sees come;
+      part_is = takes_next around run name time octets (own_events place run) sees.whole s ∙ ap (λ (r : Option ℕ). Some (TakesFile (is_none r))) room;
+      allowed = ap (λ (b : Bool). option_or (refused_where b (refusal.StoreFull 4294967294)) None) (next_fits (drawn_of run).file (omega (arith, same, few)));
+      did = ap (λ (n : ℕ). record (event_of lane place (TakesFile true) (told_calls new.history)) { files = record { file = n; target = 0 } ∷ []; drew = record no_numbers { file = 1 } }) number
+          ∙ ap (λ (r : Option ℕ). record (event_of lane place (TakesFile true) (told_calls new.history)) { files = record { file = option_map_or (λ f. f) r ((drawn_of run).file + 1); target = 0 } ∷ []; drew = record no_numbers { file = 1 } }) (sym room);
+      ends = record { 0 = λ h. absurd (h refl); 1 = λ h. absurd (some_part PlacesMessage h) };
+      replied = tt;
+    })
+    refl keeps.run
+    (comes_to_more run event old new come (comes_drawn run event old new come keeps.map drawn keeps.run.grows refl refl) (λ uid. let e = keeps.due uid in omega (arith, e)) (record { pins = refl; unpins = refl; doomed = refl; removed = refl; gone = refl })
+    (tells event refl (λ other e. took_itself lane place true (record no_numbers { file = 1 }) file other (told_calls new.history) e)))
+    (no_guids run event refl) shows
+    (record { first = s.first; second = event; own_are = own_first place run event (s.first ∷ []) refl s.own_are; laid = s.laid; took = record { new = true; part = refl; did = refl } }, stood.1)
+
+-- ---- the message is placed
+
+differs : (a b : List ℕ) → bytes_eq b a ≡ false → a ≢ b
+differs a b none e = let k : true ≡ false = sym ((bytes_eq-Decides b a).1 (sym e)) ∙ none in cc k
+
+none_is : (guid : List ℕ) (given : List (List ℕ)) → list_any (bytes_eq guid) given ≡ false → All (λ other. other ≢ guid) given
+none_is guid [] e = All-nil (λ (other : List ℕ). other ≢ guid)
+none_is guid (g ∷ gs) e = by_tests (bytes_eq guid g) refl e (none_is guid gs)
+  where
+    by_tests : (b : Bool) → bytes_eq guid g ≡ b → (b || list_any (bytes_eq guid) gs) ≡ false → (list_any (bytes_eq guid) gs ≡ false → All (λ other. other ≢ guid) gs) → All (λ other. other ≢ guid) (g ∷ gs)
+    by_tests true t k rest = absurd (let f : true ≡ false = k in cc f)
+    by_tests false t k rest = All-cons (λ (other : List ℕ). other ≢ guid) g gs (differs g guid t) (rest k)
+
+or_false : (a b : Bool) → (a || b) ≡ false → (a ≡ false) × (b ≡ false)
+or_false true b e = absurd (let k : true ≡ false = e in cc k)
+or_false false b e = (refl, e)
+
+none_by_others : (place : ℕ) (guid : List ℕ) (events : List RunEvent) → list_any (bytes_eq guid) (flat_map (λ (e : RunEvent). e.given) events) ≡ false → All (λ other. other ≢ guid) (flat_map (λ (e : RunEvent). e.given) (filter (λ (e : RunEvent). not (e.request == place)) events))
+none_by_others place guid [] h = All-nil (λ (other : List ℕ). other ≢ guid)
+none_by_others place guid (e ∷ es) h = by_test (λ k. none_by_others place guid es k) (e.request == place) (or_false (list_any (bytes_eq guid) e.given) (list_any (bytes_eq guid) (flat_map (λ (x : RunEvent). x.given) es)) (sym (list_any-append (bytes_eq guid) e.given (flat_map (λ (x : RunEvent). x.given) es)) ∙ h))
+  where
+    by_test : (list_any (bytes_eq guid) (flat_map (λ (x : RunEvent). x.given) es) ≡ false → All (λ other. other ≢ guid) (flat_map (λ (x : RunEvent). x.given) (filter (λ (x : RunEvent). not (x.request == place)) es)))
+        → (b : Bool) → (list_any (bytes_eq guid) e.given ≡ false) × (list_any (bytes_eq guid) (flat_map (λ (x : RunEvent). x.given) es) ≡ false)
+        → All (λ other. other ≢ guid) (flat_map (λ (x : RunEvent). x.given) (cond (not b) (e ∷ filter (λ (x : RunEvent). not (x.request == place)) es) (filter (λ (x : RunEvent). not (x.request == place)) es)))
+    by_test rest true k = rest k.1
+    by_test rest false k = All-append (λ (other : List ℕ). other ≢ guid) e.given (flat_map (λ (x : RunEvent). x.given) (filter (λ (x : RunEvent). not (x.request == place)) es)) (none_is guid e.given k.0) (rest k.1)
+
+pub own_left : (place : ℕ) (run : Run) (event : RunEvent) → event.request ≡ place → given_by_others place (and_then run event) ≡ given_by_others place run
+own_left place run event own =
+    ap (λ (es : List RunEvent). flat_map (λ (x : RunEvent). x.given) es) (filter-append (λ (x : RunEvent). not (x.request == place)) run.events (event ∷ [])
+    ∙ (ap (λ (b : Bool). filter (λ (x : RunEvent). not (x.request == place)) run.events ++ cond (not b) (event ∷ []) []) (eq-eqb event.request place own) ∙ append-nil (filter (λ (x : RunEvent). not (x.request == place)) run.events)))
+
+or_true : (b : Bool) → (b || true) ≡ true
+or_true true = refl
+or_true false = refl
+
+given_now : (run : Run) (event : RunEvent) (guid : List ℕ) → event.given ≡ guid ∷ [] → was_given (and_then run event) guid ≡ true
+given_now run event guid is =
+    given_more run event guid ∙ (ap (λ (gs : List (List ℕ)). was_given run guid || list_any (bytes_eq guid) gs) is ∙ (ap (λ (b : Bool). was_given run guid || (b || false)) ((bytes_eq-Decides guid guid).1 refl) ∙ or_true (was_given run guid)))
+
+pub places_message : (around after : Around) (name : List ℕ) (time : ℕ) (octets : List ℕ) (file : ℕ) (guid : List ℕ) (old new : Seen) → SeesAround octets around old → length guid ≡ 16 → IsOctets guid → guid_file old.map.store guid ≡ file → old.gave guid ≡ false → KeepsMap old new → new.drawn ≡ old.drawn
+    → KeepsTelling old new → new.gave guid ≡ true
+    → Steps (IsPlacingMessage file) (IsStoringMessage file guid) around after (request.Deliver name time octets) old new did.Quiet None
+places_message around after name time octets file guid old new sees long each named fresh keeps drawn tells gave = λ run lane place said lists come shows stood.
+    let q = request.Deliver name time octets in
+    let event : RunEvent = record (event_of lane place PlacesMessage (told_calls new.history)) { given = guid ∷ [] } in
+    let s = stood.0 in
+    let id : run.store ≡ old.map.store = ap (λ (m : MapMeaning). m.store) come.come.map_is in
+    let own : guid_file run.store guid ≡ file = ap (λ (k : List ℕ). guid_file k guid) id ∙ named in
+    let unknown : was_given run guid ≡ false = is_new run old guid come fresh in
+    quiet_on around after run lane place said q lists old new event (IsStoringMessage file guid)
+    (record {
+      lane_is = refl;
+      request_is = refl;
+      moment_is = refl;
+      ended_is = refl;
+      unrefused = refl;
+      finds = sees.parts;
+      found = finds_place octets around run old sees come;
+      part_is = places_next around run name time octets file (own_events place run) s;
+      allowed = refl;
+      did = (guid, taken_file place run file s ∙ ap (λ (n : ℕ). Some n) (sym own), long, refl);
+      ends = record { 0 = λ h. absurd (h refl); 1 = λ h. absurd (some_part StoresRecord h) };
+      replied = tt;
+    })
+    refl keeps.run
+    (comes_to_more run event old new come (comes_drawn run event old new come keeps.map (drawn ∙ sym (drawn_none old.drawn)) keeps.run.grows refl refl) (λ uid. let e = keeps.due uid in omega (arith, e)) (record { pins = refl; unpins = refl; doomed = refl; removed = refl; gone = refl })
+    (record { pins = tells.pins; doomed = tells.doomed; used = tells.used; unused = tells.unused; gave = tells.gave; given = λ g some. by_guid g some; files = λ f e. inl (tells.files f e); instances = tells.instances }))
+    (All-cons (λ (g : List ℕ). was_given run g ≡ false) guid [] unknown (All-nil (λ (g : List ℕ). was_given run g ≡ false))) shows (
+      record { first = s.first; second = s.second; third = event; own_are = own_first place run event (s.first ∷ s.second ∷ []) refl s.own_are; laid = s.laid; took = s.took; placed = record { part = refl; did = refl } },
+      own,
+      record {
+        long = long;
+        each = each;
+        given = given_now run event guid refl;
+        once = subst (λ (gs : List (List ℕ)). All (λ other. other ≢ guid) gs) (sym (own_left place run event refl)) (none_by_others place guid run.events unknown);
+      },
+      stood.1,
+    )
+  where
+    or_nothing : (b : Bool) → (b || false) ≡ true → b ≡ true
+    or_nothing true e = refl
+    or_nothing false e = e
+
+    by_guid : (g : List ℕ) → list_any (bytes_eq g) (guid ∷ []) ≡ true → new.gave g ≡ true
+    by_guid g some = subst (λ (k : List ℕ). new.gave k ≡ true) (sym ((bytes_eq-Decides g guid).0 (or_nothing (bytes_eq g guid) some))) gave
+
+-- ---- the message is stored
+
+few_uids : (drawn : ℕ) → drawn < 4294967294 → nat_le 4294967294 drawn ≡ false
+few_uids drawn l = grind (arith, common_steps, l)
+
+stored_due : (old new held uid : ℕ) → new ≡ old + one_due held uid → new + 0 ≡ old + ((0 + one_due held uid) + 0)
+stored_due old new held uid e = omega (arith, e)
+
+abbrev stored_event : ℕ → ℕ → ℕ → ℕ → ℕ → ℕ → List ℕ → List InstRow → ℕ → RunEvent
+stored_event lane place number f at long g is calls = record (event_of lane place StoresRecord calls) {
+  map_entries = map_entry.S 0 1 (record { 0 = number }) (record { 0 = f }) at long (record { 0 = g }) is ∷ [];
+  drew = record no_numbers { map = 1 };
+}
+
+pub stores_message : (around after : Around) (name : List ℕ) (time : ℕ) (octets : List ℕ) (file : ℕ) (guid : List ℕ) (uid size offset : ℕ) (old new : Seen) → SeesAround octets around old → uid ≡ old.drawn.map + 1 → old.drawn.map < 4294967294 → offset ≡ number_at 12 guid → HasRun old new
+    → new.map ≡ map_applied (map_entry.S 0 1 (record { 0 = uid }) (record { 0 = file }) offset size (record { 0 = guid }) []) old.map → new.drawn ≡ drawn_also old.drawn (record no_numbers { map = 1 }) → ((other : ℕ) → new.due other ≡ old.due other + one_due uid other) → KeepsTelling old new
+    → Steps (IsStoringMessage file guid) (IsAddingMessage guid uid) around after (request.Deliver name time octets) old new did.Quiet None
+stores_message around after name time octets file guid uid size offset old new sees next few place_is h taken drawn due tells = λ run lane place said lists come shows stood.
+    let q = request.Deliver name time octets in
+    let entry = map_entry.S 0 1 (record { 0 = uid }) (record { 0 = file }) offset size (record { 0 = guid }) [] in
+    let event : RunEvent = record (event_of lane place StoresRecord (told_calls new.history)) { map_entries = entry ∷ []; drew = record no_numbers { map = 1 } } in
+    let s = stood.0 in
+    let same : (drawn_of run).map ≡ old.drawn.map = ap (λ (d : Highest). d.map) come.come.drawn_is in
+    let number : uid ≡ (drawn_of run).map + 1 = next ∙ ap (λ (n : ℕ). n + 1) (sym same) in
+    quiet_on around after run lane place said q lists old new event (IsAddingMessage guid uid)
+    (record {
+      lane_is = refl;
+      request_is = refl;
+      moment_is = refl;
+      ended_is = refl;
+      unrefused = refl;
+      finds = sees.parts;
+      found = finds_place octets around run old sees come;
+      part_is = stores_next around run name time octets file guid (own_events place run) s;
+      allowed = ap (λ (b : Bool). option_or (refused_where b (refusal.StoreFull 4294967294)) None) (few_uids (drawn_of run).map (omega (arith, same, few)));
+      did = (
+        guid,
+        size,
+        given_guid place run file guid s,
+        ap (λ (n : ℕ). stored_event lane place n file offset size guid [] (told_calls new.history)) number
+            ∙ (ap (λ (n : ℕ). stored_event lane place ((drawn_of run).map + 1) n offset size guid [] (told_calls new.history)) (sym stood.1)
+            ∙ (ap (λ (n : ℕ). stored_event lane place ((drawn_of run).map + 1) (guid_file run.store guid) n size guid [] (told_calls new.history)) place_is
+            ∙ ap (λ (is : List InstRow). stored_event lane place ((drawn_of run).map + 1) (guid_file run.store guid) (number_at 12 guid) size guid is (told_calls new.history)) (sym (no_instances place run file guid s)))),
+      );
+      ends = record { 0 = λ h. absurd (h refl); 1 = λ h. absurd (some_part Last h) };
+      replied = tt;
+    })
+    refl h
+    (comes_to_more run event old new come (comes_stored run event entry old new come taken drawn h.grows refl refl) (λ u. stored_due (old.due u) (new.due u) uid u (due u)) (record { pins = refl; unpins = refl; doomed = refl; removed = refl; gone = refl }) (tells_on event old new refl tells))
+    (no_guids run event refl) shows (
+      record {
+        first = s.first;
+        second = s.second;
+        third = s.third;
+        fourth = event;
+        file = file;
+        own_are = own_first place run event (s.first ∷ s.second ∷ s.third ∷ []) refl s.own_are;
+        laid = s.laid;
+        took = s.took;
+        placed = s.placed;
+        stored = record { part = refl; entry = entry; raised = refl; did = refl };
+      },
+      record {
+        long = stood.2.long;
+        each = stood.2.each;
+        given = given_more run event guid ∙ ap (λ (b : Bool). b || false) stood.2.given;
+        once = subst (λ (gs : List (List ℕ)). All (λ other. other ≢ guid) gs) (sym (own_left place run event refl)) stood.2.once;
+      },
+      stood.3,
+    )

@@ -1,0 +1,81 @@
+-- Where a delivery stands, as other requests go on.
+use Rattle.std.proofs.Common.{◌≡◌, ◌||◌, ℕ, Bool, List, ◌∙◌, ap}
+use Rattle.std.specs.Prelude.{◌≢◌}
+use Rattle.std.specs.List.{list_any}
+use Rattle.std.specs.Str.{bytes_eq}
+use Rattle.std.proofs.lemmas.Bool.{ne_eqb}
+use Rattle.mdbox_base.specs.declared.replies.Refusal.{Refusal}
+use Rattle.list_machine.specs.Run.{RunEvent, Run, and_then, own_events}
+use Rattle.journal.proofs.OwnEventLemmas.{own_other}
+use Rattle.task_steps.specs.Step.{GivesNew, IsKept}
+use Rattle.task_steps.proofs.SeenLemmas.{not_begun_stays, others_still}
+use Rattle.mail_save.specs.SaveSeen.{IsAtSave}
+use Rattle.mail_save.specs.SaveStages.{IsOwnGuid, IsTakingFile, IsPlacingMessage, IsStoringMessage, IsAddingMessage, IsLoweringCount}
+use Rattle.mail_save.specs.declared.task.SaveStage.{SaveStage}
+use Rattle.mail_save.specs.declared.task.SaveStage.TheVariants as stage
+use Rattle.mail_save.proofs.SaveDidLemmas.{given_more}
+
+own_stays : (place : ℕ) (run : Run) (event : RunEvent) (own : List RunEvent) → event.request ≢ place → own_events place run ≡ own → own_events place (and_then run event) ≡ own
+own_stays place run event own other is = own_other place run event (ne_eqb event.request place other) ∙ is
+
+guid_stays : (guid : List ℕ) (place : ℕ) (run : Run) (event : RunEvent) → event.request ≢ place → GivesNew run event → IsOwnGuid guid run place → IsOwnGuid guid (and_then run event) place
+guid_stays guid place run event other new own = record {
+  long = own.long;
+  each = own.each;
+  given = given_more run event guid ∙ ap (λ (b : Bool). b || list_any (bytes_eq guid) event.given) own.given;
+  once = others_still run event place guid other new own.given own.once;
+}
+
+taking_stays : IsKept IsTakingFile
+taking_stays run place said event other new stood =
+    let s = stood.0 in
+    (record { first = s.first; own_are = own_stays place run event _ other s.own_are; laid = s.laid }, stood.1)
+
+placing_stays : (file : ℕ) → IsKept (IsPlacingMessage file)
+placing_stays file run place said event other new stood =
+    let s = stood.0 in
+    (record { first = s.first; second = s.second; own_are = own_stays place run event _ other s.own_are; laid = s.laid; took = s.took }, stood.1)
+
+storing_stays : (file : ℕ) (guid : List ℕ) → IsKept (IsStoringMessage file guid)
+storing_stays file guid run place said event other new stood =
+    let s = stood.0 in
+    (record { first = s.first; second = s.second; third = s.third; own_are = own_stays place run event _ other s.own_are; laid = s.laid; took = s.took; placed = s.placed }, stood.1, guid_stays guid place run event other new stood.2, stood.3)
+
+adding_stays : (guid : List ℕ) (uid : ℕ) → IsKept (IsAddingMessage guid uid)
+adding_stays guid uid run place said event other new stood =
+    let s = stood.0 in (
+      record { first = s.first; second = s.second; third = s.third; fourth = s.fourth; file = s.file; own_are = own_stays place run event _ other s.own_are; laid = s.laid; took = s.took; placed = s.placed; stored = s.stored },
+      guid_stays guid place run event other new stood.1,
+      stood.2,
+    )
+
+lowering_stays : (uid : ℕ) (why : Refusal) → IsKept (IsLoweringCount uid why)
+lowering_stays uid why run place said event other new stood =
+    let s = stood.0 in (
+      record {
+        first = s.first;
+        second = s.second;
+        third = s.third;
+        fourth = s.fourth;
+        fifth = s.fifth;
+        file = s.file;
+        guid = s.guid;
+        own_are = own_stays place run event _ other s.own_are;
+        laid = s.laid;
+        took = s.took;
+        placed = s.placed;
+        stored = s.stored;
+        refused = s.refused;
+      },
+      stood.1,
+      stood.2,
+    )
+
+pub save_kept : (now : SaveStage) → IsKept (IsAtSave now)
+save_kept (stage.First prepared) = not_begun_stays
+save_kept (stage.Taking parts) = taking_stays
+save_kept (stage.Placing parts file) = placing_stays file.0
+save_kept (stage.Storing at origin room) = storing_stays at.file.0 at.guid.0
+save_kept (stage.Adding added room) = adding_stays added.guid.0 added.map_uid.0
+save_kept (stage.GivingBack uid why room) = lowering_stays uid.0 why
+save_kept stage.Ended = λ run place said event other new stood. absurd stood

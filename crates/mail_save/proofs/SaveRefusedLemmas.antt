@@ -1,0 +1,186 @@
+-- Events of a delivery that were refused, by the clause of a step.
+use Rattle.std.proofs.Common.{◌≡◌, ◌+◌, ℕ, Bool, true, false, List, [], ◌∷◌, ◌++◌, ◌⊎◌, Option, Some, None, refl, sym, ◌∙◌, ap, subst, inl, inr}
+use Rattle.std.specs.Prelude.{nat_lt, nat_le, is_none, length, slice_get}
+use Rattle.std.specs.Option.{option_or}
+use Rattle.mdbox_base.specs.Streams.{Rose}
+use Rattle.mdbox_base.specs.declared.entries.Highest.{Highest}
+use Rattle.mdbox_base.specs.declared.progress.Did.TheVariants as did
+use Rattle.mdbox_base.specs.declared.replies.Refusal.{Refusal}
+use Rattle.mdbox_base.specs.declared.replies.Refusal.TheVariants as refusal
+use Rattle.mdbox_base.specs.declared.replies.Reply.{Reply}
+use Rattle.mdbox_base.specs.declared.replies.Reply.TheVariants as reply
+use Rattle.mdbox_base.specs.declared.requests.Request.{Request}
+use Rattle.mdbox_base.specs.declared.requests.Request.TheVariants as request
+use Rattle.mdbox_base.specs.declared.script.Half.TheVariants as half
+use Rattle.model_lists.specs.Lists.{Lists}
+use Rattle.model_meaning.specs.MapMeaning.{no_numbers}
+use Rattle.list_machine.specs.Run.{EventPart, First, TakesFile, PlacesMessage, StoresRecord, GivesBack, RunEvent, event_of, Run, own_events, is_unpinning, drawn_of}
+use Rattle.list_machine.specs.Machine.{first_refusal, refused_where, part_checks, is_step}
+use Rattle.journal.specs.Journal.{refusal_in, IsReplyOf}
+use Rattle.journal.specs.Events.{Around, next_part, behind_refused, has_memory, draws}
+use Rattle.task_steps.specs.Step.{Seen, ShowsSeen, HasComeTo, HasNotBegun, Steps, Stops}
+use Rattle.task_steps.proofs.OneEventLemmas.{never_more}
+use Rattle.mail_save.specs.SaveStages.{IsTakingFile, IsPlacingMessage, IsStoringMessage, IsLoweringCount}
+use Rattle.mail_save.proofs.SaveRunLemmas.{takes_next, places_next, stores_next, gives_back_next}
+use Rattle.mail_save.proofs.SaveDidLemmas.{some_reply, one_reply, step_runs, CanRefuse, HasRun, StaysSo, refused_comes, did_check, forgets, stopped_answer, stops_before, falls}
+use Rattle.mail_save.proofs.SaveFrontLemmas.{SeesAround, finds_place}
+
+abbrev pub deliver : List ℕ → ℕ → List ℕ → Request
+deliver name time octets = request.Deliver name time octets
+
+-- ---- which parts can be refused
+
+-- a part behind whose refusal the request ends
+pub record EndsRefused (name : List ℕ) (time : ℕ) (octets : List ℕ) (part : EventPart) : Type 0 where
+  pub ends : (why : Refusal) → behind_refused (deliver name time octets) part why ≡ None
+  pub pinless : (lane place : ℕ) → is_unpinning (event_of lane place part 0) ≡ false
+
+pub ends_first : (name : List ℕ) (time : ℕ) (octets : List ℕ) → EndsRefused name time octets First
+ends_first name time octets = record { ends = λ why. refl; pinless = λ lane place. refl }
+
+pub ends_taking : (name : List ℕ) (time : ℕ) (octets : List ℕ) (new : Bool) → EndsRefused name time octets (TakesFile new)
+ends_taking name time octets new = record { ends = λ why. refl; pinless = λ lane place. refl }
+
+pub ends_placing : (name : List ℕ) (time : ℕ) (octets : List ℕ) → EndsRefused name time octets PlacesMessage
+ends_placing name time octets = record { ends = λ why. refl; pinless = λ lane place. refl }
+
+pub ends_storing : (name : List ℕ) (time : ℕ) (octets : List ℕ) → EndsRefused name time octets StoresRecord
+ends_storing name time octets = record { ends = λ why. refl; pinless = λ lane place. refl }
+
+pub ends_giving : (name : List ℕ) (time : ℕ) (octets : List ℕ) → EndsRefused name time octets GivesBack
+ends_giving name time octets = record { ends = λ why. refl; pinless = λ lane place. refl }
+
+replies_why : (why : Refusal) (given : Reply) → Some (reply.Refused why) ≡ Some given → refusal_in given ≡ Some why
+replies_why why given e = subst (λ (r : Reply). refusal_in r ≡ Some why) (one_reply (reply.Refused why) given e) refl
+
+pub refuses_part : (around : Around) (run : Run) (place : ℕ) (name : List ℕ) (time : ℕ) (octets : List ℕ) (part : EventPart) (why : Refusal) (drew : Highest) (seen : Seen) → SeesAround octets around seen → HasComeTo run seen → EndsRefused name time octets part → next_part around run (deliver name time octets) (own_events place run) ≡ Some part
+    → (why ≡ refusal.NoMemory → has_memory part (deliver name time octets) ≡ false) → ((event : RunEvent) → (drew ≡ no_numbers) ⊎ (drew ≡ draws run event (deliver name time octets) part)) → (is_step why ≡ true → drew ≡ no_numbers)
+    → CanRefuse around run place (deliver name time octets) part why (Some (reply.Refused why)) drew
+refuses_part around run place name time octets part why drew seen sees come ends next memory drawn undrawn = record {
+  finds = λ event. sees.parts;
+  found = λ event. finds_place octets around run seen sees come;
+  part_is = next;
+  memory = memory;
+  ends = record { 0 = λ h. ends.ends why; 1 = λ h e. some_reply (reply.Refused why) e };
+  replied = replies_why why;
+  drawn = drawn;
+  undrawn = undrawn;
+}
+
+no_memory_stopped : refusal.Stopped ≡ refusal.NoMemory → ⊥
+no_memory_stopped e = cc e
+
+stopped_memory : (X : Type 0) → refusal.Stopped ≡ refusal.NoMemory → X
+stopped_memory X e = absurd (no_memory_stopped e)
+
+nothing_drawn : (run : Run) (q : Request) (part : EventPart) (event : RunEvent) → (◌≡◌ {A = Highest} no_numbers no_numbers) ⊎ (no_numbers ≡ draws run event q part)
+nothing_drawn run q part event = inl refl
+
+memory_unstopped : Some (reply.Refused refusal.NoMemory) ≡ stopped_answer → ⊥
+memory_unstopped e = let r : reply.Refused refusal.NoMemory ≡ reply.Refused refusal.Stopped = cc e in let k : refusal.NoMemory ≡ refusal.Stopped = cc r in cc k
+
+pub memory_replied : (name : List ℕ) (time : ℕ) (octets : List ℕ) (said : List Reply) → said ≡ [] → (given : Reply) → Some (reply.Refused refusal.NoMemory) ≡ Some given → IsReplyOf (deliver name time octets) said given
+memory_replied name time octets said none given e = subst (λ (r : Reply). IsReplyOf (deliver name time octets) said r) (one_reply (reply.Refused refusal.NoMemory) given e) none
+
+-- ---- at any stage
+
+-- where the next part is known by the stage, and nothing was answered
+pub record IsNextAt (Stood : Run → ℕ → List Reply → Type 0) (around : Around) (q : Request) (part : EventPart) : Type 0 where
+  pub next : (run : Run) (place : ℕ) (said : List Reply) → Stood run place said → next_part around run q (own_events place run) ≡ Some part
+
+pub stopped_save : (around after : Around) (name : List ℕ) (time : ℕ) (octets : List ℕ) (part : EventPart) (Stood Stands : Run → ℕ → List Reply → Type 0) (seen : Seen) → SeesAround octets around seen → EndsRefused name time octets part → IsNextAt Stood around (deliver name time octets) part → ((file : ℕ) → seen.used file ≡ false) → seen.stopped ≡ true
+    → Steps Stood Stands around after (deliver name time octets) seen seen did.Quiet stopped_answer
+stopped_save around after name time octets part Stood Stands seen sees ends at unused stopped = λ run lane place said lists come shows stood. (
+  (stops_before around after run lane place said (deliver name time octets) part lists seen
+      (refuses_part around run place name time octets part refusal.Stopped no_numbers seen sees come ends (at.next run place said stood) (stopped_memory _) (nothing_drawn run (deliver name time octets) part) (λ s. refl)) (ends.pinless lane place) unused come shows tt stopped).so,
+  λ e. absurd (never_more _ e),
+)
+
+pub fallen_save : (around after : Around) (name : List ℕ) (time : ℕ) (octets : List ℕ) (part : EventPart) (Stood Stands : Run → ℕ → List Reply → Type 0) (drew : Highest) (old new : Seen) → SeesAround octets around old → EndsRefused name time octets part → IsNextAt Stood around (deliver name time octets) part
+    → ((run : Run) (event : RunEvent) → (drew ≡ no_numbers) ⊎ (drew ≡ draws run event (deliver name time octets) part)) → StaysSo drew old new → old.stopped ≡ false → new.stopped ≡ true → Rose old.faults.changes new.faults.changes → ((lists : Lists) → Stops lists lists old new)
+    → Steps Stood Stands around after (deliver name time octets) old new did.Failed stopped_answer
+fallen_save around after name time octets part Stood Stands drew old new sees ends at drawn stays ran stopped rose stops = λ run lane place said lists come shows stood. (
+  (falls around after run lane place said (deliver name time octets) part lists old new did.Failed drew
+      (refuses_part around run place name time octets part refusal.Stopped drew old sees come ends (at.next run place said stood) (stopped_memory _) (drawn run) (λ s. absurd (let k : false ≡ true = s in cc k))) (ends.pinless lane place) come stays shows tt ran stopped rose
+      (record { refused = refl; unanswered = refl; ran = ran; stopped = stopped }, stops lists)).so,
+  λ e. absurd (never_more _ e),
+)
+
+-- out of memory, before anything was answered
+pub forgotten_save : (around after : Around) (name : List ℕ) (time : ℕ) (octets : List ℕ) (part : EventPart) (Stood Stands : Run → ℕ → List Reply → Type 0) (old new : Seen) → SeesAround octets around old → EndsRefused name time octets part → IsNextAt Stood around (deliver name time octets) part
+    → has_memory part (deliver name time octets) ≡ false → ((run : Run) (place : ℕ) (said : List Reply) → Stood run place said → said ≡ []) → HasRun old new → StaysSo no_numbers old new
+    → Steps Stood Stands around after (deliver name time octets) old new did.Quiet (Some (reply.Refused refusal.NoMemory))
+forgotten_save around after name time octets part Stood Stands old new sees ends at memory silent h stays = λ run lane place said lists come shows stood. (
+  (forgets around after run lane place said (deliver name time octets) part lists old new (Some (reply.Refused refusal.NoMemory))
+      (refuses_part around run place name time octets part refusal.NoMemory no_numbers old sees come ends (at.next run place said stood) (λ e. memory) (nothing_drawn run (deliver name time octets) part) (λ s. refl)) (ends.pinless lane place) come shows h stays
+      (memory_replied name time octets said (silent run place said stood)) memory_unstopped).so,
+  λ e. absurd (never_more _ e),
+)
+
+pub step_replied : (name : List ℕ) (time : ℕ) (octets : List ℕ) (why : Refusal) → is_step why ≡ true → IsReplyOf (deliver name time octets) (reply.Refused why ∷ []) (reply.Refused why)
+step_replied name time octets refusal.NoMailbox s = refl
+step_replied name time octets refusal.Exists s = refl
+step_replied name time octets refusal.NoMessage s = refl
+step_replied name time octets (refusal.TooManyCopies n) s = refl
+step_replied name time octets (refusal.MailboxFull n) s = refl
+step_replied name time octets (refusal.TooManyMailboxes n) s = refl
+step_replied name time octets (refusal.StoreFull n) s = refl
+step_replied name time octets refusal.NoMemory s = absurd (cc s)
+step_replied name time octets refusal.ReadFault s = absurd (cc s)
+step_replied name time octets refusal.Stopped s = absurd (cc s)
+step_replied name time octets (refusal.Damaged file offset) s = absurd (cc s)
+
+-- a check refused it, before anything was answered
+pub checked_save : (around after : Around) (name : List ℕ) (time : ℕ) (octets : List ℕ) (part : EventPart) (Stood Stands : Run → ℕ → List Reply → Type 0) (why : Refusal) (old new : Seen) → SeesAround octets around old → EndsRefused name time octets part → IsNextAt Stood around (deliver name time octets) part
+    → ((run : Run) (place : ℕ) (said : List Reply) → Stood run place said → said ≡ []) → is_step why ≡ true → ((run : Run) (lists : Lists) (event : RunEvent) → HasComeTo run old → ShowsSeen old lists → first_refusal run lists (part_checks run event (deliver name time octets) part) ≡ Some why)
+    → HasRun old new → StaysSo no_numbers old new → Steps Stood Stands around after (deliver name time octets) old new (did.Step half.Whole) (Some (reply.Refused why))
+checked_save around after name time octets part Stood Stands why old new sees ends at silent step refuses h stays = λ run lane place said lists come shows stood.
+    let q = deliver name time octets in
+    let none = silent run place said stood in (
+      (did_check around after run lane place said q part lists old new why (Some (reply.Refused why)) half.Whole
+          (refuses_part around run place name time octets part why no_numbers old sees come ends (at.next run place said stood) (λ e. absurd (let k : true ≡ false = sym step ∙ ap is_step e in cc k)) (nothing_drawn run q part) (λ s. refl))
+          (refused_comes run lane place part why (Some (reply.Refused why)) no_numbers old new (ends.pinless lane place) come stays) (h.shown lists shows) h.grows h.ran h.runs (h.leads lists) step refl
+          (ap (λ (s : List Reply). slice_get (half.Whole ∷ []) (length s)) none) (λ event. refuses run lists event come shows)
+          (λ given e. subst (λ (r : Reply). IsReplyOf q (said ++ reply.Refused why ∷ []) r) (one_reply (reply.Refused why) given e) (subst (λ (s : List Reply). IsReplyOf q (s ++ reply.Refused why ∷ []) (reply.Refused why)) (sym none) (step_replied name time octets why step)))
+          (λ e. step_runs why step (let r : reply.Refused why ≡ reply.Refused refusal.Stopped = cc e in cc r)) h.reads h.changes).so,
+      λ e. absurd (never_more _ e),
+    )
+
+-- ---- the stages, and their next parts
+
+pub first_at : (around : Around) (q : Request) → IsNextAt HasNotBegun around q First
+first_at around q = record { next = λ run place said stood. ap (λ (es : List RunEvent). next_part around run q es) stood.0 }
+
+pub taking_at : (around : Around) (name : List ℕ) (time : ℕ) (octets : List ℕ) → around.parts ≡ 0 → IsNextAt IsTakingFile around (deliver name time octets) (TakesFile (is_none around.room))
+taking_at around name time octets none = record { next = λ run place said stood. takes_next around run name time octets (own_events place run) none stood.0 }
+
+pub placing_at : (around : Around) (name : List ℕ) (time : ℕ) (octets : List ℕ) (file : ℕ) → IsNextAt (IsPlacingMessage file) around (deliver name time octets) PlacesMessage
+placing_at around name time octets file = record { next = λ run place said stood. places_next around run name time octets file (own_events place run) stood.0 }
+
+pub storing_at : (around : Around) (name : List ℕ) (time : ℕ) (octets : List ℕ) (file : ℕ) (guid : List ℕ) → IsNextAt (IsStoringMessage file guid) around (deliver name time octets) StoresRecord
+storing_at around name time octets file guid = record { next = λ run place said stood. stores_next around run name time octets file guid (own_events place run) stood.0 }
+
+pub lowering_why : (why : Refusal) → (is_step why ≡ true) ⊎ (why ≡ refusal.NoMemory) → why ≡ refusal.Stopped → ⊥
+lowering_why why (inl s) e = step_runs why s e
+lowering_why why (inr m) e = let k : refusal.NoMemory ≡ refusal.Stopped = sym m ∙ e in cc k
+
+pub lowering_at : (around : Around) (name : List ℕ) (time : ℕ) (octets : List ℕ) (uid : ℕ) (why : Refusal) → IsNextAt (IsLoweringCount uid why) around (deliver name time octets) GivesBack
+lowering_at around name time octets uid why = record { next = λ run place said stood. gives_back_next around run name time octets uid why (own_events place run) (lowering_why why stood.2) stood.0 }
+
+-- ---- checks of numbers
+
+all_taken : (drawn : ℕ) → drawn ≡ 4294967294 → nat_lt 4294967294 (drawn + 1) ≡ true
+all_taken drawn e = ap (λ (n : ℕ). nat_lt 4294967294 (n + 1)) e
+
+-- no file has room, and all numbers are used up
+pub full_files : (name : List ℕ) (time : ℕ) (octets : List ℕ) (around : Around) (seen : Seen) → around.room ≡ None → seen.drawn.file ≡ 4294967294
+    → (run : Run) (lists : Lists) (event : RunEvent) → HasComeTo run seen → ShowsSeen seen lists → first_refusal run lists (part_checks run event (deliver name time octets) (TakesFile (is_none around.room))) ≡ Some (refusal.StoreFull 4294967294)
+full_files name time octets around seen room full run lists event come shows =
+    ap (λ (r : Option ℕ). first_refusal run lists (part_checks run event (deliver name time octets) (TakesFile (is_none r)))) room
+    ∙ ap (λ (b : Bool). option_or (refused_where b (refusal.StoreFull 4294967294)) None) (all_taken (drawn_of run).file (ap (λ (d : Highest). d.file) come.come.drawn_is ∙ full))
+
+-- the map uids are used up
+pub full_uids : (name : List ℕ) (time : ℕ) (octets : List ℕ) (seen : Seen) → nat_le 4294967294 seen.drawn.map ≡ true
+    → (run : Run) (lists : Lists) (event : RunEvent) → HasComeTo run seen → ShowsSeen seen lists → first_refusal run lists (part_checks run event (deliver name time octets) StoresRecord) ≡ Some (refusal.StoreFull 4294967294)
+full_uids name time octets seen full run lists event come shows =
+    ap (λ (b : Bool). option_or (refused_where b (refusal.StoreFull 4294967294)) None) (ap (λ (d : Highest). nat_le 4294967294 d.map) come.come.drawn_is ∙ full)

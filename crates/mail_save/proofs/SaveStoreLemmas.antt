@@ -1,0 +1,227 @@
+-- A store before and after an event of a delivery, as the event sees it.
+use Rattle.std.proofs.Common.{◌≡◌, ◌≤◌, ◌<◌, ◌+◌, ◌-◌, ◌^◌, ◌==◌, ◌&&◌, ◌||◌, ℕ, Bool, true, false, not, List, [], ◌∷◌, ◌++◌, length, Option, Some, None, refl, sym, ◌∙◌, ap, subst, arith, inl, inr}
+use Rattle.std.specs.Prelude.{◌/◌, ◌%◌, nat_le, nat_lt, is_some, All, if◌then◌else◌, cond}
+use Rattle.std.specs.Int.{w32, to_be_bytes}
+use Rattle.std.specs.Option.{option_map_or, option_and_then}
+use Rattle.std.proofs.lemmas.Bool.{cases_eq, eq-eqb, ne_eqb, cond-false}
+use Rattle.std.proofs.lemmas.Grind.{common_steps}
+use Rattle.std.proofs.lemmas.List.{length-append}
+use Rattle.std.proofs.lemmas.List.Elements.{All-nil, All-cons, All-head, All-tail, All-append}
+use Rattle.disk_model.specs.Disk.{History, Faults, Grows}
+use Rattle.mdbox_base.specs.Words.{IsOctets}
+use Rattle.mdbox_base.specs.declared.entries.Highest.{Highest}
+use Rattle.mdbox_base.specs.declared.ids.MapUid.{MapUid}
+use Rattle.model_appends.specs.Amounts.{bit}
+use Rattle.model_lists.specs.Lists.{Lists}
+use Rattle.model_meaning.specs.BoxMeaning.{BoxMeaning}
+use Rattle.model_meaning.specs.MapMeaning.{MapBox, MapMeaning, no_numbers, is_own, guid_file, number_at, is_sealed}
+use Rattle.model_mime.specs.Parts.{parts_in}
+use Rattle.model_store.specs.Listing.{ShowLists}
+use Rattle.model_store.specs.Settled.{IsSettledFor, Leaves}
+use Rattle.list_machine.specs.Run.{drawn_also}
+use Rattle.storage_files.specs.Files.{AreFilesInOrder, FilesValue, end_in, file_in}
+use Rattle.storage_files.specs.declared.file.MailFile.{MailFile}
+use Rattle.store_core.specs.Dues.{due_at, number_beside}
+use Rattle.store_core.specs.Knows.{may_have_given}
+use Rattle.store_core.specs.Running.{IsStore}
+use Rattle.store_core.specs.Value.{StoreValue, indexes_of}
+use Rattle.task_steps.specs.ExpungeStages.{one_due}
+use Rattle.task_steps.specs.Step.{ShowsSeen}
+use Rattle.mail_save.specs.Events.{has_detachable}
+use Rattle.mail_save.specs.SaveEffects.{AreEndsSame}
+use Rattle.mail_save.specs.SaveSeen.{seen_saving, around_saving, room_at}
+use Rattle.mail_save.specs.Saved.{place_guid}
+use Rattle.mail_save.specs.declared.task.SaveStage.{SaveStage}
+use Rattle.mail_save.specs.declared.task.SaveStage.TheVariants as stage
+use Rattle.mail_save.proofs.PlaceLemmas.{own_place, file_of_place, offset_of_place}
+use Rattle.mail_save.proofs.SaveDidLemmas.{fall, HasRun, KeepsTelling, StaysSo}
+use Rattle.mail_save.proofs.SaveFrontLemmas.{SeesAround}
+use Rattle.mail_save.proofs.SaveRoomLemmas.{RoomIs, room_is, none_counted, both_true, le_true, true_le}
+
+-- ---- what it finds
+
+pub room_known : {D : Type 0} → (now : SaveStage) (store : StoreValue D) (file : ℕ) → AreFilesInOrder store.files → room_at now store ≡ Some file → (size : ℕ) × RoomIs size file store.files.files
+room_known (stage.Taking parts) store file order e = (length parts.region, room_is (length parts.region) file store.files.files order.rising e)
+room_known now store file order e = absurd (let k : None ≡ Some file = e in cc k)
+
+never_both : (b : Bool) → (b ≡ true → ⊥) → b ≡ false
+never_both true f = absurd (f refl)
+never_both false f = refl
+
+pub sees_around : {D : Type 0} → (octets : List ℕ) (now : SaveStage) (store : StoreValue D) (history : Option History) (faults : Faults) → IsStore history store → AreFilesInOrder store.files → has_detachable octets ≡ false → SeesAround octets (around_saving octets now store) (seen_saving store history faults)
+sees_around octets now store history faults is order whole = record {
+  parts = refl;
+  whole = none_counted (λ part. part.detachable) (parts_in octets) whole;
+  candidate = refl;
+  some = λ file e. let r = room_known now store file order e in is.files.numbered file r.1.f r.1.found;
+  known = λ file e. let r = room_known now store file order e in ap (λ (o : Option MailFile). is_some (option_and_then (λ f. f.end) o)) r.1.found ∙ ap (λ (o : Option ℕ). is_some o) r.1.has.ends;
+  unsealed = λ file e. let r = room_known now store file order e in never_both (is_sealed store.map file) (λ k. fall r.1.f.sealed (is.files.sealed file r.1.f r.1.found k) r.1.has.unsealed);
+  undoomed = λ file e. refl;
+}
+
+-- ---- files and GUIDs
+
+-- an offset lies before the end, if there is one
+abbrev pub is_before : ℕ → Option ℕ → Bool
+is_before offset end = option_map_or (λ e. nat_lt offset e) end true
+
+-- What a storage file that was drawn has before its end, it has still, and no file is there that wasn't.
+pub record EndsGoOn {D : Type 0} (old new : StoreValue D) : Type 0 where
+  pub gave : (n offset : ℕ) → n ≤ old.drawn.file → is_before offset (end_in n old.files.files) ≡ true → is_before offset (end_in n new.files.files) ≡ true
+  pub known : (n : ℕ) → is_some (end_in n new.files.files) ≡ true → is_some (end_in n old.files.files) ≡ true
+
+pub same_ends : {D : Type 0} → (old new : StoreValue D) → AreEndsSame old new → EndsGoOn old new
+same_ends old new same = record { gave = λ n offset le e. ap (λ (o : Option ℕ). is_before offset o) (same n) ∙ e; known = λ n e. ap (λ (o : Option ℕ). is_some o) (sym (same n)) ∙ e }
+
+pub files_ends : {D : Type 0} → (old new : StoreValue D) → new.files ≡ old.files → AreEndsSame old new
+files_ends old new same = λ n. ap (λ (f : FilesValue). end_in n f.files) same
+
+all_true : (a b c : Bool) → a ≡ true → b ≡ true → c ≡ true → (a && (b && c)) ≡ true
+all_true a b c x y z = rw (x, y, z) refl
+
+pub gave_on : {D : Type 0} → (old new : StoreValue D) (guid : List ℕ) → new.map.store ≡ old.map.store → old.drawn.file ≤ new.drawn.file
+    → ((n offset : ℕ) → n ≤ old.drawn.file → is_before offset (end_in n old.files.files) ≡ true → is_before offset (end_in n new.files.files) ≡ true) → may_have_given old guid ≡ true → may_have_given new guid ≡ true
+gave_on old new guid id more ends e =
+    let a = both_true (is_own old.map.store guid) (nat_le (number_at 8 guid) old.drawn.file && is_before (number_at 12 guid) (end_in (number_at 8 guid) old.files.files)) e in
+    let b = both_true (nat_le (number_at 8 guid) old.drawn.file) (is_before (number_at 12 guid) (end_in (number_at 8 guid) old.files.files)) a.1 in
+    let le : number_at 8 guid ≤ old.drawn.file = true_le (number_at 8 guid) old.drawn.file b.0 in
+    all_true (is_own new.map.store guid) (nat_le (number_at 8 guid) new.drawn.file) (is_before (number_at 12 guid) (end_in (number_at 8 guid) new.files.files)) (ap (λ (s : List ℕ). is_own s guid) id ∙ a.0) (le_true (number_at 8 guid) new.drawn.file (omega (arith, le, more))) (ends (number_at 8 guid) (number_at 12 guid) le b.1)
+
+pub tells_store : {D : Type 0} → (old new : StoreValue D) (before after : Option History) (began faulted : Faults) → new.map.store ≡ old.map.store → old.drawn.file ≤ new.drawn.file → EndsGoOn old new → KeepsTelling (seen_saving old before began) (seen_saving new after faulted)
+tells_store old new before after began faulted id more ends = record {
+  pins = λ file. refl;
+  doomed = λ file. refl;
+  used = λ file. refl;
+  unused = λ file. refl;
+  gave = λ guid e. gave_on old new guid id more ends.gave e;
+  files = λ file e. ends.known file e;
+  instances = λ instance. refl;
+}
+
+-- ---- a store that goes on, or not
+
+pub shows_on : {D : Type 0} → (old new : StoreValue D) (before after : Option History) (began faulted : Faults) (lists : Lists) → new.map.boxes ≡ old.map.boxes → indexes_of new.boxes ≡ indexes_of old.boxes → ShowsSeen (seen_saving old before began) lists → ShowsSeen (seen_saving new after faulted) lists
+shows_on old new before after began faulted lists boxes indexes shows =
+    (shows.0, subst (λ (bs : List MapBox). ShowLists bs (indexes_of new.boxes) lists) (sym boxes) (subst (λ (ms : List BoxMeaning). ShowLists old.map.boxes ms lists) (sym indexes) shows.1))
+
+pub has_run : {D : Type 0} → (old new : StoreValue D) (before after : Option History) (began faulted : Faults) → old.stopped ≡ false → new.stopped ≡ false → new.map.boxes ≡ old.map.boxes → indexes_of new.boxes ≡ indexes_of old.boxes → ((lists : Lists) → IsSettledFor lists before → Leaves lists lists before after)
+    → ((lists : Lists) → IsSettledFor lists before → IsSettledFor lists after) → Grows before after → faulted ≡ began → HasRun (seen_saving old before began) (seen_saving new after faulted)
+has_run old new before after began faulted ran runs boxes indexes moments rests grows same = record {
+  ran = ran;
+  runs = runs;
+  shown = λ lists shows. shows_on old new before after began faulted lists boxes indexes shows;
+  leads = λ lists. record { stops = λ s. moments lists s; settled = λ s. rests lists s };
+  grows = grows;
+  reads = let e = ap (λ (f : Faults). f.reads) same in omega (arith, e);
+  changes = let e = ap (λ (f : Faults). f.changes) same in omega (arith, e);
+}
+
+pub due_stays : {D : Type 0} → (old new : StoreValue D) (uid : ℕ) → new.map ≡ old.map → new.dues ≡ old.dues → due_at uid new ≡ due_at uid old
+due_stays old new uid map dues = ap (λ (m : MapMeaning). number_beside uid m.records new.dues) map ∙ ap (number_beside uid old.map.records) dues
+
+pub stays_so : {D : Type 0} → (drew : Highest) (old new : StoreValue D) (before after : Option History) (began faulted : Faults) → new.map ≡ old.map → new.drawn ≡ drawn_also old.drawn drew → new.dues ≡ old.dues → indexes_of new.boxes ≡ indexes_of old.boxes → old.drawn.file ≤ new.drawn.file → EndsGoOn old new → Grows before after
+    → began.reads ≤ faulted.reads → began.changes ≤ faulted.changes → StaysSo drew (seen_saving old before began) (seen_saving new after faulted)
+stays_so drew old new before after began faulted map drawn dues indexes more ends grows reads changes = record {
+  map = map;
+  drawn = drawn;
+  due = λ uid. due_stays old new uid map dues;
+  tells = tells_store old new before after began faulted (ap (λ (m : MapMeaning). m.store) map) more ends;
+  shown = λ lists shows. shows_on old new before after began faulted lists (ap (λ (m : MapMeaning). m.boxes) map) indexes shows;
+  grows = grows;
+  reads = reads;
+  changes = changes;
+}
+
+-- ---- numbers
+
+abbrev numbers : ℕ → ℕ → ℕ → ℕ → Highest
+numbers file map instance mailbox = record { file = file; map = map; instance = instance; mailbox = mailbox }
+
+pub drawn_file : (d : Highest) (n : ℕ) → n ≡ d.file + 1 → record d { file = n } ≡ drawn_also d (record no_numbers { file = 1 })
+drawn_file d n e =
+    ap (λ (k : ℕ). numbers k d.map d.instance d.mailbox) e
+    ∙ (ap (λ (k : ℕ). numbers (d.file + 1) k d.instance d.mailbox) (omega arith) ∙ (ap (λ (k : ℕ). numbers (d.file + 1) (d.map + 0) k d.mailbox) (omega arith) ∙ ap (λ (k : ℕ). numbers (d.file + 1) (d.map + 0) (d.instance + 0) k) (omega arith)))
+
+pub drawn_map : (d : Highest) (n : ℕ) → n ≡ d.map + 1 → record d { map = n } ≡ drawn_also d (record no_numbers { map = 1 })
+drawn_map d n e =
+    ap (λ (k : ℕ). numbers d.file k d.instance d.mailbox) e
+    ∙ (ap (λ (k : ℕ). numbers k (d.map + 1) d.instance d.mailbox) (omega arith) ∙ (ap (λ (k : ℕ). numbers (d.file + 0) (d.map + 1) k d.mailbox) (omega arith) ∙ ap (λ (k : ℕ). numbers (d.file + 0) (d.map + 1) (d.instance + 0) k) (omega arith)))
+
+-- ---- what is due
+
+less_one : (b : Bool) (old new : ℕ) → new ≡ old - bit (b || false) → cond b 1 0 ≤ old → new + cond b 1 0 ≡ old
+less_one true old new e l = let f : new ≡ old - 1 = e in let m : 1 ≤ old = l in omega (arith, f, m)
+less_one false old new e l = let f : new ≡ old - 0 = e in omega (arith, f)
+
+own_due : {D : Type 0} → (held other : ℕ) (store : StoreValue D) → 1 ≤ due_at held store → one_due held other ≤ due_at other store
+own_due held other store some = elim (cases_eq held other) [
+  | inl same ↦ subst (λ (k : ℕ). one_due held k ≤ due_at k store) same (subst (λ (n : ℕ). n ≤ due_at held store) (sym (ap (λ (b : Bool). cond b 1 0) (eq-eqb held held refl))) some)
+  | inr apart ↦ subst (λ (n : ℕ). n ≤ due_at other store) (sym (ap (λ (b : Bool). cond b 1 0) (ne_eqb held other apart))) (omega arith)
+]
+
+pub less_due : {D : Type 0} → (held : MapUid) (old new : StoreValue D) (other : ℕ) → 1 ≤ due_at held.0 old → due_at other new ≡ due_at other old - bit ((held.0 == other) || false) → due_at other new + one_due held.0 other ≡ due_at other old
+less_due held old new other some due = less_one (held.0 == other) (due_at other old) (due_at other new) due (own_due held.0 other old some)
+
+-- ---- the GUID of a place
+
+below_256 : (n : ℕ) → n % 256 < 256
+below_256 n = omega arith
+
+four_octets : (n : ℕ) → IsOctets (to_be_bytes w32 n)
+four_octets n =
+    All-cons (λ (o : ℕ). o < 256) (n / 16777216 % 256) (n / 65536 % 256 ∷ n / 256 % 256 ∷ n % 256 ∷ []) (below_256 (n / 16777216)) (All-cons (λ (o : ℕ). o < 256) (n / 65536 % 256) (n / 256 % 256 ∷ n % 256 ∷ []) (below_256 (n / 65536))
+    (All-cons (λ (o : ℕ). o < 256) (n / 256 % 256) (n % 256 ∷ []) (below_256 (n / 256)) (All-cons (λ (o : ℕ). o < 256) (n % 256) [] (below_256 n) (All-nil (λ (o : ℕ). o < 256)))))
+
+pub place_long : (store : List ℕ) (file offset : ℕ) → length store ≡ 8 → length (place_guid store file offset) ≡ 16
+place_long store file offset long = length-append store (to_be_bytes w32 file ++ to_be_bytes w32 offset) ∙ ap (λ (n : ℕ). n + 8) long
+
+pub place_octets : (store : List ℕ) (file offset : ℕ) → IsOctets store → IsOctets (place_guid store file offset)
+place_octets store file offset each =
+    All-append (λ (o : ℕ). o < 256) store (to_be_bytes w32 file ++ to_be_bytes w32 offset) each (All-append (λ (o : ℕ). o < 256) (to_be_bytes w32 file) (to_be_bytes w32 offset) (four_octets file) (four_octets offset))
+
+pub place_file : (store : List ℕ) (file offset : ℕ) → length store ≡ 8 → file ≤ 4294967294 → guid_file store (place_guid store file offset) ≡ file
+place_file store file offset long small =
+    let own = own_place store file offset long in
+    let named = file_of_place store file offset long (omega (arith, small)) in
+    ap (λ (b : Bool). if b && not (number_at 8 (place_guid store file offset) == 4294967295) then number_at 8 (place_guid store file offset) else 0) own
+    ∙ (ap (λ (n : ℕ). if true && not (n == 4294967295) then n else 0) named ∙ ap (λ (b : Bool). if true && not b then file else 0) (ne_eqb file 4294967295 (λ e. omega (arith, e, small))))
+
+and_false : (a b : Bool) → (a && (b && false)) ≡ false
+and_false true true = refl
+and_false true false = refl
+and_false false b = refl
+
+not_past : (n : ℕ) → nat_lt n n ≡ false
+not_past n = grind (arith, common_steps)
+
+past : (a b : ℕ) → a < b → nat_lt a b ≡ true
+past a b l = grind (arith, common_steps, l)
+
+-- it wasn't given, as its place is the end of the file
+pub place_new : {D : Type 0} → (store : StoreValue D) (file offset : ℕ) → length store.map.store ≡ 8 → file < 2 ^ 32 → offset < 2 ^ 32 → end_in file store.files.files ≡ Some offset → may_have_given store (place_guid store.map.store file offset) ≡ false
+place_new store file offset long f o end =
+    let guid : List ℕ = place_guid store.map.store file offset in
+    let at : is_before (number_at 12 guid) (end_in (number_at 8 guid) store.files.files) ≡ false =
+    ap (λ (n : ℕ). is_before (number_at 12 guid) (end_in n store.files.files)) (file_of_place store.map.store file offset long f)
+    ∙ (ap (λ (e : Option ℕ). is_before (number_at 12 guid) e) end ∙ (ap (λ (n : ℕ). nat_lt n offset) (offset_of_place store.map.store file offset long o) ∙ not_past offset)) in
+    ap (λ (b : Bool). is_own store.map.store guid && (nat_le (number_at 8 guid) store.drawn.file && b)) at ∙ and_false (is_own store.map.store guid) (nat_le (number_at 8 guid) store.drawn.file)
+
+-- it was, once the file ends behind it
+pub place_given : {D : Type 0} → (store : StoreValue D) (id : List ℕ) (file offset end : ℕ) → store.map.store ≡ id → length id ≡ 8 → file < 2 ^ 32 → offset < 2 ^ 32 → file ≤ store.drawn.file → end_in file store.files.files ≡ Some end → offset < end → may_have_given store (place_guid id file offset) ≡ true
+place_given store id file offset end same long f o drawn ends before =
+    let guid : List ℕ = place_guid id file offset in
+    let named = file_of_place id file offset long f in
+    all_true (is_own store.map.store guid) (nat_le (number_at 8 guid) store.drawn.file) (is_before (number_at 12 guid) (end_in (number_at 8 guid) store.files.files)) (ap (λ (s : List ℕ). is_own s guid) same ∙ own_place id file offset long)
+    (le_true (number_at 8 guid) store.drawn.file (omega (arith, named, drawn)))
+    (ap (λ (n : ℕ). is_before (number_at 12 guid) (end_in n store.files.files)) named
+    ∙ (ap (λ (e : Option ℕ). is_before (number_at 12 guid) e) ends ∙ (ap (λ (n : ℕ). nat_lt n end) (offset_of_place id file offset long o) ∙ past offset end before)))
+
+-- a file that ends has a number that was drawn
+pub file_below : (n most end : ℕ) (files : List MailFile) → All (λ f. f.file.0 ≤ most) files → end_in n files ≡ Some end → n ≤ most
+file_below n most end [] h e = absurd (let w : None ≡ Some end = e in cc w)
+file_below n most end (x ∷ xs) h e = elim (cases_eq x.file.0 n) [
+  | inl same ↦ let low = All-head (λ (f : MailFile). f.file.0 ≤ most) x xs h in omega (arith, low, same)
+  | inr apart ↦
+      file_below n most end xs (All-tail (λ (f : MailFile). f.file.0 ≤ most) x xs h)
+      (sym (ap (option_and_then (λ f. f.end)) (cond-false (x.file.0 == n) (Some x) (file_in n xs) (ne_eqb x.file.0 n apart))) ∙ e)
+]

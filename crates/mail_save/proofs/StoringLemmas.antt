@@ -1,0 +1,103 @@
+-- What storing a record, and lowering its count, make of a store.
+use Rattle.std.proofs.Common.{◌≡◌, ◌≤◌, ◌+◌, ℕ, List, [], Option, Some, inl, inr, refl, ◌∙◌, ap, arith}
+use Rattle.disk_model.specs.Disk.{History, Between}
+use Rattle.disk_model.proofs.BetweenLemmas.{between-map}
+use Rattle.mdbox_base.specs.declared.entries.InstRow.{InstRow}
+use Rattle.mdbox_base.specs.declared.entries.MapEntry.{MapEntry}
+use Rattle.mdbox_base.specs.declared.entries.MapEntry.TheVariants as map_entry
+use Rattle.mdbox_base.specs.declared.ids.MapUid.{MapUid}
+use Rattle.mdbox_base.specs.declared.replies.Refusal.{Refusal}
+use Rattle.model_appends.specs.Amounts.{due_by}
+use Rattle.model_appends.specs.MapAppending.{stored_row}
+use Rattle.model_meaning.specs.MapMeaning.{MapRecord, MapMeaning, map_applied, record_at}
+use Rattle.model_store.specs.Settled.{files_of}
+use Rattle.model_store.specs.Stands.{StoresMessage}
+use Rattle.storage_files.specs.Files.{end_in, is_taken_in, released_in}
+use Rattle.store_core.specs.Dues.{due_at, KeepsStored}
+use Rattle.store_core.specs.MapAppend.{drawn_by}
+use Rattle.store_core.specs.Value.{StoreValue, indexes_of}
+use Rattle.mail_save.specs.Record.{entry_stored, entry_lowered}
+use Rattle.mail_save.specs.SaveEffects.{AreSpared, GivesFileBack, IsLeftAlone, LowersRecord, StoresNone, StoresPlaced}
+use Rattle.mail_save.specs.declared.place.SavedAt.{SavedAt}
+use Rattle.mail_save.proofs.TakingLemmas.{released_others}
+
+-- ---- behind an append to the map log
+
+-- it has changed nothing else
+abbrev pub IsMapChange : {D : Type 0} → StoreValue D → StoreValue D → Type 0
+IsMapChange old new = new ≡ record old { disk = new.disk; map_log = new.map_log; map = new.map; drawn = new.drawn; dues = new.dues; stopped = new.stopped }
+
+-- the storage file is given back behind it
+abbrev pub giver_store : {D : Type 0} → ℕ → StoreValue D → StoreValue D
+giver_store file store = record store { files = record store.files { files = released_in file store.files.files } }
+
+pub stores_placed : {D : Type 0} → (at : SavedAt) (origin time size : ℕ) (uid : MapUid) (instances : List InstRow) (old mid new : StoreValue D) → instances ≡ [] → uid.0 ≡ old.drawn.map + 1 → uid.0 ≤ 4294967294
+    → mid.map ≡ map_applied (map_entry.S origin 1 uid at.file at.offset at.size at.guid instances) old.map
+    → record_at mid.map uid.0 ≡ Some (stored_row origin 1 uid at.file at.offset at.size at.guid instances)
+    → mid.drawn ≡ record old.drawn { map = uid.0 }
+    → ((other : ℕ) → due_at other mid ≡ due_by (entry_stored origin uid at) (λ k. due_at k old) other)
+    → mid.map.boxes ≡ old.map.boxes → IsMapChange old mid → new ≡ giver_store at.file.0 mid → ((number : ℕ) → end_in number new.files.files ≡ end_in number mid.files.files)
+    → StoresPlaced at origin time size (record { map_uid = uid; guid = at.guid; time = time; size = size }) old new
+stores_placed at origin time size uid instances old mid new none next high taken there drawn due boxes same given ends = record {
+  uid_is = next;
+  few = omega (arith, next, high);
+  guid_is = refl;
+  time_is = refl;
+  size_is = refl;
+  map = ap (λ v. v.map) given ∙ (taken ∙ ap (λ (rows : List InstRow). map_applied (map_entry.S origin 1 uid at.file at.offset at.size at.guid rows) old.map) none);
+  there = ap (λ v. record_at v.map uid.0) given ∙ (there ∙ ap (λ (rows : List InstRow). Some (stored_row origin 1 uid at.file at.offset at.size at.guid rows)) none);
+  drawn = ap (λ v. v.drawn) given ∙ drawn;
+  due = λ other. ap (λ v. due_at other v) given ∙ due other;
+  boxes = ap (λ v. v.boxes) given ∙ ap (λ v. v.boxes) same;
+  mailboxes = ap (λ v. v.map.boxes) given ∙ boxes;
+  files = ap (λ v. v.files) given ∙ ap (λ v. record v.files { files = released_in at.file.0 v.files.files }) same;
+  ends = λ number. ends number ∙ ap (λ v. end_in number v.files.files) same;
+  others = λ number apart. ap (λ v. is_taken_in number v.files.files) given ∙ (released_others at.file.0 number mid.files.files apart ∙ ap (λ v. is_taken_in number v.files.files) same);
+}
+
+-- the same of a store in which nothing was stored
+pub gives_back : {D : Type 0} → (file : ℕ) (old mid new : StoreValue D) → mid ≡ old → new ≡ giver_store file mid → ((number : ℕ) → end_in number new.files.files ≡ end_in number mid.files.files) → GivesFileBack file old new
+gives_back file old mid new same given ends = record {
+  ends = λ number. ends number ∙ ap (λ v. end_in number v.files.files) same;
+  others = λ number apart. ap (λ v. is_taken_in number v.files.files) given ∙ (released_others file number mid.files.files apart ∙ ap (λ v. is_taken_in number v.files.files) same);
+  same = given ∙ ap (giver_store file) same;
+}
+
+-- a change of the disk failed
+pub left_alone : {D : Type 0} → (old new : StoreValue D) → IsMapChange old new → new.map ≡ old.map → new.drawn ≡ old.drawn → new.dues ≡ old.dues → IsLeftAlone old new
+left_alone old new same map drawn dues = record { map = map; indexes = ap (λ v. indexes_of v.boxes) same; dues = dues; drawn = drawn; files = ap (λ v. v.files) same }
+
+pub lowers_record : {D : Type 0} → (uid : MapUid) (entry : MapEntry) (old new : StoreValue D) → entry ≡ entry_lowered uid → IsMapChange old new → new.map ≡ map_applied entry old.map → new.map.boxes ≡ old.map.boxes → new.drawn ≡ drawn_by entry old.drawn
+    → ((other : ℕ) → due_at other new ≡ due_by entry (λ k. due_at k old) other) → LowersRecord uid old new
+lowers_record uid entry old new is same taken boxes drawn due = record {
+  map = taken ∙ ap (λ (e : MapEntry). map_applied e old.map) is;
+  due = λ other. due other ∙ ap (λ (e : MapEntry). due_by e (λ k. due_at k old) other) is;
+  boxes = ap (λ v. v.boxes) same;
+  mailboxes = boxes;
+  drawn = drawn ∙ ap (λ (e : MapEntry). drawn_by e old.drawn) is;
+  files = ap (λ v. v.files) same;
+}
+
+pub unstored_map : {D : Type 0} → (at : SavedAt) (why : Refusal) (old new : StoreValue D) → StoresNone at why old new → new.map ≡ old.map
+unstored_map at why old new (inl k) = k.1.map
+unstored_map at why old new (inr k) = ap (λ v. v.map) k.1.same
+
+-- ---- records that are kept
+
+as_stored : (before after : Option History) (row : MapRecord) (octets : List ℕ) → KeepsStored before after → Between (λ a b. StoresMessage (files_of a) row octets → StoresMessage (files_of b) row octets) before after
+as_stored before after row octets keeps =
+    between-map (λ a b. (other : MapRecord) (text : List ℕ) → StoresMessage (files_of a) other text → StoresMessage (files_of b) other text) (λ a b. StoresMessage (files_of a) row octets → StoresMessage (files_of b) row octets) before after (λ a b all. all row octets) keeps
+
+pub spared_kept : {D : Type 0} → (old new : StoreValue D) (before after : Option History) → new.map ≡ old.map → KeepsStored before after → AreSpared old new before after
+spared_kept old new before after map keeps = λ uid row found. record {
+  now = row;
+  there = ap (λ (m : MapMeaning). record_at m uid) map ∙ found;
+  guid = refl;
+  stores = λ octets. as_stored before after row octets keeps;
+}
+
+-- a store with the same map
+pub spared_as : {D : Type 0} → (old mid new : StoreValue D) (before after : Option History) → new.map ≡ mid.map → AreSpared old mid before after → AreSpared old new before after
+spared_as old mid new before after map spared = λ uid row found.
+    let s = spared uid row found in
+    record { now = s.now; there = ap (λ (m : MapMeaning). record_at m uid) map ∙ s.there; guid = s.guid; stores = s.stores }

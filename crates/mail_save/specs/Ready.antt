@@ -1,0 +1,66 @@
+-- What a delivery has between its events, of the message with these octets: what each event needs of the store and its disk.
+use Rattle.std.specs.Prelude.{◌≡◌, ◌≤◌, ℕ, List, length, Option}
+use Rattle.attach_detach.specs.Prepared.{IsPlain}
+use Rattle.disk_model.specs.Disk.{History, IfTold}
+use Rattle.mdbox_base.specs.declared.ids.MapUid.{MapUid}
+use Rattle.mdbox_base.specs.declared.ids.Uid.{Uid}
+use Rattle.mdbox_base.specs.declared.progress.Progress.{Progress}
+use Rattle.mdbox_base.specs.declared.progress.Progress.TheVariants as progress
+use Rattle.mdbox_base.specs.declared.replies.Reply.TheVariants as reply
+use Rattle.list_machine.specs.Machine.{add_message}
+use Rattle.model_lists.specs.Lists.{Lists}
+use Rattle.model_store.specs.Settled.{IsSettledFor, files_of}
+use Rattle.model_store.specs.Stands.{StoresMessage}
+use Rattle.store_core.specs.Append.{Brings}
+use Rattle.store_core.specs.MapAppend.{IsReadyToStore}
+use Rattle.store_core.specs.Value.{StoreValue, references_to}
+use Rattle.mail_save.specs.Added.{entry_added}
+use Rattle.mail_save.specs.Parts.{AreLaidOut, origin_of}
+use Rattle.mail_save.specs.Record.{entry_stored}
+use Rattle.mail_save.specs.SaveEffects.{saved_row}
+use Rattle.mail_save.specs.declared.add.Added.{Added}
+use Rattle.mail_save.specs.declared.place.SavedAt.{SavedAt}
+use Rattle.mail_save.specs.declared.task.SaveStage.{SaveStage}
+use Rattle.mail_save.specs.declared.task.SaveStage.TheVariants as stage
+
+-- A record of the region that was placed stores the message, under any map uid; and of a settled disk the region is ready: a
+-- crash leaves it as it reads, and a record of an own save stores its detached form.
+pub record IsRegionReady (at : SavedAt) (origin : ℕ) (octets : List ℕ) (history : Option History) : Type 0 where
+  pub origin_is : origin ≡ origin_of octets
+  pub stores : (uid : MapUid) → IfTold history (λ now. StoresMessage (files_of now) (saved_row origin uid at) octets)
+  pub ready : (uid : MapUid) (lists : Lists) → IsSettledFor lists history → IsReadyToStore (entry_stored origin uid at) history
+
+-- The record that was stored brings the message to any mailbox, under any UID. None lists it yet.
+pub record IsRecordReady {D : Type 0} (added : Added) (time : ℕ) (octets : List ℕ) (store : StoreValue D) (history : Option History) : Type 0 where
+  pub time_is : added.time ≡ time
+  pub size_is : added.size ≡ length octets
+  pub brings : (uid : Uid) → Brings store.map (entry_added uid added) octets history
+  pub unlisted : references_to store added.guid.0 ≡ 0
+
+-- the message has so many octets
+abbrev pub HasSize : ℕ → List ℕ → Type 0
+HasSize size octets = (size ≡ length octets) × (length octets ≤ 67108864)
+
+-- What an event needs beside what the task and the store have (`HasLeft`), of a delivery to this mailbox at this time, of so many
+-- octets.
+abbrev pub IsReadyToSave : {D : Type 0} → SaveStage → List ℕ → ℕ → ℕ → List ℕ → StoreValue D → Option History → Type 0
+IsReadyToSave (stage.First prepared) name time size octets store history = HasSize size octets × IsPlain octets prepared
+IsReadyToSave (stage.Taking parts) name time size octets store history = HasSize size octets × AreLaidOut name time octets parts
+IsReadyToSave (stage.Placing parts file) name time size octets store history = HasSize size octets × AreLaidOut name time octets parts
+IsReadyToSave (stage.Storing at origin room) name time size octets store history = HasSize size octets × IsRegionReady at origin octets history
+IsReadyToSave (stage.Adding added room) name time size octets store history = HasSize size octets × IsRecordReady added time octets store history
+IsReadyToSave now name time size octets store history = HasSize size octets
+
+-- ---- the lists
+
+-- the lists with the message, those that an event may make of these, and those that it makes where it answers this
+abbrev pub delivered_lists : List ℕ → Added → List ℕ → Lists → Lists
+delivered_lists name added octets lists = add_message name (record { uid = 0; flags = 0; time = added.time; guid = added.guid.0; octets = octets }) lists
+
+abbrev pub save_lists : SaveStage → List ℕ → List ℕ → Lists → Lists
+save_lists (stage.Adding added room) name octets lists = delivered_lists name added octets lists
+save_lists now name octets lists = lists
+
+abbrev pub lists_delivered : SaveStage → List ℕ → List ℕ → Progress → Lists → Lists
+lists_delivered (stage.Adding added room) name octets (progress.Done (reply.Saved uid guid)) lists = delivered_lists name added octets lists
+lists_delivered now name octets answer lists = lists

@@ -1,0 +1,179 @@
+-- What each event of a delivery makes of the store.
+use Rattle.std.specs.Prelude.{◌≡◌, ◌≢◌, ◌⊎◌, ◌<◌, ◌+◌, ℕ, true, false, List, [], length, Option, Some, None}
+use Rattle.attach_detach.specs.Prepared.{IsPlain}
+use Rattle.disk_model.specs.Disk.{History}
+use Rattle.mdbox_base.specs.declared.ids.BoxNo.{BoxNo}
+use Rattle.mdbox_base.specs.declared.ids.FileNo.{FileNo}
+use Rattle.mdbox_base.specs.declared.ids.MapUid.{MapUid}
+use Rattle.mdbox_base.specs.declared.ids.Uid.{Uid}
+use Rattle.mdbox_base.specs.declared.progress.Progress.{Progress}
+use Rattle.mdbox_base.specs.declared.progress.Progress.TheVariants as progress
+use Rattle.mdbox_base.specs.declared.replies.Refusal.{Refusal}
+use Rattle.mdbox_base.specs.declared.replies.Refusal.TheVariants as refusal
+use Rattle.mdbox_base.specs.declared.replies.Reply.TheVariants as reply
+use Rattle.model_appends.specs.Amounts.{due_by, due_by_box}
+use Rattle.model_appends.specs.Appending.{meanings_by}
+use Rattle.model_appends.specs.MapAppending.{stored_row}
+use Rattle.model_meaning.specs.BoxMeaning.{BoxMeaning}
+use Rattle.model_meaning.specs.MapMeaning.{MapRecord, map_applied, record_at}
+use Rattle.storage_files.specs.Files.{IsTakeFor, end_in, is_taken_in, released_in}
+use Rattle.storage_files.specs.declared.file.Take.{Take}
+use Rattle.storage_files.specs.declared.file.Take.TheVariants.{Known, New, Full}
+use Rattle.store_core.specs.Dues.{due_at, IsSpared}
+use Rattle.store_core.specs.Value.{StoreValue, indexes_of, list_named}
+use Rattle.mail_save.specs.Added.{HasRoomUnder, entry_added}
+use Rattle.mail_save.specs.Events.{save_refusal}
+use Rattle.mail_save.specs.Parts.{AreLaidOut}
+use Rattle.mail_save.specs.Record.{entry_stored, entry_lowered}
+use Rattle.mail_save.specs.Saved.{place_guid}
+use Rattle.mail_save.specs.declared.add.Added.{Added}
+use Rattle.mail_save.specs.declared.first.SavedParts.{SavedParts}
+use Rattle.mail_save.specs.declared.place.SavedAt.{SavedAt}
+use Rattle.mail_save.specs.declared.task.SaveStage.{SaveStage}
+use Rattle.mail_save.specs.declared.task.SaveStage.TheVariants as stage
+
+-- ---- what stays
+
+-- the storage files end where they did, or all but one do
+abbrev pub AreEndsSame : {D : Type 0} → StoreValue D → StoreValue D → Type 0
+AreEndsSame old new = (number : ℕ) → end_in number new.files.files ≡ end_in number old.files.files
+
+abbrev pub AreOtherEndsSame : {D : Type 0} → ℕ → StoreValue D → StoreValue D → Type 0
+AreOtherEndsSame file old new = (number : ℕ) → number ≢ file → end_in number new.files.files ≡ end_in number old.files.files
+
+-- all storage files but one are taken as they were
+abbrev pub AreOthersTaken : {D : Type 0} → ℕ → StoreValue D → StoreValue D → Type 0
+AreOthersTaken file old new = (number : ℕ) → number ≢ file → is_taken_in number new.files.files ≡ is_taken_in number old.files.files
+
+-- What the logs mean, what is due, the numbers drawn and the storage files stay.
+pub record IsLeftAlone {D : Type 0} (old new : StoreValue D) : Type 0 where
+  pub map : new.map ≡ old.map
+  pub indexes : indexes_of new.boxes ≡ indexes_of old.boxes
+  pub dues : new.dues ≡ old.dues
+  pub drawn : new.drawn ≡ old.drawn
+  pub files : new.files ≡ old.files
+
+-- each record is there still, and stores what it stored
+abbrev pub AreSpared : {D : Type 0} → StoreValue D → StoreValue D → Option History → Option History → Type 0
+AreSpared old new before after = (uid : ℕ) (row : MapRecord) → record_at old.map uid ≡ Some row → IsSpared uid row new before after
+
+-- ---- a storage file is taken
+
+-- It was there, or it is new, with the next number, and was made.
+abbrev pub TookAs : {D : Type 0} → Take → FileNo → StoreValue D → StoreValue D → Type 0
+TookAs (Known taken) file old new = (taken ≡ file) × (new.drawn ≡ old.drawn) × AreEndsSame old new
+TookAs (New taken) file old new =
+    (taken ≡ file) × (new.drawn ≡ record old.drawn { file = file.0 }) × (end_in file.0 old.files.files ≡ None) × ((end : ℕ) × (end_in file.0 new.files.files ≡ Some end)) × AreOtherEndsSame file.0 old new
+TookAs Full file old new = ⊥
+
+-- This file was taken for so many octets, which nobody had taken.
+pub record TakesFileFor {D : Type 0} (size : ℕ) (file : FileNo) (old new : StoreValue D) : Type 0 where
+  pub take : Take
+  pub is : IsTakeFor size old.files take
+  pub took : TookAs take file old new
+  pub free : is_taken_in file.0 old.files.files ≡ false
+  pub others : AreOthersTaken file.0 old new
+  pub same : new ≡ record old { disk = new.disk; files = new.files; drawn = new.drawn }
+
+-- None was taken, since there was no memory, no file has room and all numbers are used up, or a new one could not be made.
+pub record FindsNoNumber {D : Type 0} (size : ℕ) (old new : StoreValue D) : Type 0 where
+  pub full : IsTakeFor size old.files Full
+  pub same : new ≡ record old { files = record old.files { spare = new.files.spare } }
+
+pub record FailsToMake {D : Type 0} (size : ℕ) (old new : StoreValue D) : Type 0 where
+  pub file : FileNo
+  pub is : IsTakeFor size old.files (New file)
+  pub free : is_taken_in file.0 old.files.files ≡ false
+  pub ends : AreEndsSame old new
+  pub others : AreOthersTaken file.0 old new
+  pub same : new ≡ record old { disk = new.disk; files = new.files; drawn = record old.drawn { file = file.0 }; stopped = true }
+
+abbrev pub TakesNone : {D : Type 0} → ℕ → Refusal → StoreValue D → StoreValue D → Type 0
+TakesNone size why old new =
+    ((why ≡ refusal.NoMemory) × (new ≡ old)) ⊎ (((why ≡ refusal.StoreFull 4294967294) × FindsNoNumber size old new) ⊎ ((why ≡ refusal.Stopped) × FailsToMake size old new))
+
+-- ---- the message is placed
+
+-- Its region stands at the old end of the file that was taken, and its GUID names this place.
+pub record PlacesParts {D : Type 0} (parts : SavedParts) (file : FileNo) (at : SavedAt) (origin : ℕ) (old new : StoreValue D) : Type 0 where
+  pub file_is : at.file ≡ file
+  pub origin_is : origin ≡ parts.origin
+  pub size_is : at.size ≡ length parts.region
+  pub guid : at.guid.0 ≡ place_guid old.map.store file.0 at.offset
+  pub began : end_in file.0 old.files.files ≡ Some at.offset
+  pub ends : end_in file.0 new.files.files ≡ Some (at.offset + at.size)
+  pub others : AreOtherEndsSame file.0 old new
+  pub taken : (number : ℕ) → is_taken_in number new.files.files ≡ is_taken_in number old.files.files
+  pub same : new ≡ record old { disk = new.disk; files = new.files }
+
+-- ---- its record is stored
+
+-- the record of a message that was placed
+abbrev pub saved_row : ℕ → MapUid → SavedAt → MapRecord
+saved_row origin uid at = stored_row origin 1 uid at.file at.offset at.size at.guid []
+
+-- It has the next map uid, and one of it is due. The storage file is given back.
+pub record StoresPlaced {D : Type 0} (at : SavedAt) (origin time size : ℕ) (added : Added) (old new : StoreValue D) : Type 0 where
+  pub uid_is : added.map_uid.0 ≡ old.drawn.map + 1
+  pub few : old.drawn.map < 4294967294
+  pub guid_is : added.guid ≡ at.guid
+  pub time_is : added.time ≡ time
+  pub size_is : added.size ≡ size
+  pub map : new.map ≡ map_applied (entry_stored origin added.map_uid at) old.map
+  pub there : record_at new.map added.map_uid.0 ≡ Some (saved_row origin added.map_uid at)
+  pub drawn : new.drawn ≡ record old.drawn { map = added.map_uid.0 }
+  pub due : (uid : ℕ) → due_at uid new ≡ due_by (entry_stored origin added.map_uid at) (λ other. due_at other old) uid
+  pub boxes : new.boxes ≡ old.boxes
+  pub mailboxes : new.map.boxes ≡ old.map.boxes
+  pub files : new.files ≡ record old.files { files = released_in at.file.0 old.files.files }
+  pub ends : AreEndsSame old new
+  pub others : AreOthersTaken at.file.0 old new
+
+-- The storage file is given back, and nothing else has changed.
+pub record GivesFileBack {D : Type 0} (file : ℕ) (old new : StoreValue D) : Type 0 where
+  pub ends : AreEndsSame old new
+  pub others : AreOthersTaken file old new
+  pub same : new ≡ record old { files = record old.files { files = released_in file old.files.files } }
+
+-- It was not stored: no map uid is left, there was no memory, or a change of the disk failed.
+abbrev pub StoresNone : {D : Type 0} → SavedAt → Refusal → StoreValue D → StoreValue D → Type 0
+StoresNone at why old new = ((why ≡ refusal.Stopped) × IsLeftAlone old new) ⊎ ((why ≢ refusal.Stopped) × GivesFileBack at.file.0 old new)
+
+-- ---- it is added, or its record given back
+
+-- The mailbox lists it under its next UID, and one less of its record is due.
+pub record AddsStored {D : Type 0} (name : List ℕ) (added : Added) (uid : Uid) (old new : StoreValue D) : Type 0 where
+  pub number : BoxNo
+  pub room : HasRoomUnder name number uid old
+  pub taken : indexes_of new.boxes ≡ meanings_by number.0 (entry_added uid added) old.map.boxes (indexes_of old.boxes)
+  pub due : (m : BoxMeaning) (other : ℕ) → list_named old name ≡ Some m → due_at other new ≡ due_by_box m (entry_added uid added) (λ k. due_at k old) other
+  pub map : new.map ≡ old.map
+  pub drawn : new.drawn ≡ old.drawn
+  pub files : new.files ≡ old.files
+
+-- The count of its record is lowered, and one less of it is due.
+pub record LowersRecord {D : Type 0} (uid : MapUid) (old new : StoreValue D) : Type 0 where
+  pub map : new.map ≡ map_applied (entry_lowered uid) old.map
+  pub due : (other : ℕ) → due_at other new ≡ due_by (entry_lowered uid) (λ k. due_at k old) other
+  pub boxes : new.boxes ≡ old.boxes
+  pub mailboxes : new.map.boxes ≡ old.map.boxes
+  pub drawn : new.drawn ≡ old.drawn
+  pub files : new.files ≡ old.files
+
+-- ---- by stage
+
+-- From one stage to the next, with this answer, of a delivery to this mailbox at this time, of so many octets.
+abbrev pub SaveEffects : {D : Type 0} → SaveStage → SaveStage → List ℕ → ℕ → ℕ → Progress → StoreValue D → StoreValue D → Type 0
+SaveEffects (stage.First prepared) (stage.Taking parts) name time size progress.More old new = (new ≡ old) × (save_refusal name old ≡ None) × ((octets : List ℕ) → IsPlain octets prepared → AreLaidOut name time octets parts)
+SaveEffects (stage.First prepared) stage.Ended name time size (progress.Done (reply.Refused why)) old new = new ≡ old
+SaveEffects (stage.Taking parts) (stage.Placing laid file) name time size progress.More old new = (laid ≡ parts) × TakesFileFor (length parts.region) file old new
+SaveEffects (stage.Taking parts) stage.Ended name time size (progress.Done (reply.Refused why)) old new = TakesNone (length parts.region) why old new
+SaveEffects (stage.Placing parts file) (stage.Storing at origin room) name time size progress.More old new = PlacesParts parts file at origin old new
+SaveEffects (stage.Placing parts file) stage.Ended name time size (progress.Done (reply.Refused why)) old new = IsLeftAlone old new
+SaveEffects (stage.Storing at origin room) (stage.Adding added left) name time size progress.More old new = StoresPlaced at origin time size added old new
+SaveEffects (stage.Storing at origin room) stage.Ended name time size (progress.Done (reply.Refused why)) old new = StoresNone at why old new
+SaveEffects (stage.Adding added room) stage.Ended name time size (progress.Done (reply.Saved uid guid)) old new = (guid ≡ added.guid) × AddsStored name added uid old new
+SaveEffects (stage.Adding added room) stage.Ended name time size (progress.Done (reply.Refused why)) old new = IsLeftAlone old new
+SaveEffects (stage.Adding added room) (stage.GivingBack uid why left) name time size progress.More old new = (uid ≡ added.map_uid) × (new ≡ old)
+SaveEffects (stage.GivingBack uid why room) stage.Ended name time size (progress.Done (reply.Refused given)) old new = ((given ≡ why) × LowersRecord uid old new) ⊎ ((given ≡ refusal.Stopped) × IsLeftAlone old new)
+SaveEffects now next name time size answer old new = ⊥

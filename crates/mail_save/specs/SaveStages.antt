@@ -1,0 +1,128 @@
+-- Where a delivery stands in a run.
+use Rattle.std.specs.Prelude.{◌≡◌, ◌≢◌, ◌⊎◌, ℕ, Bool, true, List, [], ◌∷◌, length, if◌then◌else◌, Some, All}
+use Rattle.mdbox_base.specs.Words.{IsOctets}
+use Rattle.mdbox_base.specs.declared.entries.MapEntry.{MapEntry}
+use Rattle.mdbox_base.specs.declared.replies.Refusal.{Refusal}
+use Rattle.mdbox_base.specs.declared.replies.Refusal.TheVariants as refusal
+use Rattle.mdbox_base.specs.declared.replies.Reply.{Reply}
+use Rattle.mdbox_base.specs.declared.replies.Reply.TheVariants as reply
+use Rattle.model_meaning.specs.MapMeaning.{guid_file}
+use Rattle.list_machine.specs.Run.{First, TakesFile, PlacesMessage, StoresRecord, Last, RunEvent, Run, own_events, given_by_others}
+use Rattle.list_machine.specs.Machine.{is_step}
+use Rattle.journal.specs.Events.{plain, uid_raised}
+use Rattle.task_steps.specs.Step.{was_given}
+
+-- ---- its own events
+
+-- The event laid the message out, and did nothing in the store.
+pub record HasLaidOut (event : RunEvent) : Type 0 where
+  pub part : event.part ≡ First
+  pub did : event ≡ plain event
+
+-- the event took this storage file, a new one or not
+pub record TookFile (file : ℕ) (event : RunEvent) : Type 0 where
+  pub new : Bool
+  pub part : event.part ≡ TakesFile new
+  pub did : event ≡ record (plain event) { files = record { file = file; target = 0 } ∷ []; drew = event.drew }
+
+-- the event placed the message, and gave it this GUID
+pub record HasPlaced (guid : List ℕ) (event : RunEvent) : Type 0 where
+  pub part : event.part ≡ PlacesMessage
+  pub did : event ≡ record (plain event) { given = guid ∷ [] }
+
+-- the event stored the message, with a count that is held of this record
+pub record HasStored (uid : ℕ) (event : RunEvent) : Type 0 where
+  pub part : event.part ≡ StoresRecord
+  pub entry : MapEntry
+  pub raised : uid_raised entry ≡ Some uid
+  pub did : event ≡ record (plain event) { map_entries = entry ∷ []; drew = event.drew }
+
+-- the event didn't add the message: it was refused by this
+pub record WasNotAdded (why : Refusal) (event : RunEvent) : Type 0 where
+  pub part : event.part ≡ Last
+  pub refused : event.refused ≡ Some why
+  pub bare : event.map_entries ≡ []
+
+-- ---- its events so far
+
+-- It laid the message out.
+pub record AreLaidSoFar (own : List RunEvent) : Type 0 where
+  pub first : RunEvent
+  pub own_are : own ≡ first ∷ []
+  pub laid : HasLaidOut first
+
+-- It also took this storage file.
+pub record AreTakenSoFar (file : ℕ) (own : List RunEvent) : Type 0 where
+  pub first : RunEvent
+  pub second : RunEvent
+  pub own_are : own ≡ first ∷ second ∷ []
+  pub laid : HasLaidOut first
+  pub took : TookFile file second
+
+-- It also placed the message there, with this GUID.
+pub record ArePlacedSoFar (file : ℕ) (guid : List ℕ) (own : List RunEvent) : Type 0 where
+  pub first : RunEvent
+  pub second : RunEvent
+  pub third : RunEvent
+  pub own_are : own ≡ first ∷ second ∷ third ∷ []
+  pub laid : HasLaidOut first
+  pub took : TookFile file second
+  pub placed : HasPlaced guid third
+
+-- It also stored the message under this map uid.
+pub record AreStoredSoFar (guid : List ℕ) (uid : ℕ) (own : List RunEvent) : Type 0 where
+  pub first : RunEvent
+  pub second : RunEvent
+  pub third : RunEvent
+  pub fourth : RunEvent
+  pub file : ℕ
+  pub own_are : own ≡ first ∷ second ∷ third ∷ fourth ∷ []
+  pub laid : HasLaidOut first
+  pub took : TookFile file second
+  pub placed : HasPlaced guid third
+  pub stored : HasStored uid fourth
+
+-- It also tried to add the message, and was refused by this.
+pub record AreRefusedSoFar (uid : ℕ) (why : Refusal) (own : List RunEvent) : Type 0 where
+  pub first : RunEvent
+  pub second : RunEvent
+  pub third : RunEvent
+  pub fourth : RunEvent
+  pub fifth : RunEvent
+  pub file : ℕ
+  pub guid : List ℕ
+  pub own_are : own ≡ first ∷ second ∷ third ∷ fourth ∷ fifth ∷ []
+  pub laid : HasLaidOut first
+  pub took : TookFile file second
+  pub placed : HasPlaced guid third
+  pub stored : HasStored uid fourth
+  pub refused : WasNotAdded why fifth
+
+-- ---- its stages
+
+-- The GUID has 16 octets, an event of the run gave it, and no other request did.
+pub record IsOwnGuid (guid : List ℕ) (run : Run) (place : ℕ) : Type 0 where
+  pub long : length guid ≡ 16
+  pub each : IsOctets guid
+  pub given : was_given run guid ≡ true
+  pub once : All (λ other. other ≢ guid) (given_by_others place run)
+
+-- Nothing was answered yet at these stages, and they tell the events so far: it takes a file next, places the message in this
+-- file, stores a message of this file with this GUID, or adds that of this GUID under this map uid.
+abbrev pub IsTakingFile : Run → ℕ → List Reply → Type 0
+IsTakingFile run place said = AreLaidSoFar (own_events place run) × (said ≡ [])
+
+abbrev pub IsPlacingMessage : ℕ → Run → ℕ → List Reply → Type 0
+IsPlacingMessage file run place said = AreTakenSoFar file (own_events place run) × (said ≡ [])
+
+-- the file that was taken is that of the GUID
+abbrev pub IsStoringMessage : ℕ → List ℕ → Run → ℕ → List Reply → Type 0
+IsStoringMessage file guid run place said = ArePlacedSoFar file guid (own_events place run) × (guid_file run.store guid ≡ file) × IsOwnGuid guid run place × (said ≡ [])
+
+abbrev pub IsAddingMessage : List ℕ → ℕ → Run → ℕ → List Reply → Type 0
+IsAddingMessage guid uid run place said = AreStoredSoFar guid uid (own_events place run) × IsOwnGuid guid run place × (said ≡ [])
+
+-- It lowers the count of this record next: it was refused by a check, which was answered, or for lack of memory.
+abbrev pub IsLoweringCount : ℕ → Refusal → Run → ℕ → List Reply → Type 0
+IsLoweringCount uid why run place said =
+    AreRefusedSoFar uid why (own_events place run) × (said ≡ (if is_step why then reply.Refused why ∷ [] else [])) × ((is_step why ≡ true) ⊎ (why ≡ refusal.NoMemory))
