@@ -4,7 +4,7 @@
 use anyhow::Result;
 use devices::Narrow;
 use disk_mem::MemDisk;
-use mdbox_base::{MemSink, MemSource, Octets, Seq, Sink, Source};
+use mdbox_base::{MemClock, MemSink, MemSource, Octets, Seq, Sink, Source};
 use mdbox_top::{Status, mdbox_run};
 use std::alloc::Global;
 use std::fs;
@@ -133,7 +133,16 @@ fn run<I: Source, O: Sink>(alloc: Global, input: &mut I, output: &mut O) -> Resu
     let words = vec![in alloc; String::from_str(alloc, "dump")?]?;
     let mut errors = MemSink::of(Octets::empty(alloc), Seq::empty(alloc));
     let disk = MemDisk::fresh(alloc)?;
-    let (Status(status), _) = mdbox_run(alloc, words.as_slice(), disk, input, output, &mut errors);
+    let mut clock = MemClock::of(0, Seq::empty(alloc));
+    let (Status(status), _) = mdbox_run(
+        alloc,
+        words.as_slice(),
+        disk,
+        input,
+        output,
+        &mut errors,
+        &mut clock,
+    );
     let mut said = Octets::empty(alloc);
     said.push_all(errors.held().as_slice())?;
     Ok((status, said))

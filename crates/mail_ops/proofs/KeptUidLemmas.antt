@@ -1,18 +1,23 @@
--- The source of a message that is added to a mailbox, maybe to its own, lists no other with its UID.
-use Rattle.std.proofs.Common.{◌≡◌, ◌<◌, ◌==◌, ℕ, Bool, true, false, cond, not, List, [], ◌∷◌, ◌++◌, map, Option, Some, None, sym, ◌∙◌, ap, arith, inl, inr}
-use Rattle.std.specs.Prelude.{◌⊎◌, find, filter}
+-- What the source of a message that is added to a mailbox lists with its UID: an entry leaves no other message there.
+use Rattle.std.proofs.Common.{◌≡◌, ◌<◌, ◌==◌, ℕ, Bool, true, false, cond, List, [], ◌∷◌, Option, Some, None, sym, ◌∙◌, ap, subst, arith, inl, inr}
+use Rattle.std.specs.Prelude.{◌⊎◌}
 use Rattle.std.specs.Str.{bytes_eq}
-use Rattle.std.proofs.lemmas.Bool.{ne_eqb}
 use Rattle.disk_model.specs.Disk.{History, Faults}
 use Rattle.mdbox_base.specs.declared.entries.BoxEntry.{BoxEntry}
+use Rattle.mdbox_base.specs.declared.entries.BoxEntry.TheVariants as box_entry
+use Rattle.mdbox_base.specs.declared.entries.MapEntry.{MapEntry}
 use Rattle.mdbox_base.specs.declared.ids.MapUid.{MapUid}
 use Rattle.mdbox_base.specs.declared.ids.Uid.{Uid}
 use Rattle.model_appends.specs.Appending.{meanings_by}
-use Rattle.model_meaning.specs.BoxMeaning.{LogRow, BoxMeaning, row_changed, row_removed, box_applied}
+use Rattle.model_meaning.specs.BoxMeaning.{LogRow, BoxMeaning, row_at, box_applied}
 use Rattle.model_meaning.specs.MapMeaning.{MapBox, MapMeaning}
 use Rattle.model_store.specs.Listing.{meaning_named, meaning_numbered}
-use Rattle.store_core.specs.Value.{StoreValue, indexes_of, list_named}
-use Rattle.mail_ops.specs.Copying.{KeepsUid, added_copy, AddsRow}
+use Rattle.store_core.specs.Value.{StoreValue, indexes_of, list_named, list_numbered}
+use Rattle.mail_ops.specs.Appends.{MapTook, MapFell}
+use Rattle.mail_ops.specs.Copying.{KeepsUid, added_copy, AddsRow, FellAdding}
+use Rattle.mail_ops.specs.Expunging.{RemovesRow, FellRemoving}
+use Rattle.mail_ops.specs.Keeping.{KeepsUids}
+use Rattle.mail_ops.proofs.KeptRowLemmas.{KeepsRows, WasListed, addition_keeps, flagging_keeps, removal_keeps}
 
 some_meaning : (a b : BoxMeaning) → Some a ≡ Some b → a ≡ b
 some_meaning a b e = cc e
@@ -42,38 +47,65 @@ named_by name number e (b ∷ bs) (x ∷ xs) m to named numbered = by_number (λ
     by_number rest true k = here (bytes_eq b.name name) named (some_meaning x to k)
     by_number rest false k = there (bytes_eq b.name name) named (λ n. rest n k)
 
--- a row that is found behind one more with another UID
-found_before : (given : Uid) (row new : LogRow) (rows : List LogRow) (uid : ℕ) (found : LogRow) → (new.uid == uid) ≡ false
-    → find (λ r. r.uid == uid) (map (row_changed (added_copy given row)) (filter (λ r. not (row_removed (added_copy given row) r)) rows) ++ new ∷ []) ≡ Some found → find (λ r. r.uid == uid) rows ≡ Some found
-found_before given row new [] uid found apart there = absurd (none (new.uid == uid) apart there)
-  where
-    none : (t : Bool) → t ≡ false → cond t (Some new) None ≡ Some found → ⊥
-    none true f k = cc f
-    none false f k = let l : None ≡ Some found = k in cc l
-found_before given row new (r ∷ rs) uid found apart there = by_test (r.uid == uid) there (λ k. found_before given row new rs uid found apart k)
-  where
-    later : List LogRow
-    later = map (row_changed (added_copy given row)) (filter (λ x. not (row_removed (added_copy given row) x)) rs) ++ new ∷ []
+-- ---- of any entry
 
-    by_test : (t : Bool) → cond t (Some r) (find (λ x. x.uid == uid) later) ≡ Some found → (find (λ x. x.uid == uid) later ≡ Some found → find (λ x. x.uid == uid) rs ≡ Some found) → cond t (Some r) (find (λ x. x.uid == uid) rs) ≡ Some found
-    by_test true k rest = k
-    by_test false k rest = rest k
-
-pub keeps_added : {D : Type 0} → (name : List ℕ) (uid : Uid) (target : List ℕ) (held : MapUid) (given : Uid) (old new : StoreValue D) (before after : Option History) (began now : Faults) → KeepsUid name uid.0 held.0 old → AddsRow name uid target held given old new before after began now → KeepsUid name uid.0 held.0 new
-keeps_added name uid target held given old new before after began now k r = by_case (named_by name r.number (added_copy given r.row) old.map.boxes (indexes_of old.boxes) k.m r.at.m k.named r.at.to.numbered)
+-- a log of a mailbox has an entry more, which leaves its messages their records
+pub entry_keeps : {D : Type 0} → (number : ℕ) (e : BoxEntry) (to : BoxMeaning) (old new : StoreValue D) → new.map ≡ old.map → indexes_of new.boxes ≡ meanings_by number e old.map.boxes (indexes_of old.boxes) → list_numbered old number ≡ Some to → KeepsRows e to → KeepsUids old new
+entry_keeps number e to old new map_is taken numbered rows = λ name uid held k. by_case name uid held k (named_by name number e old.map.boxes (indexes_of old.boxes) k.m to k.named numbered)
   where
-    as_named : list_named new name ≡ meaning_named name old.map.boxes (meanings_by r.number (added_copy given r.row) old.map.boxes (indexes_of old.boxes))
-    as_named = ap (λ (bs : List MapBox). meaning_named name bs (indexes_of new.boxes)) (ap (λ (m : MapMeaning). m.boxes) r.took.appends.map) ∙ ap (meaning_named name old.map.boxes) r.took.taken
+    later : List BoxMeaning
+    later = meanings_by number e old.map.boxes (indexes_of old.boxes)
 
-    by_case : (meaning_named name old.map.boxes (meanings_by r.number (added_copy given r.row) old.map.boxes (indexes_of old.boxes)) ≡ Some k.m)
-        ⊎ ((meaning_named name old.map.boxes (meanings_by r.number (added_copy given r.row) old.map.boxes (indexes_of old.boxes)) ≡ Some (box_applied (added_copy given r.row) k.m)) × (k.m ≡ r.at.m)) → KeepsUid name uid.0 held.0 new
-    by_case (inl same) = record { m = k.m; named = as_named ∙ same; below = k.below; same = k.same }
-    by_case (inr own) =
-        let next : given.0 ≡ k.m.next = r.at.next_is ∙ ap (λ (m : BoxMeaning). m.next) (sym own.1) in
-        let below : uid.0 < k.m.next = k.below in
+    as_named : (name : List ℕ) → list_named new name ≡ meaning_named name old.map.boxes later
+    as_named name = ap (λ (bs : List MapBox). meaning_named name bs (indexes_of new.boxes)) (ap (λ (m : MapMeaning). m.boxes) map_is) ∙ ap (meaning_named name old.map.boxes) taken
+
+    by_rows : (m : BoxMeaning) (held uid : ℕ) → KeepsRows e m → uid < m.next → ((row : LogRow) → row_at m uid ≡ Some row → row.map_uid ≡ held) → (row : LogRow) → row_at (box_applied e m) uid ≡ Some row → row.map_uid ≡ held
+    by_rows m held uid kept below same row there = let was : WasListed m.rows uid row = kept uid row below there in sym was.2 ∙ same was.0 was.1
+
+    by_case : (name : List ℕ) (uid held : ℕ) (k : KeepsUid name uid held old) → (meaning_named name old.map.boxes later ≡ Some k.m) ⊎ ((meaning_named name old.map.boxes later ≡ Some (box_applied e k.m)) × (k.m ≡ to)) → KeepsUid name uid held new
+    by_case name uid held k (inl same) = record { m = k.m; named = as_named name ∙ same; below = k.below; same = k.same }
+    by_case name uid held k (inr own) =
+        let below : uid < k.m.next = k.below in
         record {
-          m = box_applied (added_copy given r.row) k.m;
-          named = as_named ∙ own.0;
+          m = box_applied e k.m;
+          named = as_named name ∙ own.0;
           below = omega (arith, below);
-          same = λ row there. k.same row (found_before given r.row (record { uid = given.0; flags = r.row.flags; time = r.row.time; size = r.row.size; map_uid = r.row.map_uid; guid = r.row.guid }) k.m.rows uid.0 row (ne_eqb given.0 uid.0 (λ e. omega (arith, e, next, below))) there);
+          same = by_rows k.m held uid (subst (KeepsRows e) (sym own.1) rows) k.below k.same;
         }
+
+-- no log of a mailbox has changed
+pub logs_keep : {D : Type 0} → (old new : StoreValue D) → new.map.boxes ≡ old.map.boxes → indexes_of new.boxes ≡ indexes_of old.boxes → KeepsUids old new
+logs_keep old new boxes indexes = λ name uid held k. record {
+  m = k.m;
+  named = ap (λ (bs : List MapBox). meaning_named name bs (indexes_of new.boxes)) boxes ∙ ap (meaning_named name old.map.boxes) indexes ∙ k.named;
+  below = k.below;
+  same = k.same;
+}
+
+pub same_keeps : {D : Type 0} → (old new : StoreValue D) → new ≡ old → KeepsUids old new
+same_keeps old new same = subst (KeepsUids old) (sym same) (λ name uid held k. k)
+
+-- ---- of what an event does
+
+pub took_keeps : {D : Type 0} → (e : MapEntry) (old new : StoreValue D) (before after : Option History) (began now : Faults) → MapTook e old new before after began now → KeepsUids old new
+took_keeps e old new before after began now t = logs_keep old new t.appends.mailboxes t.appends.indexes
+
+pub fell_keeps : {D : Type 0} → (old new : StoreValue D) (before after : Option History) (began now : Faults) → MapFell old new before after began now → KeepsUids old new
+fell_keeps old new before after began now f = logs_keep old new f.appends.mailboxes f.appends.indexes
+
+pub addition_left : {D : Type 0} → (name : List ℕ) (uid : Uid) (target : List ℕ) (held : MapUid) (given : Uid) (old new : StoreValue D) (before after : Option History) (began now : Faults) → AddsRow name uid target held given old new before after began now → KeepsUids old new
+addition_left name uid target held given old new before after began now r =
+    entry_keeps r.number (added_copy given r.row) r.at.m old new r.took.appends.map r.took.taken r.at.to.numbered
+    (addition_keeps given r.row.flags r.row.time r.row.size (record { 0 = r.row.map_uid }) (record { 0 = r.row.guid }) r.at.m r.at.next_is)
+
+pub fell_adding_keeps : {D : Type 0} → (name : List ℕ) (uid : Uid) (target : List ℕ) (held : MapUid) (old new : StoreValue D) (before after : Option History) (began now : Faults) → FellAdding name uid target held old new before after began now → KeepsUids old new
+fell_adding_keeps name uid target held old new before after began now r = logs_keep old new (ap (λ (m : MapMeaning). m.boxes) r.fell.appends.map) r.fell.indexes
+
+pub removal_left : {D : Type 0} → (name : List ℕ) (uid : Uid) (owed : MapUid) (old new : StoreValue D) (before after : Option History) (began now : Faults) → RemovesRow name uid owed old new before after began now → KeepsUids old new
+removal_left name uid owed old new before after began now r = entry_keeps r.number (box_entry.R uid) r.there.m old new r.took.appends.map r.took.taken r.there.box.numbered (removal_keeps uid r.there.m)
+
+pub fell_removing_keeps : {D : Type 0} → (name : List ℕ) (uid : Uid) (old new : StoreValue D) (before after : Option History) (began now : Faults) → FellRemoving name uid old new before after began now → KeepsUids old new
+fell_removing_keeps name uid old new before after began now r = logs_keep old new (ap (λ (m : MapMeaning). m.boxes) r.fell.appends.map) r.fell.indexes
+
+pub flags_left : {D : Type 0} → (number : ℕ) (uid : Uid) (flags : ℕ) (m : BoxMeaning) (old new : StoreValue D) → new.map ≡ old.map → indexes_of new.boxes ≡ meanings_by number (box_entry.F uid flags) old.map.boxes (indexes_of old.boxes) → list_numbered old number ≡ Some m → KeepsUids old new
+flags_left number uid flags m old new map_is taken numbered = entry_keeps number (box_entry.F uid flags) m old new map_is taken numbered (flagging_keeps uid flags m)

@@ -11,6 +11,8 @@ pub mod ExpungeEventLemmas
 pub mod ExpungeStepLemmas
 pub mod FlagEventLemmas
 pub mod FlagListLemmas
+pub mod KeepingLemmas
+pub mod KeptRowLemmas
 pub mod KeptUidLemmas
 pub mod ListEventLemmas
 pub mod LoweringLemmas
@@ -20,6 +22,7 @@ pub mod MoveKnownLemmas
 pub mod MovePartLemmas
 pub mod MoveStepLemmas
 pub mod NamedListLemmas
+pub mod ReadyLemmas
 pub mod RemovalLemmas
 pub mod RowLemmas
 pub mod SettledFlagLemmas

@@ -43,7 +43,7 @@ use Rattle.mail_ops.proofs.CopyFirstLemmas.{CopyingClause, raise_refused, raise_
 use Rattle.mail_ops.proofs.CopyLastLemmas.{copy_settled, added_due, add_fell, back_fell, given_back}
 use Rattle.mail_ops.proofs.EventLemmas.{fall}
 use Rattle.mail_ops.proofs.FlagEventLemmas.{due_kept}
-use Rattle.mail_ops.proofs.KeptUidLemmas.{keeps_added}
+use Rattle.mail_ops.proofs.KeptUidLemmas.{addition_left}
 use Rattle.mail_ops.proofs.LoweringLemmas.{lowered_due}
 use Rattle.mail_ops.proofs.MoveEventLemmas.{move_added, move_gone, move_removed, move_broken, move_unlowered, move_lowered}
 use Rattle.mail_ops.proofs.MovePartLemmas.{move_copies}
@@ -171,7 +171,7 @@ with_copy name uid target message lists there = sym (ap (λ (o : Option ListedMe
 pub known_added : {D : Type 0} → (name : List ℕ) (uid : Uid) (target : List ℕ) (held : MapUid) (given : Uid) (old new : StoreValue D) (before after : Option History) (began faulted : Faults) → LogsShowLists → IsStore before old → old.stopped ≡ false → IsReadyToMove name uid (stage.Adding held) old
     → AddsRow name uid target held given old new before after began faulted → MoveKnown name uid target (stage.Adding held) (stage.Removing held given) progress.More (did.Step half.CopyHalf) old new before after began faulted
 known_added name uid target held given old new before after began faulted show is ran ready r = record {
-  ready = record { due = λ other. omega arith; source = keeps_added name uid target held given old new before after began faulted ready.source r };
+  ready = record { due = λ other. omega arith; source = addition_left name uid target held given old new before after began faulted r name uid.0 held.0 ready.source };
   does = move_added name uid target held given old new before after began faulted is ran ready.due r;
   moments = λ lists s.
       let c = copy_settled before old name uid target r.row r.number given lists show is ran r.at s in

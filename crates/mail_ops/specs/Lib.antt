@@ -6,6 +6,7 @@ pub mod Counting
 pub mod Event
 pub mod Expunging
 pub mod Flagging
+pub mod Keeping
 pub mod Listing
 pub mod Messages
 pub mod MoveStages

@@ -14,15 +14,21 @@ ghost use Rattle.model_lists.specs.Lists.{Lists, AreWellFormed};
 ghost use Rattle.model_meaning.specs.BoxMeaning.{LogRow, BoxMeaning, row_at};
 ghost use Rattle.model_meaning.specs.MapMeaning.{MapBox};
 ghost use Rattle.model_store.specs.Listing.{ShowLists, meaning_named, listing_of};
+ghost use Rattle.store_core.specs.Dues.{Amounts, Moves, amounts_in};
+ghost use Rattle.store_core.specs.Value.{StoreValue};
 ghost use Rattle.task_steps.specs.Step.{IsKept};
-ghost use Rattle.mail_ops.specs.Copy.{IsAtCopy};
+ghost use Rattle.mail_ops.specs.Copy.{IsAtCopy, IsReadyToCopy, copy_amounts};
 ghost use Rattle.mail_ops.specs.Expunging.{IsAtExpunge};
-ghost use Rattle.mail_ops.specs.Moving.{IsAtMove};
+ghost use Rattle.mail_ops.specs.Keeping.{KeepsUids, both_amounts};
+ghost use Rattle.mail_ops.specs.Moving.{IsAtMove, IsReadyToMove, move_amounts};
+ghost use Rattle.mail_ops.specs.Owing.{AreDueIn};
 ghost use Rattle.mail_ops.specs.Task.{IsAt};
 ghost use Rattle.mail_ops.specs.declared.copy.CopyStage.{CopyStage};
 ghost use Rattle.mail_ops.specs.declared.expunging.ExpungeStage.{ExpungeStage};
 ghost use Rattle.mail_ops.specs.declared.moving.MoveStage.{MoveStage};
 ghost use Rattle.mail_ops.specs.declared.task.TaskStage.{TaskStage};
+
+use disk_model::Disk;
 
 /// The stages of a task are kept by every event of another request.
 pub fn task_stages_are_kept()
@@ -42,6 +48,16 @@ pub fn copy_stages_are_kept()
 /// And those of a move.
 pub fn move_stages_are_kept()
     ensures { (uid : Uid) (stage : MoveStage) → IsKept (IsAtMove uid stage) }
+{}
+
+/// The event of a task leaves the others ready for theirs. What they hold and owe is due behind it too, if it was together with
+/// what the task held and owed before. So a copy or a move stays ready.
+pub fn others_stay_ready<D: Disk>()
+    ensures due { (mine mine_now other : Amounts) (old new : StoreValue D) → Moves mine mine_now (amounts_in old) (amounts_in new) → AreDueIn old (both_amounts mine other) → AreDueIn new (both_amounts mine_now other) }
+    ensures copies { (mine mine_now : Amounts) (name : List ℕ) (uid : Uid) (now : CopyStage) (old new : StoreValue D) → Moves mine mine_now (amounts_in old) (amounts_in new) → KeepsUids old new → AreDueIn old (both_amounts mine (copy_amounts now))
+        → IsReadyToCopy name uid now old → IsReadyToCopy name uid now new }
+    ensures moves { (mine mine_now : Amounts) (name : List ℕ) (uid : Uid) (now : MoveStage) (old new : StoreValue D) → Moves mine mine_now (amounts_in old) (amounts_in new) → KeepsUids old new → AreDueIn old (both_amounts mine (move_amounts now))
+        → IsReadyToMove name uid now old → IsReadyToMove name uid now new }
 {}
 
 /// Where lists are shown, what the logs of the mailboxes mean is what the list machine answers a listing.

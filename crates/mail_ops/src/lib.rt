@@ -7,7 +7,7 @@ pub use event::NotDone;
 pub use expunging::{ExpungeStage, ExpungeTask};
 pub use laws::{
     copy_stages_are_kept, expunge_stages_are_kept, flags_are_shown, listings_are_answered,
-    move_stages_are_kept, task_stages_are_kept,
+    move_stages_are_kept, others_stay_ready, task_stages_are_kept,
 };
 pub use lowering::Lowering;
 pub use moving::{MoveStage, MoveTask};

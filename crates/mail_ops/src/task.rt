@@ -10,6 +10,7 @@ ghost use Rattle.mdbox_base.specs.declared.replies.Reply.TheVariants as reply;
 ghost use Rattle.model_lists.specs.Lists.{Lists};
 ghost use Rattle.model_store.specs.Settled.{IsSettledFor, Leaves};
 ghost use Rattle.task_steps.specs.Step.{HasNotBegun, Steps, ended_by};
+ghost use Rattle.mail_ops.specs.Keeping.{KeepsUids};
 ghost use Rattle.mail_ops.specs.Requests.{IsOpsRequest, Replies, AppendsNothing, lists_after, lists_by_reply};
 ghost use Rattle.store_core.specs.Dues.{due_at, KeepsStored, Moves, Spares, amounts_in};
 ghost use Rattle.mail_ops.specs.Task.{IsAt, amounts_of, seen_of};
@@ -85,9 +86,11 @@ impl OpsTask {
         ensures unfailed { result ≢ progress.Done (reply.Refused refusal.Stopped) → NoFault (D.faults store.old.disk) (D.faults store.new.disk) }
 
         // What is due of each record grows or shrinks in the store by as much as in this task; and records of which something is due
-        // for other tasks are kept, unless a failed change stops the store.
+        // for other tasks are kept, unless a failed change stops the store. No other message gets the UID of one that
+        // another task copies or moves.
         ensures moves { Moves (amounts_of self.old) (amounts_of self.new) (amounts_in store.old) (amounts_in store.new) }
         ensures spares { store.new.stopped ≡ store.old.stopped → Spares (amounts_of self.old) store.old store.new (D.history store.old.disk) (D.history store.new.disk) }
+        ensures keeps { KeepsUids store.old store.new }
         ensures replies { (reply : Reply) × (result ≡ progress.Done reply) × Replies self.old.request store.old store.new reply }
         ensures same { AppendsNothing self.old.request store.old → store.new ≡ store.old }
         ensures request { self.new.request ≡ self.old.request }
@@ -108,6 +111,7 @@ fn only_event<D: Disk>(store: &mut Store<D>, request: &Request) -> (Reply, Did)
     ensures due { (uid : ℕ) → due_at uid store.new ≡ due_at uid store.old }
     ensures map { store.new.map ≡ store.old.map }
     ensures stored { store.new.stopped ≡ store.old.stopped → KeepsStored (D.history store.old.disk) (D.history store.new.disk) }
+    ensures keeps { KeepsUids store.old store.new }
     ensures moments { (lists : Lists) → IsSettledFor lists (D.history store.old.disk) → Leaves lists (lists_after request.now lists) (D.history store.old.disk) (D.history store.new.disk) }
     ensures settled { store.new.stopped ≡ false → (lists : Lists) → IsSettledFor lists (D.history store.old.disk) → IsSettledFor (lists_by_reply request.now result.0 lists) (D.history store.new.disk) }
     ensures stopped { (result.0 ≡ reply.Refused refusal.Stopped) ↔ (store.new.stopped ≡ true) }

@@ -1,11 +1,11 @@
-//! The program over the real outside: it makes the real input, output, errors and disk, runs the words that it is given, and
+//! The program over the real outside: it makes the real input, output, errors, clock and disk, runs the words that it is given, and
 //! ends with the status.
 #![tactic(auto)]
 
 ghost use Rattle.std.specs.Prelude.{◌≡◌, ◌≤◌};
 ghost use Rattle.std.specs.Process.{exit_status};
 
-use disk_real::{RealDisk, StdSink, StdSource};
+use disk_real::{RealDisk, StdClock, StdSink, StdSource};
 use mdbox_base::NoMemory;
 use mdbox_top::{Status, mdbox_run};
 use request_text::{Outcome, report};
@@ -23,6 +23,7 @@ pub fn start(rt: HostRuntime) -> ExitCode
         Ok(words) => {
             let mut input = StdSource::of(rt.stdin());
             let mut output = StdSink::of(rt.stdout());
+            let mut clock = StdClock::of(rt);
             let disk = RealDisk::of(rt);
             let (status, _) = mdbox_run(
                 rt.alloc(),
@@ -31,6 +32,7 @@ pub fn start(rt: HostRuntime) -> ExitCode
                 &mut input,
                 &mut output,
                 &mut errors,
+                &mut clock,
             );
             exit_of(status)
         }

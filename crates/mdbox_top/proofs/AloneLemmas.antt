@@ -74,7 +74,7 @@ done_alone request given old mid new began now s t how ops w show answer =
     let l = tells request given old mid new began now s t how ops w show answer in
     record {
       tells = l;
-      serves = λ lists safe. request_served request lists given old mid new began now s t how w show (calm request given old new ops l) safe;
+      serves = λ journaled lists safe. request_served request lists given old mid new began now s t how w show (calm request given old new ops l) safe;
       moments = leaves request given old mid new began now s t how ops w;
       rests = rests request given old mid new began now s t how ops w;
       faults = alone_faults given began now (calm request given old new ops l) w.fault w.unfailed;
@@ -100,6 +100,7 @@ may_fail request.Counts text given h k old new o l s (inr stopped) = absurd (cou
 may_fail other text given h k old new o l s failed = failed_status text given h k o s (failed_outcome given failed)
 
 rests_as : (request : Request) (F G : Type 0) (began now : Faults) (old new : Option History) → (F → G) → RequestRests request F began now old new → RequestRests request G began now old new
+rests_as (request.Deliver name time octets) F G began now old new h r = λ none. r (λ failed. none (h failed))
 rests_as (request.List name) F G began now old new h r = λ none. r (λ failed. none (h failed))
 rests_as (request.Fetch name uid) F G began now old new h r = λ none. r (λ failed. none (h failed))
 rests_as (request.Flag name uid flags) F G began now old new h r = λ none. r (λ failed. none (h failed))
@@ -164,6 +165,9 @@ expunge_unopened_may name uid why e = unopened_may (request.Expunge name uid) wh
 
 pub copy_unopened_may : (name : List ℕ) (uid : Uid) (target : List ℕ) (why : OpenError) → why ≡ error.DiskFault → MayFail (request.Copy name uid target) (status_of (opening_outcome why))
 copy_unopened_may name uid target why e = unopened_may (request.Copy name uid target) why e
+
+pub deliver_unopened_may : (name : List ℕ) (time : ℕ) (octets : List ℕ) (why : OpenError) → why ≡ error.DiskFault → MayFail (request.Deliver name time octets) (status_of (opening_outcome why))
+deliver_unopened_may name time octets why e = unopened_may (request.Deliver name time octets) why e
 
 pub counts_unopened_rests : (old new : Option History) (began now : Faults) (why : OpenError) → IsUnopened why old new began now → RequestRests request.Counts (MayFail request.Counts (status_of (opening_outcome why))) began now old new
 counts_unopened_rests old new began now why u = fetch_unopened_rests (MayFail request.Counts (status_of (opening_outcome why))) old new began now why (unopened_may request.Counts why) u

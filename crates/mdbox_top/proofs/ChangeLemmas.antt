@@ -33,10 +33,10 @@ use Rattle.mdbox_top.proofs.ServedLemmas.{OpenedNow, comes, opening_begins}
 use Rattle.mdbox_top.proofs.ShownLemmas.{opens_again}
 use Rattle.mdbox_top.proofs.UnderWayLemmas.{nothing_found, beginning, before_opening, way_begins, way_shows, way_goes_on, way_ends}
 
-more_done : (given : Reply) → progress.More ≡ progress.Done given → ⊥
+pub more_done : (given : Reply) → progress.More ≡ progress.Done given → ⊥
 more_done given e = cc e
 
-one_done : (a b : Reply) → progress.Done a ≡ progress.Done b → a ≡ b
+pub one_done : (a b : Reply) → progress.Done a ≡ progress.Done b → a ≡ b
 one_done a b e = cc e
 
 -- ---- an event
@@ -69,7 +69,7 @@ abbrev SafeForOne : Lists → Lists → ℕ → Files → Type 0
 SafeForOne lists other moment image = Safe image lists ⊎ Safe image other
 
 -- a settled disk of which no call is made
-still_among : (Among : Lists → Lists → Type 0) (lists : Lists) (h : Option History) → Among lists lists → IsSettledFor lists h → EachImage (SafeForAmong Among lists) h h
+pub still_among : (Among : Lists → Lists → Type 0) (lists : Lists) (h : Option History) → Among lists lists → IsSettledFor lists h → EachImage (SafeForAmong Among lists) h h
 still_among Among lists None itself s = absurd s
 still_among Among lists (Some h) itself s = since-begins (SafeForAmong Among lists) h (λ image is. (lists, itself, settled_safe h.now lists image s is))
 
@@ -83,7 +83,7 @@ so_far_begins history faults Began request Among first running itself = record {
 }
 
 -- what a crash leaves behind one event more
-moments_on : (Among : Lists → Lists → Type 0) (lists left may : Lists) (old now new : Option History) → Among lists left → Among lists may → EachImage (SafeForAmong Among lists) old now → Leaves left may now new → EachImage (SafeForAmong Among lists) old new
+pub moments_on : (Among : Lists → Lists → Type 0) (lists left may : Lists) (old now new : Option History) → Among lists left → Among lists may → EachImage (SafeForAmong Among lists) old now → Leaves left may now new → EachImage (SafeForAmong Among lists) old new
 moments_on Among lists left may old now new a b before event =
     each_image-then (SafeForAmong Among lists) old now new before
     (each_image-map (SafeForOne left may) (SafeForAmong Among lists) now new (λ moment image h. elim h [ inl s ↦ (left, a, s) | inr s ↦ (may, b, s) ]) event)

@@ -2,6 +2,7 @@ pub mod AloneLemmas
 pub mod CountsLemmas
 pub mod ChangeLemmas
 pub mod CopyLemmas
+pub mod DeliverLemmas
 pub mod ExpungeLemmas
 pub mod FetchLemmas
 pub mod FetchedLemmas
@@ -12,6 +13,7 @@ pub mod ListLemmas
 pub mod MoveLemmas
 pub mod RequestLemmas
 pub mod RunLemmas
+pub mod SaveLemmas
 pub mod ServedLemmas
 pub mod ShownLemmas
 pub mod UnderWayLemmas

@@ -34,87 +34,92 @@ use Rattle.mdbox_top.specs.MoveRun.{IsMoveReply}
 use Rattle.mdbox_top.specs.ExpungeRun.{IsExpungeReply, lists_without}
 use Rattle.mdbox_top.specs.CountsRun.{IsCountsReply}
 use Rattle.mdbox_top.proofs.CountsLemmas.{counts_status}
+use Rattle.mdbox_top.proofs.DeliverLemmas.{deliver_input, deliver_damage, deliver_status, deliver_used, deliver_rests_as}
 use Rattle.mdbox_top.proofs.RequestLemmas.{request_status, request_used, request_input, request_damage, unasked}
 
 -- a refused input whose text finds no memory
-input_memory : (c : Command) (left h k : Option (List ℕ)) (old new : Option History) (f g : Faults) (why : InputRefusal) → Ends c left h k old new f g (outcome.InputRefused why) → Ends c left h k old new f g outcome.NoMemory
-input_memory command.Dump left h k old new f g why e = inl e.1
-input_memory command.LogDump left h k old new f g why e = inl e.1
-input_memory (command.Init id) left h k old new f g why e = absurd e
-input_memory (command.List name) left h k old new f g why e = absurd (request_input (IsListReply name) (request.List name) h k old new f g why e)
-input_memory (command.Fetch name uid) left h k old new f g why e = absurd (request_input (IsFetchReply name uid) (request.Fetch name uid) h k old new f g why e)
-input_memory (command.Flag name uid flags) left h k old new f g why e = absurd (request_input (IsFlagReply name uid flags) (request.Flag name uid flags) h k old new f g why e)
-input_memory (command.Expunge name uid) left h k old new f g why e = absurd (request_input (IsExpungeReply name uid) (request.Expunge name uid) h k old new f g why e)
-input_memory (command.Copy name uid target) left h k old new f g why e = absurd (request_input (IsCopyReply name uid target) (request.Copy name uid target) h k old new f g why e)
-input_memory (command.Move name uid target) left h k old new f g why e = absurd (request_input (IsMoveReply name uid target) (request.Move name uid target) h k old new f g why e)
-input_memory command.Counts left h k old new f g why e = absurd (request_input IsCountsReply request.Counts h k old new f g why e)
-input_memory command.Help left h k old new f g why e = absurd e
-input_memory command.Version left h k old new f g why e = absurd e
+input_memory : (c : Command) (left : Option (List ℕ)) (told : Option ℕ) (h k : Option (List ℕ)) (old new : Option History) (f g : Faults) (why : InputRefusal) → Ends c left told h k old new f g (outcome.InputRefused why) → Ends c left told h k old new f g outcome.NoMemory
+input_memory command.Dump left told h k old new f g why e = inl e.1
+input_memory command.LogDump left told h k old new f g why e = inl e.1
+input_memory (command.Init id) left told h k old new f g why e = absurd e
+input_memory (command.Deliver name) left told h k old new f g why e = deliver_input name left told h k old new f g why e
+input_memory (command.List name) left told h k old new f g why e = absurd (request_input (IsListReply name) (request.List name) h k old new f g why e)
+input_memory (command.Fetch name uid) left told h k old new f g why e = absurd (request_input (IsFetchReply name uid) (request.Fetch name uid) h k old new f g why e)
+input_memory (command.Flag name uid flags) left told h k old new f g why e = absurd (request_input (IsFlagReply name uid flags) (request.Flag name uid flags) h k old new f g why e)
+input_memory (command.Expunge name uid) left told h k old new f g why e = absurd (request_input (IsExpungeReply name uid) (request.Expunge name uid) h k old new f g why e)
+input_memory (command.Copy name uid target) left told h k old new f g why e = absurd (request_input (IsCopyReply name uid target) (request.Copy name uid target) h k old new f g why e)
+input_memory (command.Move name uid target) left told h k old new f g why e = absurd (request_input (IsMoveReply name uid target) (request.Move name uid target) h k old new f g why e)
+input_memory command.Counts left told h k old new f g why e = absurd (request_input IsCountsReply request.Counts h k old new f g why e)
+input_memory command.Help left told h k old new f g why e = absurd e
+input_memory command.Version left told h k old new f g why e = absurd e
 
 -- damage whose text finds no memory
-damage_memory : (c : Command) (left h k : Option (List ℕ)) (old new : Option History) (f g : Faults) (name : FileName) (place : ℕ) → Ends c left h k old new f g (outcome.StoreRefused (store.Damaged name place)) → Ends c left h k old new f g outcome.NoMemory
-damage_memory (command.Init id) left h k old new f g name place e = absurd e.1
-damage_memory (command.List box) left h k old new f g name place e = request_damage (IsListReply box) (request.List box) h k old new f g (store.Damaged name place) e
-damage_memory (command.Fetch box uid) left h k old new f g name place e = request_damage (IsFetchReply box uid) (request.Fetch box uid) h k old new f g (store.Damaged name place) e
-damage_memory (command.Flag box uid flags) left h k old new f g name place e = request_damage (IsFlagReply box uid flags) (request.Flag box uid flags) h k old new f g (store.Damaged name place) e
-damage_memory (command.Expunge box uid) left h k old new f g name place e = request_damage (IsExpungeReply box uid) (request.Expunge box uid) h k old new f g (store.Damaged name place) e
-damage_memory (command.Copy box uid target) left h k old new f g name place e = request_damage (IsCopyReply box uid target) (request.Copy box uid target) h k old new f g (store.Damaged name place) e
-damage_memory (command.Move box uid target) left h k old new f g name place e = request_damage (IsMoveReply box uid target) (request.Move box uid target) h k old new f g (store.Damaged name place) e
-damage_memory command.Counts left h k old new f g name place e = request_damage IsCountsReply request.Counts h k old new f g (store.Damaged name place) e
-damage_memory command.Dump left h k old new f g name place e = absurd e
-damage_memory command.LogDump left h k old new f g name place e = absurd e
-damage_memory command.Help left h k old new f g name place e = absurd e
-damage_memory command.Version left h k old new f g name place e = absurd e
+damage_memory : (c : Command) (left : Option (List ℕ)) (told : Option ℕ) (h k : Option (List ℕ)) (old new : Option History) (f g : Faults) (name : FileName) (place : ℕ) → Ends c left told h k old new f g (outcome.StoreRefused (store.Damaged name place)) → Ends c left told h k old new f g outcome.NoMemory
+damage_memory (command.Init id) left told h k old new f g name place e = absurd e.1
+damage_memory (command.Deliver box) left told h k old new f g name place e = deliver_damage box left told h k old new f g (store.Damaged name place) e
+damage_memory (command.List box) left told h k old new f g name place e = request_damage (IsListReply box) (request.List box) h k old new f g (store.Damaged name place) e
+damage_memory (command.Fetch box uid) left told h k old new f g name place e = request_damage (IsFetchReply box uid) (request.Fetch box uid) h k old new f g (store.Damaged name place) e
+damage_memory (command.Flag box uid flags) left told h k old new f g name place e = request_damage (IsFlagReply box uid flags) (request.Flag box uid flags) h k old new f g (store.Damaged name place) e
+damage_memory (command.Expunge box uid) left told h k old new f g name place e = request_damage (IsExpungeReply box uid) (request.Expunge box uid) h k old new f g (store.Damaged name place) e
+damage_memory (command.Copy box uid target) left told h k old new f g name place e = request_damage (IsCopyReply box uid target) (request.Copy box uid target) h k old new f g (store.Damaged name place) e
+damage_memory (command.Move box uid target) left told h k old new f g name place e = request_damage (IsMoveReply box uid target) (request.Move box uid target) h k old new f g (store.Damaged name place) e
+damage_memory command.Counts left told h k old new f g name place e = request_damage IsCountsReply request.Counts h k old new f g (store.Damaged name place) e
+damage_memory command.Dump left told h k old new f g name place e = absurd e
+damage_memory command.LogDump left told h k old new f g name place e = absurd e
+damage_memory command.Help left told h k old new f g name place e = absurd e
+damage_memory command.Version left told h k old new f g name place e = absurd e
 
 -- the last end is one that the command may have
-pub last_ends : (c : Command) (left h k : Option (List ℕ)) (old new : Option History) (f g : Faults) (o last : Outcome) → EndsAs o last → Ends c left h k old new f g o → Ends c left h k old new f g last
-last_ends c left h k old new f g (outcome.InputRefused why) last y e = elim y [
-  | inl same ↦ subst (Ends c left h k old new f g) (sym same) e
-  | inr none ↦ subst (Ends c left h k old new f g) (sym none) (input_memory c left h k old new f g why e)
+pub last_ends : (c : Command) (left : Option (List ℕ)) (told : Option ℕ) (h k : Option (List ℕ)) (old new : Option History) (f g : Faults) (o last : Outcome) → EndsAs o last → Ends c left told h k old new f g o → Ends c left told h k old new f g last
+last_ends c left told h k old new f g (outcome.InputRefused why) last y e = elim y [
+  | inl same ↦ subst (Ends c left told h k old new f g) (sym same) e
+  | inr none ↦ subst (Ends c left told h k old new f g) (sym none) (input_memory c left told h k old new f g why e)
 ]
-last_ends c left h k old new f g (outcome.StoreRefused (store.Damaged name place)) last y e = elim y [
-  | inl same ↦ subst (Ends c left h k old new f g) (sym same) e
-  | inr none ↦ subst (Ends c left h k old new f g) (sym none) (damage_memory c left h k old new f g name place e)
+last_ends c left told h k old new f g (outcome.StoreRefused (store.Damaged name place)) last y e = elim y [
+  | inl same ↦ subst (Ends c left told h k old new f g) (sym same) e
+  | inr none ↦ subst (Ends c left told h k old new f g) (sym none) (damage_memory c left told h k old new f g name place e)
 ]
-last_ends c left h k old new f g (outcome.StoreRefused store.NoStore) last y e = subst (Ends c left h k old new f g) (sym y) e
-last_ends c left h k old new f g (outcome.StoreRefused store.StoreWhole) last y e = subst (Ends c left h k old new f g) (sym y) e
-last_ends c left h k old new f g (outcome.StoreRefused store.MailFiles) last y e = subst (Ends c left h k old new f g) (sym y) e
-last_ends c left h k old new f g outcome.Done last y e = subst (Ends c left h k old new f g) (sym y) e
-last_ends c left h k old new f g outcome.No last y e = subst (Ends c left h k old new f g) (sym y) e
-last_ends c left h k old new f g outcome.Usage last y e = subst (Ends c left h k old new f g) (sym y) e
-last_ends c left h k old new f g outcome.NoMemory last y e = subst (Ends c left h k old new f g) (sym y) e
-last_ends c left h k old new f g outcome.DiskFault last y e = subst (Ends c left h k old new f g) (sym y) e
-last_ends c left h k old new f g outcome.ReadFault last y e = subst (Ends c left h k old new f g) (sym y) e
-last_ends c left h k old new f g outcome.WriteFault last y e = subst (Ends c left h k old new f g) (sym y) e
+last_ends c left told h k old new f g (outcome.StoreRefused store.NoStore) last y e = subst (Ends c left told h k old new f g) (sym y) e
+last_ends c left told h k old new f g (outcome.StoreRefused store.StoreWhole) last y e = subst (Ends c left told h k old new f g) (sym y) e
+last_ends c left told h k old new f g (outcome.StoreRefused store.MailFiles) last y e = subst (Ends c left told h k old new f g) (sym y) e
+last_ends c left told h k old new f g outcome.Done last y e = subst (Ends c left told h k old new f g) (sym y) e
+last_ends c left told h k old new f g outcome.No last y e = subst (Ends c left told h k old new f g) (sym y) e
+last_ends c left told h k old new f g outcome.Usage last y e = subst (Ends c left told h k old new f g) (sym y) e
+last_ends c left told h k old new f g outcome.NoMemory last y e = subst (Ends c left told h k old new f g) (sym y) e
+last_ends c left told h k old new f g outcome.DiskFault last y e = subst (Ends c left told h k old new f g) (sym y) e
+last_ends c left told h k old new f g outcome.ReadFault last y e = subst (Ends c left told h k old new f g) (sym y) e
+last_ends c left told h k old new f g outcome.WriteFault last y e = subst (Ends c left told h k old new f g) (sym y) e
 
-pub has_status : (c : Command) (left h k : Option (List ℕ)) (old new : Option History) (f g : Faults) (o : Outcome) → Ends c left h k old new f g o → HasStatus c left old (status_of o)
-has_status (command.Init id) left h k old new f g o e = λ free. init_status id.0 h k old new o e free
-has_status (command.List name) left h k old new f g o e = λ lists s. request_status (IsListReply name) (request.List name) h k old new f g o e lists s
-has_status (command.Fetch name uid) left h k old new f g o e = λ lists s. request_status (IsFetchReply name uid) (request.Fetch name uid) h k old new f g o e lists s
-has_status (command.Flag name uid flags) left h k old new f g o e = λ lists s. request_status (IsFlagReply name uid flags) (request.Flag name uid flags) h k old new f g o e lists s
-has_status (command.Expunge name uid) left h k old new f g o e = λ lists s. request_status (IsExpungeReply name uid) (request.Expunge name uid) h k old new f g o e lists s
-has_status (command.Copy name uid target) left h k old new f g o e = λ lists s. request_status (IsCopyReply name uid target) (request.Copy name uid target) h k old new f g o e lists s
-has_status (command.Move name uid target) left h k old new f g o e = λ lists s. request_status (IsMoveReply name uid target) (request.Move name uid target) h k old new f g o e lists s
-has_status command.Counts left h k old new f g o e = λ lists s. counts_status h k old new f g o e lists s
-has_status command.Dump left h k old new f g o e = input_status DumpPrints DumpRefuses left h k o dumps_apart e
-has_status command.LogDump left h k old new f g o e = input_status LogDumpPrints LogDumpRefuses left h k o log_dumps_apart e
-has_status command.Help left h k old new f g o e = shows_status _ h k o e
-has_status command.Version left h k old new f g o e = shows_status _ h k o e
+pub has_status : (c : Command) (left : Option (List ℕ)) (told : Option ℕ) (h k : Option (List ℕ)) (old new : Option History) (f g : Faults) (o : Outcome) → Ends c left told h k old new f g o → HasStatus c left old (status_of o)
+has_status (command.Init id) left told h k old new f g o e = λ free. init_status id.0 h k old new o e free
+has_status (command.Deliver name) left told h k old new f g o e = deliver_status name left told h k old new f g o e
+has_status (command.List name) left told h k old new f g o e = λ lists s. request_status (IsListReply name) (request.List name) h k old new f g o e lists s
+has_status (command.Fetch name uid) left told h k old new f g o e = λ lists s. request_status (IsFetchReply name uid) (request.Fetch name uid) h k old new f g o e lists s
+has_status (command.Flag name uid flags) left told h k old new f g o e = λ lists s. request_status (IsFlagReply name uid flags) (request.Flag name uid flags) h k old new f g o e lists s
+has_status (command.Expunge name uid) left told h k old new f g o e = λ lists s. request_status (IsExpungeReply name uid) (request.Expunge name uid) h k old new f g o e lists s
+has_status (command.Copy name uid target) left told h k old new f g o e = λ lists s. request_status (IsCopyReply name uid target) (request.Copy name uid target) h k old new f g o e lists s
+has_status (command.Move name uid target) left told h k old new f g o e = λ lists s. request_status (IsMoveReply name uid target) (request.Move name uid target) h k old new f g o e lists s
+has_status command.Counts left told h k old new f g o e = λ lists s. counts_status h k old new f g o e lists s
+has_status command.Dump left told h k old new f g o e = input_status DumpPrints DumpRefuses left h k o dumps_apart e
+has_status command.LogDump left told h k old new f g o e = input_status LogDumpPrints LogDumpRefuses left h k o log_dumps_apart e
+has_status command.Help left told h k old new f g o e = shows_status _ h k o e
+has_status command.Version left told h k old new f g o e = shows_status _ h k o e
 
 -- no command ends as unknown words
-used : (c : Command) (left h k : Option (List ℕ)) (old new : Option History) (f g : Faults) → Ends c left h k old new f g outcome.Usage → ⊥
-used (command.Init id) left h k old new f g e = e
-used (command.List name) left h k old new f g e = request_used (IsListReply name) (request.List name) h k old new f g e
-used (command.Fetch name uid) left h k old new f g e = request_used (IsFetchReply name uid) (request.Fetch name uid) h k old new f g e
-used (command.Flag name uid flags) left h k old new f g e = request_used (IsFlagReply name uid flags) (request.Flag name uid flags) h k old new f g e
-used (command.Expunge name uid) left h k old new f g e = request_used (IsExpungeReply name uid) (request.Expunge name uid) h k old new f g e
-used (command.Copy name uid target) left h k old new f g e = request_used (IsCopyReply name uid target) (request.Copy name uid target) h k old new f g e
-used (command.Move name uid target) left h k old new f g e = request_used (IsMoveReply name uid target) (request.Move name uid target) h k old new f g e
-used command.Counts left h k old new f g e = request_used IsCountsReply request.Counts h k old new f g e
-used command.Dump left h k old new f g e = e
-used command.LogDump left h k old new f g e = e
-used command.Help left h k old new f g e = e
-used command.Version left h k old new f g e = e
+used : (c : Command) (left : Option (List ℕ)) (told : Option ℕ) (h k : Option (List ℕ)) (old new : Option History) (f g : Faults) → Ends c left told h k old new f g outcome.Usage → ⊥
+used (command.Init id) left told h k old new f g e = e
+used (command.Deliver name) left told h k old new f g e = deliver_used name left told h k old new f g e
+used (command.List name) left told h k old new f g e = request_used (IsListReply name) (request.List name) h k old new f g e
+used (command.Fetch name uid) left told h k old new f g e = request_used (IsFetchReply name uid) (request.Fetch name uid) h k old new f g e
+used (command.Flag name uid flags) left told h k old new f g e = request_used (IsFlagReply name uid flags) (request.Flag name uid flags) h k old new f g e
+used (command.Expunge name uid) left told h k old new f g e = request_used (IsExpungeReply name uid) (request.Expunge name uid) h k old new f g e
+used (command.Copy name uid target) left told h k old new f g e = request_used (IsCopyReply name uid target) (request.Copy name uid target) h k old new f g e
+used (command.Move name uid target) left told h k old new f g e = request_used (IsMoveReply name uid target) (request.Move name uid target) h k old new f g e
+used command.Counts left told h k old new f g e = request_used IsCountsReply request.Counts h k old new f g e
+used command.Dump left told h k old new f g e = e
+used command.LogDump left told h k old new f g e = e
+used command.Help left told h k old new f g e = e
+used command.Version left told h k old new f g e = e
 
 -- what a status says of the end
 two : (o : Outcome) → status_of o ≡ 2 → o ≡ outcome.Usage
@@ -192,8 +197,8 @@ unwritten o last n y s e =
     elim (kept o last y) [ inl same ↦ sym same ∙ l | inr none ↦ absurd (cc (sym none ∙ l)) ]
 
 -- a run of a command doesn't end with status 2
-pub known_words : (c : Command) (left h k : Option (List ℕ)) (old new : Option History) (f g : Faults) (n : ℕ) (eh : Option (List ℕ)) (ef : ℕ) (ek : Option (List ℕ)) (eg : ℕ) → RunOutcome (Ends c left h k old new f g) n eh ef ek eg → n ≡ 2 → ⊥
-known_words c left h k old new f g n eh ef ek eg r e = used c left h k old new f g (subst (Ends c left h k old new f g) (two r.outcome (sym r.status_is ∙ e)) r.ended)
+pub known_words : (c : Command) (left : Option (List ℕ)) (told : Option ℕ) (h k : Option (List ℕ)) (old new : Option History) (f g : Faults) (n : ℕ) (eh : Option (List ℕ)) (ef : ℕ) (ek : Option (List ℕ)) (eg : ℕ) → RunOutcome (Ends c left told h k old new f g) n eh ef ek eg → n ≡ 2 → ⊥
+known_words c left told h k old new f g n eh ef ek eg r e = used c left told h k old new f g (subst (Ends c left told h k old new f g) (two r.outcome (sym r.status_is ∙ e)) r.ended)
 
 -- ---- faults of the disk
 
@@ -209,6 +214,7 @@ one_last o last y e = elim (kept o last y) [
 
 -- so the last end may follow a fault where the first may
 pub fails_last : (c : Command) (o last : Outcome) → EndsAs o last → MayHaveFailed c (status_of o) → MayHaveFailed c (status_of last)
+fails_last (command.Deliver name) o last y e = one_last o last y e
 fails_last (command.Fetch name uid) o last y e = one_last o last y e
 fails_last (command.Flag name uid flags) o last y e = one_last o last y e
 fails_last (command.Expunge name uid) o last y e = one_last o last y e
@@ -216,46 +222,50 @@ fails_last (command.Copy name uid target) o last y e = one_last o last y e
 fails_last (command.Move name uid target) o last y e = one_last o last y e
 fails_last other o last y e = six_last o last y e
 
-pub rests_last : (c : Command) (F G : Type 0) (f g : Faults) (old new : Option History) → (F → G) → Rests c F f g old new → Rests c G f g old new
-rests_last (command.List name) F G f g old new h r = λ none. r (λ failed. none (h failed))
-rests_last (command.Fetch name uid) F G f g old new h r = λ none. r (λ failed. none (h failed))
-rests_last (command.Flag name uid flags) F G f g old new h r = λ none. r (λ failed. none (h failed))
-rests_last (command.Expunge name uid) F G f g old new h r = λ none. r (λ failed. none (h failed))
-rests_last (command.Copy name uid target) F G f g old new h r = λ none. r (λ failed. none (h failed))
-rests_last (command.Move name uid target) F G f g old new h r = λ none. r (λ failed. none (h failed))
-rests_last command.Counts F G f g old new h r = λ none. r (λ failed. none (h failed))
-rests_last other F G f g old new h r = tt
+pub rests_last : (c : Command) (left : Option (List ℕ)) (told : Option ℕ) (F G : Type 0) (f g : Faults) (old new : Option History) → (F → G) → Rests c left told F f g old new → Rests c left told G f g old new
+rests_last (command.Deliver name) left told F G f g old new h r = deliver_rests_as name left told F G f g old new h r
+rests_last (command.List name) left told F G f g old new h r = λ none. r (λ failed. none (h failed))
+rests_last (command.Fetch name uid) left told F G f g old new h r = λ none. r (λ failed. none (h failed))
+rests_last (command.Flag name uid flags) left told F G f g old new h r = λ none. r (λ failed. none (h failed))
+rests_last (command.Expunge name uid) left told F G f g old new h r = λ none. r (λ failed. none (h failed))
+rests_last (command.Copy name uid target) left told F G f g old new h r = λ none. r (λ failed. none (h failed))
+rests_last (command.Move name uid target) left told F G f g old new h r = λ none. r (λ failed. none (h failed))
+rests_last command.Counts left told F G f g old new h r = λ none. r (λ failed. none (h failed))
+rests_last other left told F G f g old new h r = tt
 
 -- ---- words that name a mailbox, whose name finds no memory
 
-pub named_unasked : (c : Command) → NamesMailbox c → (left h : Option (List ℕ)) (old : Option History) (f g : Faults) → Ends c left h h old old f g outcome.NoMemory
-named_unasked (command.List name) named left h old f g = unasked (IsListReply name) (request.List name) h old f g
-named_unasked (command.Fetch name uid) named left h old f g = unasked (IsFetchReply name uid) (request.Fetch name uid) h old f g
-named_unasked (command.Flag name uid flags) named left h old f g = unasked (IsFlagReply name uid flags) (request.Flag name uid flags) h old f g
-named_unasked (command.Expunge name uid) named left h old f g = unasked (IsExpungeReply name uid) (request.Expunge name uid) h old f g
-named_unasked (command.Copy name uid target) named left h old f g = unasked (IsCopyReply name uid target) (request.Copy name uid target) h old f g
-named_unasked (command.Move name uid target) named left h old f g = unasked (IsMoveReply name uid target) (request.Move name uid target) h old f g
-named_unasked other named left h old f g = absurd named
+pub named_unasked : (c : Command) → NamesMailbox c → (left : Option (List ℕ)) (told : Option ℕ) (h : Option (List ℕ)) (old : Option History) (f g : Faults) → Ends c left told h h old old f g outcome.NoMemory
+named_unasked (command.Deliver name) named left told h old f g = inl (tt, refl, refl)
+named_unasked (command.List name) named left told h old f g = unasked (IsListReply name) (request.List name) h old f g
+named_unasked (command.Fetch name uid) named left told h old f g = unasked (IsFetchReply name uid) (request.Fetch name uid) h old f g
+named_unasked (command.Flag name uid flags) named left told h old f g = unasked (IsFlagReply name uid flags) (request.Flag name uid flags) h old f g
+named_unasked (command.Expunge name uid) named left told h old f g = unasked (IsExpungeReply name uid) (request.Expunge name uid) h old f g
+named_unasked (command.Copy name uid target) named left told h old f g = unasked (IsCopyReply name uid target) (request.Copy name uid target) h old f g
+named_unasked (command.Move name uid target) named left told h old f g = unasked (IsMoveReply name uid target) (request.Move name uid target) h old f g
+named_unasked other named left told h old f g = absurd named
 
 -- a settled disk of which no call is made
 still_safe : (lists : Lists) (h : Option History) → IsSettledFor lists h → EachImage (λ _ image. Safe image lists) h h
 still_safe lists None s = absurd s
 still_safe lists (Some h) s = since-begins (λ _ image. Safe image lists) h (λ image is. settled_safe h.now lists image s is)
 
-pub named_still : (c : Command) → NamesMailbox c → (h : Option History) → Moments c h h
-named_still (command.List name) named h = λ lists s. still_safe lists h s
-named_still (command.Fetch name uid) named h = λ lists s. still_safe lists h s
-named_still (command.Flag name uid flags) named h = λ lists s. each_image-map (λ _ image. Safe image lists) (λ _ image. Safe image lists ⊎ Safe image (set_flags name uid.0 flags lists)) h h (λ m image safe. inl safe) (still_safe lists h s)
-named_still (command.Expunge name uid) named h = λ lists s. each_image-map (λ _ image. Safe image lists) (λ _ image. Safe image lists ⊎ Safe image (lists_without name uid lists)) h h (λ m image safe. inl safe) (still_safe lists h s)
-named_still (command.Copy name uid target) named h = λ lists s. each_image-map (λ _ image. Safe image lists) (λ _ image. Safe image lists ⊎ Safe image (copied_lists name uid target lists)) h h (λ m image safe. inl safe) (still_safe lists h s)
-named_still (command.Move name uid target) named h = λ lists s. each_image-map (λ _ image. Safe image lists) (λ _ image. Safe image lists ⊎ (Safe image (copied_lists name uid target lists) ⊎ Safe image (moved_lists name uid target lists))) h h (λ m image safe. inl safe) (still_safe lists h s)
-named_still other named h = absurd named
+pub named_still : (c : Command) → NamesMailbox c → (left : Option (List ℕ)) (told : Option ℕ) (h : Option History) → Moments c left told h h
+named_still (command.Deliver name) named left told h = inl refl
+named_still (command.List name) named left told h = λ lists s. still_safe lists h s
+named_still (command.Fetch name uid) named left told h = λ lists s. still_safe lists h s
+named_still (command.Flag name uid flags) named left told h = λ lists s. each_image-map (λ _ image. Safe image lists) (λ _ image. Safe image lists ⊎ Safe image (set_flags name uid.0 flags lists)) h h (λ m image safe. inl safe) (still_safe lists h s)
+named_still (command.Expunge name uid) named left told h = λ lists s. each_image-map (λ _ image. Safe image lists) (λ _ image. Safe image lists ⊎ Safe image (lists_without name uid lists)) h h (λ m image safe. inl safe) (still_safe lists h s)
+named_still (command.Copy name uid target) named left told h = λ lists s. each_image-map (λ _ image. Safe image lists) (λ _ image. Safe image lists ⊎ Safe image (copied_lists name uid target lists)) h h (λ m image safe. inl safe) (still_safe lists h s)
+named_still (command.Move name uid target) named left told h = λ lists s. each_image-map (λ _ image. Safe image lists) (λ _ image. Safe image lists ⊎ (Safe image (copied_lists name uid target lists) ⊎ Safe image (moved_lists name uid target lists))) h h (λ m image safe. inl safe) (still_safe lists h s)
+named_still other named left told h = absurd named
 
-pub named_rests : (c : Command) → NamesMailbox c → (failed : Type 0) (f g : Faults) (h : Option History) → Rests c failed f g h h
-named_rests (command.List name) named failed f g h = λ none. (λ lists s. s, carries-idle h h (idle-begins h))
-named_rests (command.Fetch name uid) named failed f g h = λ none. (λ lists s. s, carries-idle h h (idle-begins h))
-named_rests (command.Flag name uid flags) named failed f g h = λ none lists s. inl s
-named_rests (command.Expunge name uid) named failed f g h = λ none lists s. inl s
-named_rests (command.Copy name uid target) named failed f g h = λ none lists s. inl s
-named_rests (command.Move name uid target) named failed f g h = λ none lists s. inl s
-named_rests other named failed f g h = absurd named
+pub named_rests : (c : Command) → NamesMailbox c → (left : Option (List ℕ)) (told : Option ℕ) (failed : Type 0) (f g : Faults) (h : Option History) → Rests c left told failed f g h h
+named_rests (command.Deliver name) named left told failed f g h = inl refl
+named_rests (command.List name) named left told failed f g h = λ none. (λ lists s. s, carries-idle h h (idle-begins h))
+named_rests (command.Fetch name uid) named left told failed f g h = λ none. (λ lists s. s, carries-idle h h (idle-begins h))
+named_rests (command.Flag name uid flags) named left told failed f g h = λ none lists s. inl s
+named_rests (command.Expunge name uid) named left told failed f g h = λ none lists s. inl s
+named_rests (command.Copy name uid target) named left told failed f g h = λ none lists s. inl s
+named_rests (command.Move name uid target) named left told failed f g h = λ none lists s. inl s
+named_rests other named left told failed f g h = absurd named

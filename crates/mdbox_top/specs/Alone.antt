@@ -16,8 +16,9 @@ use Rattle.store_open.specs.declared.error.OpenError.{OpenError}
 use Rattle.store_open.specs.declared.error.OpenError.TheVariants as error
 use Rattle.store_sweep.specs.Moments.{NoFailedChange}
 use Rattle.mdbox_top.specs.InputRun.{IsOneOf}
-use Rattle.mdbox_top.specs.Served.{AreSafeFor, ServesRequest, FaultsByReply}
+use Rattle.mdbox_top.specs.Served.{AreSafeFor, IsJournaled, ServesRequest, FaultsByReply}
 use Rattle.mdbox_top.specs.ListRun.{StaysSettled, IsListReply, ListMoments, ListRests}
+use Rattle.mdbox_top.specs.DeliverRun.{IsDeliverReply, SaveMoments, SaveRests}
 use Rattle.mdbox_top.specs.FetchRun.{IsFetchReply, FetchMoments, FetchRests}
 use Rattle.mdbox_top.specs.FlagRun.{IsFlagReply, FlagMoments, FlagRests}
 use Rattle.mdbox_top.specs.CopyRun.{IsCopyReply, CopyMoments, CopyRests}
@@ -27,6 +28,7 @@ use Rattle.mdbox_top.specs.CountsRun.{IsCountsReply, CountsMoments, CountsRests}
 
 -- what its reply tells
 abbrev pub ReplyTells : Request → Option History → Option History → Reply → Type 0
+ReplyTells (request.Deliver name time octets) = IsDeliverReply name time octets
 ReplyTells (request.List name) = IsListReply name
 ReplyTells (request.Fetch name uid) = IsFetchReply name uid
 ReplyTells (request.Flag name uid flags) = IsFlagReply name uid flags
@@ -38,6 +40,7 @@ ReplyTells other = λ old new given. ⊥
 
 -- what a crash at any moment of it may leave
 abbrev pub RequestMoments : Request → Option History → Option History → Type 0
+RequestMoments (request.Deliver name time octets) = SaveMoments name time octets
 RequestMoments (request.List name) = ListMoments
 RequestMoments (request.Fetch name uid) = FetchMoments
 RequestMoments (request.Flag name uid flags) = FlagMoments name uid flags
@@ -49,6 +52,7 @@ RequestMoments other = λ old new. ⊥
 
 -- what it leaves of the disk when it ends, by whether it failed and the counts of the disk's faults
 abbrev pub RequestRests : Request → Type 0 → Faults → Faults → Option History → Option History → Type 0
+RequestRests (request.Deliver name time octets) = SaveRests name time octets
 RequestRests (request.List name) = ListRests
 RequestRests (request.Fetch name uid) = FetchRests
 RequestRests (request.Flag name uid flags) = FlagRests name uid flags
@@ -66,11 +70,11 @@ MayFail (request.List name) status = status ≡ 6
 MayFail request.Counts status = status ≡ 6
 MayFail other status = IsOneOf (5 ∷ 6 ∷ 8 ∷ []) status
 
--- A request was done alone on a store that was opened, and was replied this. No call of the disk failed but a read that is
+-- A request was done alone on a store that was opened, and was replied this. It was served, if the journal speaks of it. No call of the disk failed but a read that is
 -- replied, or a change that stopped the store.
 pub record IsDoneAlone (request : Request) (given : Reply) (old new : Option History) (began now : Faults) : Type 0 where
   pub tells : ReplyTells request old new given
-  pub serves : (lists : Lists) → AreSafeFor lists old → ServesRequest request lists given began now old new
+  pub serves : IsJournaled request → (lists : Lists) → AreSafeFor lists old → ServesRequest request lists given began now old new
   pub moments : RequestMoments request old new
   pub rests : RequestRests request (given ≡ reply.Refused refusal.Stopped) began now old new
   pub faults : FaultsByReply given began now

@@ -1,7 +1,8 @@
 -- The events of a request alone that changes lists, one behind another.
-use Rattle.std.specs.Prelude.{◌≡◌, ◌↔◌, ℕ, true, false, List, Option, Some}
+use Rattle.std.specs.Prelude.{◌≡◌, ◌↔◌, ◌⊎◌, ℕ, true, false, List, Option, Some}
 use Rattle.disk_model.specs.Disk.{History, Faults}
 use Rattle.disk_model.specs.FaultCounts.{NoFault, ChangeFaultCounted}
+use Rattle.mdbox_base.specs.declared.ids.Guid.{Guid}
 use Rattle.mdbox_base.specs.declared.ids.Uid.{Uid}
 use Rattle.mdbox_base.specs.declared.replies.Refusal.{Refusal}
 use Rattle.mdbox_base.specs.declared.replies.Refusal.TheVariants as refusal
@@ -9,12 +10,13 @@ use Rattle.mdbox_base.specs.declared.replies.Reply.{Reply}
 use Rattle.mdbox_base.specs.declared.replies.Reply.TheVariants as reply
 use Rattle.mdbox_base.specs.declared.requests.Request.{Request}
 use Rattle.mdbox_base.specs.declared.requests.Request.TheVariants as request
-use Rattle.model_lists.specs.Lists.{Lists}
+use Rattle.model_lists.specs.Lists.{Lists, AreWellFormed}
+use Rattle.model_store.specs.Listing.{ShowLists}
 use Rattle.model_store.specs.Settled.{IsSettledFor}
 use Rattle.journal.specs.Journal.{is_read_fault}
 use Rattle.list_machine.specs.Run.{Run}
 use Rattle.store_core.specs.Value.{StoreValue, indexes_of, list_named}
-use Rattle.task_steps.specs.Step.{Seen, ShowsSeen}
+use Rattle.task_steps.specs.Step.{Seen, ShowsSeen, HasNotBegun}
 use Rattle.mail_ops.specs.Copy.{IsAtCopy, copied_lists}
 use Rattle.mail_ops.specs.Expunging.{IsAtExpunge}
 use Rattle.mail_ops.specs.Moving.{IsAtMove}
@@ -22,11 +24,12 @@ use Rattle.mail_ops.specs.Task.{seen_of}
 use Rattle.mail_ops.specs.declared.copy.CopyStage.TheVariants as copy_stage
 use Rattle.mail_ops.specs.declared.expunging.ExpungeStage.TheVariants as expunge_stage
 use Rattle.mail_ops.specs.declared.moving.MoveStage.TheVariants as move_stage
-use Rattle.mdbox_top.specs.Changed.{lists_told, AreOneOf, MomentsAmong}
+use Rattle.mdbox_top.specs.Changed.{saved_lists, lists_told, AreOneOf, MomentsAmong}
 use Rattle.mdbox_top.specs.CopyRun.{uncopied_cause, IsCopyAnswer}
+use Rattle.mdbox_top.specs.DeliverRun.{undelivered_cause, IsDeliverAnswer, AreSaved}
 use Rattle.mdbox_top.specs.ExpungeRun.{lists_without, IsExpungeAnswer}
 use Rattle.mdbox_top.specs.MoveRun.{AreAlongMove, IsMoveAnswer}
-use Rattle.mdbox_top.specs.Served.{ServesRequest, missing_cause}
+use Rattle.mdbox_top.specs.Served.{IsJournaled, ServesRequest, missing_cause}
 use Rattle.mdbox_top.specs.UnderWay.{IsUnderWay}
 
 -- A request alone is under way in this store, from these lists to those.
@@ -49,6 +52,33 @@ pub record RemovesAlone {D : Type 0} (name : List ℕ) (uid : Uid) (store later 
   pub given_is : IsExpungeAnswer (missing_cause (list_named store name) uid.0) given
   pub refused : (why : Refusal) → given ≡ reply.Refused why → (why ≡ refusal.Stopped → ⊥) → later ≡ store
   pub changes : ChangesAlone (IsAtExpunge expunge_stage.First) (request.Expunge name uid) (AreOneOf (lists_without name uid)) (lists_without name uid) store later old new began now given
+
+-- The store has the same listings and mailboxes.
+pub record IsAlike {D : Type 0} (store later : StoreValue D) : Type 0 where
+  pub indexes : indexes_of later.boxes ≡ indexes_of store.boxes
+  pub mailboxes : later.map.boxes ≡ store.map.boxes
+
+-- From any lists that the store shows the later one shows those that the change makes of them.
+abbrev pub ShowsChanged : {D : Type 0} → (Lists → Lists) → StoreValue D → StoreValue D → Type 0
+ShowsChanged change store later = (lists : Lists) → AreWellFormed lists → ShowLists store.map.boxes (indexes_of store.boxes) lists → ShowLists later.map.boxes (indexes_of later.boxes) (change lists)
+
+-- these lists, or those with the message
+abbrev pub AreAlongSave : List ℕ → ℕ → List ℕ → Lists → Lists → Type 0
+AreAlongSave name time octets lists some = (some ≡ lists) ⊎ AreSaved name time octets lists some
+
+-- What the events of a delivery did. It was served, if the journal speaks of it.
+pub record SavesAlone {D : Type 0} (name : List ℕ) (time : ℕ) (octets : List ℕ) (store later : StoreValue D) (old new : Option History) (began now : Faults) (given : Reply) : Type 0 where
+  pub given_is : IsDeliverAnswer (undelivered_cause (list_named store name) store.drawn) (list_named store name) store.map.store store.drawn given
+  pub refused : (why : Refusal) → undelivered_cause (list_named store name) store.drawn ≡ Some why → later ≡ store
+  pub unsaved : (why : Refusal) → given ≡ reply.Refused why → (why ≡ refusal.Stopped → ⊥) → IsAlike store later
+  pub shows : (uid : Uid) (guid : Guid) → given ≡ reply.Saved uid guid → ShowsChanged (saved_lists name time octets guid) store later
+  pub calm : is_read_fault (Some given) ≡ false
+  pub served : IsJournaled (request.Deliver name time octets) → (lists : Lists) (seen : Seen) → IsWayTo HasNotBegun (request.Deliver name time octets) lists seen store old began lists → ServesRequest (request.Deliver name time octets) lists given seen.faults now seen.history new
+  pub moments : MomentsAmong (AreAlongSave name time octets) old new
+  pub settled : later.stopped ≡ false → (lists : Lists) → IsSettledFor lists old → IsSettledFor (lists_told (request.Deliver name time octets) given lists) new
+  pub halts : (given ≡ reply.Refused refusal.Stopped) ↔ (later.stopped ≡ true)
+  pub fault : ChangeFaultCounted (given ≡ reply.Refused refusal.Stopped) began now
+  pub unfailed : (given ≡ reply.Refused refusal.Stopped → ⊥) → NoFault began now
 
 -- The store has the same listings, and the same mailboxes and records of the map, and their counts.
 pub record IsAsBefore {D : Type 0} (store later : StoreValue D) : Type 0 where

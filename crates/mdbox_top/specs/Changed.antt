@@ -1,13 +1,14 @@
 -- What a request alone of several events makes of a store that it may change.
 use Rattle.std.specs.Prelude.{◌≡◌, ◌⊎◌, ℕ, Bool, List, if◌then◌else◌, Option}
 use Rattle.disk_model.specs.Disk.{Files, History, Faults, EachImage}
+use Rattle.mdbox_base.specs.declared.ids.Guid.{Guid}
 use Rattle.mdbox_base.specs.declared.ids.Uid.{Uid}
 use Rattle.mdbox_base.specs.declared.replies.Reply.{Reply}
 use Rattle.mdbox_base.specs.declared.replies.Reply.TheVariants as reply
 use Rattle.mdbox_base.specs.declared.requests.Request.{Request}
 use Rattle.mdbox_base.specs.declared.requests.Request.TheVariants as request
 use Rattle.model_lists.specs.Lists.{Lists, AreWellFormed}
-use Rattle.list_machine.specs.Machine.{expunge}
+use Rattle.list_machine.specs.Machine.{add_message, expunge}
 use Rattle.model_meaning.specs.BoxMeaning.{BoxMeaning}
 use Rattle.model_meaning.specs.MapMeaning.{MapMeaning}
 use Rattle.model_store.specs.Listing.{ShowLists}
@@ -17,6 +18,10 @@ use Rattle.mail_ops.specs.Copy.{copied_lists}
 use Rattle.store_open.specs.Opened.{IsOpenedAs, StoreCarries}
 use Rattle.store_sweep.specs.Moments.{NoFailedChange}
 use Rattle.store_sweep.specs.Swept.{IsSwept}
+
+-- the lists with a message that is saved: last in its mailbox, whose next UID it gets, and without flags
+abbrev pub saved_lists : List ℕ → ℕ → List ℕ → Guid → Lists → Lists
+saved_lists name time octets guid lists = add_message name (record { uid = 0; flags = 0; time = time; guid = guid.0; octets = octets }) lists
 
 -- the lists with the copy of a moved message and without the message, and those that the move leaves, by whether the message had
 -- gone before it was removed
@@ -28,6 +33,7 @@ lists_behind name uid target gone lists = if gone then copied_lists name uid tar
 
 -- the lists that a request leaves which had this reply: the same unless it is done
 abbrev pub lists_told : Request → Reply → Lists → Lists
+lists_told (request.Deliver name time octets) (reply.Saved uid guid) lists = saved_lists name time octets guid lists
 lists_told (request.Expunge name uid) reply.Done lists = expunge name uid.0 lists
 lists_told (request.Copy name uid target) (reply.Copied given) lists = copied_lists name uid target lists
 lists_told (request.Move name uid target) (reply.Moved given gone) lists = lists_behind name uid target gone lists

@@ -1,5 +1,6 @@
 pub mod Alone
 pub mod CountsRun
+pub mod DeliverRun
 pub mod ChangeEvents
 pub mod Changed
 pub mod CopyRun

@@ -14,6 +14,7 @@ use Rattle.mdbox_top.specs.Alone.{MayFail}
 use Rattle.mdbox_top.specs.InputRun.{DumpPrints, DumpRefuses, LogDumpPrints, LogDumpRefuses, InputOutcome, InputStatus, ShowsText, IsOneOf}
 use Rattle.mdbox_top.specs.InitRun.{InitOutcome, InitMoments, MayMakeStore}
 use Rattle.mdbox_top.specs.ListRun.{ListOutcome, ListMoments, ListRests}
+use Rattle.mdbox_top.specs.DeliverRun.{DeliverOutcome, DeliverMoments, DeliverRests, DeliverStatus}
 use Rattle.mdbox_top.specs.FetchRun.{FetchOutcome, FetchMoments, FetchRests}
 use Rattle.mdbox_top.specs.FlagRun.{FlagOutcome, FlagMoments, FlagRests}
 use Rattle.mdbox_top.specs.CopyRun.{CopyOutcome, CopyMoments, CopyRests}
@@ -21,21 +22,22 @@ use Rattle.mdbox_top.specs.MoveRun.{MoveOutcome, MoveMoments, MoveRests}
 use Rattle.mdbox_top.specs.ExpungeRun.{ExpungeOutcome, ExpungeMoments, ExpungeRests}
 use Rattle.mdbox_top.specs.CountsRun.{CountsOutcome, CountsMoments, CountsRests}
 
--- How a command ends: this was left of the input, the output held this before and holds that later, the disk was this and is
--- that now, and so were its counts of faults.
-abbrev pub Ends : Command → Option (List ℕ) → Option (List ℕ) → Option (List ℕ) → Option History → Option History → Faults → Faults → Outcome → Type 0
-Ends (command.Init id) left held later old new began now outcome = InitOutcome id.0 held later old new outcome
-Ends (command.List name) left held later old new began now outcome = ListOutcome name held later old new began now outcome
-Ends (command.Fetch name uid) left held later old new began now outcome = FetchOutcome name uid held later old new began now outcome
-Ends (command.Flag name uid flags) left held later old new began now outcome = FlagOutcome name uid flags held later old new began now outcome
-Ends (command.Expunge name uid) left held later old new began now outcome = ExpungeOutcome name uid held later old new began now outcome
-Ends (command.Copy name uid target) left held later old new began now outcome = CopyOutcome name uid target held later old new began now outcome
-Ends (command.Move name uid target) left held later old new began now outcome = MoveOutcome name uid target held later old new began now outcome
-Ends command.Counts left held later old new began now outcome = CountsOutcome held later old new began now outcome
-Ends command.Dump left held later old new began now outcome = InputOutcome DumpPrints DumpRefuses left held later outcome
-Ends command.LogDump left held later old new began now outcome = InputOutcome LogDumpPrints LogDumpRefuses left held later outcome
-Ends command.Help left held later old new began now outcome = ShowsText HELP.now held later outcome
-Ends command.Version left held later old new began now outcome = ShowsText VERSION.now held later outcome
+-- How a command ends: this was left of the input, this is the time that the clock would tell, the output held this before and
+-- holds that later, the disk was this and is that now, and so were its counts of faults.
+abbrev pub Ends : Command → Option (List ℕ) → Option ℕ → Option (List ℕ) → Option (List ℕ) → Option History → Option History → Faults → Faults → Outcome → Type 0
+Ends (command.Init id) left told held later old new began now outcome = InitOutcome id.0 held later old new outcome
+Ends (command.Deliver name) left told held later old new began now outcome = DeliverOutcome name left told held later old new began now outcome
+Ends (command.List name) left told held later old new began now outcome = ListOutcome name held later old new began now outcome
+Ends (command.Fetch name uid) left told held later old new began now outcome = FetchOutcome name uid held later old new began now outcome
+Ends (command.Flag name uid flags) left told held later old new began now outcome = FlagOutcome name uid flags held later old new began now outcome
+Ends (command.Expunge name uid) left told held later old new began now outcome = ExpungeOutcome name uid held later old new began now outcome
+Ends (command.Copy name uid target) left told held later old new began now outcome = CopyOutcome name uid target held later old new began now outcome
+Ends (command.Move name uid target) left told held later old new began now outcome = MoveOutcome name uid target held later old new began now outcome
+Ends command.Counts left told held later old new began now outcome = CountsOutcome held later old new began now outcome
+Ends command.Dump left told held later old new began now outcome = InputOutcome DumpPrints DumpRefuses left held later outcome
+Ends command.LogDump left told held later old new began now outcome = InputOutcome LogDumpPrints LogDumpRefuses left held later outcome
+Ends command.Help left told held later old new began now outcome = ShowsText HELP.now held later outcome
+Ends command.Version left told held later old new began now outcome = ShowsText VERSION.now held later outcome
 
 -- The run ends as it may: so it ended, with its status, and its text was told on the errors' sink.
 pub record RunOutcome (May : Outcome → Type 0) (status : ℕ) (held : Option (List ℕ)) (faults : ℕ) (later : Option (List ℕ)) (later_faults : ℕ) : Type 0 where
@@ -45,32 +47,35 @@ pub record RunOutcome (May : Outcome → Type 0) (status : ℕ) (held : Option (
   pub told : WritesOrFaults held faults (error_text outcome) later later_faults
 
 -- What a crash at any moment of the command may leave.
-abbrev pub Moments : Command → Option History → Option History → Type 0
-Moments (command.Init id) old new = InitMoments id.0 old new
-Moments (command.List name) old new = ListMoments old new
-Moments (command.Fetch name uid) old new = FetchMoments old new
-Moments (command.Flag name uid flags) old new = FlagMoments name uid flags old new
-Moments (command.Expunge name uid) old new = ExpungeMoments name uid old new
-Moments (command.Copy name uid target) old new = CopyMoments name uid target old new
-Moments (command.Move name uid target) old new = MoveMoments name uid target old new
-Moments command.Counts old new = CountsMoments old new
-Moments other old new = new ≡ old
+abbrev pub Moments : Command → Option (List ℕ) → Option ℕ → Option History → Option History → Type 0
+Moments (command.Init id) left told old new = InitMoments id.0 old new
+Moments (command.Deliver name) left told old new = DeliverMoments name left told old new
+Moments (command.List name) left told old new = ListMoments old new
+Moments (command.Fetch name uid) left told old new = FetchMoments old new
+Moments (command.Flag name uid flags) left told old new = FlagMoments name uid flags old new
+Moments (command.Expunge name uid) left told old new = ExpungeMoments name uid old new
+Moments (command.Copy name uid target) left told old new = CopyMoments name uid target old new
+Moments (command.Move name uid target) left told old new = MoveMoments name uid target old new
+Moments command.Counts left told old new = CountsMoments old new
+Moments other left told old new = new ≡ old
 
 -- What the command leaves of the disk when it ends, by whether it failed and the counts of the disk's faults.
-abbrev pub Rests : Command → Type 0 → Faults → Faults → Option History → Option History → Type 0
-Rests (command.List name) failed began now old new = ListRests failed began now old new
-Rests (command.Fetch name uid) failed began now old new = FetchRests failed began now old new
-Rests (command.Flag name uid flags) failed began now old new = FlagRests name uid flags failed began now old new
-Rests (command.Expunge name uid) failed began now old new = ExpungeRests name uid failed began now old new
-Rests (command.Copy name uid target) failed began now old new = CopyRests name uid target failed began now old new
-Rests (command.Move name uid target) failed began now old new = MoveRests name uid target failed began now old new
-Rests command.Counts failed began now old new = CountsRests failed began now old new
-Rests other failed began now old new = Unit {0}
+abbrev pub Rests : Command → Option (List ℕ) → Option ℕ → Type 0 → Faults → Faults → Option History → Option History → Type 0
+Rests (command.Deliver name) left told failed began now old new = DeliverRests name left told failed began now old new
+Rests (command.List name) left told failed began now old new = ListRests failed began now old new
+Rests (command.Fetch name uid) left told failed began now old new = FetchRests failed began now old new
+Rests (command.Flag name uid flags) left told failed began now old new = FlagRests name uid flags failed began now old new
+Rests (command.Expunge name uid) left told failed began now old new = ExpungeRests name uid failed began now old new
+Rests (command.Copy name uid target) left told failed began now old new = CopyRests name uid target failed began now old new
+Rests (command.Move name uid target) left told failed began now old new = MoveRests name uid target failed began now old new
+Rests command.Counts left told failed began now old new = CountsRests failed began now old new
+Rests other left told failed began now old new = Unit {0}
 
 -- The statuses that may come, by what was left of the input and what the disk was: no file refuses a store that can be made,
 -- or a request on a settled disk, `counts` has no reply that refuses it, and `--help` and `--version` fail with the output alone.
 abbrev pub HasStatus : Command → Option (List ℕ) → Option History → ℕ → Type 0
 HasStatus (command.Init id) left old status = MayMakeStore old → IsOneOf (0 ∷ 5 ∷ 6 ∷ 8 ∷ []) status
+HasStatus (command.Deliver name) left old status = DeliverStatus left old status
 HasStatus (command.List name) left old status = (lists : Lists) → IsSettledFor lists old → IsOneOf (0 ∷ 1 ∷ 5 ∷ 6 ∷ 8 ∷ []) status
 HasStatus (command.Fetch name uid) left old status = (lists : Lists) → IsSettledFor lists old → IsOneOf (0 ∷ 1 ∷ 5 ∷ 6 ∷ 8 ∷ []) status
 HasStatus (command.Flag name uid flags) left old status = (lists : Lists) → IsSettledFor lists old → IsOneOf (0 ∷ 1 ∷ 5 ∷ 6 ∷ 8 ∷ []) status
@@ -86,6 +91,7 @@ HasStatus command.Version left old status = IsOneOf (0 ∷ 8 ∷ []) status
 -- The statuses with which the command may end if a call of the disk failed: 6; and for one that reads messages or changes a
 -- store, 5 and 8, since printing that a read failed, or that the store is stopped, may fail.
 abbrev pub MayHaveFailed : Command → ℕ → Type 0
+MayHaveFailed (command.Deliver name) status = IsOneOf (5 ∷ 6 ∷ 8 ∷ []) status
 MayHaveFailed (command.Fetch name uid) status = MayFail (request.Fetch name uid) status
 MayHaveFailed (command.Flag name uid flags) status = MayFail (request.Flag name uid flags) status
 MayHaveFailed (command.Expunge name uid) status = MayFail (request.Expunge name uid) status
@@ -95,6 +101,7 @@ MayHaveFailed other status = status ≡ 6
 
 -- the command reads standard input
 abbrev pub reads_input : Command → Bool
+reads_input (command.Deliver name) = true
 reads_input command.Dump = true
 reads_input command.LogDump = true
 reads_input other = false
@@ -102,6 +109,7 @@ reads_input other = false
 -- the command opens or makes a store
 abbrev pub uses_disk : Command → Bool
 uses_disk (command.Init id) = true
+uses_disk (command.Deliver name) = true
 uses_disk (command.List name) = true
 uses_disk (command.Fetch name uid) = true
 uses_disk (command.Flag name uid flags) = true
@@ -110,3 +118,8 @@ uses_disk (command.Copy name uid target) = true
 uses_disk (command.Move name uid target) = true
 uses_disk command.Counts = true
 uses_disk other = false
+
+-- the command asks the clock
+abbrev pub asks_clock : Command → Bool
+asks_clock (command.Deliver name) = true
+asks_clock other = false

@@ -1,5 +1,5 @@
 -- What a request alone makes of a store, and how it ends.
-use Rattle.std.specs.Prelude.{◌≡◌, ◌≤◌, ◌⊎◌, ℕ, List, [], ◌∷◌, is_some, if◌then◌else◌, Option, Some, None}
+use Rattle.std.specs.Prelude.{◌≡◌, ◌≤◌, ◌⊎◌, ℕ, List, [], ◌∷◌, is_some, false, if◌then◌else◌, Option, Some, None}
 use Rattle.std.specs.Option.{option_map_or}
 use Rattle.disk_model.specs.Disk.{told_calls, History, Faults, EachImage, IfTold, IsIdle}
 use Rattle.disk_model.specs.FaultCounts.{NoFault}
@@ -12,6 +12,7 @@ use Rattle.mdbox_base.specs.declared.replies.Refusal.TheVariants as refusal
 use Rattle.mdbox_base.specs.declared.replies.Reply.{Reply}
 use Rattle.mdbox_base.specs.declared.replies.Reply.TheVariants as reply
 use Rattle.mdbox_base.specs.declared.requests.Request.{Request}
+use Rattle.mdbox_base.specs.declared.requests.Request.TheVariants as request
 use Rattle.model_lists.specs.Lists.{Lists}
 use Rattle.model_meaning.specs.BoxMeaning.{BoxMeaning, row_at}
 use Rattle.model_meaning.specs.MapMeaning.{MapMeaning, map_meaning}
@@ -22,6 +23,7 @@ use Rattle.model_store.specs.Settled.{files_of, IsSettledFor}
 use Rattle.list_machine.specs.Run.{Run}
 use Rattle.journal.specs.Journal.{JournalStep, Broken, left_by}
 use Rattle.journal.specs.Makes.{IsServed}
+use Rattle.mail_save.specs.Events.{has_detachable}
 use Rattle.store_open.specs.Making.{IdleUnless}
 use Rattle.store_open.specs.Opened.{Opening, IsOpeningError}
 use Rattle.store_open.specs.declared.error.OpenError.{OpenError}
@@ -89,12 +91,17 @@ pub record IsNotOpened (held later : Option (List ℕ)) (old new : Option Histor
   pub idle : (why ≡ error.DiskFault → ⊥) → IsIdle old new
   pub untouched : IdleUnless Opening old new
 
--- The store was opened and replied this: what this command's reply tells beside, that the request was served from any lists
--- for which the files were safe, which calls of the disk failed, and that the reply was printed.
+-- The journal speaks of the request. Of a delivery it does unless a part of its message could be detached: that part isn't, yet.
+abbrev pub IsJournaled : Request → Type 0
+IsJournaled (request.Deliver name time octets) = has_detachable octets ≡ false
+IsJournaled other = Unit {0}
+
+-- The store was opened and replied this: what this command's reply tells beside, that the request was served, if the journal speaks
+-- of it, from any lists for which the files were safe, which calls of the disk failed, and that the reply was printed.
 pub record IsReplied (Tells : Option History → Option History → Reply → Type 0) (request : Request) (held later : Option (List ℕ)) (old new : Option History) (began now : Faults) (ended : Outcome) : Type 0 where
   pub given : Reply
   pub tells : Tells old new given
-  pub serves : (lists : Lists) → AreSafeFor lists old → ServesRequest request lists given began now old new
+  pub serves : IsJournaled request → (lists : Lists) → AreSafeFor lists old → ServesRequest request lists given began now old new
   pub faults : FaultsByReply given began now
   pub printed : ShowsReply (single_text request given) given held later ended
 

@@ -7,6 +7,7 @@ pub use run::{mdbox_alone, mdbox_run};
 mod alone;
 mod copy;
 mod counts;
+mod deliver;
 mod expunge;
 mod fetch;
 mod init;

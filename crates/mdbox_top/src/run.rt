@@ -1,5 +1,5 @@
 // One run of the program.
-ghost use Rattle.std.specs.Prelude.{◌≡◌, ◌≢◌, ◌≤◌, ◌↔◌, false, map, string_bytes};
+ghost use Rattle.std.specs.Prelude.{◌≡◌, ◌≢◌, ◌≤◌, ◌↔◌, ◌⊎◌, false, map, string_bytes};
 ghost use Rattle.disk_model.specs.FaultCounts.{NoFault, AnyFaultCounted};
 ghost use Rattle.mdbox_base.specs.Streams.{Rose};
 ghost use Rattle.piece_writer.specs.Pieces.{WritesOrFaults};
@@ -7,11 +7,12 @@ ghost use Rattle.request_text.specs.Commands.{IsInRange, Says, SayNothing};
 ghost use Rattle.request_text.specs.Outcomes.{status_of, error_text};
 ghost use Rattle.request_text.specs.declared.command.Command.{Command};
 ghost use Rattle.request_text.specs.declared.outcome.Outcome.TheVariants as outcome;
-ghost use Rattle.mdbox_top.specs.Run.{Ends, RunOutcome, Moments, Rests, HasStatus, MayHaveFailed, reads_input, uses_disk};
+ghost use Rattle.mdbox_top.specs.Run.{Ends, RunOutcome, Moments, Rests, HasStatus, MayHaveFailed, reads_input, uses_disk, asks_clock};
 
 use crate::alone::serve;
 use crate::copy::copy;
 use crate::counts::counts;
+use crate::deliver::deliver;
 use crate::expunge::expunge;
 use crate::fetch::fetch;
 use crate::init::init;
@@ -19,28 +20,29 @@ use crate::input_commands::{dump, logdump};
 use crate::moving::move_to;
 use crate::show::show;
 use disk_model::Disk;
-use mdbox_base::{Request, Sink, Source};
+use mdbox_base::{Clock, Request, Sink, Source};
 use request_text::{Command, HELP, Outcome, Status, VERSION, WordsError, read_words, report};
 use std::alloc::Global;
 
 /// Does what the words ask, and hands the disk back. `dump` and `logdump` read standard input to its end.
-pub fn mdbox_run<D: Disk, I: Source, O: Sink, E: Sink>(
+pub fn mdbox_run<D: Disk, I: Source, O: Sink, E: Sink, C: Clock>(
     alloc: Global,
     words: &[String],
     disk: D,
     input: &mut I,
     output: &mut O,
     errors: &mut E,
+    clock: &mut C,
 ) -> (Status, D)
     // What was read and printed, what the disk holds, what was told, and the status.
     ensures run { (command : Command) → Says (map string_bytes words.now) command
-        → RunOutcome (Ends command (I.left input.old) (O.held output.old) (O.held output.new) (D.history disk) (D.history result.1) (D.faults disk) (D.faults result.1)) result.0.0 (E.held errors.old) (E.faults errors.old) (E.held errors.new) (E.faults errors.new) }
+        → RunOutcome (Ends command (I.left input.old) (C.time clock.old) (O.held output.old) (O.held output.new) (D.history disk) (D.history result.1) (D.faults disk) (D.faults result.1)) result.0.0 (E.held errors.old) (E.faults errors.old) (E.held errors.new) (E.faults errors.new) }
 
     // What a crash at any moment of the run leaves, whatever the result.
-    ensures moments { (command : Command) → Says (map string_bytes words.now) command → Moments command (D.history disk) (D.history result.1) }
+    ensures moments { (command : Command) → Says (map string_bytes words.now) command → Moments command (I.left input.old) (C.time clock.old) (D.history disk) (D.history result.1) }
 
     // What the disk is at the end, if no change of it failed.
-    ensures rests { (command : Command) → Says (map string_bytes words.now) command → Rests command (MayHaveFailed command result.0.0) (D.faults disk) (D.faults result.1) (D.history disk) (D.history result.1) }
+    ensures rests { (command : Command) → Says (map string_bytes words.now) command → Rests command (I.left input.old) (C.time clock.old) (MayHaveFailed command result.0.0) (D.faults disk) (D.faults result.1) (D.history disk) (D.history result.1) }
 
     // No other status than what the input and the disk allow.
     ensures status { (command : Command) → Says (map string_bytes words.now) command → HasStatus command (I.left input.old) (D.history disk) result.0.0 }
@@ -48,82 +50,91 @@ pub fn mdbox_run<D: Disk, I: Source, O: Sink, E: Sink>(
 
     // Words that say no command, whatever else: then that is told, and nothing else happens.
     ensures usage { (result.0.0 ≡ 2) ↔ SayNothing (map string_bytes words.now) }
-    ensures unknown { SayNothing (map string_bytes words.now) → (input.new ≡ input.old) × (output.new ≡ output.old) × (result.1 ≡ disk)
+    ensures unknown { SayNothing (map string_bytes words.now) → (input.new ≡ input.old) × (output.new ≡ output.old) × (clock.new ≡ clock.old) × (result.1 ≡ disk)
         × WritesOrFaults (E.held errors.old) (E.faults errors.old) (error_text outcome.Usage) (E.held errors.new) (E.faults errors.new) }
 
-    // No call is made of an input or a disk that the command doesn't use.
+    // No call is made of an input, a disk or a clock that the command doesn't use.
     ensures unread { (command : Command) → Says (map string_bytes words.now) command → reads_input command ≡ false → input.new ≡ input.old }
     ensures untouched { (command : Command) → Says (map string_bytes words.now) command → uses_disk command ≡ false → result.1 ≡ disk }
+    ensures unasked { (command : Command) → Says (map string_bytes words.now) command → asks_clock command ≡ false → clock.new ≡ clock.old }
 
     // A fault only if that object's count of faults rose, and else it stayed: none is made up, and none hidden but by a
     // command that can't print that a read failed, or that the store is stopped. The counts never fall.
     ensures disk_fault { AnyFaultCounted (result.0.0 ≡ 6) (D.faults disk) (D.faults result.1) }
-    ensures read_fault { result.0.0 ≡ 7 → Rose (I.faults input.old) (I.faults input.new) }
+    ensures read_fault { result.0.0 ≡ 7 → Rose (I.faults input.old) (I.faults input.new) ⊎ Rose (C.faults clock.old) (C.faults clock.new) }
     ensures write_fault { result.0.0 ≡ 8 → Rose (O.faults output.old) (O.faults output.new) }
     ensures disk_quiet { (command : Command) → Says (map string_bytes words.now) command → (MayHaveFailed command result.0.0 → ⊥) → NoFault (D.faults disk) (D.faults result.1) }
     ensures read_quiet { result.0.0 ≢ 7 → I.faults input.new ≡ I.faults input.old }
+    ensures clock_quiet { result.0.0 ≢ 7 → C.faults clock.new ≡ C.faults clock.old }
     ensures write_quiet { result.0.0 ≢ 8 → O.faults output.new ≡ O.faults output.old }
-    ensures counted { (I.faults input.old ≤ I.faults input.new) × (O.faults output.old ≤ O.faults output.new) × (E.faults errors.old ≤ E.faults errors.new) }
+    ensures counted { (I.faults input.old ≤ I.faults input.new) × (O.faults output.old ≤ O.faults output.new) × (E.faults errors.old ≤ E.faults errors.new) × (C.faults clock.old ≤ C.faults clock.new) }
 {
     match read_words(alloc, words) {
-        Ok(command) => mdbox_alone(alloc, command, disk, input, output, errors),
+        Ok(command) => mdbox_alone(alloc, command, disk, input, output, errors, clock),
         Err(WordsError::Usage) => (report(alloc, errors, Outcome::Usage), disk),
         Err(WordsError::NoMemory) => (report(alloc, errors, Outcome::NoMemory), disk),
     }
 }
 
 /// Does one command, and hands the disk back.
-pub fn mdbox_alone<D: Disk, I: Source, O: Sink, E: Sink>(
+pub fn mdbox_alone<D: Disk, I: Source, O: Sink, E: Sink, C: Clock>(
     alloc: Global,
     command: Command,
     disk: D,
     input: &mut I,
     output: &mut O,
     errors: &mut E,
+    clock: &mut C,
 ) -> (Status, D)
     requires range { IsInRange command }
-    ensures run { RunOutcome (Ends command (I.left input.old) (O.held output.old) (O.held output.new) (D.history disk) (D.history result.1) (D.faults disk) (D.faults result.1)) result.0.0 (E.held errors.old) (E.faults errors.old) (E.held errors.new) (E.faults errors.new) }
-    ensures moments { Moments command (D.history disk) (D.history result.1) }
-    ensures rests { Rests command (MayHaveFailed command result.0.0) (D.faults disk) (D.faults result.1) (D.history disk) (D.history result.1) }
+    ensures run { RunOutcome (Ends command (I.left input.old) (C.time clock.old) (O.held output.old) (O.held output.new) (D.history disk) (D.history result.1) (D.faults disk) (D.faults result.1)) result.0.0 (E.held errors.old) (E.faults errors.old) (E.held errors.new) (E.faults errors.new) }
+    ensures moments { Moments command (I.left input.old) (C.time clock.old) (D.history disk) (D.history result.1) }
+    ensures rests { Rests command (I.left input.old) (C.time clock.old) (MayHaveFailed command result.0.0) (D.faults disk) (D.faults result.1) (D.history disk) (D.history result.1) }
     ensures status { HasStatus command (I.left input.old) (D.history disk) result.0.0 }
     ensures unread { reads_input command ≡ false → input.new ≡ input.old }
     ensures untouched { uses_disk command ≡ false → result.1 ≡ disk }
+    ensures unasked { asks_clock command ≡ false → clock.new ≡ clock.old }
     ensures disk_fault { AnyFaultCounted (result.0.0 ≡ 6) (D.faults disk) (D.faults result.1) }
-    ensures read_fault { result.0.0 ≡ 7 → Rose (I.faults input.old) (I.faults input.new) }
+    ensures read_fault { result.0.0 ≡ 7 → Rose (I.faults input.old) (I.faults input.new) ⊎ Rose (C.faults clock.old) (C.faults clock.new) }
     ensures write_fault { result.0.0 ≡ 8 → Rose (O.faults output.old) (O.faults output.new) }
     ensures disk_quiet { (MayHaveFailed command result.0.0 → ⊥) → NoFault (D.faults disk) (D.faults result.1) }
     ensures read_quiet { result.0.0 ≢ 7 → I.faults input.new ≡ I.faults input.old }
+    ensures clock_quiet { result.0.0 ≢ 7 → C.faults clock.new ≡ C.faults clock.old }
     ensures write_quiet { result.0.0 ≢ 8 → O.faults output.new ≡ O.faults output.old }
-    ensures counted { (I.faults input.old ≤ I.faults input.new) × (O.faults output.old ≤ O.faults output.new) × (E.faults errors.old ≤ E.faults errors.new) }
+    ensures counted { (I.faults input.old ≤ I.faults input.new) × (O.faults output.old ≤ O.faults output.new) × (E.faults errors.old ≤ E.faults errors.new) × (C.faults clock.old ≤ C.faults clock.new) }
 {
-    let (outcome, disk) = perform(alloc, command, disk, input, output);
+    let (outcome, disk) = perform(alloc, command, disk, input, output, clock);
     (report(alloc, errors, outcome), disk)
 }
 
 /// Does one command, and says how it ended.
-fn perform<D: Disk, I: Source, O: Sink>(
+fn perform<D: Disk, I: Source, O: Sink, C: Clock>(
     alloc: Global,
     command: Command,
     disk: D,
     input: &mut I,
     output: &mut O,
+    clock: &mut C,
 ) -> (Outcome, D)
     requires range { IsInRange command }
-    ensures ends { Ends command (I.left input.old) (O.held output.old) (O.held output.new) (D.history disk) (D.history result.1) (D.faults disk) (D.faults result.1) result.0 }
-    ensures moments { Moments command (D.history disk) (D.history result.1) }
+    ensures ends { Ends command (I.left input.old) (C.time clock.old) (O.held output.old) (O.held output.new) (D.history disk) (D.history result.1) (D.faults disk) (D.faults result.1) result.0 }
+    ensures moments { Moments command (I.left input.old) (C.time clock.old) (D.history disk) (D.history result.1) }
     ensures unread { reads_input command ≡ false → input.new ≡ input.old }
     ensures untouched { uses_disk command ≡ false → result.1 ≡ disk }
-    ensures rests { Rests command (MayHaveFailed command (status_of result.0)) (D.faults disk) (D.faults result.1) (D.history disk) (D.history result.1) }
+    ensures unasked { asks_clock command ≡ false → clock.new ≡ clock.old }
+    ensures rests { Rests command (I.left input.old) (C.time clock.old) (MayHaveFailed command (status_of result.0)) (D.faults disk) (D.faults result.1) (D.history disk) (D.history result.1) }
     ensures disk_fault { AnyFaultCounted (result.0 ≡ outcome.DiskFault) (D.faults disk) (D.faults result.1) }
-    ensures read_fault { result.0 ≡ outcome.ReadFault → Rose (I.faults input.old) (I.faults input.new) }
+    ensures read_fault { result.0 ≡ outcome.ReadFault → Rose (I.faults input.old) (I.faults input.new) ⊎ Rose (C.faults clock.old) (C.faults clock.new) }
     ensures write_fault { result.0 ≡ outcome.WriteFault → Rose (O.faults output.old) (O.faults output.new) }
     ensures disk_quiet { (MayHaveFailed command (status_of result.0) → ⊥) → NoFault (D.faults disk) (D.faults result.1) }
     ensures read_quiet { result.0 ≢ outcome.ReadFault → I.faults input.new ≡ I.faults input.old }
+    ensures clock_quiet { result.0 ≢ outcome.ReadFault → C.faults clock.new ≡ C.faults clock.old }
     ensures write_quiet { result.0 ≢ outcome.WriteFault → O.faults output.new ≡ O.faults output.old }
-    ensures counted { (I.faults input.old ≤ I.faults input.new) × (O.faults output.old ≤ O.faults output.new) }
+    ensures counted { (I.faults input.old ≤ I.faults input.new) × (O.faults output.old ≤ O.faults output.new) × (C.faults clock.old ≤ C.faults clock.new) }
 {
     match command {
         Command::Init { id } => init(alloc, id, disk, output),
+        Command::Deliver { name } => deliver(alloc, name, disk, input, output, clock),
         Command::List { name } => serve(alloc, Request::List { name }, disk, output),
         Command::Fetch { name, uid } => fetch(alloc, name, uid, disk, output),
         Command::Flag { name, uid, flags } => {

@@ -92,6 +92,11 @@ name_same a b e =
     let words : a ∷ [] ≡ b ∷ [] = cc e in
     cc words
 
+deliver_same : (a b : List ℕ) → words_of (command.Deliver a) ≡ words_of (command.Deliver b) → a ≡ b
+deliver_same a b e =
+    let words : a ∷ [] ≡ b ∷ [] = cc e in
+    cc words
+
 fetch_same : (a b : List ℕ) (u v : Uid) → IsInRange (command.Fetch a u) → IsInRange (command.Fetch b v) → words_of (command.Fetch a u) ≡ words_of (command.Fetch b v) → command.Fetch a u ≡ command.Fetch b v
 fetch_same a b u v p q e =
     let words : a ∷ decimal_text u.0 ∷ [] ≡ b ∷ decimal_text v.0 ∷ [] = cc e in
@@ -147,6 +152,7 @@ move_same a b u v t w p q e =
 same_words : (a b : Command) → IsInRange a → IsInRange b → words_of a ≡ words_of b → a ≡ b
 same_words (command.Init a) (command.Init b) p q e = ap (λ (i : StoreId). command.Init i) (id_same a b p q e)
 same_words (command.List a) (command.List b) p q e = ap (λ (n : List ℕ). command.List n) (name_same a b e)
+same_words (command.Deliver a) (command.Deliver b) p q e = ap (λ (n : List ℕ). command.Deliver n) (deliver_same a b e)
 same_words (command.Fetch a u) (command.Fetch b v) p q e = fetch_same a b u v p q e
 same_words (command.Flag a u f) (command.Flag b v g) p q e = flag_same a b u v f g p q e
 same_words (command.Expunge a u) (command.Expunge b v) p q e = expunge_same a b u v p q e

@@ -9,6 +9,7 @@ use Rattle.request_text.specs.declared.command.Command.TheVariants as command
 -- The words of a command. An id is 16 lower-case hexadecimal digits, and numbers are decimal, without leading zeros.
 abbrev pub words_of : Command → List (List ℕ)
 words_of (command.Init id) = codes "init" ∷ encode_lower id.0 ∷ []
+words_of (command.Deliver name) = codes "deliver" ∷ name ∷ []
 words_of (command.List name) = codes "list" ∷ name ∷ []
 words_of (command.Fetch name uid) = codes "fetch" ∷ name ∷ decimal_text uid.0 ∷ []
 words_of (command.Flag name uid flags) = codes "flag" ∷ name ∷ decimal_text uid.0 ∷ decimal_text flags ∷ []
@@ -24,6 +25,7 @@ words_of command.Version = codes "--version" ∷ []
 -- An id has 8 octets, a name is that of a mailbox, a UID is from 1 to 4,294,967,294, and flags are a sum of bits up to 16.
 abbrev pub IsInRange : Command → Type 0
 IsInRange (command.Init id) = (length id.0 ≡ 8) × IsOctets id.0
+IsInRange (command.Deliver name) = IsName name
 IsInRange (command.List name) = IsName name
 IsInRange (command.Fetch name uid) = IsName name × IsNumber uid.0
 IsInRange (command.Flag name uid flags) = IsName name × IsNumber uid.0 × (flags ≤ 31)
@@ -51,6 +53,7 @@ SayNothing words = (command : Command) → Says words command → ⊥
 
 -- the command names a mailbox
 abbrev pub NamesMailbox : Command → Type 0
+NamesMailbox (command.Deliver name) = Unit {0}
 NamesMailbox (command.List name) = Unit {0}
 NamesMailbox (command.Fetch name uid) = Unit {0}
 NamesMailbox (command.Flag name uid flags) = Unit {0}

@@ -6,6 +6,8 @@ use mdbox_base::{Flags, Name, StoreId, Uid};
 pub enum Command {
     /// Makes an empty store with this id.
     Init { id: StoreId },
+    /// Saves the message that the input is in the mailbox with this name.
+    Deliver { name: Name },
     /// Lists the mailbox with this name.
     List { name: Name },
     /// Prints the octets of the message with this UID in the mailbox with this name.
@@ -35,6 +37,9 @@ pub const HELP: &str = "mdbox WORDS
 
 init ID     makes an empty store in the current folder, with one mailbox, INBOX, and prints OK; ID names
             the store, in 16 lower-case hexadecimal digits
+deliver BOX saves the message that it reads from standard input, of at most 67108864 octets, in a mailbox of the
+            store, as received now, and prints OK, its UID there and its GUID; or prints NO 10 no mailbox,
+            NO 14 mailbox full 1000000, or NO 16 store full 4294967294
 list BOX    lists a mailbox of the store in the current folder: prints OK and the number of messages, then a
             line for each: its UID, its flags (the sum of 1 answered, 2 flagged, 4 deleted, 8 seen, 16 draft),
             its size in octets, the time it was received (Unix seconds) and its GUID; or prints

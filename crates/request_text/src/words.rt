@@ -65,6 +65,7 @@ fn read_two(alloc: Global, verb: &str, word: &[u8]) -> Result<Command, WordsErro
 {
     match verb {
         "init" => read_init(word),
+        "deliver" => read_deliver(alloc, word),
         "list" => read_list(alloc, word),
         _ => Err(WordsError::Usage),
     }
@@ -80,6 +81,16 @@ fn read_init(word: &[u8]) -> Result<Command, WordsError>
         Some(id) => Ok(Command::Init { id: StoreId(id) }),
         None => Err(WordsError::Usage),
     }
+}
+
+/// The delivery to the mailbox with this name.
+fn read_deliver(alloc: Global, word: &[u8]) -> Result<Command, WordsError>
+    ensures says { IfOk result (Says (codes "deliver" ∷ word.now ∷ [])) }
+    ensures usage { IsErrOf result words_error.Usage → SayNothing (codes "deliver" ∷ word.now ∷ []) }
+    ensures memory { IsErrOf result words_error.NoMemory → IsName word.now }
+{
+    let name = read_name(alloc, word)?;
+    Ok(Command::Deliver { name })
 }
 
 /// The listing of the mailbox with this name.

@@ -1,10 +1,10 @@
 -- References that are counted, row by row and mailbox by mailbox.
-use Rattle.std.proofs.Common.{◌≡◌, ◌<◌, ◌≤◌, ◌+◌, ℕ, suc, All, Bool, true, false, List, [], ◌∷◌, length, take, get_or, slice_get, if◌then◌else◌, Option, Some, None, refl, sym, ◌∙◌, ap, arith}
+use Rattle.std.proofs.Common.{◌≡◌, ◌<◌, ◌≤◌, ◌+◌, ℕ, suc, All, Bool, true, false, List, map, [], ◌∷◌, length, take, get_or, slice_get, if◌then◌else◌, Some, refl, sym, ◌∙◌, ap, arith}
 use Rattle.std.specs.Prelude.{count_by, sum_by}
-use Rattle.std.specs.Option.{option_map, option_map_or}
+use Rattle.std.specs.Option.{option_map}
 use Rattle.std.specs.Str.{bytes_eq}
 use Rattle.std.proofs.lemmas.List.Sums.{count_by_more_no, count_by_more_yes, sum_by-cons}
-use Rattle.std.proofs.lemmas.Option.{slice_get-get_or, get_or_from_slice_get}
+use Rattle.std.proofs.lemmas.Option.{slice_get-map, slice_get-get_or, get_or_from_slice_get}
 use Rattle.std.proofs.Math.Seq.{take-length}
 use Rattle.model_meaning.specs.BoxMeaning.{LogRow, BoxMeaning}
 use Rattle.model_store.specs.Listing.{refs_in}
@@ -28,14 +28,22 @@ one_each store (m ∷ ms) (b ∷ bs) h = ap suc (one_each store ms bs h.3)
 abbrev no_row : LogRow
 no_row = record { uid = 0; flags = 0; time = 0; size = 0; map_uid = 0; guid = [] }
 
+pub count_none : (guid : List ℕ) (rows : List LogRow) → count_by (λ row. bytes_eq row.guid guid) (take 0 rows) ≡ 0
+count_none guid [] = refl
+count_none guid (row ∷ rows) = refl
+
+-- the row at a place, of those that were yielded
+pub row_here : (xs : List BoxRow) (rows : List LogRow) (k : ℕ) (row : BoxRow) → map row_of xs ≡ rows → (k < length xs) × (row ≡ get_or xs k row) → slice_get rows k ≡ Some (row_of row)
+row_here xs rows k row e at =
+    ap (λ (rs : List LogRow). slice_get rs k) (sym e) ∙ slice_get-map row_of xs k ∙ ap (option_map row_of) (slice_get-get_or xs k row at.0 ∙ ap Some (sym at.1))
+
 -- one row more has been looked at
-pub count_more : (guid : List ℕ) (rows : List LogRow) (i : ℕ) (seen : Option BoxRow) (one : ℕ) → i < length rows → option_map row_of seen ≡ slice_get rows i → one ≡ (if option_map_or (λ row. bytes_eq row.guid.0 guid) seen false then 1 else 0)
+pub count_more : (guid : List ℕ) (rows : List LogRow) (i : ℕ) (row : BoxRow) (one : ℕ) → i < length rows → slice_get rows i ≡ Some (row_of row) → one ≡ (if bytes_eq row.guid.0 guid then 1 else 0)
     → count_by (λ row. bytes_eq row.guid guid) (take (i + 1) rows) ≡ count_by (λ row. bytes_eq row.guid guid) (take i rows) + one
-count_more guid rows i None one within is e = absurd (let h : None ≡ Some (get_or rows i no_row) = is ∙ slice_get-get_or rows i no_row within in cc)
-count_more guid rows i (Some row) one within is e = by_test (bytes_eq row.guid.0 guid) refl e
+count_more guid rows i row one within is e = by_test (bytes_eq row.guid.0 guid) refl e
   where
     here : get_or rows i no_row ≡ row_of row
-    here = get_or_from_slice_get rows i (row_of row) no_row (sym is)
+    here = get_or_from_slice_get rows i (row_of row) no_row is
 
     by_test : (t : Bool) → bytes_eq row.guid.0 guid ≡ t → one ≡ (if t then 1 else 0)
         → count_by (λ row. bytes_eq row.guid guid) (take (i + 1) rows) ≡ count_by (λ row. bytes_eq row.guid guid) (take i rows) + one

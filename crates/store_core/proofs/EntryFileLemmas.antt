@@ -1,15 +1,14 @@
 -- What a store keeps of its storage files, with one entry more in the map log that moves and drops no record and seals no file.
-use Rattle.std.specs.Prelude.{◌⊎◌, not, ◌||◌, ◌-◌, filter, if◌then◌else◌}
+use Rattle.std.specs.Prelude.{not, ◌||◌, ◌-◌, filter, if◌then◌else◌}
 use Rattle.std.specs.List.{list_any}
-use Rattle.std.proofs.Common.{inl, inr, ◌≡◌, ◌+◌, ◌==◌, ℕ, Bool, true, false, List, [], ◌∷◌, ◌++◌, map, Option, Some, None, All, refl, sym, ◌∙◌, ap, subst}
+use Rattle.std.proofs.Common.{inl, inr, ◌≡◌, ◌+◌, ◌==◌, ℕ, Bool, true, false, List, [], ◌∷◌, ◌++◌, map, All, refl, sym, ◌∙◌, ap, subst}
 use Rattle.std.proofs.lemmas.Bool.{cases_Bool, cond-true}
 use Rattle.std.proofs.lemmas.List.Elements.{All-append}
-use Rattle.disk_model.specs.Disk.{DiskState, MayLeave}
-use Rattle.disk_model.specs.declared.name.FileName.TheVariants as file
+use Rattle.disk_model.specs.Disk.{DiskState}
 use Rattle.mdbox_base.specs.declared.entries.Highest.{Highest}
 use Rattle.mdbox_base.specs.declared.entries.MapEntry.{MapEntry}
 use Rattle.mdbox_base.specs.declared.entries.MapEntry.TheVariants as entry
-use Rattle.model_meaning.specs.MapMeaning.{MapRecord, MapMeaning, map_applied, record_made, record_changed, record_dropped, record_rules, count_given, has_map_uid, is_own, number_at, sealed_by}
+use Rattle.model_meaning.specs.MapMeaning.{MapRecord, MapMeaning, map_applied, record_made, record_changed, record_dropped, record_rules, has_map_uid, is_own, number_at, sealed_by}
 use Rattle.model_meaning.proofs.KeptRowLemmas.{kept_all, kept_rows}
 use Rattle.storage_files.specs.declared.file.MailFile.{MailFile}
 use Rattle.storage_files.specs.Files.{FilesValue}
@@ -45,7 +44,7 @@ place_same (entry.T cs) row l = record { file = refl; offset = refl; size = refl
 place_same (entry.P f t ms us) row l = absurd l
 place_same (entry.E f) row l = absurd l
 
-none_dropped : (e : MapEntry) (row : MapRecord) → LeavesPlaces e → record_dropped e row ≡ false
+pub none_dropped : (e : MapEntry) (row : MapRecord) → LeavesPlaces e → record_dropped e row ≡ false
 none_dropped (entry.H h) row l = refl
 none_dropped (entry.B b g n) row l = refl
 none_dropped (entry.G b g) row l = refl

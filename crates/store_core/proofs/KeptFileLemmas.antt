@@ -1,6 +1,6 @@
 -- What a store keeps of its storage files, over what is done to one of them.
 use Rattle.std.specs.Prelude.{◌⊎◌, Contains, slice_get}
-use Rattle.std.proofs.Common.{inl, inr, ◌≡◌, ◌≢◌, ◌<◌, ◌≤◌, ◌+◌, ◌==◌, ℕ, Bool, true, false, List, [], ◌∷◌, ◌++◌, length, Option, Some, None, All, refl, sym, ◌∙◌, ap, subst, arith, slice_index_or}
+use Rattle.std.proofs.Common.{inl, inr, ◌≡◌, ◌≢◌, ◌<◌, ◌≤◌, ◌+◌, ℕ, Bool, true, false, List, [], ◌∷◌, ◌++◌, Option, Some, None, All, refl, sym, ◌∙◌, ap, subst, arith, slice_index_or}
 use Rattle.std.specs.Prelude.{is_some, if◌then◌else◌}
 use Rattle.std.specs.Option.{option_map, option_map_or, option_and_then}
 use Rattle.std.proofs.lemmas.Bool.{cases_eq, false≢true}
@@ -8,7 +8,7 @@ use Rattle.std.proofs.lemmas.Option.{same_Some, slice_get-get_or}
 use Rattle.std.proofs.lemmas.List.Elements.{All-weaker}
 use Rattle.mdbox_base.specs.declared.entries.Highest.{Highest}
 use Rattle.mdbox_base.specs.declared.ids.FileNo.{FileNo}
-use Rattle.model_meaning.specs.MapMeaning.{MapRecord, MapMeaning, is_own, number_at, is_sealed, guid_file}
+use Rattle.model_meaning.specs.MapMeaning.{MapRecord, MapMeaning, number_at, guid_file}
 use Rattle.storage_files.specs.declared.file.MailFile.{MailFile}
 use Rattle.storage_files.specs.Files.{FilesValue, AreFilesInOrder, MayBeTakenFor, file_in, end_in, is_taken_in, changed_in, without_file, released_in, ending_at, with_taken, file_begun}
 use Rattle.storage_files.proofs.FileListLemmas.{KeepsNumber, file-none, file-found, file-here, file-other, file-gone, file-without, file-begun, file-before_begun, ends-here}

@@ -1,5 +1,5 @@
 -- Disks on which one storage file was made or added to: what they read, what a crash leaves, and what a store makes of it.
-use Rattle.std.specs.Prelude.{◌⊎◌, Contains}
+use Rattle.std.specs.Prelude.{◌⊎◌}
 use Rattle.std.specs.List.{list_any}
 use Rattle.std.proofs.Common.{inl, inr, ◌≡◌, ◌≢◌, ◌≤◌, ◌+◌, ◌==◌, ◌||◌, ℕ, Bool, true, false, List, [], ◌∷◌, ◌++◌, length, take, drop, Option, Some, None, All, refl, sym, ◌∙◌, ap, subst, arith, length-append}
 use Rattle.std.specs.Option.{option_map}
@@ -14,7 +14,6 @@ use Rattle.disk_model.specs.declared.name.FileName.TheVariants as file
 use Rattle.disk_model.proofs.NameLemmas.{same_name-true, same_name-apart}
 use Rattle.disk_model.proofs.OneFileLemmas.{named-narrows}
 use Rattle.mdbox_base.specs.declared.entries.BoxEntry.{BoxEntry}
-use Rattle.mdbox_base.specs.declared.entries.InstRow.{InstRow}
 use Rattle.mdbox_base.specs.declared.entries.MapEntry.{MapEntry}
 use Rattle.model_lists.specs.Lists.{Lists}
 use Rattle.model_logs.specs.LogFile.{IsLogFile}
@@ -80,7 +79,7 @@ region_untaken end o (Some x) row h = subst (λ (z : List ℕ). IsSameRegion o (
 
 -- ---- images of a settled disk
 
-left_image : (name : FileName) (disk : DiskState) (left : Option (List ℕ)) (image : Files) → MayLeave (disk name) left → LeftBut name disk image → IsImage disk (mixed name (λ _. left) image)
+pub left_image : (name : FileName) (disk : DiskState) (left : Option (List ℕ)) (image : Files) → MayLeave (disk name) left → LeftBut name disk image → IsImage disk (mixed name (λ _. left) image)
 left_image name disk left image here others = λ other. by_test (same_name other name) other refl
   where
     by_test : (t : Bool) (other : FileName) → same_name other name ≡ t → MayLeave (disk other) (mixed name (λ _. left) image other)
@@ -168,7 +167,7 @@ mail_added n a b octets own same added = record {
   ];
 }
 
-named_reads : (f : FileState) → reading (named f) ≡ reading f
+pub named_reads : (f : FileState) → reading (named f) ≡ reading f
 named_reads f = elim (cases_Bool f.is_there) [
   | inl there ↦ ap reading (cond-true f.is_there (record f { is_name_loose = false }) no_file there)
   | inr gone ↦ ap reading (cond-false f.is_there (record f { is_name_loose = false }) no_file gone) ∙ sym (cond-false f.is_there (Some f.octets) None gone)
@@ -197,7 +196,7 @@ mail_same n a = record {
 
 -- ---- what a store reads
 
-same_entries : (a b : Option (List ℕ)) → b ≡ a → HasSameEntries a b
+pub same_entries : (a b : Option (List ℕ)) → b ≡ a → HasSameEntries a b
 same_entries a b e = λ head entries h. subst (λ (o : Option (List ℕ)). IsLogFile o head entries) (sym e) h
 
 pub region_on : (n : ℕ) (a b : DiskState) (row : MapRecord) → MailChange n a b → LiesInFile (files_of a) row → HasSameRegion (files_of a) (files_of b) row
@@ -234,7 +233,7 @@ stored_on n a b row octets c h =
 abbrev SameLog : Files → Files → MapBox → Type 0
 SameLog a b box = HasSameEntries (a (file.Box box.number box.generation)) (b (file.Box box.number box.generation))
 
-boxes_pass : (m : MapMeaning) (a b : Files) (boxes : List MapBox) (logs : List (List BoxEntry)) → All (SameLog a b) boxes → PassBoxes a m boxes logs → PassBoxes b m boxes logs
+pub boxes_pass : (m : MapMeaning) (a b : Files) (boxes : List MapBox) (logs : List (List BoxEntry)) → All (SameLog a b) boxes → PassBoxes a m boxes logs → PassBoxes b m boxes logs
 boxes_pass m a b [] [] s h = tt
 boxes_pass m a b [] (l ∷ ls) s h = absurd h
 boxes_pass m a b (x ∷ xs) [] s h = absurd h

@@ -62,7 +62,7 @@ pub record Readied {D : Type 0} (h : Option History) (v : StoreValue D) (e : Map
   pub region : HasRegion e h
 
 -- such an entry leaves each record where it is, seals nothing, and draws no file number
-leaves_places : (e : MapEntry) → IsAppendable e → LeavesPlaces e
+pub leaves_places : (e : MapEntry) → IsAppendable e → LeavesPlaces e
 leaves_places (entry.U u) k = tt
 leaves_places (entry.D us) k = tt
 leaves_places (entry.T cs) k = tt
@@ -85,11 +85,11 @@ same_file_drawn (entry.P f t ms us) drawn = refl
 same_file_drawn (entry.E f) drawn = refl
 
 -- a log that has more room is read as before
-read_roomier : (log : LogState) (room : ℕ) (entries : List (List ℕ)) (h : Option History) → Reads log entries h → Reads (record log { room = room }) entries h
+pub read_roomier : (log : LogState) (room : ℕ) (entries : List (List ℕ)) (h : Option History) → Reads log entries h → Reads (record log { room = room }) entries h
 read_roomier log room entries None r = tt
 read_roomier log room entries (Some h) r = record { file = r.file; end = r.end; head_fits = r.head_fits; entries_fit = r.entries_fit }
 
-roomier : {D : Type 0} → (h : Option History) (v : StoreValue D) (room : ℕ) → IsStore h v → IsStore h (record v { map_log = record v.map_log { room = room } })
+pub roomier : {D : Type 0} → (h : Option History) (v : StoreValue D) (room : ℕ) → IsStore h v → IsStore h (record v { map_log = record v.map_log { room = room } })
 roomier h v room s = record {
   entries = s.entries;
   logs = s.logs;
@@ -232,7 +232,7 @@ room_to_rise h v e uid r =
 -- ---- what is read
 
 -- the logs of mailboxes are other files
-boxes_read : (g : ℕ) (store : List ℕ) (mailboxes : List MapBox) (boxes : List OpenBox) (logs : List (List BoxEntry)) (old new : Option History) → AreBoxLogs store mailboxes boxes → SameButFor (file.Map g) old new → ReadBoxLogs old boxes logs → ReadBoxLogs new boxes logs
+pub boxes_read : (g : ℕ) (store : List ℕ) (mailboxes : List MapBox) (boxes : List OpenBox) (logs : List (List BoxEntry)) (old new : Option History) → AreBoxLogs store mailboxes boxes → SameButFor (file.Map g) old new → ReadBoxLogs old boxes logs → ReadBoxLogs new boxes logs
 boxes_read g store [] [] [] old new a same r = tt
 boxes_read g store [] [] (l ∷ ls) old new a same r = absurd r
 boxes_read g store [] (b ∷ bs) logs old new a same r = absurd a

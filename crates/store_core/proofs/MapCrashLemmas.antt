@@ -150,7 +150,7 @@ added_synced (entry.E f) k h synced = absurd k
 
 -- ---- the log
 
-held_map : (disk : DiskState) (lists : Lists) (s : IsSettled disk lists) (log : LogState) (texts : List (List ℕ)) → ReadsImage disk → log.name ≡ file.Map s.safe.stands.map_log.generation → IsLogRead log texts disk → IsLogHeld log texts disk
+pub held_map : (disk : DiskState) (lists : Lists) (s : IsSettled disk lists) (log : LogState) (texts : List (List ℕ)) → ReadsImage disk → log.name ≡ file.Map s.safe.stands.map_log.generation → IsLogRead log texts disk → IsLogHeld log texts disk
 held_map disk lists s log texts own name r = record {
   reads = r;
   keeps = record {

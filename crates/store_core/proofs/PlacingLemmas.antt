@@ -41,7 +41,7 @@ some_same o a b p q = let h : Some a ≡ Some b = sym p ∙ q in cc h
 
 -- ---- the place
 
-number_at : (boxes : List OpenBox) (k : ℕ) (d : OpenBox) (number : ℕ) → k < length boxes → option_map (λ b. b.number.0) (slice_get boxes k) ≡ Some number → (slice_index_or boxes k d).number.0 ≡ number
+pub number_at : (boxes : List OpenBox) (k : ℕ) (d : OpenBox) (number : ℕ) → k < length boxes → option_map (λ b. b.number.0) (slice_get boxes k) ≡ Some number → (slice_index_or boxes k d).number.0 ≡ number
 number_at boxes k d number below is = let e : Some (slice_index_or boxes k d).number.0 ≡ Some number = sym (ap (option_map (λ (b : OpenBox). b.number.0)) (slice_get-get_or boxes k d below)) ∙ is in cc e
 
 -- the mailboxes rise, so it is the one that a look-up finds

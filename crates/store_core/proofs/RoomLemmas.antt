@@ -13,9 +13,11 @@ use Rattle.model_meaning.specs.BoxMeaning.{BoxMeaning}
 use Rattle.model_meaning.specs.MapMeaning.{MapRecord, MapBox}
 use Rattle.gate_log.specs.State.{LogState}
 use Rattle.gate_log.specs.Log.{IsLogRead, Reads}
+use Rattle.sis_store.specs.Instances.{InstancesValue}
 use Rattle.storage_files.specs.Files.{FilesValue}
 use Rattle.store_core.specs.Value.{StoreValue, indexes_of, none_due, entry_room, roomy_log, roomy_box, with_entry_room, newly_open}
 use Rattle.store_core.specs.Running.{AreBoxLogs, ReadBoxLogs, IsStore, HasEntryRoom}
+use Rattle.store_core.specs.StoreInstances.{HasKnownInstances}
 use Rattle.store_core.specs.declared.store.OpenBox.{OpenBox}
 
 pub indexes_roomy : (boxes : List OpenBox) → indexes_of (map roomy_box boxes) ≡ indexes_of boxes
@@ -76,6 +78,10 @@ boxes_roomy (b ∷ bs) = All-cons (λ (b : OpenBox). entry_room ≤ b.log.room) 
 pub room_there : {D : Type 0} → (store : StoreValue D) → HasEntryRoom (with_entry_room store)
 room_there store = record { map_log = omega arith; box_logs = boxes_roomy store.boxes }
 
+-- and its instances
+pub instances_roomy : {D : Type 0} → (h : Option History) (store : StoreValue D) → HasKnownInstances h store → HasKnownInstances h (with_entry_room store)
+instances_roomy h store k = record { kept = k.kept; running = k.running }
+
 -- nothing is due of as many records
 pub nothing_at_all : (rows : List MapRecord) → none_due rows ≡ replicate (length rows) 0
 nothing_at_all [] = refl
@@ -86,28 +92,31 @@ pub roomy_by : (a b : LogState) (n : ℕ) → n ≡ entry_room → b ≡ record 
 roomy_by a b n is e = e ∙ ap (λ (k : ℕ). record a { room = max a.room k }) is
 
 -- the store that is made of these parts
-abbrev made_of : {D : Type 0} → Global → D → OpenLogs → FilesValue → ℕ → LogState → List OpenBox → Highest → List ℕ → StoreValue D
-made_of alloc disk logs files lanes map_log boxes drawn dues = record {
+abbrev made_of : {D : Type 0} → Global → D → OpenLogs → FilesValue → InstancesValue → ℕ → LogState → List OpenBox → List OpenBox → Highest → List ℕ → StoreValue D
+made_of alloc disk logs files instances lanes map_log boxes made drawn dues = record {
   alloc = alloc;
   disk = disk;
   root_log = logs.root_log;
   map_log = map_log;
   map = logs.map.meaning;
   boxes = boxes;
+  made = made;
   files = files;
+  instances = instances;
   drawn = drawn;
   dues = dues;
   lanes = lanes;
   stopped = false;
 }
 
-pub opened_as : {D : Type 0} → (alloc : Global) (disk : D) (logs : OpenLogs) (files : FilesValue) (lanes : ℕ) (map_log : LogState) (boxes : List OpenBox) (drawn : Highest) (dues : List ℕ) → map_log ≡ roomy_log logs.map_log → boxes ≡ map roomy_box logs.boxes.items
-    → drawn ≡ logs.map.meaning.highest → dues ≡ none_due logs.map.meaning.records → made_of alloc disk logs files lanes map_log boxes drawn dues ≡ with_entry_room (newly_open alloc disk logs files lanes)
-opened_as alloc disk logs files lanes map_log boxes drawn dues a b c d =
-    ap (λ (l : LogState). made_of alloc disk logs files lanes l boxes drawn dues) a
-    ∙ ap (λ (bs : List OpenBox). made_of alloc disk logs files lanes (roomy_log logs.map_log) bs drawn dues) b
-    ∙ ap (λ (n : Highest). made_of alloc disk logs files lanes (roomy_log logs.map_log) (map roomy_box logs.boxes.items) n dues) c
-    ∙ ap (λ (ns : List ℕ). made_of alloc disk logs files lanes (roomy_log logs.map_log) (map roomy_box logs.boxes.items) logs.map.meaning.highest ns) d
+pub opened_as : {D : Type 0} → (alloc : Global) (disk : D) (logs : OpenLogs) (files : FilesValue) (instances : InstancesValue) (lanes : ℕ) (map_log : LogState) (boxes made : List OpenBox) (drawn : Highest) (dues : List ℕ) → map_log ≡ roomy_log logs.map_log → boxes ≡ map roomy_box logs.boxes.items → made ≡ []
+    → drawn ≡ logs.map.meaning.highest → dues ≡ none_due logs.map.meaning.records → made_of alloc disk logs files instances lanes map_log boxes made drawn dues ≡ with_entry_room (newly_open alloc disk logs files instances lanes)
+opened_as alloc disk logs files instances lanes map_log boxes made drawn dues a b none c d =
+    ap (λ (l : LogState). made_of alloc disk logs files instances lanes l boxes made drawn dues) a
+    ∙ ap (λ (bs : List OpenBox). made_of alloc disk logs files instances lanes (roomy_log logs.map_log) bs made drawn dues) b
+    ∙ ap (λ (bs : List OpenBox). made_of alloc disk logs files instances lanes (roomy_log logs.map_log) (map roomy_box logs.boxes.items) bs drawn dues) none
+    ∙ ap (λ (n : Highest). made_of alloc disk logs files instances lanes (roomy_log logs.map_log) (map roomy_box logs.boxes.items) [] n dues) c
+    ∙ ap (λ (ns : List ℕ). made_of alloc disk logs files instances lanes (roomy_log logs.map_log) (map roomy_box logs.boxes.items) [] logs.map.meaning.highest ns) d
 
 pub dues_taken : (rows : List MapRecord) (dues : List ℕ) (n : ℕ) → dues ≡ replicate n 0 → n ≡ length rows → dues ≡ none_due rows
 dues_taken rows dues n is size = is ∙ ap (λ (k : ℕ). replicate k 0) size ∙ sym (nothing_at_all rows)

@@ -1,14 +1,14 @@
 -- A store whose storage files have changed, or of whose disk one of them has.
-use Rattle.std.specs.Prelude.{◌⊎◌, Contains}
+use Rattle.std.specs.Prelude.{◌⊎◌}
 use Rattle.std.specs.List.{list_any}
-use Rattle.std.proofs.Common.{inl, inr, ◌≡◌, ◌≢◌, ◌<◌, ◌≤◌, ◌+◌, ◌==◌, ℕ, ◌-◌, Bool, true, false, List, [], ◌∷◌, ◌++◌, map, length, take, Option, Some, None, All, refl, sym, ◌∙◌, ap, subst, arith}
+use Rattle.std.proofs.Common.{inl, inr, ◌≡◌, ◌≢◌, ◌<◌, ◌≤◌, ◌+◌, ◌==◌, ℕ, ◌-◌, Bool, true, false, List, [], ◌∷◌, ◌++◌, map, length, Option, Some, None, refl, sym, ◌∙◌, ap, subst, arith}
 use Rattle.std.specs.Option.{option_map, option_and_then}
 use Rattle.std.proofs.lemmas.Option.{same_Some}
 use Rattle.std.proofs.lemmas.Bool.{cases_Bool, cases_eq, cond-true, cond-false, false≢true, true≢false}
-use Rattle.disk_model.specs.Disk.{Files, FileState, DiskState, History, IsImage, IsThere, IfTold, Between, SameState, SameButFor, EachImage, OthersStay, Grows, Keeps, MayLeave, reading, named, no_file}
+use Rattle.disk_model.specs.Disk.{Files, FileState, DiskState, History, IsThere, IfTold, Between, SameState, SameButFor, EachImage, OthersStay, Grows, Keeps, MayLeave, reading, named, no_file}
 use Rattle.disk_model.specs.declared.name.FileName.{FileName}
 use Rattle.disk_model.specs.declared.name.FileName.TheVariants as file
-use Rattle.disk_model.proofs.BetweenLemmas.{between-on, between-map, between-if}
+use Rattle.disk_model.proofs.BetweenLemmas.{between-on, between-map}
 use Rattle.disk_model.proofs.FirmLemmas.{reads_there}
 use Rattle.disk_model.proofs.MomentLemmas.{each_image-map, if_told-map}
 use Rattle.disk_model.proofs.OneFileLemmas.{named-narrows}
@@ -16,12 +16,10 @@ use Rattle.gate_log.specs.State.{LogState}
 use Rattle.gate_log.specs.Log.{IsLogRead, Reads}
 use Rattle.mdbox_base.specs.declared.entries.BoxEntry.{BoxEntry}
 use Rattle.mdbox_base.specs.declared.entries.Highest.{Highest}
-use Rattle.mdbox_base.specs.declared.entries.MapEntry.{MapEntry}
 use Rattle.mdbox_base.specs.declared.ids.FileNo.{FileNo}
 use Rattle.model_lists.specs.Lists.{Lists}
 use Rattle.model_logs.specs.Entries.{box_text, map_text}
 use Rattle.model_meaning.specs.MapMeaning.{MapRecord, MapBox, MapMeaning, map_meaning}
-use Rattle.model_meaning.specs.Sound.{IsSoundMap}
 use Rattle.model_store.specs.Opening.{Opens}
 use Rattle.model_store.specs.Safe.{Safe}
 use Rattle.model_store.specs.Settled.{files_of, IsSettled, IsSettledFor, Leaves}
@@ -31,7 +29,7 @@ use Rattle.model_appends.specs.Appending.{LeavesAsRead}
 use Rattle.storage_files.specs.declared.file.MailFile.{MailFile}
 use Rattle.storage_files.specs.declared.file.Take.{Take}
 use Rattle.storage_files.specs.declared.file.Take.TheVariants.{Known, New, Full}
-use Rattle.storage_files.specs.Files.{FilesValue, AreFilesInOrder, IsTakeFor, after_take, file_in, end_in, file_begun, changed_in, ending_at, released_in}
+use Rattle.storage_files.specs.Files.{FilesValue, AreFilesInOrder, IsTakeFor, after_take, file_in, end_in, file_begun, ending_at, released_in}
 use Rattle.storage_files.specs.OnDisk.{IsAsKnown, FrontStays, IsAddedTo, IsNewOrNone, OthersAreNamed}
 use Rattle.store_core.specs.Dues.{KeepsStored}
 use Rattle.store_core.specs.Files.{MayGrow, AreFilesKept, StayThere, EndsWith}
@@ -73,7 +71,7 @@ stay_added old new rows n a b octets came same added stay = λ number f found gr
           (stay number c.was c.found grown (subst IsThere e there))
     ]
 
-named_there : (f : FileState) → IsThere (named f) → IsThere f
+pub named_there : (f : FileState) → IsThere (named f) → IsThere f
 named_there f there = elim (cases_Bool f.is_there) [
   | inl is ↦ is
   | inr gone ↦ absurd (let e : named f ≡ no_file = cond-false f.is_there (record f { is_name_loose = false }) no_file gone in false≢true (subst IsThere e there))

@@ -1,5 +1,5 @@
 -- What a store keeps of its storage files, and what is placed in them.
-use Rattle.std.specs.Prelude.{◌≡◌, ◌≤◌, ◌+◌, ◌==◌, ◌⊎◌, ℕ, List, ◌++◌, length, Bool, true, false, Option, Some, None, All}
+use Rattle.std.specs.Prelude.{◌≡◌, ◌≤◌, ◌+◌, ◌==◌, ◌⊎◌, ℕ, List, ◌++◌, length, true, false, Some, None, All}
 use Rattle.std.specs.List.{list_any}
 use Rattle.disk_model.specs.Disk.{FileState, DiskState, IsThere, MayLeave, reading}
 use Rattle.disk_model.specs.declared.name.FileName.TheVariants as file

@@ -1,7 +1,10 @@
 pub mod Append
 pub mod Dues
-pub mod MapAppend
 pub mod Files
 pub mod Knows
+pub mod MadeLogs
+pub mod MapAppend
+pub mod PlaceStops
 pub mod Running
+pub mod StoreInstances
 pub mod Value

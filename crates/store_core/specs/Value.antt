@@ -1,18 +1,20 @@
 -- What a caller sees of an open store.
-use Rattle.std.specs.Prelude.{ℕ, max, Bool, false, List, map, Option}
+use Rattle.std.specs.Prelude.{ℕ, max, Bool, false, List, [], map, Option}
 use Rattle.std.specs.declared.alloc.Global.{Global}
 use Rattle.gate_log.specs.State.{LogState}
 use Rattle.mdbox_base.specs.declared.entries.Highest.{Highest}
 use Rattle.model_meaning.specs.BoxMeaning.{BoxMeaning}
 use Rattle.model_meaning.specs.MapMeaning.{MapRecord, MapMeaning}
 use Rattle.model_store.specs.Listing.{meaning_named, meaning_numbered, refs_in}
+use Rattle.sis_store.specs.Instances.{InstancesValue}
 use Rattle.storage_files.specs.Files.{FilesValue}
 use Rattle.store_core.specs.declared.store.OpenBox.{OpenBox}
 use Rattle.store_core.specs.declared.store.OpenLogs.{OpenLogs}
 
--- The allocator that it keeps; its disk; the root log; the map's log, and what it means; its mailboxes in order of number; its
--- storage files; the highest numbers drawn; what is due of each record, in the order of the map's records; for how many lanes
--- it was opened; and whether it is stopped, since a change of the disk failed.
+-- The allocator that it keeps; its disk; the root log; the map's log, and what it means; its mailboxes in order of number;
+-- those whose logs were made and which the map doesn't name yet; its storage files; its instances; the highest numbers drawn;
+-- what is due of each record, in the order of the map's records; for how many lanes it was opened; and whether it is stopped,
+-- since a change of the disk failed.
 pub record StoreValue (D : Type 0) : Type 0 where
   pub alloc : Global
   pub disk : D
@@ -20,7 +22,9 @@ pub record StoreValue (D : Type 0) : Type 0 where
   pub map_log : LogState
   pub map : MapMeaning
   pub boxes : List OpenBox
+  pub made : List OpenBox
   pub files : FilesValue
+  pub instances : InstancesValue
   pub drawn : Highest
   pub dues : List ℕ
   pub lanes : ℕ
@@ -30,17 +34,19 @@ pub record StoreValue (D : Type 0) : Type 0 where
 abbrev pub none_due : List MapRecord → List ℕ
 none_due records = map (λ row. 0) records
 
--- A store as its logs were opened, with these storage files: the numbers drawn are the map's highest, no task holds or owes
--- anything, and it isn't stopped.
-abbrev pub newly_open : {D : Type 0} → Global → D → OpenLogs → FilesValue → ℕ → StoreValue D
-newly_open alloc disk logs files lanes = record {
+-- A store as its logs were opened, with these storage files and instances: the numbers drawn are the map's highest, no task
+-- holds or owes anything, and it isn't stopped.
+abbrev pub newly_open : {D : Type 0} → Global → D → OpenLogs → FilesValue → InstancesValue → ℕ → StoreValue D
+newly_open alloc disk logs files instances lanes = record {
   alloc = alloc;
   disk = disk;
   root_log = logs.root_log;
   map_log = logs.map_log;
   map = logs.map.meaning;
   boxes = logs.boxes.items;
+  made = [];
   files = files;
+  instances = instances;
   drawn = logs.map.meaning.highest;
   dues = none_due logs.map.meaning.records;
   lanes = lanes;

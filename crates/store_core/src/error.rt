@@ -18,6 +18,17 @@ pub enum StepError {
 #[derive(Clone, Copy, Debug, PartialEq, Eq)]
 pub struct Stopped;
 
+/// Why an instance was not placed.
+#[derive(Clone, Copy, Debug, PartialEq, Eq)]
+pub enum PlaceStop {
+    /// The numbers of instances are used up. The last is told.
+    Full(u64),
+    /// A change of the disk failed: the store is stopped.
+    Stopped,
+    /// Out of memory: nothing has changed.
+    NoMemory,
+}
+
 impl From<DiskFault> for StepError {
     ghost from_gives = { λ _ error. error ≡ step_error.Stopped };
 

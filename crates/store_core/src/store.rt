@@ -1,6 +1,6 @@
 // A store that is open.
 ghost use Rattle.std.specs.Prelude.{◌≡◌, ◌↔◌, ◌<◌, ◌≤◌, ◌^◌, ◌==◌, ℕ, List, All, Some, None, IfSome, IfNone, OnOk, IsErr, IsErrOf, map, true, false, length, find, count_by, sum_by, if◌then◌else◌};
-ghost use Rattle.std.specs.Option.{option_copied, option_map, option_map_or};
+ghost use Rattle.std.specs.Option.{option_copied, option_map};
 ghost use Rattle.std.specs.Str.{bytes_eq};
 ghost use Rattle.box_index.specs.Row.{IsAdded};
 ghost use Rattle.disk_model.specs.Disk.{Grows};
@@ -14,11 +14,13 @@ ghost use Rattle.model_meaning.specs.BoxMeaning.{BoxMeaning, box_meaning, row_ma
 ghost use Rattle.model_meaning.specs.MapMeaning.{count_of};
 ghost use Rattle.model_store.specs.Opening.{HasItsRecord};
 ghost use Rattle.model_store.specs.Settled.{IsSettledFor, Leaves};
+ghost use Rattle.sis_store.specs.Instances.{AreInstances};
 ghost use Rattle.storage_files.specs.Files.{AreFilesInOrder};
 ghost use Rattle.store_core.specs.Append.{FitsBox, Brings};
 ghost use Rattle.store_core.specs.Dues.{due_at, leak_at, KeepsStored};
 ghost use Rattle.store_core.specs.Value.{indexes_of, newly_open, with_entry_room, list_named, list_numbered, references_to};
 ghost use Rattle.store_core.specs.Running.{HasEntryRoom, IsStore};
+ghost use Rattle.store_core.specs.StoreInstances.{HasKnownInstances};
 ghost use Rattle.store_core.specs.declared.error.StepError.TheVariants as step_error;
 
 use crate::append::{append_in, place_of};
@@ -30,12 +32,15 @@ use disk_model::Disk;
 use gate_log::GateLog;
 use map_index::MapIndex;
 use mdbox_base::{BoxEntry, BoxNo, Guid, Highest, Name, StoreId};
+use sis_store::Instances;
 use std::alloc::Global;
 use std::marker::Model;
 use storage_files::MailFiles;
 
 mod append_map;
+mod boxes;
 mod files;
+mod instances;
 
 /// A mailbox of an open store: its log, and what that means.
 #[derive(Drop)]
@@ -66,7 +71,10 @@ pub struct Store<D: Disk> {
     map_log: GateLog,
     map: MapIndex,
     boxes: Vec<OpenBox>,
+    /// The mailboxes whose logs were made and which the map doesn't name yet.
+    made: Vec<OpenBox>,
     files: MailFiles,
+    instances: Instances,
     drawn: Highest,
     /// What is due of each record, in the order of the map's records.
     dues: Vec<u32>,
@@ -78,30 +86,34 @@ impl<D: Disk> Model for Store<D> {
     ghost use Rattle.std.specs.Prelude.{◌≡◌};
     ghost use Rattle.store_core.specs.Value.{StoreValue};
     ghost use Rattle.store_core.specs.Running.{HasEntryRoom, IsStore};
+    ghost use Rattle.store_core.specs.MadeLogs.{KeepsMadeLogs};
+    ghost use Rattle.store_core.specs.StoreInstances.{HasKnownInstances};
 
     ghost Value = { StoreValue D };
 
-    ghost view = { λ s. record { alloc = s.alloc; disk = s.disk; root_log = s.root_log; map_log = s.map_log; map = s.map.meaning; boxes = s.boxes.items; files = s.files; drawn = s.drawn; dues = s.dues.items; lanes = s.lanes; stopped = s.stopped } };
+    ghost view = { λ s. record { alloc = s.alloc; disk = s.disk; root_log = s.root_log; map_log = s.map_log; map = s.map.meaning; boxes = s.boxes.items; made = s.made.items; files = s.files; instances = s.instances; drawn = s.drawn; dues = s.dues.items; lanes = s.lanes; stopped = s.stopped } };
 
-    ghost invariant = { λ s. (s.id.0 ≡ s.map.meaning.store) × IsStore (D.history s.disk) (record { alloc = s.alloc; disk = s.disk; root_log = s.root_log; map_log = s.map_log; map = s.map.meaning; boxes = s.boxes.items; files = s.files; drawn = s.drawn; dues = s.dues.items; lanes = s.lanes; stopped = s.stopped }) × HasEntryRoom (record { alloc = s.alloc; disk = s.disk; root_log = s.root_log; map_log = s.map_log; map = s.map.meaning; boxes = s.boxes.items; files = s.files; drawn = s.drawn; dues = s.dues.items; lanes = s.lanes; stopped = s.stopped }) };
+    ghost invariant = { λ s. (s.id.0 ≡ s.map.meaning.store) × IsStore (D.history s.disk) (record { alloc = s.alloc; disk = s.disk; root_log = s.root_log; map_log = s.map_log; map = s.map.meaning; boxes = s.boxes.items; made = s.made.items; files = s.files; instances = s.instances; drawn = s.drawn; dues = s.dues.items; lanes = s.lanes; stopped = s.stopped }) × HasEntryRoom (record { alloc = s.alloc; disk = s.disk; root_log = s.root_log; map_log = s.map_log; map = s.map.meaning; boxes = s.boxes.items; made = s.made.items; files = s.files; instances = s.instances; drawn = s.drawn; dues = s.dues.items; lanes = s.lanes; stopped = s.stopped }) × KeepsMadeLogs (D.history s.disk) (record { alloc = s.alloc; disk = s.disk; root_log = s.root_log; map_log = s.map_log; map = s.map.meaning; boxes = s.boxes.items; made = s.made.items; files = s.files; instances = s.instances; drawn = s.drawn; dues = s.dues.items; lanes = s.lanes; stopped = s.stopped }) × HasKnownInstances (D.history s.disk) (record { alloc = s.alloc; disk = s.disk; root_log = s.root_log; map_log = s.map_log; map = s.map.meaning; boxes = s.boxes.items; made = s.made.items; files = s.files; instances = s.instances; drawn = s.drawn; dues = s.dues.items; lanes = s.lanes; stopped = s.stopped }) };
 }
 
 impl<D: Disk> Store<D> {
-    /// A store whose logs were opened, with its storage files as they were found, for so many lanes, with the memory that was
-    /// taken for it. It takes no more.
+    /// A store whose logs were opened, with its storage files and instances as they were found, for so many lanes, with the
+    /// memory that was taken for it. It takes no more.
     pub fn of(
         alloc: Global,
         disk: D,
         logs: OpenLogs,
         files: MailFiles,
+        instances: Instances,
         room: StoreRoom,
         lanes: u32,
     ) -> Store<D>
         requires id { logs.map.meaning.store ≡ logs.id.0 }
-        requires store { IsStore (D.history disk) (newly_open alloc disk logs files lanes) }
+        requires store { IsStore (D.history disk) (newly_open alloc disk logs files instances lanes) }
+        requires instances { HasKnownInstances (D.history disk) (newly_open alloc disk logs files instances lanes) }
         requires untaken { All (λ f. f.taken ≡ false) files.files }
         requires room { (room.boxes ≡ length logs.boxes.items) × (room.records ≡ length logs.map.meaning.records) }
-        ensures store { result ≡ with_entry_room (newly_open alloc disk logs files lanes) }
+        ensures store { result ≡ with_entry_room (newly_open alloc disk logs files instances lanes) }
         ensures indexes { indexes_of result.boxes ≡ indexes_of logs.boxes.items }
     {
         let OpenLogs {
@@ -127,7 +139,9 @@ impl<D: Disk> Store<D> {
             map_log,
             map,
             boxes,
+            made: Vec::new(alloc),
             files,
+            instances,
             drawn,
             dues,
             lanes,
@@ -140,8 +154,11 @@ impl<D: Disk> Store<D> {
         ensures store { IsStore (D.history self.now.disk) self.now }
         ensures room { HasEntryRoom self.now }
         ensures files { AreFilesInOrder self.now.files }
+        ensures instances { HasKnownInstances (D.history self.now.disk) self.now }
+        ensures ids { AreInstances self.now.instances }
     {
         self.files.known_facts();
+        self.instances.known_facts();
     }
 
     /// Each count is made up of the listed messages, what is due of the record, and its leak.
@@ -287,7 +304,9 @@ impl<D: Disk> Store<D> {
             map_log: _map_log,
             map: _map,
             boxes: _boxes,
+            made: _made,
             files: _files,
+            instances: _instances,
             drawn: _,
             dues: _dues,
             lanes: _,
@@ -328,26 +347,18 @@ fn listed_in(index: &BoxIndex, guid: Guid) -> u64
     ensures count { result ≡ count_by (λ row. bytes_eq row.guid guid.0) index.now.meaning.rows }
     ensures short { result < 2 ^ 32 }
 {
+    index.known_facts();
     let mut count = 0;
-    for place in 0..index.length() {
-        count += one_if(index.row_at(place), guid);
+    for row in index.rows() {
+        count += one_if(row, guid);
     }
     count
 }
 
-/// 1 where the message is there and has this GUID, else 0.
-fn one_if(row: Option<BoxRow>, guid: Guid) -> u64
-    ensures one { result ≡ if option_map_or (λ row. bytes_eq row.guid.0 guid.0) row false then 1 else 0 }
+/// 1 where the message has this GUID, else 0.
+fn one_if(row: BoxRow, guid: Guid) -> u64
+    ensures one { result ≡ if bytes_eq row.guid.0 guid.0 then 1 else 0 }
     ensures most { result ≤ 1 }
 {
-    if has_guid(row, guid) { 1 } else { 0 }
-}
-
-fn has_guid(row: Option<BoxRow>, guid: Guid) -> bool
-    ensures { result ≡ option_map_or (λ row. bytes_eq row.guid.0 guid.0) row false }
-{
-    match row {
-        Some(row) => row.guid.0 == guid.0,
-        None => false,
-    }
+    if row.guid.0 == guid.0 { 1 } else { 0 }
 }

@@ -1,6 +1,6 @@
 -- Faults of the checks and of the sweep, as an opening answers them.
 use Rattle.std.proofs.Common.{◌≡◌, Result, Err, sym, ◌∙◌, ap, subst}
-use Rattle.std.specs.Prelude.{IsErrOf, IsErrAnd}
+use Rattle.std.specs.Prelude.{IfErr, IsErrOf, IsErrAnd}
 use Rattle.std.proofs.lemmas.Result.{err_from_is_err_and}
 use Rattle.disk_model.specs.Disk.{Faults}
 use Rattle.disk_model.specs.FaultCounts.{NoFault}
@@ -25,3 +25,7 @@ fault_is r is = let p = err_from_is_err_and r is in p.1 ∙ ap Err p.2
 -- no failed change was counted since
 pub none_swept : {F G : Type 0} → (old now new : Faults) → NoFault old now → (G → F) → NoFailedChange F old new → NoFailedChange G now new
 none_swept {F} {G} old now new same turn none = λ g. subst (λ (f : Faults). NoFailedChange F f new) (sym same) none (turn g)
+
+-- what holds of an error holds of it as it is answered
+pub kept_err : {T : Type 0} → (r : Result T OpenError) (e given : OpenError) (P : OpenError → Type 0) → r ≡ Err e → e ≡ given → P given → IfErr r P
+kept_err r e given P is same p = subst (λ (q : Result _ OpenError). IfErr q P) (sym is) (subst P (sym same) p)

@@ -3,6 +3,7 @@ pub mod FaultLemmas
 pub mod FirstFilesLemmas
 pub mod FirstLogsLemmas
 pub mod FoundFileLemmas
+pub mod FoundInstanceLemmas
 pub mod IdleUnlessLemmas
 pub mod NewLogLemmas
 pub mod NewStoreLemmas

@@ -1,10 +1,11 @@
 -- A new store, as it is opened.
-use Rattle.std.proofs.Common.{◌≡◌, ℕ, false, List, [], ◌∷◌, length, Option, Some, None, refl, sym, ap, subst, arith, lit≤, lit<}
+use Rattle.std.proofs.Common.{◌≡◌, ℕ, false, List, [], ◌∷◌, length, Option, Some, None, refl, sym, ◌∙◌, ap, subst, arith, lit≤, lit<}
 use Rattle.std.proofs.lemmas.List.Elements.{All-nil}
 use Rattle.disk_model.specs.Disk.{FileState, DiskState, History, IfTold, reading}
 use Rattle.disk_model.specs.declared.name.FileName.TheVariants as file
 use Rattle.disk_model.proofs.MomentLemmas.{if_told-all, if_told-map, if_told-both}
 use Rattle.mdbox_base.specs.declared.entries.MapEntry.{MapEntry}
+use Rattle.mdbox_base.specs.declared.ids.StoreId.{StoreId}
 use Rattle.model_meaning.specs.BoxMeaning.{box_meaning}
 use Rattle.model_logs.specs.Entries.{root_text, map_text}
 use Rattle.model_store.specs.GoodLogs.{AreGoodLogs}
@@ -13,20 +14,24 @@ use Rattle.model_meaning.specs.MapFits.{MapFits}
 use Rattle.model_meaning.specs.MapMeaning.{MapMeaning, map_meaning}
 use Rattle.model_store.proofs.NewStoreLemmas.{new_safe_by}
 use Rattle.model_store.specs.Opening.{Opens, IsNewStore, first_root, first_box}
+use Rattle.model_store.specs.Safe.{IsThereWhole}
 use Rattle.model_store.specs.Settled.{files_of}
 use Rattle.model_store.proofs.StoreExampleLemmas.{inbox_is_name}
 use Rattle.gate_log.specs.State.{LogState}
 use Rattle.gate_log.specs.Log.{Holds}
 use Rattle.std.specs.Option.{option_map}
+use Rattle.sis_store.specs.Instances.{InstancesValue}
+use Rattle.sis_store.specs.declared.instance.KnownInstance.{KnownInstance}
 use Rattle.storage_files.specs.Files.{file_in}
 use Rattle.storage_files.specs.declared.file.MailFile.{MailFile}
 use Rattle.store_core.specs.Files.{LiesBelowEnd, StayThere}
 use Rattle.store_core.specs.Running.{IsStore}
+use Rattle.store_core.specs.StoreInstances.{IsKnownRow, IsNamedOrFirm, AreInstancesThere, HasKnownInstances}
 use Rattle.store_core.specs.Value.{StoreValue, none_due, newly_open}
 use Rattle.store_core.specs.declared.store.OpenBox.{OpenBox}
 use Rattle.store_core.specs.declared.store.OpenLogs.{OpenLogs}
 use Rattle.std.specs.declared.alloc.Global.{Global}
-use Rattle.store_open.specs.Making.{IsMadeStore, new_root_head, new_map_head, inbox_head, no_files}
+use Rattle.store_open.specs.Making.{IsMadeStore, new_root_head, new_map_head, inbox_head, no_files, no_instances}
 use Rattle.store_open.proofs.FirstFilesLemmas.{made-new}
 
 -- ---- the map
@@ -80,15 +85,15 @@ pub record HasNewLogs (store : List ℕ) (root_log map_log box_log : LogState) (
   pub box_is : box_log ≡ record { name = file.Box 1 1; head = inbox_head store; end = 25; room = 0 }
 
 -- logs that are opened, with this meaning and these mailboxes
-abbrev opened_with : {D : Type 0} → Global → D → OpenLogs → MapMeaning → List OpenBox → StoreValue D
-opened_with alloc disk o m boxes = record { alloc = alloc; disk = disk; root_log = o.root_log; map_log = o.map_log; map = m; boxes = boxes; files = no_files; drawn = m.highest; dues = none_due m.records; lanes = 1; stopped = false }
+abbrev opened_with : {D : Type 0} → Global → D → OpenLogs → InstancesValue → MapMeaning → List OpenBox → StoreValue D
+opened_with alloc disk o instances m boxes = record { alloc = alloc; disk = disk; root_log = o.root_log; map_log = o.map_log; map = m; boxes = boxes; made = []; files = no_files; instances = instances; drawn = m.highest; dues = none_due m.records; lanes = 1; stopped = false }
 
-pub new_store : {D : Type 0} (alloc : Global) (disk : D) (store : List ℕ) (box : OpenBox) (o : OpenLogs) (new : Option History) → o.map.meaning ≡ map_meaning store (first_box ∷ []) → HasNewLogs store o.root_log o.map_log box.log new
-    → box.number.0 ≡ 1 → box.index.meaning ≡ box_meaning [] → o.boxes.items ≡ box ∷ [] → IsStore new (newly_open alloc disk o no_files 1)
-new_store alloc disk store box o new is l number index one =
+pub new_store : {D : Type 0} (alloc : Global) (disk : D) (store : List ℕ) (box : OpenBox) (o : OpenLogs) (instances : InstancesValue) (new : Option History) → o.map.meaning ≡ map_meaning store (first_box ∷ []) → HasNewLogs store o.root_log o.map_log box.log new
+    → box.number.0 ≡ 1 → box.index.meaning ≡ box_meaning [] → o.boxes.items ≡ box ∷ [] → IsStore new (newly_open alloc disk o no_files instances 1)
+new_store alloc disk store box o instances new is l number index one =
     let n = is_new store box.log new (ap (λ (s : LogState). s.head) l.box_is) l.made l.box_held in
-    let F : List OpenBox → Type 0 = λ bs. IsStore new (opened_with alloc disk o o.map.meaning bs) in
-    let G : MapMeaning → Type 0 = λ k. IsStore new (opened_with alloc disk o k (box ∷ [])) in
+    let F : List OpenBox → Type 0 = λ bs. IsStore new (opened_with alloc disk o instances o.map.meaning bs) in
+    let G : MapMeaning → Type 0 = λ k. IsStore new (opened_with alloc disk o instances k (box ∷ [])) in
     subst F (sym one) (subst G (sym is) (record {
       entries = first_box ∷ [];
       logs = [] ∷ [];
@@ -116,4 +121,18 @@ new_store alloc disk store box o new is l number index one =
         files_known = λ number. if_told-map (IsMadeStore store) (λ disk. option_map length (reading (disk (file.Mail number))) ≡ None) new (λ disk m. no_mail store disk number m) l.made;
         files_stay = if_told-all (StayThere [] []) new (λ disk number f e. absurd (no_file_in number f e));
       };
+    }))
+
+-- it knows no instance
+pub new_instances : {D : Type 0} (alloc : Global) (disk : D) (id : StoreId) (o : OpenLogs) (instances : InstancesValue) (new : Option History) → o.map.meaning ≡ map_meaning id.0 (first_box ∷ []) → instances ≡ no_instances id → IfTold new (IsMadeStore id.0) → HasKnownInstances new (newly_open alloc disk o no_files instances 1)
+new_instances alloc disk id o instances new is none made =
+    let F : InstancesValue → Type 0 = λ i. HasKnownInstances new (opened_with alloc disk o i o.map.meaning o.boxes.items) in
+    let G : MapMeaning → Type 0 = λ k. HasKnownInstances new (opened_with alloc disk o (no_instances id) k o.boxes.items) in
+    subst F (sym none) (subst G (sym is) (record {
+      kept = record { store = refl; highest = refl; named = All-nil (IsKnownRow []) };
+      running = λ on. if_told-map (IsMadeStore id.0) (AreInstancesThere [] (map_meaning id.0 (first_box ∷ []))) new (λ disk m. record {
+        whole = All-nil (λ (k : KnownInstance). IsThereWhole (files_of disk) k.row);
+        firm = All-nil (IsNamedOrFirm (map_meaning id.0 (first_box ∷ [])) disk);
+        only = λ hash i octets e. absurd (let w : None ≡ Some octets = sym (ap reading (m.nothing_else (file.Inst hash i) (λ e. cc e) (λ e. cc e) (λ e. cc e))) ∙ e in cc w);
+      }) made;
     }))

@@ -31,6 +31,7 @@ use Rattle.store_sweep.specs.Boxes.{HaveIndexes}
 use Rattle.mdbox_base.specs.declared.ids.StoreId.{StoreId}
 use Rattle.model_meaning.specs.SameMeaning.{MeansSame}
 use Rattle.model_store.specs.Settled.{files_of}
+use Rattle.sis_store.specs.Instances.{InstancesValue}
 use Rattle.storage_files.specs.Files.{FilesValue}
 use Rattle.store_open.specs.Opened.{IsOpenedAs}
 use Rattle.store_open.proofs.CheckedLemmas.{OpensAt, opens_at}
@@ -84,10 +85,10 @@ record IsKnown (store : List ℕ) (generation : ℕ) (entries : List MapEntry) (
   found : AreFound store m.boxes boxes logs now
   opens : IfTold new (OpensAt store generation entries logs)
 
-is_store : {D : Type 0} (alloc : Global) (disk : D) (generation : ℕ) (entries : List MapEntry) (logs : List (List BoxEntry)) (root log : InspectedLog) (texts : List (List ℕ)) (boxes : List CheckedBox) (o : OpenLogs) (files : FilesValue) (lanes : ℕ) (now new : Option History)
+is_store : {D : Type 0} (alloc : Global) (disk : D) (generation : ℕ) (entries : List MapEntry) (logs : List (List BoxEntry)) (root log : InspectedLog) (texts : List (List ℕ)) (boxes : List CheckedBox) (o : OpenLogs) (files : FilesValue) (instances : InstancesValue) (lanes : ℕ) (now new : Option History)
     → CountsCover → HasFiles o.map.meaning files new → IsKnown o.map.meaning.store generation entries logs o.map.meaning root log texts boxes now new → IsOpened now new root o.root_log → IsOpened now new log o.map_log → Opened now new boxes o.boxes.items → map (λ b. b.number.0) o.boxes.items ≡ map (λ b. b.number) o.map.meaning.boxes → indexes_of o.boxes.items ≡ map box_meaning logs
-    → 1 ≤ lanes → lanes ≤ 64 → IsStore new (newly_open alloc disk o files lanes)
-is_store alloc disk generation entries logs root log texts boxes o files lanes now new cover has k root_opened map_opened zip numbers indexes some few = record {
+    → 1 ≤ lanes → lanes ≤ 64 → IsStore new (newly_open alloc disk o files instances lanes)
+is_store alloc disk generation entries logs root log texts boxes o files instances lanes now new cover has k root_opened map_opened zip numbers indexes some few = record {
   entries = entries;
   logs = logs;
   generation = generation;
@@ -128,10 +129,10 @@ found_meanings (x ∷ xs) = ap (λ (ms : List BoxMeaning). x.index.meaning ∷ m
 pub indexes_are : (c : Checked) (before : List RootEntry) (entries : List MapEntry) (logs : List (List BoxEntry)) (opened : List OpenBox) (old now : Option History) → IsChecked c before entries logs old now → HaveIndexes c.map.meaning c.boxes opened → indexes_of opened ≡ map box_meaning logs
 indexes_are c before entries logs opened old now k h = open_meanings opened ∙ ap (map (λ (i : BoxState). i.meaning)) h.indexes ∙ sym (found_meanings c.boxes) ∙ k.boxes_are
 
-pub opened_store : {D : Type 0} (alloc : Global) (disk : D) (c : Checked) (before : List RootEntry) (entries : List MapEntry) (logs : List (List BoxEntry)) (o : OpenLogs) (files : FilesValue) (lanes : ℕ) (old now new : Option History) → CountsCover → HasFiles c.map.meaning files new → IsIdle old now
+pub opened_store : {D : Type 0} (alloc : Global) (disk : D) (c : Checked) (before : List RootEntry) (entries : List MapEntry) (logs : List (List BoxEntry)) (o : OpenLogs) (files : FilesValue) (instances : InstancesValue) (lanes : ℕ) (old now new : Option History) → CountsCover → HasFiles c.map.meaning files new → IsIdle old now
     → IsChecked c before entries logs old now → FilesCarry c.generation c.map.meaning now new → o.map.meaning ≡ c.map.meaning → IsOpened now new c.root_log o.root_log → IsOpened now new c.map_log o.map_log → Opened now new c.boxes o.boxes.items → HaveIndexes c.map.meaning c.boxes o.boxes.items
-    → 1 ≤ lanes → lanes ≤ 64 → IsStore new (newly_open alloc disk o files lanes)
-opened_store alloc disk c before entries logs o files lanes old now new cover has idle k carry same root_opened map_opened zip h some few =
+    → 1 ≤ lanes → lanes ≤ 64 → IsStore new (newly_open alloc disk o files instances lanes)
+opened_store alloc disk c before entries logs o files instances lanes old now new cover has idle k carry same root_opened map_opened zip h some few =
     let known : IsKnown c.map.meaning.store c.generation entries logs c.map.meaning c.root_log c.map_log (root_texts before c.generation) c.boxes now new =
     subst (λ (s : List ℕ). IsKnown s c.generation entries logs c.map.meaning c.root_log c.map_log (root_texts before c.generation) c.boxes now new) (store_is c.map.meaning c.id.0 entries k.map_is) (record {
       good = k.good;
@@ -141,7 +142,7 @@ opened_store alloc disk c before entries logs o files lanes old now new cover ha
       found = k.box_logs;
       opens = still_opens c.id.0 c.generation entries logs c.map.meaning now new k.map_is (opens_at c before entries logs old now idle k) carry;
     }) in
-    is_store alloc disk c.generation entries logs c.root_log c.map_log (root_texts before c.generation) c.boxes o files lanes now new cover (subst (λ (m : MapMeaning). HasFiles m files new) (sym same) has)
+    is_store alloc disk c.generation entries logs c.root_log c.map_log (root_texts before c.generation) c.boxes o files instances lanes now new cover (subst (λ (m : MapMeaning). HasFiles m files new) (sym same) has)
     (subst (λ (m : MapMeaning). IsKnown m.store c.generation entries logs m c.root_log c.map_log (root_texts before c.generation) c.boxes now new) (sym same) known)
     root_opened map_opened zip
     (h.numbers ∙ ap (λ (m : MapMeaning). map (λ (b : MapBox). b.number) m.boxes) (sym same)) (indexes_are c before entries logs o.boxes.items old now k h) some few

@@ -14,6 +14,8 @@ use Rattle.model_store.specs.Stands.{head_of}
 use Rattle.model_store.specs.Safe.{Safe}
 use Rattle.model_store.specs.Opening.{HasNoEntry, IsNewStore, first_root, first_box, empty_inbox}
 use Rattle.gate_log.specs.Log.{IsAtMostAsLong, log_text}
+use Rattle.mdbox_base.specs.declared.ids.StoreId.{StoreId}
+use Rattle.sis_store.specs.Instances.{InstancesValue}
 use Rattle.storage_files.specs.Files.{FilesValue}
 
 -- Where the disk has not this at the beginning, nothing has changed.
@@ -92,6 +94,10 @@ pub record IsMadeStore (store : List ℕ) (disk : DiskState) : Type 0 where
 -- a new store has no storage files, and no number of one was drawn
 abbrev pub no_files : FilesValue
 no_files = record { files = []; highest = 0; spare = 0 }
+
+-- nor has it instances
+abbrev pub no_instances : StoreId → InstancesValue
+no_instances id = record { known = []; store = id; highest = 0 }
 
 -- the files have no store, or a new one with this id, which is safe for an empty INBOX
 abbrev pub HasNothingOrInbox : List ℕ → Files → Type 0

@@ -8,7 +8,8 @@ ghost use Rattle.model_store.specs.Opening.{first_box, empty_inbox};
 ghost use Rattle.model_store.specs.Settled.{IsSettled};
 ghost use Rattle.store_core.specs.Value.{indexes_of, newly_open};
 ghost use Rattle.store_core.specs.Running.{IsStore};
-ghost use Rattle.store_open.specs.Making.{IdleUnless, IsFreeForStore, IsMadeStore, NeverHasStore, HasNothingOrInbox, no_files};
+ghost use Rattle.store_core.specs.StoreInstances.{HasKnownInstances};
+ghost use Rattle.store_open.specs.Making.{IdleUnless, IsFreeForStore, IsMadeStore, NeverHasStore, HasNothingOrInbox, no_files, no_instances};
 ghost use Rattle.store_open.specs.Opened.{IsFaulted, disk_of};
 ghost use Rattle.store_open.specs.Refused.{IsMakingError, IsOfFiles};
 
@@ -20,6 +21,7 @@ use box_index::BoxIndex;
 use disk_model::Disk;
 use map_index::MapIndex;
 use mdbox_base::{BoxNo, NoMemory, Seq, StoreId};
+use sis_store::Instances;
 use std::alloc::Global;
 use storage_files::MailFiles;
 use store_core::{OpenBox, OpenLogs, Store, StoreRoom};
@@ -44,7 +46,7 @@ pub fn init_store<D: Disk>(alloc: Global, disk: D, id: StoreId) -> Result<Store<
     ensures settled { IfOk result (λ store. IfTold (D.history store.disk) (λ now. IsSettled now empty_inbox)) }
     ensures store { IfOk result (λ store. IfTold (D.history store.disk) (IsMadeStore id.0)) }
     ensures made { IfOk result (λ store. (store.map ≡ map_meaning id.0 (first_box ∷ [])) × (indexes_of store.boxes ≡ box_meaning [] ∷ []) × (store.lanes ≡ 1) × (store.stopped ≡ false) × (store.alloc ≡ alloc) × (store.drawn ≡ store.map.highest)) }
-    ensures files { IfOk result (λ store. store.files ≡ no_files) }
+    ensures files { IfOk result (λ store. (store.files ≡ no_files) × (store.instances ≡ no_instances id)) }
 
     // Out of memory means that no store was made.
     ensures unmade { IfErr result (λ refused. refused.error ≡ OpenError.NoMemory → NeverHasStore (D.history disk) → NeverHasStore (D.history refused.disk)) }
@@ -53,7 +55,14 @@ pub fn init_store<D: Disk>(alloc: Global, disk: D, id: StoreId) -> Result<Store<
 {
     let mut disk = disk;
     match new_logs(alloc, &mut disk, id) {
-        Ok(OpenParts { logs, files, room }) => Ok(Store::of(alloc, disk, logs, files, room, 1)),
+        Ok(
+            OpenParts {
+                logs,
+                files,
+                instances,
+                room,
+            },
+        ) => Ok(Store::of(alloc, disk, logs, files, instances, room, 1)),
         Err(error) => Err(OpenRefused { error, disk }),
     }
 }
@@ -61,7 +70,9 @@ pub fn init_store<D: Disk>(alloc: Global, disk: D, id: StoreId) -> Result<Store<
 /// Makes the logs of a new store, with what they mean. Nothing wants memory once they are made.
 fn new_logs<D: Disk>(alloc: Global, disk: &mut D, id: StoreId) -> Result<OpenParts, OpenError>
     ensures id { IfOk result (λ opened. opened.logs.map.meaning.store ≡ opened.logs.id.0) }
-    ensures store { IfOk result (λ opened. IsStore (D.history disk.new) (newly_open alloc disk.new opened.logs opened.files 1)) }
+    ensures store { IfOk result (λ opened. IsStore (D.history disk.new) (newly_open alloc disk.new opened.logs opened.files opened.instances 1)) }
+    ensures known { IfOk result (λ opened. HasKnownInstances (D.history disk.new) (newly_open alloc disk.new opened.logs opened.files opened.instances 1)) }
+    ensures instances { IfOk result (λ opened. opened.instances ≡ no_instances id) }
     ensures files { IfOk result (λ opened. opened.files ≡ no_files) }
     ensures room { IfOk result (λ opened. (opened.room.boxes ≡ length opened.logs.boxes.items) × (opened.room.records ≡ length opened.logs.map.meaning.records)) }
     ensures made { IfOk result (λ opened. (opened.logs.map.meaning ≡ map_meaning id.0 (first_box ∷ [])) × (indexes_of opened.logs.boxes.items ≡ box_meaning [] ∷ [])) }
@@ -81,6 +92,7 @@ fn new_logs<D: Disk>(alloc: Global, disk: &mut D, id: StoreId) -> Result<OpenPar
     let mut boxes = Vec::with_capacity(alloc, 1)?;
     let room = StoreRoom::of(alloc, 1, 0)?;
     let files = MailFiles::of(alloc, Seq::empty(alloc), 0)?;
+    let instances = Instances::of(alloc, Seq::empty(alloc), id, 0)?;
     let made = make_files(alloc, disk, id)?;
     push_box(
         &mut boxes,
@@ -97,7 +109,12 @@ fn new_logs<D: Disk>(alloc: Global, disk: &mut D, id: StoreId) -> Result<OpenPar
         map,
         boxes,
     };
-    Ok(OpenParts { logs, files, room })
+    Ok(OpenParts {
+        logs,
+        files,
+        instances,
+        room,
+    })
 }
 
 /// What the map log of a new store means.

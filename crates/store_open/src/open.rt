@@ -9,7 +9,9 @@ ghost use Rattle.model_store.specs.Safe.{Safe};
 ghost use Rattle.store_core.specs.Value.{indexes_of, newly_open, none_due};
 ghost use Rattle.model_store.specs.Settled.{IsSettledFor};
 ghost use Rattle.store_core.specs.Running.{IsStore};
+ghost use Rattle.store_core.specs.StoreInstances.{HasKnownInstances};
 ghost use Rattle.store_files.specs.Found.{IsFoundFiles};
+ghost use Rattle.store_instances.specs.FoundInstances.{IsFoundInstances};
 ghost use Rattle.store_open.specs.Making.{IdleUnless};
 ghost use Rattle.store_open.specs.Opened.{Opening, IsOpenedAs, StoreCarries, IsOpeningError, IsFaulted, disk_of};
 ghost use Rattle.store_sweep.specs.Moments.{NoFailedChange};
@@ -18,11 +20,13 @@ ghost use Rattle.store_sweep.specs.Swept.{IsSwept};
 use crate::error::{OpenError, OpenRefused};
 use disk_model::Disk;
 use model_meaning::meanings_are_sound;
+use sis_store::Instances;
 use std::alloc::Global;
 use storage_files::MailFiles;
 use store_checks::check_store;
 use store_core::{OpenLogs, Store, StoreRoom, counts_cover_listings, listings_are_shown};
 use store_files::{find_files, highest_file_is_named};
+use store_instances::{find_instances, named_instances_are_sound};
 use store_sweep::{sweep, swept_files_are_known};
 
 /// What a store is made of beside its disk.
@@ -30,10 +34,11 @@ use store_sweep::{sweep, swept_files_are_known};
 pub(crate) struct OpenParts {
     pub(crate) logs: OpenLogs,
     pub(crate) files: MailFiles,
+    pub(crate) instances: Instances,
     pub(crate) room: StoreRoom,
 }
 
-/// Opens the store: makes the checks, finds the storage files, and then sweeps the disk.
+/// Opens the store: makes the checks, finds the instances and the storage files, and then sweeps the disk.
 pub fn open_store<D: Disk>(alloc: Global, disk: D, lanes: u32) -> Result<Store<D>, OpenRefused<D>>
     requires lanes { (1 ≤ lanes) × (lanes ≤ 64) }
 
@@ -43,6 +48,9 @@ pub fn open_store<D: Disk>(alloc: Global, disk: D, lanes: u32) -> Result<Store<D
 
     // It has the storage files that stand once the disk is swept, and knows each file as the disk has it.
     ensures files { IfOk result (λ store. IsFoundFiles store.map (D.history disk) store.files) }
+
+    // It knows the instances that records name, and no others.
+    ensures instances { IfOk result (λ store. IsFoundInstances store.map store.instances) }
 
     // Of a settled disk it shows the lists.
     ensures shows { IfOk result (λ store. (lists : Lists) → IsSettledFor lists (D.history disk) → ShowLists store.map.boxes (indexes_of store.boxes) lists) }
@@ -68,17 +76,24 @@ pub fn open_store<D: Disk>(alloc: Global, disk: D, lanes: u32) -> Result<Store<D
 {
     let mut disk = disk;
     match open_logs(alloc, &mut disk) {
-        Ok(OpenParts { logs, files, room }) => {
-            Ok(Store::of(alloc, disk, logs, files, room, lanes))
-        }
+        Ok(
+            OpenParts {
+                logs,
+                files,
+                instances,
+                room,
+            },
+        ) => Ok(Store::of(alloc, disk, logs, files, instances, room, lanes)),
         Err(error) => Err(OpenRefused { error, disk }),
     }
 }
 
-/// Makes the checks, finds the storage files, and sweeps the disk. Nothing wants memory once the disk changes.
+/// Makes the checks, finds the instances and the storage files, and sweeps the disk. Nothing wants memory once the disk changes.
 fn open_logs<D: Disk>(alloc: Global, disk: &mut D) -> Result<OpenParts, OpenError>
     ensures id { IfOk result (λ opened. opened.logs.map.meaning.store ≡ opened.logs.id.0) }
-    ensures store { IfOk result (λ opened. (lanes : ℕ) → 1 ≤ lanes → lanes ≤ 64 → IsStore (D.history disk.new) (newly_open alloc disk.new opened.logs opened.files lanes)) }
+    ensures store { IfOk result (λ opened. (lanes : ℕ) → 1 ≤ lanes → lanes ≤ 64 → IsStore (D.history disk.new) (newly_open alloc disk.new opened.logs opened.files opened.instances lanes)) }
+    ensures known { IfOk result (λ opened. (lanes : ℕ) → 1 ≤ lanes → lanes ≤ 64 → HasKnownInstances (D.history disk.new) (newly_open alloc disk.new opened.logs opened.files opened.instances lanes)) }
+    ensures instances { IfOk result (λ opened. IsFoundInstances opened.logs.map.meaning opened.instances) }
     ensures files { IfOk result (λ opened. IsFoundFiles opened.logs.map.meaning (D.history disk.old) opened.files) }
     ensures room { IfOk result (λ opened. (opened.room.boxes ≡ length opened.logs.boxes.items) × (opened.room.records ≡ length opened.logs.map.meaning.records)) }
     ensures opened { IfOk result (λ opened. IsOpenedAs (D.history disk.old) opened.logs.map.meaning (indexes_of opened.logs.boxes.items)) }
@@ -96,6 +111,8 @@ fn open_logs<D: Disk>(alloc: Global, disk: &mut D) -> Result<OpenParts, OpenErro
     let checked = check_store(alloc, disk)?;
     let boxes = Vec::with_capacity(alloc, checked.boxes.as_slice().len())?;
     let room = StoreRoom::of(alloc, checked.map.boxes(), checked.map.rows())?;
+    named_instances_are_sound();
+    let instances = find_instances(alloc, checked.id, &checked.map)?;
     highest_file_is_named();
     let files = find_files(alloc, disk, checked.id, &checked.map)?;
     let logs = sweep(alloc, disk, checked, boxes)?;
@@ -103,5 +120,10 @@ fn open_logs<D: Disk>(alloc: Global, disk: &mut D) -> Result<OpenParts, OpenErro
     counts_cover_listings();
     swept_files_are_known();
     meanings_are_sound();
-    Ok(OpenParts { logs, files, room })
+    Ok(OpenParts {
+        logs,
+        files,
+        instances,
+        room,
+    })
 }

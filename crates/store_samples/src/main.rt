@@ -4,7 +4,7 @@
 
 use anyhow::Result;
 use disk_real::RealDisk;
-use mdbox_base::{MemSink, MemSource, Octets, Seq};
+use mdbox_base::{MemClock, MemSink, MemSource, Octets, Seq};
 use mdbox_top::{Status, mdbox_run};
 use std::fs;
 use std::fs::OpenOptions;
@@ -73,6 +73,7 @@ fn run(rt: HostRuntime, words: &[&str]) -> Result<()> {
         &mut input,
         &mut output,
         &mut errors,
+        &mut MemClock::of(0, Seq::empty(alloc)),
     );
     println!(rt; "status {status}")?;
     print!(rt; "{}", str::from_utf8(output.held().as_slice())?)?;

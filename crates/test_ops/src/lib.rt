@@ -1,11 +1,16 @@
 //! Tests of requests on mailboxes, stepped by hand over a store on a disk in memory.
 #![tactic(auto)]
 
+pub use race::{AnyTask, Race, Turn};
+
 #[cfg(test)]
 mod copying;
 #[cfg(test)]
 mod expunging;
 #[cfg(test)]
 mod moving;
+mod race;
+#[cfg(test)]
+mod racing;
 #[cfg(test)]
 mod stores;

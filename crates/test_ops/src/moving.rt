@@ -1,8 +1,19 @@
 // Moves, event by event, alone and beside expunges.
+use crate::race::Turn::{One, Two};
+use crate::race::{AnyTask, Race};
 use crate::stores::{first, inbox, named, three_messages, two_mailboxes, uids};
-use mail_ops::{ExpungeTask, MoveTask};
+use disk_mem::MemDisk;
+use mail_ops::MoveTask;
 use mdbox_base::{Did, Half, Progress, Refusal, Reply, Uid};
+use std::alloc::Global;
 use std::test::Fail;
+
+/// A move of message 1 to A, and an expunge of it.
+fn move_and_expunge(alloc: Global) -> Result<Race<MemDisk>, Fail> {
+    let moving = AnyTask::moving(inbox(alloc)?, 1, named(alloc, b"A")?);
+    let expunge = AnyTask::expunge(inbox(alloc)?, 1);
+    Ok(Race::of(moving, expunge, two_mailboxes(alloc)?))
+}
 
 /// The copy is listed before the message leaves its source, and then the count falls.
 #[test]
@@ -85,17 +96,15 @@ fn a_move_to_its_own_mailbox_gives_another_uid(rt: HostRuntime) -> Result<(), Fa
 #[test]
 fn a_message_that_leaves_between_the_halves_has_gone(rt: HostRuntime) -> Result<(), Fail> {
     let (source, target) = (inbox(rt.alloc())?, named(rt.alloc(), b"A")?);
-    let mut task = MoveTask::of(inbox(rt.alloc())?, Uid(1), named(rt.alloc(), b"A")?);
-    let mut expunge = ExpungeTask::of(inbox(rt.alloc())?, Uid(1));
-    let mut store = two_mailboxes(rt.alloc())?;
-    let raised = task.step(&mut store);
-    let copied = task.step(&mut store);
-    let removed = expunge.step(&mut store);
-    let gone = (task.step(&mut store), task.did(), first(&store));
-    let lowered = (expunge.step(&mut store), first(&store));
-    let left = uids(&store, &source);
-    let moved = uids(&store, &target);
-    let _disk = store.into_disk();
+    let mut race = move_and_expunge(rt.alloc())?;
+    let raised = race.turn(One);
+    let copied = race.turn(One);
+    let removed = race.turn(Two);
+    let gone = (race.turn(One), race.did(One), first(race.store()));
+    let lowered = (race.turn(Two), first(race.store()));
+    let left = uids(race.store(), &source);
+    let moved = uids(race.store(), &target);
+    let _disk = race.into_disk();
     assert!(rt;
         matches!(
             (raised, copied, removed),
@@ -125,15 +134,13 @@ fn a_message_that_leaves_between_the_halves_has_gone(rt: HostRuntime) -> Result<
 #[test]
 fn a_move_that_is_refused_gives_the_count_back(rt: HostRuntime) -> Result<(), Fail> {
     let target = named(rt.alloc(), b"A")?;
-    let mut task = MoveTask::of(inbox(rt.alloc())?, Uid(1), named(rt.alloc(), b"A")?);
-    let mut expunge = ExpungeTask::of(inbox(rt.alloc())?, Uid(1));
-    let mut store = two_mailboxes(rt.alloc())?;
-    let raised = (task.step(&mut store), first(&store));
-    let removed = (expunge.step(&mut store), first(&store));
-    let refused = (task.step(&mut store), task.did(), first(&store));
-    let given = (task.step(&mut store), task.did(), first(&store));
-    let moved = uids(&store, &target);
-    let _disk = store.into_disk();
+    let mut race = move_and_expunge(rt.alloc())?;
+    let raised = (race.turn(One), first(race.store()));
+    let removed = (race.turn(Two), first(race.store()));
+    let refused = (race.turn(One), race.did(One), first(race.store()));
+    let given = (race.turn(One), race.did(One), first(race.store()));
+    let moved = uids(race.store(), &target);
+    let _disk = race.into_disk();
     assert!(rt; matches!(raised, (Progress::More, (1, 2))));
     assert!(rt; matches!(removed, (Progress::More, (0, 2))));
     assert!(rt; matches!(refused, (Progress::More, Did::Step(Half::CopyHalf), (0, 2))));

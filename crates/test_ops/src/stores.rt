@@ -23,6 +23,12 @@ pub fn named(alloc: Global, octets: &[u8]) -> Result<Name, Fail> {
 /// Of the map log: mailbox 2 is A, with a log of generation 1.
 const MAKES_A: &[u8] = b"B\0\0\0\x02\0\0\0\x01\x01A";
 
+/// Of the map log: mailbox 3 is B, with a log of generation 1.
+const MAKES_B: &[u8] = b"B\0\0\0\x03\0\0\0\x01\x01B";
+
+/// Of the log of a mailbox: its next UID is the last one.
+const LEAVES_ONE_UID: &[u8] = b"N\xff\xff\xff\xfe";
+
 /// The store on this disk.
 fn open_disk(alloc: Global, disk: MemDisk) -> Result<Store<MemDisk>, Fail> {
     match open_store(alloc, disk, 1) {
@@ -49,20 +55,42 @@ pub fn three_messages(alloc: Global) -> Result<Store<MemDisk>, Fail> {
     opened(alloc, &StoreFiles::three_messages(alloc)?)
 }
 
+/// A store on a disk that has these files, and logs of mailboxes with these numbers and entries.
+fn opened_with(
+    alloc: Global,
+    files: &StoreFiles,
+    logs: &[(u32, &[&[u8]])],
+) -> Result<Store<MemDisk>, Fail> {
+    let mut disk = MemDisk::fresh(alloc)?;
+    files.put(&mut disk)?;
+    for (number, entries) in logs {
+        let mut head = BOX_HEAD;
+        head.number = *number;
+        let log = log_octets(alloc, head, entries)?;
+        put_unsynced(&mut disk, FileName::Box(*number, 1), &log)?;
+    }
+    open_disk(alloc, disk)
+}
+
 /// A store with two messages in INBOX, and another mailbox, A, that is empty.
 pub fn two_mailboxes(alloc: Global) -> Result<Store<MemDisk>, Fail> {
     let map = [MAKES_INBOX, MAKES_A, STORES_FIRST, STORES_SECOND];
     let files = StoreFiles::with(alloc, &map, &[ADDS_FIRST, ADDS_SECOND], 199)?;
-    let mut head = BOX_HEAD;
-    head.number = 2;
-    let mut disk = MemDisk::fresh(alloc)?;
-    files.put(&mut disk)?;
-    put_unsynced(
-        &mut disk,
-        FileName::Box(2, 1),
-        &log_octets(alloc, head, &[])?,
-    )?;
-    open_disk(alloc, disk)
+    opened_with(alloc, &files, &[(2, &[])])
+}
+
+/// A store with one message in INBOX, and two other mailboxes, A and B, that are empty.
+pub fn three_mailboxes(alloc: Global) -> Result<Store<MemDisk>, Fail> {
+    let map = [MAKES_INBOX, MAKES_A, MAKES_B, STORES_FIRST];
+    let files = StoreFiles::with(alloc, &map, &[ADDS_FIRST], 105)?;
+    opened_with(alloc, &files, &[(2, &[]), (3, &[])])
+}
+
+/// A store with one message in INBOX, and another mailbox, A, that is empty and has one UID left.
+pub fn last_uid_free(alloc: Global) -> Result<Store<MemDisk>, Fail> {
+    let map = [MAKES_INBOX, MAKES_A, STORES_FIRST];
+    let files = StoreFiles::with(alloc, &map, &[ADDS_FIRST], 105)?;
+    opened_with(alloc, &files, &[(2, &[LEAVES_ONE_UID])])
 }
 
 /// The UIDs that the mailbox with this name lists, as digits: 12 for the UIDs 1 and 2.

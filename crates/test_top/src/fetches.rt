@@ -1,7 +1,7 @@
 // Runs that fetch, from stores that are laid out by hand from docs/formats.md.
 use disk_mem::MemDisk;
 use disk_model::{Disk, FileName};
-use mdbox_base::{MemSink, MemSource, Octets, Seq};
+use mdbox_base::{Clock, MemClock, MemSink, MemSource, Octets, Seq, Source};
 use mdbox_top::{Status, mdbox_run};
 use std::alloc::Global;
 use std::test::Fail;
@@ -69,27 +69,41 @@ fn long(alloc: Global, body: &[u8]) -> Result<MemDisk, Fail> {
     disk_of(alloc, LONG, [b"\x01", b"0000000000020001", b"20001", body])
 }
 
-/// A run with these words, whose output fails at these calls.
+/// A run with these words and without an input, whose output fails at these calls.
 pub(crate) fn run(
     alloc: Global,
     disk: MemDisk,
     words: &[&str],
     fails: Seq<u64>,
 ) -> Result<Ran, Fail> {
+    let mut input = MemSource::of(Octets::empty(alloc), Seq::empty(alloc));
+    let mut clock = MemClock::of(0, Seq::empty(alloc));
+    run_with(alloc, disk, words, &mut input, fails, &mut clock)
+}
+
+/// A run with these words, this input and this clock, whose output fails at these calls.
+pub(crate) fn run_with<I: Source, C: Clock>(
+    alloc: Global,
+    disk: MemDisk,
+    words: &[&str],
+    input: &mut I,
+    fails: Seq<u64>,
+    clock: &mut C,
+) -> Result<Ran, Fail> {
     let mut owned = Vec::new(alloc);
     for word in words {
         owned.push(String::from_str(alloc, word)?)?;
     }
-    let mut input = MemSource::of(Octets::empty(alloc), Seq::empty(alloc));
     let mut output = MemSink::of(Octets::empty(alloc), fails);
     let mut errors = MemSink::of(Octets::empty(alloc), Seq::empty(alloc));
     let (Status(status), disk) = mdbox_run(
         alloc,
         owned.as_slice(),
         disk,
-        &mut input,
+        input,
         &mut output,
         &mut errors,
+        clock,
     );
     Ok(Ran {
         disk,

@@ -6,6 +6,8 @@ mod changes;
 #[cfg(test)]
 mod counts;
 #[cfg(test)]
+mod delivers;
+#[cfg(test)]
 mod fetches;
 #[cfg(test)]
 mod moves;

@@ -1,6 +1,6 @@
 // Runs that use no disk.
 use disk_mem::MemDisk;
-use mdbox_base::{MemSink, MemSource, Octets, Seq};
+use mdbox_base::{MemClock, MemSink, MemSource, Octets, Seq};
 use mdbox_top::{Status, mdbox_run};
 use request_text::{HELP, VERSION};
 use std::alloc::Global;
@@ -45,6 +45,7 @@ fn run(
         &mut input,
         &mut output,
         &mut errors,
+        &mut MemClock::of(0, Seq::empty(alloc)),
     );
     let same = output.held().as_slice() == printed.as_bytes()
         && errors.held().as_slice() == said.as_bytes();

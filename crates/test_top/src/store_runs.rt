@@ -1,7 +1,7 @@
 // Runs of the whole program, one behind another on a disk in memory.
 use disk_mem::MemDisk;
 use disk_model::{Disk, FileName};
-use mdbox_base::{MemSink, MemSource, Octets, Seq};
+use mdbox_base::{MemClock, MemSink, MemSource, Octets, Seq};
 use mdbox_top::{Status, mdbox_run};
 use std::alloc::Global;
 use std::test::Fail;
@@ -60,6 +60,7 @@ pub fn run(
         &mut input,
         &mut output,
         &mut errors,
+        &mut MemClock::of(0, Seq::empty(alloc)),
     );
     let same = output.held().as_slice() == printed.as_bytes()
         && errors.held().as_slice() == said.as_bytes();
@@ -113,6 +114,7 @@ fn a_long_log_is_printed(rt: HostRuntime) -> Result<(), Fail> {
         &mut MemSource::of(log, Seq::empty(rt.alloc())),
         &mut output,
         &mut MemSink::of(Octets::empty(rt.alloc()), Seq::empty(rt.alloc())),
+        &mut MemClock::of(0, Seq::empty(rt.alloc())),
     );
     assert_eq!(rt; status, 0);
     assert!(rt;

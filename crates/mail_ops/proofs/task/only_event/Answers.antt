@@ -38,3 +38,6 @@ returns-in-Flag-clause-moments g c = λ lists s.
 pub returns-in-Flag-clause-settled : goal.returns-in-Flag-clause-settled
 returns-in-Flag-clause-settled g c = λ runs lists s.
     subst (λ (q : Request). IsSettledFor (lists_by_reply q c.flag.result.0 lists) (g.D.Disk.history c.flag.new.store.disk)) (sym c.in-Flag.is) (c.flag.ensures.settled runs lists s)
+
+pub returns-in-List-clause-keeps : goal.returns-in-List-clause-keeps
+returns-in-List-clause-keeps g c = λ name uid held k. k

@@ -7,17 +7,17 @@ use Rattle.mdbox_top.proofs.run.mdbox_alone.Goals as goal
 pub returns-clause-run : goal.returns-clause-run
 returns-clause-run g c =
     let told = c.report.ensures.told in
-    record { outcome = told.0; status_is = told.2; ended = last_ends c.args.command _ _ _ _ _ _ _ c.perform-outcome.result.0 told.0 told.1 c.perform-outcome.ensures.ends; told = told.3 }
+    record { outcome = told.0; status_is = told.2; ended = last_ends c.args.command _ _ _ _ _ _ _ _ c.perform-outcome.result.0 told.0 told.1 c.perform-outcome.ensures.ends; told = told.3 }
 
 pub returns-clause-status : goal.returns-clause-status
 returns-clause-status g c =
     let told = c.report.ensures.told in
-    rw told.2 (has_status c.args.command _ _ _ _ _ _ _ told.0 (last_ends c.args.command _ _ _ _ _ _ _ c.perform-outcome.result.0 told.0 told.1 c.perform-outcome.ensures.ends))
+    rw told.2 (has_status c.args.command _ _ _ _ _ _ _ _ told.0 (last_ends c.args.command _ _ _ _ _ _ _ _ c.perform-outcome.result.0 told.0 told.1 c.perform-outcome.ensures.ends))
 
 pub returns-clause-rests : goal.returns-clause-rests
 returns-clause-rests g c =
     let told = c.report.ensures.told in
-    rw told.2 (rests_last c.args.command (MayHaveFailed c.args.command (status_of c.perform-outcome.result.0)) (MayHaveFailed c.args.command (status_of told.0)) _ _ _ _ (fails_last c.args.command c.perform-outcome.result.0 told.0 told.1) c.perform-outcome.ensures.rests)
+    rw told.2 (rests_last c.args.command _ _ (MayHaveFailed c.args.command (status_of c.perform-outcome.result.0)) (MayHaveFailed c.args.command (status_of told.0)) _ _ _ _ (fails_last c.args.command c.perform-outcome.result.0 told.0 told.1) c.perform-outcome.ensures.rests)
 
 pub returns-clause-disk_quiet : goal.returns-clause-disk_quiet
 returns-clause-disk_quiet g c = λ no.

@@ -7,17 +7,17 @@ pub returns-in-Err-NoMemory-clause-run : goal.returns-in-Err-NoMemory-clause-run
 returns-in-Err-NoMemory-clause-run g c = λ said says.
     let found = (rw c.in-Err-NoMemory.field-0-is at c.in-Err-NoMemory.ensures.memory) refl in
     let told = c.report-in-Err-NoMemory.ensures.told in
-    rw (found.2.only said says) (record { outcome = told.0; status_is = told.2; ended = rw told.1 (named_unasked found.0 found.1 _ _ _ _ _); told = told.3 })
+    rw (found.2.only said says) (record { outcome = told.0; status_is = told.2; ended = rw told.1 (named_unasked found.0 found.1 _ _ _ _ _ _); told = told.3 })
 
 pub returns-in-Err-NoMemory-clause-moments : goal.returns-in-Err-NoMemory-clause-moments
 returns-in-Err-NoMemory-clause-moments g c = λ said says.
     let found = (rw c.in-Err-NoMemory.field-0-is at c.in-Err-NoMemory.ensures.memory) refl in
-    rw (found.2.only said says) (named_still found.0 found.1 _)
+    rw (found.2.only said says) (named_still found.0 found.1 _ _ _)
 
 pub returns-in-Err-NoMemory-clause-rests : goal.returns-in-Err-NoMemory-clause-rests
 returns-in-Err-NoMemory-clause-rests g c = λ said says.
     let found = (rw c.in-Err-NoMemory.field-0-is at c.in-Err-NoMemory.ensures.memory) refl in
-    rw (found.2.only said says) (named_rests found.0 found.1 _ _ _ _)
+    rw (found.2.only said says) (named_rests found.0 found.1 _ _ _ _ _ _)
 
 pub returns-in-Err-NoMemory-clause-usage : goal.returns-in-Err-NoMemory-clause-usage
 returns-in-Err-NoMemory-clause-usage g c =

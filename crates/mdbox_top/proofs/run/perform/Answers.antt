@@ -14,3 +14,6 @@ returns-in-Move-clause-rests g c = rw c.in-Move.is c.move_to.ensures.rests
 
 pub returns-in-Copy-clause-rests : goal.returns-in-Copy-clause-rests
 returns-in-Copy-clause-rests g c = rw c.in-Copy.is c.copy.ensures.rests
+
+pub returns-in-Deliver-clause-rests : goal.returns-in-Deliver-clause-rests
+returns-in-Deliver-clause-rests g c = rw c.in-Deliver.is c.deliver.ensures.rests

@@ -4,3 +4,6 @@ use Rattle.request_text.proofs.words.read_two.Goals as goal
 
 pub returns-in-list-clause-memory : goal.returns-in-list-clause-memory
 returns-in-list-clause-memory c = λ e. (command.List c.args.word.now, tt, (c.read_list.ensures.memory e, ap (λ (verb : List ℕ). verb ∷ c.args.word.now ∷ []) c.in-list.is))
+
+pub returns-in-deliver-clause-memory : goal.returns-in-deliver-clause-memory
+returns-in-deliver-clause-memory c = λ e. (command.Deliver c.args.word.now, tt, (c.read_deliver.ensures.memory e, ap (λ (verb : List ℕ). verb ∷ c.args.word.now ∷ []) c.in-deliver.is))

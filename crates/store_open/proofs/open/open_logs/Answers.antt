@@ -1,4 +1,4 @@
-use Rattle.std.proofs.Common.{rules, sym, ◌∙◌, ap, subst}
+use Rattle.std.proofs.Common.{rules, refl, sym, ◌∙◌, ap, subst}
 use Rattle.std.proofs.lemmas.Bool.{false≢true}
 use Rattle.disk_model.specs.Disk.{IsIdle}
 use Rattle.disk_model.proofs.FaultCountLemmas.{no_fault-then}
@@ -12,6 +12,7 @@ use Rattle.store_open.specs.Opened.{Opening}
 use Rattle.store_open.proofs.IdleUnlessLemmas.{stays, has_it, opening}
 use Rattle.store_open.proofs.CheckedLemmas.{names_are, all_stand, opens_at, opens_with, checked_since}
 use Rattle.store_open.proofs.FoundFileLemmas.{has_files, found_on, found_back}
+use Rattle.store_open.proofs.FoundInstanceLemmas.{instances_opened, found_as, only_found}
 use Rattle.store_open.proofs.OpenStoreLemmas.{indexes_are, opened_store, opened_as, id_is, room_is, store_is}
 use Rattle.store_open.proofs.SweptStoreLemmas.{idle_settled, idle_safe, swept_safe, swept_since, carries-idle, carries-swept, shown}
 use Rattle.store_open.proofs.FaultLemmas.{fault_is, none_swept}
@@ -23,6 +24,16 @@ pub find_files-requires-clause-id : goal.find_files-requires-clause-id
 find_files-requires-clause-id g c =
     let k = c.in_ok-checked.ensures.checked in
     sym (store_is c.in_ok-checked.checked.map.meaning c.in_ok-checked.checked.id.0 k.1 k.3.map_is)
+
+pub find_instances-requires-clause-id : goal.find_instances-requires-clause-id
+find_instances-requires-clause-id g c =
+    let k = c.in_ok-checked.ensures.checked in
+    sym (store_is c.in_ok-checked.checked.map.meaning c.in_ok-checked.checked.id.0 k.1 k.3.map_is)
+
+pub find_instances-requires-clause-sound : goal.find_instances-requires-clause-sound
+find_instances-requires-clause-sound g c =
+    let k = c.in_ok-checked.ensures.checked in
+    rw k.3.map_is (c.named_instances_are_sound.ensures c.in_ok-checked.checked.id.0 k.1 k.3.good.map_entries.1 k.3.good.map_entries.0)
 
 pub find_files-requires-clause-highest : goal.find_files-requires-clause-highest
 find_files-requires-clause-highest g c =
@@ -59,6 +70,9 @@ returns-in_err-boxes-clause-any_moment g c = λ lists s. idle_safe lists _ _ c.i
 pub returns-in_err-room-clause-any_moment : goal.returns-in_err-room-clause-any_moment
 returns-in_err-room-clause-any_moment g c = λ lists s. idle_safe lists _ _ c.in_ok-checked.ensures.idle s
 
+pub returns-in_err-instances-clause-any_moment : goal.returns-in_err-instances-clause-any_moment
+returns-in_err-instances-clause-any_moment g c = λ lists s. idle_safe lists _ _ c.in_ok-checked.ensures.idle s
+
 pub returns-in_err-files-clause-any_moment : goal.returns-in_err-files-clause-any_moment
 returns-in_err-files-clause-any_moment g c = λ lists s. idle_safe lists _ _ (idle-then _ _ _ c.in_ok-checked.ensures.idle c.in_err-files.ensures.idle) s
 
@@ -84,7 +98,21 @@ returns-clause-store g c = λ lanes some few.
     let opens = opens_with c.in_ok-checked.checked.id.0 c.in_ok-checked.checked.generation k.1 k.2 c.in_ok-checked.checked.map.meaning _ k.3.map_is (opens_at c.in_ok-checked.checked k.0 k.1 k.2 _ _ idle s) in
     let sound : IsSoundMap c.in_ok-checked.checked.map.meaning = rw k.3.map_is (c.meanings_are_sound.ensures.map c.in_ok-checked.checked.id.0 k.1 k.3.good.map_entries.1 k.3.good.map_entries.0) in
     let has = has_files c.in_ok-checked.checked.generation c.in_ok-checked.checked.map.meaning c.in_ok-files.files _ _ sound c.swept_files_are_known.ensures opens (found_on c.in_ok-checked.checked.map.meaning _ _ c.in_ok-files.files c.in_ok-files.ensures.idle c.in_ok-files.ensures.found) e.swept in
-    opened_store c.args.alloc c.sweep.new.disk c.in_ok-checked.checked k.0 k.1 k.2 c.in_ok-logs.logs c.in_ok-files.files lanes _ _ _ c.counts_cover_listings.ensures.nothing_due has idle s e.swept.reads (ap (λ i. i.meaning) e.same.1) e.root_log e.map_log e.box_logs e.same.2 some few
+    opened_store c.args.alloc c.sweep.new.disk c.in_ok-checked.checked k.0 k.1 k.2 c.in_ok-logs.logs c.in_ok-files.files c.in_ok-instances.instances lanes _ _ _ c.counts_cover_listings.ensures.nothing_due has idle s e.swept.reads (ap (λ i. i.meaning) e.same.1) e.root_log e.map_log e.box_logs e.same.2 some few
+
+pub returns-clause-known : goal.returns-clause-known
+returns-clause-known g c = λ lanes some few.
+    let k = c.in_ok-checked.ensures.checked in
+    let e = c.in_ok-logs.ensures in
+    let s = checked_since c.in_ok-checked.checked k.0 k.1 k.2 _ _ _ c.in_ok-files.ensures.idle k.3 in
+    let idle = idle-then _ _ _ c.in_ok-checked.ensures.idle c.in_ok-files.ensures.idle in
+    let opens = opens_with c.in_ok-checked.checked.id.0 c.in_ok-checked.checked.generation k.1 k.2 c.in_ok-checked.checked.map.meaning _ k.3.map_is (opens_at c.in_ok-checked.checked k.0 k.1 k.2 _ _ idle s) in
+    let sound : IsSoundMap c.in_ok-checked.checked.map.meaning = rw k.3.map_is (c.meanings_are_sound.ensures.map c.in_ok-checked.checked.id.0 k.1 k.3.good.map_entries.1 k.3.good.map_entries.0) in
+    let has = has_files c.in_ok-checked.checked.generation c.in_ok-checked.checked.map.meaning c.in_ok-files.files _ _ sound c.swept_files_are_known.ensures opens (found_on c.in_ok-checked.checked.map.meaning _ _ c.in_ok-files.files c.in_ok-files.ensures.idle c.in_ok-files.ensures.found) e.swept in
+    instances_opened _ _ (opened_store c.args.alloc c.sweep.new.disk c.in_ok-checked.checked k.0 k.1 k.2 c.in_ok-logs.logs c.in_ok-files.files c.in_ok-instances.instances lanes _ _ _ c.counts_cover_listings.ensures.nothing_due has idle s e.swept.reads (ap (λ i. i.meaning) e.same.1) e.root_log e.map_log e.box_logs e.same.2 some few) refl (found_as c.in_ok-checked.checked.map.meaning c.in_ok-logs.logs.map.meaning c.in_ok-instances.instances (ap (λ i. i.meaning) e.same.1) c.in_ok-instances.ensures) refl (only_found c.in_ok-checked.checked.generation c.in_ok-checked.checked.map.meaning c.in_ok-instances.instances _ c.in_ok-instances.ensures e.swept.only)
+
+pub returns-clause-instances : goal.returns-clause-instances
+returns-clause-instances g c = found_as c.in_ok-checked.checked.map.meaning c.in_ok-logs.logs.map.meaning c.in_ok-instances.instances (ap (λ i. i.meaning) c.in_ok-logs.ensures.same.1) c.in_ok-instances.ensures
 
 pub returns-clause-files : goal.returns-clause-files
 returns-clause-files g c =
@@ -122,6 +150,9 @@ returns-in_err-boxes-clause-settled_again g c = λ none lists s. idle_settled li
 pub returns-in_err-room-clause-settled_again : goal.returns-in_err-room-clause-settled_again
 returns-in_err-room-clause-settled_again g c = λ none lists s. idle_settled lists _ _ c.in_ok-checked.ensures.idle s
 
+pub returns-in_err-instances-clause-settled_again : goal.returns-in_err-instances-clause-settled_again
+returns-in_err-instances-clause-settled_again g c = λ none lists s. idle_settled lists _ _ c.in_ok-checked.ensures.idle s
+
 pub returns-in_err-files-clause-settled_again : goal.returns-in_err-files-clause-settled_again
 returns-in_err-files-clause-settled_again g c = λ none lists s. idle_settled lists _ _ (idle-then _ _ _ c.in_ok-checked.ensures.idle c.in_err-files.ensures.idle) s
 
@@ -143,6 +174,9 @@ returns-in_err-boxes-clause-carried g c = λ none. carries-idle _ _ c.in_ok-chec
 
 pub returns-in_err-room-clause-carried : goal.returns-in_err-room-clause-carried
 returns-in_err-room-clause-carried g c = λ none. carries-idle _ _ c.in_ok-checked.ensures.idle
+
+pub returns-in_err-instances-clause-carried : goal.returns-in_err-instances-clause-carried
+returns-in_err-instances-clause-carried g c = λ none. carries-idle _ _ c.in_ok-checked.ensures.idle
 
 pub returns-in_err-files-clause-carried : goal.returns-in_err-files-clause-carried
 returns-in_err-files-clause-carried g c = λ none. carries-idle _ _ (idle-then _ _ _ c.in_ok-checked.ensures.idle c.in_err-files.ensures.idle)
@@ -174,6 +208,9 @@ returns-in_err-boxes-clause-untouched g c = let k = c.in_ok-checked.ensures.chec
 
 pub returns-in_err-room-clause-untouched : goal.returns-in_err-room-clause-untouched
 returns-in_err-room-clause-untouched g c = let k = c.in_ok-checked.ensures.checked in has_it Opening _ _ (opening _ c.in_ok-checked.checked.id.0 k.1 k.2 k.3.opens)
+
+pub returns-in_err-instances-clause-untouched : goal.returns-in_err-instances-clause-untouched
+returns-in_err-instances-clause-untouched g c = let k = c.in_ok-checked.ensures.checked in has_it Opening _ _ (opening _ c.in_ok-checked.checked.id.0 k.1 k.2 k.3.opens)
 
 pub returns-in_err-files-clause-untouched : goal.returns-in_err-files-clause-untouched
 returns-in_err-files-clause-untouched g c = let k = c.in_ok-checked.ensures.checked in has_it Opening _ _ (opening _ c.in_ok-checked.checked.id.0 k.1 k.2 k.3.opens)

@@ -15,3 +15,6 @@ returns-in-Ok-clause-settled_again g c = λ none lists s. rw c.of.ensures.store 
 
 pub returns-in-Err-clause-settled_again : goal.returns-in-Err-clause-settled_again
 returns-in-Err-clause-settled_again g c = λ none lists s. c.in-Err.ensures.settled_again (λ fault. none (cc fault)) lists s
+
+pub of-requires-clause-instances : goal.of-requires-clause-instances
+of-requires-clause-instances g c = c.in-Ok.ensures.known c.args.lanes c.requires.lanes.0 c.requires.lanes.1

@@ -1,6 +1,7 @@
 use Rattle.std.proofs.Common.{sym, ◌∙◌}
 use Rattle.task_steps.proofs.OneEventLemmas.{leaves_none}
 use Rattle.mail_ops.proofs.ExpungeStepLemmas.{expunge_known, stopped_known}
+use Rattle.mail_ops.proofs.KeepingLemmas.{expunge_keeps}
 use Rattle.mail_ops.proofs.expunging.ExpungeTask.step.Goals as goal
 
 pub returns-then-stopped-clause-does : goal.returns-then-stopped-clause-does
@@ -41,3 +42,9 @@ returns-clause-replies g c = λ ran. (expunge_known g.D.Disk.history g.D.Disk.fa
 
 pub returns-clause-left : goal.returns-clause-left
 returns-clause-left g c = (expunge_known g.D.Disk.history g.D.Disk.faults _ _ c.replace-now.result c.next_event-next.result.0 c.next_event-next.result.1 c.next_event-next.result.2 c.args.store.now c.next_event-next.new.store c.self.view_is (sym c.replace-now.ensures.value) c.listings_are_shown.ensures.logs c.facts.ensures.store (sym c.stopped.ensures ∙ c.if-stopped.false) c.requires.due c.next_event-next.ensures).left
+
+pub returns-then-stopped-clause-keeps : goal.returns-then-stopped-clause-keeps
+returns-then-stopped-clause-keeps g c = λ name uid held k. k
+
+pub returns-clause-keeps : goal.returns-clause-keeps
+returns-clause-keeps g c = expunge_keeps _ _ c.replace-now.result c.next_event-next.result.0 c.next_event-next.result.1 c.next_event-next.result.2 c.args.store.now c.next_event-next.new.store _ _ _ _ c.next_event-next.ensures

@@ -1,6 +1,7 @@
 use Rattle.std.proofs.Common.{sym, ◌∙◌}
 use Rattle.task_steps.proofs.OneEventLemmas.{leaves_none}
 use Rattle.mail_ops.proofs.MoveStepLemmas.{move_known_by, move_ready, move_stopped}
+use Rattle.mail_ops.proofs.KeepingLemmas.{move_keeps}
 use Rattle.mail_ops.proofs.moving.MoveTask.step.Goals as goal
 
 pub returns-then-stopped-clause-does : goal.returns-then-stopped-clause-does
@@ -44,3 +45,9 @@ returns-clause-fault g c = λ ran. (move_known_by g.D.Disk.history g.D.Disk.faul
 
 pub returns-clause-replies : goal.returns-clause-replies
 returns-clause-replies g c = λ ran. (move_known_by g.D.Disk.history g.D.Disk.faults _ _ c.replace-now.result c.next_event-next.result.0 c.next_event-next.result.1 c.next_event-next.result.2 c.args.store.now c.next_event-next.new.store c.self.view_is (sym c.replace-now.ensures.value) c.listings_are_shown.ensures.logs c.facts.ensures.store (sym c.stopped.ensures ∙ c.if-stopped.false) (move_ready _ _ c.replace-now.result c.args.store.now c.self.view_is (sym c.replace-now.ensures.value) c.requires.ready) c.next_event-next.ensures).replies
+
+pub returns-then-stopped-clause-keeps : goal.returns-then-stopped-clause-keeps
+returns-then-stopped-clause-keeps g c = λ name uid held k. k
+
+pub returns-clause-keeps : goal.returns-clause-keeps
+returns-clause-keeps g c = move_keeps _ _ _ c.replace-now.result c.next_event-next.result.0 c.next_event-next.result.1 c.next_event-next.result.2 c.args.store.now c.next_event-next.new.store _ _ _ _ c.next_event-next.ensures

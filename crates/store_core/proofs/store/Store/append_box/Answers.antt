@@ -12,6 +12,9 @@ use Rattle.store_core.proofs.BoxAppendLemmas.{store_there, stopped_there}
 use Rattle.store_core.proofs.BoxCrashLemmas.{leaves_there, settled_there, stored_there, leaves_none}
 use Rattle.store_core.proofs.PickingLemmas.{indexes_kept}
 use Rattle.store_core.proofs.PlacingLemmas.{placed, place_below, must_be, read_there, fits_there, room_there, room_stays, taken_there, size_there, due_there, due_room, leak_there, how_is, dues_are_by}
+use Rattle.store_core.proofs.MadeLogLemmas.{made_stopped}
+use Rattle.store_core.proofs.MadePlaceLemmas.{made_placed}
+use Rattle.store_core.proofs.KnownInstanceLemmas.{instances_boxed, instances_stopped}
 use Rattle.store_core.proofs.store.Store.append_box.Goals as goal
 
 pub unreachable-requires : goal.unreachable-requires
@@ -39,6 +42,8 @@ invariant_of-self g c = (
   store_there _ _ _ _ c.in-Some.place c.index_mut.result.now c.append_in.new.open_box c.args.mailbox.0 c.args.entry.now _ (placed _ _ c.args.self.now c.deref.result.now c.in-Some.place c.index_mut.result.now c.args.mailbox.0 c.args.entry.now c.self.invariant.1 c.self.view_is c.deref.ensures.value c.requires.running c.requires.range c.requires.fits c.requires.held c.requires.record c.in-Some.ensures.some c.index_mut.ensures.value) c.in-Ok.ensures.same c.in-Ok.ensures.taken c.in-Ok.ensures.others c.in-Ok.ensures.added
       (dues_are_by c.self.inside.map.meaning.records c.self.inside.dues.items c.change_due.new.dues.items c.self.inside.boxes.items c.in-Some.place c.index.result.now c.index_mut.result.now c.args.entry.now c.due_change-how.result c.change_due.ensures c.due_change-how.ensures (place_below c.self.inside.boxes.items c.deref.result.now c.in-Some.place c.args.mailbox.0 c.deref.ensures.value c.in-Some.ensures.some) c.index.ensures c.index_mut.ensures.value),
   room_stays _ _ _ c.in-Some.place c.index_mut.result.now c.append_in.new.open_box c.args.mailbox.0 c.args.entry.now (placed _ _ c.args.self.now c.deref.result.now c.in-Some.place c.index_mut.result.now c.args.mailbox.0 c.args.entry.now c.self.invariant.1 c.self.view_is c.deref.ensures.value c.requires.running c.requires.range c.requires.fits c.requires.held c.requires.record c.in-Some.ensures.some c.index_mut.ensures.value) c.self.invariant.2 c.in-Ok.ensures.same.log.room refl refl,
+  made_placed _ _ _ _ c.in-Some.place c.index_mut.result.now c.args.mailbox.0 c.args.entry.now (placed _ _ c.args.self.now c.deref.result.now c.in-Some.place c.index_mut.result.now c.args.mailbox.0 c.args.entry.now c.self.invariant.1 c.self.view_is c.deref.ensures.value c.requires.running c.requires.range c.requires.fits c.requires.held c.requires.record c.in-Some.ensures.some c.index_mut.ensures.value) refl refl refl refl refl c.in-Ok.ensures.others c.self.invariant.3,
+  instances_boxed _ _ _ _ c.in-Some.place c.index_mut.result.now c.args.mailbox.0 c.args.entry.now (placed _ _ c.args.self.now c.deref.result.now c.in-Some.place c.index_mut.result.now c.args.mailbox.0 c.args.entry.now c.self.invariant.1 c.self.view_is c.deref.ensures.value c.requires.running c.requires.range c.requires.fits c.requires.held c.requires.record c.in-Some.ensures.some c.index_mut.ensures.value) c.self.invariant.4 c.in-Ok.ensures.others refl refl refl,
 )
 
 pub invariant_of-self-in-Err-Stopped : goal.invariant_of-self-in-Err-Stopped
@@ -46,6 +51,8 @@ invariant_of-self-in-Err-Stopped g c = (
   c.self.invariant.0,
   stopped_there _ _ _ _ c.in-Some.place c.index_mut.result.now c.append_in.new.open_box c.args.mailbox.0 c.args.entry.now (placed _ _ c.args.self.now c.deref.result.now c.in-Some.place c.index_mut.result.now c.args.mailbox.0 c.args.entry.now c.self.invariant.1 c.self.view_is c.deref.ensures.value c.requires.running c.requires.range c.requires.fits c.requires.held c.requires.record c.in-Some.ensures.some c.index_mut.ensures.value) c.in-Err-Stopped.ensures.same (c.in-Err-Stopped.ensures.untaken refl),
   room_stays _ _ _ c.in-Some.place c.index_mut.result.now c.append_in.new.open_box c.args.mailbox.0 c.args.entry.now (placed _ _ c.args.self.now c.deref.result.now c.in-Some.place c.index_mut.result.now c.args.mailbox.0 c.args.entry.now c.self.invariant.1 c.self.view_is c.deref.ensures.value c.requires.running c.requires.range c.requires.fits c.requires.held c.requires.record c.in-Some.ensures.some c.index_mut.ensures.value) c.self.invariant.2 c.in-Err-Stopped.ensures.same.log.room refl refl,
+  made_stopped _ _ _ _ refl refl refl refl refl c.self.invariant.3,
+  instances_stopped _ _ _ _ c.self.invariant.4 refl refl refl refl,
 )
 
 pub returns-in-Ok-clause-any_moment : goal.returns-in-Ok-clause-any_moment

@@ -1,5 +1,6 @@
 use Rattle.std.proofs.Common.{rules, ◌≡◌, sym, ◌∙◌, ap, subst, refl}
 use Rattle.disk_model.specs.Disk.{Between}
+use Rattle.gate_log.specs.State.{LogState}
 use Rattle.model_lists.specs.Lists.{Lists}
 use Rattle.model_appends.proofs.AppendMapOpenLemmas.{same_record}
 use Rattle.model_meaning.specs.MapMeaning.{MapMeaning, map_applied, record_at, record_changed}
@@ -11,6 +12,8 @@ use Rattle.store_core.proofs.BoxCrashLemmas.{leaves_none}
 use Rattle.store_core.proofs.MapAppendLemmas.{readied, seen_prepared, store_after, room_after, read_with, size_with, room_to_rise, due_seen, leak_seen, made_with}
 use Rattle.store_core.proofs.MapCrashLemmas.{leaves_with, settled_with, stored_with, still_stored}
 use Rattle.store_core.proofs.MapDueLemmas.{adds, mailboxes_stay, found_with}
+use Rattle.store_core.proofs.MadePlaceLemmas.{made_with_entry}
+use Rattle.store_core.proofs.KnownInstanceLemmas.{instances_with}
 use Rattle.store_core.proofs.store.Store.append_map.Goals as goal
 
 pub append_entry-requires-clause-read : goal.append_entry-requires-clause-read
@@ -27,6 +30,8 @@ invariant_of-self-in-Ok g c = (
   c.self.invariant.0 ∙ ap (λ (m : MapMeaning). m.store) (sym (c.take_in.ensures ∙ ap (map_applied c.args.entry.now) c.take_room.ensures.map)),
   store_after _ _ _ c.append_entry.new.disk c.append_entry.new.log c.args.entry.now c.take_in.new.map.meaning c.drawn_with-self-inside.result c.change_dues.new.dues.items (readied _ _ c.args.self.now c.take_room.new.log c.take_room.new.map.meaning c.take_room.new.dues.items c.args.entry.now c.self.invariant.1 c.self.view_is c.take_room.ensures.log c.take_room.ensures.map c.take_room.ensures.dues c.requires.running c.requires.range c.requires.kind c.requires.fits c.requires.drawn c.requires.due c.requires.below (subst (λ v. HasRegion c.args.entry.now (g.D.Disk.history v.disk)) (sym c.self.view_is) c.requires.region)) c.in-Ok.ensures.log c.in-Ok.ensures.others c.in-Ok.ensures.added c.take_in.ensures c.drawn_with-self-inside.ensures c.change_dues.ensures,
   room_after _ _ c.take_room.new.log c.self.invariant.2 c.take_room.ensures.no_less c.in-Ok.ensures.log.room refl,
+  made_with_entry _ _ _ _ _ c.args.entry.now (readied _ _ c.args.self.now c.take_room.new.log c.take_room.new.map.meaning c.take_room.new.dues.items c.args.entry.now c.self.invariant.1 c.self.view_is c.take_room.ensures.log c.take_room.ensures.map c.take_room.ensures.dues c.requires.running c.requires.range c.requires.kind c.requires.fits c.requires.drawn c.requires.due c.requires.below (subst (λ v. HasRegion c.args.entry.now (g.D.Disk.history v.disk)) (sym c.self.view_is) c.requires.region)) c.take_in.ensures c.drawn_with-self-inside.ensures c.take_room.ensures.map refl refl c.in-Ok.ensures.others c.self.invariant.3,
+  instances_with c.take_room.new.log.name c.self.invariant.1.generation _ _ _ _ c.args.entry.now c.self.invariant.4 c.requires.kind (ap (λ (l : LogState). l.name) c.take_room.ensures.log ∙ c.self.invariant.1.map_name) c.in-Ok.ensures.others refl c.drawn_with-self-inside.ensures (c.take_in.ensures ∙ ap (map_applied c.args.entry.now) c.take_room.ensures.map) (λ on. on),
 )
 
 pub returns-in_err-text-clause-any_moment : goal.returns-in_err-text-clause-any_moment

@@ -1,11 +1,13 @@
-use Rattle.std.proofs.Common.{◌≡◌, ℕ, true, false, None, sym, ◌∙◌, ap, subst}
-use Rattle.disk_model.specs.Disk.{Grows, IfTold}
+use Rattle.std.proofs.Common.{◌≡◌, ◌∙◌, ap, subst, refl}
 use Rattle.model_lists.specs.Lists.{Lists}
 use Rattle.model_store.specs.Settled.{IsSettledFor, Leaves}
 use Rattle.storage_files.specs.Files.{end_in, is_taken_in}
 use Rattle.store_core.specs.Dues.{KeepsStored}
 use Rattle.store_core.proofs.KeptFileLemmas.{ends_made}
-use Rattle.store_core.proofs.StoreFileLemmas.{made_store, made_leaves, change_made, settled_then, stored_then, absent_there, each_grows, room_kept}
+use Rattle.store_core.proofs.StoreFileLemmas.{made_store, made_leaves, change_made, settled_then, stored_then, absent_there, room_kept}
+use Rattle.disk_model.specs.declared.name.FileName.TheVariants as file
+use Rattle.store_core.proofs.MadeLogLemmas.{made_named}
+use Rattle.store_core.proofs.KnownInstanceLemmas.{instances_made}
 use Rattle.store_core.proofs.store.Store.make_file.Goals as goal
 
 pub invariant_of-self-in_default : goal.invariant_of-self-in_default
@@ -15,6 +17,8 @@ invariant_of-self-in_default g c =
       c.self.invariant.0,
       made_store c.args.file.0 c.args.header.now _ _ _ c.make_file.new.disk c.make_file.new.self c.self.invariant.1 runs (g.met.D.Disk.reads_image c.self.inside.disk) absent c.in_default.ensures.ok c.in_default.ensures.others c.in_default.ensures.made c.in_default.ensures.still_known,
       room_kept _ c.make_file.new.disk c.make_file.new.self c.self.inside.drawn c.self.inside.stopped c.self.invariant.2,
+      made_named _ _ _ _ (file.Mail c.args.file.0) refl refl refl refl refl (λ number e. absurd (let w : file.Box number 1 ≡ file.Mail c.args.file.0 = e in cc w)) c.in_default.ensures.others c.self.invariant.3,
+      instances_made c.args.file.0 _ _ _ _ c.self.invariant.4 c.in_default.ensures.others refl refl refl (λ on. on),
     )
 
 pub returns-clause-any_moment : goal.returns-clause-any_moment

@@ -1,12 +1,14 @@
-use Rattle.std.proofs.Common.{◌≡◌, ℕ, true, false, Some, sym, ◌∙◌, ap, subst}
+use Rattle.std.proofs.Common.{◌≡◌, ◌∙◌, ap, subst, refl}
 use Rattle.disk_model.specs.Disk.{Grows}
 use Rattle.model_lists.specs.Lists.{Lists}
 use Rattle.model_store.specs.Settled.{IsSettledFor, Leaves}
 use Rattle.storage_files.specs.Files.{end_in, is_taken_in}
 use Rattle.store_core.specs.Dues.{KeepsStored}
-use Rattle.store_core.specs.Files.{EndsWith}
 use Rattle.store_core.proofs.KeptFileLemmas.{file_there, ends_longer}
 use Rattle.store_core.proofs.StoreFileLemmas.{placed_store, placed_leaves, change_added, settled_then, stored_then, held_then, ends_with, each_grows, room_kept}
+use Rattle.disk_model.specs.declared.name.FileName.TheVariants as file
+use Rattle.store_core.proofs.MadeLogLemmas.{made_beside}
+use Rattle.store_core.proofs.KnownInstanceLemmas.{instances_placed}
 use Rattle.store_core.proofs.store.Store.place.Goals as goal
 
 pub invariant_of-self : goal.invariant_of-self
@@ -15,6 +17,8 @@ invariant_of-self g c =
       c.self.invariant.0,
       placed_store c.args.file.0 c.in-Ok.offset c.args.octets.now _ _ _ c.place.new.disk c.place.new.self c.self.invariant.1 runs (g.met.D.Disk.reads_image c.self.inside.disk) c.in-Ok.ensures.offset c.in-Ok.ensures.ok c.in-Ok.ensures.others c.in-Ok.ensures.added c.in-Ok.ensures.still_known,
       room_kept _ c.place.new.disk c.place.new.self c.self.inside.drawn c.self.inside.stopped c.self.invariant.2,
+      made_beside _ _ _ _ (file.Mail c.args.file.0) refl refl refl refl refl (λ number e. absurd (let w : file.Box number 1 ≡ file.Mail c.args.file.0 = e in cc w)) c.in-Ok.ensures.others c.self.invariant.3,
+      instances_placed c.args.file.0 _ _ _ _ c.self.invariant.4 c.in-Ok.ensures.others refl refl refl (λ on. on),
     )
 
 pub returns-in-Ok-clause-any_moment : goal.returns-in-Ok-clause-any_moment

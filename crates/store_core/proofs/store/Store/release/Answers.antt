@@ -1,4 +1,7 @@
+use Rattle.std.proofs.Common.{refl}
 use Rattle.store_core.proofs.StoreFileLemmas.{released_store, room_kept}
+use Rattle.store_core.proofs.MadeLogLemmas.{made_still}
+use Rattle.store_core.proofs.KnownInstanceLemmas.{instances_still}
 use Rattle.store_core.proofs.store.Store.release.Goals as goal
 
 pub invariant_of-self : goal.invariant_of-self
@@ -6,4 +9,6 @@ invariant_of-self g c = (
   c.self.invariant.0,
   released_store _ _ c.release.new.self c.args.file.0 c.release.ensures.files c.release.ensures.ends c.self.invariant.1,
   room_kept _ c.self.inside.disk c.release.new.self c.self.inside.drawn c.self.inside.stopped c.self.invariant.2,
+  made_still _ _ _ refl refl refl refl refl c.self.invariant.3,
+  instances_still _ _ _ c.self.invariant.4 refl refl refl (λ on. on),
 )

@@ -1,4 +1,7 @@
+use Rattle.std.proofs.Common.{refl}
 use Rattle.store_core.proofs.StoreFileLemmas.{new_store, known_store, room_kept}
+use Rattle.store_core.proofs.MadeLogLemmas.{made_still}
+use Rattle.store_core.proofs.KnownInstanceLemmas.{instances_still}
 use Rattle.store_core.proofs.store.Store.take_for.Goals as goal
 
 pub invariant_of-self : goal.invariant_of-self
@@ -6,6 +9,8 @@ invariant_of-self g c = (
   c.self.invariant.0,
   new_store _ _ c.take_for-take.new.self c.args.size c.in-New.file c.known_facts.ensures c.in-New.ensures.take c.in-New.ensures.files c.take_for-take.ensures.ends c.self.invariant.1,
   room_kept _ c.self.inside.disk c.take_for-take.new.self (record c.self.inside.drawn { file = c.in-New.file.0 }) c.self.inside.stopped c.self.invariant.2,
+  made_still _ _ _ refl refl refl refl refl c.self.invariant.3,
+  instances_still _ _ _ c.self.invariant.4 refl refl refl (λ on. on),
 )
 
 pub invariant_of-self-in_default : goal.invariant_of-self-in_default
@@ -13,4 +18,6 @@ invariant_of-self-in_default g c = (
   c.self.invariant.0,
   known_store _ _ c.take_for-take.new.self c.args.size c.take_for-take.result c.in_default.not-New c.known_facts.ensures c.take_for-take.ensures.take c.take_for-take.ensures.files c.take_for-take.ensures.ends c.self.invariant.1,
   room_kept _ c.self.inside.disk c.take_for-take.new.self c.self.inside.drawn c.self.inside.stopped c.self.invariant.2,
+  made_still _ _ _ refl refl refl refl refl c.self.invariant.3,
+  instances_still _ _ _ c.self.invariant.4 refl refl refl (λ on. on),
 )

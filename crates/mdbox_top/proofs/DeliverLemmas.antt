@@ -1,0 +1,220 @@
+-- How a delivery ends: by what was read, and by its request alone.
+use Rattle.std.specs.Prelude.{◌≡◌, ◌≤◌, ◌<◌, ◌⊎◌, ℕ, false, List, [], ◌∷◌, length, Option, Some, None}
+use Rattle.std.proofs.Common.{refl, sym, ◌∙◌, ap, subst, inl, inr, arith}
+use Rattle.disk_model.specs.Disk.{Files, History, Faults}
+use Rattle.disk_model.proofs.MomentLemmas.{each_image-map}
+use Rattle.mdbox_base.specs.Streams.{Rose, Refused}
+use Rattle.mdbox_base.specs.declared.entries.Highest.{Highest}
+use Rattle.mdbox_base.specs.declared.ids.Guid.{Guid}
+use Rattle.mdbox_base.specs.declared.ids.Uid.{Uid}
+use Rattle.mdbox_base.specs.declared.replies.Refusal.{Refusal}
+use Rattle.mdbox_base.specs.declared.replies.Refusal.TheVariants as refusal
+use Rattle.mdbox_base.specs.declared.replies.Reply.{Reply}
+use Rattle.mdbox_base.specs.declared.replies.Reply.TheVariants as reply
+use Rattle.mdbox_base.specs.declared.requests.Request.TheVariants as request
+use Rattle.mdbox_base.specs.declared.stream.InputError.{InputError}
+use Rattle.mdbox_base.specs.declared.stream.InputError.TheVariants as read
+use Rattle.model_lists.specs.Lists.{Lists}
+use Rattle.model_store.specs.Safe.{Safe}
+use Rattle.model_store.specs.Settled.{IsSettledFor}
+use Rattle.task_steps.specs.Step.{HasNotBegun}
+use Rattle.task_steps.proofs.OneEventLemmas.{not_true}
+use Rattle.store_core.specs.Running.{IsStore}
+use Rattle.store_core.specs.Value.{StoreValue, indexes_of, list_named}
+use Rattle.mail_ops.specs.Task.{seen_of}
+use Rattle.store_open.specs.Opened.{IsOpenedAs}
+use Rattle.store_open.specs.declared.error.OpenError.{OpenError}
+use Rattle.store_open.specs.declared.error.OpenError.TheVariants as error
+use Rattle.request_text.specs.Outcomes.{status_of}
+use Rattle.request_text.specs.declared.outcome.InputRefusal.{InputRefusal}
+use Rattle.request_text.specs.declared.outcome.InputRefusal.TheVariants as input
+use Rattle.request_text.specs.declared.outcome.StoreRefusal.{StoreRefusal}
+use Rattle.request_text.specs.declared.outcome.Outcome.{Outcome}
+use Rattle.request_text.specs.declared.outcome.Outcome.TheVariants as outcome
+use Rattle.mdbox_top.specs.Alone.{IsDoneAlone, IsUnopened}
+use Rattle.mdbox_top.specs.Changed.{saved_lists, lists_told}
+use Rattle.mdbox_top.specs.ChangeEvents.{IsAlike, AreAlongSave, SavesAlone}
+use Rattle.mdbox_top.specs.DeliverRun.{undelivered_cause, IsDeliverAnswer, OpensAlike, IsDeliverReply, SaveOutcome, AreSaved, SaveMoments, SaveRests, unread_outcome, IsUnread, DeliverOutcome, DeliverRests, DeliverStatus}
+use Rattle.mdbox_top.specs.InputRun.{IsOneOf}
+use Rattle.mdbox_top.specs.OpeningOutcome.{opening_outcome}
+use Rattle.mdbox_top.proofs.AloneLemmas.{alone_faults}
+use Rattle.mdbox_top.proofs.ChangeLemmas.{opens_unchanged, moments_as}
+use Rattle.mdbox_top.proofs.CopyLemmas.{one_refusal}
+use Rattle.mdbox_top.proofs.InputLemmas.{long_told}
+use Rattle.mdbox_top.proofs.RequestLemmas.{opening_number, shown_number, request_status, request_used, request_input, request_damage}
+use Rattle.mdbox_top.proofs.ServedLemmas.{OpenedNow, way_opens}
+use Rattle.mdbox_top.proofs.ShownLemmas.{LogsShow, opens_again}
+use Rattle.mdbox_top.proofs.UnderWayLemmas.{before_opening}
+
+-- ---- the end of a run
+
+pub deliver_input : (name : List ℕ) (left : Option (List ℕ)) (told : Option ℕ) (h k : Option (List ℕ)) (old new : Option History) (f g : Faults) (why : InputRefusal) → DeliverOutcome name left told h k old new f g (outcome.InputRefused why) → DeliverOutcome name left told h k old new f g outcome.NoMemory
+deliver_input name left told h k old new f g why (inl u) = inl (tt, u.1, u.2)
+deliver_input name left told h k old new f g why (inr d) = absurd (request_input (IsDeliverReply name d.1 d.0) (request.Deliver name d.1 d.0) h k old new f g why d.4)
+
+pub deliver_damage : (name : List ℕ) (left : Option (List ℕ)) (told : Option ℕ) (h k : Option (List ℕ)) (old new : Option History) (f g : Faults) (s : StoreRefusal) → DeliverOutcome name left told h k old new f g (outcome.StoreRefused s) → DeliverOutcome name left told h k old new f g outcome.NoMemory
+deliver_damage name left told h k old new f g s (inl u) = absurd u.0
+deliver_damage name left told h k old new f g s (inr d) = inr (d.0, d.1, d.2, d.3, request_damage (IsDeliverReply name d.1 d.0) (request.Deliver name d.1 d.0) h k old new f g s d.4)
+
+pub deliver_used : (name : List ℕ) (left : Option (List ℕ)) (told : Option ℕ) (h k : Option (List ℕ)) (old new : Option History) (f g : Faults) → DeliverOutcome name left told h k old new f g outcome.Usage → ⊥
+deliver_used name left told h k old new f g (inl u) = u.0
+deliver_used name left told h k old new f g (inr d) = request_used (IsDeliverReply name d.1 d.0) (request.Deliver name d.1 d.0) h k old new f g d.4
+
+-- a message that wasn't read
+unread_number : (all : List ℕ) (o : Outcome) → IsUnread (Some all) o → IsOneOf (4 ∷ 5 ∷ 7 ∷ []) (status_of o)
+unread_number all (outcome.InputRefused why) u = inl refl
+unread_number all outcome.NoMemory u = inr (inl refl)
+unread_number all outcome.ReadFault u = inr (inr (inl refl))
+unread_number all outcome.Done u = absurd u
+unread_number all outcome.No u = absurd u
+unread_number all outcome.Usage u = absurd u
+unread_number all outcome.DiskFault u = absurd u
+unread_number all outcome.WriteFault u = absurd u
+unread_number all (outcome.StoreRefused why) u = absurd u
+
+pub unread_apart : (left : Option (List ℕ)) (o : Outcome) → IsUnread left o → (o ≡ outcome.DiskFault) ⊎ (o ≡ outcome.WriteFault) → ⊥
+unread_apart left o u (inl e) = subst (IsUnread left) e u
+unread_apart left o u (inr e) = subst (IsUnread left) e u
+
+-- an input that isn't too long isn't refused
+short_number : (all : List ℕ) (o : Outcome) → length all ≤ 67108864 → IsUnread (Some all) o → IsOneOf (0 ∷ 1 ∷ 5 ∷ 6 ∷ 7 ∷ 8 ∷ []) (status_of o)
+short_number all (outcome.InputRefused (input.TooLong limit)) short u = absurd (let long = subst (λ (text : List ℕ). 67108864 < length text) (sym u.1.1) u.1.2 in omega (arith, short, long))
+short_number all (outcome.InputRefused other) short u = absurd u
+short_number all outcome.NoMemory short u = inr (inr (inl refl))
+short_number all outcome.ReadFault short u = inr (inr (inr (inr (inl refl))))
+short_number all outcome.Done short u = absurd u
+short_number all outcome.No short u = absurd u
+short_number all outcome.Usage short u = absurd u
+short_number all outcome.DiskFault short u = absurd u
+short_number all outcome.WriteFault short u = absurd u
+short_number all (outcome.StoreRefused why) short u = absurd u
+
+one_more : (n : ℕ) → IsOneOf (0 ∷ 1 ∷ 5 ∷ 6 ∷ 8 ∷ []) n → IsOneOf (0 ∷ 1 ∷ 5 ∷ 6 ∷ 7 ∷ 8 ∷ []) n
+one_more n (inl a) = inl a
+one_more n (inr (inl a)) = inr (inl a)
+one_more n (inr (inr (inl a))) = inr (inr (inl a))
+one_more n (inr (inr (inr (inl a)))) = inr (inr (inr (inl a)))
+one_more n (inr (inr (inr (inr (inl a))))) = inr (inr (inr (inr (inr (inl a)))))
+one_more n (inr (inr (inr (inr (inr a))))) = absurd a
+
+pub deliver_status : (name : List ℕ) (left : Option (List ℕ)) (told : Option ℕ) (h k : Option (List ℕ)) (old new : Option History) (f g : Faults) (o : Outcome) → DeliverOutcome name left told h k old new f g o → DeliverStatus left old (status_of o)
+deliver_status name None told h k old new f g o e = tt
+deliver_status name (Some all) told h k old new f g o (inl u) = (λ long. unread_number all o u.0, λ short lists s. short_number all o short u.0)
+deliver_status name (Some all) told h k old new f g o (inr d) = (
+  λ long. absurd (let short = subst (λ (text : List ℕ). length text ≤ 67108864) (sym d.2.0) d.2.1 in omega (arith, long, short)),
+  λ short lists s. one_more (status_of o) (request_status (IsDeliverReply name d.1 d.0) (request.Deliver name d.1 d.0) h k old new f g o d.4 lists s),
+)
+
+pub deliver_rests_as : (name : List ℕ) (left : Option (List ℕ)) (told : Option ℕ) (F G : Type 0) (f g : Faults) (old new : Option History) → (F → G) → DeliverRests name left told F f g old new → DeliverRests name left told G f g old new
+deliver_rests_as name left told F G f g old new h (inl same) = inl same
+deliver_rests_as name left told F G f g old new h (inr d) = inr (d.0, d.1, d.2, d.3, λ none. d.4 (λ failed. none (h failed)))
+
+-- no request ends as a fault of what it reads
+opened_number : (n m : ℕ) → IsOneOf (3 ∷ 5 ∷ 6 ∷ []) m → n ≡ m → n ≡ 7 → ⊥
+opened_number n m (inl a) e f = omega (arith, a, e, f)
+opened_number n m (inr (inl a)) e f = omega (arith, a, e, f)
+opened_number n m (inr (inr (inl a))) e f = omega (arith, a, e, f)
+opened_number n m (inr (inr (inr a))) e f = a
+
+replied_number : (n : ℕ) → IsOneOf (0 ∷ 1 ∷ 5 ∷ 6 ∷ 8 ∷ []) n → n ≡ 7 → ⊥
+replied_number n (inl a) f = omega (arith, a, f)
+replied_number n (inr (inl a)) f = omega (arith, a, f)
+replied_number n (inr (inr (inl a))) f = omega (arith, a, f)
+replied_number n (inr (inr (inr (inl a)))) f = omega (arith, a, f)
+replied_number n (inr (inr (inr (inr (inl a))))) f = omega (arith, a, f)
+replied_number n (inr (inr (inr (inr (inr a))))) f = a
+
+pub save_reads : (name : List ℕ) (time : ℕ) (octets : List ℕ) (h k : Option (List ℕ)) (old new : Option History) (f g : Faults) (o : Outcome) → SaveOutcome name time octets h k old new f g o → o ≡ outcome.ReadFault → ⊥
+save_reads name time octets h k old new f g o (inl n) e = opened_number (status_of o) (status_of (opening_outcome n.why)) (opening_number n.why) (ap status_of n.ended_is) (ap status_of e)
+save_reads name time octets h k old new f g o (inr l) e = replied_number (status_of o) (shown_number _ l.given h k o l.printed) (ap status_of e)
+
+-- ---- what was read
+
+pub unread_is : (old new : Option (List ℕ)) (faults later : ℕ) (e : InputError) → Refused 67108864 old new faults later e → IsUnread old (unread_outcome e)
+unread_is old new faults later (read.TooLong limit) r =
+    let l = long_told old new r.1.0 67108864 r.1.2 r.1.1 in
+    (r.0, (l.0, l.1, l.2))
+unread_is old new faults later read.Fault r = tt
+unread_is old new faults later read.NoMemory r = tt
+
+pub unread_cause : (old new : Option (List ℕ)) (faults later : ℕ) (e : InputError) → Refused 67108864 old new faults later e → unread_outcome e ≡ outcome.ReadFault → Rose faults later
+unread_cause old new faults later (read.TooLong limit) r same = absurd (cc same)
+unread_cause old new faults later read.Fault r same = r.0
+unread_cause old new faults later read.NoMemory r same = absurd (cc same)
+
+pub unread_quiet : (e : InputError) (P : Type 0) → ((e ≡ read.Fault → ⊥) → P) → (unread_outcome e ≡ outcome.ReadFault → ⊥) → P
+unread_quiet (read.TooLong limit) P h other = h (λ same. cc same)
+unread_quiet read.Fault P h other = absurd (other refl)
+unread_quiet read.NoMemory P h other = h (λ same. cc same)
+
+-- ---- the store was not opened
+
+pub save_unopened_leaves : (name : List ℕ) (time : ℕ) (octets : List ℕ) (old new : Option History) (began now : Faults) (why : OpenError) → IsUnopened why old new began now → SaveMoments name time octets old new
+save_unopened_leaves name time octets old new began now why u = λ lists at.
+    each_image-map (λ _ image. Safe image lists) (λ _ image. Safe image lists ⊎ ((some : Lists) × AreSaved name time octets lists some × Safe image some)) old new (λ m image h. inl h) (u.moments lists at)
+
+pub save_unopened_rests : (name : List ℕ) (time : ℕ) (octets : List ℕ) (failed : Type 0) (old new : Option History) (began now : Faults) (why : OpenError) → (why ≡ error.DiskFault → failed) → IsUnopened why old new began now → SaveRests name time octets failed began now old new
+save_unopened_rests name time octets failed old new began now why h u = λ none lists at. inl (u.settled_again (λ f. none (h f)) lists at)
+
+-- ---- behind the opening
+
+-- What is known of a delivery alone: of the opening of the store, and of the events of its task.
+pub record DeliveringKnown {D : Type 0} (name : List ℕ) (time : ℕ) (octets : List ℕ) (given : Reply) (old mid new : Option History) (began now : Faults) (s t : StoreValue D) : Type 0 where
+  pub opened : OpenedNow old mid s
+  pub later : IsStore new t
+  pub saves : SavesAlone name time octets s t mid new began now given
+  pub back : t ≡ s → new ≡ mid
+
+deliver_runs : {D : Type 0} → (name : List ℕ) (time : ℕ) (octets : List ℕ) (given : Reply) (old mid new : Option History) (began now : Faults) (s t : StoreValue D) → DeliveringKnown name time octets given old mid new began now s t → (given ≡ reply.Refused refusal.Stopped → ⊥) → t.stopped ≡ false
+deliver_runs name time octets given old mid new began now s t w running = not_true t.stopped (λ e. running (w.saves.halts.1 e))
+
+saved_runs : (given : Reply) (uid : Uid) (guid : Guid) → given ≡ reply.Saved uid guid → given ≡ reply.Refused refusal.Stopped → ⊥
+saved_runs given uid guid d s = let k : reply.Saved uid guid ≡ reply.Refused refusal.Stopped = sym d ∙ s in cc k
+
+refused_runs : (given : Reply) (why : Refusal) → given ≡ reply.Refused why → (why ≡ refusal.Stopped → ⊥) → given ≡ reply.Refused refusal.Stopped → ⊥
+refused_runs given why d running s = running (one_refusal why refusal.Stopped (sym d ∙ s))
+
+opens_alike : {D : Type 0} → (new : Option History) (s t : StoreValue D) → IsStore new t → t.stopped ≡ false → IsAlike s t → OpensAlike s.map (indexes_of s.boxes) new
+opens_alike new s t k runs b = record {
+  map = t.map;
+  opened = subst (λ ms. IsOpenedAs new t.map ms) b.indexes (opens_again new t k runs);
+  mailboxes = b.mailboxes;
+}
+
+deliver_tells : {D : Type 0} → (name : List ℕ) (time : ℕ) (octets : List ℕ) (given : Reply) (old mid new : Option History) (began now : Faults) (s t : StoreValue D) → DeliveringKnown name time octets given old mid new began now s t → IsDeliverReply name time octets old new given
+deliver_tells name time octets given old mid new began now s t w = record {
+  m = s.map;
+  meanings = indexes_of s.boxes;
+  opened = w.opened.opened;
+  given_is = subst (λ (h : Highest). IsDeliverAnswer (undelivered_cause (list_named s name) h) (list_named s name) s.map.store h given) w.opened.drawn w.saves.given_is;
+  refused = λ why e. opens_unchanged old mid new s w.opened (w.back (w.saves.refused why (subst (λ (h : Highest). undelivered_cause (list_named s name) h ≡ Some why) (sym w.opened.drawn) e)));
+  unsaved = λ why e running. opens_alike new s t w.later (deliver_runs name time octets given old mid new began now s t w (refused_runs given why e running)) (w.saves.unsaved why e running);
+  done = λ uid guid e. record {
+    map = t.map;
+    changed = indexes_of t.boxes;
+    opened = opens_again new t w.later (deliver_runs name time octets given old mid new began now s t w (saved_runs given uid guid e));
+    shows = w.saves.shows uid guid e;
+  };
+  settled = λ running lists at. w.saves.settled (deliver_runs name time octets given old mid new began now s t w running) lists (w.opened.settled_again lists at);
+}
+
+by_reply : (name : List ℕ) (time : ℕ) (octets : List ℕ) (given : Reply) (lists : Lists) (new : Option History) → IsSettledFor (lists_told (request.Deliver name time octets) given lists) new → IsSettledFor lists new ⊎ ((some : Lists) × AreSaved name time octets lists some × IsSettledFor some new)
+by_reply name time octets (reply.Saved uid guid) lists new s = inr (saved_lists name time octets guid lists, (guid, refl), s)
+by_reply name time octets other lists new s = inl s
+
+deliver_rests : {D : Type 0} → (name : List ℕ) (time : ℕ) (octets : List ℕ) (given : Reply) (old mid new : Option History) (began now : Faults) (s t : StoreValue D) → DeliveringKnown name time octets given old mid new began now s t → SaveRests name time octets (given ≡ reply.Refused refusal.Stopped) began now old new
+deliver_rests name time octets given old mid new began now s t w = λ none lists at.
+    by_reply name time octets given lists new (w.saves.settled (deliver_runs name time octets given old mid new began now s t w (λ stopped. none stopped (w.saves.fault.rose stopped))) lists (w.opened.settled_again lists at))
+
+one_safe : (name : List ℕ) (time : ℕ) (octets : List ℕ) (lists some : Lists) (moment : ℕ) (image : Files) → AreAlongSave name time octets lists some → Safe image some → Safe image lists ⊎ ((other : Lists) × AreSaved name time octets lists other × Safe image other)
+one_safe name time octets lists some moment image (inl e) s = inl (subst (λ (ls : Lists). Safe image ls) e s)
+one_safe name time octets lists some moment image (inr e) s = inr (some, e, s)
+
+pub deliver_done : {D : Type 0} → (name : List ℕ) (time : ℕ) (octets : List ℕ) (given : Reply) (old mid new : Option History) (began now : Faults) (s t : StoreValue D) → DeliveringKnown name time octets given old mid new began now s t → LogsShow → IsDoneAlone (request.Deliver name time octets) given old new began now
+deliver_done name time octets given old mid new began now s t w show = record {
+  tells = deliver_tells name time octets given old mid new began now s t w;
+  serves = λ journaled lists safe. w.saves.served journaled lists (before_opening (seen_of s mid began) old) (way_opens HasNotBegun (request.Deliver name time octets) lists old mid began s w.opened show safe (refl, refl));
+  moments = moments_as (AreAlongSave name time octets) (λ lists moment image. Safe image lists ⊎ ((some : Lists) × AreSaved name time octets lists some × Safe image some)) old mid new s w.opened w.saves.moments (λ lists moment image safe. inl safe) (λ lists some moment image a safe. one_safe name time octets lists some moment image a safe);
+  rests = deliver_rests name time octets given old mid new began now s t w;
+  faults = alone_faults given began now w.saves.calm w.saves.fault w.saves.unfailed;
+}

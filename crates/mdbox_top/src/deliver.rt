@@ -1,0 +1,157 @@
+// A delivery: the message is read, the clock asked, the store opened, and each event of the delivery done.
+ghost use Rattle.std.specs.Prelude.{◌≡◌, ◌≢◌, ◌≤◌, ◌⊎◌, ◌∷◌, [], length, false, IfOk, IfErr, OnOk};
+ghost use Rattle.disk_model.specs.FaultCounts.{NoFault, AnyFaultCounted};
+ghost use Rattle.mdbox_base.specs.Streams.{Rose};
+ghost use Rattle.mdbox_base.specs.declared.requests.Request.TheVariants as request;
+ghost use Rattle.mdbox_top.specs.Alone.{MayFail, IsDoneAlone, IsUnopened};
+ghost use Rattle.mdbox_top.specs.ChangeEvents.{SavesAlone};
+ghost use Rattle.mdbox_top.specs.DeliverRun.{SaveOutcome, SaveMoments, SaveRests, IsMessageOf, IsTimeOf, unread_outcome, IsUnread, DeliverOutcome, DeliverMoments, DeliverRests};
+ghost use Rattle.mdbox_top.specs.InputRun.{IsOneOf};
+ghost use Rattle.request_text.specs.Outcomes.{status_of};
+ghost use Rattle.request_text.specs.declared.outcome.Outcome.TheVariants as outcome;
+
+use crate::alone::print_outcome;
+use crate::opening::outcome_of;
+use attach_detach::plain;
+use disk_model::Disk;
+use mail_save::SaveTask;
+use mdbox_base::{
+    Clock, ClockFault, InputError, Name, Octets, Progress, Reply, Sink, Source, read_all,
+};
+use request_text::{InputRefusal, Outcome};
+use std::alloc::Global;
+use store_core::{Store, listings_are_shown};
+use store_open::{OpenRefused, open_store};
+
+/// How many octets a message may have.
+const MESSAGE_LIMIT: u64 = 67_108_864;
+
+/// Reads a message from the input to its end, asks the clock, saves the message in the mailbox with this name, prints the reply,
+/// and hands the disk back. Unless there is a message and a time, no call of the disk is made.
+pub fn deliver<D: Disk, I: Source, O: Sink, C: Clock>(
+    alloc: Global,
+    name: Name,
+    disk: D,
+    input: &mut I,
+    output: &mut O,
+    clock: &mut C,
+) -> (Outcome, D)
+    ensures ends { DeliverOutcome name (I.left input.old) (C.time clock.old) (O.held output.old) (O.held output.new) (D.history disk) (D.history result.1) (D.faults disk) (D.faults result.1) result.0 }
+    ensures moments { DeliverMoments name (I.left input.old) (C.time clock.old) (D.history disk) (D.history result.1) }
+    ensures rests { DeliverRests name (I.left input.old) (C.time clock.old) (IsOneOf (5 ∷ 6 ∷ 8 ∷ []) (status_of result.0)) (D.faults disk) (D.faults result.1) (D.history disk) (D.history result.1) }
+    ensures disk_fault { AnyFaultCounted (result.0 ≡ outcome.DiskFault) (D.faults disk) (D.faults result.1) }
+    ensures read_fault { result.0 ≡ outcome.ReadFault → Rose (I.faults input.old) (I.faults input.new) ⊎ Rose (C.faults clock.old) (C.faults clock.new) }
+    ensures write_fault { result.0 ≡ outcome.WriteFault → Rose (O.faults output.old) (O.faults output.new) }
+    ensures disk_quiet { (IsOneOf (5 ∷ 6 ∷ 8 ∷ []) (status_of result.0) → ⊥) → NoFault (D.faults disk) (D.faults result.1) }
+    ensures read_quiet { result.0 ≢ outcome.ReadFault → I.faults input.new ≡ I.faults input.old }
+    ensures clock_quiet { result.0 ≢ outcome.ReadFault → C.faults clock.new ≡ C.faults clock.old }
+    ensures write_quiet { result.0 ≢ outcome.WriteFault → O.faults output.new ≡ O.faults output.old }
+    ensures counted { (I.faults input.old ≤ I.faults input.new) × (O.faults output.old ≤ O.faults output.new) × (C.faults clock.old ≤ C.faults clock.new) }
+{
+    match read_message(alloc, input, clock) {
+        Ok((message, time)) => save(alloc, name, time, message, disk, output),
+        Err(outcome) => (outcome, disk),
+    }
+}
+
+/// The message that the input is, and the time when it was received.
+fn read_message<I: Source, C: Clock>(
+    alloc: Global,
+    input: &mut I,
+    clock: &mut C,
+) -> Result<(Octets, u64), Outcome>
+    ensures message { IfOk result (λ read. IsMessageOf (I.left input.old) read.0) }
+    ensures time { IfOk result (λ read. IsTimeOf (C.time clock.old) read.1) }
+    ensures unread { IfErr result (IsUnread (I.left input.old)) }
+    ensures cause { IfErr result (λ ended. ended ≡ outcome.ReadFault → Rose (I.faults input.old) (I.faults input.new) ⊎ Rose (C.faults clock.old) (C.faults clock.new)) }
+    ensures quiet { OnOk result ((I.faults input.new ≡ I.faults input.old) × (C.faults clock.new ≡ C.faults clock.old)) }
+    ensures unfailed { IfErr result (λ ended. ended ≢ outcome.ReadFault → (I.faults input.new ≡ I.faults input.old) × (C.faults clock.new ≡ C.faults clock.old)) }
+    ensures counted { (I.faults input.old ≤ I.faults input.new) × (C.faults clock.old ≤ C.faults clock.new) }
+{
+    let message = match read_all(alloc, input, MESSAGE_LIMIT) {
+        Ok(message) => message,
+        Err(error) => return Err(unread(error)),
+    };
+    match clock.now() {
+        Ok(time) => Ok((message, time)),
+        Err(ClockFault) => Err(Outcome::ReadFault),
+    }
+}
+
+/// The end of a run whose input was not read.
+fn unread(error: InputError) -> Outcome
+    ensures { result ≡ unread_outcome error }
+{
+    match error {
+        InputError::TooLong(limit) => Outcome::InputRefused(InputRefusal::TooLong(limit)),
+        InputError::Fault => Outcome::ReadFault,
+        InputError::NoMemory => Outcome::NoMemory,
+    }
+}
+
+/// Opens the store, saves the message, received at this time, in the mailbox with this name, prints the reply, and hands the disk
+/// back.
+fn save<D: Disk, O: Sink>(
+    alloc: Global,
+    name: Name,
+    time: u64,
+    message: Octets,
+    disk: D,
+    output: &mut O,
+) -> (Outcome, D)
+    requires small { length message ≤ 67108864 }
+    ensures ends { SaveOutcome name time message (O.held output.old) (O.held output.new) (D.history disk) (D.history result.1) (D.faults disk) (D.faults result.1) result.0 }
+    ensures moments { SaveMoments name time message (D.history disk) (D.history result.1) }
+    ensures rests { SaveRests name time message (MayFail (request.Deliver name time message) (status_of result.0)) (D.faults disk) (D.faults result.1) (D.history disk) (D.history result.1) }
+    ensures disk_fault { AnyFaultCounted (result.0 ≡ outcome.DiskFault) (D.faults disk) (D.faults result.1) }
+    ensures disk_quiet { (MayFail (request.Deliver name time message) (status_of result.0) → ⊥) → NoFault (D.faults disk) (D.faults result.1) }
+    ensures write_fault { result.0 ≡ outcome.WriteFault → Rose (O.faults output.old) (O.faults output.new) }
+    ensures write_quiet { result.0 ≢ outcome.WriteFault → O.faults output.new ≡ O.faults output.old }
+    ensures counted { O.faults output.old ≤ O.faults output.new }
+{
+    match save_alone(alloc, name, time, message, disk) {
+        Ok((reply, disk)) => (print_outcome(alloc, output, &reply), disk),
+        Err(OpenRefused { error, disk }) => (outcome_of(error), disk),
+    }
+}
+
+/// Opens the store, saves the message, and answers the reply.
+fn save_alone<D: Disk>(
+    alloc: Global,
+    name: Name,
+    time: u64,
+    message: Octets,
+    disk: D,
+) -> Result<(Reply, D), OpenRefused<D>>
+    requires small { length message ≤ 67108864 }
+    ensures done { IfOk result (λ done. IsDoneAlone (request.Deliver name time message) done.0 (D.history disk) (D.history done.1) (D.faults disk) (D.faults done.1)) }
+    ensures refused { IfErr result (λ refused. IsUnopened refused.error (D.history disk) (D.history refused.disk) (D.faults disk) (D.faults refused.disk)) }
+{
+    listings_are_shown();
+    match open_store(alloc, disk, 1) {
+        Ok(store) => {
+            let mut store = store;
+            store.facts();
+            let reply = save_message(&mut store, name, time, message);
+            store.facts();
+            Ok((reply, store.into_disk()))
+        }
+        Err(refused) => Err(refused),
+    }
+}
+
+/// Does the events of a delivery, one behind another, and answers its reply. There are six at the most.
+fn save_message<D: Disk>(store: &mut Store<D>, name: Name, time: u64, message: Octets) -> Reply
+    requires running { store.old.stopped ≡ false }
+    requires small { length message ≤ 67108864 }
+    ensures { SavesAlone name time message store.old store.new (D.history store.old.disk) (D.history store.new.disk) (D.faults store.old.disk) (D.faults store.new.disk) result }
+{
+    let mut task = SaveTask::of(name, time, plain(message));
+    loop {
+        store.facts();
+        if let Progress::Done(reply) = task.step(store) {
+            store.facts();
+            return reply;
+        }
+    }
+}

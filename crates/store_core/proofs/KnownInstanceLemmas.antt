@@ -1,0 +1,305 @@
+-- What a store knows of its instances, over changes of other files and entries of the map log.
+use Rattle.std.specs.Prelude.{◌⊎◌, Contains, not, filter}
+use Rattle.std.proofs.Common.{inl, inr, ◌≡◌, ◌≢◌, ℕ, Bool, true, false, List, [], ◌∷◌, ◌++◌, map, flat_map, Option, Some, All, if◌then◌else◌, refl, sym, ◌∙◌, ap, subst, append-nil}
+use Rattle.std.proofs.lemmas.Bool.{cond-true, true≢false}
+use Rattle.std.proofs.lemmas.Grind.{flat_map-append}
+use Rattle.std.specs.Option.{option_map}
+use Rattle.std.proofs.lemmas.List.Elements.{All-nil, All-cons, All-head, All-tail, All-contains, All-contains_itself, All-weaker}
+use Rattle.disk_model.specs.Disk.{FileState, DiskState, History, MayLeave, IfTold, Between, SameState, SameButFor, reading, named}
+use Rattle.disk_model.specs.declared.name.FileName.{FileName}
+use Rattle.disk_model.specs.declared.name.FileName.TheVariants as file
+use Rattle.disk_model.proofs.BetweenLemmas.{between-begins, between-map, between-on}
+use Rattle.disk_model.proofs.MomentLemmas.{if_told-map}
+use Rattle.disk_model.proofs.OneFileLemmas.{named-narrows}
+use Rattle.mdbox_base.specs.declared.entries.BoxEntry.{BoxEntry}
+use Rattle.mdbox_base.specs.declared.entries.Highest.{Highest}
+use Rattle.mdbox_base.specs.declared.entries.InstRow.{InstRow}
+use Rattle.mdbox_base.specs.declared.entries.MapEntry.{MapEntry}
+use Rattle.mdbox_base.specs.declared.entries.MapEntry.TheVariants as entry
+use Rattle.mdbox_base.specs.declared.ids.InstId.{InstId}
+use Rattle.model_appends.specs.Appending.{LeavesAsRead}
+use Rattle.model_meaning.specs.MapMeaning.{MapRecord, MapMeaning, map_applied, record_made, record_changed, record_dropped, record_rules, named_instances}
+use Rattle.model_meaning.proofs.KeptRowLemmas.{kept_rows}
+use Rattle.model_meaning.proofs.MapPlaceLemmas.{changed_same}
+use Rattle.model_store.specs.Safe.{IsThereWhole}
+use Rattle.model_store.specs.Settled.{files_of}
+use Rattle.sis_store.specs.Instances.{InstancesValue, instance_in, has_id, with_holders}
+use Rattle.sis_store.specs.declared.instance.KnownInstance.{KnownInstance}
+use Rattle.storage_files.specs.OnDisk.{OthersAreNamed}
+use Rattle.store_core.specs.MapAppend.{IsAppendable, drawn_by}
+use Rattle.store_core.specs.Running.{IsStore}
+use Rattle.store_core.specs.StoreInstances.{IsKnownRow, AreInstancesKept, IsNamedOrFirm, AreInstancesThere, HasKnownInstances}
+use Rattle.store_core.specs.Value.{StoreValue}
+use Rattle.store_core.specs.declared.store.OpenBox.{OpenBox}
+use Rattle.store_core.proofs.BoxAppendLemmas.{Placed, own_box}
+use Rattle.store_core.proofs.EntryFileLemmas.{LeavesPlaces, none_dropped}
+use Rattle.store_core.proofs.MailChangeLemmas.{named_reads}
+use Rattle.store_core.proofs.MapAppendLemmas.{leaves_places}
+
+-- ---- disks that have the same instances
+
+-- Instances read as before, and a crash leaves of them what it could.
+pub record KeepsInstances (a b : DiskState) : Type 0 where
+  pub reads : (hash id : List ℕ) → reading (b (file.Inst hash id)) ≡ reading (a (file.Inst hash id))
+  pub leaves : (hash id : List ℕ) (left : Option (List ℕ)) → MayLeave (b (file.Inst hash id)) left → MayLeave (a (file.Inst hash id)) left
+
+-- a file that is no instance
+abbrev pub IsNoInstance : FileName → Type 0
+IsNoInstance name = (hash id : List ℕ) → file.Inst hash id ≢ name
+
+pub instances_beside : (name : FileName) (old new : Option History) → IsNoInstance name → SameButFor name old new → Between KeepsInstances old new
+instances_beside name old new apart same =
+    between-map (λ a b. (other : FileName) → other ≢ name → b other ≡ a other) KeepsInstances old new (λ a b s. record {
+      reads = λ h i. ap reading (s (file.Inst h i) (apart h i));
+      leaves = λ h i left may. subst (λ (f : FileState). MayLeave f left) (s (file.Inst h i) (apart h i)) may;
+    }) same
+
+pub instances_named : (name : FileName) (old new : Option History) → IsNoInstance name → OthersAreNamed name old new → Between KeepsInstances old new
+instances_named name old new apart same =
+    between-map (λ a b. (other : FileName) → other ≢ name → b other ≡ named (a other)) KeepsInstances old new (λ a b s. record {
+      reads = λ h i. ap reading (s (file.Inst h i) (apart h i)) ∙ named_reads (a (file.Inst h i));
+      leaves = λ h i left may. named-narrows (a (file.Inst h i)) left (subst (λ (f : FileState). MayLeave f left) (s (file.Inst h i) (apart h i)) may);
+    }) same
+
+pub instances_idle : (old new : Option History) → SameState old new → Between KeepsInstances old new
+instances_idle old new same =
+    between-map (λ a b. b ≡ a) KeepsInstances old new (λ a b e. record {
+      reads = λ h i. ap (λ (d : DiskState). reading (d (file.Inst h i))) e;
+      leaves = λ h i left may. subst (λ (d : DiskState). MayLeave (d (file.Inst h i)) left) e may;
+    }) same
+
+pub mail_is_none : (number : ℕ) → IsNoInstance (file.Mail number)
+mail_is_none number = λ h i e. absurd (let w : file.Inst h i ≡ file.Mail number = e in cc w)
+
+pub map_is_none : (name : FileName) (generation : ℕ) → name ≡ file.Map generation → IsNoInstance name
+map_is_none name generation is = λ h i e. absurd (let w : file.Inst h i ≡ file.Map generation = e ∙ is in cc w)
+
+pub box_is_none : (name : FileName) (number generation : ℕ) → name ≡ file.Box number generation → IsNoInstance name
+box_is_none name number generation is = λ h i e. absurd (let w : file.Inst h i ≡ file.Box number generation = e ∙ is in cc w)
+
+-- ---- what is there
+
+-- whatever a record names, a record of the other map does
+abbrev pub NamesAll : MapMeaning → MapMeaning → Type 0
+NamesAll m n = (row : InstRow) → Contains (named_instances m) row → Contains (named_instances n) row
+
+there_on : (known : List KnownInstance) (m n : MapMeaning) (a b : DiskState) → NamesAll m n → KeepsInstances a b → AreInstancesThere known m a → AreInstancesThere known n b
+there_on known m n a b names c t = record {
+  whole = All-weaker (λ (k : KnownInstance). IsThereWhole (files_of a) k.row) (λ (k : KnownInstance). IsThereWhole (files_of b) k.row)
+      (λ k w. record { octets = w.octets; there = c.reads k.row.hash.0 k.row.id.0 ∙ w.there; size = w.size }) known t.whole;
+  firm = All-weaker (IsNamedOrFirm m a) (IsNamedOrFirm n b) (λ k f. elim f [
+    | inl is ↦ inl (names k.row is)
+    | inr firm ↦ inr (λ left may. firm left (c.leaves k.row.hash.0 k.row.id.0 left may) ∙ sym (c.reads k.row.hash.0 k.row.id.0))
+  ]) known t.firm;
+  only = λ hash id octets e. t.only hash id octets (sym (c.reads hash id) ∙ e);
+}
+
+-- ---- the store
+
+-- on another disk, with other parts
+pub instances_on : {D : Type 0} → (old new : Option History) (v w : StoreValue D) → HasKnownInstances old v → Between KeepsInstances old new → w.instances ≡ v.instances → w.drawn.instance ≡ v.drawn.instance → w.map ≡ v.map → (w.stopped ≡ false → v.stopped ≡ false)
+    → HasKnownInstances new w
+instances_on old new v w k change instances drawn m runs = record {
+  kept = subst (λ (i : InstancesValue). AreInstancesKept i w.drawn w.map) (sym instances)
+      (subst (λ (n : MapMeaning). AreInstancesKept v.instances w.drawn n) (sym m) (record { store = k.kept.store; highest = k.kept.highest ∙ sym drawn; named = k.kept.named }));
+  running = λ on. subst (λ (i : InstancesValue). IfTold new (AreInstancesThere i.known w.map)) (sym instances)
+      (subst (λ (n : MapMeaning). IfTold new (AreInstancesThere v.instances.known n)) (sym m)
+      (between-on KeepsInstances (AreInstancesThere v.instances.known v.map) (AreInstancesThere v.instances.known v.map) old new (λ a b c t. there_on v.instances.known v.map v.map a b (λ row is. is) c t) change (k.running (runs on))));
+}
+
+-- stopped after a change that failed
+pub instances_stopped : {D : Type 0} → (old new : Option History) (v w : StoreValue D) → HasKnownInstances old v → w.instances ≡ v.instances → w.drawn.instance ≡ v.drawn.instance → w.map ≡ v.map → w.stopped ≡ true → HasKnownInstances new w
+instances_stopped old new v w k instances drawn m stops = record {
+  kept = subst (λ (i : InstancesValue). AreInstancesKept i w.drawn w.map) (sym instances)
+      (subst (λ (n : MapMeaning). AreInstancesKept v.instances w.drawn n) (sym m) (record { store = k.kept.store; highest = k.kept.highest ∙ sym drawn; named = k.kept.named }));
+  running = λ on. absurd (true≢false (sym stops ∙ on));
+}
+
+-- ---- by what the calls have at hand
+
+pub instances_still : {D : Type 0} → (h : Option History) (v w : StoreValue D) → HasKnownInstances h v → w.instances ≡ v.instances → w.drawn.instance ≡ v.drawn.instance → w.map ≡ v.map → (w.stopped ≡ false → v.stopped ≡ false) → HasKnownInstances h w
+instances_still h v w k instances drawn m runs =
+    instances_on h h v w k (between-begins KeepsInstances h (λ disk. record { reads = λ hash id. refl; leaves = λ hash id left may. may })) instances drawn m runs
+
+pub instances_placed : {D : Type 0} → (n : ℕ) (old new : Option History) (v w : StoreValue D) → HasKnownInstances old v → SameButFor (file.Mail n) old new → w.instances ≡ v.instances → w.drawn.instance ≡ v.drawn.instance → w.map ≡ v.map → (w.stopped ≡ false → v.stopped ≡ false)
+    → HasKnownInstances new w
+instances_placed n old new v w k same instances drawn m runs = instances_on old new v w k (instances_beside (file.Mail n) old new (mail_is_none n) same) instances drawn m runs
+
+pub instances_made : {D : Type 0} → (n : ℕ) (old new : Option History) (v w : StoreValue D) → HasKnownInstances old v → OthersAreNamed (file.Mail n) old new → w.instances ≡ v.instances → w.drawn.instance ≡ v.drawn.instance → w.map ≡ v.map → (w.stopped ≡ false → v.stopped ≡ false)
+    → HasKnownInstances new w
+instances_made n old new v w k same instances drawn m runs = instances_on old new v w k (instances_named (file.Mail n) old new (mail_is_none n) same) instances drawn m runs
+
+pub instances_since : {D : Type 0} → (old new : Option History) (v w : StoreValue D) → HasKnownInstances old v → SameState old new → w.instances ≡ v.instances → w.drawn.instance ≡ v.drawn.instance → w.map ≡ v.map → (w.stopped ≡ false → v.stopped ≡ false) → HasKnownInstances new w
+instances_since old new v w k same instances drawn m runs = instances_on old new v w k (instances_idle old new same) instances drawn m runs
+
+pub instances_boxed : {D : Type 0} → (old new : Option History) (v w : StoreValue D) (k : ℕ) (b : OpenBox) (number : ℕ) (e : BoxEntry) → Placed old v k b number e → HasKnownInstances old v → SameButFor b.log.name old new → w.instances ≡ v.instances → w.drawn.instance ≡ v.drawn.instance → w.map ≡ v.map
+    → HasKnownInstances new w
+instances_boxed old new v w k b number e p known same instances drawn m =
+    let q = own_box old v k b number e p in
+    instances_on old new v w known (instances_beside b.log.name old new (box_is_none b.log.name q.box.number q.box.generation q.name) same) instances drawn m (λ on. p.running)
+
+-- ---- holders
+
+row_held : (id other : InstId) (holders : ℕ) (known : List KnownInstance) → option_map (λ k. k.row) (instance_in other (with_holders id holders known)) ≡ option_map (λ k. k.row) (instance_in other known)
+row_held id other holders [] = refl
+row_held id other holders (k ∷ known) = by_hit (has_id id k) (has_id other k) refl (row_held id other holders known)
+  where
+    by_hit : (hit found : Bool) → has_id other k ≡ found → option_map (λ k. k.row) (instance_in other (with_holders id holders known)) ≡ option_map (λ k. k.row) (instance_in other known)
+        → option_map (λ k. k.row) (if has_id other (if hit then record k { holders = holders } else k) then Some (if hit then record k { holders = holders } else k) else instance_in other (with_holders id holders known))
+        ≡ option_map (λ k. k.row) (if found then Some k else instance_in other known)
+    by_hit true true e rest = ap (λ (t : Bool). option_map (λ (k : KnownInstance). k.row) (if t then Some (record k { holders = holders }) else instance_in other (with_holders id holders known))) e
+    by_hit true false e rest = ap (λ (t : Bool). option_map (λ (k : KnownInstance). k.row) (if t then Some (record k { holders = holders }) else instance_in other (with_holders id holders known))) e ∙ rest
+    by_hit false true e rest = ap (λ (t : Bool). option_map (λ (k : KnownInstance). k.row) (if t then Some k else instance_in other (with_holders id holders known))) e
+    by_hit false false e rest = ap (λ (t : Bool). option_map (λ (k : KnownInstance). k.row) (if t then Some k else instance_in other (with_holders id holders known))) e ∙ rest
+
+-- what holds of a row holds of it with other holders
+all_held : (P : InstRow → Type 0) (id : InstId) (holders : ℕ) (known : List KnownInstance) → All (λ k. P k.row) known → All (λ k. P k.row) (with_holders id holders known)
+all_held P id holders [] a = All-nil (λ (k : KnownInstance). P k.row)
+all_held P id holders (k ∷ known) a =
+    All-cons (λ (j : KnownInstance). P j.row) (if has_id id k then record k { holders = holders } else k) (with_holders id holders known)
+    (by_hit (has_id id k)) (all_held P id holders known (All-tail (λ (j : KnownInstance). P j.row) k known a))
+  where
+    by_hit : (hit : Bool) → P (if hit then record k { holders = holders } else k).row
+    by_hit true = All-head (λ (j : KnownInstance). P j.row) k known a
+    by_hit false = All-head (λ (j : KnownInstance). P j.row) k known a
+
+contains_map : {X Y : Type 0} → (f : X → Y) (xs : List X) (x : X) → Contains xs x → Contains (map f xs) (f x)
+contains_map f xs x c = All-contains (λ y. Contains (map f xs) (f y)) xs x (back xs (All-contains_itself (map f xs))) c
+  where
+    back : (ys : List _) → All (Contains (map f xs)) (map f ys) → All (λ y. Contains (map f xs) (f y)) ys
+    back [] a = All-nil (λ y. Contains (map f xs) (f y))
+    back (y ∷ ys) a = All-cons (λ z. Contains (map f xs) (f z)) y ys (All-head (Contains (map f xs)) (f y) (map f ys) a) (back ys (All-tail (Contains (map f xs)) (f y) (map f ys) a))
+
+there_held : (id : InstId) (holders : ℕ) (known : List KnownInstance) (m : MapMeaning) (disk : DiskState) → AreInstancesThere known m disk → AreInstancesThere (with_holders id holders known) m disk
+there_held id holders known m disk t = record {
+  whole = all_held (IsThereWhole (files_of disk)) id holders known t.whole;
+  firm = all_held (λ row. Contains (named_instances m) row ⊎ LeavesAsRead (file.Inst row.hash.0 row.id.0) disk) id holders known t.firm;
+  only = λ hash other octets e.
+      let k = t.only hash other octets e in
+      (if has_id id k.0 then record k.0 { holders = holders } else k.0, contains_map (λ (j : KnownInstance). if has_id id j then record j { holders = holders } else j) known k.0 k.1, ap (λ (row : InstRow). file.Inst row.hash.0 row.id.0) (same_row (has_id id k.0) k.0) ∙ k.2);
+}
+  where
+    same_row : (hit : Bool) (k : KnownInstance) → (if hit then record k { holders = holders } else k).row ≡ k.row
+    same_row true k = refl
+    same_row false k = refl
+
+pub instances_holding : {D : Type 0} → (h : Option History) (v : StoreValue D) (instances : InstancesValue) (id : InstId) (holders : ℕ) → instances ≡ record v.instances { known = with_holders id holders v.instances.known } → HasKnownInstances h v → HasKnownInstances h (record v { instances = instances })
+instances_holding h v instances id holders is k =
+    subst (λ (i : InstancesValue). HasKnownInstances h (record v { instances = i })) (sym is) (record {
+      kept = record {
+        store = k.kept.store;
+        highest = k.kept.highest;
+        named = All-weaker (IsKnownRow v.instances.known) (IsKnownRow (with_holders id holders v.instances.known)) (λ row known. row_held id row.id holders v.instances.known ∙ known) (named_instances v.map) k.kept.named;
+      };
+      running = λ on. if_told-map (AreInstancesThere v.instances.known v.map) (AreInstancesThere (with_holders id holders v.instances.known) v.map) h (λ disk t. there_held id holders v.instances.known v.map disk t) (k.running on);
+    })
+
+-- of all else nothing changes
+pub store_holding : {D : Type 0} → (h : Option History) (v : StoreValue D) (instances : InstancesValue) → IsStore h v → IsStore h (record v { instances = instances })
+store_holding h v instances s = record {
+  entries = s.entries;
+  logs = s.logs;
+  generation = s.generation;
+  good = s.good;
+  map_is = s.map_is;
+  boxes_are = s.boxes_are;
+  counts = s.counts;
+  drawn = s.drawn;
+  files = s.files;
+  root_name = s.root_name;
+  root_head = s.root_head;
+  map_name = s.map_name;
+  map_head = s.map_head;
+  box_logs = s.box_logs;
+  some_lanes = s.some_lanes;
+  few_lanes = s.few_lanes;
+  running = λ runs. let r = s.running runs in record {
+    opens = r.opens;
+    root = r.root;
+    root_entries = r.root_entries;
+    root_log_reads = r.root_log_reads;
+    map_log_reads = r.map_log_reads;
+    box_logs_read = r.box_logs_read;
+    files_known = r.files_known;
+    files_stay = r.files_stay;
+  };
+}
+
+-- ---- an entry of the map log
+
+abbrev names_of : List MapRecord → List InstRow
+names_of rows = flat_map (λ row. row.instances) rows
+
+names_kept : (e : MapEntry) (rows : List MapRecord) → LeavesPlaces e → names_of (kept_rows record_rules e rows) ≡ names_of rows
+names_kept e [] l = refl
+names_kept e (row ∷ rows) l =
+    let stays : not (record_dropped e row) ≡ true = ap not (none_dropped e row l) in
+    ap (λ (rs : List MapRecord). names_of (map (record_changed e) rs)) (cond-true (not (record_dropped e row)) (row ∷ filter (λ r. not (record_dropped e r)) rows) (filter (λ r. not (record_dropped e r)) rows) stays)
+    ∙ ap (λ (is : List InstRow). is ++ names_of (kept_rows record_rules e rows)) (changed_same e row).instances
+    ∙ ap (λ (is : List InstRow). row.instances ++ is) (names_kept e rows l)
+
+-- records name what they did, and the one that is made names its own
+pub names_with : (e : MapEntry) (m : MapMeaning) → LeavesPlaces e → named_instances (map_applied e m) ≡ named_instances m ++ names_of (record_made e)
+names_with e m l = flat_map-append (λ (row : MapRecord). row.instances) (kept_rows record_rules e m.records) (record_made e) ∙ ap (λ (is : List InstRow). is ++ names_of (record_made e)) (names_kept e m.records l)
+
+-- which are none yet
+none_made : (e : MapEntry) → IsAppendable e → names_of (record_made e) ≡ []
+none_made (entry.U u) k = refl
+none_made (entry.D us) k = refl
+none_made (entry.T cs) k = refl
+none_made (entry.S o c u f p z g is) k = append-nil is ∙ k.1
+none_made (entry.H h) k = absurd k
+none_made (entry.B b g n) k = absurd k
+none_made (entry.G b g) k = absurd k
+none_made (entry.P f t ms us) k = absurd k
+none_made (entry.E f) k = absurd k
+
+names_stay : (e : MapEntry) (m : MapMeaning) → IsAppendable e → named_instances (map_applied e m) ≡ named_instances m
+names_stay e m k = names_with e m (leaves_places e k) ∙ ap (λ (is : List InstRow). named_instances m ++ is) (none_made e k) ∙ append-nil (named_instances m)
+
+none_drawn : (e : MapEntry) (drawn : Highest) → (drawn_by e drawn).instance ≡ drawn.instance
+none_drawn (entry.U u) drawn = refl
+none_drawn (entry.D us) drawn = refl
+none_drawn (entry.T cs) drawn = refl
+none_drawn (entry.S o c u f p z g is) drawn = refl
+none_drawn (entry.H h) drawn = refl
+none_drawn (entry.B b g n) drawn = refl
+none_drawn (entry.G b g) drawn = refl
+none_drawn (entry.P f t ms us) drawn = refl
+none_drawn (entry.E f) drawn = refl
+
+pub instances_with : {D : Type 0} → (name : FileName) (generation : ℕ) (old new : Option History) (v w : StoreValue D) (e : MapEntry) → HasKnownInstances old v → IsAppendable e → name ≡ file.Map generation → SameButFor name old new
+    → w.instances ≡ v.instances → w.drawn ≡ drawn_by e v.drawn → w.map ≡ map_applied e v.map → (w.stopped ≡ false → v.stopped ≡ false) → HasKnownInstances new w
+instances_with name generation old new v w e k kind is same instances drawn m runs = record {
+  kept = subst (λ (i : InstancesValue). AreInstancesKept i w.drawn w.map) (sym instances)
+      (subst (λ (n : MapMeaning). AreInstancesKept v.instances w.drawn n) (sym m) (record {
+        store = k.kept.store;
+        highest = k.kept.highest ∙ sym (none_drawn e v.drawn) ∙ ap (λ (d : Highest). d.instance) (sym drawn);
+        named = subst (λ (rows : List InstRow). All (IsKnownRow v.instances.known) rows) (sym (names_stay e v.map kind)) k.kept.named;
+      }));
+  running = λ on. subst (λ (i : InstancesValue). IfTold new (AreInstancesThere i.known w.map)) (sym instances)
+      (subst (λ (n : MapMeaning). IfTold new (AreInstancesThere v.instances.known n)) (sym m)
+      (between-on KeepsInstances (AreInstancesThere v.instances.known v.map) (AreInstancesThere v.instances.known (map_applied e v.map)) old new
+      (λ a b c t. there_on v.instances.known v.map (map_applied e v.map) a b (λ row is. subst (λ (rows : List InstRow). Contains rows row) (sym (names_stay e v.map kind)) is) c t) (instances_beside name old new (map_is_none name generation is) same) (k.running (runs on))));
+}
+
+-- ---- the log of a mailbox
+
+-- made or removed, with all names synced
+pub instances_logged : {D : Type 0} → (number : ℕ) (old new : Option History) (v w : StoreValue D) → HasKnownInstances old v → OthersAreNamed (file.Box number 1) old new → w.instances ≡ v.instances → w.drawn.instance ≡ v.drawn.instance → w.map ≡ v.map → (w.stopped ≡ false → v.stopped ≡ false)
+    → HasKnownInstances new w
+instances_logged number old new v w k same instances drawn m runs = instances_on old new v w k (instances_named (file.Box number 1) old new (box_is_none (file.Box number 1) number 1 refl) same) instances drawn m runs
+
+-- named by an entry of the map log, which leaves the records as they are
+pub instances_naming : {D : Type 0} → (name : FileName) (generation : ℕ) (old new : Option History) (v w : StoreValue D) → HasKnownInstances old v → name ≡ file.Map generation → SameButFor name old new → w.instances ≡ v.instances → w.drawn.instance ≡ v.drawn.instance
+    → w.map.store ≡ v.map.store → w.map.records ≡ v.map.records → (w.stopped ≡ false → v.stopped ≡ false) → HasKnownInstances new w
+instances_naming name generation old new v w k is same instances drawn store records runs = record {
+  kept = subst (λ (i : InstancesValue). AreInstancesKept i w.drawn w.map) (sym instances) (record {
+    store = k.kept.store ∙ sym store;
+    highest = k.kept.highest ∙ sym drawn;
+    named = subst (λ (rows : List MapRecord). All (IsKnownRow v.instances.known) (names_of rows)) (sym records) k.kept.named;
+  });
+  running = λ on. subst (λ (i : InstancesValue). IfTold new (AreInstancesThere i.known w.map)) (sym instances)
+      (between-on KeepsInstances (AreInstancesThere v.instances.known v.map) (AreInstancesThere v.instances.known w.map) old new
+      (λ a b c t. there_on v.instances.known v.map w.map a b (λ row in_it. subst (λ (rows : List MapRecord). Contains (names_of rows) row) (sym records) in_it) c t) (instances_beside name old new (map_is_none name generation is) same) (k.running (runs on)));
+}

@@ -1,0 +1,13 @@
+use Rattle.std.proofs.Common.{refl}
+use Rattle.store_core.proofs.KnownInstanceLemmas.{store_holding, instances_holding}
+use Rattle.store_core.proofs.MadeLogLemmas.{made_still}
+use Rattle.store_core.proofs.store.Store.hold.Goals as goal
+
+pub invariant_of-self : goal.invariant_of-self
+invariant_of-self g c = (
+  c.self.invariant.0,
+  store_holding _ _ c.hold.new.self c.self.invariant.1,
+  record { map_log = c.self.invariant.2.map_log; box_logs = c.self.invariant.2.box_logs },
+  made_still _ _ _ refl refl refl refl refl c.self.invariant.3,
+  instances_holding _ _ c.hold.new.self c.args.id _ c.hold.ensures c.self.invariant.4,
+)

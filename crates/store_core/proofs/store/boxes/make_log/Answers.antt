@@ -1,0 +1,10 @@
+use Rattle.disk_model.specs.Disk.{IfTold, OthersStay}
+use Rattle.disk_model.specs.declared.name.FileName.TheVariants as file
+use Rattle.disk_model.proofs.MomentLemmas.{each_image-map}
+use Rattle.gate_log.specs.Log.{IsAtMostAsLong}
+use Rattle.store_core.proofs.store.boxes.make_log.Goals as goal
+
+pub returns-clause-any_moment : goal.returns-clause-any_moment
+returns-clause-any_moment g c =
+    each_image-map (λ _ image. IfTold (g.D.Disk.history c.args.disk.now) (λ before. IsAtMostAsLong 26 (before (file.Box c.args.number.0 1)) (image (file.Box c.args.number.0 1))) × OthersStay (file.Box c.args.number.0 1) (g.D.Disk.history c.args.disk.now) image)
+    (λ _ image. OthersStay (file.Box c.args.number.0 1) (g.D.Disk.history c.args.disk.now) image) (g.D.Disk.history c.args.disk.now) (g.D.Disk.history c.create_log.new.disk) (λ moment image i. i.1) c.create_log.ensures.any_moment

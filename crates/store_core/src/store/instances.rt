@@ -1,0 +1,135 @@
+// The instances of a store: which are known and who holds them, what is read of them, and how one is placed.
+ghost use Rattle.std.specs.Prelude.{◌≡◌, ◌≢◌, ◌↔◌, ◌<◌, ◌≤◌, ◌+◌, ◌-◌, nat_lt, false, ℕ, length, take, drop, Some, IfOk, IfErr, OnOk, IsErr, IsErrOf, IsTrue};
+ghost use Rattle.disk_model.specs.Disk.{Grows, IfTold, IsIdle, Keeps, reading};
+ghost use Rattle.disk_model.specs.FaultCounts.{NoFault, ChangeFaultCounted, ReadFaultCounted};
+ghost use Rattle.model_lists.specs.Lists.{Lists};
+ghost use Rattle.model_store.specs.Settled.{IsSettledFor, Leaves};
+ghost use Rattle.sis_store.specs.Instances.{IsInstanceKnown, after_placing, candidate_in, holders_in, instance_past, next_id, with_holders};
+ghost use Rattle.sis_store.specs.OnDisk.{IsUnlikeKnown, OnlyNamesSynced, file_of, next_instance_file, octets_read};
+ghost use Rattle.store_core.specs.Dues.{KeepsStored};
+ghost use Rattle.store_core.specs.PlaceStops.{IsPlaceStop};
+ghost use Rattle.store_core.specs.StoreInstances.{with_placed};
+ghost use Rattle.store_core.specs.declared.error.PlaceStop.TheVariants as place_stop;
+
+use super::Store;
+use crate::error::PlaceStop;
+use disk_model::Disk;
+use mdbox_base::{Hash, InstId};
+use sis_store::{DiskFault, PlaceFault};
+
+impl<D: Disk> Store<D> {
+    /// The known instance of this hash and size with the least id greater than `after`, or with the least of all. None if and
+    /// only if there is none.
+    pub fn candidate(&self, hash: Hash, size: u32, after: Option<InstId>) -> Option<InstId>
+        ensures { result ≡ candidate_in hash size after self.now.instances.known }
+    {
+        self.instances.candidate(hash, size, after)
+    }
+
+    /// The known instance with the least id greater than `after`, or with the least of all. None if and only if there is none.
+    pub fn next_instance(&self, after: Option<InstId>) -> Option<InstId>
+        ensures { result ≡ instance_past after self.now.instances.known }
+    {
+        self.instances.next_instance(after)
+    }
+
+    /// Whether somebody holds an instance.
+    pub fn is_held(&self, id: InstId) -> bool
+        ensures { result ≡ nat_lt 0 (holders_in id self.now.instances.known) }
+    {
+        self.instances.is_held(id)
+    }
+
+    /// One more holds an instance.
+    pub fn hold(&mut self, id: InstId)
+        requires known { IsInstanceKnown id self.old.instances.known }
+        requires fewer { holders_in id self.old.instances.known < 4294967295 }
+        ensures { self.new ≡ record self.old { instances = record self.old.instances { known = with_holders id (holders_in id self.old.instances.known + 1) self.old.instances.known } } }
+    {
+        self.instances.hold(id);
+    }
+
+    /// One fewer holds an instance.
+    pub fn let_go(&mut self, id: InstId)
+        requires { 1 ≤ holders_in id self.old.instances.known }
+        ensures { self.new ≡ record self.old { instances = record self.old.instances { known = with_holders id (holders_in id self.old.instances.known - 1) self.old.instances.known } } }
+    {
+        self.instances.let_go(id);
+    }
+
+    /// Whether an instance is just these octets, all of them. After a fault the store goes on.
+    pub fn same_octets(&mut self, id: InstId, octets: &[u8]) -> Result<bool, DiskFault>
+        requires { IsInstanceKnown id self.old.instances.known }
+        ensures alike { IfOk result (λ alike. IfTold (D.history self.old.disk) (λ now. IsTrue alike ↔ (reading (now (file_of id self.old.instances.known)) ≡ Some octets.now))) }
+        ensures same { self.new ≡ record self.old { disk = self.new.disk } }
+        ensures idle { IsIdle (D.history self.old.disk) (D.history self.new.disk) }
+        ensures fault { ReadFaultCounted (IsErr result) (D.faults self.old.disk) (D.faults self.new.disk) }
+        ensures unfailed { OnOk result (NoFault (D.faults self.old.disk) (D.faults self.new.disk)) }
+    {
+        self.instances.same_octets(&mut self.disk, id, octets)
+    }
+
+    /// Reads an instance from an offset on into the front of `into`, to the end of either, and answers how many octets: 0 if
+    /// its file isn't there. After a fault `into` may hold any octets, and the store goes on.
+    pub fn read_instance(
+        &mut self,
+        id: InstId,
+        offset: u64,
+        into: &mut [u8],
+    ) -> Result<usize, DiskFault>
+        requires { IsInstanceKnown id self.old.instances.known }
+        ensures count { IfOk result (λ n. n ≤ length into.new) }
+        ensures piece { IfOk result (λ n. IfTold (D.history self.old.disk) (λ now. take n into.new ≡ octets_read offset (length into.old) (reading (now (file_of id self.old.instances.known))))) }
+        ensures rest { IfOk result (λ n. drop n into.new ≡ drop n into.old) }
+        ensures same { self.new ≡ record self.old { disk = self.new.disk } }
+        ensures idle { IsIdle (D.history self.old.disk) (D.history self.new.disk) }
+        ensures fault { ReadFaultCounted (IsErr result) (D.faults self.old.disk) (D.faults self.new.disk) }
+        ensures unfailed { OnOk result (NoFault (D.faults self.old.disk) (D.faults self.new.disk)) }
+    {
+        self.instances
+            .read_instance(&mut self.disk, id, offset, into)
+    }
+
+    /// Places new octets as an instance, with the next running number, and answers its id. The file is synced, and all names
+    /// are. It is known then, and held once. A change of the disk that fails stops the store; the number stays drawn.
+    pub fn place_instance(&mut self, hash: Hash, octets: &[u8]) -> Result<InstId, PlaceStop>
+        requires running { self.old.stopped ≡ false }
+        requires size { length octets.now ≤ 4294967295 }
+        requires new { IsUnlikeKnown hash (length octets.now) octets.now self.old.instances.known (D.history self.old.disk) }
+
+        // Of a settled disk each image at every moment is safe for its lists, whichever call fails; and after Ok the disk is
+        // settled for them again.
+        ensures any_moment { (lists : Lists) → IsSettledFor lists (D.history self.old.disk) → Leaves lists lists (D.history self.old.disk) (D.history self.new.disk) }
+        ensures settled { OnOk result ((lists : Lists) → IsSettledFor lists (D.history self.old.disk) → IsSettledFor lists (D.history self.new.disk)) }
+
+        // After Ok the octets are a file, and a crash leaves it so. No other file has changed, and their names are synced.
+        ensures id { IfOk result (λ id. id ≡ next_id self.old.instances) }
+        ensures made { OnOk result (IfTold (D.history self.new.disk) (λ now. Keeps (now (next_instance_file hash self.old.instances)) octets.now)) }
+        ensures others { OnOk result (OnlyNamesSynced (next_instance_file hash self.old.instances) (D.history self.old.disk) (D.history self.new.disk)) }
+        ensures stored { OnOk result (KeepsStored (D.history self.old.disk) (D.history self.new.disk)) }
+
+        ensures ok { OnOk result (self.new ≡ with_placed self.new.disk (after_placing hash (length octets.now) self.old.instances) self.old) }
+        ensures refused { IfErr result (IsPlaceStop self.old self.new) }
+        ensures full { self.old.drawn.instance ≡ 4294967294 → IsErrOf result (place_stop.Full 4294967294) }
+        ensures untouched { IfErr result (λ why. why ≢ place_stop.Stopped → D.history self.new.disk ≡ D.history self.old.disk) }
+        ensures grows { Grows (D.history self.old.disk) (D.history self.new.disk) }
+        ensures fault { ChangeFaultCounted (IsErrOf result place_stop.Stopped) (D.faults self.old.disk) (D.faults self.new.disk) }
+        ensures unfailed { (IsErrOf result place_stop.Stopped → ⊥) → NoFault (D.faults self.old.disk) (D.faults self.new.disk) }
+    {
+        self.instances.known_facts();
+        match self.instances.place_instance(&mut self.disk, hash, octets) {
+            Ok(id) => {
+                self.instances.known_facts();
+                self.drawn.instance += 1;
+                Ok(id)
+            }
+            Err(PlaceFault::Full(last)) => Err(PlaceStop::Full(last)),
+            Err(PlaceFault::NoMemory) => Err(PlaceStop::NoMemory),
+            Err(PlaceFault::DiskFault) => {
+                self.drawn.instance += 1;
+                self.stopped = true;
+                Err(PlaceStop::Stopped)
+            }
+        }
+    }
+}

@@ -1,0 +1,3 @@
+pub mod FoundRowLemmas
+pub mod GatheredLemmas
+pub mod SoundInstanceLemmas

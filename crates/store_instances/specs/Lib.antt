@@ -1,0 +1,2 @@
+pub mod FoundInstances
+pub mod NamedRows
