@@ -10,9 +10,11 @@ use std::test::Fail;
 
 /// A move of message 1 to A, and an expunge of it.
 fn move_and_expunge(alloc: Global) -> Result<Race<MemDisk>, Fail> {
-    let moving = AnyTask::moving(inbox(alloc)?, 1, named(alloc, b"A")?);
-    let expunge = AnyTask::expunge(inbox(alloc)?, 1);
-    Ok(Race::of(moving, expunge, two_mailboxes(alloc)?))
+    let (source, target, same) = (inbox(alloc)?, named(alloc, b"A")?, inbox(alloc)?);
+    let store = two_mailboxes(alloc)?;
+    let moving = AnyTask::moving(source, 1, target);
+    let expunge = AnyTask::expunge(same, 1);
+    Ok(Race::of(moving, expunge, store))
 }
 
 /// The copy is listed before the message leaves its source, and then the count falls.

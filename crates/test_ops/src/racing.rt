@@ -55,6 +55,15 @@ fn run(race: &mut Race<MemDisk>, turns: &[Turn], rt: &impl Abort) -> (End, End) 
     (one, two)
 }
 
+/// A copy of message 1 within INBOX, and an expunge of it.
+fn copy_beside_expunge(alloc: Global) -> Result<Race<MemDisk>, Fail> {
+    let (source, target, same) = (inbox(alloc)?, inbox(alloc)?, inbox(alloc)?);
+    let store = three_messages(alloc)?;
+    let copy = AnyTask::copy(source, 1, target);
+    let expunge = AnyTask::expunge(same, 1);
+    Ok(Race::of(copy, expunge, store))
+}
+
 /// How a copy of message 1 and an expunge of it ended, the UIDs that are left, and the count of record 1.
 fn copy_and_expunge(
     alloc: Global,
@@ -62,9 +71,7 @@ fn copy_and_expunge(
     rt: &impl Abort,
 ) -> Result<(End, End, u64, u16), Fail> {
     let name = inbox(alloc)?;
-    let copy = AnyTask::copy(inbox(alloc)?, 1, inbox(alloc)?);
-    let expunge = AnyTask::expunge(inbox(alloc)?, 1);
-    let mut race = Race::of(copy, expunge, three_messages(alloc)?);
+    let mut race = copy_beside_expunge(alloc)?;
     let (one, two) = run(&mut race, turns, rt);
     let left = uids(race.store(), &name);
     let count = race.store().count_of(FIRST);
@@ -92,9 +99,12 @@ fn a_copy_races_an_expunge(rt: HostRuntime) -> Result<(), Fail> {
 
 /// A move of message 1 to A, and one of it to B.
 fn two_moves(alloc: Global) -> Result<Race<MemDisk>, Fail> {
-    let one = AnyTask::moving(inbox(alloc)?, 1, named(alloc, b"A")?);
-    let two = AnyTask::moving(inbox(alloc)?, 1, named(alloc, b"B")?);
-    Ok(Race::of(one, two, three_mailboxes(alloc)?))
+    let (first, second) = (inbox(alloc)?, inbox(alloc)?);
+    let (a, b) = (named(alloc, b"A")?, named(alloc, b"B")?);
+    let store = three_mailboxes(alloc)?;
+    let one = AnyTask::moving(first, 1, a);
+    let two = AnyTask::moving(second, 1, b);
+    Ok(Race::of(one, two, store))
 }
 
 /// The UIDs that INBOX, A and B list.
@@ -153,11 +163,19 @@ fn two_moves_of_one_message(rt: HostRuntime) -> Result<(), Fail> {
     Ok(())
 }
 
+/// Two copies of message 1 to A, of whose UIDs the last one is free.
+fn two_copies(alloc: Global) -> Result<Race<MemDisk>, Fail> {
+    let (first, second) = (inbox(alloc)?, inbox(alloc)?);
+    let (a, same) = (named(alloc, b"A")?, named(alloc, b"A")?);
+    let store = last_uid_free(alloc)?;
+    let one = AnyTask::copy(first, 1, a);
+    let two = AnyTask::copy(second, 1, same);
+    Ok(Race::of(one, two, store))
+}
+
 /// How two copies of message 1 to A, of whose UIDs the last one is free, ended, and the count of record 1.
 fn copy_twice(alloc: Global, turns: &[Turn], rt: &impl Abort) -> Result<(End, End, u16), Fail> {
-    let one = AnyTask::copy(inbox(alloc)?, 1, named(alloc, b"A")?);
-    let two = AnyTask::copy(inbox(alloc)?, 1, named(alloc, b"A")?);
-    let mut race = Race::of(one, two, last_uid_free(alloc)?);
+    let mut race = two_copies(alloc)?;
     let (one, two) = run(&mut race, turns, rt);
     let count = race.store().count_of(FIRST);
     let _disk = race.into_disk();
