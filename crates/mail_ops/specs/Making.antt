@@ -82,9 +82,9 @@ abbrev pub make_lists : List ℕ → MakeStage → Lists → Lists
 make_lists name stage.First lists = lists
 make_lists name (stage.Naming number) lists = lists ++ empty_mailbox number.0 name ∷ []
 
-abbrev pub lists_made : List ℕ → MakeStage → Progress → Lists → Lists
-lists_made name now (progress.Done reply.Done) lists = make_lists name now lists
-lists_made name now answer lists = lists
+abbrev pub lists_by_make : List ℕ → MakeStage → Progress → Lists → Lists
+lists_by_make name now (progress.Done reply.Done) lists = make_lists name now lists
+lists_by_make name now answer lists = lists
 
 -- ---- the store
 

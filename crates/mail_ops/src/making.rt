@@ -12,7 +12,7 @@ ghost use Rattle.model_store.specs.Settled.{IsSettledFor, Leaves};
 ghost use Rattle.store_core.specs.Dues.{Moves, Spares, no_amounts, amounts_in};
 ghost use Rattle.task_steps.specs.Step.{Steps, ended_by};
 ghost use Rattle.mail_ops.specs.Keeping.{KeepsUids};
-ghost use Rattle.mail_ops.specs.Making.{IsAtMake, IsReadyToMake, LeavesLogs, MakeAnswers, make_left, make_lists, lists_made};
+ghost use Rattle.mail_ops.specs.Making.{IsAtMake, IsReadyToMake, LeavesLogs, MakeAnswers, make_left, make_lists, lists_by_make};
 ghost use Rattle.mail_ops.specs.Task.{seen_of};
 ghost use Rattle.mail_ops.specs.declared.making.MakeStage.TheVariants as stage;
 
@@ -86,7 +86,7 @@ impl MakeTask {
         // Of a settled disk each crash image at every moment is safe for its lists, or for those that the event makes of them,
         // whatever fails. Unless the store is stopped then, the disk is settled for those that the answer tells.
         ensures moments { (lists : Lists) → IsSettledFor lists (D.history store.old.disk) → Leaves lists (make_lists self.old.name self.old.stage lists) (D.history store.old.disk) (D.history store.new.disk) }
-        ensures settled { store.new.stopped ≡ false → (lists : Lists) → IsSettledFor lists (D.history store.old.disk) → IsSettledFor (lists_made self.old.name self.old.stage result lists) (D.history store.new.disk) }
+        ensures settled { store.new.stopped ≡ false → (lists : Lists) → IsSettledFor lists (D.history store.old.disk) → IsSettledFor (lists_by_make self.old.name self.old.stage result lists) (D.history store.new.disk) }
 
         // A store that is stopped replies so, and no other does. One that was running is stopped only by a change of the disk
         // that failed; no other call of the disk fails.
