@@ -10,9 +10,9 @@ ghost use Rattle.mdbox_base.specs.declared.requests.Request.TheVariants as reque
 ghost use Rattle.model_lists.specs.Lists.{Lists};
 ghost use Rattle.model_store.specs.Settled.{IsSettledFor, Leaves};
 ghost use Rattle.store_core.specs.Dues.{Moves, Spares, amounts_in};
+ghost use Rattle.store_core.specs.Keeping.{KeepsUids};
 ghost use Rattle.task_steps.specs.Step.{Steps, ended_by};
 ghost use Rattle.mail_ops.specs.Copy.{IsAtCopy, copy_amounts, copy_left, copy_lists, lists_copied, IsReadyToCopy, CopyAnswers, CopiesOn};
-ghost use Rattle.mail_ops.specs.Keeping.{KeepsUids};
 ghost use Rattle.mail_ops.specs.Task.{seen_of};
 ghost use Rattle.mail_ops.specs.declared.copy.CopyStage.TheVariants as stage;
 

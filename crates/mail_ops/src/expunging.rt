@@ -10,9 +10,9 @@ ghost use Rattle.mdbox_base.specs.declared.requests.Request.TheVariants as reque
 ghost use Rattle.model_lists.specs.Lists.{Lists};
 ghost use Rattle.model_store.specs.Settled.{IsSettledFor, Leaves};
 ghost use Rattle.store_core.specs.Dues.{Moves, Spares, amounts_in};
+ghost use Rattle.store_core.specs.Keeping.{KeepsUids};
 ghost use Rattle.task_steps.specs.Step.{Steps, ended_by};
 ghost use Rattle.mail_ops.specs.Expunging.{IsAtExpunge, expunge_amounts, expunge_left, expunge_lists, expunged_lists, ExpungeAnswers, ExpungesOn, RemovesRow, IsNotRemoved};
-ghost use Rattle.mail_ops.specs.Keeping.{KeepsUids};
 ghost use Rattle.mail_ops.specs.Owing.{AreDueIn};
 ghost use Rattle.mail_ops.specs.Task.{seen_of};
 ghost use Rattle.mail_ops.specs.declared.expunging.ExpungeStage.TheVariants as stage;

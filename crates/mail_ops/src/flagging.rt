@@ -9,10 +9,10 @@ ghost use Rattle.mdbox_base.specs.declared.requests.Request.TheVariants as reque
 ghost use Rattle.model_lists.specs.Lists.{Lists};
 ghost use Rattle.model_store.specs.Settled.{IsSettledFor, Leaves};
 ghost use Rattle.mail_ops.specs.Flagging.{flag_refusal};
-ghost use Rattle.mail_ops.specs.Keeping.{KeepsUids};
 ghost use Rattle.mail_ops.specs.Requests.{lists_after, lists_by_reply};
 ghost use Rattle.mail_ops.specs.Task.{seen_of};
 ghost use Rattle.store_core.specs.Dues.{due_at, KeepsStored};
+ghost use Rattle.store_core.specs.Keeping.{KeepsUids};
 ghost use Rattle.task_steps.specs.Step.{HasNotBegun, Steps};
 
 use crate::laws::flags_are_shown;

@@ -10,8 +10,8 @@ ghost use Rattle.mdbox_base.specs.declared.requests.Request.TheVariants as reque
 ghost use Rattle.model_lists.specs.Lists.{Lists};
 ghost use Rattle.model_store.specs.Settled.{IsSettledFor, Leaves};
 ghost use Rattle.store_core.specs.Dues.{Moves, Spares, amounts_in};
+ghost use Rattle.store_core.specs.Keeping.{KeepsUids};
 ghost use Rattle.task_steps.specs.Step.{Steps, ended_by};
-ghost use Rattle.mail_ops.specs.Keeping.{KeepsUids};
 ghost use Rattle.mail_ops.specs.Moving.{IsAtMove, move_amounts, move_left, move_lists, lists_moved, IsReadyToMove, MoveAnswers, MovesOn};
 ghost use Rattle.mail_ops.specs.Task.{seen_of};
 ghost use Rattle.mail_ops.specs.declared.moving.MoveStage.TheVariants as stage;

@@ -10,9 +10,9 @@ ghost use Rattle.mdbox_base.specs.declared.replies.Reply.TheVariants as reply;
 ghost use Rattle.model_lists.specs.Lists.{Lists};
 ghost use Rattle.model_store.specs.Settled.{IsSettledFor, Leaves};
 ghost use Rattle.task_steps.specs.Step.{HasNotBegun, Steps, ended_by};
-ghost use Rattle.mail_ops.specs.Keeping.{KeepsUids};
 ghost use Rattle.mail_ops.specs.Requests.{IsOpsRequest, Replies, AppendsNothing, lists_after, lists_by_reply};
 ghost use Rattle.store_core.specs.Dues.{due_at, KeepsStored, Moves, Spares, amounts_in};
+ghost use Rattle.store_core.specs.Keeping.{KeepsUids};
 ghost use Rattle.mail_ops.specs.Task.{IsAt, amounts_of, seen_of};
 ghost use Rattle.mail_ops.specs.declared.task.TaskStage.TheVariants as stage;
 
