@@ -9,6 +9,11 @@ use Rattle.store_core.specs.Value.{StoreValue, list_named}
 abbrev pub KeepsMail : Option History → Option History → Type 0
 KeepsMail = Between (λ a b. ((number : ℕ) → b (file.Mail number) ≡ a (file.Mail number)) × ((hash id : List ℕ) → b (file.Inst hash id) ≡ a (file.Inst hash id)))
 
+-- Of the store's value no more has changed than what its logs mean, what is due, the numbers drawn, and whether it is stopped: its
+-- storage files, its instances and the logs that were made are as they were.
+abbrev pub KeepsRest : {D : Type 0} → StoreValue D → StoreValue D → Type 0
+KeepsRest old new = new ≡ record old { disk = new.disk; map_log = new.map_log; map = new.map; boxes = new.boxes; drawn = new.drawn; dues = new.dues; stopped = new.stopped }
+
 -- The mailbox with this name lists no other message with this UID than one of this record, and will list none: the UID lies below
 -- its next one.
 pub record KeepsUid {D : Type 0} (name : List ℕ) (uid : ℕ) (held : ℕ) (store : StoreValue D) : Type 0 where
