@@ -69,6 +69,11 @@ pub record LeavesLogs {D : Type 0} (mine mine_now : MakeStage) (old new : StoreV
   pub logs : (other : ℕ) → has_made_log other old ≡ true → (IsOwnLog mine other → ⊥) → has_made_log other new ≡ true
   pub fresh : (other : ℕ) → has_made_log other old ≡ true → (IsOwnLog mine other → ⊥) → IsOwnLog mine_now other → ⊥
 
+-- Of the store's value no more has changed than its map, its mailboxes, the logs that were made, the numbers drawn, and whether it is
+-- stopped: what is due, its storage files and its instances are as they were.
+abbrev pub KeepsAllButLogs : {D : Type 0} → StoreValue D → StoreValue D → Type 0
+KeepsAllButLogs old new = new ≡ record old { disk = new.disk; map_log = new.map_log; map = new.map; boxes = new.boxes; made = new.made; drawn = new.drawn; stopped = new.stopped }
+
 -- How many events are still to come at the most, as long as no other task makes a mailbox: a log whose number was overtaken is
 -- removed, and another made.
 abbrev pub make_left : {D : Type 0} → MakeStage → StoreValue D → ℕ
@@ -97,7 +102,7 @@ pub record MakesLog {D : Type 0} (number : ℕ) (old new : StoreValue D) : Type 
   pub next : number ≡ old.drawn.mailbox + 1
   pub is_number : IsNumber number
   pub unmade : has_made_log number old ≡ false
-  pub made : (other : ℕ) → has_made_log other new ≡ (other == number || has_made_log other old)
+  pub made : (other : ℕ) → has_made_log other new ≡ (has_made_log other old || number == other)
   pub unnamed : IsUnnamed number new.map
   pub same : new ≡ record (with_drawn_box number old) { disk = new.disk; made = new.made }
 

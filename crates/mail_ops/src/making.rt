@@ -10,9 +10,9 @@ ghost use Rattle.mdbox_base.specs.declared.requests.Request.TheVariants as reque
 ghost use Rattle.model_lists.specs.Lists.{Lists};
 ghost use Rattle.model_store.specs.Settled.{IsSettledFor, Leaves};
 ghost use Rattle.store_core.specs.Dues.{Moves, Spares, no_amounts, amounts_in};
+ghost use Rattle.store_core.specs.Keeping.{KeepsUids};
 ghost use Rattle.task_steps.specs.Step.{Steps, ended_by};
-ghost use Rattle.mail_ops.specs.Keeping.{KeepsUids};
-ghost use Rattle.mail_ops.specs.Making.{IsAtMake, IsReadyToMake, LeavesLogs, MakeAnswers, make_left, make_lists, lists_by_make};
+ghost use Rattle.mail_ops.specs.Making.{IsAtMake, IsReadyToMake, LeavesLogs, KeepsAllButLogs, MakeAnswers, make_left, make_lists, lists_by_make};
 ghost use Rattle.mail_ops.specs.Task.{seen_of};
 ghost use Rattle.mail_ops.specs.declared.making.MakeStage.TheVariants as stage;
 
@@ -96,11 +96,13 @@ impl MakeTask {
         ensures unfailed { result ≢ progress.Done (reply.Refused refusal.Stopped) → NoFault (D.faults store.old.disk) (D.faults store.new.disk) }
 
         // What is due of each record stays, and each record is kept, unless a failed change stops the store. No other message gets
-        // the UID of one that another task copies or moves, and logs that other tasks have made stay.
+        // the UID of one that another task copies or moves, the logs that other tasks have made stay, and so does the rest of the
+        // store.
         ensures moves { Moves no_amounts no_amounts (amounts_in store.old) (amounts_in store.new) }
         ensures spares { store.new.stopped ≡ store.old.stopped → Spares no_amounts store.old store.new (D.history store.old.disk) (D.history store.new.disk) }
         ensures keeps { KeepsUids store.old store.new }
         ensures logs { LeavesLogs self.old.stage self.new.stage store.old store.new }
+        ensures rest { KeepsAllButLogs store.old store.new }
         ensures replies { store.old.stopped ≡ false → MakeAnswers self.old.name self.old.stage store.old store.new (D.history store.new.disk) self.new.stage result }
 
         // So it ends.
