@@ -105,7 +105,7 @@ no_check run name number store history faults lists shows n = naming_checked run
 done_stopped : Some reply.Done ≡ Some (reply.Refused refusal.Stopped) → ⊥
 done_stopped e = let k : reply.Done ≡ reply.Refused refusal.Stopped = cc e in cc k
 
-named_due : {D : Type 0} → (old new : StoreValue D) (number : BoxNo) (name : List ℕ) (uid : ℕ) → NamesLog number name old new → due_at uid new ≡ due_at uid old
+pub named_due : {D : Type 0} → (old new : StoreValue D) (number : BoxNo) (name : List ℕ) (uid : ℕ) → NamesLog number name old new → due_at uid new ≡ due_at uid old
 named_due old new number name uid n =
     ap (λ (rows : List MapRecord). number_beside uid rows new.dues) (ap (λ (m : MapMeaning). m.records) n.map ∙ same_records old.map number name) ∙ ap (λ (dues : List ℕ). number_beside uid old.map.records dues) (ap (λ (s : StoreValue _). s.dues) n.same)
 
