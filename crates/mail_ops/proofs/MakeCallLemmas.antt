@@ -1,5 +1,5 @@
 -- What the calls of a make ask and tell of a store.
-use Rattle.std.proofs.Common.{◌≡◌, ◌≤◌, ◌<◌, ◌+◌, ◌==◌, ◌||◌, ℕ, Bool, true, false, cond, List, [], ◌∷◌, map, Option, Some, None, refl, sym, ◌∙◌, ap, subst, arith}
+use Rattle.std.proofs.Common.{◌≡◌, ◌≤◌, ◌<◌, ◌+◌, ◌==◌, ◌||◌, ℕ, Bool, true, false, cond, List, [], ◌∷◌, Option, Some, None, refl, sym, ◌∙◌, ap, subst, arith}
 use Rattle.std.specs.Prelude.{◌≢◌, All, is_some, length, nat_le}
 use Rattle.std.specs.Option.{option_or}
 use Rattle.std.specs.Str.{bytes_eq}
@@ -9,7 +9,6 @@ use Rattle.std.proofs.lemmas.Slice.Eq.{bytes_eq-Decides}
 use Rattle.disk_model.specs.Disk.{History, Faults, Grows}
 use Rattle.disk_model.specs.FaultCounts.{NoFault}
 use Rattle.mdbox_base.specs.Words.{IsNumber}
-use Rattle.mdbox_base.specs.declared.ids.BoxNo.{BoxNo}
 use Rattle.mdbox_base.specs.declared.replies.Refusal.{Refusal}
 use Rattle.mdbox_base.specs.declared.replies.Refusal.TheVariants as refusal
 use Rattle.model_lists.specs.Lists.{Lists}
@@ -24,7 +23,7 @@ use Rattle.store_core.specs.MadeLogs.{IsUnnamed, has_made_log}
 use Rattle.store_core.specs.Running.{AreBoxLogs, IsStore}
 use Rattle.store_core.specs.Value.{StoreValue, indexes_of, list_named}
 use Rattle.store_core.specs.declared.store.OpenBox.{OpenBox}
-use Rattle.mail_ops.specs.Making.{naming_refusal, making_refusal, with_drawn_box, HasChangedDisk, same_lists, MadeLogSo}
+use Rattle.mail_ops.specs.Making.{naming_refusal, making_refusal, with_drawn_box, MadeLogSo}
 
 -- ---- the first event
 

@@ -1,6 +1,5 @@
 -- What the events of a make leave to other tasks, and the log that it has made.
-use Rattle.std.proofs.Common.{◌≡◌, ◌≤◌, ◌<◌, ◌+◌, ◌==◌, ◌||◌, ℕ, Bool, true, false, cond, List, [], ◌∷◌, ◌++◌, Option, Some, None, refl, sym, ◌∙◌, ap, subst, arith}
-use Rattle.std.specs.Prelude.{◌≢◌}
+use Rattle.std.proofs.Common.{◌≡◌, ◌==◌, ◌||◌, ℕ, Bool, true, false, cond, List, [], ◌∷◌, ◌++◌, Some, None, refl, sym, ◌∙◌, ap}
 use Rattle.std.specs.List.{list_any}
 use Rattle.std.specs.Str.{bytes_eq}
 use Rattle.std.proofs.lemmas.Bool.{eq-eqb}
@@ -8,13 +7,13 @@ use Rattle.mdbox_base.specs.declared.ids.BoxNo.{BoxNo}
 use Rattle.model_meaning.specs.BoxMeaning.{BoxMeaning, box_meaning}
 use Rattle.model_meaning.specs.MapMeaning.{MapBox, MapMeaning}
 use Rattle.model_store.specs.Listing.{meaning_named}
-use Rattle.store_core.specs.Keeping.{KeepsUids}
+use Rattle.store_core.specs.Keeping.{KeepsRest, KeepsUids}
 use Rattle.store_core.specs.MadeLogs.{has_made_log, without_box}
 use Rattle.store_core.specs.Value.{StoreValue, indexes_of}
 use Rattle.store_core.specs.declared.store.OpenBox.{OpenBox}
 use Rattle.store_core.proofs.MadeLogLemmas.{left_has}
 use Rattle.store_core.proofs.NamingLemmas.{one_box_more, box_named}
-use Rattle.mail_ops.specs.Making.{IsOwnLog, IsReadyToMake, HaveOtherLogs, LeavesLogs, MakesLog, NamesLog}
+use Rattle.mail_ops.specs.Making.{IsReadyToMake, HaveOtherLogs, LeavesLogs, MakesLog, NamesLog}
 use Rattle.mail_ops.specs.declared.making.MakeStage.{MakeStage}
 use Rattle.mail_ops.specs.declared.making.MakeStage.TheVariants as stage
 
@@ -64,6 +63,10 @@ makes_stay_apart mine mine_now stage.First old new l apart ready = λ number own
 makes_stay_apart mine mine_now (stage.Naming made) old new l apart ready = λ number own theirs.
     let there : has_made_log number old ≡ true = ap (λ (n : ℕ). has_made_log n old) theirs ∙ ready in
     l.fresh number there (λ mine_is. apart number mine_is theirs) own
+
+pub make_ready_beside : {D : Type 0} → (other : MakeStage) (old new : StoreValue D) → KeepsRest old new → IsReadyToMake other old → IsReadyToMake other new
+make_ready_beside stage.First old new rest ready = tt
+make_ready_beside (stage.Naming number) old new rest ready = ap (λ (s : StoreValue _). has_made_log number.0 s) rest ∙ ready
 
 -- ---- the UIDs of other tasks' messages
 

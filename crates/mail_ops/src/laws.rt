@@ -15,7 +15,7 @@ ghost use Rattle.model_meaning.specs.BoxMeaning.{LogRow, BoxMeaning, row_at};
 ghost use Rattle.model_meaning.specs.MapMeaning.{MapBox};
 ghost use Rattle.model_store.specs.Listing.{ShowLists, meaning_named, listing_of};
 ghost use Rattle.store_core.specs.Dues.{Amounts, Moves, amounts_in};
-ghost use Rattle.store_core.specs.Keeping.{KeepsUids};
+ghost use Rattle.store_core.specs.Keeping.{KeepsRest, KeepsUids};
 ghost use Rattle.store_core.specs.Value.{StoreValue};
 ghost use Rattle.task_steps.specs.Step.{IsKept};
 ghost use Rattle.mail_ops.specs.Copy.{IsAtCopy, IsReadyToCopy, copy_amounts};
@@ -68,10 +68,12 @@ pub fn others_stay_ready<D: Disk>()
         → IsReadyToMove name uid now old → IsReadyToMove name uid now new }
 {}
 
-/// A make whose log isn't the task's own stays ready too, where the event leaves the logs, and a log that it makes is another.
+/// A make whose log isn't the task's own stays ready too, where the event leaves the logs, and a log that it makes is another. So
+/// it does beside an event that leaves the rest of the store as it is.
 pub fn makes_stay_ready<D: Disk>()
     ensures ready { (mine mine_now other : MakeStage) (old new : StoreValue D) → LeavesLogs mine mine_now old new → HaveOtherLogs mine other → IsReadyToMake other old → IsReadyToMake other new }
     ensures apart { (mine mine_now other : MakeStage) (old new : StoreValue D) → LeavesLogs mine mine_now old new → HaveOtherLogs mine other → IsReadyToMake other old → HaveOtherLogs mine_now other }
+    ensures beside { (other : MakeStage) (old new : StoreValue D) → KeepsRest old new → IsReadyToMake other old → IsReadyToMake other new }
 {}
 
 /// Where lists are shown, what the logs of the mailboxes mean is what the list machine answers a listing.

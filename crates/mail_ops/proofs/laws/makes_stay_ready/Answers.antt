@@ -1,4 +1,4 @@
-use Rattle.mail_ops.proofs.MakeLogLemmas.{make_stays_ready, makes_stay_apart}
+use Rattle.mail_ops.proofs.MakeLogLemmas.{make_ready_beside, make_stays_ready, makes_stay_apart}
 use Rattle.mail_ops.proofs.laws.makes_stay_ready.Goals as goal
 
 pub returns-clause-ready : goal.returns-clause-ready
@@ -6,3 +6,6 @@ returns-clause-ready g c = make_stays_ready
 
 pub returns-clause-apart : goal.returns-clause-apart
 returns-clause-apart g c = makes_stay_apart
+
+pub returns-clause-beside : goal.returns-clause-beside
+returns-clause-beside g c = make_ready_beside
