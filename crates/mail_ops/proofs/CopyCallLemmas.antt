@@ -20,9 +20,10 @@ use Rattle.model_meaning.proofs.MapPlaceLemmas.{equal_is}
 use Rattle.model_octets.proofs.SearchLemmas.{found_one}
 use Rattle.model_store.specs.Listing.{meaning_named}
 use Rattle.model_store.specs.Opening.{AreBoxEntries, listed_of, IsCounted}
+use Rattle.store_core.specs.Keeping.{KeepsUid}
 use Rattle.store_core.specs.Running.{IsStore}
 use Rattle.store_core.specs.Value.{StoreValue, list_named}
-use Rattle.mail_ops.specs.Copying.{room_refusal, copy_refusal, KeepsUid}
+use Rattle.mail_ops.specs.Copying.{room_refusal, copy_refusal}
 use Rattle.mail_ops.specs.Messages.{IsRowOf}
 use Rattle.mail_ops.proofs.MessageLemmas.{RecordOfRow, record_of_row}
 

@@ -6,12 +6,12 @@ use Rattle.mdbox_base.specs.declared.progress.Did.{Did}
 use Rattle.mdbox_base.specs.declared.progress.Progress.{Progress}
 use Rattle.mdbox_base.specs.declared.progress.Progress.TheVariants as progress
 use Rattle.mdbox_base.specs.declared.replies.Reply.TheVariants as reply
+use Rattle.store_core.specs.Keeping.{KeepsUids}
 use Rattle.store_core.specs.Value.{StoreValue}
 use Rattle.mail_ops.specs.Appends.{lowering_of}
 use Rattle.mail_ops.specs.Copy.{CopiesOn}
 use Rattle.mail_ops.specs.Copying.{raising_of, IsNotRaised}
 use Rattle.mail_ops.specs.Expunging.{IsNotRemoved, ExpungesOn}
-use Rattle.mail_ops.specs.Keeping.{KeepsUids}
 use Rattle.mail_ops.specs.Moving.{MovesOn}
 use Rattle.mail_ops.specs.declared.copy.CopyStage.{CopyStage}
 use Rattle.mail_ops.specs.declared.copy.CopyStage.TheVariants as copy_stage

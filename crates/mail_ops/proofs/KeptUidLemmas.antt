@@ -12,11 +12,11 @@ use Rattle.model_appends.specs.Appending.{meanings_by}
 use Rattle.model_meaning.specs.BoxMeaning.{LogRow, BoxMeaning, row_at, box_applied}
 use Rattle.model_meaning.specs.MapMeaning.{MapBox, MapMeaning}
 use Rattle.model_store.specs.Listing.{meaning_named, meaning_numbered}
+use Rattle.store_core.specs.Keeping.{KeepsUid, KeepsUids}
 use Rattle.store_core.specs.Value.{StoreValue, indexes_of, list_named, list_numbered}
 use Rattle.mail_ops.specs.Appends.{MapTook, MapFell}
-use Rattle.mail_ops.specs.Copying.{KeepsUid, added_copy, AddsRow, FellAdding}
+use Rattle.mail_ops.specs.Copying.{added_copy, AddsRow, FellAdding}
 use Rattle.mail_ops.specs.Expunging.{RemovesRow, FellRemoving}
-use Rattle.mail_ops.specs.Keeping.{KeepsUids}
 use Rattle.mail_ops.proofs.KeptRowLemmas.{KeepsRows, WasListed, addition_keeps, flagging_keeps, removal_keeps}
 
 some_meaning : (a b : BoxMeaning) → Some a ≡ Some b → a ≡ b

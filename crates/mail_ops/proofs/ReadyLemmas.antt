@@ -2,9 +2,10 @@
 use Rattle.std.proofs.Common.{◌≡◌, ◌≤◌, ◌+◌, ℕ, List, arith}
 use Rattle.mdbox_base.specs.declared.ids.Uid.{Uid}
 use Rattle.store_core.specs.Dues.{Amounts, Moves, amounts_in, due_at}
+use Rattle.store_core.specs.Keeping.{KeepsUids}
 use Rattle.store_core.specs.Value.{StoreValue}
 use Rattle.mail_ops.specs.Copy.{KeepsSource, IsReadyToCopy, copy_amounts}
-use Rattle.mail_ops.specs.Keeping.{KeepsUids, both_amounts}
+use Rattle.mail_ops.specs.Keeping.{both_amounts}
 use Rattle.mail_ops.specs.Moving.{KeepsMoved, IsReadyToMove, move_amounts}
 use Rattle.mail_ops.specs.Owing.{AreDueIn}
 use Rattle.mail_ops.specs.declared.copy.CopyStage.{CopyStage}

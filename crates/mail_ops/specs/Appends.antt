@@ -14,6 +14,7 @@ use Rattle.model_meaning.specs.MapMeaning.{MapRecord, map_applied, record_at}
 use Rattle.model_store.specs.Settled.{IsSettledFor, Leaves}
 use Rattle.store_core.specs.Append.{Brings}
 use Rattle.store_core.specs.Dues.{due_at, IsSpared, KeepsStored}
+use Rattle.store_core.specs.Keeping.{KeepsRest}
 use Rattle.store_core.specs.Value.{StoreValue, indexes_of, list_numbered}
 
 -- the entry that lowers the count of a record by one
@@ -22,13 +23,15 @@ lowering_of uid = map_entry.D (uid ∷ [])
 
 -- ---- to the map log
 
--- Of a settled disk each image at every moment is safe for its lists, whichever call fails. Mailboxes and storage files stay.
+-- Of a settled disk each image at every moment is safe for its lists, whichever call fails. Mailboxes, storage files and the rest of the
+-- store stay.
 pub record MapAppends {D : Type 0} (old new : StoreValue D) (before after : Option History) (began now : Faults) : Type 0 where
   pub moments : (lists : Lists) → IsSettledFor lists before → Leaves lists lists before after
   pub indexes : indexes_of new.boxes ≡ indexes_of old.boxes
   pub mailboxes : new.map.boxes ≡ old.map.boxes
   pub drawn : new.drawn ≡ old.drawn
   pub files : new.files ≡ old.files
+  pub rest : KeepsRest old new
   pub grows : Grows before after
   pub reads : now.reads ≡ began.reads
   pub changes : began.changes ≤ now.changes
@@ -63,13 +66,14 @@ MapAnswers entry (Err e) old new before after began now = MapFell old new before
 
 -- ---- to the log of a mailbox
 
--- Of a settled disk each image at every moment is safe for its lists, or for those that the entry gives. The map and the storage
--- files stay.
+-- Of a settled disk each image at every moment is safe for its lists, or for those that the entry gives. The map, the storage
+-- files and the rest of the store stay.
 pub record BoxAppends {D : Type 0} (number : ℕ) (entry : BoxEntry) (old new : StoreValue D) (before after : Option History) (began now : Faults) : Type 0 where
   pub moments : (lists : Lists) (octets : List ℕ) → Brings old.map entry octets before → IsSettledFor lists before → Leaves lists (lists_by number octets entry lists) before after
   pub map : new.map ≡ old.map
   pub drawn : new.drawn ≡ old.drawn
   pub files : new.files ≡ old.files
+  pub rest : KeepsRest old new
   pub grows : Grows before after
   pub reads : now.reads ≡ began.reads
   pub changes : began.changes ≤ now.changes

@@ -17,12 +17,13 @@ use Rattle.model_meaning.specs.MapMeaning.{count_of}
 use Rattle.list_machine.specs.Run.{Run}
 use Rattle.list_machine.specs.Machine.{add_message, message_at}
 use Rattle.store_core.specs.Dues.{Amounts}
+use Rattle.store_core.specs.Keeping.{KeepsUid}
 use Rattle.store_core.specs.Value.{StoreValue}
 use Rattle.task_steps.specs.ExpungeStages.{one_due}
 use Rattle.task_steps.specs.Step.{HasNotBegun}
 use Rattle.mail_ops.specs.Appends.{MapTook, MapFell, TakesIntoMap, lowering_of}
 use Rattle.mail_ops.specs.CopyStages.{IsHolding, IsGivingBack}
-use Rattle.mail_ops.specs.Copying.{CopyPlace, copy_refusal, KeepsUid, RaisesRow, IsRaiseRefusal, MayBeRaised, raising_of, IsNotRaised, AddsRow, FellAdding}
+use Rattle.mail_ops.specs.Copying.{CopyPlace, copy_refusal, RaisesRow, IsRaiseRefusal, MayBeRaised, raising_of, IsNotRaised, AddsRow, FellAdding}
 use Rattle.mail_ops.specs.Event.{refusal_told, told_as}
 use Rattle.mail_ops.specs.Owing.{AreDueIn}
 use Rattle.mail_ops.specs.declared.copy.CopyStage.{CopyStage}

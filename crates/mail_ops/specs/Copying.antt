@@ -13,6 +13,7 @@ use Rattle.mdbox_base.specs.declared.replies.Refusal.TheVariants as refusal
 use Rattle.model_meaning.specs.BoxMeaning.{LogRow, BoxMeaning, row_at}
 use Rattle.model_meaning.specs.MapMeaning.{count_of}
 use Rattle.list_machine.specs.Machine.{refused_where}
+use Rattle.store_core.specs.Keeping.{KeepsUid}
 use Rattle.store_core.specs.Value.{StoreValue, list_named}
 use Rattle.mail_ops.specs.Appends.{MapTook, MapFell, BoxTook, BoxFell}
 use Rattle.mail_ops.specs.Messages.{IsBoxOf, IsRowOf}
@@ -42,14 +43,6 @@ pub record CopyPlace {D : Type 0} (name : List ℕ) (uid : ℕ) (target : List �
   pub next_is : next ≡ m.next
   pub few : length m.rows < 1000000
   pub some : next ≤ 4294967294
-
--- The mailbox with this name lists no other message with this UID than one of this record, and will list none: the UID lies below
--- its next one.
-pub record KeepsUid {D : Type 0} (name : List ℕ) (uid : ℕ) (held : ℕ) (store : StoreValue D) : Type 0 where
-  pub m : BoxMeaning
-  pub named : list_named store name ≡ Some m
-  pub below : uid < m.next
-  pub same : (row : LogRow) → row_at m uid ≡ Some row → row.map_uid ≡ held
 
 -- the entry that raises a count, and the one that adds a copy of a row with this UID
 abbrev pub raising_of : MapUid → MapEntry

@@ -2,7 +2,8 @@
 ghost use Rattle.std.specs.Prelude.{◌≡◌, ◌≤◌, ◌<◌, length, Some, IfOk, IfErr, false};
 ghost use Rattle.box_index.specs.Row.{row_of};
 ghost use Rattle.store_core.specs.Dues.{due_at};
-ghost use Rattle.mail_ops.specs.Copying.{CopyPlace, copy_refusal, room_refusal, KeepsUid, RaisesRow, IsNotRaised, AddsRow, IsNotAdded};
+ghost use Rattle.store_core.specs.Keeping.{KeepsUid};
+ghost use Rattle.mail_ops.specs.Copying.{CopyPlace, copy_refusal, room_refusal, RaisesRow, IsNotRaised, AddsRow, IsNotAdded};
 
 use crate::event::NotDone;
 use crate::lowering::Lowering;

@@ -1,6 +1,6 @@
 // Removing a message from the source of a move.
 ghost use Rattle.std.specs.Prelude.{◌≡◌, IfOk, IfErr, false};
-ghost use Rattle.mail_ops.specs.Copying.{KeepsUid};
+ghost use Rattle.store_core.specs.Keeping.{KeepsUid};
 ghost use Rattle.mail_ops.specs.Expunging.{FellRemoving};
 ghost use Rattle.mail_ops.specs.Moving.{RemovesIfListed};
 

@@ -6,6 +6,7 @@ pub mod DueLemmas
 pub mod EntryFileLemmas
 pub mod HighestFileLemmas
 pub mod KeptFileLemmas
+pub mod KeptMailLemmas
 pub mod KnownInstanceLemmas
 pub mod LookupLemmas
 pub mod MadeCallLemmas

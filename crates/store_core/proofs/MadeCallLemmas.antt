@@ -1,11 +1,12 @@
 -- A store that makes, removes or names the log of a mailbox, by what the calls have at hand.
-use Rattle.std.specs.Prelude.{AllPairs, not, remove, slice_get, max}
+use Rattle.std.specs.Prelude.{◌||◌, AllPairs, not, remove, slice_get, max}
 use Rattle.std.specs.List.{list_any}
 use Rattle.std.specs.Option.{option_map}
-use Rattle.std.proofs.Common.{◌≡◌, ◌≢◌, ◌<◌, ◌≤◌, ◌==◌, ℕ, true, false, List, [], ◌∷◌, ◌++◌, length, find, slice_index_or, Option, Some, All, sym, ◌∙◌, ap, subst, arith}
+use Rattle.std.proofs.Common.{◌≡◌, ◌≢◌, ◌<◌, ◌≤◌, ◌==◌, ℕ, Bool, true, false, List, [], ◌∷◌, ◌++◌, length, find, slice_index_or, Option, Some, All, sym, ◌∙◌, ap, subst, arith}
 use Rattle.std.proofs.lemmas.List.Elements.{All-nil, All-cons, All-append, All-filter, All-weaker}
 use Rattle.std.proofs.lemmas.Bool.{ne_eqb}
-use Rattle.std.proofs.lemmas.List.Folds.{list_any_none}
+use Rattle.std.proofs.Math.Bool.{or-false}
+use Rattle.std.proofs.lemmas.List.Folds.{list_any_none, list_any-append}
 use Rattle.std.proofs.lemmas.List.Kept.{AllPairs-filter}
 use Rattle.disk_model.specs.Disk.{History}
 use Rattle.disk_model.specs.declared.name.FileName.TheVariants as file
@@ -25,7 +26,7 @@ use Rattle.store_core.specs.Running.{HasEntryRoom, IsStore}
 use Rattle.store_core.specs.Value.{StoreValue, entry_room}
 use Rattle.store_core.specs.declared.store.OpenBox.{OpenBox}
 use Rattle.store_core.proofs.BoxAppendLemmas.{store_sound}
-use Rattle.store_core.proofs.MadeLogLemmas.{IsHeldBy, apart_from_made, held_named, none_has, others_left, taken_left, taken_found, left_has, last_has, more_has, find_made, found_made}
+use Rattle.store_core.proofs.MadeLogLemmas.{IsHeldBy, apart_from_made, held_named, none_has, others_left, taken_left, taken_found, left_has, more_has, find_made, found_made}
 use Rattle.store_core.proofs.PlacingLemmas.{number_at}
 
 -- ---- one that is taken out
@@ -94,8 +95,11 @@ removed old new v w n k runs made same_map same_drawn others =
 
 -- ---- which are made
 
-pub keeps_last : (n : ℕ) (before later : List OpenBox) (b : OpenBox) → later ≡ before ++ b ∷ [] → b.number.0 ≡ n → list_any (λ o. o.number.0 == n) later ≡ true
-keeps_last n before later b is number = subst (λ (bs : List OpenBox). list_any (λ o. o.number.0 == n) bs ≡ true) (sym is) (last_has n before b number)
+pub one_more : (n other : ℕ) (old before later : List OpenBox) (b : OpenBox) → later ≡ before ++ b ∷ [] → before ≡ old → b.number.0 ≡ n → list_any (λ o. o.number.0 == other) later ≡ (list_any (λ o. o.number.0 == other) old || n == other)
+one_more n other old before later b is same number =
+    ap (list_any (λ (o : OpenBox). o.number.0 == other)) (is ∙ ap (λ (bs : List OpenBox). bs ++ b ∷ []) same)
+    ∙ list_any-append (λ (o : OpenBox). o.number.0 == other) old (b ∷ [])
+    ∙ ap (λ (t : Bool). list_any (λ (o : OpenBox). o.number.0 == other) old || t) (or-false (b.number.0 == other) ∙ ap (λ (m : ℕ). m == other) number)
 
 pub keeps_others : (other : ℕ) (old before later : List OpenBox) (b : OpenBox) → later ≡ before ++ b ∷ [] → before ≡ old → list_any (λ o. o.number.0 == other) old ≡ true → list_any (λ o. o.number.0 == other) later ≡ true
 keeps_others other old before later b is same has =

@@ -199,14 +199,6 @@ more_has other (o ∷ os) b has = by_test (o.number.0 == other) has (more_has ot
     by_test true h rest = refl
     by_test false h rest = rest h
 
-pub last_has : (n : ℕ) (boxes : List OpenBox) (b : OpenBox) → b.number.0 ≡ n → list_any (λ o. o.number.0 == n) (boxes ++ b ∷ []) ≡ true
-last_has n [] b is = ap (λ (t : Bool). t || false) (eq-eqb b.number.0 n is)
-last_has n (o ∷ os) b is = by_test (o.number.0 == n) (last_has n os b is)
-  where
-    by_test : (t : Bool) → list_any (λ x. x.number.0 == n) (os ++ b ∷ []) ≡ true → (t || list_any (λ x. x.number.0 == n) (os ++ b ∷ [])) ≡ true
-    by_test true h = refl
-    by_test false h = h
-
 -- ---- after a call that changes other files
 
 pub no_less : {D : Type 0} → (v w : StoreValue D) → w.drawn.mailbox ≡ v.drawn.mailbox → v.drawn.mailbox ≤ w.drawn.mailbox

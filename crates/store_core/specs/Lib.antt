@@ -1,6 +1,7 @@
 pub mod Append
 pub mod Dues
 pub mod Files
+pub mod Keeping
 pub mod Knows
 pub mod MadeLogs
 pub mod MapAppend

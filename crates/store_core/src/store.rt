@@ -18,6 +18,7 @@ ghost use Rattle.sis_store.specs.Instances.{AreInstances};
 ghost use Rattle.storage_files.specs.Files.{AreFilesInOrder};
 ghost use Rattle.store_core.specs.Append.{FitsBox, Brings};
 ghost use Rattle.store_core.specs.Dues.{due_at, leak_at, KeepsStored};
+ghost use Rattle.store_core.specs.Keeping.{KeepsMail};
 ghost use Rattle.store_core.specs.Value.{indexes_of, newly_open, with_entry_room, list_named, list_numbered, references_to};
 ghost use Rattle.store_core.specs.Running.{HasEntryRoom, IsStore};
 ghost use Rattle.store_core.specs.StoreInstances.{HasKnownInstances};
@@ -264,8 +265,9 @@ impl<D: Disk> Store<D> {
         ensures due { OnOk result ((m : BoxMeaning) (uid : ℕ) → list_numbered self.old mailbox.0 ≡ Some m → due_at uid self.new ≡ due_by_box m entry.now (λ uid. due_at uid self.old) uid) }
         ensures leak { (uid : ℕ) → leak_at uid self.new ≡ leak_at uid self.old }
 
-        // Each record stores what it stored.
+        // Each record stores what it stored. Storage files and instances are as they were.
         ensures stored { OnOk result (KeepsStored (D.history self.old.disk) (D.history self.new.disk)) }
+        ensures others { OnOk result (KeepsMail (D.history self.old.disk) (D.history self.new.disk)) }
 
         ensures stopped { IsErrOf result step_error.Stopped ↔ (self.new.stopped ≡ true) }
         ensures untaken { IsErr result → (indexes_of self.new.boxes ≡ indexes_of self.old.boxes) × (self.new.dues ≡ self.old.dues) }

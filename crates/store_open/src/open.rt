@@ -1,5 +1,5 @@
 // Opening a store.
-ghost use Rattle.std.specs.Prelude.{◌≡◌, ◌≤◌, false, ℕ, length, IfOk, IfErr, IsErrOf};
+ghost use Rattle.std.specs.Prelude.{◌≡◌, ◌≤◌, false, [], ℕ, length, IfOk, IfErr, IsErrOf};
 ghost use Rattle.disk_model.specs.Disk.{EachImage, IfTold, IsIdle};
 ghost use Rattle.disk_model.specs.declared.name.FileName.TheVariants as file;
 ghost use Rattle.disk_model.specs.FaultCounts.{NoFault, AnyFaultCounted};
@@ -45,6 +45,9 @@ pub fn open_store<D: Disk>(alloc: Global, disk: D, lanes: u32) -> Result<Store<D
     // The store has what the files meant, and isn't stopped.
     ensures opened { IfOk result (λ store. IsOpenedAs (D.history disk) store.map (indexes_of store.boxes)) }
     ensures state { IfOk result (λ store. (store.lanes ≡ lanes) × (store.stopped ≡ false) × (store.alloc ≡ alloc) × (store.drawn ≡ store.map.highest) × (store.dues ≡ none_due store.map.records)) }
+
+    // No log of a mailbox was made that the map doesn't name.
+    ensures made { IfOk result (λ store. store.made ≡ []) }
 
     // It has the storage files that stand once the disk is swept, and knows each file as the disk has it.
     ensures files { IfOk result (λ store. IsFoundFiles store.map (D.history disk) store.files) }

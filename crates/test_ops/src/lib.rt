@@ -8,6 +8,8 @@ mod copying;
 #[cfg(test)]
 mod expunging;
 #[cfg(test)]
+mod making;
+#[cfg(test)]
 mod moving;
 mod race;
 #[cfg(test)]

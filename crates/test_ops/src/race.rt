@@ -1,6 +1,6 @@
 // Two tasks over one store, whose events take turns.
-ghost use Rattle.mail_ops.specs.Keeping.{KeepsUids};
 ghost use Rattle.store_core.specs.Dues.{Moves, amounts_in};
+ghost use Rattle.store_core.specs.Keeping.{KeepsUids};
 ghost use Rattle.test_ops.specs.Tasks.{task_amounts, IsReadyTask, HasNotStarted};
 
 use disk_model::Disk;

@@ -15,6 +15,7 @@ ghost use Rattle.model_store.specs.Settled.{IsSettledFor, Leaves};
 ghost use Rattle.store_core.specs.Append.{AddsText};
 ghost use Rattle.store_core.specs.Dues.{due_at, listed_at, leak_at, IsSpared, KeepsStored};
 ghost use Rattle.store_core.specs.Files.{LiesBelowEnd};
+ghost use Rattle.store_core.specs.Keeping.{KeepsMail};
 ghost use Rattle.store_core.specs.MapAppend.{IsAppendable, HasDrawnNumbers, FitsDue, HasRegion, IsReadyToStore, drawn_by, IsLongEntry, IsLaidOut, IsSpareCopy};
 ghost use Rattle.store_core.specs.Value.{entry_room};
 ghost use Rattle.store_core.specs.declared.error.StepError.TheVariants as step_error;
@@ -88,10 +89,12 @@ impl<D: Disk> Store<D> {
         ensures leak { OnOk result ((uid : ℕ) → leak_at uid self.new ≡ leak_by entry.now (λ other. leak_at other self.old) uid) }
         ensures mailboxes { self.new.map.boxes ≡ self.old.map.boxes }
 
-        // Each record stores what it stored, and is there still; so is the one that is made.
+        // Each record stores what it stored, and is there still; so is the one that is made. Storage files and instances are as
+        // they were.
         ensures stored { OnOk result (KeepsStored (D.history self.old.disk) (D.history self.new.disk)) }
         ensures spared { OnOk result ((uid : ℕ) (row : MapRecord) → record_at self.old.map uid ≡ Some row → IsSpared uid row self.new (D.history self.old.disk) (D.history self.new.disk)) }
         ensures made { OnOk result (All (λ row. record_at self.new.map row.uid ≡ Some row) (record_made entry.now)) }
+        ensures others { OnOk result (KeepsMail (D.history self.old.disk) (D.history self.new.disk)) }
 
         ensures stopped { IsErrOf result step_error.Stopped ↔ (self.new.stopped ≡ true) }
         ensures untaken { IsErr result → (self.new.map ≡ self.old.map) × (self.new.drawn ≡ self.old.drawn) × (self.new.dues ≡ self.old.dues) }

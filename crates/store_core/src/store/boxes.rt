@@ -1,5 +1,5 @@
 // New mailboxes: their numbers, their logs, and the entries of the map log that name them.
-ghost use Rattle.std.specs.Prelude.{◌≡◌, ◌↔◌, ◌<◌, ◌≤◌, ◌+◌, ◌==◌, ◌++◌, ◌∷◌, [], ℕ, List, All, AllPairs, Some, IfOk, IfSome, IfNone, OnOk, OnErr, IsErr, IsErrOf, find, length, max, vec_len, vec_capacity, true, false};
+ghost use Rattle.std.specs.Prelude.{◌≡◌, ◌↔◌, ◌<◌, ◌≤◌, ◌+◌, ◌==◌, ◌||◌, ◌++◌, ◌∷◌, [], ℕ, List, All, AllPairs, Some, IfOk, IfSome, IfNone, OnOk, OnErr, IsErr, IsErrOf, find, length, max, vec_len, vec_capacity, true, false};
 ghost use Rattle.std.specs.List.{list_any};
 ghost use Rattle.disk_model.specs.Disk.{EachImage, Grows, IfTold, OthersStay, SameButFor, no_file};
 ghost use Rattle.disk_model.specs.FaultCounts.{NoFault, ChangeFaultCounted};
@@ -19,6 +19,7 @@ ghost use Rattle.model_store.specs.Settled.{IsSettledFor, Leaves};
 ghost use Rattle.model_store.specs.Stands.{head_of};
 ghost use Rattle.store_core.specs.Append.{AddsText};
 ghost use Rattle.store_core.specs.Dues.{due_at, leak_at, KeepsStored};
+ghost use Rattle.store_core.specs.Keeping.{KeepsMail};
 ghost use Rattle.store_core.specs.MadeLogs.{HaveOtherNumbers, IsUnnamed, SparesLogs, has_made_log, without_box};
 ghost use Rattle.store_core.specs.Value.{entry_room, indexes_of};
 ghost use Rattle.store_core.specs.declared.error.StepError.TheVariants as step_error;
@@ -82,8 +83,9 @@ impl<D: Disk> Store<D> {
         ensures settled { OnOk result ((lists : Lists) → IsSettledFor lists (D.history self.old.disk) → IsSettledFor lists (D.history self.new.disk)) }
         ensures stored { OnOk result (KeepsStored (D.history self.old.disk) (D.history self.new.disk)) }
 
-        // After Ok the log is made, beside those that were.
-        ensures made { OnOk result (has_made_log number.0 self.new ≡ true) }
+        // After Ok the log is made, beside those that were. No other file has changed, and their names are synced.
+        ensures made { OnOk result ((other : ℕ) → has_made_log other self.new ≡ (has_made_log other self.old || number.0 == other)) }
+        ensures others { OnOk result (NamedButFor (file.Box number.0 1) (D.history self.old.disk) (D.history self.new.disk)) }
         ensures spared { SparesLogs number.0 self.old self.new }
 
         ensures stopped { IsErrOf result step_error.Stopped ↔ (self.new.stopped ≡ true) }
@@ -121,8 +123,9 @@ impl<D: Disk> Store<D> {
         ensures settled { OnOk result ((lists : Lists) → IsSettledFor lists (D.history self.old.disk) → IsSettledFor lists (D.history self.new.disk)) }
         ensures stored { OnOk result (KeepsStored (D.history self.old.disk) (D.history self.new.disk)) }
 
-        // After Ok there is no such log, and no crash leaves one.
+        // After Ok there is no such log, and no crash leaves one. No other file has changed, and their names are synced.
         ensures gone { OnOk result (IfTold (D.history self.new.disk) (λ now. now (file.Box number.0 1) ≡ no_file)) }
+        ensures others { OnOk result (NamedButFor (file.Box number.0 1) (D.history self.old.disk) (D.history self.new.disk)) }
         ensures ok { OnOk result (self.new ≡ record self.old { disk = self.new.disk; made = without_box number.0 self.old.made }) }
         ensures spared { SparesLogs number.0 self.old self.new }
 
@@ -161,6 +164,9 @@ impl<D: Disk> Store<D> {
         ensures records { self.new.map.records ≡ self.old.map.records }
         ensures due { (uid : ℕ) → due_at uid self.new ≡ due_at uid self.old }
         ensures leak { (uid : ℕ) → leak_at uid self.new ≡ leak_at uid self.old }
+
+        // Storage files and instances are as they were.
+        ensures others { OnOk result (KeepsMail (D.history self.old.disk) (D.history self.new.disk)) }
 
         ensures stopped { IsErrOf result step_error.Stopped ↔ (self.new.stopped ≡ true) }
         ensures untaken { IsErr result → (self.new.map ≡ self.old.map) × (self.new.boxes ≡ self.old.boxes) × (self.new.made ≡ self.old.made) }

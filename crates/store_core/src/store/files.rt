@@ -1,6 +1,6 @@
 // The storage files of a store: who takes which, and what is written to them and read.
 ghost use Rattle.std.specs.Prelude.{◌≡◌, ◌↔◌, ◌≤◌, ◌+◌, ℕ, List, length, take, drop, max, true, false, Some, None, IfOk, OnOk, OnErr, IsOk, IsErr};
-ghost use Rattle.disk_model.specs.Disk.{Grows, IfTold, IsIdle, Keeps, SameButFor, reading};
+ghost use Rattle.disk_model.specs.Disk.{Between, Grows, IfTold, IsIdle, Keeps, SameButFor, reading};
 ghost use Rattle.disk_model.specs.FaultCounts.{NoFault, ChangeFaultCounted, ReadFaultCounted};
 ghost use Rattle.disk_model.specs.declared.name.FileName.TheVariants.{Mail};
 ghost use Rattle.model_appends.specs.Appending.{LeavesAsRead};
@@ -8,7 +8,7 @@ ghost use Rattle.model_lists.specs.Lists.{Lists};
 ghost use Rattle.model_meaning.specs.MapFits.{IsFree};
 ghost use Rattle.model_store.specs.Settled.{IsSettledFor, Leaves};
 ghost use Rattle.storage_files.specs.Files.{IsTakeFor, IsGiven, after_take, changed_in, end_in, ending_at, file_past, is_taken_in, released_in};
-ghost use Rattle.storage_files.specs.OnDisk.{OthersAreNamed, piece_read};
+ghost use Rattle.storage_files.specs.OnDisk.{IsAddedTo, OthersAreNamed, piece_read};
 ghost use Rattle.store_core.specs.Dues.{KeepsStored};
 ghost use Rattle.store_core.specs.Files.{IsNewPlace, EndsWith};
 
@@ -127,9 +127,11 @@ impl<D: Disk> Store<D> {
         ensures settled { OnOk result ((lists : Lists) → IsSettledFor lists (D.history self.old.disk) → IsSettledFor lists (D.history self.new.disk)) }
         ensures held { OnOk result ((lists : Lists) → IsSettledFor lists (D.history self.new.disk) → IfTold (D.history self.new.disk) (LeavesAsRead (Mail file.0))) }
 
-        // After Ok the octets stand at the old end, which is the answer. They overlap no region, and no GUID names their place.
+        // After Ok the octets stand at the old end, which is the answer, behind what the file had. They overlap no region, and
+        // no GUID names their place.
         ensures offset { IfOk result (λ offset. end_in file.0 self.old.files.files ≡ Some offset) }
         ensures placed { IfOk result (λ offset. IfTold (D.history self.new.disk) (λ now. EndsWith offset octets.now (now (Mail file.0)))) }
+        ensures added { OnOk result (Between (λ old new. IsAddedTo octets.now (old (Mail file.0)) (new (Mail file.0))) (D.history self.old.disk) (D.history self.new.disk)) }
         ensures others { OnOk result (SameButFor (Mail file.0) (D.history self.old.disk) (D.history self.new.disk)) }
         ensures free { IfOk result (λ offset. IsFree self.old.map file.0 offset (length octets.now)) }
         ensures new_place { IfOk result (λ offset. IsNewPlace self.old.map file.0 offset) }

@@ -1,4 +1,4 @@
-use Rattle.std.proofs.Common.{ap, subst, arith, refl, Err, ℕ, []}
+use Rattle.std.proofs.Common.{◌∙◌, sym, ap, subst, arith, refl, Err, ℕ, []}
 use Rattle.std.proofs.lemmas.List.Elements.{All-nil, All-cons}
 use Rattle.box_index.specs.Row.{row_of}
 use Rattle.mdbox_base.specs.declared.entries.BoxEntry.TheVariants as box_entry
@@ -36,6 +36,7 @@ returns-in-Ok-clause-added g c =
           map = ap (λ v. v.map) o.same;
           drawn = ap (λ v. v.drawn) o.same;
           files = ap (λ v. v.files) o.same;
+          rest = o.same ∙ sym (ap (λ v. record c.args.store.now { disk = v.disk; map_log = v.map_log; map = v.map; boxes = v.boxes; drawn = v.drawn; dues = v.dues; stopped = v.stopped }) o.same);
           grows = o.grows;
           reads = o.fault.reads;
           changes = o.fault.changes;
@@ -66,6 +67,7 @@ returns-in-Err-Stopped-clause-refused g c =
           map = ap (λ v. v.map) o.same;
           drawn = ap (λ v. v.drawn) o.same;
           files = ap (λ v. v.files) o.same;
+          rest = o.same ∙ sym (ap (λ v. record c.args.store.now { disk = v.disk; map_log = v.map_log; map = v.map; boxes = v.boxes; drawn = v.drawn; dues = v.dues; stopped = v.stopped }) o.same);
           grows = o.grows;
           reads = o.fault.reads;
           changes = o.fault.changes;

@@ -1,4 +1,4 @@
-use Rattle.std.proofs.Common.{ap, arith}
+use Rattle.std.proofs.Common.{◌∙◌, sym, ap, arith}
 use Rattle.box_index.specs.Row.{row_of}
 use Rattle.store_core.specs.Value.{indexes_of}
 use Rattle.task_steps.proofs.OneEventLemmas.{not_true, ok_is_none}
@@ -28,6 +28,7 @@ returns-in-Ok-clause-raised g c =
           mailboxes = o.mailboxes;
           drawn = o.drawn;
           files = ap (λ v. v.files) o.same;
+          rest = o.same ∙ sym (ap (λ v. record c.args.store.now { disk = v.disk; map_log = v.map_log; map = v.map; boxes = v.boxes; drawn = v.drawn; dues = v.dues; stopped = v.stopped }) o.same);
           grows = o.grows;
           reads = o.fault.reads;
           changes = o.fault.changes;

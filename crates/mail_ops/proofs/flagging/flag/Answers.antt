@@ -128,3 +128,13 @@ returns-in-Ok-clause-keeps g c =
 
 pub returns-in-Err-Stopped-clause-keeps : goal.returns-in-Err-Stopped-clause-keeps
 returns-in-Err-Stopped-clause-keeps g c = logs_keep c.args.store.now c.append_box.new.self (ap (λ v. v.map.boxes) c.in-Err-Stopped.ensures.same) (c.in-Err-Stopped.ensures.untaken refl).0
+
+pub returns-in-Ok-clause-rest : goal.returns-in-Ok-clause-rest
+returns-in-Ok-clause-rest g c =
+    let same = c.in-Ok.ensures.same in
+    same ∙ sym (ap (λ v. record c.args.store.now { disk = v.disk; map_log = v.map_log; map = v.map; boxes = v.boxes; drawn = v.drawn; dues = v.dues; stopped = v.stopped }) same)
+
+pub returns-in-Err-Stopped-clause-rest : goal.returns-in-Err-Stopped-clause-rest
+returns-in-Err-Stopped-clause-rest g c =
+    let same = c.in-Err-Stopped.ensures.same in
+    same ∙ sym (ap (λ v. record c.args.store.now { disk = v.disk; map_log = v.map_log; map = v.map; boxes = v.boxes; drawn = v.drawn; dues = v.dues; stopped = v.stopped }) same)

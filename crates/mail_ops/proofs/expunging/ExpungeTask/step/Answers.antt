@@ -2,6 +2,7 @@ use Rattle.std.proofs.Common.{sym, ◌∙◌}
 use Rattle.task_steps.proofs.OneEventLemmas.{leaves_none}
 use Rattle.mail_ops.proofs.ExpungeStepLemmas.{expunge_known, stopped_known}
 use Rattle.mail_ops.proofs.KeepingLemmas.{expunge_keeps}
+use Rattle.mail_ops.proofs.KeptRestLemmas.{expunge_rest}
 use Rattle.mail_ops.proofs.expunging.ExpungeTask.step.Goals as goal
 
 pub returns-then-stopped-clause-does : goal.returns-then-stopped-clause-does
@@ -48,3 +49,6 @@ returns-then-stopped-clause-keeps g c = λ name uid held k. k
 
 pub returns-clause-keeps : goal.returns-clause-keeps
 returns-clause-keeps g c = expunge_keeps _ _ c.replace-now.result c.next_event-next.result.0 c.next_event-next.result.1 c.next_event-next.result.2 c.args.store.now c.next_event-next.new.store _ _ _ _ c.next_event-next.ensures
+
+pub returns-clause-rest : goal.returns-clause-rest
+returns-clause-rest g c = expunge_rest _ _ c.replace-now.result c.next_event-next.result.0 c.next_event-next.result.1 c.next_event-next.result.2 c.args.store.now c.next_event-next.new.store _ _ _ _ c.next_event-next.ensures

@@ -8,8 +8,10 @@ use Rattle.model_store.specs.Settled.{IsSettledFor, Leaves}
 use Rattle.store_core.specs.Append.{Brings}
 use Rattle.store_core.specs.Dues.{number_beside, due_at, leak_at, KeepsStored}
 use Rattle.store_core.specs.Value.{indexes_of, list_numbered}
+use Rattle.store_core.specs.Keeping.{KeepsMail}
 use Rattle.store_core.proofs.BoxAppendLemmas.{store_there, stopped_there}
 use Rattle.store_core.proofs.BoxCrashLemmas.{leaves_there, settled_there, stored_there, leaves_none}
+use Rattle.store_core.proofs.KeptMailLemmas.{mail_boxed}
 use Rattle.store_core.proofs.PickingLemmas.{indexes_kept}
 use Rattle.store_core.proofs.PlacingLemmas.{placed, place_below, must_be, read_there, fits_there, room_there, room_stays, taken_there, size_there, due_there, due_room, leak_there, how_is, dues_are_by}
 use Rattle.store_core.proofs.MadeLogLemmas.{made_stopped}
@@ -107,3 +109,8 @@ pub returns-in-Ok-clause-stored : goal.returns-in-Ok-clause-stored
 returns-in-Ok-clause-stored g c =
     subst (λ v. KeepsStored (g.D.Disk.history v.disk) (g.D.Disk.history c.append_in.new.disk)) c.self.view_is
     (stored_there _ _ _ c.in-Some.place c.index_mut.result.now c.args.mailbox.0 c.args.entry.now (placed _ _ c.args.self.now c.deref.result.now c.in-Some.place c.index_mut.result.now c.args.mailbox.0 c.args.entry.now c.self.invariant.1 c.self.view_is c.deref.ensures.value c.requires.running c.requires.range c.requires.fits c.requires.held c.requires.record c.in-Some.ensures.some c.index_mut.ensures.value) c.in-Ok.ensures.others)
+
+pub returns-in-Ok-clause-others : goal.returns-in-Ok-clause-others
+returns-in-Ok-clause-others g c =
+    subst (λ v. KeepsMail (g.D.Disk.history v.disk) (g.D.Disk.history c.append_in.new.disk)) c.self.view_is
+    (mail_boxed _ _ _ c.in-Some.place c.index_mut.result.now c.args.mailbox.0 c.args.entry.now (placed _ _ c.args.self.now c.deref.result.now c.in-Some.place c.index_mut.result.now c.args.mailbox.0 c.args.entry.now c.self.invariant.1 c.self.view_is c.deref.ensures.value c.requires.running c.requires.range c.requires.fits c.requires.held c.requires.record c.in-Some.ensures.some c.index_mut.ensures.value) c.in-Ok.ensures.others)

@@ -9,12 +9,14 @@ use Rattle.model_meaning.specs.MapMeaning.{MapMeaning, map_applied}
 use Rattle.model_store.specs.Settled.{IsSettledFor, Leaves}
 use Rattle.store_core.specs.Append.{AddsText}
 use Rattle.store_core.specs.Dues.{KeepsStored}
+use Rattle.store_core.specs.Keeping.{KeepsMail}
 use Rattle.store_core.specs.MadeLogs.{has_made_log}
 use Rattle.store_core.specs.Value.{indexes_of}
 use Rattle.store_core.specs.declared.store.OpenBox.{OpenBox}
 use Rattle.store_core.proofs.BoxCrashLemmas.{leaves_none}
 use Rattle.store_core.proofs.KnownInstanceLemmas.{instances_naming}
 use Rattle.store_core.proofs.MadeCallLemmas.{left_others}
+use Rattle.store_core.proofs.KeptMailLemmas.{mail_mapped}
 use Rattle.store_core.proofs.NamingLemmas.{same_records, leaves_named, settled_named, stored_named}
 use Rattle.store_core.proofs.NamingCallLemmas.{AddsRead, AddsHeld, can_name, some_name, read_named, store_after_naming, made_after_naming, room_after_naming, indexes_more, due_stays, leak_stays}
 use Rattle.store_core.proofs.store.Store.append_made.Goals as goal
@@ -105,3 +107,8 @@ returns-in-Ok-clause-leak g c =
     (ap (λ x. x.meaning.records) c.take_in.ensures ∙ ap (λ (e : MapEntry). (map_applied e c.take_naming.new.map.meaning).records) c.in_ok-entry.ensures.entry.0 ∙ same_records c.take_naming.new.map.meaning c.args.mailbox c.args.name.now
     ∙ ap (λ (m : MapMeaning). m.records) (c.take_naming.ensures.map ∙ ap (λ v. v.map) c.self.view_is)) (ap (λ v. v.dues) c.self.view_is)
     (indexes_more _ c.move_made.new.boxes.items b c.move_made.ensures.moved.2 can.is_made.empty ∙ ap (λ (bs : List OpenBox). indexes_of bs ++ box_meaning [] ∷ []) (c.take_naming.ensures.boxes ∙ ap (λ v. v.boxes) c.self.view_is))
+
+pub returns-in-Ok-clause-others : goal.returns-in-Ok-clause-others
+returns-in-Ok-clause-others g c =
+    subst (λ v. KeepsMail (g.D.Disk.history v.disk) (g.D.Disk.history c.append_name.new.disk)) c.self.view_is
+    (mail_mapped c.take_naming.new.log.name c.self.invariant.1.generation _ _ (ap (λ (l : LogState). l.name) c.take_naming.ensures.log ∙ c.self.invariant.1.map_name) c.in-Ok.ensures.others)

@@ -7,8 +7,10 @@ use Rattle.model_meaning.specs.MapMeaning.{MapMeaning, map_applied, record_at, r
 use Rattle.model_store.specs.Settled.{files_of, IsSettledFor, Leaves}
 use Rattle.model_store.specs.Stands.{StoresMessage}
 use Rattle.store_core.specs.Dues.{KeepsStored}
+use Rattle.store_core.specs.Keeping.{KeepsMail}
 use Rattle.store_core.specs.MapAppend.{HasRegion, IsReadyToStore}
 use Rattle.store_core.proofs.BoxCrashLemmas.{leaves_none}
+use Rattle.store_core.proofs.KeptMailLemmas.{mail_mapped}
 use Rattle.store_core.proofs.MapAppendLemmas.{readied, seen_prepared, store_after, room_after, read_with, size_with, room_to_rise, due_seen, leak_seen, made_with}
 use Rattle.store_core.proofs.MapCrashLemmas.{leaves_with, settled_with, stored_with, still_stored}
 use Rattle.store_core.proofs.MapDueLemmas.{adds, mailboxes_stay, found_with}
@@ -83,3 +85,8 @@ returns-in-Ok-clause-spared g c = λ uid row found. record {
 
 pub returns-in-Ok-clause-made : goal.returns-in-Ok-clause-made
 returns-in-Ok-clause-made g c = made_with _ _ c.args.entry.now c.take_in.new.map.meaning (readied _ _ c.args.self.now c.take_room.new.log c.take_room.new.map.meaning c.take_room.new.dues.items c.args.entry.now c.self.invariant.1 c.self.view_is c.take_room.ensures.log c.take_room.ensures.map c.take_room.ensures.dues c.requires.running c.requires.range c.requires.kind c.requires.fits c.requires.drawn c.requires.due c.requires.below (subst (λ v. HasRegion c.args.entry.now (g.D.Disk.history v.disk)) (sym c.self.view_is) c.requires.region)) c.take_in.ensures
+
+pub returns-in-Ok-clause-others : goal.returns-in-Ok-clause-others
+returns-in-Ok-clause-others g c =
+    subst (λ v. KeepsMail (g.D.Disk.history v.disk) (g.D.Disk.history c.append_entry.new.disk)) c.self.view_is
+    (mail_mapped c.take_room.new.log.name c.self.invariant.1.generation _ _ (ap (λ (l : LogState). l.name) c.take_room.ensures.log ∙ c.self.invariant.1.map_name) c.in-Ok.ensures.others)

@@ -1,5 +1,7 @@
-use Rattle.std.proofs.Common.{◌≡◌, ◌++◌, ◌∷◌, ◌≤◌, [], false, true, List, refl, sym, ◌∙◌, ap, subst, arith}
+use Rattle.std.proofs.Common.{◌≡◌, ◌==◌, ◌++◌, ◌∷◌, ◌≤◌, [], false, true, List, refl, sym, ◌∙◌, ap, subst, arith}
+use Rattle.std.specs.Prelude.{◌||◌}
 use Rattle.disk_model.specs.declared.name.FileName.TheVariants as file
+use Rattle.gate_log.specs.Log.{NamedButFor}
 use Rattle.model_lists.specs.Lists.{Lists}
 use Rattle.model_store.specs.Settled.{IsSettledFor, Leaves}
 use Rattle.store_core.specs.Dues.{KeepsStored}
@@ -7,7 +9,7 @@ use Rattle.store_core.specs.MadeLogs.{IsUnnamed, has_made_log}
 use Rattle.store_core.specs.declared.store.OpenBox.{OpenBox}
 use Rattle.store_core.proofs.BoxCrashLemmas.{leaves_none}
 use Rattle.store_core.proofs.KnownInstanceLemmas.{instances_logged}
-use Rattle.store_core.proofs.MadeCallLemmas.{created, keeps_last, keeps_others, logged_as, room_same}
+use Rattle.store_core.proofs.MadeCallLemmas.{created, one_more, keeps_others, logged_as, room_same}
 use Rattle.store_core.proofs.UnnamedLogLemmas.{besides, leaves_beside, named_but, settled_then, store_beside, stored_then}
 use Rattle.store_core.proofs.store.Store.create_box.Goals as goal
 
@@ -62,7 +64,11 @@ returns-in-Ok-clause-stored g c =
     subst (λ v. KeepsStored (g.D.Disk.history v.disk) (g.D.Disk.history c.make_log.new.disk)) c.self.view_is (stored_then c.args.number.0 _ _ (besides (file.Box c.args.number.0 1) _ _ (named_but (file.Box c.args.number.0 1) _ _ c.in-Ok.ensures.others)))
 
 pub returns-in-Ok-clause-made : goal.returns-in-Ok-clause-made
-returns-in-Ok-clause-made g c = keeps_last c.args.number.0 _ c.keep_log.new.made.items c.keep_log.ensures.0 c.keep_log.ensures.1 (ap (λ n. n.0) c.keep_log.ensures.2)
+returns-in-Ok-clause-made g c = λ other.
+    one_more c.args.number.0 other _ _ c.keep_log.new.made.items c.keep_log.ensures.0 c.keep_log.ensures.1 c.reserve_one.ensures.same (ap (λ n. n.0) c.keep_log.ensures.2) ∙ ap (λ v. has_made_log other v || c.args.number.0 == other) c.self.view_is
+
+pub returns-in-Ok-clause-others : goal.returns-in-Ok-clause-others
+returns-in-Ok-clause-others g c = subst (λ v. NamedButFor (file.Box c.args.number.0 1) (g.D.Disk.history v.disk) (g.D.Disk.history c.make_log.new.disk)) c.self.view_is c.in-Ok.ensures.others
 
 pub returns-in-Ok-clause-spared : goal.returns-in-Ok-clause-spared
 returns-in-Ok-clause-spared g c = λ other apart has.

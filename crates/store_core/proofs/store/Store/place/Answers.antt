@@ -1,8 +1,9 @@
 use Rattle.std.proofs.Common.{◌≡◌, ◌∙◌, ap, subst, refl}
-use Rattle.disk_model.specs.Disk.{Grows}
+use Rattle.disk_model.specs.Disk.{Between, Grows}
 use Rattle.model_lists.specs.Lists.{Lists}
 use Rattle.model_store.specs.Settled.{IsSettledFor, Leaves}
 use Rattle.storage_files.specs.Files.{end_in, is_taken_in}
+use Rattle.storage_files.specs.OnDisk.{IsAddedTo}
 use Rattle.store_core.specs.Dues.{KeepsStored}
 use Rattle.store_core.proofs.KeptFileLemmas.{file_there, ends_longer}
 use Rattle.store_core.proofs.StoreFileLemmas.{placed_store, placed_leaves, change_added, settled_then, stored_then, held_then, ends_with, each_grows, room_kept}
@@ -65,3 +66,7 @@ returns-in-Ok-clause-stored g c =
 
 pub returns-in-Ok-clause-ends : goal.returns-in-Ok-clause-ends
 returns-in-Ok-clause-ends g c = ends_longer c.args.file.0 c.in-Ok.offset _ c.self.inside.files c.place.new.self c.in-Ok.ensures.offset c.in-Ok.ensures.ok
+
+pub returns-in-Ok-clause-added : goal.returns-in-Ok-clause-added
+returns-in-Ok-clause-added g c =
+    subst (λ v. Between (λ old new. IsAddedTo c.args.octets.now (old (file.Mail c.args.file.0)) (new (file.Mail c.args.file.0))) (g.D.Disk.history v.disk) (g.D.Disk.history c.place.new.disk)) c.self.view_is c.in-Ok.ensures.added

@@ -1,5 +1,6 @@
 use Rattle.std.proofs.Common.{◌≡◌, true, refl, sym, ◌∙◌, ap, subst}
 use Rattle.disk_model.specs.declared.name.FileName.TheVariants as file
+use Rattle.gate_log.specs.Log.{NamedButFor}
 use Rattle.model_lists.specs.Lists.{Lists}
 use Rattle.model_store.specs.Settled.{IsSettledFor, Leaves}
 use Rattle.store_core.specs.Dues.{KeepsStored}
@@ -48,3 +49,6 @@ returns-clause-stored g c =
 
 pub returns-clause-spared : goal.returns-clause-spared
 returns-clause-spared g c = λ other apart has. left_others c.args.number.0 other _ c.forget_log.new.made.items c.forget_log.ensures apart (subst (λ v. has_made_log other v ≡ true) (sym c.self.view_is) has)
+
+pub returns-clause-others : goal.returns-clause-others
+returns-clause-others g c = subst (λ v. NamedButFor (file.Box c.args.number.0 1) (g.D.Disk.history v.disk) (g.D.Disk.history c.remove_log.new.disk)) c.self.view_is c.in_default.ensures.others
