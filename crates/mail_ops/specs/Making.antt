@@ -1,26 +1,31 @@
 -- Requests that make a mailbox: what they are refused for, where they stand, and what their events do.
 use Rattle.std.specs.Prelude.{◌≡◌, ◌⊎◌, ◌≤◌, ◌<◌, ◌+◌, ◌==◌, ◌||◌, ◌++◌, ◌∷◌, [], ℕ, nat_le, nat_lt, true, false, List, length, is_some, if◌then◌else◌, Option, Some, None}
 use Rattle.std.specs.Option.{option_or}
-use Rattle.disk_model.specs.Disk.{History, IfTold, no_file}
+use Rattle.disk_model.specs.Disk.{History, Faults, Grows, IfTold, no_file}
 use Rattle.disk_model.specs.declared.name.FileName.TheVariants as file
+use Rattle.mdbox_base.specs.Streams.{Rose}
 use Rattle.mdbox_base.specs.Words.{IsNumber}
 use Rattle.mdbox_base.specs.declared.entries.MapEntry.TheVariants as map_entry
 use Rattle.mdbox_base.specs.declared.ids.BoxNo.{BoxNo}
 use Rattle.mdbox_base.specs.declared.progress.Did.{Did}
+use Rattle.mdbox_base.specs.declared.progress.Did.TheVariants as did
 use Rattle.mdbox_base.specs.declared.progress.Progress.{Progress}
 use Rattle.mdbox_base.specs.declared.progress.Progress.TheVariants as progress
 use Rattle.mdbox_base.specs.declared.replies.Refusal.{Refusal}
 use Rattle.mdbox_base.specs.declared.replies.Refusal.TheVariants as refusal
 use Rattle.mdbox_base.specs.declared.replies.Reply.{Reply}
 use Rattle.mdbox_base.specs.declared.replies.Reply.TheVariants as reply
+use Rattle.mdbox_base.specs.declared.script.Half.TheVariants as half
 use Rattle.model_lists.specs.Lists.{Lists, empty_mailbox}
 use Rattle.model_meaning.specs.BoxMeaning.{box_meaning}
 use Rattle.model_meaning.specs.MapMeaning.{map_applied}
+use Rattle.model_store.specs.Settled.{IsSettledFor, Leaves}
 use Rattle.list_machine.specs.Machine.{refused_where}
 use Rattle.list_machine.specs.Run.{Run}
+use Rattle.store_core.specs.Dues.{KeepsStored}
 use Rattle.store_core.specs.MadeLogs.{IsUnnamed, has_made_log, without_box}
 use Rattle.store_core.specs.Value.{StoreValue, indexes_of, list_named}
-use Rattle.mail_ops.specs.Event.{refusal_told}
+use Rattle.mail_ops.specs.Event.{refusal_told, told_as}
 use Rattle.mail_ops.specs.MakeStages.{IsToMakeLog, HasMadeLog}
 use Rattle.mail_ops.specs.declared.event.NotDone.{NotDone}
 use Rattle.mail_ops.specs.declared.event.NotDone.TheVariants as not_done
@@ -124,6 +129,10 @@ IsLogNotMade name (not_done.Refused why) old new = (new ≡ old) × (making_refu
 IsLogNotMade name not_done.NoMemory old new = (new ≡ with_drawn_box (old.drawn.mailbox + 1) old) × (making_refusal name old ≡ None)
 IsLogNotMade name not_done.Stopped old new = (new ≡ record (with_drawn_box (old.drawn.mailbox + 1) old) { disk = new.disk; stopped = true }) × (making_refusal name old ≡ None)
 
+-- A change of the disk failed at the second event: the store is stopped, and what its logs mean stays.
+abbrev pub IsStoppedSo : {D : Type 0} → StoreValue D → StoreValue D → Type 0
+IsStoppedSo old new = new ≡ record old { disk = new.disk; map_log = new.map_log; stopped = true }
+
 -- What is answered. The first event is refused, or out of memory, or makes the log of the next number. The second names it, if
 -- nothing refuses it now and its number is above the highest; or it removes it, and answers by what it was refused, or that
 -- it is out of memory, or begins anew, if another mailbox has overtaken the number. A change of the disk that fails leaves the log
@@ -137,5 +146,71 @@ MakeAnswers name (stage.Naming number) old new after stage.First progress.More =
 MakeAnswers name (stage.Naming number) old new after stage.First (progress.Done (reply.Refused why)) =
     RemovesLog number.0 old new after × ((naming_refusal name old ≡ Some why) ⊎ ((naming_refusal name old ≡ None) × (old.map.highest.mailbox < number.0) × (why ≡ refusal.NoMemory)))
 MakeAnswers name (stage.Naming number) old new after (stage.Naming still) (progress.Done (reply.Refused why)) =
-    (still ≡ number) × (why ≡ refusal.Stopped) × (new ≡ record old { disk = new.disk; map_log = new.map_log; stopped = true })
+    (still ≡ number) × (why ≡ refusal.Stopped) × IsStoppedSo old new
 MakeAnswers name now old new after next answer = ⊥
+
+-- ---- within the crate
+
+-- Of a settled disk each image at every moment of an event is safe for its lists, or for those that the event makes of them, whichever call
+-- fails. No read of the disk fails.
+pub record ChangesDisk (left : Lists → Lists) (before after : Option History) (began now : Faults) : Type 0 where
+  pub moments : (lists : Lists) → IsSettledFor lists before → Leaves lists (left lists) before after
+  pub grows : Grows before after
+  pub reads : now.reads ≡ began.reads
+  pub changes : began.changes ≤ now.changes
+
+-- Nothing failed: the disk is settled for those lists, and each record stores what it stored.
+pub record HasChangedDisk (left : Lists → Lists) (before after : Option History) (began now : Faults) : Type 0 where
+  pub change : ChangesDisk left before after began now
+  pub settled : (lists : Lists) → IsSettledFor lists before → IsSettledFor (left lists) after
+  pub stored : KeepsStored before after
+  pub unfailed : now ≡ began
+
+-- A change of the disk failed.
+pub record FellChanging (left : Lists → Lists) (before after : Option History) (began now : Faults) : Type 0 where
+  pub change : ChangesDisk left before after began now
+  pub rose : Rose began.changes now.changes
+
+abbrev pub same_lists : Lists → Lists
+same_lists lists = lists
+
+abbrev pub with_mailbox : ℕ → List ℕ → Lists → Lists
+with_mailbox number name lists = lists ++ empty_mailbox number name ∷ []
+
+-- The first event made this log, or why it made none.
+pub record MadeLogSo {D : Type 0} (name : List ℕ) (number : ℕ) (old new : StoreValue D) (before after : Option History) (began now : Faults) : Type 0 where
+  pub free : making_refusal name old ≡ None
+  pub log : MakesLog number old new
+  pub disk : HasChangedDisk same_lists before after began now
+
+abbrev pub FellIfStopped : NotDone → Option History → Option History → Faults → Faults → Type 0
+FellIfStopped not_done.Stopped before after began now = FellChanging same_lists before after began now
+FellIfStopped other before after began now = Unit {0}
+
+-- The log can be named: no check refuses it, and the number is above the highest.
+pub record CanBeNamed {D : Type 0} (name : List ℕ) (number : ℕ) (store : StoreValue D) : Type 0 where
+  pub free : naming_refusal name store ≡ None
+  pub above : store.map.highest.mailbox < number
+
+-- The log was removed, and this is answered and told; or a change of the disk failed.
+abbrev pub RemovesOr : {D : Type 0} → BoxNo → Progress → Did → MakeStage → Progress → Did → StoreValue D → StoreValue D → Option History → Option History → Faults → Faults → Type 0
+RemovesOr number answer told stage.First given how old new before after began now = (given ≡ answer) × (how ≡ told) × RemovesLog number.0 old new after × HasChangedDisk same_lists before after began now
+RemovesOr number answer told (stage.Naming still) given how old new before after began now =
+    (still ≡ number) × (given ≡ progress.Done (reply.Refused refusal.Stopped)) × (how ≡ did.Failed) × IsStoppedSo old new × FellChanging same_lists before after began now
+
+-- What an event does, of a store that isn't stopped: from one stage to another, with this answer.
+abbrev pub MakesOn : {D : Type 0} → List ℕ → MakeStage → MakeStage → Progress → Did → StoreValue D → StoreValue D → Option History → Option History → Faults → Faults → Type 0
+MakesOn name stage.First (stage.Naming number) progress.More how old new before after began now = (how ≡ did.Quiet) × MadeLogSo name number.0 old new before after began now
+MakesOn name stage.First stage.First (progress.Done (reply.Refused why)) how old new before after began now =
+    (e : NotDone) × (why ≡ refusal_told e) × (how ≡ told_as half.Whole did.Failed e) × IsLogNotMade name e old new × FellIfStopped e before after began now
+MakesOn name (stage.Naming number) stage.First (progress.Done reply.Done) how old new before after began now =
+    (how ≡ did.Step half.Whole) × CanBeNamed name number.0 old × NamesLog number name old new × HasChangedDisk (with_mailbox number.0 name) before after began now
+MakesOn name (stage.Naming number) stage.First progress.More how old new before after began now =
+    (how ≡ did.Quiet) × (naming_refusal name old ≡ None) × (number.0 ≤ old.map.highest.mailbox) × RemovesLog number.0 old new after × HasChangedDisk same_lists before after began now
+MakesOn name (stage.Naming number) stage.First (progress.Done (reply.Refused why)) how old new before after began now =
+    RemovesLog number.0 old new after × HasChangedDisk same_lists before after began now
+    × (((how ≡ did.Step half.Whole) × (naming_refusal name old ≡ Some why)) ⊎ ((how ≡ did.Quiet) × CanBeNamed name number.0 old × (why ≡ refusal.NoMemory)))
+MakesOn name (stage.Naming number) (stage.Naming still) (progress.Done (reply.Refused why)) how old new before after began now =
+    (still ≡ number) × (why ≡ refusal.Stopped) × IsStoppedSo old new
+    × (((how ≡ did.Failed) × FellChanging same_lists before after began now) ⊎ ((how ≡ did.Broken half.Whole) × CanBeNamed name number.0 old × FellChanging (with_mailbox number.0 name) before after began now))
+MakesOn name now next answer how old new before after began then = ⊥

@@ -1,7 +1,8 @@
 // Making a mailbox.
-ghost use Rattle.std.specs.Prelude.{◌≡◌, ◌≢◌, ◌↔◌, ◌<◌, true, false};
+ghost use Rattle.std.specs.Prelude.{◌≡◌, ◌≢◌, ◌↔◌, ◌<◌, Some, None, IfOk, IfErr, OnOk, true, false};
 ghost use Rattle.disk_model.specs.FaultCounts.{NoFault, ChangeFaultCounted};
 ghost use Rattle.journal.specs.Events.{Around};
+ghost use Rattle.mdbox_base.specs.Words.{IsName};
 ghost use Rattle.mdbox_base.specs.declared.progress.Did.TheVariants as did;
 ghost use Rattle.mdbox_base.specs.declared.progress.Progress.TheVariants as progress;
 ghost use Rattle.mdbox_base.specs.declared.replies.Refusal.TheVariants as refusal;
@@ -11,8 +12,9 @@ ghost use Rattle.model_lists.specs.Lists.{Lists};
 ghost use Rattle.model_store.specs.Settled.{IsSettledFor, Leaves};
 ghost use Rattle.store_core.specs.Dues.{Moves, Spares, no_amounts, amounts_in};
 ghost use Rattle.store_core.specs.Keeping.{KeepsUids};
+ghost use Rattle.store_core.specs.MadeLogs.{has_made_log};
 ghost use Rattle.task_steps.specs.Step.{Steps, ended_by};
-ghost use Rattle.mail_ops.specs.Making.{IsAtMake, IsReadyToMake, LeavesLogs, KeepsAllButLogs, MakeAnswers, make_left, make_lists, lists_by_make};
+ghost use Rattle.mail_ops.specs.Making.{IsAtMake, naming_refusal, IsReadyToMake, LeavesLogs, KeepsAllButLogs, MakeAnswers, make_left, make_lists, lists_by_make, IsLogNotMade, MadeLogSo, FellIfStopped, MakesOn, RemovesOr};
 ghost use Rattle.mail_ops.specs.Task.{seen_of};
 ghost use Rattle.mail_ops.specs.declared.making.MakeStage.TheVariants as stage;
 
@@ -20,7 +22,7 @@ use crate::event::NotDone;
 use disk_model::Disk;
 use mdbox_base::{BoxNo, Did, Half, Name, Progress, Refusal, Reply};
 use std::marker::Model;
-use store_core::{StepError, Stopped, Store, listings_are_shown};
+use store_core::{StepError, Stopped, Store};
 
 /// How many mailboxes a store has at the most.
 const MOST_MAILBOXES: u32 = 1_024;
@@ -109,8 +111,9 @@ impl MakeTask {
         ensures left { result ≡ progress.More → make_left self.new.stage store.new < make_left self.old.stage store.old }
         ensures request { self.new.name ≡ self.old.name }
     {
-        listings_are_shown();
+        known_name(&self.name);
         store.facts();
+        store.known_logs();
         if store.stopped() {
             self.did = Did::Quiet;
             return Progress::Done(Reply::Refused(Refusal::Stopped));
@@ -122,12 +125,23 @@ impl MakeTask {
     }
 }
 
+/// What is true of every mailbox name.
+fn known_name(name: &Name)
+    ensures { IsName name.now }
+{
+    let _ = name.as_octets();
+}
+
 /// Does the next event, of a store that isn't stopped: which event is the next then, how the request goes on, and what was done.
 fn next_event<D: Disk>(
     store: &mut Store<D>,
     name: &Name,
     now: MakeStage,
-) -> (MakeStage, Progress, Did) {
+) -> (MakeStage, Progress, Did)
+    requires running { store.old.stopped ≡ false }
+    requires ready { IsReadyToMake now store.old }
+    ensures { MakesOn name.now now result.0 result.1 result.2 store.old store.new (D.history store.old.disk) (D.history store.new.disk) (D.faults store.old.disk) (D.faults store.new.disk) }
+{
     match now {
         MakeStage::First => match make(store, name) {
             Ok(number) => (MakeStage::Naming(number), Progress::More, Did::Quiet),
@@ -150,7 +164,10 @@ fn next_event<D: Disk>(
 }
 
 /// Whether a mailbox with this name may be made: none has the name, and there are fewer than 1,024.
-fn checked<D: Disk>(store: &Store<D>, name: &Name) -> Result<(), Refusal> {
+fn checked<D: Disk>(store: &Store<D>, name: &Name) -> Result<(), Refusal>
+    ensures free { OnOk result (naming_refusal name.now store.now ≡ None) }
+    ensures refused { IfErr result (λ why. naming_refusal name.now store.now ≡ Some why) }
+{
     if store.list_of(name).is_some() {
         return Err(Refusal::Exists);
     }
@@ -161,7 +178,11 @@ fn checked<D: Disk>(store: &Store<D>, name: &Name) -> Result<(), Refusal> {
 }
 
 /// Draws a number, and makes the log of its mailbox.
-fn make<D: Disk>(store: &mut Store<D>, name: &Name) -> Result<BoxNo, NotDone> {
+fn make<D: Disk>(store: &mut Store<D>, name: &Name) -> Result<BoxNo, NotDone>
+    requires running { store.old.stopped ≡ false }
+    ensures made { IfOk result (λ number. MadeLogSo name.now number.0 store.old store.new (D.history store.old.disk) (D.history store.new.disk) (D.faults store.old.disk) (D.faults store.new.disk)) }
+    ensures refused { IfErr result (λ error. IsLogNotMade name.now error store.old store.new × FellIfStopped error (D.history store.old.disk) (D.history store.new.disk) (D.faults store.old.disk) (D.faults store.new.disk)) }
+{
     store.known_logs();
     checked(store, name)?;
     let Some(number) = store.draw_box() else {
@@ -179,7 +200,12 @@ fn name_event<D: Disk>(
     store: &mut Store<D>,
     name: &Name,
     number: BoxNo,
-) -> (MakeStage, Progress, Did) {
+) -> (MakeStage, Progress, Did)
+    requires running { store.old.stopped ≡ false }
+    requires ready { has_made_log number.0 store.old ≡ true }
+    requires free { naming_refusal name.now store.old ≡ None }
+    ensures { MakesOn name.now (stage.Naming number) result.0 result.1 result.2 store.old store.new (D.history store.old.disk) (D.history store.new.disk) (D.faults store.old.disk) (D.faults store.new.disk) }
+{
     if number.0 <= store.map().highest().mailbox {
         return remove_event(store, number, Progress::More, Did::Quiet);
     }
@@ -209,7 +235,11 @@ fn remove_event<D: Disk>(
     number: BoxNo,
     answer: Progress,
     did: Did,
-) -> (MakeStage, Progress, Did) {
+) -> (MakeStage, Progress, Did)
+    requires running { store.old.stopped ≡ false }
+    requires ready { has_made_log number.0 store.old ≡ true }
+    ensures { RemovesOr number answer did result.0 result.1 result.2 store.old store.new (D.history store.old.disk) (D.history store.new.disk) (D.faults store.old.disk) (D.faults store.new.disk) }
+{
     match store.remove_box(number) {
         Ok(()) => (MakeStage::First, answer, did),
         Err(Stopped) => (
