@@ -17,6 +17,7 @@ pub mod KeptRowLemmas
 pub mod KeptUidLemmas
 pub mod ListEventLemmas
 pub mod LoweringLemmas
+pub mod MakeCallLemmas
 pub mod MakeCheckLemmas
 pub mod MakeEventLemmas
 pub mod MakeLogLemmas

@@ -9,8 +9,8 @@ use Rattle.mdbox_base.specs.declared.replies.Refusal.TheVariants as refusal
 use Rattle.model_lists.specs.Lists.{Lists}
 use Rattle.model_meaning.specs.BoxMeaning.{BoxMeaning}
 use Rattle.model_meaning.specs.MapMeaning.{MapBox}
-use Rattle.model_store.specs.Listing.{ShowLists, meaning_named}
-use Rattle.list_machine.specs.Run.{EventPart, First, Run, drawn_of}
+use Rattle.model_store.specs.Listing.{ShowLists}
+use Rattle.list_machine.specs.Run.{First, Run}
 use Rattle.list_machine.specs.Machine.{IsNewName, RoomForMailbox, NextMailbox, Check, first_refusal, is_step, mailbox_named, make_checks, refused_where}
 use Rattle.store_core.specs.Value.{StoreValue, indexes_of, list_named}
 use Rattle.task_steps.specs.Step.{HasComeTo}

@@ -1,12 +1,11 @@
 -- The events of a make that name no mailbox, by the clause of a step.
-use Rattle.std.proofs.Common.{◌≡◌, ◌≤◌, ◌<◌, ◌+◌, ◌&&◌, ℕ, Bool, true, false, List, [], ◌∷◌, ◌++◌, Option, Some, None, refl, sym, ◌∙◌, ap, subst, arith, inl, inr}
+use Rattle.std.proofs.Common.{◌≡◌, ◌≤◌, ◌<◌, ◌+◌, ◌&&◌, ℕ, Bool, true, false, List, [], ◌∷◌, ◌++◌, Option, Some, None, refl, sym, ◌∙◌, ap, subst, arith, inr}
 use Rattle.std.specs.Prelude.{◌≢◌, ◌↔◌, nat_le, nat_lt, length, slice_get, is_some}
 use Rattle.std.specs.Option.{option_map_or}
 use Rattle.std.proofs.lemmas.Grind.{common_steps}
 use Rattle.std.proofs.lemmas.List.{append-nil}
 use Rattle.std.proofs.lemmas.List.Elements.{All-push, All-weaker}
 use Rattle.disk_model.specs.Disk.{History, Faults, told_calls, Grows}
-use Rattle.mdbox_base.specs.Streams.{Rose}
 use Rattle.mdbox_base.specs.declared.entries.Highest.{Highest}
 use Rattle.mdbox_base.specs.declared.entries.MapEntry.{MapEntry}
 use Rattle.mdbox_base.specs.declared.ids.BoxNo.{BoxNo}
@@ -16,13 +15,10 @@ use Rattle.mdbox_base.specs.declared.replies.Refusal.{Refusal}
 use Rattle.mdbox_base.specs.declared.replies.Refusal.TheVariants as refusal
 use Rattle.mdbox_base.specs.declared.replies.Reply.{Reply}
 use Rattle.mdbox_base.specs.declared.replies.Reply.TheVariants as reply
-use Rattle.mdbox_base.specs.declared.requests.Request.{Request}
 use Rattle.mdbox_base.specs.declared.requests.Request.TheVariants as request
 use Rattle.mdbox_base.specs.declared.script.Half.TheVariants as half
 use Rattle.model_lists.specs.Lists.{Lists}
-use Rattle.model_meaning.specs.BoxMeaning.{BoxMeaning}
 use Rattle.model_meaning.specs.MapMeaning.{MapMeaning, is_own, map_meaning, no_numbers, number_at}
-use Rattle.model_store.specs.Listing.{ShowLists}
 use Rattle.list_machine.specs.Run.{EventPart, First, Last, StartsOver, RunEvent, event_of, Run, and_then, entries_of, own_events, map_of, drawn_also, is_unpinning}
 use Rattle.list_machine.specs.Machine.{first_refusal, make_checks, is_step}
 use Rattle.journal.specs.Journal.{halves_of, half_of, refusal_in, IsReplyOf}
@@ -34,7 +30,7 @@ use Rattle.store_core.specs.Knows.{may_have_given}
 use Rattle.store_core.specs.Value.{StoreValue, indexes_of}
 use Rattle.task_steps.specs.Step.{Seen, ShowsSeen, HasComeTo, Leads, Steps, Went, EndsRequest}
 use Rattle.task_steps.specs.Tells.{TellsSame}
-use Rattle.task_steps.proofs.OneEventLemmas.{never_more, nothing, memory_is, one_refusal, some_refusal}
+use Rattle.task_steps.proofs.OneEventLemmas.{leaves_none, never_more, memory_is, one_refusal, some_refusal}
 use Rattle.task_steps.proofs.SeenLemmas.{comes_to_on, no_guids}
 use Rattle.mail_ops.specs.MakeStages.{IsToMakeLog, HasMadeLog}
 use Rattle.mail_ops.specs.Making.{IsAtMake, naming_refusal, making_refusal, with_drawn_box, RemovesLog, IsStoppedSo, ChangesDisk, HasChangedDisk, FellChanging, same_lists, MadeLogSo, CanBeNamed}
@@ -148,7 +144,7 @@ first_stopped name next store history faults stopped = λ around behind run lane
   λ e. absurd (never_more _ e),
 )
 
-stops_memory : refusal.Stopped ≡ refusal.NoMemory → ⊥
+pub stops_memory : refusal.Stopped ≡ refusal.NoMemory → ⊥
 stops_memory e = cc e
 
 pub naming_stopped : {D : Type 0} → (name : List ℕ) (number : BoxNo) (next : MakeStage) (store : StoreValue D) (history : Option History) (faults : Faults) → store.stopped ≡ true → MakeClause name (stage.Naming number) next store store history history faults faults did.Quiet (Some (reply.Refused refusal.Stopped))
@@ -262,6 +258,12 @@ did_drawing around after run lane place said name lists old new how refused ende
     comes = drawn_then run event old new come d refl refl refl
 
 -- a store that has drawn a number
+given_drawing : {D : Type 0} → (old new : StoreValue D) (guid : List ℕ) → new.map.store ≡ old.map.store → new.drawn.file ≡ old.drawn.file → new.files ≡ old.files → may_have_given new guid ≡ may_have_given old guid
+given_drawing old new guid id drawn files =
+    ap (λ (s : List ℕ). is_own s guid && (nat_le (number_at 8 guid) new.drawn.file && option_map_or (λ end. nat_lt (number_at 12 guid) end) (end_in (number_at 8 guid) new.files.files) true)) id
+    ∙ (ap (λ (n : ℕ). is_own old.map.store guid && (nat_le (number_at 8 guid) n && option_map_or (λ end. nat_lt (number_at 12 guid) end) (end_in (number_at 8 guid) new.files.files) true)) drawn
+    ∙ ap (λ (f : FilesValue). is_own old.map.store guid && (nat_le (number_at 8 guid) old.drawn.file && option_map_or (λ end. nat_lt (number_at 12 guid) end) (end_in (number_at 8 guid) f.files) true)) files)
+
 pub draws_of : {D : Type 0} → (old new : StoreValue D) (before after : Option History) (began then : Faults) → new.map ≡ old.map → new.drawn ≡ record old.drawn { mailbox = old.drawn.mailbox + 1 } → new.files ≡ old.files → new.dues ≡ old.dues → Grows before after → began.reads ≤ then.reads → began.changes ≤ then.changes
     → DrawsSo (seen_of old before began) (seen_of new after then)
 draws_of old new before after began then map drawn files dues grows reads changes = record {
@@ -280,12 +282,6 @@ draws_of old new before after began then map drawn files dues grows reads change
   reads = reads;
   changes = changes;
 }
-  where
-    given_drawing : (v w : StoreValue _) (guid : List ℕ) → w.map.store ≡ v.map.store → w.drawn.file ≡ v.drawn.file → w.files ≡ v.files → may_have_given w guid ≡ may_have_given v guid
-    given_drawing v w guid id drew same =
-        ap (λ (s : List ℕ). is_own s guid && (nat_le (number_at 8 guid) w.drawn.file && option_map_or (λ end. nat_lt (number_at 12 guid) end) (end_in (number_at 8 guid) w.files.files) true)) id
-        ∙ (ap (λ (n : ℕ). is_own v.map.store guid && (nat_le (number_at 8 guid) n && option_map_or (λ end. nat_lt (number_at 12 guid) end) (end_in (number_at 8 guid) w.files.files) true)) drew
-        ∙ ap (λ (f : FilesValue). is_own v.map.store guid && (nat_le (number_at 8 guid) v.drawn.file && option_map_or (λ end. nat_lt (number_at 12 guid) end) (end_in (number_at 8 guid) f.files) true)) same)
 
 memory_steps : (r : Refusal) → Some refusal.NoMemory ≡ Some r → is_step r ≡ false
 memory_steps r e = sym (ap is_step (one_refusal refusal.NoMemory r e))
@@ -305,7 +301,7 @@ making_unremembered name next store history faults runs = λ around behind run l
     let later = seen_of new history faults in
     let event = drawing lane place (Some refusal.NoMemory) (Some (reply.Refused refusal.NoMemory)) (told_calls history) in (
       (did_drawing around behind run lane place said name lists seen later did.Quiet (Some refusal.NoMemory) (Some (reply.Refused refusal.NoMemory)) stood come (draws_of store new history history faults faults refl refl refl refl (omega arith) (omega arith) (omega arith)) shows memory_steps
-          (λ e. absurd (some_refusal refusal.NoMemory e)) (record { 0 = λ e. refl; 1 = λ e f. some_reply (reply.Refused refusal.NoMemory) f }) (last_with (own_events place run) event refusal.NoMemory refl) refl (refl, refl, nothing lists seen)
+          (λ e. absurd (some_refusal refusal.NoMemory e)) (record { 0 = λ e. refl; 1 = λ e f. some_reply (reply.Refused refusal.NoMemory) f }) (last_with (own_events place run) event refusal.NoMemory refl) refl (refl, refl, record { stops = leaves_none history lists lists; settled = λ s. s })
           (record {
             in_turn = λ some. absurd (let k : false ≡ true = some in cc k);
             replied = memory_replied name said stood.0.unanswered;
@@ -412,7 +408,7 @@ naming_refused name number next old new before after began then why ran refuses 
     step_reads : (w : Refusal) → is_step w ≡ true → w ≡ refusal.ReadFault → ⊥
     step_reads w t e = let k : true ≡ false = sym t ∙ ap is_step e in cc k
 
-above_not : (a b : ℕ) → b < a → nat_le a b ≡ false
+pub above_not : (a b : ℕ) → b < a → nat_le a b ≡ false
 above_not a b l = grind (arith, common_steps, l)
 
 overtaken_is : (a b : ℕ) → a ≤ b → nat_le a b ≡ true

@@ -1,6 +1,5 @@
 -- What the events of a make leave to other tasks, and the log that it has made.
-use Rattle.std.proofs.Common.{◌≡◌, ◌≤◌, ◌<◌, ◌+◌, ◌==◌, ◌||◌, ℕ, Bool, true, false, cond, List, [], ◌∷◌, ◌++◌, Option, Some, None, refl, sym, ◌∙◌, ap, subst, arith}
-use Rattle.std.specs.Prelude.{◌≢◌}
+use Rattle.std.proofs.Common.{◌≡◌, ◌==◌, ◌||◌, ℕ, Bool, true, false, cond, List, [], ◌∷◌, ◌++◌, Some, None, refl, sym, ◌∙◌, ap}
 use Rattle.std.specs.List.{list_any}
 use Rattle.std.specs.Str.{bytes_eq}
 use Rattle.std.proofs.lemmas.Bool.{eq-eqb}
@@ -14,7 +13,7 @@ use Rattle.store_core.specs.Value.{StoreValue, indexes_of}
 use Rattle.store_core.specs.declared.store.OpenBox.{OpenBox}
 use Rattle.store_core.proofs.MadeLogLemmas.{left_has}
 use Rattle.store_core.proofs.NamingLemmas.{one_box_more, box_named}
-use Rattle.mail_ops.specs.Making.{IsOwnLog, IsReadyToMake, HaveOtherLogs, LeavesLogs, MakesLog, NamesLog}
+use Rattle.mail_ops.specs.Making.{IsReadyToMake, HaveOtherLogs, LeavesLogs, MakesLog, NamesLog}
 use Rattle.mail_ops.specs.declared.making.MakeStage.{MakeStage}
 use Rattle.mail_ops.specs.declared.making.MakeStage.TheVariants as stage
 

@@ -1,7 +1,6 @@
 -- The event of a make that names its mailbox, by the clause of a step.
-use Rattle.std.proofs.Common.{◌≡◌, ◌≤◌, ◌<◌, ◌+◌, ℕ, Bool, true, false, cond, List, [], ◌∷◌, ◌++◌, map, Option, Some, None, refl, sym, ◌∙◌, ap, subst, arith}
-use Rattle.std.specs.Prelude.{All, length, nat_le, slice_get}
-use Rattle.std.specs.Str.{bytes_eq}
+use Rattle.std.proofs.Common.{◌≡◌, ◌≤◌, ◌<◌, ℕ, Bool, true, false, List, [], ◌∷◌, ◌++◌, Option, Some, None, refl, sym, ◌∙◌, ap, subst, arith}
+use Rattle.std.specs.Prelude.{All}
 use Rattle.std.proofs.lemmas.List.Elements.{All-nil, All-cons, All-head, All-tail}
 use Rattle.disk_model.specs.Disk.{History, Faults, told_calls}
 use Rattle.mdbox_base.specs.Words.{IsName, IsNumber}
@@ -19,24 +18,22 @@ use Rattle.model_meaning.specs.BoxMeaning.{BoxMeaning, box_meaning}
 use Rattle.model_meaning.specs.MapMeaning.{MapRecord, MapBox, MapMeaning, map_applied}
 use Rattle.model_meaning.specs.Sound.{IsSoundMapBox}
 use Rattle.model_store.specs.Listing.{ShowsMailbox, ShowLists}
-use Rattle.list_machine.specs.Run.{Last, RunEvent, event_of, Run, and_then, own_events, map_of, drawn_of}
+use Rattle.list_machine.specs.Run.{Last, RunEvent, event_of, Run, own_events}
 use Rattle.list_machine.specs.Machine.{IsMade, first_refusal, make_checks}
 use Rattle.list_machine.proofs.MachineOrderLemmas.{answers_well}
 use Rattle.journal.specs.Journal.{IsReplyOf}
-use Rattle.journal.specs.Events.{is_overtaken, number_of}
-use Rattle.journal.specs.Makes.{WouldMake}
+use Rattle.journal.specs.Events.{number_of}
 use Rattle.store_core.specs.Dues.{number_beside, due_at}
 use Rattle.store_core.specs.Running.{IsStore}
 use Rattle.store_core.specs.Value.{StoreValue, indexes_of}
 use Rattle.store_core.proofs.NamingLemmas.{same_records, one_box_more, box_named}
 use Rattle.task_steps.specs.Step.{ShowsSeen, HasComeTo}
 use Rattle.task_steps.proofs.OneEventLemmas.{never_more}
-use Rattle.mail_ops.specs.MakeStages.{HasMadeLog}
 use Rattle.mail_ops.specs.Making.{NamesLog, IsStoppedSo, CanBeNamed, HasChangedDisk, FellChanging, with_mailbox}
 use Rattle.mail_ops.specs.Task.{seen_of}
 use Rattle.mail_ops.specs.declared.making.MakeStage.{MakeStage}
 use Rattle.mail_ops.specs.declared.making.MakeStage.TheVariants as stage
-use Rattle.mail_ops.proofs.EventLemmas.{fall, some_reply, one_reply, did_fall, did_part, ends_well}
+use Rattle.mail_ops.proofs.EventLemmas.{some_reply, one_reply, did_fall, did_part, ends_well}
 use Rattle.mail_ops.proofs.LoweringLemmas.{comes_with}
 use Rattle.mail_ops.proofs.MakeCheckLemmas.{naming_checked}
 use Rattle.mail_ops.proofs.MakeEventLemmas.{MakeClause, naming_refuses, stops_memory, in_turn, above_not, stopped_stays, stopped_shows}
@@ -105,7 +102,7 @@ no_check run name number store history faults lists shows n = naming_checked run
 done_stopped : Some reply.Done ≡ Some (reply.Refused refusal.Stopped) → ⊥
 done_stopped e = let k : reply.Done ≡ reply.Refused refusal.Stopped = cc e in cc k
 
-named_due : {D : Type 0} → (old new : StoreValue D) (number : BoxNo) (name : List ℕ) (uid : ℕ) → NamesLog number name old new → due_at uid new ≡ due_at uid old
+pub named_due : {D : Type 0} → (old new : StoreValue D) (number : BoxNo) (name : List ℕ) (uid : ℕ) → NamesLog number name old new → due_at uid new ≡ due_at uid old
 named_due old new number name uid n =
     ap (λ (rows : List MapRecord). number_beside uid rows new.dues) (ap (λ (m : MapMeaning). m.records) n.map ∙ same_records old.map number name) ∙ ap (λ (dues : List ℕ). number_beside uid old.map.records dues) (ap (λ (s : StoreValue _). s.dues) n.same)
 

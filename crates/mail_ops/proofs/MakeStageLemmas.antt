@@ -1,11 +1,10 @@
 -- Where a make stands, and the part that comes next.
-use Rattle.std.proofs.Common.{◌≡◌, ◌+◌, ◌==◌, ◌&&◌, ℕ, Bool, true, false, cond, List, [], ◌∷◌, ◌++◌, Option, Some, None, refl, sym, ◌∙◌, ap, subst, inl, inr, arith}
-use Rattle.std.specs.Prelude.{◌≢◌, ◌⊎◌, fold, filter, nat_le, nat_lt}
+use Rattle.std.proofs.Common.{◌≡◌, ◌+◌, ◌==◌, ℕ, Bool, true, false, cond, List, [], ◌∷◌, ◌++◌, Option, Some, None, refl, sym, ◌∙◌, ap, subst, inl, inr}
+use Rattle.std.specs.Prelude.{◌⊎◌, fold, filter, nat_le}
 use Rattle.std.specs.Option.{option_or}
 use Rattle.std.proofs.lemmas.Bool.{eq-eqb, ne_eqb}
 use Rattle.mdbox_base.specs.declared.entries.Highest.{Highest}
 use Rattle.mdbox_base.specs.declared.replies.Refusal.{Refusal}
-use Rattle.mdbox_base.specs.declared.replies.Refusal.TheVariants as refusal
 use Rattle.mdbox_base.specs.declared.replies.Reply.{Reply}
 use Rattle.mdbox_base.specs.declared.requests.Request.{Request}
 use Rattle.mdbox_base.specs.declared.requests.Request.TheVariants as request
@@ -57,7 +56,7 @@ own_last place [] earlier last e = absurd (not_empty earlier e)
     not_empty : (xs : List RunEvent) → [] ≡ xs ++ last ∷ [] → ⊥
     not_empty [] k = cc k
     not_empty (x ∷ xs) k = cc k
-own_last place (x ∷ xs) earlier last e = by_test (x.request == place) refl e
+own_last place (x ∷ xs) earlier last e = by_test (x.request == place) refl e (λ es k. own_last place xs es last k)
   where
     tail_is : (a b : RunEvent) (us vs : List RunEvent) → a ∷ us ≡ b ∷ vs → us ≡ vs
     tail_is a b us vs k = cc k
@@ -65,13 +64,14 @@ own_last place (x ∷ xs) earlier last e = by_test (x.request == place) refl e
     head_is : (a b : RunEvent) (us vs : List RunEvent) → a ∷ us ≡ b ∷ vs → a ≡ b
     head_is a b us vs k = cc k
 
-    by_earlier : (es : List RunEvent) → (x.request == place) ≡ true → x ∷ filter (λ (y : RunEvent). y.request == place) xs ≡ es ++ last ∷ [] → last.request ≡ place
-    by_earlier [] t k = subst (λ (y : RunEvent). y.request ≡ place) (head_is x last (filter (λ (y : RunEvent). y.request == place) xs) [] k) (equal_is x.request place t)
-    by_earlier (y ∷ ys) t k = own_last place xs ys last (tail_is x y (filter (λ (z : RunEvent). z.request == place) xs) (ys ++ last ∷ []) k)
+    by_earlier : (es : List RunEvent) → (x.request == place) ≡ true → x ∷ filter (λ (y : RunEvent). y.request == place) xs ≡ es ++ last ∷ [] → ((us : List RunEvent) → filter (λ (y : RunEvent). y.request == place) xs ≡ us ++ last ∷ [] → last.request ≡ place) → last.request ≡ place
+    by_earlier [] t k rest = subst (λ (y : RunEvent). y.request ≡ place) (head_is x last (filter (λ (y : RunEvent). y.request == place) xs) [] k) (equal_is x.request place t)
+    by_earlier (y ∷ ys) t k rest = rest ys (tail_is x y (filter (λ (z : RunEvent). z.request == place) xs) (ys ++ last ∷ []) k)
 
-    by_test : (b : Bool) → (x.request == place) ≡ b → cond b (x ∷ filter (λ (y : RunEvent). y.request == place) xs) (filter (λ (y : RunEvent). y.request == place) xs) ≡ earlier ++ last ∷ [] → last.request ≡ place
-    by_test true t k = by_earlier earlier t k
-    by_test false t k = own_last place xs earlier last k
+    by_test : (b : Bool) → (x.request == place) ≡ b → cond b (x ∷ filter (λ (y : RunEvent). y.request == place) xs) (filter (λ (y : RunEvent). y.request == place) xs) ≡ earlier ++ last ∷ []
+        → ((us : List RunEvent) → filter (λ (y : RunEvent). y.request == place) xs ≡ us ++ last ∷ [] → last.request ≡ place) → last.request ≡ place
+    by_test true t k rest = by_earlier earlier t k rest
+    by_test false t k rest = rest earlier k
 
 -- behind a row that ends in this part and in which none was refused
 next_behind : (around : Around) (run : Run) (name : List ℕ) (place : ℕ) (said : List Reply) (part : EventPart) → WasNotRefused run place said → EndsInPart part (own_events place run) → next_part around run (request.Make name) (own_events place run) ≡ behind_make (is_overtaken run place) part

@@ -1,6 +1,6 @@
 -- What the step of a make says, event by event.
-use Rattle.std.proofs.Common.{◌≡◌, ◌≢◌, ◌≤◌, ◌<◌, ◌+◌, ◌↔◌, ℕ, Bool, true, false, List, Option, Some, None, refl, sym, ◌∙◌, ap, subst, arith, inl, inr}
-use Rattle.std.specs.Prelude.{◌⊎◌, ◌==◌, find, nat_lt, if◌then◌else◌}
+use Rattle.std.proofs.Common.{◌≡◌, ◌≢◌, ◌≤◌, ◌<◌, ◌+◌, ◌↔◌, ℕ, Bool, true, false, cond, List, Option, Some, None, refl, sym, ◌∙◌, ap, subst, arith, inl, inr}
+use Rattle.std.specs.Prelude.{◌⊎◌, ◌==◌, find, nat_lt}
 use Rattle.std.proofs.lemmas.Grind.{common_steps}
 use Rattle.disk_model.specs.Disk.{History, Faults, Files}
 use Rattle.disk_model.specs.FaultCounts.{NoFault, ChangeFaultCounted}
@@ -126,7 +126,7 @@ named_spares old new number name before after n keeps = record {
 high_number : (highest drawn number : ℕ) → highest ≤ drawn → number ≡ drawn + 1 → nat_lt highest number ≡ true
 high_number highest drawn number l e = let k : highest < number = omega (arith, l, e) in grind (arith, common_steps, k)
 
-one_left : (b : Bool) → b ≡ true → (if b then 1 else 3) < 2
+one_left : (b : Bool) → b ≡ true → cond b 1 3 < 2
 one_left true e = omega arith
 one_left false e = absurd (let k : false ≡ true = e in cc k)
 
@@ -309,7 +309,7 @@ known_removed name number why how old new before after began then b r d running 
 not_above : (highest number : ℕ) → number ≤ highest → nat_lt highest number ≡ false
 not_above highest number l = grind (arith, common_steps, l)
 
-two_left : (b : Bool) → b ≡ false → 2 < (if b then 1 else 3)
+two_left : (b : Bool) → b ≡ false → 2 < cond b 1 3
 two_left true e = absurd (let k : true ≡ false = e in cc k)
 two_left false e = omega arith
 

@@ -213,4 +213,4 @@ MakesOn name (stage.Naming number) stage.First (progress.Done (reply.Refused why
 MakesOn name (stage.Naming number) (stage.Naming still) (progress.Done (reply.Refused why)) how old new before after began now =
     (still ≡ number) × (why ≡ refusal.Stopped) × IsStoppedSo old new
     × (((how ≡ did.Failed) × FellChanging same_lists before after began now) ⊎ ((how ≡ did.Broken half.Whole) × CanBeNamed name number.0 old × FellChanging (with_mailbox number.0 name) before after began now))
-MakesOn name now next answer how old new before after began then = ⊥
+MakesOn name now next answer how old new before after began faulted = ⊥

@@ -206,6 +206,8 @@ fn name_event<D: Disk>(
     requires free { naming_refusal name.now store.old ≡ None }
     ensures { MakesOn name.now (stage.Naming number) result.0 result.1 result.2 store.old store.new (D.history store.old.disk) (D.history store.new.disk) (D.faults store.old.disk) (D.faults store.new.disk) }
 {
+    store.facts();
+    store.known_logs();
     if number.0 <= store.map().highest().mailbox {
         return remove_event(store, number, Progress::More, Did::Quiet);
     }
@@ -240,6 +242,7 @@ fn remove_event<D: Disk>(
     requires ready { has_made_log number.0 store.old ≡ true }
     ensures { RemovesOr number answer did result.0 result.1 result.2 store.old store.new (D.history store.old.disk) (D.history store.new.disk) (D.faults store.old.disk) (D.faults store.new.disk) }
 {
+    store.known_logs();
     match store.remove_box(number) {
         Ok(()) => (MakeStage::First, answer, did),
         Err(Stopped) => (

@@ -1,6 +1,7 @@
 pub mod AddLemmas
 pub mod DeliveredListLemmas
 pub mod HeldLemmas
+pub mod MailFileLemmas
 pub mod OtherLemmas
 pub mod PlaceLemmas
 pub mod ReadyLemmas
@@ -19,6 +20,7 @@ pub mod SaveRoomLemmas
 pub mod SaveRunLemmas
 pub mod SaveStepLemmas
 pub mod SaveStoreLemmas
+pub mod SaveUidLemmas
 pub mod SavedRegionLemmas
 pub mod StoredMessageLemmas
 pub mod StoringLemmas

@@ -82,18 +82,18 @@ keeps_same now old new map files = keeps_by now old new (λ number taken other. 
 
 -- ---- by event
 
-takes_ends : {D : Type 0} → (take : Take) (file : FileNo) (old new : StoreValue D) → TookAs take file old new → (number : ℕ) → number ≢ file.0 → end_in number new.files.files ≡ end_in number old.files.files
-takes_ends (Known taken) file old new t number apart = t.2 number
-takes_ends (New taken) file old new t number apart = t.4 number apart
-takes_ends Full file old new t number apart = absurd t
+takes_ends : {D : Type 0} → (take : Take) (header : ℕ) (file : FileNo) (old new : StoreValue D) → TookAs take header file old new → (number : ℕ) → number ≢ file.0 → end_in number new.files.files ≡ end_in number old.files.files
+takes_ends (Known taken) header file old new t number apart = t.2 number
+takes_ends (New taken) header file old new t number apart = t.4 number apart
+takes_ends Full header file old new t number apart = absurd t
 
 apart_of : {D : Type 0} → (old : StoreValue D) (file : FileNo) (number : ℕ) → is_taken_in file.0 old.files.files ≡ false → is_taken_in number old.files.files ≡ true → number ≢ file.0
 apart_of old file number free taken is = false≢true (sym free ∙ (sym (ap (λ (n : ℕ). is_taken_in n old.files.files) is) ∙ taken))
 
-pub taking_keeps : {D : Type 0} → (parts : SavedParts) (size : ℕ) (file : FileNo) (old new : StoreValue D) → TakesFileFor size file old new → KeepsOthers (stage.Taking parts) old new
-taking_keeps parts size file old new t =
+pub taking_keeps : {D : Type 0} → (parts : SavedParts) (header size : ℕ) (file : FileNo) (old new : StoreValue D) → TakesFileFor header size file old new → KeepsOthers (stage.Taking parts) old new
+taking_keeps parts header size file old new t =
     keeps_by (stage.Taking parts) old new
-    (λ number taken other. let apart = apart_of old file number t.free taken in (t.others number apart, takes_ends t.take file old new t.took number apart))
+    (λ number taken other. let apart = apart_of old file number t.free taken in (t.others number apart, takes_ends t.take header file old new t.took number apart))
     (λ at h other. same_map at old new (ap (λ v. v.map) t.same) h)
 
 pub untaken_keeps : {D : Type 0} → (parts : SavedParts) (size : ℕ) (why : Refusal) (old new : StoreValue D) → TakesNone size why old new → KeepsOthers (stage.Taking parts) old new

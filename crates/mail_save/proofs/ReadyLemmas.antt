@@ -9,12 +9,13 @@ use Rattle.std.proofs.lemmas.List.Elements.{All-contains, All-head, All-tail}
 use Rattle.std.proofs.lemmas.List.Sums.{sum_by-cons}
 use Rattle.std.proofs.lemmas.Slice.Eq.{bytes_eq-Decides}
 use Rattle.std.proofs.Math.Seq.{drop-append_seam, take-length}
-use Rattle.disk_model.specs.Disk.{DiskState, History, IfTold}
+use Rattle.disk_model.specs.Disk.{DiskState, History, IfTold, reading}
 use Rattle.disk_model.specs.declared.name.FileName.TheVariants as file
 use Rattle.disk_model.proofs.BetweenLemmas.{between-on}
 use Rattle.disk_model.proofs.MomentLemmas.{if_told-map, if_told-both}
 use Rattle.mdbox_base.specs.Words.{IsOctets}
 use Rattle.mdbox_base.specs.declared.entries.BoxEntry.{BoxEntry}
+use Rattle.mdbox_base.specs.declared.ids.Guid.{Guid}
 use Rattle.mdbox_base.specs.declared.ids.MapUid.{MapUid}
 use Rattle.model_appends.specs.Appending.{LeavesAsRead, message_made}
 use Rattle.model_lists.specs.Lists.{Lists}
@@ -34,6 +35,7 @@ use Rattle.store_core.specs.Running.{IsStore}
 use Rattle.store_core.specs.Value.{StoreValue, indexes_of, references_to}
 use Rattle.mail_save.specs.Added.{entry_added}
 use Rattle.mail_save.specs.Events.{has_detachable}
+use Rattle.mail_save.specs.MailFiles.{ReadsSameMail}
 use Rattle.mail_save.specs.Parts.{origin_of}
 use Rattle.mail_save.specs.Ready.{IsRecordReady, IsRegionReady}
 use Rattle.mail_save.specs.SaveEffects.{StoresPlaced, saved_row}
@@ -88,9 +90,10 @@ own_is_whole octets own = none_filtered (λ (part : Part). part.detachable) (par
     by_test false e = refl
 
 pub region_ready : (at : SavedAt) (origin time : ℕ) (name octets : List ℕ) (after : Option History) → origin ≡ origin_of octets → CanBeSaved name time octets → length at.guid.0 ≡ 16 → IsOctets at.guid.0 → length (saved_region name time octets at.guid.0) ≡ at.size
-    → IfTold after (λ now. EndsWith at.offset (saved_region name time octets at.guid.0) (now (file.Mail at.file.0))) → ((lists : Lists) → IsSettledFor lists after → IfTold after (LeavesAsRead (file.Mail at.file.0))) → IsRegionReady at origin octets after
+    → IfTold after (λ now. EndsWith at.offset (saved_region name time octets at.guid.0) (now (file.Mail at.file.0))) → ((lists : Lists) → IsSettledFor lists after → IfTold after (LeavesAsRead (file.Mail at.file.0))) → IsRegionReady at origin name time octets after
 region_ready at origin time name octets after is can sixteen each long placed held = record {
   origin_is = is;
+  written = λ uid. if_told-map _ _ after (λ now e. region_there at origin uid (saved_region name time octets at.guid.0) now long e) placed;
   stores = λ uid. if_told-map _ _ after (λ now e. stored uid now e) placed;
   ready = λ uid lists s.
       if_told-both _ _ (λ now. IsSyncedRegion now (saved_row origin uid at) × (origin ≡ 0 → StoresDetached (files_of now) (saved_row origin uid at))) after
@@ -134,11 +137,20 @@ unlisted store guid history s new =
 
 -- ---- the record that was stored
 
-pub record_ready : {D : Type 0} → (at : SavedAt) (origin time size : ℕ) (octets : List ℕ) (added : Added) (old new : StoreValue D) (before after : Option History) → IsStore before old → All (λ r. r.guid ≢ at.guid.0) old.map.records → StoresPlaced at origin time size added old new → size ≡ length octets
-    → IsRegionReady at origin octets before → KeepsStored before after → IsRecordReady added time octets new after
-record_ready at origin time size octets added old new before after s guid_new made long region keeps = record {
+-- a region that reads as it did
+region_reads : (row : MapRecord) (octets : List ℕ) (before after : Option History) → ReadsSameMail before after → IfTold before (λ now. HasRegionOctets (files_of now) row octets) → IfTold after (λ now. HasRegionOctets (files_of now) row octets)
+region_reads row octets before after same there =
+    between-on (λ a b. ((number : ℕ) → reading (b (file.Mail number)) ≡ reading (a (file.Mail number))) × ((hash id : List ℕ) → reading (b (file.Inst hash id)) ≡ reading (a (file.Inst hash id)))) (λ now. HasRegionOctets (files_of now) row octets) (λ now. HasRegionOctets (files_of now) row octets) before after
+    (λ a b kept h. record { there = h.there; in_file = kept.0 row.file ∙ h.in_file; inside = h.inside; region = h.region }) same there
+
+pub record_ready : {D : Type 0} → (at : SavedAt) (origin : ℕ) (name : List ℕ) (time size : ℕ) (octets : List ℕ) (added : Added) (old new : StoreValue D) (before after : Option History) → IsStore before old → All (λ r. r.guid ≢ at.guid.0) old.map.records → StoresPlaced at origin time size added old new → size ≡ length octets
+    → IsRegionReady at origin name time octets before → KeepsStored before after → ReadsSameMail before after → IsRecordReady added name time octets new after
+record_ready at origin name time size octets added old new before after s guid_new made long region keeps same = record {
   time_is = made.time_is;
   size_is = made.size_is ∙ long;
+  row = saved_row origin added.map_uid at;
+  there = made.there;
+  written = subst (λ (g : Guid). IfTold after (λ now. HasRegionOctets (files_of now) (saved_row origin added.map_uid at) (saved_region name time octets g.0))) (sym made.guid_is) (region_reads (saved_row origin added.map_uid at) (saved_region name time octets at.guid.0) before after same (region.written added.map_uid));
   brings = λ uid.
       between-on _ (λ disk. StoresMessage (files_of disk) (saved_row origin added.map_uid at) octets) (λ now. AreListed (files_of now) new.map (row_made (entry_added uid added)) (message_made octets (entry_added uid added))) before after
       (λ a b kept stores. (

@@ -29,7 +29,7 @@ as_before added room name time size next answer how old new before after began e
     s.idle (subst (λ (n : SaveStage). SaveEffects (stage.Adding added room) n name time size progress.More old new) next_is (subst (λ (a : Progress). SaveEffects (stage.Adding added room) next name time size a old new) more s.effects)).1
 
 adding_moments : {D : Type 0} → (added : Added) (room : Unit {0}) (name : List ℕ) (time size : ℕ) (next : SaveStage) (answer : Progress) (how : Did) (old new : StoreValue D) (before after : Option History) (began ended : Faults) → LogsShowLists → IsStore before old → old.stopped ≡ false
-    → Saves (stage.Adding added room) next name time size answer how old new before after began ended → (octets : List ℕ) → IsRecordReady added time octets old before → (lists : Lists) → IsSettledFor lists before → Leaves lists (delivered_lists name added octets lists) before after
+    → Saves (stage.Adding added room) next name time size answer how old new before after began ended → (octets : List ℕ) → IsRecordReady added name time octets old before → (lists : Lists) → IsSettledFor lists before → Leaves lists (delivered_lists name added octets lists) before after
 adding_moments added room name time size next answer how old new before after began ended show is runs s octets ready lists at = elim s.replies [
   | inl k ↦ by_room k.0 k.1 k.2
   | inr (inl k) ↦ by_room k.0 k.1 k.2
@@ -54,7 +54,7 @@ save_moments stage.Ended next name time size answer how old new before after beg
 -- ---- afterwards
 
 adding_rests : {D : Type 0} → (added : Added) (room : Unit {0}) (name : List ℕ) (time size : ℕ) (next : SaveStage) (answer : Progress) (how : Did) (old new : StoreValue D) (before after : Option History) (began ended : Faults) → LogsShowLists → IsStore before old → old.stopped ≡ false
-    → Saves (stage.Adding added room) next name time size answer how old new before after began ended → new.stopped ≡ false → (octets : List ℕ) → IsRecordReady added time octets old before → (lists : Lists) → IsSettledFor lists before → IsSettledFor (lists_delivered (stage.Adding added room) name octets answer lists) after
+    → Saves (stage.Adding added room) next name time size answer how old new before after began ended → new.stopped ≡ false → (octets : List ℕ) → IsRecordReady added name time octets old before → (lists : Lists) → IsSettledFor lists before → IsSettledFor (lists_delivered (stage.Adding added room) name octets answer lists) after
 adding_rests added room name time size next answer how old new before after began ended show is runs s ran octets ready lists at = elim s.replies [
   | inl k ↦
       let rests : RestsAt (stage.Adding added room) name (progress.Done (reply.Saved k.1 added.guid)) old before after = subst (λ (a : Progress). RestsAt (stage.Adding added room) name a old before after) k.3 (s.rests ran) in

@@ -246,7 +246,7 @@ taking_more parts laid file name time size octets how old new before after began
     sees : SeesAround octets (around_saving octets (stage.Taking parts) old) (seen_saving old before began)
     sees = sees_around octets (stage.Taking parts) old before began e.is e.order e.whole
 
-    by_take : (take : Take) → IsTakeFor (length parts.region) old.files take → TookAs take file old new → DeliveryClause octets (stage.Taking parts) (stage.Placing laid file) name time progress.More did.Quiet old new before after began faulted
+    by_take : (take : Take) → IsTakeFor (length parts.region) old.files take → TookAs take (length parts.header) file old new → DeliveryClause octets (stage.Taking parts) (stage.Placing laid file) name time progress.More did.Quiet old new before after began faulted
     by_take (Known taken) is took = λ behind.
         let most = subst (λ (n : FileNo). All (λ g. MayBeTakenFor (length parts.region) g → g.file.0 ≤ n.0) old.files.files) (sym is.2) is.4 in
         let room = known_room (length parts.region) old.files.files is.0 e.order.rising is.1 is.3 most ∙ ap (λ (n : FileNo). Some n.0) (is.2 ∙ took.0) in

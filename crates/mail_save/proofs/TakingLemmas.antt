@@ -1,5 +1,5 @@
 -- What taking a storage file makes of a store, and giving it back.
-use Rattle.std.proofs.Common.{◌≡◌, ◌≢◌, ◌≤◌, ◌+◌, ℕ, Bool, true, false, List, [], ◌∷◌, ◌++◌, Option, Some, None, refl, sym, ◌∙◌, ap, subst, arith, inl, inr}
+use Rattle.std.proofs.Common.{◌≡◌, ◌≢◌, ◌≤◌, ◌+◌, ℕ, Bool, true, false, List, [], ◌∷◌, ◌++◌, length, Option, Some, None, refl, sym, ◌∙◌, ap, subst, arith, inl, inr}
 use Rattle.std.specs.Prelude.{◌⊎◌, Contains, slice_get, is_some, if◌then◌else◌}
 use Rattle.std.specs.Option.{option_map_or, option_and_then}
 use Rattle.std.proofs.lemmas.Option.{slice_get-get_or}
@@ -43,8 +43,8 @@ drawn_still store high = ap (λ (n : ℕ). record store.drawn { file = n }) high
 free_before : (size : ℕ) (file : FileNo) (files : List MailFile) (f : MailFile) → Contains files f → f.file ≡ file → MayBeTakenFor size f → ((at : ℕ) → slice_get files at ≡ Some f → file_in file.0 files ≡ Some f) → is_taken_in file.0 files ≡ false
 free_before size file files f at same room found = ap (λ (o : Option MailFile). option_map_or (λ g. g.taken) o false) (found at.0 (slice_get-get_or files at.0 f at.1 ∙ ap Some at.2)) ∙ room.free
 
-known_takes : {D : Type 0} → (size spare : ℕ) (file : FileNo) (old : StoreValue D) → AreFilesInOrder old.files → old.files.highest ≡ old.drawn.file → IsTakeFor size (roomier_store spare old).files (Known file) → TakesFileFor size file old (taker_store (Known file) (roomier_store spare old))
-known_takes size spare file old order high is = record {
+known_takes : {D : Type 0} → (header size spare : ℕ) (file : FileNo) (old : StoreValue D) → AreFilesInOrder old.files → old.files.highest ≡ old.drawn.file → IsTakeFor size (roomier_store spare old).files (Known file) → TakesFileFor header size file old (taker_store (Known file) (roomier_store spare old))
+known_takes header size spare file old order high is = record {
   take = Known file;
   is = is;
   took = (refl, drawn_still old high, λ number. ends-kept file.0 number (with_taken true) old.files.files (λ f. refl) (λ f. refl));
@@ -53,17 +53,17 @@ known_takes size spare file old order high is = record {
   same = refl;
 }
 
-pub takes_known : {D : Type 0} → (size spare : ℕ) (file : FileNo) (old reserved new : StoreValue D) → AreFilesInOrder old.files → old.files.highest ≡ old.drawn.file → reserved ≡ roomier_store spare old → new ≡ taker_store (Known file) reserved
-    → IsTakeFor size reserved.files (Known file) → TakesFileFor size file old new
-takes_known size spare file old reserved new order high r t is =
-    subst (TakesFileFor size file old) (sym (t ∙ ap (taker_store (Known file)) r)) (known_takes size spare file old order high (subst (λ (v : StoreValue _). IsTakeFor size v.files (Known file)) r is))
+pub takes_known : {D : Type 0} → (header size spare : ℕ) (file : FileNo) (old reserved new : StoreValue D) → AreFilesInOrder old.files → old.files.highest ≡ old.drawn.file → reserved ≡ roomier_store spare old → new ≡ taker_store (Known file) reserved
+    → IsTakeFor size reserved.files (Known file) → TakesFileFor header size file old new
+takes_known header size spare file old reserved new order high r t is =
+    subst (TakesFileFor header size file old) (sym (t ∙ ap (taker_store (Known file)) r)) (known_takes header size spare file old order high (subst (λ (v : StoreValue _). IsTakeFor size v.files (Known file)) r is))
 
 -- ---- a new one
 
 begun_files : FileNo → List MailFile → List MailFile
 begun_files file files = files ++ file_begun file ∷ []
 
-new_takes : {D : Type 0} → (size spare end : ℕ) (file : FileNo) (disk : D) (old : StoreValue D) → AreFilesInOrder old.files → IsTakeFor size (roomier_store spare old).files (New file) → TakesFileFor size file old (maker_store file.0 end disk (taker_store (New file) (roomier_store spare old)))
+new_takes : {D : Type 0} → (size spare end : ℕ) (file : FileNo) (disk : D) (old : StoreValue D) → AreFilesInOrder old.files → IsTakeFor size (roomier_store spare old).files (New file) → TakesFileFor end size file old (maker_store file.0 end disk (taker_store (New file) (roomier_store spare old)))
 new_takes size spare end file disk old order is =
     let none : file_in file.0 old.files.files ≡ None = none_begun file old.files order is.1 in
     let files : List MailFile = old.files.files ++ file_begun file ∷ [] in
@@ -74,7 +74,7 @@ new_takes size spare end file disk old order is =
         refl,
         refl,
         ap (option_and_then (λ g. g.end)) none,
-        (end, ends-here file.0 end files (file_begun file) (file-begun file old.files.files none)),
+        ends-here file.0 end files (file_begun file) (file-begun file old.files.files none),
         λ number apart. ends-other file.0 number (ending_at end) files (λ f. refl) apart ∙ ends-begun number file old.files.files,
       );
       free = ap (λ (o : Option MailFile). option_map_or (λ g. g.taken) o false) none;
@@ -83,9 +83,13 @@ new_takes size spare end file disk old order is =
     }
 
 pub takes_new : {D : Type 0} → (size spare end : ℕ) (file : FileNo) (old reserved taken new : StoreValue D) → AreFilesInOrder old.files → reserved ≡ roomier_store spare old → taken ≡ taker_store (New file) reserved → new ≡ maker_store file.0 end new.disk taken
-    → IsTakeFor size reserved.files (New file) → TakesFileFor size file old new
+    → IsTakeFor size reserved.files (New file) → TakesFileFor end size file old new
 takes_new size spare end file old reserved taken new order r t m is =
-    subst (TakesFileFor size file old) (sym (m ∙ ap (maker_store file.0 end new.disk) (t ∙ ap (taker_store (New file)) r))) (new_takes size spare end file new.disk old order (subst (λ (v : StoreValue _). IsTakeFor size v.files (New file)) r is))
+    subst (TakesFileFor end size file old) (sym (m ∙ ap (maker_store file.0 end new.disk) (t ∙ ap (taker_store (New file)) r))) (new_takes size spare end file new.disk old order (subst (λ (v : StoreValue _). IsTakeFor size v.files (New file)) r is))
+
+-- of as many octets
+pub takes_as : {D : Type 0} → (header other : List ℕ) (size many : ℕ) (file : FileNo) (old new : StoreValue D) → header ≡ other → size ≡ many → TakesFileFor (length header) size file old new → TakesFileFor (length other) many file old new
+takes_as header other size many file old new e f t = subst (λ (h : List ℕ). TakesFileFor (length h) many file old new) e (subst (λ (n : ℕ). TakesFileFor (length header) n file old new) f t)
 
 -- ---- none
 

@@ -2,6 +2,7 @@ pub mod Added
 pub mod Events
 pub mod Held
 pub mod Left
+pub mod MailFiles
 pub mod Others
 pub mod Parts
 pub mod Ready

@@ -1,5 +1,5 @@
 -- What a delivery has between its events, of the message with these octets: what each event needs of the store and its disk.
-use Rattle.std.specs.Prelude.{◌≡◌, ◌≤◌, ℕ, List, length, Option}
+use Rattle.std.specs.Prelude.{◌≡◌, ◌≤◌, ℕ, List, length, Option, Some}
 use Rattle.attach_detach.specs.Prepared.{IsPlain}
 use Rattle.disk_model.specs.Disk.{History, IfTold}
 use Rattle.mdbox_base.specs.declared.ids.MapUid.{MapUid}
@@ -9,6 +9,7 @@ use Rattle.mdbox_base.specs.declared.progress.Progress.TheVariants as progress
 use Rattle.mdbox_base.specs.declared.replies.Reply.TheVariants as reply
 use Rattle.list_machine.specs.Machine.{add_message}
 use Rattle.model_lists.specs.Lists.{Lists}
+use Rattle.model_meaning.specs.MapMeaning.{MapRecord, record_at}
 use Rattle.model_store.specs.Settled.{IsSettledFor, files_of}
 use Rattle.model_store.specs.Stands.{StoresMessage}
 use Rattle.store_core.specs.Append.{Brings}
@@ -18,22 +19,30 @@ use Rattle.mail_save.specs.Added.{entry_added}
 use Rattle.mail_save.specs.Parts.{AreLaidOut, origin_of}
 use Rattle.mail_save.specs.Record.{entry_stored}
 use Rattle.mail_save.specs.SaveEffects.{saved_row}
+use Rattle.mail_save.specs.Saved.{saved_region}
+use Rattle.mail_save.specs.Stored.{HasRegionOctets}
 use Rattle.mail_save.specs.declared.add.Added.{Added}
 use Rattle.mail_save.specs.declared.place.SavedAt.{SavedAt}
 use Rattle.mail_save.specs.declared.task.SaveStage.{SaveStage}
 use Rattle.mail_save.specs.declared.task.SaveStage.TheVariants as stage
 
--- A record of the region that was placed stores the message, under any map uid; and of a settled disk the region is ready: a
--- crash leaves it as it reads, and a record of an own save stores its detached form.
-pub record IsRegionReady (at : SavedAt) (origin : ℕ) (octets : List ℕ) (history : Option History) : Type 0 where
+-- The region that was placed has the octets that are written of the message, and a record of it stores the message, under any map
+-- uid; and of a settled disk the region is ready: a crash leaves it as it reads, and a record of an own save stores its detached
+-- form.
+pub record IsRegionReady (at : SavedAt) (origin : ℕ) (name : List ℕ) (time : ℕ) (octets : List ℕ) (history : Option History) : Type 0 where
   pub origin_is : origin ≡ origin_of octets
+  pub written : (uid : MapUid) → IfTold history (λ now. HasRegionOctets (files_of now) (saved_row origin uid at) (saved_region name time octets at.guid.0))
   pub stores : (uid : MapUid) → IfTold history (λ now. StoresMessage (files_of now) (saved_row origin uid at) octets)
   pub ready : (uid : MapUid) (lists : Lists) → IsSettledFor lists history → IsReadyToStore (entry_stored origin uid at) history
 
--- The record that was stored brings the message to any mailbox, under any UID. None lists it yet.
-pub record IsRecordReady {D : Type 0} (added : Added) (time : ℕ) (octets : List ℕ) (store : StoreValue D) (history : Option History) : Type 0 where
+-- The record that was stored has a region with the octets that are written of the message, and brings the message to any mailbox,
+-- under any UID. None lists it yet.
+pub record IsRecordReady {D : Type 0} (added : Added) (name : List ℕ) (time : ℕ) (octets : List ℕ) (store : StoreValue D) (history : Option History) : Type 0 where
   pub time_is : added.time ≡ time
   pub size_is : added.size ≡ length octets
+  pub row : MapRecord
+  pub there : record_at store.map added.map_uid.0 ≡ Some row
+  pub written : IfTold history (λ now. HasRegionOctets (files_of now) row (saved_region name time octets added.guid.0))
   pub brings : (uid : Uid) → Brings store.map (entry_added uid added) octets history
   pub unlisted : references_to store added.guid.0 ≡ 0
 
@@ -47,8 +56,8 @@ abbrev pub IsReadyToSave : {D : Type 0} → SaveStage → List ℕ → ℕ → �
 IsReadyToSave (stage.First prepared) name time size octets store history = HasSize size octets × IsPlain octets prepared
 IsReadyToSave (stage.Taking parts) name time size octets store history = HasSize size octets × AreLaidOut name time octets parts
 IsReadyToSave (stage.Placing parts file) name time size octets store history = HasSize size octets × AreLaidOut name time octets parts
-IsReadyToSave (stage.Storing at origin room) name time size octets store history = HasSize size octets × IsRegionReady at origin octets history
-IsReadyToSave (stage.Adding added room) name time size octets store history = HasSize size octets × IsRecordReady added time octets store history
+IsReadyToSave (stage.Storing at origin room) name time size octets store history = HasSize size octets × IsRegionReady at origin name time octets history
+IsReadyToSave (stage.Adding added room) name time size octets store history = HasSize size octets × IsRecordReady added name time octets store history
 IsReadyToSave now name time size octets store history = HasSize size octets
 
 -- ---- the lists

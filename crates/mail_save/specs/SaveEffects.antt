@@ -59,18 +59,18 @@ AreSpared old new before after = (uid : ℕ) (row : MapRecord) → record_at old
 
 -- ---- a storage file is taken
 
--- It was there, or it is new, with the next number, and was made.
-abbrev pub TookAs : {D : Type 0} → Take → FileNo → StoreValue D → StoreValue D → Type 0
-TookAs (Known taken) file old new = (taken ≡ file) × (new.drawn ≡ old.drawn) × AreEndsSame old new
-TookAs (New taken) file old new =
-    (taken ≡ file) × (new.drawn ≡ record old.drawn { file = file.0 }) × (end_in file.0 old.files.files ≡ None) × ((end : ℕ) × (end_in file.0 new.files.files ≡ Some end)) × AreOtherEndsSame file.0 old new
-TookAs Full file old new = ⊥
+-- It was there, or it is new, with the next number, and was made with a header of so many octets.
+abbrev pub TookAs : {D : Type 0} → Take → ℕ → FileNo → StoreValue D → StoreValue D → Type 0
+TookAs (Known taken) header file old new = (taken ≡ file) × (new.drawn ≡ old.drawn) × AreEndsSame old new
+TookAs (New taken) header file old new =
+    (taken ≡ file) × (new.drawn ≡ record old.drawn { file = file.0 }) × (end_in file.0 old.files.files ≡ None) × (end_in file.0 new.files.files ≡ Some header) × AreOtherEndsSame file.0 old new
+TookAs Full header file old new = ⊥
 
--- This file was taken for so many octets, which nobody had taken.
-pub record TakesFileFor {D : Type 0} (size : ℕ) (file : FileNo) (old new : StoreValue D) : Type 0 where
+-- This file was taken for so many octets, which nobody had taken. A new one has a header of so many.
+pub record TakesFileFor {D : Type 0} (header size : ℕ) (file : FileNo) (old new : StoreValue D) : Type 0 where
   pub take : Take
   pub is : IsTakeFor size old.files take
-  pub took : TookAs take file old new
+  pub took : TookAs take header file old new
   pub free : is_taken_in file.0 old.files.files ≡ false
   pub others : AreOthersTaken file.0 old new
   pub same : new ≡ record old { disk = new.disk; files = new.files; drawn = new.drawn }
@@ -166,7 +166,7 @@ pub record LowersRecord {D : Type 0} (uid : MapUid) (old new : StoreValue D) : T
 abbrev pub SaveEffects : {D : Type 0} → SaveStage → SaveStage → List ℕ → ℕ → ℕ → Progress → StoreValue D → StoreValue D → Type 0
 SaveEffects (stage.First prepared) (stage.Taking parts) name time size progress.More old new = (new ≡ old) × (save_refusal name old ≡ None) × ((octets : List ℕ) → IsPlain octets prepared → AreLaidOut name time octets parts)
 SaveEffects (stage.First prepared) stage.Ended name time size (progress.Done (reply.Refused why)) old new = new ≡ old
-SaveEffects (stage.Taking parts) (stage.Placing laid file) name time size progress.More old new = (laid ≡ parts) × TakesFileFor (length parts.region) file old new
+SaveEffects (stage.Taking parts) (stage.Placing laid file) name time size progress.More old new = (laid ≡ parts) × TakesFileFor (length parts.header) (length parts.region) file old new
 SaveEffects (stage.Taking parts) stage.Ended name time size (progress.Done (reply.Refused why)) old new = TakesNone (length parts.region) why old new
 SaveEffects (stage.Placing parts file) (stage.Storing at origin room) name time size progress.More old new = PlacesParts parts file at origin old new
 SaveEffects (stage.Placing parts file) stage.Ended name time size (progress.Done (reply.Refused why)) old new = IsLeftAlone old new

@@ -26,6 +26,7 @@ use Rattle.mail_save.specs.Added.{HasRoomUnder, entry_added}
 use Rattle.mail_save.specs.Events.{box_refusal, save_refusal, uid_refusal}
 use Rattle.mail_save.specs.Held.{save_amounts}
 use Rattle.mail_save.specs.Left.{HoldsFile, HoldsRegion}
+use Rattle.mail_save.specs.MailFiles.{WritesMail}
 use Rattle.mail_save.specs.Others.{KeepsOthers}
 use Rattle.mail_save.specs.Parts.{AreLaidOut}
 use Rattle.mail_save.specs.Ready.{IsReadyToSave}
@@ -147,6 +148,7 @@ pub record Saves {D : Type 0} (now next : SaveStage) (name : List ℕ) (time siz
   pub did_is : how ≡ saved_did now next answer
   pub moments : MomentsAt now name old before after
   pub rests : new.stopped ≡ false → RestsAt now name answer old before after
+  pub mail : new.stopped ≡ false → WritesMail now next name time old before after
   pub ready : answer ≡ progress.More → (octets : List ℕ) → IsReadyToSave now name time size octets old before → IsReadyToSave next name time size octets new after
   pub left : answer ≡ progress.More → HasLeft next name time new
   pub fewer : answer ≡ progress.More → save_events_left next < save_events_left now

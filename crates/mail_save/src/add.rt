@@ -1,5 +1,5 @@
 // A message is added to its mailbox.
-ghost use Rattle.std.specs.Prelude.{◌≡◌, ◌↔◌, ◌⊎◌, ◌≤◌, ℕ, List, true, false, Some, None, IfOk, IfErr, IsErr, IsErrOf};
+ghost use Rattle.std.specs.Prelude.{◌≡◌, ◌↔◌, ◌⊎◌, ◌≤◌, ℕ, List, true, false, Some, None, IfOk, IfErr, OnOk, IsErr, IsErrOf};
 ghost use Rattle.disk_model.specs.Disk.{Grows};
 ghost use Rattle.disk_model.specs.FaultCounts.{NoFault, ChangeFaultCounted};
 ghost use Rattle.mdbox_base.specs.declared.ids.BoxNo.{BoxNo};
@@ -16,6 +16,7 @@ ghost use Rattle.store_core.specs.Dues.{due_at, KeepsStored};
 ghost use Rattle.store_core.specs.Value.{indexes_of, list_named, list_numbered};
 ghost use Rattle.mail_save.specs.Added.{HasRoomUnder, entry_added};
 ghost use Rattle.mail_save.specs.Events.{box_refusal};
+ghost use Rattle.mail_save.specs.MailFiles.{ReadsSameMail};
 
 use disk_model::Disk;
 use mdbox_base::{BoxEntry, BoxNo, Guid, MapUid, Name, Refusal, Uid};
@@ -73,6 +74,7 @@ pub fn add_message<D: Disk>(store: &mut Store<D>, name: &Name, added: Added) -> 
     ensures uid { IfOk result (λ uid. (number : BoxNo) × HasRoomUnder name.now number uid store.old × (indexes_of store.new.boxes ≡ meanings_by number.0 (entry_added uid added) store.old.map.boxes (indexes_of store.old.boxes))) }
     ensures due { IfOk result (λ uid. (m : BoxMeaning) (other : ℕ) → list_named store.old name.now ≡ Some m → due_at other store.new ≡ due_by_box m (entry_added uid added) (λ k. due_at k store.old) other) }
     ensures stored { store.new.stopped ≡ false → KeepsStored (D.history store.old.disk) (D.history store.new.disk) }
+    ensures mail { OnOk result (ReadsSameMail (D.history store.old.disk) (D.history store.new.disk)) }
     ensures refused { IfErr result (λ why. (box_refusal (list_named store.old name.now) ≡ Some why) ⊎ ((box_refusal (list_named store.old name.now) ≡ None) × ((why ≡ refusal.Stopped) ⊎ (why ≡ refusal.NoMemory)))) }
     ensures fell { IsErrOf result refusal.Stopped → (number : BoxNo) × (uid : Uid) × HasRoomUnder name.now number uid store.old }
     ensures stopped { IsErrOf result refusal.Stopped ↔ (store.new.stopped ≡ true) }

@@ -12,6 +12,7 @@ ghost use Rattle.storage_files.specs.Files.{end_in, is_taken_in};
 ghost use Rattle.store_core.specs.Dues.{KeepsStored};
 ghost use Rattle.store_core.specs.Files.{EndsWith};
 ghost use Rattle.mail_save.specs.Left.{HoldsFile, HoldsRegion};
+ghost use Rattle.mail_save.specs.MailFiles.{HasAppended, TakesWithHeader};
 ghost use Rattle.mail_save.specs.SaveEffects.{AreOtherEndsSame, IsLeftAlone, TakesFileFor, TakesNone};
 ghost use Rattle.mail_save.specs.Saved.{saved_region, no_guid, place_guid};
 
@@ -40,7 +41,8 @@ pub fn take_file<D: Disk>(store: &mut Store<D>, header: &[u8], size: u32) -> Res
     requires running { store.old.stopped ≡ false }
     requires size { length header.now + size ≤ 4294967295 }
     ensures taken { IfOk result (λ file. HoldsFile file.0 size store.new) }
-    ensures takes { IfOk result (λ file. TakesFileFor size file store.old store.new) }
+    ensures takes { IfOk result (λ file. TakesFileFor (length header.now) size file store.old store.new) }
+    ensures mail { IfOk result (λ file. TakesWithHeader header.now file.0 store.old (D.history store.old.disk) (D.history store.new.disk)) }
     ensures none { IfErr result (λ why. TakesNone size why store.old store.new) }
     ensures any_moment { (lists : Lists) → IsSettledFor lists (D.history store.old.disk) → Leaves lists lists (D.history store.old.disk) (D.history store.new.disk) }
     ensures settled { store.new.stopped ≡ false → (lists : Lists) → IsSettledFor lists (D.history store.old.disk) → IsSettledFor lists (D.history store.new.disk) }
@@ -96,6 +98,7 @@ pub fn place_region<D: Disk>(
     ensures long { IfOk result (λ at. (time : ℕ) (octets : List ℕ) → region.old ≡ saved_region name.now time octets no_guid → length (saved_region name.now time octets at.guid.0) ≡ at.size) }
     ensures offset { IfOk result (λ at. end_in file.0 store.old.files.files ≡ Some at.offset) }
     ensures written { IfOk result (λ at. (time : ℕ) (octets : List ℕ) → region.old ≡ saved_region name.now time octets no_guid → IfTold (D.history store.new.disk) (λ now. EndsWith at.offset (saved_region name.now time octets at.guid.0) (now (Mail file.0)))) }
+    ensures appended { IfOk result (λ at. (time : ℕ) (octets : List ℕ) → region.old ≡ saved_region name.now time octets no_guid → HasAppended name.now time octets at.guid.0 file.0 (D.history store.old.disk) (D.history store.new.disk)) }
     ensures held { OnOk result ((lists : Lists) → IsSettledFor lists (D.history store.new.disk) → IfTold (D.history store.new.disk) (LeavesAsRead (Mail file.0))) }
     ensures ends { IfOk result (λ at. end_in file.0 store.new.files.files ≡ Some (at.offset + at.size)) }
     ensures others { OnOk result (AreOtherEndsSame file.0 store.old store.new) }

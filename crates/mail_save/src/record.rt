@@ -9,6 +9,7 @@ ghost use Rattle.store_core.specs.Dues.{due_at, KeepsStored};
 ghost use Rattle.store_core.specs.MapAppend.{IsReadyToStore};
 ghost use Rattle.mail_save.specs.Events.{uid_refusal};
 ghost use Rattle.mail_save.specs.Left.{HoldsRegion};
+ghost use Rattle.mail_save.specs.MailFiles.{ReadsSameMail};
 ghost use Rattle.mail_save.specs.Record.{entry_stored, entry_lowered};
 ghost use Rattle.mail_save.specs.SaveEffects.{AreSpared, IsLeftAlone, LowersRecord, StoresPlaced, StoresNone};
 
@@ -75,6 +76,7 @@ pub fn store_record<D: Disk>(
     ensures any_moment { (lists : Lists) → IsReadyToStore (entry_stored origin (record { 0 = store.old.drawn.map + 1 }) at) (D.history store.old.disk) → IsSettledFor lists (D.history store.old.disk) → Leaves lists lists (D.history store.old.disk) (D.history store.new.disk) }
     ensures settled { store.new.stopped ≡ false → (lists : Lists) → IsReadyToStore (entry_stored origin (record { 0 = store.old.drawn.map + 1 }) at) (D.history store.old.disk) → IsSettledFor lists (D.history store.old.disk) → IsSettledFor lists (D.history store.new.disk) }
     ensures stored { store.new.stopped ≡ false → KeepsStored (D.history store.old.disk) (D.history store.new.disk) }
+    ensures mail { OnOk result (ReadsSameMail (D.history store.old.disk) (D.history store.new.disk)) }
     ensures refused { IfErr result (λ why. (uid_refusal store.old.drawn.map ≡ Some why) ⊎ ((uid_refusal store.old.drawn.map ≡ None) × ((why ≡ refusal.Stopped) ⊎ (why ≡ refusal.NoMemory)))) }
     ensures stopped { IsErrOf result refusal.Stopped ↔ (store.new.stopped ≡ true) }
     ensures grows { Grows (D.history store.old.disk) (D.history store.new.disk) }
@@ -119,6 +121,7 @@ pub fn give_back<D: Disk>(store: &mut Store<D>, uid: MapUid, room: LowerRoom) ->
     ensures any_moment { (lists : Lists) → IsSettledFor lists (D.history store.old.disk) → Leaves lists lists (D.history store.old.disk) (D.history store.new.disk) }
     ensures settled { OnOk result ((lists : Lists) → IsSettledFor lists (D.history store.old.disk) → IsSettledFor lists (D.history store.new.disk)) }
     ensures stored { OnOk result (KeepsStored (D.history store.old.disk) (D.history store.new.disk)) }
+    ensures mail { OnOk result (ReadsSameMail (D.history store.old.disk) (D.history store.new.disk)) }
     ensures stopped { IsErr result ↔ (store.new.stopped ≡ true) }
     ensures grows { Grows (D.history store.old.disk) (D.history store.new.disk) }
     ensures fault { ChangeFaultCounted (IsErr result) (D.faults store.old.disk) (D.faults store.new.disk) }

@@ -11,6 +11,7 @@ ghost use Rattle.mdbox_base.specs.declared.requests.Request.TheVariants as reque
 ghost use Rattle.model_lists.specs.Lists.{Lists};
 ghost use Rattle.model_store.specs.Settled.{IsSettledFor, Leaves};
 ghost use Rattle.store_core.specs.Dues.{due_at};
+ghost use Rattle.store_core.specs.Keeping.{KeepsUids};
 ghost use Rattle.task_steps.specs.Step.{Steps, ended_by};
 ghost use Rattle.mail_save.specs.Events.{has_detachable};
 ghost use Rattle.mail_save.specs.Left.{HoldsFile};
@@ -131,6 +132,9 @@ impl SaveTask {
         // settled for those that the answer tells.
         ensures moments { (octets : List ℕ) → IsReadyToSave self.old.stage self.old.name self.old.time self.old.size octets store.old (D.history store.old.disk) → (lists : Lists) → IsSettledFor lists (D.history store.old.disk) → Leaves lists (save_lists self.old.stage self.old.name octets lists) (D.history store.old.disk) (D.history store.new.disk) }
         ensures settled { store.new.stopped ≡ false → (octets : List ℕ) → IsReadyToSave self.old.stage self.old.name self.old.time self.old.size octets store.old (D.history store.old.disk) → (lists : Lists) → IsSettledFor lists (D.history store.old.disk) → IsSettledFor (lists_delivered self.old.stage self.old.name octets result lists) (D.history store.new.disk) }
+
+        // A message that another task copies or moves stays the only one with its UID.
+        ensures keeps { KeepsUids store.old store.new }
 
         ensures stopped { store.old.stopped ≡ true → (result ≡ stopped_reply) × (store.new ≡ store.old) × (self.new.stage ≡ self.old.stage) × (self.new.did ≡ did.Quiet) }
         ensures request { (self.new.name ≡ self.old.name) × (self.new.time ≡ self.old.time) × (self.new.size ≡ self.old.size) }

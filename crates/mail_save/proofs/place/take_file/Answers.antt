@@ -1,6 +1,10 @@
-use Rattle.std.proofs.Common.{ap, inl, refl, ◌∙◌}
+use Rattle.std.proofs.Common.{ap, inl, refl, sym, subst, ◌∙◌}
 use Rattle.mail_save.proofs.PlaceLemmas.{unchanged_leaves, unchanged_settled}
 use Rattle.mail_save.proofs.TakingLemmas.{takes_known, takes_new, takes_failing, takes_full, holds_known, holds_new}
+use Rattle.mail_save.proofs.MailFileLemmas.{mail_unchanged, took_known, took_new}
+use Rattle.disk_model.specs.declared.name.FileName.TheVariants.{Mail}
+use Rattle.storage_files.specs.Files.{end_in}
+use Rattle.storage_files.specs.OnDisk.{OthersAreNamed}
 use Rattle.mail_save.proofs.place.take_file.Goals as goal
 
 -- ---- no memory
@@ -18,7 +22,7 @@ returns-in-Known-clause-taken g c = holds_known c.args.size c.in-Known.file c.ta
 
 pub returns-in-Known-clause-takes : goal.returns-in-Known-clause-takes
 returns-in-Known-clause-takes g c =
-    takes_known c.args.size _ c.in-Known.file c.args.store.now c.reserve.new.self c.take_for.new.self c.facts.ensures.files c.facts.ensures.store.files.highest c.in_default.ensures.ok c.in-Known.ensures.same c.in-Known.ensures.take
+    takes_known _ c.args.size _ c.in-Known.file c.args.store.now c.reserve.new.self c.take_for.new.self c.facts.ensures.files c.facts.ensures.store.files.highest c.in_default.ensures.ok c.in-Known.ensures.same c.in-Known.ensures.take
 
 pub returns-in-Known-clause-any_moment : goal.returns-in-Known-clause-any_moment
 returns-in-Known-clause-any_moment g c = λ lists s.
@@ -50,3 +54,20 @@ returns-in-Full-clause-any_moment g c = λ lists s.
 
 pub returns-in-Full-clause-none : goal.returns-in-Full-clause-none
 returns-in-Full-clause-none g c = takes_full c.args.size _ c.args.store.now c.reserve.new.self c.take_for.new.self c.facts.ensures.store.files.highest c.in_default.ensures.ok c.in-Full.ensures.same c.in-Full.ensures.take
+
+-- ---- on the disk
+
+pub returns-in-Known-clause-mail : goal.returns-in-Known-clause-mail
+returns-in-Known-clause-mail g c =
+    let same = c.in-Known.ensures.same in
+    let reserved = c.in_default.ensures.ok in
+    let end = c.in-Known.ensures.given.1 in
+    took_known c.args.header.now c.in-Known.file.0 end.0 c.args.store.now _ _ (ap (λ v. end_in c.in-Known.file.0 v.files.files) (sym reserved) ∙ (sym (c.in-Known.ensures.ends c.in-Known.file.0) ∙ end.1))
+    (mail_unchanged g.D.Disk.history c.args.store.now.disk c.take_for.new.self.disk (ap (λ v. v.disk) same ∙ ap (λ v. v.disk) reserved))
+
+pub returns-in-Ok-clause-mail : goal.returns-in-Ok-clause-mail
+returns-in-Ok-clause-mail g c =
+    let reserved = c.in_default.ensures.ok in
+    let disk = ap (λ v. v.disk) c.in-New.ensures.same ∙ ap (λ v. v.disk) reserved in
+    took_new c.args.header.now c.in-New.file.0 c.args.store.now _ _ (ap (λ v. end_in c.in-New.file.0 v.files.files) (sym reserved) ∙ (sym (c.in-New.ensures.ends c.in-New.file.0) ∙ c.in-New.ensures.given.1))
+    (subst (λ d. OthersAreNamed (Mail c.in-New.file.0) (g.D.Disk.history d) (g.D.Disk.history c.make_file.new.self.disk)) disk c.in-Ok.ensures.others) c.in-Ok.ensures.made

@@ -2,6 +2,7 @@ use Rattle.std.proofs.Common.{refl, sym, subst}
 use Rattle.mdbox_base.specs.declared.entries.MapEntry.{MapEntry}
 use Rattle.store_core.specs.MapAppend.{IsReadyToStore}
 use Rattle.mail_save.proofs.StoringLemmas.{left_alone, lowers_record}
+use Rattle.mail_save.proofs.MailFileLemmas.{mail_kept}
 use Rattle.mail_save.proofs.record.give_back.Goals as goal
 
 pub returns-in-Ok-clause-settled : goal.returns-in-Ok-clause-settled
@@ -16,3 +17,6 @@ returns-in-Err-Stopped-clause-alone g c = λ e.
     let o = c.append_map.ensures in
     let k = c.in-Err-Stopped.ensures.untaken refl in
     left_alone c.args.store.now c.append_map.new.self o.same k.0 k.1 k.2
+
+pub returns-in-Ok-clause-mail : goal.returns-in-Ok-clause-mail
+returns-in-Ok-clause-mail g c = mail_kept _ _ c.in-Ok.ensures.others

@@ -8,6 +8,8 @@ use Rattle.mail_save.proofs.RecordLemmas.{file_drawn, guid_drawn, record_fits, r
 use Rattle.mail_save.proofs.SaveEventLemmas.{uids_full, uids_left}
 use Rattle.mail_save.proofs.StoringLemmas.{gives_back, left_alone, spared_as, stores_placed}
 use Rattle.mail_save.specs.SaveEffects.{AreSpared}
+use Rattle.mail_save.proofs.MailFileLemmas.{mail_kept}
+use Rattle.mail_save.specs.MailFiles.{ReadsSameMail}
 use Rattle.mail_save.proofs.record.store_record.Goals as goal
 
 pub returns-in_default-clause-any_moment : goal.returns-in_default-clause-any_moment
@@ -81,3 +83,7 @@ returns-in-Err-Stopped-clause-none g c =
 
 pub returns-clause-none : goal.returns-clause-none
 returns-clause-none g c = inr ((λ e. cc e), gives_back c.args.at.file.0 c.args.store.now c.append_map.new.self c.release-in-Err-NoMemory.new.self (c.in-Err-NoMemory.ensures.memory (ap Err c.in-Err-NoMemory.field-0-is)).0 c.release-in-Err-NoMemory.ensures.same c.release-in-Err-NoMemory.ensures.ends)
+
+pub returns-in-Ok-clause-mail : goal.returns-in-Ok-clause-mail
+returns-in-Ok-clause-mail g c =
+    subst (λ d. ReadsSameMail (g.D.Disk.history c.args.store.now.disk) (g.D.Disk.history d)) (ap (λ v. v.disk) (sym c.release-in-Ok.ensures.same)) (mail_kept _ _ c.in-Ok.ensures.others)

@@ -9,6 +9,7 @@ use Rattle.mail_save.proofs.StoringLemmas.{spared_kept}
 use Rattle.mail_save.proofs.HeldLemmas.{nothing_moves, one_less}
 use Rattle.mail_save.specs.Held.{save_amounts}
 use Rattle.mail_save.proofs.OtherLemmas.{keeps_same}
+use Rattle.mail_save.proofs.MailFileLemmas.{mail_unchanged}
 use Rattle.mail_save.proofs.task.adding.Goals as goal
 
 pub returns-in-Ok : goal.returns-in-Ok
@@ -24,6 +25,7 @@ returns-in-Ok g c = λ size.
       left = λ e. absurd (done_goes_on _ e);
       fewer = λ e. absurd (done_goes_on _ e);
       effects = (refl, record { number = o.uid.0; room = o.uid.1; taken = o.uid.2; due = o.due; map = ap (λ v. v.map) o.same; drawn = ap (λ v. v.drawn) o.same; files = ap (λ v. v.files) o.same });
+      mail = λ ran. o.mail;
       idle = λ e. ap (λ v. g.D.Disk.history v.disk) e;
       spared = λ ran. spared_kept c.args.store.now c.add_message.new.store _ _ (ap (λ v. v.map) o.same) (o.stored ran);
       others = keeps_same (stage.Adding c.args.added c.args.room) c.args.store.now c.add_message.new.store (ap (λ v. v.map) o.same) (ap (λ v. v.files.files) o.same);
@@ -47,6 +49,7 @@ returns-then-stopped g c = λ size.
       left = λ e. absurd (done_goes_on _ e);
       fewer = λ e. absurd (done_goes_on _ e);
       effects = record { map = ap (λ v. v.map) o.same; indexes = (o.untaken refl).0; dues = (o.untaken refl).1; drawn = ap (λ v. v.drawn) o.same; files = ap (λ v. v.files) o.same };
+      mail = λ ran. absurd (unfallen c.add_message.new.store.stopped fell ran);
       idle = λ e. ap (λ v. g.D.Disk.history v.disk) e;
       spared = λ ran. absurd (unfallen c.add_message.new.store.stopped fell ran);
       others = keeps_same (stage.Adding c.args.added c.args.room) c.args.store.now c.add_message.new.store (ap (λ v. v.map) o.same) (ap (λ v. v.files.files) o.same);
@@ -72,6 +75,7 @@ returns-else-stopped g c = λ size.
       left = λ e. (subst (λ v. 1 ≤ due_at c.args.added.map_uid.0 v) (sym same) c.requires.left.1, calm);
       fewer = λ e. omega arith;
       effects = (refl, same);
+      mail = λ ran. mail_unchanged g.D.Disk.history c.args.store.now.disk c.add_message.new.store.disk (ap (λ v. v.disk) same);
       idle = λ e. ap (λ v. g.D.Disk.history v.disk) e;
       spared = λ ran. spared_kept c.args.store.now c.add_message.new.store _ _ (ap (λ v. v.map) same) (o.stored ran);
       others = keeps_same (stage.Adding c.args.added c.args.room) c.args.store.now c.add_message.new.store (ap (λ v. v.map) same) (ap (λ v. v.files.files) same);

@@ -8,6 +8,7 @@ use Rattle.mail_save.proofs.StoringLemmas.{spared_kept}
 use Rattle.mail_save.proofs.HeldLemmas.{nothing_moves}
 use Rattle.mail_save.specs.Held.{save_amounts}
 use Rattle.mail_save.proofs.OtherLemmas.{keeps_same}
+use Rattle.mail_save.proofs.MailFileLemmas.{mail_itself}
 use Rattle.mail_save.proofs.task.first_event.Goals as goal
 
 pub returns-in-Ok : goal.returns-in-Ok
@@ -24,6 +25,7 @@ returns-in-Ok g c = λ size.
       left = λ e. (m.0, m.1, c.in-Ok.ensures.begun.1 m.0 m.2);
       fewer = λ e. omega arith;
       effects = (refl, c.in-Ok.ensures.begun.0, c.in-Ok.ensures.begun.1);
+      mail = λ ran. mail_itself h;
       idle = λ e. refl;
       spared = λ ran. spared_kept c.args.store.now c.args.store.now h h refl (keeps_itself h);
       others = keeps_same (stage.First c.args.prepared.now) c.args.store.now c.args.store.now refl refl;
@@ -48,6 +50,7 @@ returns-in-Err g c = λ size.
       left = λ e. absurd (done_goes_on _ e);
       fewer = λ e. absurd (done_goes_on _ e);
       effects = refl;
+      mail = λ ran. mail_itself h;
       idle = λ e. refl;
       spared = λ ran. spared_kept c.args.store.now c.args.store.now h h refl (keeps_itself h);
       others = keeps_same (stage.First c.args.prepared.now) c.args.store.now c.args.store.now refl refl;

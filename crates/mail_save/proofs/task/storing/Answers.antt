@@ -1,13 +1,14 @@
 use Rattle.std.proofs.Common.{ap, sym, subst, refl, arith, Err}
 use Rattle.mail_save.specs.Task.{Saves}
 use Rattle.mail_save.specs.declared.task.SaveStage.TheVariants as stage
-use Rattle.mail_save.proofs.SaveEventLemmas.{done_goes_on, faults_by, is_false, more_apart, more_runs, ok_apart, one_error, one_is_due, refused_is, refused_rose, refused_stops}
+use Rattle.mail_save.proofs.SaveEventLemmas.{done_goes_on, faults_by, is_false, more_apart, more_runs, ok_apart, one_error, one_is_due, refused_is, refused_rose, refused_stops, unfallen}
 use Rattle.mail_save.specs.SaveEffects.{saved_row}
 use Rattle.mail_save.proofs.ReadyLemmas.{record_ready}
 use Rattle.mail_save.proofs.StoringLemmas.{spared_kept, unstored_map}
 use Rattle.mail_save.proofs.HeldLemmas.{nothing_moves, one_more, unstored_due}
 use Rattle.mail_save.specs.Held.{save_amounts}
 use Rattle.mail_save.proofs.OtherLemmas.{storing_keeps, unstored_keeps}
+use Rattle.mail_save.proofs.MailFileLemmas.{unstored_mail}
 use Rattle.mail_save.proofs.task.storing.Goals as goal
 
 pub returns-in-Ok : goal.returns-in-Ok
@@ -20,10 +21,11 @@ returns-in-Ok g c =
       did_is = refl;
       moments = o.any_moment;
       rests = o.settled;
-      ready = λ e octets h. (h.0, record_ready c.args.at c.args.origin c.args.time c.args.size octets _ c.args.store.now c.store_record.new.store _ _ c.facts.ensures.store c.requires.left.0.guid_new made h.0.0 h.1 (o.stored runs));
+      ready = λ e octets h. (h.0, record_ready c.args.at c.args.origin c.args.name.now c.args.time c.args.size octets _ c.args.store.now c.store_record.new.store _ _ c.facts.ensures.store c.requires.left.0.guid_new made h.0.0 h.1 (o.stored runs) o.mail);
       left = λ e. ((saved_row c.args.origin c.in-Ok.map_uid c.args.at, made.there, refl), one_is_due c.in-Ok.map_uid.0 _ _ (made.due c.in-Ok.map_uid.0), c.requires.size);
       fewer = λ e. omega arith;
       effects = made;
+      mail = λ ran. o.mail;
       idle = λ e. ap (λ v. g.D.Disk.history v.disk) e;
       spared = λ ran. o.spared;
       others = storing_keeps c.args.at c.args.origin c.args.time c.args.size c.args.room _ c.args.store.now c.store_record.new.store c.requires.left.0 made;
@@ -46,6 +48,7 @@ returns-in-Err g c =
       left = λ e. absurd (done_goes_on _ e);
       fewer = λ e. absurd (done_goes_on _ e);
       effects = o.none;
+      mail = λ ran. unstored_mail g.D.Disk.history c.args.at c.in-Err.why c.args.store.now c.store_record.new.store o.none (λ e. unfallen c.store_record.new.store.stopped (o.stopped.0 (ap Err e)) ran);
       idle = λ e. ap (λ v. g.D.Disk.history v.disk) e;
       spared = λ ran. spared_kept c.args.store.now c.store_record.new.store _ _ (unstored_map c.args.at c.in-Err.why c.args.store.now c.store_record.new.store o.none) (o.stored ran);
       others = unstored_keeps c.args.at c.args.origin c.args.room c.in-Err.why c.args.store.now c.store_record.new.store o.none;

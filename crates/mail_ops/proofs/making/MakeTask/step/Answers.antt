@@ -1,6 +1,5 @@
 use Rattle.std.proofs.Common.{sym, ◌∙◌}
 use Rattle.task_steps.proofs.OneEventLemmas.{leaves_none}
-use Rattle.mail_ops.proofs.MakeLogLemmas.{logs_stay}
 use Rattle.mail_ops.proofs.MakeStepLemmas.{make_known_by, make_stopped}
 use Rattle.mail_ops.proofs.making.MakeTask.step.Goals as goal
 

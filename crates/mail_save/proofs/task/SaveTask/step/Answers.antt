@@ -1,8 +1,9 @@
-use Rattle.std.proofs.Common.{rules, ◌<◌, ◌^◌, sym, ◌∙◌}
+use Rattle.std.proofs.Common.{rules, ◌<◌, ◌^◌, refl, sym, ◌∙◌}
 use Rattle.store_core.proofs.BoxCrashLemmas.{leaves_none}
 use Rattle.mail_save.proofs.SaveDoesLemmas.{seen_does, seen_stopped}
 use Rattle.mail_save.proofs.SaveEventLemmas.{seen_saves, unfallen}
 use Rattle.mail_save.proofs.SaveMomentLemmas.{save_moments, save_rests}
+use Rattle.mail_save.proofs.SaveUidLemmas.{store_stays, uids_stay}
 use Rattle.mail_save.proofs.task.SaveTask.step.Goals as goal
 
 pub returns-clause-saves : goal.returns-clause-saves
@@ -33,3 +34,11 @@ pub returns-clause-settled : goal.returns-clause-settled
 returns-clause-settled g c = λ ran octets ready lists at.
     let s = seen_saves _ c.args.self.now c.replace-now.result _ _ _ _ _ _ _ _ _ c.self.view_is c.replace-now.ensures.value c.next_event-next.ensures in
     save_rests c.args.self.now.stage _ _ _ _ _ _ c.args.store.now _ _ _ _ _ c.listings_are_shown.ensures.logs c.facts.ensures.store (sym c.stopped.ensures ∙ c.if-stopped.false) s ran octets ready lists at
+
+pub returns-then-stopped-clause-keeps : goal.returns-then-stopped-clause-keeps
+returns-then-stopped-clause-keeps g c = store_stays c.args.store.now c.args.store.now refl
+
+pub returns-clause-keeps : goal.returns-clause-keeps
+returns-clause-keeps g c =
+    let s = seen_saves _ c.args.self.now c.replace-now.result _ _ _ _ _ _ _ _ _ c.self.view_is c.replace-now.ensures.value c.next_event-next.ensures in
+    uids_stay c.args.self.now.stage _ _ _ _ _ c.args.store.now _ s.effects

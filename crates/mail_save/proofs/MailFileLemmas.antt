@@ -1,0 +1,90 @@
+-- What the events of a delivery make of the storage files on the disk.
+use Rattle.std.proofs.Common.{◌≡◌, ◌≢◌, ℕ, List, Option, Some, None, inl, inr, refl, sym, ◌∙◌, ap, subst}
+use Rattle.disk_model.specs.Disk.{DiskState, History, IfTold, Between, Keeps, SameButFor, reading}
+use Rattle.disk_model.specs.declared.name.FileName.TheVariants.{Mail, Inst}
+use Rattle.disk_model.proofs.BetweenLemmas.{between-begins, between-map}
+use Rattle.mdbox_base.specs.declared.replies.Refusal.{Refusal}
+use Rattle.mdbox_base.specs.declared.replies.Refusal.TheVariants as refusal
+use Rattle.storage_files.specs.Files.{end_in}
+use Rattle.storage_files.specs.OnDisk.{IsAddedTo, OthersAreNamed}
+use Rattle.store_core.proofs.MailChangeLemmas.{named_reads}
+use Rattle.store_core.specs.Keeping.{KeepsMail}
+use Rattle.store_core.specs.Value.{StoreValue}
+use Rattle.mail_save.specs.MailFiles.{HasAppended, TakesWithHeader, ReadsOtherMail, ReadsSameMail}
+use Rattle.mail_save.specs.SaveEffects.{StoresNone, TakesNone}
+use Rattle.mail_save.specs.Saved.{saved_region}
+use Rattle.mail_save.specs.declared.place.SavedAt.{SavedAt}
+
+-- ---- nothing is written to them
+
+abbrev SameMail : DiskState → DiskState → Type 0
+SameMail a b = ((number : ℕ) → reading (b (Mail number)) ≡ reading (a (Mail number))) × ((hash id : List ℕ) → reading (b (Inst hash id)) ≡ reading (a (Inst hash id)))
+
+abbrev OtherMail : ℕ → DiskState → DiskState → Type 0
+OtherMail file a b = ((number : ℕ) → number ≢ file → reading (b (Mail number)) ≡ reading (a (Mail number))) × ((hash id : List ℕ) → reading (b (Inst hash id)) ≡ reading (a (Inst hash id)))
+
+pub mail_itself : (h : Option History) → ReadsSameMail h h
+mail_itself h = between-begins SameMail h (λ disk. (λ number. refl, λ hash id. refl))
+
+pub mail_unchanged : {D : Type 0} → (history : D → Option History) (old new : D) → new ≡ old → ReadsSameMail (history old) (history new)
+mail_unchanged history old new same = subst (λ d. ReadsSameMail (history old) (history d)) (sym same) (mail_itself (history old))
+
+pub mail_kept : (before after : Option History) → KeepsMail before after → ReadsSameMail before after
+mail_kept before after = between-map _ SameMail before after (λ a b k. (λ number. ap reading (k.0 number), λ hash id. ap reading (k.1 hash id)))
+
+-- ---- one is written
+
+all_but : (file : ℕ) (before after : Option History) → ReadsSameMail before after → ReadsOtherMail file before after
+all_but file before after = between-map SameMail (OtherMail file) before after (λ a b k. (λ number apart. k.0 number, k.1))
+
+other_number : (number file : ℕ) → number ≢ file → Mail number ≢ Mail file
+other_number number file apart = λ e. apart (cc e)
+
+no_instance : (hash id : List ℕ) (file : ℕ) → Inst hash id ≢ Mail file
+no_instance hash id file = λ e. cc e
+
+others_named : (file : ℕ) (before after : Option History) → OthersAreNamed (Mail file) before after → ReadsOtherMail file before after
+others_named file before after =
+    between-map _ (OtherMail file) before after
+    (λ a b k. (λ number apart. ap reading (k (Mail number) (other_number number file apart)) ∙ named_reads (a (Mail number)), λ hash id. ap reading (k (Inst hash id) (no_instance hash id file)) ∙ named_reads (a (Inst hash id))))
+
+others_same : (file : ℕ) (before after : Option History) → SameButFor (Mail file) before after → ReadsOtherMail file before after
+others_same file before after = between-map _ (OtherMail file) before after (λ a b k. (λ number apart. ap reading (k (Mail number) (other_number number file apart)), λ hash id. ap reading (k (Inst hash id) (no_instance hash id file))))
+
+-- ---- a storage file is taken
+
+some_none : {A B : Type 0} → (end : A) (o : Option A) → o ≡ Some end → o ≡ None → B
+some_none end o some none = absurd (let k : Some end ≡ None = sym some ∙ none in cc k)
+
+pub took_known : {D : Type 0} → (header : List ℕ) (file end : ℕ) (old : StoreValue D) (before after : Option History) → end_in file old.files.files ≡ Some end → ReadsSameMail before after → TakesWithHeader header file old before after
+took_known header file end old before after there same = record {
+  others = all_but file before after same;
+  known = λ other some. same;
+  made = λ none. some_none end (end_in file old.files.files) there none;
+}
+
+pub took_new : {D : Type 0} → (header : List ℕ) (file : ℕ) (old : StoreValue D) (before after : Option History) → end_in file old.files.files ≡ None → OthersAreNamed (Mail file) before after → IfTold after (λ now. Keeps (now (Mail file)) header) → TakesWithHeader header file old before after
+took_new header file old before after none others keeps = record {
+  others = others_named file before after others;
+  known = λ end some. some_none end (end_in file old.files.files) some none;
+  made = λ absent. keeps;
+}
+
+-- ---- the message is placed
+
+pub appended : (name : List ℕ) (time : ℕ) (octets guid region : List ℕ) (file : ℕ) (before after : Option History) → region ≡ saved_region name time octets guid → SameButFor (Mail file) before after → Between (λ a b. IsAddedTo region (a (Mail file)) (b (Mail file))) before after → HasAppended name time octets guid file before after
+appended name time octets guid region file before after is others added = record {
+  others = others_same file before after others;
+  added = subst (λ (text : List ℕ). Between (λ a b. IsAddedTo text (a (Mail file)) (b (Mail file))) before after) is added;
+}
+
+-- ---- an event that was refused
+
+pub untaken_mail : {D : Type 0} → (history : D → Option History) (size : ℕ) (why : Refusal) (old new : StoreValue D) → TakesNone size why old new → (why ≡ refusal.Stopped → ⊥) → ReadsSameMail (history old.disk) (history new.disk)
+untaken_mail history size why old new (inl k) runs = mail_unchanged history old.disk new.disk (ap (λ v. v.disk) k.1)
+untaken_mail history size why old new (inr (inl k)) runs = mail_unchanged history old.disk new.disk (ap (λ v. v.disk) k.1.same)
+untaken_mail history size why old new (inr (inr k)) runs = absurd (runs k.0)
+
+pub unstored_mail : {D : Type 0} → (history : D → Option History) (at : SavedAt) (why : Refusal) (old new : StoreValue D) → StoresNone at why old new → (why ≡ refusal.Stopped → ⊥) → ReadsSameMail (history old.disk) (history new.disk)
+unstored_mail history at why old new (inl k) runs = absurd (runs k.0)
+unstored_mail history at why old new (inr k) runs = mail_unchanged history old.disk new.disk (ap (λ v. v.disk) k.1.same)
