@@ -107,6 +107,7 @@ rests_as (request.Flag name uid flags) F G began now old new h r = λ none. r (�
 rests_as (request.Expunge name uid) F G began now old new h r = λ none. r (λ failed. none (h failed))
 rests_as (request.Copy name uid target) F G began now old new h r = λ none. r (λ failed. none (h failed))
 rests_as (request.Move name uid target) F G began now old new h r = λ none. r (λ failed. none (h failed))
+rests_as (request.Make name) F G began now old new h r = λ none. r (λ failed. none (h failed))
 rests_as request.Counts F G began now old new h r = λ none. r (λ failed. none (h failed))
 rests_as other F G began now old new h r = r
 
@@ -174,6 +175,9 @@ counts_unopened_rests old new began now why u = fetch_unopened_rests (MayFail re
 
 pub move_unopened_may : (name : List ℕ) (uid : Uid) (target : List ℕ) (why : OpenError) → why ≡ error.DiskFault → MayFail (request.Move name uid target) (status_of (opening_outcome why))
 move_unopened_may name uid target why e = unopened_may (request.Move name uid target) why e
+
+pub make_unopened_may : (name : List ℕ) (why : OpenError) → why ≡ error.DiskFault → MayFail (request.Make name) (status_of (opening_outcome why))
+make_unopened_may name why e = unopened_may (request.Make name) why e
 
 pub move_unopened_leaves : (name : List ℕ) (uid : Uid) (target : List ℕ) (old new : Option History) (began now : Faults) (why : OpenError) → IsUnopened why old new began now → MoveMoments name uid target old new
 move_unopened_leaves name uid target old new began now why u = λ lists at.

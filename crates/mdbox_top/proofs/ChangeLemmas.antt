@@ -27,7 +27,7 @@ use Rattle.store_core.specs.Running.{IsStore}
 use Rattle.store_core.specs.Value.{StoreValue, indexes_of}
 use Rattle.mail_ops.specs.Task.{seen_of}
 use Rattle.mdbox_top.specs.Changed.{lists_told, OpensUnchanged, ChangeMoments, AreOneOf, SafeForAmong, MomentsAmong}
-use Rattle.mdbox_top.specs.ChangeEvents.{IsWayTo, ChangesAlone}
+use Rattle.mdbox_top.specs.ChangeEvents.{IsWayTo, ServesAlone, ChangesAlone}
 use Rattle.mdbox_top.specs.UnderWay.{IsUnderWay}
 use Rattle.mdbox_top.proofs.ServedLemmas.{OpenedNow, comes, opening_begins}
 use Rattle.mdbox_top.proofs.ShownLemmas.{opens_again}
@@ -121,27 +121,49 @@ so_far_on history faults Began Stood Stands request Among left next may told fir
 abbrev pub IsUnrefused : Reply → Type 0
 IsUnrefused given = (why : Refusal) → given ≡ reply.Refused why → ⊥
 
--- An event that answers it.
-pub so_far_ends : {D : Type 0} → (history : D → Option History) (faults : D → Faults) (Began Stood Stands : Run → ℕ → List Reply → Type 0) (request : Request) (Among : Lists → Lists → Type 0) (change left may told : Lists → Lists) (first s t : StoreValue D) (how : Did) (given : Reply)
+-- An event that answers it: it was served.
+pub so_far_serves : {D : Type 0} → (history : D → Option History) (faults : D → Faults) (Began Stood Stands : Run → ℕ → List Reply → Type 0) (request : Request) (Among : Lists → Lists → Type 0) (tells left may told : Lists → Lists) (first s t : StoreValue D) (how : Did) (given : Reply)
     → SoFar history faults Began Stood request Among left first s → ChangeEvent history faults Stood Stands request may told s t how (progress.Done given) → IsStore (history t.disk) t
-    → ((lists : Lists) → Among lists (left lists)) → ((lists : Lists) → Among lists (may (left lists))) → (t.stopped ≡ false → (lists : Lists) → told (left lists) ≡ lists_told request given lists) → is_read_fault (Some given) ≡ false
-    → (IsUnrefused given → (run : Run) (said : List Reply) (event : RunEvent) (answer : Option Reply) (lists later : Lists) → Stood run 0 said → IsReplyOf request (and_told said answer) given → StepOf run request (left lists) event answer later → later ≡ change lists)
-    → ChangesAlone Began request Among change first t (history first.disk) (history t.disk) (faults first.disk) (faults t.disk) given
-so_far_ends history faults Began Stood Stands request Among change left may told first s t how given so event k within may_within told_is unread last = record {
+    → ((lists : Lists) → Among lists (left lists)) → ((lists : Lists) → Among lists (may (left lists))) → (t.stopped ≡ false → (lists : Lists) → told (left lists) ≡ tells lists) → is_read_fault (Some given) ≡ false
+    → ServesAlone Began request Among tells first t (history first.disk) (history t.disk) (faults first.disk) (faults t.disk) given
+so_far_serves history faults Began Stood Stands request Among tells left may told first s t how given so event k within may_within told_is unread = record {
   served = λ lists seen u0.
       let u = so.way lists seen u0 in
       let d = event.does nothing_found nothing_found u.run 1 0 u.said (left lists) u.goes.serves.come (way_shows Stood request lists (left lists) seen from u) u.stands in
       way_ends Stood request lists (left lists) given seen from to nothing_found nothing_found how t u k refl refl d.0 (λ e. absurd (let z : true ≡ false = sym e ∙ unread in cc z));
-  shows = λ undone lists seen u0.
-      let u = so.way lists seen u0 in
-      let d = event.does nothing_found nothing_found u.run 1 0 u.said (left lists) u.goes.serves.come (way_shows Stood request lists (left lists) seen from u) u.stands in
-      subst (λ (ls : Lists). ShowsSeen to ls) (last undone u.run u.said d.0.makes.event d.0.makes.answer lists d.0.left u.stands (d.0.ends.replied given refl) d.0.makes.made) d.0.shown;
   moments = λ lists at. moments_on Among lists (left lists) (may (left lists)) (history first.disk) (history s.disk) (history t.disk) (within lists) (may_within lists) (so.moments lists at) (event.moments (left lists) (so.settled lists at));
   settled = λ runs lists at. subst (λ (ls : Lists). IsSettledFor ls (history t.disk)) (told_is runs lists) (event.settled runs (left lists) (so.settled lists at));
   halts = record { 0 = λ e. event.stopped.0 (ap progress.Done e); 1 = λ e. one_done given (reply.Refused refusal.Stopped) (event.stopped.1 e) };
   fault = subst (λ (f : Faults). ChangeFaultCounted (given ≡ reply.Refused refusal.Stopped) f (faults t.disk)) so.unfailed (record { reads = (event.fault so.running).reads; changes = (event.fault so.running).changes; rose = λ e. (event.fault so.running).rose (ap progress.Done e) });
   unfailed = λ no. event.unfailed (λ e. no (one_done given (reply.Refused refusal.Stopped) e)) ∙ so.unfailed;
 }
+  where
+    from : Seen
+    from = seen_of s (history s.disk) (faults s.disk)
+
+    to : Seen
+    to = seen_of t (history t.disk) (faults t.disk)
+
+-- And, if it isn't refused, the store shows the changed lists.
+pub so_far_ends : {D : Type 0} → (history : D → Option History) (faults : D → Faults) (Began Stood Stands : Run → ℕ → List Reply → Type 0) (request : Request) (Among : Lists → Lists → Type 0) (change left may told : Lists → Lists) (first s t : StoreValue D) (how : Did) (given : Reply)
+    → SoFar history faults Began Stood request Among left first s → ChangeEvent history faults Stood Stands request may told s t how (progress.Done given) → IsStore (history t.disk) t
+    → ((lists : Lists) → Among lists (left lists)) → ((lists : Lists) → Among lists (may (left lists))) → (t.stopped ≡ false → (lists : Lists) → told (left lists) ≡ lists_told request given lists) → is_read_fault (Some given) ≡ false
+    → (IsUnrefused given → (run : Run) (said : List Reply) (event : RunEvent) (answer : Option Reply) (lists later : Lists) → Stood run 0 said → IsReplyOf request (and_told said answer) given → StepOf run request (left lists) event answer later → later ≡ change lists)
+    → ChangesAlone Began request Among change first t (history first.disk) (history t.disk) (faults first.disk) (faults t.disk) given
+so_far_ends history faults Began Stood Stands request Among change left may told first s t how given so event k within may_within told_is unread last =
+    let serves = so_far_serves history faults Began Stood Stands request Among (λ lists. lists_told request given lists) left may told first s t how given so event k within may_within told_is unread in
+    record {
+      served = serves.served;
+      shows = λ undone lists seen u0.
+          let u = so.way lists seen u0 in
+          let d = event.does nothing_found nothing_found u.run 1 0 u.said (left lists) u.goes.serves.come (way_shows Stood request lists (left lists) seen from u) u.stands in
+          subst (λ (ls : Lists). ShowsSeen to ls) (last undone u.run u.said d.0.makes.event d.0.makes.answer lists d.0.left u.stands (d.0.ends.replied given refl) d.0.makes.made) d.0.shown;
+      moments = serves.moments;
+      settled = serves.settled;
+      halts = serves.halts;
+      fault = serves.fault;
+      unfailed = serves.unfailed;
+    }
   where
     from : Seen
     from = seen_of s (history s.disk) (faults s.disk)

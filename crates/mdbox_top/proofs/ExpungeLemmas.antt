@@ -30,9 +30,9 @@ use Rattle.mail_ops.specs.declared.expunging.ExpungeStage.{ExpungeStage}
 use Rattle.mail_ops.specs.declared.expunging.ExpungeStage.TheVariants as stage
 use Rattle.mail_ops.proofs.MessageLemmas.{not_missing}
 use Rattle.mdbox_top.specs.Alone.{IsDoneAlone}
-use Rattle.mdbox_top.specs.Changed.{lists_told, AreOneOf}
+use Rattle.mdbox_top.specs.Changed.{IsChangeAnswer, lists_told, AreOneOf}
 use Rattle.mdbox_top.specs.ChangeEvents.{ChangesAlone, RemovesAlone}
-use Rattle.mdbox_top.specs.ExpungeRun.{lists_without, IsExpungeAnswer, IsExpungeReply, ExpungeRests}
+use Rattle.mdbox_top.specs.ExpungeRun.{lists_without, IsExpungeReply, ExpungeRests}
 use Rattle.mdbox_top.specs.Served.{missing_cause}
 use Rattle.mdbox_top.proofs.AloneLemmas.{alone_faults}
 use Rattle.mdbox_top.proofs.ChangeLemmas.{ChangeEvent, SoFar, so_far_begins, so_far_on, IsUnrefused, so_far_ends, way_shown, opens_unchanged, changed_moments}
@@ -46,22 +46,22 @@ one_refusal : (a b : Refusal) → reply.Refused a ≡ reply.Refused b → a ≡ 
 one_refusal a b e = cc e
 
 -- it is no read fault
-cause_calm : (found : Option BoxMeaning) (uid : ℕ) (given : Reply) → IsExpungeAnswer (missing_cause found uid) given → is_read_fault (Some given) ≡ false
+cause_calm : (found : Option BoxMeaning) (uid : ℕ) (given : Reply) → IsChangeAnswer (missing_cause found uid) given → is_read_fault (Some given) ≡ false
 cause_calm None uid given e = ap (λ (r : Reply). is_read_fault (Some r)) e
 cause_calm (Some m) uid given e = by_row (is_some (row_at m uid)) e
   where
-    by_row : (b : Bool) → IsExpungeAnswer (if b then None else Some refusal.NoMessage) given → is_read_fault (Some given) ≡ false
+    by_row : (b : Bool) → IsChangeAnswer (if b then None else Some refusal.NoMessage) given → is_read_fault (Some given) ≡ false
     by_row true (inl k) = ap (λ (r : Reply). is_read_fault (Some r)) k
     by_row true (inr (inl k)) = ap (λ (r : Reply). is_read_fault (Some r)) k
     by_row true (inr (inr k)) = ap (λ (r : Reply). is_read_fault (Some r)) k
     by_row false k = ap (λ (r : Reply). is_read_fault (Some r)) k
 
 -- the answer of a message that is there, and of one that isn't
-there_answers : (cause : Option Refusal) (given : Reply) → cause ≡ None → (given ≡ reply.Done) ⊎ ((given ≡ reply.Refused refusal.NoMemory) ⊎ (given ≡ reply.Refused refusal.Stopped)) → IsExpungeAnswer cause given
-there_answers cause given none is = subst (λ (o : Option Refusal). IsExpungeAnswer o given) (sym none) is
+pub there_answers : (cause : Option Refusal) (given : Reply) → cause ≡ None → (given ≡ reply.Done) ⊎ ((given ≡ reply.Refused refusal.NoMemory) ⊎ (given ≡ reply.Refused refusal.Stopped)) → IsChangeAnswer cause given
+there_answers cause given none is = subst (λ (o : Option Refusal). IsChangeAnswer o given) (sym none) is
 
-missing_answers : (cause : Option Refusal) (why : Refusal) → cause ≡ Some why → IsExpungeAnswer cause (reply.Refused why)
-missing_answers cause why some = subst (λ (o : Option Refusal). IsExpungeAnswer o (reply.Refused why)) (sym some) refl
+pub missing_answers : (cause : Option Refusal) (why : Refusal) → cause ≡ Some why → IsChangeAnswer cause (reply.Refused why)
+missing_answers cause why some = subst (λ (o : Option Refusal). IsChangeAnswer o (reply.Refused why)) (sym some) refl
 
 -- ---- the lists without the message
 
@@ -129,7 +129,7 @@ first_ends history faults name uid first s t how why so event k unread =
     (λ lists. inl refl) (λ lists. inr refl) (λ runs lists. refl) unread (λ undone. absurd (undone why refl))
 
 first_removes : {D : Type 0} → (history : D → Option History) (faults : D → Faults) (name : List ℕ) (uid : Uid) (first s t : StoreValue D) (how : Did) (why : Refusal) → IsExpunging history faults name uid first s stage.First → ExpungeEvent history faults name uid stage.First stage.First s t how (progress.Done (reply.Refused why)) → IsStore (history t.disk) t
-    → IsExpungeAnswer (missing_cause (list_named first name) uid.0) (reply.Refused why) → ((why ≡ refusal.Stopped → ⊥) → t ≡ s) → RemovesAlone name uid first t (history first.disk) (history t.disk) (faults first.disk) (faults t.disk) (reply.Refused why)
+    → IsChangeAnswer (missing_cause (list_named first name) uid.0) (reply.Refused why) → ((why ≡ refusal.Stopped → ⊥) → t ≡ s) → RemovesAlone name uid first t (history first.disk) (history t.disk) (faults first.disk) (faults t.disk) (reply.Refused why)
 first_removes history faults name uid first s t how why so event k is same = record {
   given_is = is;
   refused = λ other e running. same (λ f. running (sym (one_refusal why other e) ∙ f)) ∙ so.knows;
@@ -138,11 +138,11 @@ first_removes history faults name uid first s t how why so event k is same = rec
 
 -- by what the first event was refused
 first_answer : {D : Type 0} → (name : List ℕ) (uid : Uid) (first s t : StoreValue D) (why : Refusal) → s ≡ first → (why ≡ refusal.Stopped → ⊥) → (t ≡ s) × ((missing_message name uid.0 s ≡ Some why) ⊎ ((missing_message name uid.0 s ≡ None) × (why ≡ refusal.NoMemory)))
-    → IsExpungeAnswer (missing_cause (list_named first name) uid.0) (reply.Refused why)
+    → IsChangeAnswer (missing_cause (list_named first name) uid.0) (reply.Refused why)
 first_answer name uid first s t why same running (is, inl some) = missing_answers (missing_cause (list_named first name) uid.0) why (subst (λ (v : StoreValue _). missing_message name uid.0 v ≡ Some why) same some)
 first_answer name uid first s t why same running (is, inr none) = there_answers (missing_cause (list_named first name) uid.0) (reply.Refused why) (subst (λ (v : StoreValue _). missing_message name uid.0 v ≡ None) same none.0) (inr (inl (ap reply.Refused none.1)))
 
-first_told : {D : Type 0} → (name : List ℕ) (uid : Uid) (first s t : StoreValue D) (why : Refusal) → s ≡ first → ExpungeAnswers name uid stage.First s t stage.First (progress.Done (reply.Refused why)) → IsExpungeAnswer (missing_cause (list_named first name) uid.0) (reply.Refused why) × ((why ≡ refusal.Stopped → ⊥) → t ≡ s)
+first_told : {D : Type 0} → (name : List ℕ) (uid : Uid) (first s t : StoreValue D) (why : Refusal) → s ≡ first → ExpungeAnswers name uid stage.First s t stage.First (progress.Done (reply.Refused why)) → IsChangeAnswer (missing_cause (list_named first name) uid.0) (reply.Refused why) × ((why ≡ refusal.Stopped → ⊥) → t ≡ s)
 first_told name uid first s t refusal.Stopped same a = (there_answers (missing_cause (list_named first name) uid.0) (reply.Refused refusal.Stopped) (subst (λ (v : StoreValue _). missing_message name uid.0 v ≡ None) same a.1) (inr (inr refl)), λ running. absurd (running refl))
 first_told name uid first s t refusal.NoMailbox same a = (first_answer name uid first s t refusal.NoMailbox same (λ e. cc e) a, λ running. a.0)
 first_told name uid first s t refusal.Exists same a = (first_answer name uid first s t refusal.Exists same (λ e. cc e) a, λ running. a.0)
@@ -214,7 +214,7 @@ pub record Expunging {D : Type 0} (name : List ℕ) (uid : Uid) (given : Reply) 
   pub removes : RemovesAlone name uid s t mid new began now given
   pub back : t ≡ s → new ≡ mid
 
-done_runs : (given : Reply) → given ≡ reply.Done → given ≡ reply.Refused refusal.Stopped → ⊥
+pub done_runs : (given : Reply) → given ≡ reply.Done → given ≡ reply.Refused refusal.Stopped → ⊥
 done_runs given d s = let k : reply.Done ≡ reply.Refused refusal.Stopped = sym d ∙ s in cc k
 
 done_unrefused : (given : Reply) → given ≡ reply.Done → IsUnrefused given

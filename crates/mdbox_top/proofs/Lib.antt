@@ -10,6 +10,7 @@ pub mod FlagLemmas
 pub mod InitLemmas
 pub mod InputLemmas
 pub mod ListLemmas
+pub mod MakeLemmas
 pub mod MoveLemmas
 pub mod RequestLemmas
 pub mod RunLemmas

@@ -30,6 +30,7 @@ use Rattle.mdbox_top.specs.FetchRun.{IsFetchReply}
 use Rattle.mdbox_top.specs.FlagRun.{IsFlagReply}
 use Rattle.mdbox_top.specs.Changed.{moved_lists}
 use Rattle.mdbox_top.specs.CopyRun.{IsCopyReply}
+use Rattle.mdbox_top.specs.MakeRun.{IsMakeReply, AreMade}
 use Rattle.mdbox_top.specs.MoveRun.{IsMoveReply}
 use Rattle.mdbox_top.specs.ExpungeRun.{IsExpungeReply, lists_without}
 use Rattle.mdbox_top.specs.CountsRun.{IsCountsReply}
@@ -49,6 +50,7 @@ input_memory (command.Flag name uid flags) left told h k old new f g why e = abs
 input_memory (command.Expunge name uid) left told h k old new f g why e = absurd (request_input (IsExpungeReply name uid) (request.Expunge name uid) h k old new f g why e)
 input_memory (command.Copy name uid target) left told h k old new f g why e = absurd (request_input (IsCopyReply name uid target) (request.Copy name uid target) h k old new f g why e)
 input_memory (command.Move name uid target) left told h k old new f g why e = absurd (request_input (IsMoveReply name uid target) (request.Move name uid target) h k old new f g why e)
+input_memory (command.Make name) left told h k old new f g why e = absurd (request_input (IsMakeReply name) (request.Make name) h k old new f g why e)
 input_memory command.Counts left told h k old new f g why e = absurd (request_input IsCountsReply request.Counts h k old new f g why e)
 input_memory command.Help left told h k old new f g why e = absurd e
 input_memory command.Version left told h k old new f g why e = absurd e
@@ -63,6 +65,7 @@ damage_memory (command.Flag box uid flags) left told h k old new f g name place 
 damage_memory (command.Expunge box uid) left told h k old new f g name place e = request_damage (IsExpungeReply box uid) (request.Expunge box uid) h k old new f g (store.Damaged name place) e
 damage_memory (command.Copy box uid target) left told h k old new f g name place e = request_damage (IsCopyReply box uid target) (request.Copy box uid target) h k old new f g (store.Damaged name place) e
 damage_memory (command.Move box uid target) left told h k old new f g name place e = request_damage (IsMoveReply box uid target) (request.Move box uid target) h k old new f g (store.Damaged name place) e
+damage_memory (command.Make box) left told h k old new f g name place e = request_damage (IsMakeReply box) (request.Make box) h k old new f g (store.Damaged name place) e
 damage_memory command.Counts left told h k old new f g name place e = request_damage IsCountsReply request.Counts h k old new f g (store.Damaged name place) e
 damage_memory command.Dump left told h k old new f g name place e = absurd e
 damage_memory command.LogDump left told h k old new f g name place e = absurd e
@@ -99,6 +102,7 @@ has_status (command.Flag name uid flags) left told h k old new f g o e = λ list
 has_status (command.Expunge name uid) left told h k old new f g o e = λ lists s. request_status (IsExpungeReply name uid) (request.Expunge name uid) h k old new f g o e lists s
 has_status (command.Copy name uid target) left told h k old new f g o e = λ lists s. request_status (IsCopyReply name uid target) (request.Copy name uid target) h k old new f g o e lists s
 has_status (command.Move name uid target) left told h k old new f g o e = λ lists s. request_status (IsMoveReply name uid target) (request.Move name uid target) h k old new f g o e lists s
+has_status (command.Make name) left told h k old new f g o e = λ lists s. request_status (IsMakeReply name) (request.Make name) h k old new f g o e lists s
 has_status command.Counts left told h k old new f g o e = λ lists s. counts_status h k old new f g o e lists s
 has_status command.Dump left told h k old new f g o e = input_status DumpPrints DumpRefuses left h k o dumps_apart e
 has_status command.LogDump left told h k old new f g o e = input_status LogDumpPrints LogDumpRefuses left h k o log_dumps_apart e
@@ -115,6 +119,7 @@ used (command.Flag name uid flags) left told h k old new f g e = request_used (I
 used (command.Expunge name uid) left told h k old new f g e = request_used (IsExpungeReply name uid) (request.Expunge name uid) h k old new f g e
 used (command.Copy name uid target) left told h k old new f g e = request_used (IsCopyReply name uid target) (request.Copy name uid target) h k old new f g e
 used (command.Move name uid target) left told h k old new f g e = request_used (IsMoveReply name uid target) (request.Move name uid target) h k old new f g e
+used (command.Make name) left told h k old new f g e = request_used (IsMakeReply name) (request.Make name) h k old new f g e
 used command.Counts left told h k old new f g e = request_used IsCountsReply request.Counts h k old new f g e
 used command.Dump left told h k old new f g e = e
 used command.LogDump left told h k old new f g e = e
@@ -220,6 +225,7 @@ fails_last (command.Flag name uid flags) o last y e = one_last o last y e
 fails_last (command.Expunge name uid) o last y e = one_last o last y e
 fails_last (command.Copy name uid target) o last y e = one_last o last y e
 fails_last (command.Move name uid target) o last y e = one_last o last y e
+fails_last (command.Make name) o last y e = one_last o last y e
 fails_last other o last y e = six_last o last y e
 
 pub rests_last : (c : Command) (left : Option (List ℕ)) (told : Option ℕ) (F G : Type 0) (f g : Faults) (old new : Option History) → (F → G) → Rests c left told F f g old new → Rests c left told G f g old new
@@ -230,6 +236,7 @@ rests_last (command.Flag name uid flags) left told F G f g old new h r = λ none
 rests_last (command.Expunge name uid) left told F G f g old new h r = λ none. r (λ failed. none (h failed))
 rests_last (command.Copy name uid target) left told F G f g old new h r = λ none. r (λ failed. none (h failed))
 rests_last (command.Move name uid target) left told F G f g old new h r = λ none. r (λ failed. none (h failed))
+rests_last (command.Make name) left told F G f g old new h r = λ none. r (λ failed. none (h failed))
 rests_last command.Counts left told F G f g old new h r = λ none. r (λ failed. none (h failed))
 rests_last other left told F G f g old new h r = tt
 
@@ -243,6 +250,7 @@ named_unasked (command.Flag name uid flags) named left told h old f g = unasked 
 named_unasked (command.Expunge name uid) named left told h old f g = unasked (IsExpungeReply name uid) (request.Expunge name uid) h old f g
 named_unasked (command.Copy name uid target) named left told h old f g = unasked (IsCopyReply name uid target) (request.Copy name uid target) h old f g
 named_unasked (command.Move name uid target) named left told h old f g = unasked (IsMoveReply name uid target) (request.Move name uid target) h old f g
+named_unasked (command.Make name) named left told h old f g = unasked (IsMakeReply name) (request.Make name) h old f g
 named_unasked other named left told h old f g = absurd named
 
 -- a settled disk of which no call is made
@@ -258,6 +266,7 @@ named_still (command.Flag name uid flags) named left told h = λ lists s. each_i
 named_still (command.Expunge name uid) named left told h = λ lists s. each_image-map (λ _ image. Safe image lists) (λ _ image. Safe image lists ⊎ Safe image (lists_without name uid lists)) h h (λ m image safe. inl safe) (still_safe lists h s)
 named_still (command.Copy name uid target) named left told h = λ lists s. each_image-map (λ _ image. Safe image lists) (λ _ image. Safe image lists ⊎ Safe image (copied_lists name uid target lists)) h h (λ m image safe. inl safe) (still_safe lists h s)
 named_still (command.Move name uid target) named left told h = λ lists s. each_image-map (λ _ image. Safe image lists) (λ _ image. Safe image lists ⊎ (Safe image (copied_lists name uid target lists) ⊎ Safe image (moved_lists name uid target lists))) h h (λ m image safe. inl safe) (still_safe lists h s)
+named_still (command.Make name) named left told h = λ lists s. each_image-map (λ _ image. Safe image lists) (λ _ image. Safe image lists ⊎ ((some : Lists) × AreMade name h lists some × Safe image some)) h h (λ m image safe. inl safe) (still_safe lists h s)
 named_still other named left told h = absurd named
 
 pub named_rests : (c : Command) → NamesMailbox c → (left : Option (List ℕ)) (told : Option ℕ) (failed : Type 0) (f g : Faults) (h : Option History) → Rests c left told failed f g h h
@@ -268,4 +277,5 @@ named_rests (command.Flag name uid flags) named left told failed f g h = λ none
 named_rests (command.Expunge name uid) named left told failed f g h = λ none lists s. inl s
 named_rests (command.Copy name uid target) named left told failed f g h = λ none lists s. inl s
 named_rests (command.Move name uid target) named left told failed f g h = λ none lists s. inl s
+named_rests (command.Make name) named left told failed f g h = λ none lists s. inl s
 named_rests other named left told failed f g h = absurd named

@@ -264,16 +264,16 @@ saving_by history faults name time octets first s t now next how so event knows 
 
 -- ---- each event that goes on
 
-took_drawn : {D : Type 0} → (taken : Take) (file : FileNo) (s t : StoreValue D) → TookAs taken file s t → t.drawn.map ≡ s.drawn.map
-took_drawn (take.Known known) file s t took = ap (λ (h : _). h.map) took.1
-took_drawn (take.New new) file s t took = ap (λ (h : _). h.map) took.1
-took_drawn take.Full file s t took = absurd took
+took_drawn : {D : Type 0} → (taken : Take) (header : ℕ) (file : FileNo) (s t : StoreValue D) → TookAs taken header file s t → t.drawn.map ≡ s.drawn.map
+took_drawn (take.Known known) header file s t took = ap (λ (h : _). h.map) took.1
+took_drawn (take.New new) header file s t took = ap (λ (h : _). h.map) took.1
+took_drawn take.Full header file s t took = absurd took
 
-taken_logs : {D : Type 0} → (size : ℕ) (file : FileNo) (first s t : StoreValue D) → s ≡ first → TakesFileFor size file s t → KeepsLogs first t
-taken_logs size file first s t same took = record {
+taken_logs : {D : Type 0} → (header size : ℕ) (file : FileNo) (first s t : StoreValue D) → s ≡ first → TakesFileFor header size file s t → KeepsLogs first t
+taken_logs header size file first s t same took = record {
   map = ap (λ (v : StoreValue _). v.map) took.same ∙ ap (λ (v : StoreValue _). v.map) same;
   indexes = ap (λ (v : StoreValue _). indexes_of v.boxes) took.same ∙ ap (λ (v : StoreValue _). indexes_of v.boxes) same;
-  drawn = took_drawn took.take file s t took.took ∙ ap (λ (v : StoreValue _). v.drawn.map) same;
+  drawn = took_drawn took.take header file s t took.took ∙ ap (λ (v : StoreValue _). v.drawn.map) same;
 }
 
 placed_logs : {D : Type 0} → (first s t : StoreValue D) → KeepsLogs first s → t ≡ record s { disk = t.disk; files = t.files } → KeepsLogs first t
@@ -309,7 +309,7 @@ saving_on history faults name time octets first s t (stage.First prepared) (stag
     (event.effects.0 ∙ so.knows, subst (λ (v : StoreValue _). save_refusal name v ≡ None) so.knows event.effects.1)
 saving_on history faults name time octets first s t (stage.Taking parts) (stage.Placing laid file) how so event =
     saving_by history faults name time octets first s t (stage.Taking parts) (stage.Placing laid file) how so event
-    (taken_logs (length parts.region) file first s t so.knows.0 event.effects.1, so.knows.1)
+    (taken_logs (length parts.header) (length parts.region) file first s t so.knows.0 event.effects.1, so.knows.1)
 saving_on history faults name time octets first s t (stage.Placing parts file) (stage.Storing at origin room) how so event =
     saving_by history faults name time octets first s t (stage.Placing parts file) (stage.Storing at origin room) how so event
     (placed_logs first s t so.knows.0 event.effects.same, so.knows.1, (file.0, at.offset, event.effects.guid ∙ ap (λ (m : MapMeaning). place_guid m.store file.0 at.offset) so.knows.0.map))

@@ -22,6 +22,7 @@ use Rattle.mdbox_top.specs.DeliverRun.{IsDeliverReply, SaveMoments, SaveRests}
 use Rattle.mdbox_top.specs.FetchRun.{IsFetchReply, FetchMoments, FetchRests}
 use Rattle.mdbox_top.specs.FlagRun.{IsFlagReply, FlagMoments, FlagRests}
 use Rattle.mdbox_top.specs.CopyRun.{IsCopyReply, CopyMoments, CopyRests}
+use Rattle.mdbox_top.specs.MakeRun.{IsMakeReply, MakeMoments, MakeRests}
 use Rattle.mdbox_top.specs.MoveRun.{IsMoveReply, MoveMoments, MoveRests}
 use Rattle.mdbox_top.specs.ExpungeRun.{IsExpungeReply, ExpungeMoments, ExpungeRests}
 use Rattle.mdbox_top.specs.CountsRun.{IsCountsReply, CountsMoments, CountsRests}
@@ -35,6 +36,7 @@ ReplyTells (request.Flag name uid flags) = IsFlagReply name uid flags
 ReplyTells (request.Expunge name uid) = IsExpungeReply name uid
 ReplyTells (request.Copy name uid target) = IsCopyReply name uid target
 ReplyTells (request.Move name uid target) = IsMoveReply name uid target
+ReplyTells (request.Make name) = IsMakeReply name
 ReplyTells request.Counts = IsCountsReply
 ReplyTells other = λ old new given. ⊥
 
@@ -47,6 +49,7 @@ RequestMoments (request.Flag name uid flags) = FlagMoments name uid flags
 RequestMoments (request.Expunge name uid) = ExpungeMoments name uid
 RequestMoments (request.Copy name uid target) = CopyMoments name uid target
 RequestMoments (request.Move name uid target) = MoveMoments name uid target
+RequestMoments (request.Make name) = MakeMoments name
 RequestMoments request.Counts = CountsMoments
 RequestMoments other = λ old new. ⊥
 
@@ -59,6 +62,7 @@ RequestRests (request.Flag name uid flags) = FlagRests name uid flags
 RequestRests (request.Expunge name uid) = ExpungeRests name uid
 RequestRests (request.Copy name uid target) = CopyRests name uid target
 RequestRests (request.Move name uid target) = MoveRests name uid target
+RequestRests (request.Make name) = MakeRests name
 RequestRests request.Counts = CountsRests
 RequestRests other = λ failed began now old new. ⊥
 

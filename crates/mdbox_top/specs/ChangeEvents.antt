@@ -1,5 +1,5 @@
 -- The events of a request alone that changes lists, one behind another.
-use Rattle.std.specs.Prelude.{◌≡◌, ◌↔◌, ◌⊎◌, ℕ, true, false, List, Option, Some}
+use Rattle.std.specs.Prelude.{◌≡◌, ◌↔◌, ◌⊎◌, ◌+◌, ℕ, true, false, List, Option, Some}
 use Rattle.disk_model.specs.Disk.{History, Faults}
 use Rattle.disk_model.specs.FaultCounts.{NoFault, ChangeFaultCounted}
 use Rattle.mdbox_base.specs.declared.ids.Guid.{Guid}
@@ -19,15 +19,18 @@ use Rattle.store_core.specs.Value.{StoreValue, indexes_of, list_named}
 use Rattle.task_steps.specs.Step.{Seen, ShowsSeen, HasNotBegun}
 use Rattle.mail_ops.specs.Copy.{IsAtCopy, copied_lists}
 use Rattle.mail_ops.specs.Expunging.{IsAtExpunge}
+use Rattle.mail_ops.specs.Making.{IsAtMake, making_refusal, with_mailbox}
 use Rattle.mail_ops.specs.Moving.{IsAtMove}
 use Rattle.mail_ops.specs.Task.{seen_of}
 use Rattle.mail_ops.specs.declared.copy.CopyStage.TheVariants as copy_stage
 use Rattle.mail_ops.specs.declared.expunging.ExpungeStage.TheVariants as expunge_stage
+use Rattle.mail_ops.specs.declared.making.MakeStage.TheVariants as make_stage
 use Rattle.mail_ops.specs.declared.moving.MoveStage.TheVariants as move_stage
-use Rattle.mdbox_top.specs.Changed.{saved_lists, lists_told, AreOneOf, MomentsAmong}
+use Rattle.mdbox_top.specs.Changed.{IsChangeAnswer, saved_lists, lists_told, AreOneOf, MomentsAmong}
 use Rattle.mdbox_top.specs.CopyRun.{uncopied_cause, IsCopyAnswer}
 use Rattle.mdbox_top.specs.DeliverRun.{undelivered_cause, IsDeliverAnswer, AreSaved}
-use Rattle.mdbox_top.specs.ExpungeRun.{lists_without, IsExpungeAnswer}
+use Rattle.mdbox_top.specs.ExpungeRun.{lists_without}
+use Rattle.mdbox_top.specs.MakeRun.{lists_by_making}
 use Rattle.mdbox_top.specs.MoveRun.{AreAlongMove, IsMoveAnswer}
 use Rattle.mdbox_top.specs.Served.{IsJournaled, ServesRequest, missing_cause}
 use Rattle.mdbox_top.specs.UnderWay.{IsUnderWay}
@@ -35,6 +38,16 @@ use Rattle.mdbox_top.specs.UnderWay.{IsUnderWay}
 -- A request alone is under way in this store, from these lists to those.
 abbrev pub IsWayTo : {D : Type 0} → (Run → ℕ → List Reply → Type 0) → Request → Lists → Seen → StoreValue D → Option History → Faults → Lists → Type 0
 IsWayTo Stands request lists began store history faults left = IsUnderWay Stands request lists began (seen_of store history faults) left
+
+-- Of a request that had not begun, what its events did of a store that wasn't stopped: it was served; what a crash within it leaves,
+-- and for which lists the disk is settled, by those that its reply tells; and which call of the disk failed.
+pub record ServesAlone {D : Type 0} (Began : Run → ℕ → List Reply → Type 0) (request : Request) (Among : Lists → Lists → Type 0) (told : Lists → Lists) (store later : StoreValue D) (old new : Option History) (began now : Faults) (given : Reply) : Type 0 where
+  pub served : (lists : Lists) (seen : Seen) → IsWayTo Began request lists seen store old began lists → ServesRequest request lists given seen.faults now seen.history new
+  pub moments : MomentsAmong Among old new
+  pub settled : later.stopped ≡ false → (lists : Lists) → IsSettledFor lists old → IsSettledFor (told lists) new
+  pub halts : (given ≡ reply.Refused refusal.Stopped) ↔ (later.stopped ≡ true)
+  pub fault : ChangeFaultCounted (given ≡ reply.Refused refusal.Stopped) began now
+  pub unfailed : (given ≡ reply.Refused refusal.Stopped → ⊥) → NoFault began now
 
 -- Of a request that had not begun, what its events did of a store that wasn't stopped: it was served; where it is done, the
 -- store shows the lists that the reply tells; what a crash within it leaves; and which call of the disk failed.
@@ -49,7 +62,7 @@ pub record ChangesAlone {D : Type 0} (Began : Run → ℕ → List Reply → Typ
 
 -- What the events of an expunge did.
 pub record RemovesAlone {D : Type 0} (name : List ℕ) (uid : Uid) (store later : StoreValue D) (old new : Option History) (began now : Faults) (given : Reply) : Type 0 where
-  pub given_is : IsExpungeAnswer (missing_cause (list_named store name) uid.0) given
+  pub given_is : IsChangeAnswer (missing_cause (list_named store name) uid.0) given
   pub refused : (why : Refusal) → given ≡ reply.Refused why → (why ≡ refusal.Stopped → ⊥) → later ≡ store
   pub changes : ChangesAlone (IsAtExpunge expunge_stage.First) (request.Expunge name uid) (AreOneOf (lists_without name uid)) (lists_without name uid) store later old new began now given
 
@@ -102,3 +115,17 @@ pub record MovesAlone {D : Type 0} (name : List ℕ) (uid : Uid) (target : List 
   pub calm : is_read_fault (Some given) ≡ false
   pub here : (moved : Uid) → given ≡ reply.Moved moved true → (lists : Lists) (seen : Seen) → IsWayTo (IsAtMove uid move_stage.First) (request.Move name uid target) lists seen store old began lists → ⊥
   pub changes : ChangesAlone (IsAtMove uid move_stage.First) (request.Move name uid target) (AreAlongMove name uid target) (λ lists. lists_told (request.Move name uid target) given lists) store later old new began now given
+
+-- The store's logs mean what they meant.
+pub record MeansAsBefore {D : Type 0} (store later : StoreValue D) : Type 0 where
+  pub map_is : later.map ≡ store.map
+  pub indexes : indexes_of later.boxes ≡ indexes_of store.boxes
+
+-- What the events of a make did.
+pub record MakesAlone {D : Type 0} (name : List ℕ) (store later : StoreValue D) (old new : Option History) (began now : Faults) (given : Reply) : Type 0 where
+  pub given_is : IsChangeAnswer (making_refusal name store) given
+  pub refused : (why : Refusal) → given ≡ reply.Refused why → (why ≡ refusal.Stopped → ⊥) → (why ≡ refusal.NoMemory → ⊥) → later ≡ store
+  pub memory : given ≡ reply.Refused refusal.NoMemory → MeansAsBefore store later
+  pub shows : given ≡ reply.Done → ShowsChanged (with_mailbox (store.drawn.mailbox + 1) name) store later
+  pub calm : is_read_fault (Some given) ≡ false
+  pub serves : ServesAlone (IsAtMake make_stage.First) (request.Make name) (AreOneOf (with_mailbox (store.drawn.mailbox + 1) name)) (lists_by_making (store.drawn.mailbox + 1) name given) store later old new began now given

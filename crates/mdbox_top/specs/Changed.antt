@@ -1,8 +1,10 @@
 -- What a request alone of several events makes of a store that it may change.
-use Rattle.std.specs.Prelude.{◌≡◌, ◌⊎◌, ℕ, Bool, List, if◌then◌else◌, Option}
+use Rattle.std.specs.Prelude.{◌≡◌, ◌⊎◌, ℕ, Bool, List, if◌then◌else◌, Option, Some, None}
 use Rattle.disk_model.specs.Disk.{Files, History, Faults, EachImage}
 use Rattle.mdbox_base.specs.declared.ids.Guid.{Guid}
 use Rattle.mdbox_base.specs.declared.ids.Uid.{Uid}
+use Rattle.mdbox_base.specs.declared.replies.Refusal.{Refusal}
+use Rattle.mdbox_base.specs.declared.replies.Refusal.TheVariants as refusal
 use Rattle.mdbox_base.specs.declared.replies.Reply.{Reply}
 use Rattle.mdbox_base.specs.declared.replies.Reply.TheVariants as reply
 use Rattle.mdbox_base.specs.declared.requests.Request.{Request}
@@ -38,6 +40,12 @@ lists_told (request.Expunge name uid) reply.Done lists = expunge name uid.0 list
 lists_told (request.Copy name uid target) (reply.Copied given) lists = copied_lists name uid target lists
 lists_told (request.Move name uid target) (reply.Moved given gone) lists = lists_behind name uid target gone lists
 lists_told asked given lists = lists
+
+-- What a request replies that is done or isn't: its cause, if there is one. Else it is done; or there was no memory; or a change of
+-- the disk failed, and the store is stopped.
+abbrev pub IsChangeAnswer : Option Refusal → Reply → Type 0
+IsChangeAnswer (Some why) given = given ≡ reply.Refused why
+IsChangeAnswer None given = (given ≡ reply.Done) ⊎ ((given ≡ reply.Refused refusal.NoMemory) ⊎ (given ≡ reply.Refused refusal.Stopped))
 
 -- The files open, and of any lists that these logs showed their logs show those that the change makes of them.
 pub record OpensChanged (change : Lists → Lists) (m : MapMeaning) (meanings : List BoxMeaning) (new : Option History) : Type 0 where

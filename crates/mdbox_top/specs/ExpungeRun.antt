@@ -1,5 +1,5 @@
 -- How `expunge` ends.
-use Rattle.std.specs.Prelude.{◌≡◌, ◌⊎◌, ℕ, List, Option, Some, None}
+use Rattle.std.specs.Prelude.{◌≡◌, ℕ, List, Option}
 use Rattle.disk_model.specs.Disk.{History, Faults}
 use Rattle.mdbox_base.specs.declared.ids.Uid.{Uid}
 use Rattle.mdbox_base.specs.declared.replies.Refusal.{Refusal}
@@ -15,18 +15,12 @@ use Rattle.model_store.specs.Listing.{meaning_named}
 use Rattle.model_store.specs.Settled.{IsSettledFor}
 use Rattle.store_open.specs.Opened.{IsOpenedAs}
 use Rattle.request_text.specs.declared.outcome.Outcome.{Outcome}
-use Rattle.mdbox_top.specs.Changed.{lists_told, OpensChanged, OpensUnchanged, ChangeMoments, ChangeRests}
+use Rattle.mdbox_top.specs.Changed.{IsChangeAnswer, lists_told, OpensChanged, OpensUnchanged, ChangeMoments, ChangeRests}
 use Rattle.mdbox_top.specs.Served.{RequestOutcome, missing_cause}
 
 -- the lists without the message
 abbrev pub lists_without : List ℕ → Uid → Lists → Lists
 lists_without name uid lists = expunge name uid.0 lists
-
--- Why the message isn't found is replied, if it isn't. Else it is done; or there was no memory; or a change of the disk failed,
--- and the store is stopped.
-abbrev pub IsExpungeAnswer : Option Refusal → Reply → Type 0
-IsExpungeAnswer (Some why) given = given ≡ reply.Refused why
-IsExpungeAnswer None given = (given ≡ reply.Done) ⊎ ((given ≡ reply.Refused refusal.NoMemory) ⊎ (given ≡ reply.Refused refusal.Stopped))
 
 -- The reply to the expunge of this message, by what the logs mean from which the store opened. Where it is refused, or out of
 -- memory, the files open with the same logs, all that the store reads is carried over, and the disk was swept. Where it is
@@ -36,7 +30,7 @@ pub record IsExpungeReply (name : List ℕ) (uid : Uid) (old new : Option Histor
   pub m : MapMeaning
   pub meanings : List BoxMeaning
   pub opened : IsOpenedAs old m meanings
-  pub given_is : IsExpungeAnswer (missing_cause (meaning_named name m.boxes meanings) uid.0) given
+  pub given_is : IsChangeAnswer (missing_cause (meaning_named name m.boxes meanings) uid.0) given
   pub refused : (why : Refusal) → given ≡ reply.Refused why → (why ≡ refusal.Stopped → ⊥) → OpensUnchanged m meanings old new
   pub done : given ≡ reply.Done → OpensChanged (lists_without name uid) m meanings new
   pub settled : (given ≡ reply.Refused refusal.Stopped → ⊥) → (lists : Lists) → IsSettledFor lists old → IsSettledFor (lists_told (request.Expunge name uid) given lists) new

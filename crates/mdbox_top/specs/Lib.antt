@@ -11,6 +11,7 @@ pub mod FlagRun
 pub mod InitRun
 pub mod InputRun
 pub mod ListRun
+pub mod MakeRun
 pub mod MoveRun
 pub mod OpeningOutcome
 pub mod Run

@@ -18,6 +18,7 @@ use Rattle.mdbox_top.specs.DeliverRun.{DeliverOutcome, DeliverMoments, DeliverRe
 use Rattle.mdbox_top.specs.FetchRun.{FetchOutcome, FetchMoments, FetchRests}
 use Rattle.mdbox_top.specs.FlagRun.{FlagOutcome, FlagMoments, FlagRests}
 use Rattle.mdbox_top.specs.CopyRun.{CopyOutcome, CopyMoments, CopyRests}
+use Rattle.mdbox_top.specs.MakeRun.{MakeOutcome, MakeMoments, MakeRests}
 use Rattle.mdbox_top.specs.MoveRun.{MoveOutcome, MoveMoments, MoveRests}
 use Rattle.mdbox_top.specs.ExpungeRun.{ExpungeOutcome, ExpungeMoments, ExpungeRests}
 use Rattle.mdbox_top.specs.CountsRun.{CountsOutcome, CountsMoments, CountsRests}
@@ -33,6 +34,7 @@ Ends (command.Flag name uid flags) left told held later old new began now outcom
 Ends (command.Expunge name uid) left told held later old new began now outcome = ExpungeOutcome name uid held later old new began now outcome
 Ends (command.Copy name uid target) left told held later old new began now outcome = CopyOutcome name uid target held later old new began now outcome
 Ends (command.Move name uid target) left told held later old new began now outcome = MoveOutcome name uid target held later old new began now outcome
+Ends (command.Make name) left told held later old new began now outcome = MakeOutcome name held later old new began now outcome
 Ends command.Counts left told held later old new began now outcome = CountsOutcome held later old new began now outcome
 Ends command.Dump left told held later old new began now outcome = InputOutcome DumpPrints DumpRefuses left held later outcome
 Ends command.LogDump left told held later old new began now outcome = InputOutcome LogDumpPrints LogDumpRefuses left held later outcome
@@ -56,6 +58,7 @@ Moments (command.Flag name uid flags) left told old new = FlagMoments name uid f
 Moments (command.Expunge name uid) left told old new = ExpungeMoments name uid old new
 Moments (command.Copy name uid target) left told old new = CopyMoments name uid target old new
 Moments (command.Move name uid target) left told old new = MoveMoments name uid target old new
+Moments (command.Make name) left told old new = MakeMoments name old new
 Moments command.Counts left told old new = CountsMoments old new
 Moments other left told old new = new ≡ old
 
@@ -68,6 +71,7 @@ Rests (command.Flag name uid flags) left told failed began now old new = FlagRes
 Rests (command.Expunge name uid) left told failed began now old new = ExpungeRests name uid failed began now old new
 Rests (command.Copy name uid target) left told failed began now old new = CopyRests name uid target failed began now old new
 Rests (command.Move name uid target) left told failed began now old new = MoveRests name uid target failed began now old new
+Rests (command.Make name) left told failed began now old new = MakeRests name failed began now old new
 Rests command.Counts left told failed began now old new = CountsRests failed began now old new
 Rests other left told failed began now old new = Unit {0}
 
@@ -82,6 +86,7 @@ HasStatus (command.Flag name uid flags) left old status = (lists : Lists) → Is
 HasStatus (command.Expunge name uid) left old status = (lists : Lists) → IsSettledFor lists old → IsOneOf (0 ∷ 1 ∷ 5 ∷ 6 ∷ 8 ∷ []) status
 HasStatus (command.Copy name uid target) left old status = (lists : Lists) → IsSettledFor lists old → IsOneOf (0 ∷ 1 ∷ 5 ∷ 6 ∷ 8 ∷ []) status
 HasStatus (command.Move name uid target) left old status = (lists : Lists) → IsSettledFor lists old → IsOneOf (0 ∷ 1 ∷ 5 ∷ 6 ∷ 8 ∷ []) status
+HasStatus (command.Make name) left old status = (lists : Lists) → IsSettledFor lists old → IsOneOf (0 ∷ 1 ∷ 5 ∷ 6 ∷ 8 ∷ []) status
 HasStatus command.Counts left old status = (lists : Lists) → IsSettledFor lists old → IsOneOf (0 ∷ 5 ∷ 6 ∷ 8 ∷ []) status
 HasStatus command.Dump left old status = InputStatus DumpPrints DumpRefuses left status
 HasStatus command.LogDump left old status = InputStatus LogDumpPrints LogDumpRefuses left status
@@ -97,6 +102,7 @@ MayHaveFailed (command.Flag name uid flags) status = MayFail (request.Flag name 
 MayHaveFailed (command.Expunge name uid) status = MayFail (request.Expunge name uid) status
 MayHaveFailed (command.Copy name uid target) status = MayFail (request.Copy name uid target) status
 MayHaveFailed (command.Move name uid target) status = MayFail (request.Move name uid target) status
+MayHaveFailed (command.Make name) status = MayFail (request.Make name) status
 MayHaveFailed other status = status ≡ 6
 
 -- the command reads standard input
@@ -116,6 +122,7 @@ uses_disk (command.Flag name uid flags) = true
 uses_disk (command.Expunge name uid) = true
 uses_disk (command.Copy name uid target) = true
 uses_disk (command.Move name uid target) = true
+uses_disk (command.Make name) = true
 uses_disk command.Counts = true
 uses_disk other = false
 

@@ -12,6 +12,7 @@ mod expunge;
 mod fetch;
 mod init;
 mod input_commands;
+mod making;
 mod moving;
 mod opening;
 mod run;

@@ -17,6 +17,7 @@ use crate::expunge::expunge;
 use crate::fetch::fetch;
 use crate::init::init;
 use crate::input_commands::{dump, logdump};
+use crate::making::make;
 use crate::moving::move_to;
 use crate::show::show;
 use disk_model::Disk;
@@ -144,6 +145,7 @@ fn perform<D: Disk, I: Source, O: Sink, C: Clock>(
         Command::Expunge { name, uid } => expunge(alloc, name, uid, disk, output),
         Command::Copy { name, uid, target } => copy(alloc, name, uid, target, disk, output),
         Command::Move { name, uid, target } => move_to(alloc, name, uid, target, disk, output),
+        Command::Make { name } => make(alloc, name, disk, output),
         Command::Dump => (dump(alloc, input, output), disk),
         Command::LogDump => (logdump(alloc, input, output), disk),
         Command::Help => (show(output, HELP), disk),

@@ -72,11 +72,12 @@ hex_same xs ys p q e =
     let k : Ok xs ≡ Ok ys = sym (decode_of-encode_lower xs (octets_are_bytes xs p)) ∙ ap decode_of e ∙ decode_of-encode_lower ys (octets_are_bytes ys q) in
     cc k
 
--- a number of the first word, which tells the commands' words apart
+-- a number of the first word, by its first two letters and its length, which tells the commands' words apart
 abbrev tag : List (List ℕ) → ℕ
 tag [] = 0
 tag ([] ∷ words) = 0
-tag ((c ∷ word) ∷ words) = 100 * c + length word
+tag ((c ∷ []) ∷ words) = c
+tag ((c ∷ d ∷ word) ∷ words) = 100000 * c + 100 * d + length word
 
 differ : (a b : List (List ℕ)) → a ≡ b → nat_eq (tag a) (tag b) ≡ false → ⊥
 differ a b e h = eqb-false (tag a) (tag b) h (ap tag e)
@@ -94,6 +95,11 @@ name_same a b e =
 
 deliver_same : (a b : List ℕ) → words_of (command.Deliver a) ≡ words_of (command.Deliver b) → a ≡ b
 deliver_same a b e =
+    let words : a ∷ [] ≡ b ∷ [] = cc e in
+    cc words
+
+make_same : (a b : List ℕ) → words_of (command.Make a) ≡ words_of (command.Make b) → a ≡ b
+make_same a b e =
     let words : a ∷ [] ≡ b ∷ [] = cc e in
     cc words
 
@@ -158,6 +164,7 @@ same_words (command.Flag a u f) (command.Flag b v g) p q e = flag_same a b u v f
 same_words (command.Expunge a u) (command.Expunge b v) p q e = expunge_same a b u v p q e
 same_words (command.Copy a u t) (command.Copy b v w) p q e = copy_same a b u v t w p q e
 same_words (command.Move a u t) (command.Move b v w) p q e = move_same a b u v t w p q e
+same_words (command.Make a) (command.Make b) p q e = ap (λ (n : List ℕ). command.Make n) (make_same a b e)
 same_words command.Counts command.Counts p q e = refl
 same_words command.Dump command.Dump p q e = refl
 same_words command.LogDump command.LogDump p q e = refl

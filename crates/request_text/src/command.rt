@@ -22,6 +22,8 @@ pub enum Command {
     Copy { name: Name, uid: Uid, target: Name },
     /// Moves the message with this UID, from the mailbox with this name, to the target.
     Move { name: Name, uid: Uid, target: Name },
+    /// Makes an empty mailbox with this name.
+    Make { name: Name },
     /// Prints the messages of a storage file.
     Dump,
     /// Prints the entries of a log.
@@ -63,6 +65,8 @@ copy BOX UID TO
 move BOX UID TO
             adds the message with this UID to the mailbox TO, removes it from its own, and prints OK and its UID
             there; or prints NO with a number and the cause, as copy does
+make BOX    adds an empty mailbox with this name to the store and prints OK; or prints NO 11 exists,
+            NO 15 too many mailboxes 1024, or NO 16 store full 4294967294
 dump        reads a storage file (m.N) of mdbox from standard input and prints, for each message,
             MESSAGE, its offset and the size of its body, and then its metadata lines, each after two spaces
 logdump     reads a log of mdbox from standard input and prints LOG, its kind (R, M or B), its number and its

@@ -67,6 +67,7 @@ fn read_two(alloc: Global, verb: &str, word: &[u8]) -> Result<Command, WordsErro
         "init" => read_init(word),
         "deliver" => read_deliver(alloc, word),
         "list" => read_list(alloc, word),
+        "make" => read_make(alloc, word),
         _ => Err(WordsError::Usage),
     }
 }
@@ -101,6 +102,16 @@ fn read_list(alloc: Global, word: &[u8]) -> Result<Command, WordsError>
 {
     let name = read_name(alloc, word)?;
     Ok(Command::List { name })
+}
+
+/// The making of a mailbox with this name.
+fn read_make(alloc: Global, word: &[u8]) -> Result<Command, WordsError>
+    ensures says { IfOk result (Says (codes "make" ∷ word.now ∷ [])) }
+    ensures usage { IsErrOf result words_error.Usage → SayNothing (codes "make" ∷ word.now ∷ []) }
+    ensures memory { IsErrOf result words_error.NoMemory → IsName word.now }
+{
+    let name = read_name(alloc, word)?;
+    Ok(Command::Make { name })
 }
 
 /// The command that three words say.

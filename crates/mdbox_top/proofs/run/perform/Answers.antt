@@ -12,6 +12,9 @@ returns-in-Expunge-clause-rests g c = rw c.in-Expunge.is c.expunge.ensures.rests
 pub returns-in-Move-clause-rests : goal.returns-in-Move-clause-rests
 returns-in-Move-clause-rests g c = rw c.in-Move.is c.move_to.ensures.rests
 
+pub returns-in-Make-clause-rests : goal.returns-in-Make-clause-rests
+returns-in-Make-clause-rests g c = rw c.in-Make.is c.make.ensures.rests
+
 pub returns-in-Copy-clause-rests : goal.returns-in-Copy-clause-rests
 returns-in-Copy-clause-rests g c = rw c.in-Copy.is c.copy.ensures.rests
 

@@ -7,3 +7,6 @@ returns-in-list-clause-memory c = λ e. (command.List c.args.word.now, tt, (c.re
 
 pub returns-in-deliver-clause-memory : goal.returns-in-deliver-clause-memory
 returns-in-deliver-clause-memory c = λ e. (command.Deliver c.args.word.now, tt, (c.read_deliver.ensures.memory e, ap (λ (verb : List ℕ). verb ∷ c.args.word.now ∷ []) c.in-deliver.is))
+
+pub returns-in-make-clause-memory : goal.returns-in-make-clause-memory
+returns-in-make-clause-memory c = λ e. (command.Make c.args.word.now, tt, (c.read_make.ensures.memory e, ap (λ (verb : List ℕ). verb ∷ c.args.word.now ∷ []) c.in-make.is))

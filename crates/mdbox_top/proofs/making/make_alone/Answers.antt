@@ -1,0 +1,37 @@
+use Rattle.std.proofs.Common.{sym, ap, subst}
+use Rattle.mdbox_base.specs.declared.requests.Request.TheVariants as request
+use Rattle.mdbox_top.specs.Alone.{IsDoneAlone}
+use Rattle.mdbox_top.proofs.MakeLemmas.{make_done}
+use Rattle.mdbox_top.proofs.making.make_alone.Goals as goal
+
+pub returns-in-Ok-clause-done : goal.returns-in-Ok-clause-done
+returns-in-Ok-clause-done g c =
+    let o = c.in-Ok.ensures in
+    let asked = request.Make c.args.name in
+    let given = c.make_mailbox-reply.result in
+    let done = make_done c.args.name given (g.D.Disk.history c.args.disk) (g.D.Disk.history c.in-Ok.store.disk) (g.D.Disk.history c.make_mailbox-reply.new.store.disk) (g.D.Disk.faults c.in-Ok.store.disk) (g.D.Disk.faults c.make_mailbox-reply.new.store.disk) c.in-Ok.store c.make_mailbox-reply.new.store
+    (record {
+      opened = record {
+        opened = o.opened;
+        store = c.facts.ensures.store;
+        drawn = o.state.3;
+        free = o.state.4;
+        files = o.files;
+        running = o.state.1;
+        safe = o.any_moment;
+        settled_again = o.settled_again (λ f. absurd f);
+        carried = o.carried (λ f. absurd f);
+        swept = (o.swept.0, o.swept.2);
+      };
+      later = c.facts-in-Ok.ensures.store;
+      makes = c.make_mailbox-reply.ensures;
+      back = λ same. ap (λ v. g.D.Disk.history v.disk) same;
+    })
+    c.listings_are_shown.ensures.logs in
+    subst (λ d. IsDoneAlone asked given (g.D.Disk.history c.args.disk) (g.D.Disk.history d) (g.D.Disk.faults c.args.disk) (g.D.Disk.faults d)) (sym c.into_disk.ensures)
+    (subst (λ f. IsDoneAlone asked given (g.D.Disk.history c.args.disk) (g.D.Disk.history c.make_mailbox-reply.new.store.disk) f (g.D.Disk.faults c.make_mailbox-reply.new.store.disk)) (o.unfailed (λ f. f)) done)
+
+pub returns-in-Err-clause-refused : goal.returns-in-Err-clause-refused
+returns-in-Err-clause-refused g c =
+    let o = c.in-Err.ensures in
+    record { cause = o.refused; idle = o.idle; untouched = o.untouched; moments = o.any_moment; settled_again = o.settled_again; carried = o.carried; fault = o.fault; unfailed = o.unfailed }

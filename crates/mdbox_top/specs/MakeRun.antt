@@ -1,0 +1,71 @@
+-- How `make` ends.
+use Rattle.std.specs.Prelude.{◌≡◌, ◌⊎◌, ◌+◌, ℕ, nat_le, List, length, is_some, Option}
+use Rattle.std.specs.Option.{option_or}
+use Rattle.disk_model.specs.Disk.{History, Faults, EachImage}
+use Rattle.mdbox_base.specs.declared.replies.Refusal.{Refusal}
+use Rattle.mdbox_base.specs.declared.replies.Refusal.TheVariants as refusal
+use Rattle.mdbox_base.specs.declared.replies.Reply.{Reply}
+use Rattle.mdbox_base.specs.declared.replies.Reply.TheVariants as reply
+use Rattle.mdbox_base.specs.declared.requests.Request.TheVariants as request
+use Rattle.model_lists.specs.Lists.{Lists}
+use Rattle.list_machine.specs.Machine.{refused_where, is_used_up}
+use Rattle.model_meaning.specs.BoxMeaning.{BoxMeaning}
+use Rattle.model_meaning.specs.MapMeaning.{MapMeaning}
+use Rattle.model_store.specs.Listing.{meaning_named}
+use Rattle.model_store.specs.Safe.{Safe}
+use Rattle.model_store.specs.Settled.{IsSettledFor}
+use Rattle.mail_ops.specs.Making.{with_mailbox}
+use Rattle.store_open.specs.Opened.{IsOpenedAs}
+use Rattle.store_sweep.specs.Moments.{NoFailedChange}
+use Rattle.request_text.specs.declared.outcome.Outcome.{Outcome}
+use Rattle.mdbox_top.specs.Changed.{IsChangeAnswer, OpensChanged, OpensUnchanged}
+use Rattle.mdbox_top.specs.Served.{RequestOutcome}
+
+-- Why no mailbox is made, by what the log of the mailbox with its name and the map's log mean: there is one, 1,024 mailboxes are
+-- there, or the numbers of mailboxes are used up.
+abbrev pub unmade_cause : Option BoxMeaning → MapMeaning → Option Refusal
+unmade_cause found m =
+    option_or (option_or (refused_where (is_some found) refusal.Exists) (refused_where (nat_le 1024 (length m.boxes)) (refusal.TooManyMailboxes 1024))) (refused_where (is_used_up m.highest.mailbox) (refusal.StoreFull 4294967294))
+
+-- the number of the mailbox that is made: the next above the highest that the map's log names
+abbrev pub next_mailbox : MapMeaning → ℕ
+next_mailbox m = m.highest.mailbox + 1
+
+-- the lists that this reply leaves: it is done, and an empty mailbox with this number and name is last; or they are the same
+abbrev pub lists_by_making : ℕ → List ℕ → Reply → Lists → Lists
+lists_by_making number name reply.Done lists = with_mailbox number name lists
+lists_by_making number name given lists = lists
+
+-- The reply to the making of a mailbox with this name, by what the logs mean from which the store opened. Where it is refused, the
+-- files open with the same logs, all that the store reads is carried over, and the disk was swept. Out of memory, they open with the
+-- same logs. Where it is done, their logs show the lists with the empty mailbox last. Unless the store is stopped, a disk that was
+-- settled for lists is settled for those that the reply tells.
+pub record IsMakeReply (name : List ℕ) (old new : Option History) (given : Reply) : Type 0 where
+  pub m : MapMeaning
+  pub meanings : List BoxMeaning
+  pub opened : IsOpenedAs old m meanings
+  pub given_is : IsChangeAnswer (unmade_cause (meaning_named name m.boxes meanings) m) given
+  pub refused : (why : Refusal) → given ≡ reply.Refused why → (why ≡ refusal.Stopped → ⊥) → (why ≡ refusal.NoMemory → ⊥) → OpensUnchanged m meanings old new
+  pub memory : given ≡ reply.Refused refusal.NoMemory → IsOpenedAs new m meanings
+  pub done : given ≡ reply.Done → OpensChanged (with_mailbox (next_mailbox m) name) m meanings new
+  pub settled : (given ≡ reply.Refused refusal.Stopped → ⊥) → (lists : Lists) → IsSettledFor lists old → IsSettledFor (lists_by_making (next_mailbox m) name given lists) new
+
+-- How `make` ends: the reply is printed, which is `OK`, or why no mailbox is made, or `NO 17 memory`, or `NO 19 stopped`; or a
+-- prefix of it; or the store was not opened.
+abbrev pub MakeOutcome : List ℕ → Option (List ℕ) → Option (List ℕ) → Option History → Option History → Faults → Faults → Outcome → Type 0
+MakeOutcome name = RequestOutcome (IsMakeReply name) (request.Make name)
+
+-- the lists with the empty mailbox last, whose number is the next by the logs from which the store opened
+abbrev pub AreMade : List ℕ → Option History → Lists → Lists → Type 0
+AreMade name old lists some = (m : MapMeaning) × (meanings : List BoxMeaning) × IsOpenedAs old m meanings × (some ≡ with_mailbox (next_mailbox m) name lists)
+
+-- A crash at any moment leaves a disk that is safe for the lists for which it was settled, or for those with the mailbox, whatever
+-- fails.
+abbrev pub MakeMoments : List ℕ → Option History → Option History → Type 0
+MakeMoments name old new = (lists : Lists) → IsSettledFor lists old
+    → EachImage (λ _ image. Safe image lists ⊎ ((some : Lists) × AreMade name old lists some × Safe image some)) old new
+
+-- If no change of the disk failed, a disk that was settled for lists is settled for these, or for those with the mailbox.
+abbrev pub MakeRests : List ℕ → Type 0 → Faults → Faults → Option History → Option History → Type 0
+MakeRests name failed began now old new = NoFailedChange failed began now → (lists : Lists) → IsSettledFor lists old
+    → IsSettledFor lists new ⊎ ((some : Lists) × AreMade name old lists some × IsSettledFor some new)
