@@ -17,3 +17,5 @@ mod replies;
 mod runs;
 #[cfg(test)]
 mod store_runs;
+#[cfg(test)]
+mod tables;
