@@ -1,6 +1,7 @@
 // Runs that fetch, from stores that are laid out by hand from docs/formats.md.
+use crate::tables::{Row, first_wrong, is_told, opening, run_on};
 use disk_mem::MemDisk;
-use disk_model::{Disk, FileName};
+use disk_model::{Disk, DiskError, FileName};
 use mdbox_base::{Clock, MemClock, MemSink, MemSource, Octets, Seq, Source};
 use mdbox_top::{Status, mdbox_run};
 use std::alloc::Global;
@@ -37,26 +38,33 @@ pub(crate) struct Ran {
     errors: MemSink,
 }
 
-/// A disk with a store whose INBOX has this message. The texts are the first octet of the message in its storage file, its size
-/// in the digits of its header and in those of its lines, and its body.
-fn disk_of<'x>(
-    alloc: Global,
-    entries: [&'x [u8]; 2],
-    texts: [&'x [u8]; 4],
-) -> Result<MemDisk, Fail> {
-    let [stores, adds] = entries;
-    let mut files = StoreFiles::with(alloc, &[MAKES_INBOX, stores], &[adds], 0)?;
+/// Puts the logs of a store, synced, and syncs the names of all files.
+pub(crate) fn put_logs(disk: &mut MemDisk, files: &StoreFiles) -> Result<(), DiskError> {
+    put_file(disk, FileName::Root, &files.root)?;
+    put_file(disk, FileName::Map(1), &files.map)?;
+    put_file(disk, FileName::Box(1, 1), &files.inbox)?;
+    disk.sync_names()
+}
+
+/// What stands in the storage file. The texts are those of `disk_of`.
+fn put_mail(mail: &mut Vec<u8>, texts: [&[u8]; 4]) -> Result<(), Fail> {
     let [mark, header, line, body] = texts;
     let [first, second, third, last] = AROUND;
     for text in [first, mark, second, header, b"\n", body, third, line, last] {
-        files.mail.extend_from_slice(text)?;
+        mail.extend_from_slice(text)?;
     }
+    Ok(())
+}
+
+/// A disk with a store whose INBOX has this message. The texts are the first octet of the message in its storage file, its size
+/// in the digits of its header and in those of its lines, and its body.
+fn disk_of(alloc: Global, entries: [&[u8]; 2], texts: [&[u8]; 4]) -> Result<MemDisk, Fail> {
+    let [stores, adds] = entries;
+    let mut files = StoreFiles::with(alloc, &[MAKES_INBOX, stores], &[adds], 0)?;
+    put_mail(&mut files.mail, texts)?;
     let mut disk = MemDisk::fresh(alloc)?;
-    put_file(&mut disk, FileName::Root, &files.root)?;
-    put_file(&mut disk, FileName::Map(1), &files.map)?;
-    put_file(&mut disk, FileName::Box(1, 1), &files.inbox)?;
     put_file(&mut disk, FileName::Mail(1), &files.mail)?;
-    disk.sync_names()?;
+    put_logs(&mut disk, &files)?;
     Ok(disk)
 }
 
@@ -81,6 +89,15 @@ pub(crate) fn run(
     run_with(alloc, disk, words, &mut input, fails, &mut clock)
 }
 
+/// The words as the program gets them.
+fn owned(alloc: Global, words: &[&str]) -> Result<Vec<String>, Fail> {
+    let mut owned = Vec::new(alloc);
+    for word in words {
+        owned.push(String::from_str(alloc, word)?)?;
+    }
+    Ok(owned)
+}
+
 /// A run with these words, this input and this clock, whose output fails at these calls.
 pub(crate) fn run_with<I: Source, C: Clock>(
     alloc: Global,
@@ -90,15 +107,12 @@ pub(crate) fn run_with<I: Source, C: Clock>(
     fails: Seq<u64>,
     clock: &mut C,
 ) -> Result<Ran, Fail> {
-    let mut owned = Vec::new(alloc);
-    for word in words {
-        owned.push(String::from_str(alloc, word)?)?;
-    }
+    let words = owned(alloc, words)?;
     let mut output = MemSink::of(Octets::empty(alloc), fails);
     let mut errors = MemSink::of(Octets::empty(alloc), Seq::empty(alloc));
     let (Status(status), disk) = mdbox_run(
         alloc,
-        owned.as_slice(),
+        &words,
         disk,
         input,
         &mut output,
@@ -118,116 +132,113 @@ pub(crate) fn told(ran: &Ran, printed: &[u8], said: &str) -> bool {
     ran.output.held().as_slice() == printed && ran.errors.held().as_slice() == said.as_bytes()
 }
 
+/// Whether what was printed begins and ends so.
+pub(crate) fn begins_and_ends(ran: &Ran, first: &[u8], last: &[u8]) -> bool {
+    let printed = ran.output.held().as_slice();
+    printed.starts_with(first) && printed.ends_with(last)
+}
+
+const FETCH: [&str; 3] = ["fetch", "INBOX", "1"];
+
+/// Runs on a store whose INBOX has `Hello`.
+const FETCHES: [Row<'static>; 7] = [
+    (&FETCH, 0, "Hello", ""),
+    (&["fetch", "INBOX", "2"], 1, "NO 12 no message\n", ""),
+    (&["fetch", "A", "1"], 1, "NO 10 no mailbox\n", ""),
+    (&["fetch", "INBOX", "0"], 2, "", "mdbox: usage\n"),
+    (&["fetch", "INBOX", "01"], 2, "", "mdbox: usage\n"),
+    (&["fetch", "INBOX"], 2, "", "mdbox: usage\n"),
+    (&["fetch", "", "1"], 2, "", "mdbox: usage\n"),
+];
+
 #[test]
 fn a_message_is_fetched_alone(rt: HostRuntime) -> Result<(), Fail> {
-    let cases: [(&[&str], u8, &str, &str); 7] = [
-        (&["fetch", "INBOX", "1"], 0, "Hello", ""),
-        (&["fetch", "INBOX", "2"], 1, "NO 12 no message\n", ""),
-        (&["fetch", "A", "1"], 1, "NO 10 no mailbox\n", ""),
-        (&["fetch", "INBOX", "0"], 2, "", "mdbox: usage\n"),
-        (&["fetch", "INBOX", "01"], 2, "", "mdbox: usage\n"),
-        (&["fetch", "INBOX"], 2, "", "mdbox: usage\n"),
-        (&["fetch", "", "1"], 2, "", "mdbox: usage\n"),
-    ];
-    let mut disk = hello(rt.alloc())?;
-    for (words, status, printed, said) in cases {
-        let ran = run(rt.alloc(), disk, words, Seq::empty(rt.alloc()))?;
-        assert_eq!(rt;
-            (ran.status, told(&ran, printed.as_bytes(), said)),
-            (status, true),
-            "{words:?}"
-        );
-        disk = ran.disk;
-    }
+    let disk = hello(rt.alloc())?;
+    let wrong = first_wrong(rt.alloc(), disk, b"", &FETCHES)?;
+    assert_eq!(rt; wrong, None);
     Ok(())
 }
 
+/// Runs on a disk that is empty at first.
+const NO_MESSAGE: [Row<'static>; 3] = [
+    (&FETCH, 3, "", "mdbox: no store\n"),
+    (&["init", "0011223344556677"], 0, "OK\n", ""),
+    (&FETCH, 1, "NO 12 no message\n", ""),
+];
+
 #[test]
 fn a_store_without_messages_or_no_store_refuses_a_fetch(rt: HostRuntime) -> Result<(), Fail> {
-    let cases: [(&[&str], u8, &str, &str); 3] = [
-        (&["fetch", "INBOX", "1"], 3, "", "mdbox: no store\n"),
-        (&["init", "0011223344556677"], 0, "OK\n", ""),
-        (&["fetch", "INBOX", "1"], 1, "NO 12 no message\n", ""),
-    ];
-    let mut disk = MemDisk::fresh(rt.alloc())?;
-    for (words, status, printed, said) in cases {
-        let ran = run(rt.alloc(), disk, words, Seq::empty(rt.alloc()))?;
-        assert_eq!(rt;
-            (ran.status, told(&ran, printed.as_bytes(), said)),
-            (status, true),
-            "{words:?}"
-        );
-        disk = ran.disk;
-    }
+    let disk = MemDisk::fresh(rt.alloc())?;
+    let wrong = first_wrong(rt.alloc(), disk, b"", &NO_MESSAGE)?;
+    assert_eq!(rt; wrong, None);
     Ok(())
 }
+
+/// Runs on a store whose storage file is damaged where the message begins.
+const DAMAGED: [Row<'static>; 2] = [
+    (&FETCH, 1, "NO 20 damaged storage/m.1 16\n", ""),
+    (
+        &["list", "INBOX"],
+        0,
+        "OK 1\n1 0 5 1694498816 00112233445566770000000100000010\n",
+        "",
+    ),
+];
 
 #[test]
 fn a_damaged_region_is_told(rt: HostRuntime) -> Result<(), Fail> {
     let texts: [&[u8]; 4] = [b"\0", b"0000000000000005", b"5", b"Hello"];
     let disk = disk_of(rt.alloc(), HELLO, texts)?;
-    let words = ["fetch", "INBOX", "1"];
-    let ran = run(rt.alloc(), disk, &words, Seq::empty(rt.alloc()))?;
-    let printed = b"NO 20 damaged storage/m.1 16\n";
-    assert_eq!(rt; (ran.status, told(&ran, printed, "")), (1, true));
-    let ran = run(
-        rt.alloc(),
-        ran.disk,
-        &["list", "INBOX"],
-        Seq::empty(rt.alloc()),
-    )?;
-    let printed = b"OK 1\n1 0 5 1694498816 00112233445566770000000100000010\n";
-    assert_eq!(rt; (ran.status, told(&ran, printed, "")), (0, true));
+    let wrong = first_wrong(rt.alloc(), disk, b"", &DAMAGED)?;
+    assert_eq!(rt; wrong, None);
     Ok(())
+}
+
+/// Whether this body is fetched, how many calls an opening makes, and how many the fetch makes behind it.
+fn counted(alloc: Global, body: &[u8]) -> Result<(bool, u64, u64), Fail> {
+    let before = opening(alloc, long(alloc, body)?)?;
+    let disk = long(alloc, body)?;
+    let laid = disk.calls();
+    let ran = run_on(alloc, disk, &FETCH, b"")?;
+    let all = ran.disk.calls().saturating_sub(laid);
+    let same = ran.status == 0 && told(&ran, body, "");
+    Ok((same, before, all.saturating_sub(before)))
+}
+
+/// Whether a fetch of which a call fails prints this and tells it.
+fn is_failed(alloc: Global, body: &[u8], call: u64, printed: &str) -> Result<bool, Fail> {
+    let (_disk, same) = is_told(alloc, long(alloc, body)?, call, &FETCH, printed)?;
+    Ok(same)
 }
 
 #[test]
 fn reads_that_fail_are_told(rt: HostRuntime) -> Result<(), Fail> {
     let body = vec![in rt.alloc(); b'a'; 131_073]?;
-    let words = ["fetch", "INBOX", "1"];
-    let disk = long(rt.alloc(), &body)?;
-    let laid = disk.calls();
-    let listed = run(rt.alloc(), disk, &["list", "INBOX"], Seq::empty(rt.alloc()))?;
-    let opened = listed.disk.calls();
-    let ran = run(
-        rt.alloc(),
-        long(rt.alloc(), &body)?,
-        &words,
-        Seq::empty(rt.alloc()),
-    )?;
-    assert_eq!(rt; (ran.status, told(&ran, &body, "")), (0, true));
+    let (same, before, pieces) = counted(rt.alloc(), &body)?;
     // One call for each piece.
-    assert_eq!(rt; ran.disk.calls(), opened.saturating_add(3));
-    for call in 1..=ran.disk.calls().saturating_sub(laid) {
-        let fails = Seq::of(vec![in rt.alloc(); call]?);
-        let disk = long(rt.alloc(), &body)?.failing(fails);
-        let failed = run(rt.alloc(), disk, &words, Seq::empty(rt.alloc()))?;
-        let printed: &[u8] = if call > opened.saturating_sub(laid) {
-            b"NO 18 read fault\n"
+    assert_eq!(rt; (same, pieces), (true, 3));
+    for call in 1..=before.saturating_add(3) {
+        let printed = if call > before {
+            "NO 18 read fault\n"
         } else {
-            b""
+            ""
         };
-        assert_eq!(rt;
-            (failed.status, told(&failed, printed, "mdbox: disk fault\n")),
-            (6, true),
-            "{call}"
-        );
+        let same = is_failed(rt.alloc(), &body, call, printed)?;
+        assert!(rt; same, "{call}");
     }
     Ok(())
 }
 
+/// The status of a fetch whose output fails, and whether it says so.
+fn without_output(alloc: Global) -> Result<(u8, bool), Fail> {
+    let fails = Seq::of(vec![in alloc; 1]?);
+    let ran = run(alloc, hello(alloc)?, &FETCH, fails)?;
+    Ok((ran.status, told(&ran, b"", "mdbox: write fault\n")))
+}
+
 #[test]
 fn an_output_that_fails_is_told(rt: HostRuntime) -> Result<(), Fail> {
-    let fails = Seq::of(vec![in rt.alloc(); 1]?);
-    let ran = run(
-        rt.alloc(),
-        hello(rt.alloc())?,
-        &["fetch", "INBOX", "1"],
-        fails,
-    )?;
-    assert_eq!(rt;
-        (ran.status, told(&ran, b"", "mdbox: write fault\n")),
-        (8, true)
-    );
+    let found = without_output(rt.alloc())?;
+    assert_eq!(rt; found, (8, true));
     Ok(())
 }

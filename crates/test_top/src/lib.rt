@@ -19,3 +19,5 @@ mod replies;
 mod runs;
 #[cfg(test)]
 mod store_runs;
+#[cfg(test)]
+mod tables;

@@ -69,89 +69,97 @@ const REFUSALS: [(Refusal, &str); 11] = [
     ),
 ];
 
+/// Whether a reply is printed so.
+fn is_printed(alloc: Global, reply: &Reply, text: &str) -> Result<bool, Fail> {
+    let (answer, same) = printed(alloc, reply, 0, text)?;
+    Ok(answer.is_ok() && same)
+}
+
 #[test]
 fn refusals_are_printed(rt: HostRuntime) -> Result<(), Fail> {
     for (refusal, text) in REFUSALS {
-        let ran = printed(rt.alloc(), &Reply::Refused(refusal), 0, text)?;
-        assert_eq!(rt; ran, (Ok(()), true), "{text}");
+        let same = is_printed(rt.alloc(), &Reply::Refused(refusal), text)?;
+        assert!(rt; same, "{text}");
     }
     Ok(())
 }
 
+/// Whether these replies are printed so.
+fn uids_are_printed(alloc: Global) -> Result<[bool; 4], Fail> {
+    let uid = Uid(1);
+    let saved = "OK 1 00112233445566770000000100000010\n";
+    Ok([
+        is_printed(alloc, &Reply::Saved { uid, guid: GUID }, saved)?,
+        is_printed(alloc, &Reply::Copied { uid: Uid(2) }, "OK 2\n")?,
+        is_printed(alloc, &Reply::Moved { uid, gone: true }, "OK 1 GONE\n")?,
+        is_printed(alloc, &Reply::Moved { uid, gone: false }, "OK 1\n")?,
+    ])
+}
+
+fn counts_are_printed(alloc: Global) -> Result<[bool; 4], Fail> {
+    let counted = Reply::Counted {
+        records: 1,
+        references: 2,
+        counts: 2,
+        instances: 0,
+    };
+    let purged = Reply::Purged {
+        dropped: 1,
+        files: 1,
+        instances: 0,
+    };
+    let resynced = Reply::Resynced {
+        corrected: 1,
+        damaged: 0,
+    };
+    Ok([
+        is_printed(alloc, &Reply::Done, "OK\n")?,
+        is_printed(alloc, &counted, "OK 1 2 2 0\n")?,
+        is_printed(alloc, &purged, "OK 1 1 0\n")?,
+        is_printed(alloc, &resynced, "OK 1 0\n")?,
+    ])
+}
+
 #[test]
 fn numbers_are_printed(rt: HostRuntime) -> Result<(), Fail> {
-    let uid = Uid(1);
-    let cases = [
-        (
-            Reply::Saved { uid, guid: GUID },
-            "OK 1 00112233445566770000000100000010\n",
-        ),
-        (Reply::Done, "OK\n"),
-        (Reply::Copied { uid: Uid(2) }, "OK 2\n"),
-        (Reply::Moved { uid, gone: true }, "OK 1 GONE\n"),
-        (Reply::Moved { uid, gone: false }, "OK 1\n"),
-        (
-            Reply::Counted {
-                records: 1,
-                references: 2,
-                counts: 2,
-                instances: 0,
-            },
-            "OK 1 2 2 0\n",
-        ),
-        (
-            Reply::Purged {
-                dropped: 1,
-                files: 1,
-                instances: 0,
-            },
-            "OK 1 1 0\n",
-        ),
-        (
-            Reply::Resynced {
-                corrected: 1,
-                damaged: 0,
-            },
-            "OK 1 0\n",
-        ),
-    ];
-    for (reply, text) in cases {
-        let ran = printed(rt.alloc(), &reply, 0, text)?;
-        assert_eq!(rt; ran, (Ok(()), true), "{text}");
-    }
+    assert_eq!(rt; uids_are_printed(rt.alloc())?, [true; 4]);
+    assert_eq!(rt; counts_are_printed(rt.alloc())?, [true; 4]);
+    Ok(())
+}
+
+const LISTED: &str = "OK 2
+1 8 5 1694498816 00112233445566770000000100000010
+3 0 70 1694498816 00112233445566770000000100000010
+";
+
+/// A listing of two messages.
+fn listing(alloc: Global) -> Result<Reply, Fail> {
+    let seen = flags_of(8).ok_or("no flags")?;
+    let none = flags_of(0).ok_or("no flags")?;
+    let rows = vec![in alloc; row(1, seen, 5), row(3, none, 70)]?;
+    Ok(Reply::Listed(Seq::of(rows)))
+}
+
+/// A message that was fetched.
+fn fetched(alloc: Global) -> Result<Reply, Fail> {
+    let message = Vec::from_slice(alloc, b"Hi\r\n\n")?;
+    Ok(Reply::Fetched(Octets::of(message)))
+}
+
+#[test]
+fn listings_are_printed(rt: HostRuntime) -> Result<(), Fail> {
+    let listing = listing(rt.alloc())?;
+    assert!(rt; is_printed(rt.alloc(), &listing, LISTED)?);
+    let (answer, same) = printed(rt.alloc(), &listing, 1, "")?;
+    assert_eq!(rt; (answer, same), (Err(PrintError::WriteFault), true));
     Ok(())
 }
 
 #[test]
 fn mail_is_printed(rt: HostRuntime) -> Result<(), Fail> {
-    let seen = flags_of(8).ok_or("no flags")?;
-    let none = flags_of(0).ok_or("no flags")?;
-    let rows = vec![in rt.alloc(); row(1, seen, 5), row(3, none, 70)]?;
-    let mut message = Octets::empty(rt.alloc());
-    message.push_all(b"Hi\r\n\n")?;
-    let listing = Reply::Listed(Seq::of(rows));
-    let listed = "OK 2
-1 8 5 1694498816 00112233445566770000000100000010
-3 0 70 1694498816 00112233445566770000000100000010
-";
-    let fetched = Reply::Fetched(message);
-    assert_eq!(rt; printed(rt.alloc(), &listing, 0, listed)?, (Ok(()), true));
-    assert_eq!(rt;
-        printed(rt.alloc(), &fetched, 0, "OK 5\nHi\r\n\n\n")?,
-        (Ok(()), true)
-    );
-    assert_eq!(rt;
-        printed(
-            rt.alloc(),
-            &Reply::Listed(Seq::empty(rt.alloc())),
-            0,
-            "OK 0\n"
-        )?,
-        (Ok(()), true)
-    );
-    assert_eq!(rt;
-        printed(rt.alloc(), &listing, 1, "")?,
-        (Err(PrintError::WriteFault), true)
-    );
+    let fetched = fetched(rt.alloc())?;
+    assert!(rt; is_printed(rt.alloc(), &fetched, "OK 5\nHi\r\n\n\n")?);
+    let none = Reply::Listed(Seq::empty(rt.alloc()));
+    assert!(rt; is_printed(rt.alloc(), &none, "OK 0\n")?);
     Ok(())
 }

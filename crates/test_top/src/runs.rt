@@ -1,7 +1,7 @@
 // Runs that use no disk.
+use crate::fetches::{run_with, told};
 use disk_mem::MemDisk;
-use mdbox_base::{MemClock, MemSink, MemSource, Octets, Seq};
-use mdbox_top::{Status, mdbox_run};
+use mdbox_base::{MemClock, MemSource, Octets, Seq};
 use request_text::{HELP, VERSION};
 use std::alloc::Global;
 use std::test::Fail;
@@ -33,35 +33,28 @@ fn run(
     printed: &str,
     said: &str,
 ) -> Result<(u8, bool), Fail> {
-    let words = vec![in alloc; String::from_str(alloc, word)?]?;
     let octets = Octets::of(Vec::from_slice(alloc, octets)?);
-    let mut input = MemSource::of(octets, Seq::of(vec![in alloc; fails.input]?));
-    let mut output = MemSink::of(Octets::empty(alloc), Seq::of(vec![in alloc; fails.output]?));
-    let mut errors = MemSink::of(Octets::empty(alloc), Seq::empty(alloc));
-    let (Status(status), _) = mdbox_run(
-        alloc,
-        words.as_slice(),
-        MemDisk::fresh(alloc)?,
-        &mut input,
-        &mut output,
-        &mut errors,
-        &mut MemClock::of(0, Seq::empty(alloc)),
-    );
-    let same = output.held().as_slice() == printed.as_bytes()
-        && errors.held().as_slice() == said.as_bytes();
-    Ok((status, same))
+    let input_fails = Seq::of(vec![in alloc; fails.input]?);
+    let output_fails = Seq::of(vec![in alloc; fails.output]?);
+    let disk = MemDisk::fresh(alloc)?;
+    let mut input = MemSource::of(octets, input_fails);
+    let mut clock = MemClock::of(0, Seq::empty(alloc));
+    let ran = run_with(alloc, disk, &[word], &mut input, output_fails, &mut clock)?;
+    Ok((ran.status, told(&ran, printed.as_bytes(), said)))
 }
+
+/// So many octets of the root log, the status, and what is printed and said of them.
+const LOGS: [(usize, u8, &str, &str); 5] = [
+    (36, 0, "LOG R 0 0\n26 4d00000001\nEND 35\n", ""),
+    (35, 4, "", "mdbox: input refused LogDamaged 26\n"),
+    (34, 4, "", "mdbox: input refused LogDamaged 26\n"),
+    (26, 0, "LOG R 0 0\nEND 25\n", ""),
+    (20, 4, "", "mdbox: input refused LogDamaged 20\n"),
+];
 
 #[test]
 fn logs_are_printed_or_refused(rt: HostRuntime) -> Result<(), Fail> {
-    let cases = [
-        (36, 0, "LOG R 0 0\n26 4d00000001\nEND 35\n", ""),
-        (35, 4, "", "mdbox: input refused LogDamaged 26\n"),
-        (34, 4, "", "mdbox: input refused LogDamaged 26\n"),
-        (26, 0, "LOG R 0 0\nEND 25\n", ""),
-        (20, 4, "", "mdbox: input refused LogDamaged 20\n"),
-    ];
-    for (size, status, printed, said) in cases {
+    for (size, status, printed, said) in LOGS {
         let (log, _) = ROOT_LOG
             .split_at_checked(size)
             .ok_or("longer than the log")?;
@@ -71,14 +64,16 @@ fn logs_are_printed_or_refused(rt: HostRuntime) -> Result<(), Fail> {
     Ok(())
 }
 
+/// Calls of the input and of the output that fail, the status, and what is said.
+const FAULTS: [(u64, u64, u8, &str); 3] = [
+    (1, 0, 7, "mdbox: read fault\n"),
+    (2, 0, 7, "mdbox: read fault\n"),
+    (0, 1, 8, "mdbox: write fault\n"),
+];
+
 #[test]
 fn faults_of_logdump_are_told(rt: HostRuntime) -> Result<(), Fail> {
-    let cases = [
-        (1, 0, 7, "mdbox: read fault\n"),
-        (2, 0, 7, "mdbox: read fault\n"),
-        (0, 1, 8, "mdbox: write fault\n"),
-    ];
-    for (input, output, status, said) in cases {
+    for (input, output, status, said) in FAULTS {
         let fails = Failing { input, output };
         let ran = run(rt.alloc(), "logdump", &ROOT_LOG, fails, "", said)?;
         assert_eq!(rt; ran, (status, true));
@@ -86,28 +81,30 @@ fn faults_of_logdump_are_told(rt: HostRuntime) -> Result<(), Fail> {
     Ok(())
 }
 
+/// The first call of the input fails, and that of the output too.
+const NO_INPUT: Failing = Failing {
+    input: 1,
+    output: 0,
+};
+
+const NOTHING: Failing = Failing {
+    input: 1,
+    output: 1,
+};
+
+/// What a run with this word answers if its input fails, and if its output fails too.
+fn without_input(alloc: Global, word: &str, text: &str) -> Result<[(u8, bool); 2], Fail> {
+    let printed = run(alloc, word, &ROOT_LOG, NO_INPUT, text, "")?;
+    let said = "mdbox: write fault\n";
+    let failed = run(alloc, word, &ROOT_LOG, NOTHING, "", said)?;
+    Ok([printed, failed])
+}
+
 #[test]
 fn help_and_version_read_nothing(rt: HostRuntime) -> Result<(), Fail> {
-    for (word, text) in [("--help", HELP), ("--version", VERSION)] {
-        let fails = Failing {
-            input: 1,
-            output: 0,
-        };
-        assert_eq!(rt;
-            run(rt.alloc(), word, &ROOT_LOG, fails, text, "")?,
-            (0, true),
-            "{word}"
-        );
-        let fails = Failing {
-            input: 1,
-            output: 1,
-        };
-        let said = "mdbox: write fault\n";
-        assert_eq!(rt;
-            run(rt.alloc(), word, &ROOT_LOG, fails, "", said)?,
-            (8, true),
-            "{word}"
-        );
-    }
+    let help = without_input(rt.alloc(), "--help", HELP)?;
+    assert_eq!(rt; help, [(0, true), (8, true)]);
+    let version = without_input(rt.alloc(), "--version", VERSION)?;
+    assert_eq!(rt; version, [(0, true), (8, true)]);
     Ok(())
 }

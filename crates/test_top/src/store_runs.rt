@@ -1,15 +1,15 @@
 // Runs of the whole program, one behind another on a disk in memory.
+use crate::fetches::{begins_and_ends, told};
+use crate::tables::{Row, first_wrong, run_on};
 use disk_mem::MemDisk;
 use disk_model::{Disk, FileName};
-use mdbox_base::{MemClock, MemSink, MemSource, Octets, Seq};
-use mdbox_top::{Status, mdbox_run};
 use std::alloc::Global;
 use std::test::Fail;
 use test_stores::entries::RAISES_FIRST;
 use test_stores::{MAP_HEAD, log_octets, put_unclean};
 
 /// The words of runs on a disk that is empty at first, with the status, the output and the errors of each.
-const RUNS: [(&[&str], u8, &str, &str); 9] = [
+const RUNS: [Row<'static>; 9] = [
     (&["list", "INBOX"], 3, "", "mdbox: no store\n"),
     (&["flag", "INBOX", "1", "8"], 3, "", "mdbox: no store\n"),
     (&["init", "0011223344556677"], 0, "OK\n", ""),
@@ -22,7 +22,7 @@ const RUNS: [(&[&str], u8, &str, &str); 9] = [
 ];
 
 /// The same on a disk whose INBOX has a message.
-const MESSAGE_RUNS: [(&[&str], u8, &str, &str); 3] = [
+const MESSAGE_RUNS: [Row<'static>; 3] = [
     (
         &["list", "INBOX"],
         0,
@@ -38,6 +38,14 @@ const MESSAGE_RUNS: [(&[&str], u8, &str, &str); 3] = [
     ),
 ];
 
+/// A making beside a storage file.
+const BESIDE_MAIL: [Row<'static>; 1] = [(
+    &["init", "0011223344556677"],
+    3,
+    "",
+    "mdbox: mail files without a store\n",
+)];
+
 /// The disk after a run with these words, its status, and whether this is what it printed and said.
 pub fn run(
     alloc: Global,
@@ -46,88 +54,63 @@ pub fn run(
     printed: &str,
     said: &str,
 ) -> Result<(MemDisk, u8, bool), Fail> {
-    let mut owned = Vec::new(alloc);
-    for word in words {
-        owned.push(String::from_str(alloc, word)?)?;
-    }
-    let mut input = MemSource::of(Octets::empty(alloc), Seq::empty(alloc));
-    let mut output = MemSink::of(Octets::empty(alloc), Seq::empty(alloc));
-    let mut errors = MemSink::of(Octets::empty(alloc), Seq::empty(alloc));
-    let (Status(status), disk) = mdbox_run(
-        alloc,
-        owned.as_slice(),
-        disk,
-        &mut input,
-        &mut output,
-        &mut errors,
-        &mut MemClock::of(0, Seq::empty(alloc)),
-    );
-    let same = output.held().as_slice() == printed.as_bytes()
-        && errors.held().as_slice() == said.as_bytes();
-    Ok((disk, status, same))
+    let ran = run_on(alloc, disk, words, b"")?;
+    let same = told(&ran, printed.as_bytes(), said);
+    Ok((ran.disk, ran.status, same))
 }
 
 #[test]
 fn a_store_is_made_and_listed(rt: HostRuntime) -> Result<(), Fail> {
-    let mut disk = MemDisk::fresh(rt.alloc())?;
-    for (words, status, printed, said) in RUNS {
-        let (left, ran, same) = run(rt.alloc(), disk, words, printed, said)?;
-        assert_eq!(rt; (ran, same), (status, true), "{words:?}");
-        disk = left;
-    }
+    let disk = MemDisk::fresh(rt.alloc())?;
+    let wrong = first_wrong(rt.alloc(), disk, b"", &RUNS)?;
+    assert_eq!(rt; wrong, None);
     Ok(())
+}
+
+/// A disk whose store wants repair, and whose INBOX has a message.
+fn unclean(alloc: Global) -> Result<MemDisk, Fail> {
+    let mut disk = MemDisk::fresh(alloc)?;
+    put_unclean(alloc, &mut disk)?;
+    Ok(disk)
 }
 
 #[test]
 fn a_message_is_listed_and_flagged(rt: HostRuntime) -> Result<(), Fail> {
-    let mut disk = MemDisk::fresh(rt.alloc())?;
-    put_unclean(rt.alloc(), &mut disk)?;
-    for (words, status, printed, said) in MESSAGE_RUNS {
-        let (left, ran, same) = run(rt.alloc(), disk, words, printed, said)?;
-        assert_eq!(rt; (ran, same), (status, true), "{words:?}");
-        disk = left;
-    }
+    let disk = unclean(rt.alloc())?;
+    let wrong = first_wrong(rt.alloc(), disk, b"", &MESSAGE_RUNS)?;
+    assert_eq!(rt; wrong, None);
     Ok(())
+}
+
+/// A disk with one storage file.
+fn mail_alone(alloc: Global) -> Result<MemDisk, Fail> {
+    let mut disk = MemDisk::fresh(alloc)?;
+    disk.make(FileName::Mail(1))?;
+    Ok(disk)
 }
 
 #[test]
 fn no_store_is_made_beside_mail_files(rt: HostRuntime) -> Result<(), Fail> {
-    let mut disk = MemDisk::fresh(rt.alloc())?;
-    disk.make(FileName::Mail(1))?;
-    let words = ["init", "0011223344556677"];
-    let said = "mdbox: mail files without a store\n";
-    let (_disk, status, same) = run(rt.alloc(), disk, &words, "", said)?;
-    assert_eq!(rt; (status, same), (3, true));
+    let disk = mail_alone(rt.alloc())?;
+    let wrong = first_wrong(rt.alloc(), disk, b"", &BESIDE_MAIL)?;
+    assert_eq!(rt; wrong, None);
     Ok(())
+}
+
+/// A log with 100,000 entries.
+fn long_log(alloc: Global) -> Result<Vec<u8>, Fail> {
+    let entries = vec![in alloc; RAISES_FIRST; 100_000]?;
+    Ok(log_octets(alloc, MAP_HEAD, &entries)?)
 }
 
 #[test]
 fn a_long_log_is_printed(rt: HostRuntime) -> Result<(), Fail> {
-    let entries = vec![in rt.alloc(); RAISES_FIRST; 100_000]?;
-    let log = Octets::of(log_octets(rt.alloc(), MAP_HEAD, &entries)?);
-    let words = vec![in rt.alloc(); String::from_str(rt.alloc(), "logdump")?]?;
-    let mut output = MemSink::of(Octets::empty(rt.alloc()), Seq::empty(rt.alloc()));
-    let (Status(status), _) = mdbox_run(
-        rt.alloc(),
-        words.as_slice(),
-        MemDisk::fresh(rt.alloc())?,
-        &mut MemSource::of(log, Seq::empty(rt.alloc())),
-        &mut output,
-        &mut MemSink::of(Octets::empty(rt.alloc()), Seq::empty(rt.alloc())),
-        &mut MemClock::of(0, Seq::empty(rt.alloc())),
-    );
-    assert_eq!(rt; status, 0);
-    assert!(rt;
-        output
-            .held()
-            .as_slice()
-            .starts_with(b"LOG M 0 1\n26 5500000001\n")
-    );
-    assert!(rt;
-        output
-            .held()
-            .as_slice()
-            .ends_with(b"\n1000016 5500000001\nEND 1000025\n")
-    );
+    let log = long_log(rt.alloc())?;
+    let disk = MemDisk::fresh(rt.alloc())?;
+    let ran = run_on(rt.alloc(), disk, &["logdump"], &log)?;
+    let first = b"LOG M 0 1\n26 5500000001\n";
+    let last = b"\n1000016 5500000001\nEND 1000025\n";
+    let same = begins_and_ends(&ran, first, last);
+    assert_eq!(rt; (ran.status, same), (0, true));
     Ok(())
 }
