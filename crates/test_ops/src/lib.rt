@@ -6,6 +6,8 @@ pub use race::{AnyTask, Race, Turn};
 #[cfg(test)]
 mod copying;
 #[cfg(test)]
+mod events;
+#[cfg(test)]
 mod expunging;
 #[cfg(test)]
 mod moving;
