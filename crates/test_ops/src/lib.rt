@@ -7,6 +7,8 @@ pub use race::{AnyTask, Race, Turn};
 #[cfg(test)]
 mod copying;
 #[cfg(test)]
+mod events;
+#[cfg(test)]
 mod expunging;
 mod makes;
 #[cfg(test)]
