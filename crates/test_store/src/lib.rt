@@ -9,6 +9,10 @@ mod damage;
 #[cfg(test)]
 mod making;
 #[cfg(test)]
+mod naming;
+#[cfg(test)]
 mod opening;
+#[cfg(test)]
+mod placing;
 #[cfg(test)]
 mod sweeping;
