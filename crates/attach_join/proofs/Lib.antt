@@ -1,3 +1,5 @@
 pub mod CheckLemmas
+pub mod IntoLemmas
 pub mod JoinLemmas
 pub mod RestoredLemmas
+pub mod RoomLemmas
