@@ -3,8 +3,8 @@ ghost use Rattle.std.specs.Prelude.{◌≡◌, IfOk, IfSome, List, [], ◌∷◌
 ghost use Rattle.mdbox_base.specs.declared.metadata.LineForm.{LineForm};
 ghost use Rattle.model_base64.specs.Base64Text.{IsForm};
 
-use attach_join::{rejoin, rejoin_detached};
-use mdbox_base::{ExtRef, Hash, InstId, LineForm, NoMemory, Octets, Seq};
+use attach_join::{rejoin, rejoin_detached, rejoin_into};
+use mdbox_base::{ExtRef, Hash, InstId, InstRow, LineForm, NoMemory, Octets, Seq};
 use model_attach::JoinError;
 use std::alloc::Global;
 use std::test::Fail;
@@ -118,6 +118,57 @@ fn bodies_with_one_reference(rt: HostRuntime) -> Result<(), Fail> {
             Ok(octets) => assert!(rt; expected == Ok(octets.as_slice())),
             Err(error) => assert!(rt; expected == Err(error), "{error}"),
         }
+    }
+    Ok(())
+}
+
+/// The whole of a body with this reference to an instance, in memory that was taken before. None if there is none of this size.
+fn into_one(
+    alloc: Global,
+    body: &[u8],
+    whole: usize,
+    reference: ExtRef,
+    text: &[u8],
+) -> Result<Option<Vec<u8>>, NoMemory>
+    requires { IfSome reference.form IsForm }
+{
+    let mut out = Vec::with_capacity(alloc, whole)?;
+    let row = InstRow {
+        hash: reference.hash,
+        id: reference.id,
+        size: text.len() as u32,
+    };
+    if rejoin_into(&mut out, whole, body, &[reference], &[row], text) {
+        Ok(Some(out))
+    } else {
+        Ok(None)
+    }
+}
+
+/// A body, the size of its whole, a reference with the text of its instance, and the whole if there is one.
+type InPlace = (
+    &'static [u8],
+    usize,
+    ExtRef,
+    &'static [u8],
+    Option<&'static [u8]>,
+);
+
+#[test]
+fn bodies_in_memory_that_was_taken(rt: HostRuntime) -> Result<(), Fail> {
+    let good = reference(1, 3, None);
+    let form = reference(2, 9, Some(FORM));
+    let rows: [InPlace; 6] = [
+        (b"ab", 5, good, b"xyz", Some(b"axyzb")),
+        (b"ab", 11, form, b"foob", Some(b"abZm9v\nYg==")),
+        (b"ab", 6, good, b"xyz", None),
+        (b"ab", 4, good, b"xyz", None),
+        (b"ab", 9, reference(3, 3, None), b"xyz", None),
+        (b"ab", 5, good, b"xy", None),
+    ];
+    for (body, whole, reference, text, expected) in rows {
+        let out = into_one(rt.alloc(), body, whole, reference, text)?;
+        assert!(rt; out.as_deref() == expected);
     }
     Ok(())
 }
