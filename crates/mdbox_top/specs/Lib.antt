@@ -14,5 +14,6 @@ pub mod ListRun
 pub mod MoveRun
 pub mod OpeningOutcome
 pub mod Run
+pub mod SavedMail
 pub mod Served
 pub mod UnderWay
