@@ -10,7 +10,7 @@ use Rattle.storage_files.specs.OnDisk.{IsAddedTo, OthersAreNamed}
 use Rattle.store_core.proofs.MailChangeLemmas.{named_reads}
 use Rattle.store_core.specs.Keeping.{KeepsMail}
 use Rattle.store_core.specs.Value.{StoreValue}
-use Rattle.mail_save.specs.MailFiles.{HasAppended, HasTakenFile, ReadsOtherMail, ReadsSameMail}
+use Rattle.mail_save.specs.MailFiles.{HasAppended, TakesWithHeader, ReadsOtherMail, ReadsSameMail}
 use Rattle.mail_save.specs.SaveEffects.{StoresNone, TakesNone}
 use Rattle.mail_save.specs.Saved.{saved_region}
 use Rattle.mail_save.specs.declared.place.SavedAt.{SavedAt}
@@ -56,14 +56,14 @@ others_same file before after = between-map _ (OtherMail file) before after (λ 
 some_none : {A B : Type 0} → (end : A) (o : Option A) → o ≡ Some end → o ≡ None → B
 some_none end o some none = absurd (let k : Some end ≡ None = sym some ∙ none in cc k)
 
-pub took_known : {D : Type 0} → (header : List ℕ) (file end : ℕ) (old : StoreValue D) (before after : Option History) → end_in file old.files.files ≡ Some end → ReadsSameMail before after → HasTakenFile header file old before after
+pub took_known : {D : Type 0} → (header : List ℕ) (file end : ℕ) (old : StoreValue D) (before after : Option History) → end_in file old.files.files ≡ Some end → ReadsSameMail before after → TakesWithHeader header file old before after
 took_known header file end old before after there same = record {
   others = all_but file before after same;
   known = λ other some. same;
   made = λ none. some_none end (end_in file old.files.files) there none;
 }
 
-pub took_new : {D : Type 0} → (header : List ℕ) (file : ℕ) (old : StoreValue D) (before after : Option History) → end_in file old.files.files ≡ None → OthersAreNamed (Mail file) before after → IfTold after (λ now. Keeps (now (Mail file)) header) → HasTakenFile header file old before after
+pub took_new : {D : Type 0} → (header : List ℕ) (file : ℕ) (old : StoreValue D) (before after : Option History) → end_in file old.files.files ≡ None → OthersAreNamed (Mail file) before after → IfTold after (λ now. Keeps (now (Mail file)) header) → TakesWithHeader header file old before after
 took_new header file old before after none others keeps = record {
   others = others_named file before after others;
   known = λ end some. some_none end (end_in file old.files.files) some none;

@@ -18,7 +18,7 @@ abbrev pub ReadsOtherMail : ℕ → Option History → Option History → Type 0
 ReadsOtherMail file = Between (λ a b. ((number : ℕ) → number ≢ file → reading (b (Mail number)) ≡ reading (a (Mail number))) × ((hash id : List ℕ) → reading (b (Inst hash id)) ≡ reading (a (Inst hash id))))
 
 -- A storage file was taken: it was there, or it has this header alone, which a crash leaves.
-pub record HasTakenFile {D : Type 0} (header : List ℕ) (file : ℕ) (old : StoreValue D) (before after : Option History) : Type 0 where
+pub record TakesWithHeader {D : Type 0} (header : List ℕ) (file : ℕ) (old : StoreValue D) (before after : Option History) : Type 0 where
   pub others : ReadsOtherMail file before after
   pub known : (end : ℕ) → end_in file old.files.files ≡ Some end → ReadsSameMail before after
   pub made : end_in file old.files.files ≡ None → IfTold after (λ now. Keeps (now (Mail file)) header)
@@ -30,6 +30,6 @@ pub record HasAppended (name : List ℕ) (time : ℕ) (octets : List ℕ) (guid 
 
 -- By stage: one event takes a file, one adds to it, and the others write to none.
 abbrev pub WritesMail : {D : Type 0} → SaveStage → SaveStage → List ℕ → ℕ → StoreValue D → Option History → Option History → Type 0
-WritesMail (stage.Taking parts) (stage.Placing laid file) name time old before after = HasTakenFile parts.header file.0 old before after
+WritesMail (stage.Taking parts) (stage.Placing laid file) name time old before after = TakesWithHeader parts.header file.0 old before after
 WritesMail (stage.Placing parts file) (stage.Storing at origin room) name time old before after = (octets : List ℕ) → AreLaidOut name time octets parts → HasAppended name time octets at.guid.0 file.0 before after
 WritesMail now next name time old before after = ReadsSameMail before after

@@ -12,7 +12,7 @@ ghost use Rattle.storage_files.specs.Files.{end_in, is_taken_in};
 ghost use Rattle.store_core.specs.Dues.{KeepsStored};
 ghost use Rattle.store_core.specs.Files.{EndsWith};
 ghost use Rattle.mail_save.specs.Left.{HoldsFile, HoldsRegion};
-ghost use Rattle.mail_save.specs.MailFiles.{HasAppended, HasTakenFile};
+ghost use Rattle.mail_save.specs.MailFiles.{HasAppended, TakesWithHeader};
 ghost use Rattle.mail_save.specs.SaveEffects.{AreOtherEndsSame, IsLeftAlone, TakesFileFor, TakesNone};
 ghost use Rattle.mail_save.specs.Saved.{saved_region, no_guid, place_guid};
 
@@ -42,7 +42,7 @@ pub fn take_file<D: Disk>(store: &mut Store<D>, header: &[u8], size: u32) -> Res
     requires size { length header.now + size ≤ 4294967295 }
     ensures taken { IfOk result (λ file. HoldsFile file.0 size store.new) }
     ensures takes { IfOk result (λ file. TakesFileFor (length header.now) size file store.old store.new) }
-    ensures mail { IfOk result (λ file. HasTakenFile header.now file.0 store.old (D.history store.old.disk) (D.history store.new.disk)) }
+    ensures mail { IfOk result (λ file. TakesWithHeader header.now file.0 store.old (D.history store.old.disk) (D.history store.new.disk)) }
     ensures none { IfErr result (λ why. TakesNone size why store.old store.new) }
     ensures any_moment { (lists : Lists) → IsSettledFor lists (D.history store.old.disk) → Leaves lists lists (D.history store.old.disk) (D.history store.new.disk) }
     ensures settled { store.new.stopped ≡ false → (lists : Lists) → IsSettledFor lists (D.history store.old.disk) → IsSettledFor lists (D.history store.new.disk) }

@@ -48,7 +48,7 @@ use Rattle.mail_ops.specs.Task.{seen_of}
 use Rattle.mail_save.specs.Added.{HasRoomUnder, entry_added}
 use Rattle.mail_save.specs.Events.{box_refusal, uid_refusal, save_refusal}
 use Rattle.mail_save.specs.Left.{HoldsRegion}
-use Rattle.mail_save.specs.MailFiles.{HasAppended, HasTakenFile, ReadsSameMail, WritesMail}
+use Rattle.mail_save.specs.MailFiles.{HasAppended, TakesWithHeader, ReadsSameMail, WritesMail}
 use Rattle.mail_save.specs.Parts.{AreLaidOut, origin_of}
 use Rattle.mail_save.specs.Record.{entry_stored}
 use Rattle.mail_save.specs.SaveEffects.{TakesFileFor, TookAs, TakesNone, PlacesParts, StoresPlaced, StoresNone, AddsStored, LowersRecord, SaveEffects}
@@ -332,7 +332,7 @@ taken_as name time octets header size file (take.New new) s t h n is took =
 taken_as name time octets header size file take.Full s t h n is took = absurd took
 
 taken_alone : {D : Type 0} → (history : D → Option History) (name : List ℕ) (time : ℕ) (octets : List ℕ) (parts : SavedParts) (file : FileNo) (first s t : StoreValue D) → s ≡ first → s.stopped ≡ false → save_refusal name first ≡ None → IsStore (history s.disk) s → AreLaidOut name time octets parts
-    → TakesFileFor (length parts.header) (length parts.region) file s t → HasTakenFile parts.header file.0 s (history s.disk) (history t.disk) → TakenAlone history name time octets first t file
+    → TakesFileFor (length parts.header) (length parts.region) file s t → TakesWithHeader parts.header file.0 s (history s.disk) (history t.disk) → TakenAlone history name time octets first t file
 taken_alone history name time octets parts file first s t same runs free is laid took wrote = record {
   logs = taken_logs (length parts.header) (length parts.region) file first s t same took;
   free = free;

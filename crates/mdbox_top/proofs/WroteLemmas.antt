@@ -18,7 +18,7 @@ use Rattle.store_core.specs.Value.{StoreValue}
 use Rattle.store_files.specs.Regions.{has_region}
 use Rattle.store_sweep.specs.Moments.{IsFitted}
 use Rattle.store_sweep.specs.Swept.{IsSwept}
-use Rattle.mail_save.specs.MailFiles.{HasAppended, HasTakenFile, ReadsSameMail}
+use Rattle.mail_save.specs.MailFiles.{HasAppended, TakesWithHeader, ReadsSameMail}
 use Rattle.mail_save.specs.Saved.{saved_region}
 use Rattle.mail_save.specs.declared.place.SavedAt.{SavedAt}
 use Rattle.mdbox_top.specs.DeliverRun.{WroteMessage}
@@ -45,7 +45,7 @@ no_front : (o : Option (List ℕ)) → option_map length o ≡ None → o ≡ No
 no_front None e = refl
 no_front (Some front) e = absurd (let k : Some (length front) ≡ None = e in cc k)
 
-pub took_mail : {D : Type 0} → (time file : ℕ) (header : List ℕ) (old : StoreValue D) (before after : Option History) → header ≡ written_header time → IsAsKnown old.files.files file before → HasTakenFile header file old before after → TookMail time file before after
+pub took_mail : {D : Type 0} → (time file : ℕ) (header : List ℕ) (old : StoreValue D) (before after : Option History) → header ≡ written_header time → IsAsKnown old.files.files file before → TakesWithHeader header file old before after → TookMail time file before after
 took_mail time file header old before after is known t = by_end (end_in file old.files.files) refl
   where
     was_there : (end : ℕ) → end_in file old.files.files ≡ Some end → (a b : DiskState) → SameMail a b → option_map length (reading (a (Mail file))) ≡ end_in file old.files.files → MailTook time file a b

@@ -12,7 +12,7 @@ use Rattle.mail_save.proofs.HeldLemmas.{nothing_moves}
 use Rattle.mail_save.specs.Held.{save_amounts}
 use Rattle.mail_save.proofs.OtherLemmas.{taking_keeps, untaken_keeps}
 use Rattle.mail_save.proofs.MailFileLemmas.{untaken_mail}
-use Rattle.mail_save.specs.MailFiles.{HasTakenFile}
+use Rattle.mail_save.specs.MailFiles.{TakesWithHeader}
 use Rattle.mail_save.proofs.task.taking.Goals as goal
 
 pub overflow_cast-size : goal.overflow_cast-size
@@ -45,7 +45,7 @@ returns-in-Ok g c = λ size.
       left = λ e. (c.requires.message, subst (λ n. HoldsFile c.in-Ok.file.0 n c.take_file.new.store) c.length-size.ensures o.taken);
       fewer = λ e. omega arith;
       effects = (refl, takes_as _ _ _ _ c.in-Ok.file c.args.store.now c.take_file.new.store c.as_slice.ensures c.length-size.ensures o.takes);
-      mail = λ ran. subst (λ (h : List ℕ). HasTakenFile h c.in-Ok.file.0 c.args.store.now (g.D.Disk.history c.args.store.now.disk) (g.D.Disk.history c.take_file.new.store.disk)) c.as_slice.ensures o.mail;
+      mail = λ ran. subst (λ (h : List ℕ). TakesWithHeader h c.in-Ok.file.0 c.args.store.now (g.D.Disk.history c.args.store.now.disk) (g.D.Disk.history c.take_file.new.store.disk)) c.as_slice.ensures o.mail;
       idle = λ e. ap (λ v. g.D.Disk.history v.disk) e;
       spared = λ ran. spared_kept c.args.store.now c.take_file.new.store _ _ (ap (λ v. v.map) o.same) (o.stored ran);
       others = taking_keeps c.args.parts _ _ c.in-Ok.file c.args.store.now c.take_file.new.store o.takes;
