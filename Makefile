@@ -21,14 +21,17 @@ demo: all
 check:
 	.ci/run
 
-# Times the program on a storage file of 200 MB, a log of 100 MB and a store of 10,000 messages, taking messages apart, and
-# appends to a log.
+# Times the program on a storage file of 200 MB, a log of 100 MB and stores of up to 100,000 messages, taking messages apart,
+# and appends to a log.
 bench: all
 	bench/dump
 	bench/logdump
 	cd crates/parts_bench && rt run -- read <stdin
 	bench/parts
 	bench/open
+	bench/fetch
+	bench/deliver
+	bench/ops
 	cd crates/log_bench && rt run -- 1
 	bench/sync
 

@@ -17,6 +17,13 @@ pub mod KeptRowLemmas
 pub mod KeptUidLemmas
 pub mod ListEventLemmas
 pub mod LoweringLemmas
+pub mod MakeCallLemmas
+pub mod MakeCheckLemmas
+pub mod MakeEventLemmas
+pub mod MakeLogLemmas
+pub mod MakeNamedLemmas
+pub mod MakeStageLemmas
+pub mod MakeStepLemmas
 pub mod MessageLemmas
 pub mod MoveEventLemmas
 pub mod MoveKnownLemmas

@@ -8,6 +8,8 @@ pub mod Expunging
 pub mod Flagging
 pub mod Keeping
 pub mod Listing
+pub mod MakeStages
+pub mod Making
 pub mod Messages
 pub mod MoveStages
 pub mod Moving

@@ -21,11 +21,13 @@ ghost use Rattle.task_steps.specs.Step.{IsKept};
 ghost use Rattle.mail_ops.specs.Copy.{IsAtCopy, IsReadyToCopy, copy_amounts};
 ghost use Rattle.mail_ops.specs.Expunging.{IsAtExpunge};
 ghost use Rattle.mail_ops.specs.Keeping.{both_amounts};
+ghost use Rattle.mail_ops.specs.Making.{IsAtMake, IsReadyToMake, HaveOtherLogs, LeavesLogs};
 ghost use Rattle.mail_ops.specs.Moving.{IsAtMove, IsReadyToMove, move_amounts};
 ghost use Rattle.mail_ops.specs.Owing.{AreDueIn};
 ghost use Rattle.mail_ops.specs.Task.{IsAt};
 ghost use Rattle.mail_ops.specs.declared.copy.CopyStage.{CopyStage};
 ghost use Rattle.mail_ops.specs.declared.expunging.ExpungeStage.{ExpungeStage};
+ghost use Rattle.mail_ops.specs.declared.making.MakeStage.{MakeStage};
 ghost use Rattle.mail_ops.specs.declared.moving.MoveStage.{MoveStage};
 ghost use Rattle.mail_ops.specs.declared.task.TaskStage.{TaskStage};
 
@@ -46,9 +48,14 @@ pub fn copy_stages_are_kept()
     ensures { (stage : CopyStage) → IsKept (IsAtCopy stage) }
 {}
 
-/// And those of a move.
+/// Those of a move.
 pub fn move_stages_are_kept()
     ensures { (uid : Uid) (stage : MoveStage) → IsKept (IsAtMove uid stage) }
+{}
+
+/// And those of a make.
+pub fn make_stages_are_kept()
+    ensures { (stage : MakeStage) → IsKept (IsAtMake stage) }
 {}
 
 /// The event of a task leaves the others ready for theirs. What they hold and owe is due behind it too, if it was together with
@@ -59,6 +66,12 @@ pub fn others_stay_ready<D: Disk>()
         → IsReadyToCopy name uid now old → IsReadyToCopy name uid now new }
     ensures moves { (mine mine_now : Amounts) (name : List ℕ) (uid : Uid) (now : MoveStage) (old new : StoreValue D) → Moves mine mine_now (amounts_in old) (amounts_in new) → KeepsUids old new → AreDueIn old (both_amounts mine (move_amounts now))
         → IsReadyToMove name uid now old → IsReadyToMove name uid now new }
+{}
+
+/// A make whose log isn't the task's own stays ready too, where the event leaves the logs, and a log that it makes is another.
+pub fn makes_stay_ready<D: Disk>()
+    ensures ready { (mine mine_now other : MakeStage) (old new : StoreValue D) → LeavesLogs mine mine_now old new → HaveOtherLogs mine other → IsReadyToMake other old → IsReadyToMake other new }
+    ensures apart { (mine mine_now other : MakeStage) (old new : StoreValue D) → LeavesLogs mine mine_now old new → HaveOtherLogs mine other → IsReadyToMake other old → HaveOtherLogs mine_now other }
 {}
 
 /// Where lists are shown, what the logs of the mailboxes mean is what the list machine answers a listing.

@@ -7,9 +7,11 @@ pub use event::NotDone;
 pub use expunging::{ExpungeStage, ExpungeTask};
 pub use laws::{
     copy_stages_are_kept, expunge_stages_are_kept, flags_are_shown, listings_are_answered,
-    move_stages_are_kept, others_stay_ready, task_stages_are_kept,
+    make_stages_are_kept, makes_stay_ready, move_stages_are_kept, others_stay_ready,
+    task_stages_are_kept,
 };
 pub use lowering::Lowering;
+pub use making::{MakeStage, MakeTask};
 pub use moving::{MoveStage, MoveTask};
 pub use task::{OpsTask, TaskStage};
 
@@ -23,6 +25,7 @@ mod laws;
 mod leaving;
 mod listing;
 mod lowering;
+mod making;
 mod message;
 mod moving;
 mod task;

@@ -5,7 +5,7 @@ use Rattle.std.specs.List.{AllByRecursion, list_any}
 use Rattle.std.specs.Str.{bytes_eq}
 use Rattle.std.proofs.lemmas.Bool.{cases_Bool, false≢true}
 use Rattle.std.proofs.lemmas.List.{length-append}
-use Rattle.std.proofs.lemmas.List.Elements.{All-contains, All-head, All-tail}
+use Rattle.std.proofs.lemmas.List.Elements.{All-nil, All-contains, All-head, All-tail}
 use Rattle.std.proofs.lemmas.List.Sums.{sum_by-cons}
 use Rattle.std.proofs.lemmas.Slice.Eq.{bytes_eq-Decides}
 use Rattle.std.proofs.Math.Seq.{drop-append_seam, take-length}
@@ -30,7 +30,7 @@ use Rattle.model_store.specs.Settled.{IsSettledFor, files_of}
 use Rattle.model_store.specs.Stands.{AreListed, StoresMessage}
 use Rattle.store_core.specs.Dues.{KeepsStored}
 use Rattle.store_core.specs.Files.{EndsWith}
-use Rattle.store_core.specs.MapAppend.{IsSyncedRegion, StoresDetached}
+use Rattle.store_core.specs.MapAppend.{IsSyncedRegion, HasItsHash, IsOwnSave}
 use Rattle.store_core.specs.Running.{IsStore}
 use Rattle.store_core.specs.Value.{StoreValue, indexes_of, references_to}
 use Rattle.mail_save.specs.Added.{entry_added}
@@ -96,10 +96,10 @@ region_ready at origin time name octets after is can sixteen each long placed he
   written = λ uid. if_told-map _ _ after (λ now e. region_there at origin uid (saved_region name time octets at.guid.0) now long e) placed;
   stores = λ uid. if_told-map _ _ after (λ now e. stored uid now e) placed;
   ready = λ uid lists s.
-      if_told-both _ _ (λ now. IsSyncedRegion now (saved_row origin uid at) × (origin ≡ 0 → StoresDetached (files_of now) (saved_row origin uid at))) after
+      if_told-both _ _ (λ now. IsSyncedRegion now (saved_row origin uid at) × (origin ≡ 0 → IsOwnSave (files_of now) (saved_row origin uid at))) after
       (λ now e leaves. (
         region_synced at origin uid (saved_region name time octets at.guid.0) now long e leaves,
-        λ own other kept. region_detached (files_of now) (saved_row origin uid at) octets other (stored uid now e) refl (own_is_whole octets (sym is ∙ own)) kept,
+        λ own. (λ other kept. region_detached (files_of now) (saved_row origin uid at) octets other (stored uid now e) refl (own_is_whole octets (sym is ∙ own)) kept, All-nil (HasItsHash (files_of now))),
       )) placed (held lists s);
 }
   where

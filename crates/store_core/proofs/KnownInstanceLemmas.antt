@@ -1,10 +1,10 @@
 -- What a store knows of its instances, over changes of other files and entries of the map log.
 use Rattle.std.specs.Prelude.{◌⊎◌, Contains, not, filter}
-use Rattle.std.proofs.Common.{inl, inr, ◌≡◌, ◌≢◌, ℕ, Bool, true, false, List, [], ◌∷◌, ◌++◌, map, flat_map, Option, Some, All, if◌then◌else◌, refl, sym, ◌∙◌, ap, subst, append-nil}
+use Rattle.std.proofs.Common.{inl, inr, ◌≡◌, ◌≢◌, ℕ, Bool, true, false, List, [], ◌∷◌, ◌++◌, map, flat_map, get_or, Option, Some, None, All, if◌then◌else◌, refl, sym, ◌∙◌, ap, subst}
 use Rattle.std.proofs.lemmas.Bool.{cond-true, true≢false}
 use Rattle.std.proofs.lemmas.Grind.{flat_map-append}
 use Rattle.std.specs.Option.{option_map}
-use Rattle.std.proofs.lemmas.List.Elements.{All-nil, All-cons, All-head, All-tail, All-contains, All-contains_itself, All-weaker}
+use Rattle.std.proofs.lemmas.List.Elements.{All-nil, All-cons, All-head, All-tail, All-contains, All-append, All-contains_itself, All-weaker, Contains-append_left}
 use Rattle.disk_model.specs.Disk.{FileState, DiskState, History, MayLeave, IfTold, Between, SameState, SameButFor, reading, named}
 use Rattle.disk_model.specs.declared.name.FileName.{FileName}
 use Rattle.disk_model.specs.declared.name.FileName.TheVariants as file
@@ -17,22 +17,23 @@ use Rattle.mdbox_base.specs.declared.entries.InstRow.{InstRow}
 use Rattle.mdbox_base.specs.declared.entries.MapEntry.{MapEntry}
 use Rattle.mdbox_base.specs.declared.entries.MapEntry.TheVariants as entry
 use Rattle.mdbox_base.specs.declared.ids.InstId.{InstId}
-use Rattle.model_appends.specs.Appending.{LeavesAsRead}
+use Rattle.model_appends.specs.MapAppending.{stored_row}
 use Rattle.model_meaning.specs.MapMeaning.{MapRecord, MapMeaning, map_applied, record_made, record_changed, record_dropped, record_rules, named_instances}
-use Rattle.model_meaning.proofs.KeptRowLemmas.{kept_rows}
+use Rattle.model_meaning.proofs.KeptRowLemmas.{kept_all, kept_rows}
 use Rattle.model_meaning.proofs.MapPlaceLemmas.{changed_same}
 use Rattle.model_store.specs.Safe.{IsThereWhole}
 use Rattle.model_store.specs.Settled.{files_of}
 use Rattle.sis_store.specs.Instances.{InstancesValue, instance_in, has_id, with_holders}
 use Rattle.sis_store.specs.declared.instance.KnownInstance.{KnownInstance}
 use Rattle.storage_files.specs.OnDisk.{OthersAreNamed}
-use Rattle.store_core.specs.MapAppend.{IsAppendable, drawn_by}
+use Rattle.store_core.specs.MapAppend.{IsAppendable, NamesKnown, NamesFirst, drawn_by}
 use Rattle.store_core.specs.Running.{IsStore}
-use Rattle.store_core.specs.StoreInstances.{IsKnownRow, AreInstancesKept, IsNamedOrFirm, AreInstancesThere, HasKnownInstances}
+use Rattle.store_core.specs.StoreInstances.{IsOtherThan, IsFirstKnown, IsFirmInstance, IsKnownRow, AreInstancesKept, AreInstancesThere, HasKnownInstances}
 use Rattle.store_core.specs.Value.{StoreValue}
 use Rattle.store_core.specs.declared.store.OpenBox.{OpenBox}
 use Rattle.store_core.proofs.BoxAppendLemmas.{Placed, own_box}
 use Rattle.store_core.proofs.EntryFileLemmas.{LeavesPlaces, none_dropped}
+use Rattle.store_core.proofs.InstanceAppendLemmas.{names_made}
 use Rattle.store_core.proofs.MailChangeLemmas.{named_reads}
 use Rattle.store_core.proofs.MapAppendLemmas.{leaves_places}
 
@@ -83,16 +84,36 @@ box_is_none name number generation is = λ h i e. absurd (let w : file.Inst h i 
 abbrev pub NamesAll : MapMeaning → MapMeaning → Type 0
 NamesAll m n = (row : InstRow) → Contains (named_instances m) row → Contains (named_instances n) row
 
-there_on : (known : List KnownInstance) (m n : MapMeaning) (a b : DiskState) → NamesAll m n → KeepsInstances a b → AreInstancesThere known m a → AreInstancesThere known n b
-there_on known m n a b names c t = record {
+-- no own save names a later instance with this one's octets
+abbrev pub IsOtherAll : MapMeaning → DiskState → InstRow → Type 0
+IsOtherAll m disk row = All (λ own. own.origin ≡ 0 → All (λ inst. IsOtherThan disk inst row) own.instances) m.records
+
+-- and none does by the other map
+abbrev pub KeepsOther : List KnownInstance → MapMeaning → MapMeaning → DiskState → Type 0
+KeepsOther known m n disk = All (λ k. IsOtherAll m disk k.row → IsOtherAll n disk k.row) known
+
+other_on : (m : MapMeaning) (a b : DiskState) (row : InstRow) → KeepsInstances a b → IsOtherAll m a row → IsOtherAll m b row
+other_on m a b row c h =
+    All-weaker (λ (own : MapRecord). own.origin ≡ 0 → All (λ inst. IsOtherThan a inst row) own.instances) (λ (own : MapRecord). own.origin ≡ 0 → All (λ inst. IsOtherThan b inst row) own.instances)
+    (λ own f origin. All-weaker (λ (inst : InstRow). IsOtherThan a inst row) (λ (inst : InstRow). IsOtherThan b inst row)
+    (λ inst g kind before e. g kind before (sym (c.reads row.hash.0 row.id.0) ∙ e ∙ c.reads inst.hash.0 inst.id.0)) own.instances (f origin)) m.records h
+
+there_on : (known : List KnownInstance) (m n : MapMeaning) (a b : DiskState) → NamesAll m n → KeepsOther known m n a → KeepsInstances a b → AreInstancesThere known m a → AreInstancesThere known n b
+there_on known m n a b names others c t = record {
   whole = All-weaker (λ (k : KnownInstance). IsThereWhole (files_of a) k.row) (λ (k : KnownInstance). IsThereWhole (files_of b) k.row)
       (λ k w. record { octets = w.octets; there = c.reads k.row.hash.0 k.row.id.0 ∙ w.there; size = w.size }) known t.whole;
-  firm = All-weaker (IsNamedOrFirm m a) (IsNamedOrFirm n b) (λ k f. elim f [
-    | inl is ↦ inl (names k.row is)
-    | inr firm ↦ inr (λ left may. firm left (c.leaves k.row.hash.0 k.row.id.0 left may) ∙ sym (c.reads k.row.hash.0 k.row.id.0))
-  ]) known t.firm;
+  firm = λ i d lt. elim (t.firm i d lt) [
+    | inl is ↦ inl (names (get_or known i d).row is)
+    | inr firm ↦ inr (record {
+      left = λ left may. firm.left left (c.leaves (get_or known i d).row.hash.0 (get_or known i d).row.id.0 left may) ∙ sym (c.reads (get_or known i d).row.hash.0 (get_or known i d).row.id.0);
+      other = other_on n a b (get_or known i d).row c (others i d lt firm.other);
+    })
+  ];
   only = λ hash id octets e. t.only hash id octets (sym (c.reads hash id) ∙ e);
 }
+
+other_stays : (known : List KnownInstance) (m : MapMeaning) (disk : DiskState) → KeepsOther known m m disk
+other_stays known m disk = λ i d lt h. h
 
 -- ---- the store
 
@@ -104,7 +125,7 @@ instances_on old new v w k change instances drawn m runs = record {
       (subst (λ (n : MapMeaning). AreInstancesKept v.instances w.drawn n) (sym m) (record { store = k.kept.store; highest = k.kept.highest ∙ sym drawn; named = k.kept.named }));
   running = λ on. subst (λ (i : InstancesValue). IfTold new (AreInstancesThere i.known w.map)) (sym instances)
       (subst (λ (n : MapMeaning). IfTold new (AreInstancesThere v.instances.known n)) (sym m)
-      (between-on KeepsInstances (AreInstancesThere v.instances.known v.map) (AreInstancesThere v.instances.known v.map) old new (λ a b c t. there_on v.instances.known v.map v.map a b (λ row is. is) c t) change (k.running (runs on))));
+      (between-on KeepsInstances (AreInstancesThere v.instances.known v.map) (AreInstancesThere v.instances.known v.map) old new (λ a b c t. there_on v.instances.known v.map v.map a b (λ row is. is) (other_stays v.instances.known v.map a) c t) change (k.running (runs on))));
 }
 
 -- stopped after a change that failed
@@ -173,7 +194,7 @@ contains_map f xs x c = All-contains (λ y. Contains (map f xs) (f y)) xs x (bac
 there_held : (id : InstId) (holders : ℕ) (known : List KnownInstance) (m : MapMeaning) (disk : DiskState) → AreInstancesThere known m disk → AreInstancesThere (with_holders id holders known) m disk
 there_held id holders known m disk t = record {
   whole = all_held (IsThereWhole (files_of disk)) id holders known t.whole;
-  firm = all_held (λ row. Contains (named_instances m) row ⊎ LeavesAsRead (file.Inst row.hash.0 row.id.0) disk) id holders known t.firm;
+  firm = all_held (λ row. Contains (named_instances m) row ⊎ IsFirmInstance m disk row) id holders known t.firm;
   only = λ hash other octets e.
       let k = t.only hash other octets e in
       (if has_id id k.0 then record k.0 { holders = holders } else k.0, contains_map (λ (j : KnownInstance). if has_id id j then record j { holders = holders } else j) known k.0 k.1, ap (λ (row : InstRow). file.Inst row.hash.0 row.id.0) (same_row (has_id id k.0) k.0) ∙ k.2);
@@ -242,20 +263,41 @@ names_kept e (row ∷ rows) l =
 pub names_with : (e : MapEntry) (m : MapMeaning) → LeavesPlaces e → named_instances (map_applied e m) ≡ named_instances m ++ names_of (record_made e)
 names_with e m l = flat_map-append (λ (row : MapRecord). row.instances) (kept_rows record_rules e m.records) (record_made e) ∙ ap (λ (is : List InstRow). is ++ names_of (record_made e)) (names_kept e m.records l)
 
--- which are none yet
-none_made : (e : MapEntry) → IsAppendable e → names_of (record_made e) ≡ []
-none_made (entry.U u) k = refl
-none_made (entry.D us) k = refl
-none_made (entry.T cs) k = refl
-none_made (entry.S o c u f p z g is) k = append-nil is ∙ k.1
-none_made (entry.H h) k = absurd k
-none_made (entry.B b g n) k = absurd k
-none_made (entry.G b g) k = absurd k
-none_made (entry.P f t ms us) k = absurd k
-none_made (entry.E f) k = absurd k
+names_more : (e : MapEntry) (m : MapMeaning) → LeavesPlaces e → NamesAll m (map_applied e m)
+names_more e m l = λ row is. subst (λ (rows : List InstRow). Contains rows row) (sym (names_with e m l)) (Contains-append_left (named_instances m) (names_of (record_made e)) row is)
 
-names_stay : (e : MapEntry) (m : MapMeaning) → IsAppendable e → named_instances (map_applied e m) ≡ named_instances m
-names_stay e m k = names_with e m (leaves_places e k) ∙ ap (λ (is : List InstRow). named_instances m ++ is) (none_made e k) ∙ append-nil (named_instances m)
+all_known : (known : List KnownInstance) (e : MapEntry) (m : MapMeaning) → LeavesPlaces e → NamesKnown e known → All (IsKnownRow known) (named_instances m) → All (IsKnownRow known) (named_instances (map_applied e m))
+all_known known e m l names all =
+    subst (All (IsKnownRow known)) (sym (names_with e m l)) (All-append (IsKnownRow known) (named_instances m) (names_of (record_made e)) all (names_made e known names))
+
+-- none of the known instances has the octets of a later one that the record names
+other_made : (known : List KnownInstance) (e : MapEntry) (h : History) → NamesFirst e known (Some h) → All (λ k. All (λ own. own.origin ≡ 0 → All (λ inst. IsOtherThan h.now inst k.row) own.instances) (record_made e)) known
+other_made known (entry.S o c u f p z g is) h first = λ i d lt.
+    let row : InstRow = (get_or known i d).row in
+    All-cons (λ (own : MapRecord). own.origin ≡ 0 → All (λ inst. IsOtherThan h.now inst row) own.instances) (stored_row o c u f p z g is) []
+    (λ own. All-weaker (IsFirstKnown known h.now) (λ (inst : InstRow). IsOtherThan h.now inst row) (λ inst q. q i d lt) is (first own))
+    (All-nil (λ (own : MapRecord). own.origin ≡ 0 → All (λ inst. IsOtherThan h.now inst row) own.instances))
+other_made known (entry.U u) h first = λ i d lt. All-nil (λ (own : MapRecord). own.origin ≡ 0 → All (λ inst. IsOtherThan h.now inst (get_or known i d).row) own.instances)
+other_made known (entry.D us) h first = λ i d lt. All-nil (λ (own : MapRecord). own.origin ≡ 0 → All (λ inst. IsOtherThan h.now inst (get_or known i d).row) own.instances)
+other_made known (entry.T cs) h first = λ i d lt. All-nil (λ (own : MapRecord). own.origin ≡ 0 → All (λ inst. IsOtherThan h.now inst (get_or known i d).row) own.instances)
+other_made known (entry.H x) h first = λ i d lt. All-nil (λ (own : MapRecord). own.origin ≡ 0 → All (λ inst. IsOtherThan h.now inst (get_or known i d).row) own.instances)
+other_made known (entry.B b g n) h first = λ i d lt. All-nil (λ (own : MapRecord). own.origin ≡ 0 → All (λ inst. IsOtherThan h.now inst (get_or known i d).row) own.instances)
+other_made known (entry.G b g) h first = λ i d lt. All-nil (λ (own : MapRecord). own.origin ≡ 0 → All (λ inst. IsOtherThan h.now inst (get_or known i d).row) own.instances)
+other_made known (entry.P f t ms us) h first = λ i d lt. All-nil (λ (own : MapRecord). own.origin ≡ 0 → All (λ inst. IsOtherThan h.now inst (get_or known i d).row) own.instances)
+other_made known (entry.E f) h first = λ i d lt. All-nil (λ (own : MapRecord). own.origin ≡ 0 → All (λ inst. IsOtherThan h.now inst (get_or known i d).row) own.instances)
+
+other_with : (known : List KnownInstance) (e : MapEntry) (m : MapMeaning) (h : History) → NamesFirst e known (Some h) → KeepsOther known m (map_applied e m) h.now
+other_with known e m h first = λ i d lt others.
+    let row : InstRow = (get_or known i d).row in
+    All-append (λ (own : MapRecord). own.origin ≡ 0 → All (λ inst. IsOtherThan h.now inst row) own.instances) (kept_rows record_rules e m.records) (record_made e)
+    (kept_all record_rules e m.records (λ own. own.origin ≡ 0 → All (λ inst. IsOtherThan h.now inst row) own.instances) (λ own. own.origin ≡ 0 → All (λ inst. IsOtherThan h.now inst row) own.instances)
+    (λ own f origin. let same = changed_same e own in subst (All (λ (inst : InstRow). IsOtherThan h.now inst row)) (sym same.instances) (f (sym same.origin ∙ origin))) others)
+    (other_made known e h first i d lt)
+
+there_with : (known : List KnownInstance) (e : MapEntry) (m : MapMeaning) (old new : Option History) → LeavesPlaces e → NamesFirst e known old → Between KeepsInstances old new → IfTold old (AreInstancesThere known m) → IfTold new (AreInstancesThere known (map_applied e m))
+there_with known e m None new l first change t = subst (λ (h : Option History). IfTold h (AreInstancesThere known (map_applied e m))) (sym change) tt
+there_with known e m (Some old) None l first change t = absurd change
+there_with known e m (Some old) (Some new) l first change t = there_on known m (map_applied e m) old.now new.now (names_more e m l) (other_with known e m old first) change t
 
 none_drawn : (e : MapEntry) (drawn : Highest) → (drawn_by e drawn).instance ≡ drawn.instance
 none_drawn (entry.U u) drawn = refl
@@ -268,19 +310,18 @@ none_drawn (entry.G b g) drawn = refl
 none_drawn (entry.P f t ms us) drawn = refl
 none_drawn (entry.E f) drawn = refl
 
-pub instances_with : {D : Type 0} → (name : FileName) (generation : ℕ) (old new : Option History) (v w : StoreValue D) (e : MapEntry) → HasKnownInstances old v → IsAppendable e → name ≡ file.Map generation → SameButFor name old new
+pub instances_with : {D : Type 0} → (name : FileName) (generation : ℕ) (old new : Option History) (v w : StoreValue D) (e : MapEntry) → HasKnownInstances old v → IsAppendable e → NamesKnown e v.instances.known → NamesFirst e v.instances.known old → name ≡ file.Map generation → SameButFor name old new
     → w.instances ≡ v.instances → w.drawn ≡ drawn_by e v.drawn → w.map ≡ map_applied e v.map → (w.stopped ≡ false → v.stopped ≡ false) → HasKnownInstances new w
-instances_with name generation old new v w e k kind is same instances drawn m runs = record {
+instances_with name generation old new v w e k kind names first is same instances drawn m runs = record {
   kept = subst (λ (i : InstancesValue). AreInstancesKept i w.drawn w.map) (sym instances)
       (subst (λ (n : MapMeaning). AreInstancesKept v.instances w.drawn n) (sym m) (record {
         store = k.kept.store;
         highest = k.kept.highest ∙ sym (none_drawn e v.drawn) ∙ ap (λ (d : Highest). d.instance) (sym drawn);
-        named = subst (λ (rows : List InstRow). All (IsKnownRow v.instances.known) rows) (sym (names_stay e v.map kind)) k.kept.named;
+        named = all_known v.instances.known e v.map (leaves_places e kind) names k.kept.named;
       }));
   running = λ on. subst (λ (i : InstancesValue). IfTold new (AreInstancesThere i.known w.map)) (sym instances)
       (subst (λ (n : MapMeaning). IfTold new (AreInstancesThere v.instances.known n)) (sym m)
-      (between-on KeepsInstances (AreInstancesThere v.instances.known v.map) (AreInstancesThere v.instances.known (map_applied e v.map)) old new
-      (λ a b c t. there_on v.instances.known v.map (map_applied e v.map) a b (λ row is. subst (λ (rows : List InstRow). Contains rows row) (sym (names_stay e v.map kind)) is) c t) (instances_beside name old new (map_is_none name generation is) same) (k.running (runs on))));
+      (there_with v.instances.known e v.map old new (leaves_places e kind) first (instances_beside name old new (map_is_none name generation is) same) (k.running (runs on))));
 }
 
 -- ---- the log of a mailbox
@@ -289,6 +330,9 @@ instances_with name generation old new v w e k kind is same instances drawn m ru
 pub instances_logged : {D : Type 0} → (number : ℕ) (old new : Option History) (v w : StoreValue D) → HasKnownInstances old v → OthersAreNamed (file.Box number 1) old new → w.instances ≡ v.instances → w.drawn.instance ≡ v.drawn.instance → w.map ≡ v.map → (w.stopped ≡ false → v.stopped ≡ false)
     → HasKnownInstances new w
 instances_logged number old new v w k same instances drawn m runs = instances_on old new v w k (instances_named (file.Box number 1) old new (box_is_none (file.Box number 1) number 1 refl) same) instances drawn m runs
+
+other_named : (known : List KnownInstance) (m n : MapMeaning) (disk : DiskState) → n.records ≡ m.records → KeepsOther known m n disk
+other_named known m n disk records = λ i d lt h. subst (All (λ (own : MapRecord). own.origin ≡ 0 → All (λ inst. IsOtherThan disk inst (get_or known i d).row) own.instances)) (sym records) h
 
 -- named by an entry of the map log, which leaves the records as they are
 pub instances_naming : {D : Type 0} → (name : FileName) (generation : ℕ) (old new : Option History) (v w : StoreValue D) → HasKnownInstances old v → name ≡ file.Map generation → SameButFor name old new → w.instances ≡ v.instances → w.drawn.instance ≡ v.drawn.instance
@@ -301,5 +345,5 @@ instances_naming name generation old new v w k is same instances drawn store rec
   });
   running = λ on. subst (λ (i : InstancesValue). IfTold new (AreInstancesThere i.known w.map)) (sym instances)
       (between-on KeepsInstances (AreInstancesThere v.instances.known v.map) (AreInstancesThere v.instances.known w.map) old new
-      (λ a b c t. there_on v.instances.known v.map w.map a b (λ row in_it. subst (λ (rows : List MapRecord). Contains (names_of rows) row) (sym records) in_it) c t) (instances_beside name old new (map_is_none name generation is) same) (k.running (runs on)));
+      (λ a b c t. there_on v.instances.known v.map w.map a b (λ row in_it. subst (λ (rows : List MapRecord). Contains (names_of rows) row) (sym records) in_it) (other_named v.instances.known v.map w.map a records) c t) (instances_beside name old new (map_is_none name generation is) same) (k.running (runs on)));
 }

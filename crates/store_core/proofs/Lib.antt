@@ -5,6 +5,8 @@ pub mod DueChangeLemmas
 pub mod DueLemmas
 pub mod EntryFileLemmas
 pub mod HighestFileLemmas
+pub mod InstanceAppendLemmas
+pub mod InstanceNumberLemmas
 pub mod KeptFileLemmas
 pub mod KeptMailLemmas
 pub mod KnownInstanceLemmas

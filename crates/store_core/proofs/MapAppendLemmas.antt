@@ -10,7 +10,6 @@ use Rattle.gate_log.specs.Log.{Reads}
 use Rattle.log_records.proofs.EntrySizeLemmas.{lowered_size, counted_size, stored_size}
 use Rattle.mdbox_base.specs.declared.entries.BoxEntry.{BoxEntry}
 use Rattle.mdbox_base.specs.declared.entries.Highest.{Highest}
-use Rattle.mdbox_base.specs.declared.entries.InstRow.{InstRow}
 use Rattle.mdbox_base.specs.declared.entries.MapEntry.{MapEntry}
 use Rattle.mdbox_base.specs.declared.entries.MapEntry.TheVariants as entry
 use Rattle.model_appends.specs.Amounts.{IsAccounted, due_by, leak_by}
@@ -32,18 +31,22 @@ use Rattle.model_store.specs.Safe.{LiesInFile, IsThereWhole}
 use Rattle.model_store.specs.Settled.{files_of}
 use Rattle.model_store.specs.Stands.{HasRoot, HasBox}
 use Rattle.store_core.specs.Dues.{number_beside, due_at, listed_at, leak_at}
-use Rattle.store_core.specs.MapAppend.{IsAppendable, HasDrawnNumbers, FitsDue, HasRegion, drawn_by, dues_with}
+use Rattle.store_core.specs.MapAppend.{IsAppendable, HasDrawnNumbers, FitsDue, HasRegion, NamesKnown, NamesFirst, HasOctetIds, drawn_by, dues_with}
 use Rattle.store_core.specs.Running.{AreBoxLogs, ReadBoxLogs, IsRunning, CoverDues, IsStore, HasEntryRoom}
+use Rattle.store_core.specs.StoreInstances.{AreInstancesThere, HasKnownInstances}
 use Rattle.store_core.specs.Value.{StoreValue, entry_room}
 use Rattle.store_core.specs.declared.store.OpenBox.{OpenBox}
 use Rattle.store_core.proofs.BoxAppendLemmas.{dues_of, store_sound, disk_more, root_stays}
 use Rattle.store_core.proofs.DueLemmas.{OneEach, dues_each, listed_meant, covered_by, store_counts}
 use Rattle.store_core.proofs.DueChangeLemmas.{as_many, number_few}
 use Rattle.store_core.proofs.MapDueLemmas.{adds, no_box, logs_stay, mailboxes_stay, found_made, map_due_is, map_dues_are, may_change, new_record, beside_none, leak_is, no_leak, leak_none, lost_with, drawn_up_to}
+use Rattle.store_core.proofs.InstanceAppendLemmas.{rows_made}
+use Rattle.store_core.proofs.InstanceNumberLemmas.{AreNumbersDrawn, numbers_drawn}
 use Rattle.store_core.proofs.PickingLemmas.{reads_other}
 use Rattle.store_core.proofs.EntryFileLemmas.{LeavesPlaces, kept_applied, stay_applied}
 use Rattle.store_core.proofs.MailChangeLemmas.{known_beside, stay_beside}
 use Rattle.store_core.specs.Files.{LiesBelowEnd, StayThere}
+use Rattle.sis_store.specs.Instances.{AreInstances}
 use Rattle.storage_files.specs.Files.{FilesValue}
 use Rattle.storage_files.specs.OnDisk.{IsAsKnown}
 use Rattle.disk_model.proofs.MomentLemmas.{if_told-map}
@@ -60,6 +63,10 @@ pub record Readied {D : Type 0} (h : Option History) (v : StoreValue D) (e : Map
   pub due : FitsDue e (λ uid. due_at uid v) (λ uid. listed_at uid v)
   pub below : All (LiesBelowEnd v.map.store v.files.files) (record_made e)
   pub region : HasRegion e h
+  pub known : HasKnownInstances h v
+  pub names : NamesKnown e v.instances.known
+  pub first : NamesFirst e v.instances.known h
+  pub numbers : AreNumbersDrawn e v.map.store v.drawn.instance
 
 -- such an entry leaves each record where it is, seals nothing, and draws no file number
 pub leaves_places : (e : MapEntry) → IsAppendable e → LeavesPlaces e
@@ -135,8 +142,10 @@ pub seen_prepared : {D : Type 0} → (v now : StoreValue D) (log : LogState) (m 
 seen_prepared v now log m dues is a b c = prepared_is v log m dues a b c ∙ ap (λ (x : StoreValue _). record x { map_log = record x.map_log { room = log.room } }) is
 
 pub readied : {D : Type 0} → (h : Option History) (v now : StoreValue D) (log : LogState) (m : MapMeaning) (dues : List ℕ) (e : MapEntry) → IsStore h v → v ≡ now → log ≡ record v.map_log { room = log.room } → m ≡ v.map → dues ≡ v.dues
-    → now.stopped ≡ false → MapInRange e → IsAppendable e → MapFits now.map e → HasDrawnNumbers e now.map.store now.drawn → FitsDue e (λ uid. due_at uid now) (λ uid. listed_at uid now) → All (LiesBelowEnd now.map.store now.files.files) (record_made e) → HasRegion e h → Readied h (prepared v log m dues) e
-readied h v now log m dues e s is a b c running in_range kind fits drawn due below region =
+    → now.stopped ≡ false → MapInRange e → IsAppendable e → MapFits now.map e → HasDrawnNumbers e now.map.store now.drawn → FitsDue e (λ uid. due_at uid now) (λ uid. listed_at uid now) → All (LiesBelowEnd now.map.store now.files.files) (record_made e) → HasRegion e h
+    → HasKnownInstances h v → AreInstances v.instances → NamesKnown e now.instances.known → NamesFirst e now.instances.known h → HasOctetIds e → Readied h (prepared v log m dues) e
+readied h v now log m dues e s is a b c running in_range kind fits drawn due below region known are names first ids =
+    let k : HasKnownInstances h now = subst (λ (x : StoreValue _). HasKnownInstances h x) is known in
     subst (λ (x : StoreValue _). Readied h x e) (sym (seen_prepared v now log m dues is a b c)) (record {
       store = roomier h now log.room (subst (λ (x : StoreValue _). IsStore h x) is s);
       running = running;
@@ -147,7 +156,18 @@ readied h v now log m dues e s is a b c running in_range kind fits drawn due bel
       due = due;
       below = below;
       region = region;
+      known = record { kept = k.kept; running = k.running };
+      names = names;
+      first = first;
+      numbers = subst (λ (n : ℕ). AreNumbersDrawn e now.map.store n) k.kept.highest
+          (subst (λ (id : List ℕ). AreNumbersDrawn e id now.instances.highest) k.kept.store (numbers_drawn e now.instances (subst (λ (x : StoreValue _). AreInstances x.instances) is are) in_range ids names));
     })
+
+-- its instances are there with their sizes
+pub there_made : {D : Type 0} → (h : Option History) (v : StoreValue D) (e : MapEntry) → Readied h v e → IfTold h (λ now. All (λ row. All (IsThereWhole (files_of now)) row.instances) (record_made e))
+there_made h v e r =
+    if_told-map (AreInstancesThere v.instances.known v.map) (λ now. All (λ row. All (IsThereWhole (files_of now)) row.instances) (record_made e)) h
+    (λ now t. rows_made (IsThereWhole (files_of now)) e v.instances.known t.whole r.names) (r.known.running r.running)
 
 -- ---- good logs
 
@@ -254,30 +274,17 @@ lies_there (entry.G b g) k h region = absurd k
 lies_there (entry.P f t ms us) k h region = absurd k
 lies_there (entry.E f) k h region = absurd k
 
--- no instance is named
-pub no_instances : (P : InstRow → Type 0) (e : MapEntry) → IsAppendable e → All (λ row. All P row.instances) (record_made e)
-no_instances P (entry.U u) k = All-nil (λ (row : MapRecord). All P row.instances)
-no_instances P (entry.D us) k = All-nil (λ (row : MapRecord). All P row.instances)
-no_instances P (entry.T cs) k = All-nil (λ (row : MapRecord). All P row.instances)
-no_instances P (entry.S o c u f p z g is) k =
-    All-cons (λ (row : MapRecord). All P row.instances) (stored_row o c u f p z g is) [] (subst (λ (rows : List InstRow). All P rows) (sym k.1) (All-nil P)) (All-nil (λ (row : MapRecord). All P row.instances))
-no_instances P (entry.H x) k = absurd k
-no_instances P (entry.B b g n) k = absurd k
-no_instances P (entry.G b g) k = absurd k
-no_instances P (entry.P f t ms us) k = absurd k
-no_instances P (entry.E f) k = absurd k
-
 opens_with : (old new : Option History) (id : List ℕ) (entries : List MapEntry) (logs : List (List BoxEntry)) (generation : ℕ) (a b : LogState) (e : MapEntry) → IfTold old (λ now. Opens (files_of now) id entries logs)
     → IfTold old (λ now. HasRoot (files_of now) id generation) → IsAppendable e → MapInRange e → MapFits (map_meaning id entries) e → HasRegion e old
-    → All (IsCounted (logs_made e logs)) (map_meaning id (entries ++ e ∷ [])).records → a.name ≡ file.Map generation → IsSameLog a b → SameButFor a.name old new
+    → IfTold old (λ now. All (λ row. All (IsThereWhole (files_of now)) row.instances) (record_made e)) → All (IsCounted (logs_made e logs)) (map_meaning id (entries ++ e ∷ [])).records → a.name ≡ file.Map generation → IsSameLog a b → SameButFor a.name old new
     → Reads a (map map_text entries) old → Reads b (map map_text entries ++ map_text e ∷ []) new → IfTold new (λ now. Opens (files_of now) id (entries ++ e ∷ []) logs)
-opens_with None new id entries logs generation a b e o root kind in_range fits region counts name log same r q =
+opens_with None new id entries logs generation a b e o root kind in_range fits region there counts name log same r q =
     subst (λ (h : Option History). IfTold h (λ now. Opens (files_of now) id (entries ++ e ∷ []) logs)) (sym same) tt
-opens_with (Some old) None id entries logs generation a b e o root kind in_range fits region counts name log same r q = absurd same
-opens_with (Some old) (Some new) id entries logs generation a b e o root kind in_range fits region counts name log same r q =
+opens_with (Some old) None id entries logs generation a b e o root kind in_range fits region there counts name log same r q = absurd same
+opens_with (Some old) (Some new) id entries logs generation a b e o root kind in_range fits region there counts name log same r q =
     let at : a.name ≡ file.Map o.passed.map_log.generation = name ∙ ap (λ (n : ℕ). file.Map n) (root_same (files_of old.now) id id generation o.passed.map_log.generation root o.passed.map_log.root).1 in
     subst (λ (ls : List (List BoxEntry)). Opens (files_of new.now) id (entries ++ e ∷ []) ls) (logs_stay e kind logs)
-    (opens_by_map_entry (files_of old.now) (files_of new.now) id entries logs e o (adds e kind) in_range fits (lies_there e kind old region) (no_instances (IsThereWhole (files_of old.now)) e kind)
+    (opens_by_map_entry (files_of old.now) (files_of new.now) id entries logs e o (adds e kind) in_range fits (lies_there e kind old region) there
     (subst (λ (boxes : List MapBox). All (λ box. HasBox (files_of old.now) id box []) boxes) (sym (no_box e kind)) (All-nil (λ (box : MapBox). HasBox (files_of old.now) id box []))) counts
     (λ other apart. ap reading (same other (λ p. apart (p ∙ at))))
     (subst (λ (n : _). HasOneMore (map_text e) (reading (old.now n)) (reading (new.now n))) at (disk_more a b (map map_text entries) (map_text e) old.now new.now log.name log.head r q)))
@@ -297,7 +304,7 @@ runs_with old new v w e r applied files store root_log boxes log others added =
           (subst (λ (fs : FilesValue). IfTold new (StayThere fs.files (map_applied e v.map).records)) (sym files)
           (if_told-map _ _ new (λ disk stay. stay_applied v.files.files v.map e disk (leaves_places e r.kind) stay) (stay_beside v.map_log.name v.files.files v.map.records old new no_mail others runs.files_stay)));
       opens = subst (λ (id : List ℕ). IfTold new (λ now. Opens (files_of now) id (s.entries ++ e ∷ []) s.logs)) (sym store)
-          (opens_with old new v.map.store s.entries s.logs s.generation v.map_log w.map_log e runs.opens runs.root r.kind r.in_range (fits_there old v e r) r.region (good_made old v e r).counts s.map_name log others runs.map_log_reads
+          (opens_with old new v.map.store s.entries s.logs s.generation v.map_log w.map_log e runs.opens runs.root r.kind r.in_range (fits_there old v e r) r.region (there_made old v e r) (good_made old v e r).counts s.map_name log others runs.map_log_reads
           (added (map map_text s.entries) runs.map_log_reads));
       root = subst (λ (id : List ℕ). IfTold new (λ now. HasRoot (files_of now) id s.generation)) (sym store)
           (root_stays v.map_log.name v.map.store s.generation old new others (λ q. absurd (let p : file.Root ≡ file.Map s.generation = q ∙ s.map_name in cc p)) runs.root);
@@ -324,7 +331,7 @@ store_with old new v disk log e r same others added =
       map_is = meant old v e r;
       boxes_are = s.boxes_are;
       counts = covers_there old v e r;
-      drawn = drawn_up_to e r.kind v.map v.drawn (store_sound old v s) r.fits r.drawn s.drawn;
+      drawn = drawn_up_to e r.kind v.map v.drawn (store_sound old v s) r.fits r.drawn r.numbers s.drawn;
       root_name = s.root_name;
       root_head = s.root_head;
       map_name = same.name ∙ s.map_name;
@@ -416,7 +423,7 @@ pub few_octets : (e : MapEntry) → IsAppendable e → MapInRange e → length (
 few_octets (entry.U u) k r = omega arith
 few_octets (entry.D us) k r = let size = lowered_size (entry.D us) us refl r in let few = r.0 in omega (arith, size, few)
 few_octets (entry.T cs) k r = let size = counted_size (entry.T cs) cs refl r in let few = r.0 in omega (arith, size, few)
-few_octets (entry.S o c u f p z g is) k r = let size = stored_size (entry.S o c u f p z g is) o c u f p z g is refl r in let none = ap (λ (xs : List InstRow). length xs) k.1 in omega (arith, size, none)
+few_octets (entry.S o c u f p z g is) k r = let size = stored_size (entry.S o c u f p z g is) o c u f p z g is refl r in let few = r.7 in omega (arith, size, few)
 few_octets (entry.H h) k r = absurd k
 few_octets (entry.B b g n) k r = absurd k
 few_octets (entry.G b g) k r = absurd k

@@ -1,15 +1,14 @@
 -- What a crash within an append to the map log leaves, what the append leaves of a settled disk, and what records store then.
 use Rattle.std.proofs.Common.{inl, inr, ◌≡◌, ℕ, List, [], ◌∷◌, ◌++◌, map, Option, Some, None, All, refl, sym, ◌∙◌, ap, subst, ◌⊎◌, append-nil}
-use Rattle.std.specs.Prelude.{Contains, ◌≤◌}
-use Rattle.std.proofs.lemmas.List.Elements.{All-nil, All-cons, All-head, All-contains, Contains-append_cases}
-use Rattle.disk_model.specs.Disk.{Files, DiskState, History, MayLeave, IfTold, OthersStay, SameButFor, Between, reading}
+use Rattle.std.specs.Prelude.{◌≤◌}
+use Rattle.std.proofs.lemmas.List.Elements.{All-nil, All-cons, All-head, All-weaker}
+use Rattle.disk_model.specs.Disk.{Files, DiskState, History, IsImage, MayLeave, IfTold, OthersStay, SameButFor, Between, reading}
 use Rattle.disk_model.specs.declared.name.FileName.{FileName}
 use Rattle.disk_model.specs.declared.name.FileName.TheVariants as file
 use Rattle.disk_model.proofs.MomentLemmas.{each_image-map}
 use Rattle.gate_log.specs.State.{LogState, IsSameLog}
 use Rattle.gate_log.specs.Log.{IsLogRead, IsLogHeld, Holds, IsLogWithOrWithout}
 use Rattle.mdbox_base.specs.declared.entries.BoxEntry.{BoxEntry}
-use Rattle.mdbox_base.specs.declared.entries.InstRow.{InstRow}
 use Rattle.mdbox_base.specs.declared.entries.MapEntry.{MapEntry}
 use Rattle.mdbox_base.specs.declared.entries.MapEntry.TheVariants as entry
 use Rattle.model_appends.specs.Appending.{HasOneMore, LeftBut, LeavesAsRead}
@@ -28,56 +27,26 @@ use Rattle.model_logs.specs.declared.log_head.LogHead.{LogHead}
 use Rattle.model_meaning.proofs.AppliedLemmas.{records_by_stored}
 use Rattle.model_meaning.proofs.MapLemmas.{map_more}
 use Rattle.model_meaning.specs.MapFits.{MapFits}
-use Rattle.model_meaning.specs.MapMeaning.{MapRecord, MapBox, MapMeaning, map_meaning, record_changed, record_made, count_of}
-use Rattle.model_octets.proofs.SearchLemmas.{among}
+use Rattle.model_meaning.specs.MapMeaning.{MapRecord, MapBox, MapMeaning, map_meaning, named_instances, record_changed, record_made, count_of}
 use Rattle.model_store.proofs.StandsLemmas.{map_same, root_same}
 use Rattle.model_store.specs.GoodLogs.{AreGoodLogs}
 use Rattle.model_store.specs.Opening.{Opens}
 use Rattle.model_store.specs.Safe.{LiesInFile, IsThereWhole, SafeBy, Safe}
 use Rattle.model_store.specs.Settled.{files_of, IsSettled, IsSettledFor, Leaves, HasSameRegion, HasSameInstance}
-use Rattle.model_store.specs.Stands.{NamesOwn, NamesAny, StoredOnce, KeepsDetached, StoresMessage}
+use Rattle.model_store.specs.Stands.{KeepsDetached, StoresMessage}
+use Rattle.sis_store.specs.declared.instance.KnownInstance.{KnownInstance}
 use Rattle.store_core.specs.Append.{AddsText}
 use Rattle.store_core.specs.Dues.{KeepsStored}
-use Rattle.store_core.specs.MapAppend.{IsAppendable, StoresDetached, IsReadyToStore}
+use Rattle.store_core.specs.MapAppend.{IsAppendable, NamesKnown, NamesFirst, StoresDetached, IsOwnSave, IsReadyToStore}
+use Rattle.store_core.specs.StoreInstances.{IsKnownRow, IsFirstKnown, AreInstancesThere}
 use Rattle.store_core.specs.Value.{StoreValue}
 use Rattle.store_core.proofs.BoxAppendLemmas.{is_log, disk_more}
 use Rattle.store_core.proofs.BoxCrashLemmas.{ReadsImage}
-use Rattle.store_core.proofs.MapAppendLemmas.{Readied, fits_there, good_made, lies_there, no_instances}
+use Rattle.store_core.proofs.InstanceAppendLemmas.{KnowsNamed, NamesMore, of_known, of_named, rows_made, left_known, was_there, once_with}
+use Rattle.store_core.proofs.MapAppendLemmas.{Readied, fits_there, good_made, lies_there}
 use Rattle.store_core.proofs.MapDueLemmas.{adds, no_box}
 
 -- ---- the entry can be appended to a settled disk
-
-nothing_in : {X : Type 0} → (x : X) → Contains [] x → ⊥
-nothing_in x c = All-contains (λ (y : _). ⊥) [] x (All-nil (λ (y : _). ⊥)) c
-
--- a record more without instances names nothing
-was_there : (m n : MapMeaning) (row other : MapRecord) → n.records ≡ m.records ++ row ∷ [] → Contains n.records other → Contains m.records other ⊎ (other ≡ row)
-was_there m n row other records there = elim (Contains-append_cases m.records (row ∷ []) other (subst (λ (rows : List MapRecord). Contains rows other) records there)) [
-  | inl before ↦ inl before
-  | inr last ↦ elim (among row [] other last) [
-    | inl is ↦ inr (sym is)
-    | inr none ↦ absurd (nothing_in other none)
-  ]
-]
-
-own_before : (files : Files) (m n : MapMeaning) (row : MapRecord) (inst : InstRow) (octets : List ℕ) → n.records ≡ m.records ++ row ∷ [] → row.instances ≡ [] → NamesOwn files n inst octets → NamesOwn files m inst octets
-own_before files m n row inst octets records none h = elim (was_there m n row h.row records h.is_record) [
-  | inl there ↦ record { row = h.row; is_record = there; own = h.own; is_named = h.is_named; there = h.there }
-  | inr is ↦ absurd (nothing_in inst (subst (λ (rows : List InstRow). Contains rows inst) (ap (λ (r : MapRecord). r.instances) is ∙ none) h.is_named))
-]
-
-any_before : (files : Files) (m n : MapMeaning) (row : MapRecord) (inst : InstRow) (octets : List ℕ) → n.records ≡ m.records ++ row ∷ [] → row.instances ≡ [] → NamesAny files n inst octets → NamesAny files m inst octets
-any_before files m n row inst octets records none h = elim (was_there m n row h.row records h.is_record) [
-  | inl there ↦ record { row = h.row; is_record = there; is_named = h.is_named; there = h.there }
-  | inr is ↦ absurd (nothing_in inst (subst (λ (rows : List InstRow). Contains rows inst) (ap (λ (r : MapRecord). r.instances) is ∙ none) h.is_named))
-]
-
-once_with : (files : Files) (m n : MapMeaning) (row : MapRecord) → n.records ≡ m.records ++ row ∷ [] → row.instances ≡ [] → StoredOnce files m → StoredOnce files n
-once_with files m n row records none h = record {
-  once = λ i j octets p q. h.once i j octets (own_before files m n row i octets records none p) (own_before files m n row j octets records none q);
-  least = λ i j octets p q same less. h.least i j octets (own_before files m n row i octets records none p) (any_before files m n row j octets records none q) same less;
-  hash = λ i octets p. h.hash i octets (own_before files m n row i octets records none p);
-}
 
 detached_with : (files : Files) (m n : MapMeaning) (row : MapRecord) → n.records ≡ m.records ++ row ∷ [] → (row.origin ≡ 0 → StoresDetached files row) → KeepsDetached files m → KeepsDetached files n
 detached_with files m n row records form h = λ other octets there own kept. elim (was_there m n row other records there) [
@@ -88,9 +57,9 @@ detached_with files m n row records form h = λ other octets there own kept. eli
 lists_stay : (e : MapEntry) → IsAppendable e → (lists : Lists) → lists_made e lists ≡ lists
 lists_stay e k lists = ap (λ (boxes : List MapBox). lists ++ map (λ (box : MapBox). empty_mailbox box.number box.name) boxes) (no_box e k) ∙ append-nil lists
 
--- an own save stores its detached form
+-- a record of origin 0 is an own save
 abbrev KeepsForm : MapEntry → Files → Type 0
-KeepsForm (entry.S o c u f p z g is) files = o ≡ 0 → StoresDetached files (stored_row o c u f p z g is)
+KeepsForm (entry.S o c u f p z g is) files = o ≡ 0 → IsOwnSave files (stored_row o c u f p z g is)
 KeepsForm e files = Unit {0}
 
 keeps_form : (e : MapEntry) (h : History) → IsReadyToStore e (Some h) → KeepsForm e (files_of h.now)
@@ -104,49 +73,69 @@ keeps_form (entry.G b g) h ready = tt
 keeps_form (entry.P f t ms us) h ready = tt
 keeps_form (entry.E f) h ready = tt
 
-can_append : (files : Files) (id : List ℕ) (entries : List MapEntry) (lists : Lists) (e : MapEntry) → SafeBy files id entries lists → IsAppendable e → KeepsForm e files → MapInRange e → MapFits (map_meaning id entries) e → All (LiesInFile files) (record_made e)
-    → ((guid : List ℕ) → refs_of lists guid ≤ count_of (map_meaning id (entries ++ e ∷ [])) guid) → IsMapAppend files id entries lists lists e
-can_append files id entries lists (entry.U u) s k form in_range fits lies counts = counts_append files id entries lists (entry.U u) s tt in_range fits counts
-can_append files id entries lists (entry.D us) s k form in_range fits lies counts = counts_append files id entries lists (entry.D us) s tt in_range fits counts
-can_append files id entries lists (entry.T cs) s k form in_range fits lies counts = counts_append files id entries lists (entry.T cs) s tt in_range fits counts
-can_append files id entries lists (entry.S o c u f p z g is) s k form in_range fits lies counts =
+-- what is known of its instances
+abbrev NamesInstances : MapEntry → List KnownInstance → DiskState → Type 0
+NamesInstances (entry.S o c u f p z g is) known disk = All (IsKnownRow known) is × (o ≡ 0 → All (IsFirstKnown known disk) is)
+NamesInstances e known disk = Unit {0}
+
+names_known : (e : MapEntry) (known : List KnownInstance) (h : History) → NamesKnown e known → NamesFirst e known (Some h) → NamesInstances e known h.now
+names_known (entry.S o c u f p z g is) known h names first = (names, first)
+names_known (entry.U u) known h names first = tt
+names_known (entry.D us) known h names first = tt
+names_known (entry.T cs) known h names first = tt
+names_known (entry.H x) known h names first = tt
+names_known (entry.B b g n) known h names first = tt
+names_known (entry.G b g) known h names first = tt
+names_known (entry.P f t ms us) known h names first = tt
+names_known (entry.E f) known h names first = tt
+
+can_append : (disk : DiskState) (known : List KnownInstance) (id : List ℕ) (entries : List MapEntry) (lists : Lists) (e : MapEntry) → SafeBy (files_of disk) id entries lists → IsAppendable e → KeepsForm e (files_of disk) → MapInRange e → MapFits (map_meaning id entries) e → All (LiesInFile (files_of disk)) (record_made e)
+    → KnowsNamed known (map_meaning id entries) disk → NamesInstances e known disk
+    → ((guid : List ℕ) → refs_of lists guid ≤ count_of (map_meaning id (entries ++ e ∷ [])) guid) → IsMapAppend (files_of disk) id entries lists lists e
+can_append disk known id entries lists (entry.U u) s k form in_range fits lies knows names counts = counts_append (files_of disk) id entries lists (entry.U u) s tt in_range fits counts
+can_append disk known id entries lists (entry.D us) s k form in_range fits lies knows names counts = counts_append (files_of disk) id entries lists (entry.D us) s tt in_range fits counts
+can_append disk known id entries lists (entry.T cs) s k form in_range fits lies knows names counts = counts_append (files_of disk) id entries lists (entry.T cs) s tt in_range fits counts
+can_append disk known id entries lists (entry.S o c u f p z g is) s k form in_range fits lies knows names counts =
     let e : MapEntry = entry.S o c u f p z g is in
     let row : MapRecord = stored_row o c u f p z g is in
     let m : MapMeaning = map_meaning id entries in
     let n : MapMeaning = map_meaning id (entries ++ e ∷ []) in
     let records : n.records ≡ m.records ++ row ∷ [] = ap (λ (x : MapMeaning). x.records) (map_more id entries e) ∙ records_by_stored o c u f p z g is m.records in
-    stored_append files id entries lists o c u f p z g is s in_range fits (All-head (LiesInFile files) row [] lies) (subst (λ (rows : List InstRow). All (IsThereWhole files) rows) (sym k.1) (All-nil (IsThereWhole files)))
-    (once_with files m n row records k.1 s.stands.once) (detached_with files m n row records form s.stands.detached) counts
-can_append files id entries lists (entry.H h) s k form in_range fits lies counts = absurd k
-can_append files id entries lists (entry.B b g n) s k form in_range fits lies counts = absurd k
-can_append files id entries lists (entry.G b g) s k form in_range fits lies counts = absurd k
-can_append files id entries lists (entry.P f t ms us) s k form in_range fits lies counts = absurd k
-can_append files id entries lists (entry.E f) s k form in_range fits lies counts = absurd k
+    let files : Files = files_of disk in
+    let there : All (IsThereWhole files) is = All-weaker (IsKnownRow known) (IsThereWhole files) (λ inst h. of_known (IsThereWhole files) known inst knows.there.whole h) is names.0 in
+    let more : NamesMore known disk row = record { known_rows = names.0; first = names.1; hashes = λ own. (form own).1 } in
+    stored_append files id entries lists o c u f p z g is s in_range fits (All-head (LiesInFile files) row [] lies) there
+    (once_with known disk m n row records knows more s.stands.once) (detached_with files m n row records (λ own. (form own).0) s.stands.detached) counts
+can_append disk known id entries lists (entry.H h) s k form in_range fits lies knows names counts = absurd k
+can_append disk known id entries lists (entry.B b g n) s k form in_range fits lies knows names counts = absurd k
+can_append disk known id entries lists (entry.G b g) s k form in_range fits lies knows names counts = absurd k
+can_append disk known id entries lists (entry.P f t ms us) s k form in_range fits lies knows names counts = absurd k
+can_append disk known id entries lists (entry.E f) s k form in_range fits lies knows names counts = absurd k
 
 -- of a disk that opens with these entries
 append_with : (disk : DiskState) (lists : Lists) (s : IsSettled disk lists) (id : List ℕ) (entries : List MapEntry) (logs : List (List BoxEntry)) (e : MapEntry) → Opens (files_of disk) id entries logs → IsAppendable e → KeepsForm e (files_of disk) → MapInRange e
-    → MapFits (map_meaning id entries) e → All (LiesInFile (files_of disk)) (record_made e) → AreGoodLogs id (entries ++ e ∷ []) (logs_made e logs) → IsMapAppend (files_of disk) s.store s.entries lists lists e
-append_with disk lists s id entries logs e o kind form in_range fits lies good =
+    → MapFits (map_meaning id entries) e → All (LiesInFile (files_of disk)) (record_made e) → (known : List KnownInstance) → KnowsNamed known (map_meaning id entries) disk → NamesInstances e known disk → AreGoodLogs id (entries ++ e ∷ []) (logs_made e logs) → IsMapAppend (files_of disk) s.store s.entries lists lists e
+append_with disk lists s id entries logs e o kind form in_range fits lies known knows names good =
     let same = map_same (files_of disk) id s.store entries s.entries o.passed.map_log s.safe.stands.map_log in
     (subst (λ (t : List ℕ). SafeBy (files_of disk) t s.entries lists → IsMapAppend (files_of disk) t s.entries lists lists e) same.0
     (subst (λ (es : List MapEntry). SafeBy (files_of disk) id es lists → IsMapAppend (files_of disk) id es lists lists e) same.1
-    (λ safe. can_append (files_of disk) id entries lists e safe kind form in_range fits lies
+    (λ safe. can_append disk known id entries lists e safe kind form in_range fits lies knows names
     (λ guid. subst (λ (ls : Lists). refs_of ls guid ≤ count_of (map_meaning id (entries ++ e ∷ [])) guid) (lists_stay e kind lists) (counts_by_map_entry (files_of disk) id entries logs lists e o safe.stands (adds e kind) good guid))))) s.safe
 
-added_synced : (e : MapEntry) → IsAppendable e → (h : History) → IsReadyToStore e (Some h) → AddsSynced h.now e
-added_synced (entry.U u) k h synced = counts_synced h.now (entry.U u) tt
-added_synced (entry.D us) k h synced = counts_synced h.now (entry.D us) tt
-added_synced (entry.T cs) k h synced = counts_synced h.now (entry.T cs) tt
-added_synced (entry.S o c u f p z g is) k h synced = record {
+added_synced : (e : MapEntry) → IsAppendable e → (h : History) → IsReadyToStore e (Some h) → ((image : Files) → IsImage h.now image → All (λ row. All (HasSameInstance (files_of h.now) image) row.instances) (record_made e)) → AddsSynced h.now e
+added_synced (entry.U u) k h synced same = counts_synced h.now (entry.U u) tt
+added_synced (entry.D us) k h synced same = counts_synced h.now (entry.D us) tt
+added_synced (entry.T cs) k h synced same = counts_synced h.now (entry.T cs) tt
+added_synced (entry.S o c u f p z g is) k h synced same = record {
   regions = λ image i. All-cons (HasSameRegion (files_of h.now) image) (stored_row o c u f p z g is) [] (synced.0 image i) (All-nil (HasSameRegion (files_of h.now) image));
-  instances = λ image i. no_instances (HasSameInstance (files_of h.now) image) (entry.S o c u f p z g is) k;
+  instances = same;
   boxes = λ image i. All-nil (λ (box : MapBox). image (file.Box box.number box.generation) ≡ files_of h.now (file.Box box.number box.generation));
 }
-added_synced (entry.H x) k h synced = absurd k
-added_synced (entry.B b g n) k h synced = absurd k
-added_synced (entry.G b g) k h synced = absurd k
-added_synced (entry.P f t ms us) k h synced = absurd k
-added_synced (entry.E f) k h synced = absurd k
+added_synced (entry.H x) k h synced same = absurd k
+added_synced (entry.B b g n) k h synced same = absurd k
+added_synced (entry.G b g) k h synced same = absurd k
+added_synced (entry.P f t ms us) k h synced same = absurd k
+added_synced (entry.E f) k h synced same = absurd k
 
 -- ---- the log
 
@@ -174,11 +163,20 @@ map_appends : {D : Type 0} → (old : History) (v : StoreValue D) (e : MapEntry)
 map_appends old v e lists s r own synced =
     let runs = r.store.running r.running in
     let g : ℕ = s.safe.stands.map_log.generation in
+    let known : List KnownInstance = v.instances.known in
+    let there : AreInstancesThere known v.map old.now = r.known.running r.running in
+    let knows : KnowsNamed known (map_meaning v.map.store r.store.entries) old.now =
+    subst (λ (m : MapMeaning). KnowsNamed known m old.now) r.store.map_is (record { named = r.known.kept.named; there = there }) in
+    let same = map_same (files_of old.now) v.map.store s.store r.store.entries s.entries runs.opens.passed.map_log s.safe.stands.map_log in
+    let is : map_meaning s.store s.entries ≡ v.map = sym (r.store.map_is ∙ ap (λ (id : List ℕ). map_meaning id r.store.entries) same.0 ∙ ap (map_meaning s.store) same.1) in
+    let left : (image : Files) → IsImage old.now image → All (λ row. All (HasSameInstance (files_of old.now) image) row.instances) (record_made e) =
+    λ image i. rows_made (HasSameInstance (files_of old.now) image) e known
+    (left_known known v.map old.now image there (subst (λ (m : MapMeaning). All (HasSameInstance (files_of old.now) image) (named_instances m)) is (of_named (HasSameInstance (files_of old.now) image) (map_meaning s.store s.entries).records (s.alike image i).instances)) i) r.names in
     let name : v.map_log.name ≡ file.Map g = r.store.map_name ∙ ap (λ (n : ℕ). file.Map n) (root_same (files_of old.now) v.map.store s.store r.store.generation g runs.root s.safe.stands.map_log.root).1 in
     record {
       texts = map map_text r.store.entries;
-      append = append_with old.now lists s v.map.store r.store.entries r.store.logs e runs.opens r.kind (keeps_form e old synced) r.in_range (fits_there (Some old) v e r) (lies_there e r.kind old r.region) (good_made (Some old) v e r);
-      alike = leaves_added old.now lists e s (adds e r.kind) (added_synced e r.kind old synced);
+      append = append_with old.now lists s v.map.store r.store.entries r.store.logs e runs.opens r.kind (keeps_form e old synced) r.in_range (fits_there (Some old) v e r) (lies_there e r.kind old r.region) known knows (names_known e known old r.names r.first) (good_made (Some old) v e r);
+      alike = leaves_added old.now lists e s (adds e r.kind) (added_synced e r.kind old synced left);
       name = name;
       held = held_map old.now lists s v.map_log (map map_text r.store.entries) own name runs.map_log_reads;
     }

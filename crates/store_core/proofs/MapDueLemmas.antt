@@ -28,6 +28,7 @@ use Rattle.model_octets.proofs.SearchLemmas.{found_one}
 use Rattle.model_store.specs.Opening.{listed_of}
 use Rattle.store_core.specs.Append.{change_beside}
 use Rattle.store_core.specs.Dues.{number_beside}
+use Rattle.store_core.proofs.InstanceNumberLemmas.{AreNumbersDrawn}
 use Rattle.store_core.specs.MapAppend.{IsAppendable, HasDrawnNumbers, FitsDue, drawn_by, dues_with}
 use Rattle.store_core.specs.Running.{IsUpTo}
 use Rattle.store_core.proofs.DueLemmas.{AreNumbers, OneEach, RecordsRise, at_own_place}
@@ -373,16 +374,16 @@ known_up_to drawn highest named up file map instance mailbox =
     let d = up.mailbox in
     record { file = omega (arith, a, file); map = omega (arith, b, map); instance = omega (arith, c, instance); mailbox = omega (arith, d, mailbox) }
 
-pub drawn_up_to : (e : MapEntry) → IsAppendable e → (m : MapMeaning) (drawn : Highest) → IsSoundMap m → MapFits m e → HasDrawnNumbers e m.store drawn → IsUpTo drawn m.highest → IsUpTo (drawn_by e drawn) (map_applied e m).highest
-drawn_up_to (entry.U u) k m drawn sound fits h up = known_up_to drawn m.highest (numbers_of m.store (entry.U u)) up refl (named_below m u.0 fits.0 sound fits.1) refl refl
-drawn_up_to (entry.D us) k m drawn sound fits h up =
+pub drawn_up_to : (e : MapEntry) → IsAppendable e → (m : MapMeaning) (drawn : Highest) → IsSoundMap m → MapFits m e → HasDrawnNumbers e m.store drawn → AreNumbersDrawn e m.store drawn.instance → IsUpTo drawn m.highest → IsUpTo (drawn_by e drawn) (map_applied e m).highest
+drawn_up_to (entry.U u) k m drawn sound fits h numbers up = known_up_to drawn m.highest (numbers_of m.store (entry.U u)) up refl (named_below m u.0 fits.0 sound fits.1) refl refl
+drawn_up_to (entry.D us) k m drawn sound fits h numbers up =
     known_up_to drawn m.highest (numbers_of m.store (entry.D us)) up refl
     (greatest_fits (λ (u : MapUid). u.0) m.highest.map us (All-weaker (λ (u : MapUid). HasRecord m u.0 (λ row. 1 ≤ row.count)) (λ (u : MapUid). u.0 ≤ m.highest.map) (λ u r. named_below m u.0 r.0 sound r.1) us fits.1)) refl refl
-drawn_up_to (entry.T cs) k m drawn sound fits h up =
+drawn_up_to (entry.T cs) k m drawn sound fits h numbers up =
     known_up_to drawn m.highest (numbers_of m.store (entry.T cs)) up refl
     (greatest_fits (λ (c : MapCount). c.uid.0) m.highest.map cs (All-weaker (λ (c : MapCount). (row : MapRecord) × (record_at m c.uid.0 ≡ Some row)) (λ (c : MapCount). c.uid.0 ≤ m.highest.map) (λ c r. named_below m c.uid.0 r.0 sound r.1) cs fits.1)) refl refl
-drawn_up_to (entry.S o c u f p z g is) k m drawn sound fits h up =
-    let none : greatest (λ (i : InstRow). instance_of i) is ≡ 0 = ap (greatest (λ (i : InstRow). instance_of i)) k.1 in
+drawn_up_to (entry.S o c u f p z g is) k m drawn sound fits h numbers up =
+    let most : greatest instance_of is ≤ drawn.instance = greatest_fits instance_of drawn.instance is numbers in
     let a = up.file in
     let b = up.map in
     let d = up.instance in
@@ -390,12 +391,12 @@ drawn_up_to (entry.S o c u f p z g is) k m drawn sound fits h up =
     let next = h.0 in
     let own = h.1 in
     let of_guid = h.2 in
-    record { file = omega (arith, a, own, of_guid); map = omega (arith, b, next); instance = omega (arith, d, none); mailbox = omega (arith, e) }
+    record { file = omega (arith, a, own, of_guid); map = omega (arith, b, next); instance = omega (arith, d, most); mailbox = omega (arith, e) }
   where
     instance_of : InstRow → ℕ
     instance_of i = instance_number m.store i.id.0
-drawn_up_to (entry.H h) k m drawn sound fits d up = absurd k
-drawn_up_to (entry.B b g n) k m drawn sound fits d up = absurd k
-drawn_up_to (entry.G b g) k m drawn sound fits d up = absurd k
-drawn_up_to (entry.P f t ms us) k m drawn sound fits d up = absurd k
-drawn_up_to (entry.E f) k m drawn sound fits d up = absurd k
+drawn_up_to (entry.H h) k m drawn sound fits d numbers up = absurd k
+drawn_up_to (entry.B b g n) k m drawn sound fits d numbers up = absurd k
+drawn_up_to (entry.G b g) k m drawn sound fits d numbers up = absurd k
+drawn_up_to (entry.P f t ms us) k m drawn sound fits d numbers up = absurd k
+drawn_up_to (entry.E f) k m drawn sound fits d numbers up = absurd k

@@ -1,13 +1,15 @@
 -- Disks on which an instance was made that no file was before: what they read, what a crash leaves, and what a store makes of it.
-use Rattle.std.specs.Prelude.{◌⊎◌, Contains, filter, not}
-use Rattle.std.specs.List.{list_any}
-use Rattle.std.proofs.Common.{inl, inr, ◌≡◌, ◌≢◌, ◌<◌, ◌≤◌, ◌+◌, ◌==◌, ℕ, Bool, true, false, List, [], ◌∷◌, ◌++◌, map, flat_map, length, take, drop, Option, Some, None, All, cond, refl, sym, ◌∙◌, ap, subst, arith}
+use Rattle.std.specs.Prelude.{◌⊎◌, ◌&&◌, Contains, filter}
+use Rattle.std.specs.Str.{bytes_eq}
+use Rattle.std.proofs.Common.{inl, inr, ◌≡◌, ◌≢◌, ◌<◌, ◌≤◌, ◌+◌, ◌==◌, ℕ, Bool, true, false, List, [], ◌∷◌, ◌++◌, map, flat_map, get_or, length, Option, Some, None, All, cond, refl, sym, ◌∙◌, ap, subst, arith}
 use Rattle.std.specs.Option.{option_map}
 use Rattle.std.specs.Ordering.{nat_cmp, is_lt}
 use Rattle.std.specs.Cmp.Lexicographic.{slice_cmp}
 use Rattle.std.specs.declared.cmp.Ordering.{Ordering}
 use Rattle.std.specs.declared.cmp.Ordering.TheVariants.{Less, Equal, Greater}
-use Rattle.std.proofs.lemmas.Bool.{cases_Bool, cases_eq, cond-true, cond-false, true≢false}
+use Rattle.std.proofs.lemmas.Bool.{cases_eq, cond-true, true≢false}
+use Rattle.std.proofs.lemmas.Bool.Decides.{nat_tests}
+use Rattle.std.proofs.lemmas.Slice.Eq.{bytes_eq-Decides}
 use Rattle.std.proofs.lemmas.List.Elements.{All-nil, All-cons, All-head, All-tail, All-append, All-filter, All-contains, All-weaker, Contains-append_left, Contains-append_right}
 use Rattle.disk_model.specs.Disk.{Files, FileState, DiskState, History, IsImage, IsThere, IfTold, Between, EachImage, OthersStay, Keeps, MayLeave, reading, named}
 use Rattle.disk_model.specs.Name.{same_name}
@@ -29,34 +31,34 @@ use Rattle.model_lists.specs.Lists.{Lists}
 use Rattle.model_logs.specs.Entries.{box_text, map_text}
 use Rattle.model_meaning.specs.MapMeaning.{MapRecord, MapBox, MapMeaning, map_meaning, named_instances}
 use Rattle.model_store.specs.Carrying.{CarryOver, CarriesOver}
-use Rattle.model_store.specs.Opening.{PassBoxes, Opens}
+use Rattle.model_store.specs.Opening.{Opens}
 use Rattle.model_store.specs.Safe.{LiesInFile, IsThereWhole, HasAll, SafeBy, Safe}
 use Rattle.model_store.specs.Settled.{files_of, IsSameRegion, HasSameRegion, HasSameInstance, AreAlike, IsSettled, IsSettledFor, Leaves}
 use Rattle.model_store.specs.Stands.{HasRoot, HasInstances, StoresMessage}
 use Rattle.model_store.proofs.CarryingLemmas.{each_name}
-use Rattle.model_store.proofs.SettledLemmas.{safe_carried, has_all_carried, log_along, map_along, kept_along}
+use Rattle.model_store.proofs.SettledLemmas.{safe_carried, has_all_carried, map_along, kept_along}
 use Rattle.model_store.proofs.StandsLemmas.{root_same}
 use Rattle.model_appends.specs.Appending.{LeftBut}
-use Rattle.model_appends.proofs.AppendFileLemmas.{log_as, mixed, mixed-here, mixed-other}
+use Rattle.model_appends.proofs.AppendFileLemmas.{log_as, mixed, mixed-other}
 use Rattle.model_appends.proofs.AppendSafeLemmas.{others_carry}
 use Rattle.sis_store.proofs.IdLemmas.{turned, same_octets, same_id, instance-in}
 use Rattle.sis_store.proofs.KeysLemmas.{found-among}
-use Rattle.sis_store.specs.Instances.{InstancesValue, AreInstances, HasDrawnNumber, after_placing, instance_in, instance_placed, next_id, with_instance}
-use Rattle.sis_store.specs.OnDisk.{OnlyNamesSynced, instance_file, next_instance_file}
+use Rattle.sis_store.specs.Instances.{InstancesValue, AreInstances, HasDrawnNumber, after_placing, instance_in, instance_placed, is_of_kind, next_id, with_instance}
+use Rattle.sis_store.specs.OnDisk.{IsUnlikeKnown, OnlyNamesSynced, instance_file, next_instance_file}
 use Rattle.sis_store.specs.Refusals.{IsPlaceError}
 use Rattle.sis_store.specs.declared.error.PlaceFault.TheVariants as fault
 use Rattle.sis_store.specs.declared.instance.KnownInstance.{KnownInstance}
-use Rattle.storage_files.specs.OnDisk.{IsAsKnown}
 use Rattle.storage_files.specs.Files.{end_in}
 use Rattle.storage_files.specs.declared.file.MailFile.{MailFile}
 use Rattle.store_core.specs.Dues.{KeepsStored}
 use Rattle.store_core.specs.Files.{StayThere}
 use Rattle.store_core.specs.PlaceStops.{IsPlaceStop}
 use Rattle.store_core.specs.Running.{AreBoxLogs, ReadBoxLogs, HasEntryRoom, IsStore}
-use Rattle.store_core.specs.StoreInstances.{IsKnownRow, IsNamedOrFirm, AreInstancesThere, HasKnownInstances}
+use Rattle.store_core.specs.StoreInstances.{IsOtherThan, IsKnownRow, IsNamedOrFirm, AreInstancesThere, HasKnownInstances}
 use Rattle.store_core.specs.Value.{StoreValue}
 use Rattle.store_core.specs.declared.error.PlaceStop.TheVariants as stop
 use Rattle.store_core.specs.declared.store.OpenBox.{OpenBox}
+use Rattle.store_core.proofs.InstanceAppendLemmas.{of_known}
 use Rattle.store_core.proofs.MailChangeLemmas.{Own, boxes_pass, same_entries, left_image, named_reads}
 use Rattle.store_core.proofs.StoreFileLemmas.{named_there}
 
@@ -342,20 +344,59 @@ next_absent hash h v k runs are less =
         let same : there.0.row.id.0 ≡ (next_id v.instances).0 = let w : file.Inst there.0.row.hash.0 there.0.row.id.0 ≡ file.Inst hash.0 (next_id v.instances).0 = there.2 in cc w in
         absurd (next_is_new v.instances there.0 are less there.1 (same_id there.0.row.id (next_id v.instances) same))
 
-there_placed : (hash : Hash) (octets : List ℕ) (value : InstancesValue) (m : MapMeaning) (a b : DiskState) → AreInstances value → value.highest < 4294967294 → FileMade (next_instance_file hash value) a b → Keeps (b (next_instance_file hash value)) octets → AreInstancesThere value.known m a
-    → AreInstancesThere (with_instance (instance_placed value hash (length octets)) value.known) m b
-there_placed hash octets value m a b are less c keeps t =
+-- no known instance of the kind of the new one has its octets
+abbrev IsUnlike : Hash → List ℕ → List KnownInstance → DiskState → Type 0
+IsUnlike hash octets known disk = All (λ k. is_of_kind hash (length octets) k.row ≡ true → reading (disk (instance_file k.row)) ≢ Some octets) known
+
+kind_turned : (a b : InstRow) → is_of_kind a.hash a.size b ≡ true → is_of_kind b.hash b.size a ≡ true
+kind_turned a b e = by (bytes_eq b.hash.0 a.hash.0) (b.size == a.size) refl refl e
+  where
+    by : (p q : Bool) → bytes_eq b.hash.0 a.hash.0 ≡ p → (b.size == a.size) ≡ q → (p && q) ≡ true → is_of_kind b.hash b.size a ≡ true
+    by true true h s all =
+        let sizes : b.size ≡ a.size = grind (arith, nat_tests, s) in
+        let back : a.size ≡ b.size = sym sizes in
+        let size : (a.size == b.size) ≡ true = grind (arith, nat_tests, back) in
+        let hash : bytes_eq a.hash.0 b.hash.0 ≡ true = (bytes_eq-Decides a.hash.0 b.hash.0).1 (sym ((bytes_eq-Decides b.hash.0 a.hash.0).0 h)) in
+        ap (λ (t : Bool). t && (a.size == b.size)) hash ∙ size
+    by true false h s all = absurd (cc all)
+    by false q h s all = absurd (cc all)
+
+-- so the new one is other than each that an own save names
+other_placed : (hash : Hash) (octets : List ℕ) (value : InstancesValue) (m : MapMeaning) (a b : DiskState) → IsUnlike hash octets value.known a → All (IsKnownRow value.known) (named_instances m) → All (λ k. reading (b (instance_file k.row)) ≡ reading (a (instance_file k.row))) value.known
+    → reading (b (next_instance_file hash value)) ≡ Some octets → All (λ own. own.origin ≡ 0 → All (λ inst. IsOtherThan b inst (instance_placed value hash (length octets)).row) own.instances) m.records
+other_placed hash octets value m a b unlike named same there =
+    All-weaker (λ (row : MapRecord). All (IsKnownRow value.known) row.instances) (λ (own : MapRecord). own.origin ≡ 0 → All (λ inst. IsOtherThan b inst (instance_placed value hash (length octets)).row) own.instances) (λ own rows origin.
+    All-weaker (IsKnownRow value.known) (λ (inst : InstRow). IsOtherThan b inst (instance_placed value hash (length octets)).row) (λ inst is kind before e.
+    of_known (λ (row : InstRow). is_of_kind hash (length octets) row ≡ true → reading (a (instance_file row)) ≢ Some octets) value.known inst unlike is
+    (kind_turned inst (instance_placed value hash (length octets)).row kind)
+    (sym (of_known (λ (row : InstRow). reading (b (instance_file row)) ≡ reading (a (instance_file row))) value.known inst same is) ∙ sym e ∙ there)) own.instances rows)
+    m.records (all_parts (IsKnownRow value.known) (λ (row : MapRecord). row.instances) m.records named)
+
+-- those that were other than each are so still
+other_still : (known : List KnownInstance) (m : MapMeaning) (a b : DiskState) (row : InstRow) → All (IsKnownRow known) (named_instances m) → All (λ k. reading (b (instance_file k.row)) ≡ reading (a (instance_file k.row))) known → reading (b (instance_file row)) ≡ reading (a (instance_file row))
+    → All (λ own. own.origin ≡ 0 → All (λ inst. IsOtherThan a inst row) own.instances) m.records → All (λ own. own.origin ≡ 0 → All (λ inst. IsOtherThan b inst row) own.instances) m.records
+other_still known m a b row named same here others = λ i d lt origin j e le kind before is.
+    others i d lt origin j e le kind before
+    (sym here ∙ is ∙ of_known (λ (r : InstRow). reading (b (instance_file r)) ≡ reading (a (instance_file r))) known (get_or (get_or m.records i d).instances j e) same (all_parts (IsKnownRow known) (λ (r : MapRecord). r.instances) m.records named i d lt j e le))
+
+there_placed : (hash : Hash) (octets : List ℕ) (value : InstancesValue) (m : MapMeaning) (a b : DiskState) → AreInstances value → value.highest < 4294967294 → IsUnlike hash octets value.known a → All (IsKnownRow value.known) (named_instances m) → FileMade (next_instance_file hash value) a b
+    → Keeps (b (next_instance_file hash value)) octets → AreInstancesThere value.known m a → AreInstancesThere (with_instance (instance_placed value hash (length octets)) value.known) m b
+there_placed hash octets value m a b are less unlike named c keeps t =
     let new : KnownInstance = instance_placed value hash (length octets) in
     let name : FileName = next_instance_file hash value in
     let apart : All (λ k. instance_file k.row ≢ name) value.known =
     All-weaker (λ (k : KnownInstance). IsThereWhole (files_of a) k.row) (λ (k : KnownInstance). instance_file k.row ≢ name) (λ k w. apart_read name (instance_file k.row) a w.octets c.absent w.there) value.known t.whole in
+    let same : All (λ k. reading (b (instance_file k.row)) ≡ reading (a (instance_file k.row))) value.known = λ k d lt. reads_made name _ a b c (apart k d lt) in
     record {
       whole = all_with (λ k. IsThereWhole (files_of b) k.row) value.known new (record { octets = octets; there = keeps.reads; size = refl })
           (λ k d lt. let w = t.whole k d lt in record { octets = w.octets; there = reads_made name _ a b c (apart k d lt) ∙ w.there; size = w.size });
-      firm = all_with (IsNamedOrFirm m b) value.known new (inr (λ left may. (keeps.leaves left).0 may ∙ sym keeps.reads))
+      firm = all_with (IsNamedOrFirm m b) value.known new (inr (record { left = λ left may. (keeps.leaves left).0 may ∙ sym keeps.reads; other = other_placed hash octets value m a b unlike named same keeps.reads }))
           (λ k d lt. elim (t.firm k d lt) [
             | inl is ↦ inl is
-            | inr firm ↦ inr (λ left may. firm left (leaves_made name _ a b left c (apart k d lt) may) ∙ sym (reads_made name _ a b c (apart k d lt)))
+            | inr firm ↦ inr (record {
+              left = λ left may. firm.left left (leaves_made name _ a b left c (apart k d lt) may) ∙ sym (same k d lt);
+              other = other_still value.known m a b (get_or value.known k d).row named same (same k d lt) firm.other;
+            })
           ]);
       only = λ h i read e. by_name h i read e (same_name (file.Inst h i) name) refl;
     }
@@ -369,9 +410,9 @@ there_placed hash octets value m a b are less c keeps t =
         (there.0, still_known value.known (instance_placed value hash (length octets)) there.0 there.1 (next_is_new value there.0 are less there.1), there.2)
 
 pub placed_known : {D : Type 0} → (hash : Hash) (octets : List ℕ) (old new : Option History) (v : StoreValue D) (disk : D) (instances : InstancesValue) (drawn : Highest) → HasKnownInstances old v → v.stopped ≡ false → AreInstances v.instances → AreInstances instances → v.instances.highest < 4294967294
-    → instances ≡ after_placing hash (length octets) v.instances → drawn ≡ record v.drawn { instance = v.drawn.instance + 1 } → Between (FileMade (next_instance_file hash v.instances)) old new → IfTold new (λ now. Keeps (now (next_instance_file hash v.instances)) octets)
+    → IsUnlikeKnown hash (length octets) octets v.instances.known old → instances ≡ after_placing hash (length octets) v.instances → drawn ≡ record v.drawn { instance = v.drawn.instance + 1 } → Between (FileMade (next_instance_file hash v.instances)) old new → IfTold new (λ now. Keeps (now (next_instance_file hash v.instances)) octets)
     → HasKnownInstances new (record v { disk = disk; instances = instances; drawn = drawn })
-placed_known hash octets old new v disk instances drawn k runs are later less is drew change keeps =
+placed_known hash octets old new v disk instances drawn k runs are later less unlike is drew change keeps =
     let placed : InstancesValue = after_placing hash (length octets) v.instances in
     let rise : AreInstances placed = subst AreInstances is later in
     subst (λ (i : InstancesValue). HasKnownInstances new (record v { disk = disk; instances = i; drawn = drawn })) (sym is)
@@ -381,8 +422,8 @@ placed_known hash octets old new v disk instances drawn k runs are later less is
         highest = ap (λ (n : ℕ). n + 1) k.kept.highest;
         named = All-weaker (IsKnownRow v.instances.known) (IsKnownRow placed.known) (λ row known. known_row row rise known) (named_instances v.map) k.kept.named;
       };
-      running = λ on. between-since-if (FileMade (next_instance_file hash v.instances)) (AreInstancesThere v.instances.known v.map) (λ now. Keeps (now (next_instance_file hash v.instances)) octets) (AreInstancesThere placed.known v.map) old new
-          (λ a b c t keep. there_placed hash octets v.instances v.map a b are less c keep t) change (k.running runs) keeps;
+      running = λ on. between-since-if (FileMade (next_instance_file hash v.instances)) (λ now. AreInstancesThere v.instances.known v.map now × IsUnlike hash octets v.instances.known now) (λ now. Keeps (now (next_instance_file hash v.instances)) octets) (AreInstancesThere placed.known v.map) old new
+          (λ a b c t keep. there_placed hash octets v.instances v.map a b are less t.1 k.kept.named c keep t.0) change (told_both (AreInstancesThere v.instances.known v.map) (IsUnlike hash octets v.instances.known) old (k.running runs) unlike) keeps;
     }))
   where
     row_in : (o : Option KnownInstance) (row : InstRow) → option_map (λ k. k.row) o ≡ Some row → (j : KnownInstance) × (o ≡ Some j) × (j.row ≡ row)
@@ -396,6 +437,10 @@ placed_known hash octets old new v disk instances drawn k runs are later less is
         let there : Contains (with_instance (instance_placed v.instances hash (length octets)) v.instances.known) j.0 = still_known v.instances.known (instance_placed v.instances hash (length octets)) j.0 among.0 (next_is_new v.instances j.0 are less among.0) in
         ap (λ (i : InstId). option_map (λ (k : KnownInstance). k.row) (instance_in i (after_placing hash (length octets) v.instances).known)) (sym among.1)
         ∙ ap (option_map (λ (k : KnownInstance). k.row)) (instance-in (after_placing hash (length octets) v.instances).known j.0 rise.rising there) ∙ ap Some j.2
+
+    told_both : (P Q : DiskState → Type 0) (h : Option History) → IfTold h P → IfTold h Q → IfTold h (λ now. P now × Q now)
+    told_both P Q None p q = tt
+    told_both P Q (Some h) p q = (p, q)
 
     between-since-if : (R : DiskState → DiskState → Type 0) (P Q S : DiskState → Type 0) (old new : Option History) → ((a b : DiskState) → R a b → P a → Q b → S b) → Between R old new → IfTold old P → IfTold new Q → IfTold new S
     between-since-if R P Q S None new f r p q = subst (λ (h : Option History). IfTold h S) (sym r) tt

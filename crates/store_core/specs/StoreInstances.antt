@@ -1,5 +1,5 @@
 -- What a store keeps of its instances.
-use Rattle.std.specs.Prelude.{◌≡◌, ◌⊎◌, ◌+◌, ℕ, false, List, All, Contains, Option, Some}
+use Rattle.std.specs.Prelude.{◌≡◌, ◌≢◌, ◌⊎◌, ◌+◌, ℕ, true, false, List, All, Contains, Option, Some}
 use Rattle.std.specs.Option.{option_map}
 use Rattle.disk_model.specs.Disk.{DiskState, History, IfTold, reading}
 use Rattle.disk_model.specs.declared.name.FileName.TheVariants.{Inst}
@@ -9,7 +9,7 @@ use Rattle.model_appends.specs.Appending.{LeavesAsRead}
 use Rattle.model_meaning.specs.MapMeaning.{MapMeaning, named_instances}
 use Rattle.model_store.specs.Safe.{IsThereWhole}
 use Rattle.model_store.specs.Settled.{files_of}
-use Rattle.sis_store.specs.Instances.{InstancesValue, instance_in}
+use Rattle.sis_store.specs.Instances.{InstancesValue, IsIdBefore, instance_in, is_of_kind}
 use Rattle.sis_store.specs.OnDisk.{instance_file}
 use Rattle.sis_store.specs.declared.instance.KnownInstance.{KnownInstance}
 use Rattle.store_core.specs.Value.{StoreValue}
@@ -25,12 +25,26 @@ pub record AreInstancesKept (instances : InstancesValue) (drawn : Highest) (m : 
   pub highest : instances.highest ≡ drawn.instance
   pub named : All (IsKnownRow instances.known) (named_instances m)
 
--- a record names the instance, or a crash leaves it as the disk reads it
-abbrev pub IsNamedOrFirm : MapMeaning → DiskState → KnownInstance → Type 0
-IsNamedOrFirm m disk k = Contains (named_instances m) k.row ⊎ LeavesAsRead (instance_file k.row) disk
+-- an earlier instance, of the same hash and size and with a lesser id, has other octets than this one
+abbrev pub IsOtherThan : DiskState → InstRow → InstRow → Type 0
+IsOtherThan disk inst earlier = is_of_kind inst.hash inst.size earlier ≡ true → IsIdBefore earlier.id inst.id → reading (disk (instance_file earlier)) ≢ reading (disk (instance_file inst))
 
--- Each known instance is there with its size, and no other is there. One that no record names yet is left by every crash; on a
--- settled disk so is one that a record names.
+-- no known instance of its hash and size with a lesser id has its octets
+abbrev pub IsFirstKnown : List KnownInstance → DiskState → InstRow → Type 0
+IsFirstKnown known disk inst = All (λ k. IsOtherThan disk inst k.row) known
+
+-- An instance that no record names yet may be named: a crash leaves it as the disk reads it, and no own save (a record of
+-- origin 0) names a later instance with its octets.
+pub record IsFirmInstance (m : MapMeaning) (disk : DiskState) (row : InstRow) : Type 0 where
+  pub left : LeavesAsRead (instance_file row) disk
+  pub other : All (λ own. own.origin ≡ 0 → All (λ inst. IsOtherThan disk inst row) own.instances) m.records
+
+-- a record names the instance, or it may be named
+abbrev pub IsNamedOrFirm : MapMeaning → DiskState → KnownInstance → Type 0
+IsNamedOrFirm m disk k = Contains (named_instances m) k.row ⊎ IsFirmInstance m disk k.row
+
+-- Each known instance is there with its size, and no other is there. One that no record names yet is left by every crash, and
+-- is none that an own save should have named; on a settled disk so is one that a record names.
 pub record AreInstancesThere (known : List KnownInstance) (m : MapMeaning) (disk : DiskState) : Type 0 where
   pub whole : All (λ k. IsThereWhole (files_of disk) k.row) known
   pub firm : All (IsNamedOrFirm m disk) known

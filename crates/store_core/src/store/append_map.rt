@@ -5,7 +5,7 @@ ghost use Rattle.disk_model.specs.FaultCounts.{NoFault, ChangeFaultCounted};
 ghost use Rattle.gate_log.specs.Log.{Reads, Holds};
 ghost use Rattle.gate_log.specs.State.{IsSameLog};
 ghost use Rattle.map_index.specs.Needs.{TakesMemory};
-ghost use Rattle.mdbox_base.specs.Words.{IsNumber};
+ghost use Rattle.mdbox_base.specs.Words.{IsNumber, IsOctets};
 ghost use Rattle.model_appends.specs.Amounts.{due_by, leak_by};
 ghost use Rattle.model_lists.specs.Lists.{Lists};
 ghost use Rattle.model_logs.specs.Entries.{map_text, MapInRange};
@@ -16,7 +16,7 @@ ghost use Rattle.store_core.specs.Append.{AddsText};
 ghost use Rattle.store_core.specs.Dues.{due_at, listed_at, leak_at, IsSpared, KeepsStored};
 ghost use Rattle.store_core.specs.Files.{LiesBelowEnd};
 ghost use Rattle.store_core.specs.Keeping.{KeepsMail};
-ghost use Rattle.store_core.specs.MapAppend.{IsAppendable, HasDrawnNumbers, FitsDue, HasRegion, IsReadyToStore, drawn_by, IsLongEntry, IsLaidOut, IsSpareCopy};
+ghost use Rattle.store_core.specs.MapAppend.{IsAppendable, HasDrawnNumbers, FitsDue, HasRegion, NamesKnown, NamesFirst, IsReadyToStore, drawn_by, IsLongEntry, HasOctetIds, IsLaidOut, IsSpareCopy};
 ghost use Rattle.store_core.specs.Value.{entry_room};
 ghost use Rattle.store_core.specs.declared.error.StepError.TheVariants as step_error;
 
@@ -76,6 +76,8 @@ impl<D: Disk> Store<D> {
         requires due { FitsDue entry.now (λ uid. due_at uid self.old) (λ uid. listed_at uid self.old) }
         requires below { All (LiesBelowEnd self.old.map.store self.old.files.files) (record_made entry.now) }
         requires region { HasRegion entry.now (D.history self.old.disk) }
+        requires instances { NamesKnown entry.now self.old.instances.known }
+        requires once { NamesFirst entry.now self.old.instances.known (D.history self.old.disk) }
 
         // Of a settled disk each image at every moment is safe for its lists, whichever call fails; and after Ok it is settled
         // for them still. The region of a message that is stored has to be synced, and an own save to store its detached form.
@@ -104,6 +106,7 @@ impl<D: Disk> Store<D> {
         ensures fault { ChangeFaultCounted (IsErrOf result step_error.Stopped) (D.faults self.old.disk) (D.faults self.new.disk) }
         ensures unfailed { OnOk result (NoFault (D.faults self.old.disk) (D.faults self.new.disk)) }
     {
+        self.instances.known_facts();
         let EntryRoom { text, copy } = take_room(
             self.alloc,
             &mut self.map_log,
@@ -138,6 +141,7 @@ fn take_room(
     requires kind { IsAppendable entry.now }
     requires room { entry_room ≤ log.old.room }
     ensures text { IfOk result (λ room. IsLaidOut room.text entry.now) }
+    ensures ids { OnOk result (HasOctetIds entry.now) }
     ensures copy { IfOk result (λ room. IsSpareCopy room.copy entry.now map.new.room) }
     ensures space { OnOk result (TakesMemory entry.now → vec_len dues.new < vec_capacity dues.new) }
     ensures room { OnOk result (length (map_text entry.now) + 5 ≤ log.new.room) }
@@ -158,6 +162,7 @@ fn take_room(
 fn long_text(alloc: Global, entry: &MapEntry) -> Result<Option<Octets>, NoMemory>
     requires { MapInRange entry.now }
     ensures text { IfOk result (λ text. IsLaidOut text entry.now) }
+    ensures ids { OnOk result (HasOctetIds entry.now) }
     ensures memory { IsErr result → IsLongEntry entry.now }
 {
     let size = map_entry_size(entry);
@@ -166,7 +171,15 @@ fn long_text(alloc: Global, entry: &MapEntry) -> Result<Option<Octets>, NoMemory
     }
     let mut text = vec![in alloc; 0; size]?;
     put_map_entry(&mut text, entry);
+    known_octets(&text);
     Ok(Some(Octets::of(text)))
+}
+
+/// Octets are below 256.
+fn known_octets(octets: &[u8])
+    ensures { IsOctets octets.now }
+{
+    let _length = octets.len();
 }
 
 /// Makes room for what an entry makes, and hands out that entry once more. None where it makes nothing.

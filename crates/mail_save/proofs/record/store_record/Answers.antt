@@ -10,6 +10,7 @@ use Rattle.mail_save.proofs.StoringLemmas.{gives_back, left_alone, spared_as, st
 use Rattle.mail_save.specs.SaveEffects.{AreSpared}
 use Rattle.mail_save.proofs.MailFileLemmas.{mail_kept}
 use Rattle.mail_save.specs.MailFiles.{ReadsSameMail}
+use Rattle.store_core.proofs.InstanceAppendLemmas.{names_none, first_none}
 use Rattle.mail_save.proofs.record.store_record.Goals as goal
 
 pub returns-in_default-clause-any_moment : goal.returns-in_default-clause-any_moment
@@ -29,6 +30,12 @@ append_map-requires-clause-below g c = record_below c.args.origin c.in-Some.uid 
 pub append_map-requires-clause-region : goal.append_map-requires-clause-region
 append_map-requires-clause-region g c =
     record_lies c.args.origin c.in-Some.uid c.args.at c.empty.result c.args.store.now _ c.requires.placed ((c.facts.ensures.store.running c.requires.running).files_known c.args.at.file.0)
+
+pub append_map-requires-clause-instances : goal.append_map-requires-clause-instances
+append_map-requires-clause-instances g c = names_none c.empty.result c.args.store.now.instances.known c.empty.ensures
+
+pub append_map-requires-clause-once : goal.append_map-requires-clause-once
+append_map-requires-clause-once g c = λ own. first_none c.empty.result c.args.store.now.instances.known _ c.empty.ensures
 
 pub returns-in-Ok-clause-any_moment : goal.returns-in-Ok-clause-any_moment
 returns-in-Ok-clause-any_moment g c = λ lists ready s.

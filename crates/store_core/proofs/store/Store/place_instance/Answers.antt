@@ -1,8 +1,8 @@
-use Rattle.std.proofs.Common.{◌≡◌, ◌+◌, ℕ, refl, sym, ◌∙◌, ap, subst, true}
+use Rattle.std.proofs.Common.{◌≡◌, length, refl, sym, ◌∙◌, ap, subst, true}
 use Rattle.disk_model.specs.declared.name.FileName.TheVariants as file
 use Rattle.model_lists.specs.Lists.{Lists}
 use Rattle.model_store.specs.Settled.{IsSettledFor, Leaves}
-use Rattle.sis_store.specs.OnDisk.{next_instance_file}
+use Rattle.sis_store.specs.OnDisk.{IsUnlikeKnown, next_instance_file}
 use Rattle.sis_store.specs.Refusals.{IsPlaceError}
 use Rattle.sis_store.specs.declared.error.PlaceFault.{PlaceFault}
 use Rattle.store_core.specs.Dues.{KeepsStored}
@@ -20,7 +20,7 @@ invariant_of-self g c =
       placed_store _ _ _ _ _ c.place_instance.new.disk c.place_instance.new.self _ c.self.invariant.1 runs change refl,
       room_placed _ c.place_instance.new.disk c.place_instance.new.self _ c.self.inside.stopped c.self.invariant.2,
       made_named _ _ _ _ (next_instance_file c.args.hash c.self.inside.instances) refl refl refl refl refl (λ number e. absurd (let w : file.Box number 1 ≡ next_instance_file c.args.hash c.self.inside.instances = e in cc w)) c.in-Ok.ensures.others c.self.invariant.3,
-      placed_known c.args.hash c.args.octets.now _ _ _ c.place_instance.new.disk c.place_instance.new.self _ c.self.invariant.4 runs c.known_facts.ensures c.known_facts-in-Ok.ensures less c.in-Ok.ensures.ok refl change c.in-Ok.ensures.made,
+      placed_known c.args.hash c.args.octets.now _ _ _ c.place_instance.new.disk c.place_instance.new.self _ c.self.invariant.4 runs c.known_facts.ensures c.known_facts-in-Ok.ensures less (subst (λ v. IsUnlikeKnown c.args.hash (length c.args.octets.now) c.args.octets.now v.instances.known (g.D.Disk.history v.disk)) (sym c.self.view_is) c.requires.new) c.in-Ok.ensures.ok refl change c.in-Ok.ensures.made,
     )
 
 pub invariant_of-self-in-Err-DiskFault : goal.invariant_of-self-in-Err-DiskFault

@@ -1,0 +1,185 @@
+-- The event of a make that names its mailbox, by the clause of a step.
+use Rattle.std.proofs.Common.{◌≡◌, ◌≤◌, ◌<◌, ◌+◌, ℕ, Bool, true, false, cond, List, [], ◌∷◌, ◌++◌, map, Option, Some, None, refl, sym, ◌∙◌, ap, subst, arith}
+use Rattle.std.specs.Prelude.{All, length, nat_le, slice_get}
+use Rattle.std.specs.Str.{bytes_eq}
+use Rattle.std.proofs.lemmas.List.Elements.{All-nil, All-cons, All-head, All-tail}
+use Rattle.disk_model.specs.Disk.{History, Faults, told_calls}
+use Rattle.mdbox_base.specs.Words.{IsName, IsNumber}
+use Rattle.mdbox_base.specs.declared.entries.Highest.{Highest}
+use Rattle.mdbox_base.specs.declared.entries.MapEntry.TheVariants as map_entry
+use Rattle.mdbox_base.specs.declared.ids.BoxNo.{BoxNo}
+use Rattle.mdbox_base.specs.declared.progress.Did.TheVariants as did
+use Rattle.mdbox_base.specs.declared.replies.Refusal.TheVariants as refusal
+use Rattle.mdbox_base.specs.declared.replies.Reply.{Reply}
+use Rattle.mdbox_base.specs.declared.replies.Reply.TheVariants as reply
+use Rattle.mdbox_base.specs.declared.requests.Request.TheVariants as request
+use Rattle.mdbox_base.specs.declared.script.Half.TheVariants as half
+use Rattle.model_lists.specs.Lists.{Mailbox, Lists, AreWellFormed, empty_mailbox}
+use Rattle.model_meaning.specs.BoxMeaning.{BoxMeaning, box_meaning}
+use Rattle.model_meaning.specs.MapMeaning.{MapRecord, MapBox, MapMeaning, map_applied}
+use Rattle.model_meaning.specs.Sound.{IsSoundMapBox}
+use Rattle.model_store.specs.Listing.{ShowsMailbox, ShowLists}
+use Rattle.list_machine.specs.Run.{Last, RunEvent, event_of, Run, and_then, own_events, map_of, drawn_of}
+use Rattle.list_machine.specs.Machine.{IsMade, first_refusal, make_checks}
+use Rattle.list_machine.proofs.MachineOrderLemmas.{answers_well}
+use Rattle.journal.specs.Journal.{IsReplyOf}
+use Rattle.journal.specs.Events.{is_overtaken, number_of}
+use Rattle.journal.specs.Makes.{WouldMake}
+use Rattle.store_core.specs.Dues.{number_beside, due_at}
+use Rattle.store_core.specs.Running.{IsStore}
+use Rattle.store_core.specs.Value.{StoreValue, indexes_of}
+use Rattle.store_core.proofs.NamingLemmas.{same_records, one_box_more, box_named}
+use Rattle.task_steps.specs.Step.{ShowsSeen, HasComeTo}
+use Rattle.task_steps.proofs.OneEventLemmas.{never_more}
+use Rattle.mail_ops.specs.MakeStages.{HasMadeLog}
+use Rattle.mail_ops.specs.Making.{NamesLog, IsStoppedSo, CanBeNamed, HasChangedDisk, FellChanging, with_mailbox}
+use Rattle.mail_ops.specs.Task.{seen_of}
+use Rattle.mail_ops.specs.declared.making.MakeStage.{MakeStage}
+use Rattle.mail_ops.specs.declared.making.MakeStage.TheVariants as stage
+use Rattle.mail_ops.proofs.EventLemmas.{fall, some_reply, one_reply, did_fall, did_part, ends_well}
+use Rattle.mail_ops.proofs.LoweringLemmas.{comes_with}
+use Rattle.mail_ops.proofs.MakeCheckLemmas.{naming_checked}
+use Rattle.mail_ops.proofs.MakeEventLemmas.{MakeClause, naming_refuses, stops_memory, in_turn, above_not, stopped_stays, stopped_shows}
+use Rattle.mail_ops.proofs.MakeStageLemmas.{none_with, naming_part, naming_next}
+use Rattle.mail_ops.proofs.MessageLemmas.{store_is_sound}
+use Rattle.mail_ops.proofs.RemovalLemmas.{store_tells}
+
+-- ---- what is shown
+
+-- the mailboxes that are shown have numbers up to the highest
+shown_below : (highest number : ℕ) (boxes : List MapBox) (meanings : List BoxMeaning) (lists : Lists) → ShowLists boxes meanings lists → All (IsSoundMapBox highest) boxes → highest < number → All (λ (x : Mailbox). x.number < number) lists
+shown_below highest number [] [] [] h sound above = All-nil (λ (x : Mailbox). x.number < number)
+shown_below highest number [] [] (l ∷ ls) h sound above = absurd h
+shown_below highest number [] (m ∷ ms) [] h sound above = absurd h
+shown_below highest number [] (m ∷ ms) (l ∷ ls) h sound above = absurd h
+shown_below highest number (b ∷ bs) [] [] h sound above = absurd h
+shown_below highest number (b ∷ bs) [] (l ∷ ls) h sound above = absurd h
+shown_below highest number (b ∷ bs) (m ∷ ms) [] h sound above = absurd h
+shown_below highest number (b ∷ bs) (m ∷ ms) (l ∷ ls) h sound above =
+    let own : b.number ≤ highest = (All-head (IsSoundMapBox highest) b bs sound).below in
+    let same : l.number ≡ b.number = h.0.number in
+    All-cons (λ (x : Mailbox). x.number < number) l ls (omega (arith, own, same, above)) (shown_below highest number bs ms ls h.1 (All-tail (IsSoundMapBox highest) b bs sound) above)
+
+-- one mailbox more is shown last
+shows_more : (boxes : List MapBox) (meanings : List BoxMeaning) (lists : Lists) (b : MapBox) (m : BoxMeaning) (x : Mailbox) → ShowLists boxes meanings lists → ShowsMailbox b m x → ShowLists (boxes ++ b ∷ []) (meanings ++ m ∷ []) (lists ++ x ∷ [])
+shows_more [] [] [] b m x h last = (last, tt)
+shows_more [] [] (l ∷ ls) b m x h last = absurd h
+shows_more [] (n ∷ ns) [] b m x h last = absurd h
+shows_more [] (n ∷ ns) (l ∷ ls) b m x h last = absurd h
+shows_more (c ∷ cs) [] [] b m x h last = absurd h
+shows_more (c ∷ cs) [] (l ∷ ls) b m x h last = absurd h
+shows_more (c ∷ cs) (n ∷ ns) [] b m x h last = absurd h
+shows_more (c ∷ cs) (n ∷ ns) (l ∷ ls) b m x h last = (h.0, shows_more cs ns ls b m x h.1 last)
+
+shows_empty : (number : BoxNo) (name : List ℕ) → ShowsMailbox (box_named number name) (box_meaning []) (empty_mailbox number.0 name)
+shows_empty number name = record { number = refl; name = refl; next = refl; rows = refl }
+
+-- ---- the event
+
+abbrev pub naming_event : ℕ → ℕ → ℕ → List ℕ → ℕ → RunEvent
+naming_event lane place number name calls = record (event_of lane place Last calls) { reply = Some reply.Done; map_entries = map_entry.B (record { 0 = number }) 1 name ∷ [] }
+
+-- What is known of a mailbox that can be named: its number was drawn.
+pub record IsNamedSo {D : Type 0} (name : List ℕ) (number : ℕ) (store : StoreValue D) : Type 0 where
+  pub can : CanBeNamed name number store
+  pub is_name : IsName name
+  pub is_number : IsNumber number
+  pub was_drawn : number ≤ store.drawn.mailbox
+
+-- it is the machine's step
+made_so : {D : Type 0} → (run : Run) (lane place : ℕ) (name : List ℕ) (number : BoxNo) (store : StoreValue D) (history : Option History) (faults : Faults) (lists : Lists) (calls : ℕ) → IsStore history store → HasComeTo run (seen_of store history faults) → ShowsSeen (seen_of store history faults) lists → IsNamedSo name number.0 store
+    → number_of run place ≡ number.0 → IsMade run (naming_event lane place (number_of run place) name calls) lists name (with_mailbox number.0 name lists)
+made_so run lane place name number store history faults lists calls is come shows n drew = record {
+  number = number.0;
+  number_is = ap Some drew;
+  above = shown_below store.map.highest.mailbox number.0 store.map.boxes (indexes_of store.boxes) lists shows.1 (store_is_sound history store is).boxes n.can.above;
+  fresh = subst (λ (m : MapMeaning). m.highest.mailbox < number.0) (sym come.come.map_is) n.can.above;
+  drawn = subst (λ (d : Highest). number.0 ≤ d.mailbox) (sym come.come.drawn_is) n.was_drawn;
+  fits = n.is_number.high;
+  new_is = refl;
+}
+
+no_check : {D : Type 0} → (run : Run) (name : List ℕ) (number : ℕ) (store : StoreValue D) (history : Option History) (faults : Faults) (lists : Lists) → ShowsSeen (seen_of store history faults) lists → IsNamedSo name number store → first_refusal run lists (make_checks name Last) ≡ None
+no_check run name number store history faults lists shows n = naming_checked run name store lists false shows.1 ∙ n.can.free
+
+done_stopped : Some reply.Done ≡ Some (reply.Refused refusal.Stopped) → ⊥
+done_stopped e = let k : reply.Done ≡ reply.Refused refusal.Stopped = cc e in cc k
+
+pub named_due : {D : Type 0} → (old new : StoreValue D) (number : BoxNo) (name : List ℕ) (uid : ℕ) → NamesLog number name old new → due_at uid new ≡ due_at uid old
+named_due old new number name uid n =
+    ap (λ (rows : List MapRecord). number_beside uid rows new.dues) (ap (λ (m : MapMeaning). m.records) n.map ∙ same_records old.map number name) ∙ ap (λ (dues : List ℕ). number_beside uid old.map.records dues) (ap (λ (s : StoreValue _). s.dues) n.same)
+
+pub naming_done : {D : Type 0} → (name : List ℕ) (number : BoxNo) (next : MakeStage) (old new : StoreValue D) (before after : Option History) (began then : Faults) → IsStore before old → old.stopped ≡ false → IsNamedSo name number.0 old → NamesLog number name old new → HasChangedDisk (with_mailbox number.0 name) before after began then
+    → MakeClause name (stage.Naming number) next old new before after began then (did.Step half.Whole) (Some reply.Done)
+naming_done name number next old new before after began then is ran n named d = λ around behind run lane place said lists come shows stood.
+    let seen = seen_of old before began in
+    let later = seen_of new after then in
+    let left = with_mailbox number.0 name lists in
+    let none = stood.0.unanswered in
+    let event : RunEvent = naming_event lane place (number_of run place) name (told_calls after) in
+    let runs : new.stopped ≡ false = ap (λ (s : StoreValue _). s.stopped) named.same ∙ ran in
+    let free = no_check run name number.0 old before began lists shows n in
+    let made = made_so run lane place name number old before began lists (told_calls after) is come shows n stood.2 in
+    let well : AreWellFormed left = answers_well run lists (request.Make name) event reply.Done left shows.0 n.is_name (free, made) in
+    let boxes : new.map.boxes ≡ old.map.boxes ++ box_named number name ∷ [] = ap (λ (m : MapMeaning). m.boxes) named.map ∙ one_box_more old.map number name in
+    let shown : ShowsSeen later left = (
+      well,
+      subst (λ (bs : List MapBox). ShowLists bs (indexes_of new.boxes) left) (sym boxes) (subst (λ (ms : List BoxMeaning). ShowLists (old.map.boxes ++ box_named number name ∷ []) ms left) (sym named.indexes)
+          (shows_more old.map.boxes (indexes_of old.boxes) lists (box_named number name) (box_meaning []) (empty_mailbox number.0 name) shows.1 (shows_empty number name))),
+    ) in (
+      (did_part around behind run lane place said (request.Make name) lists left seen later (did.Step half.Whole) (Some reply.Done) (Some reply.Done) event
+          (record {
+            lane_is = refl;
+            request_is = refl;
+            moment_is = refl;
+            ended_is = refl;
+            unrefused = refl;
+            undrawn = refl;
+            leaves = record { pins = refl; unpins = refl; doomed = refl; removed = refl; given = refl; gone = refl };
+            finds = tt;
+            found = tt;
+            part_is = naming_next around run name place said number.0 old.map stood come.come.map_is ∙ ap (λ (b : Bool). Some (naming_part b)) (above_not number.0 old.map.highest.mailbox n.can.above);
+            allowed = free;
+            did = refl;
+            ends = record { 0 = λ h. refl; 1 = λ h e. some_reply reply.Done e };
+            replied = none_with (own_events place run) event stood.0.unrefused refl;
+          }) come
+          (comes_with run event (map_entry.B (record { 0 = number_of run place }) 1 name) seen later come (subst (λ (k : ℕ). new.map ≡ map_applied (map_entry.B (record { 0 = k }) 1 name) old.map) (sym stood.2) named.map) (ap (λ (s : StoreValue _). s.drawn) named.same) d.change.grows refl refl refl)
+          (λ uid. let e = named_due old new number name uid named in omega (arith, e))
+          (store_tells old new before after began then (ap (λ (m : MapMeaning). m.store) named.map) (ap (λ (s : StoreValue _). s.drawn) named.same) (ap (λ (s : StoreValue _). s.files) named.same)) shown d.change.grows refl ((free, made), refl)
+          (refl, refl, runs, record { stops = λ s. d.change.moments lists s; settled = λ s. d.settled lists s })
+          (ends_well (request.Make name) said event (Some reply.Done) (Some reply.Done) (did.Step half.Whole) seen later refl ran runs (let k = d.change.reads in omega (arith, k)) d.change.changes (λ x. x) done_stopped (λ some. in_turn name said Last none)
+          (λ given e. subst (λ (r : Reply). IsReplyOf (request.Make name) (said ++ reply.Done ∷ []) r) (one_reply reply.Done given e) (ap (λ (before_it : List Reply). before_it ++ reply.Done ∷ []) none)))).so,
+      λ e. absurd (never_more _ e),
+    )
+
+-- the append failed
+pub naming_fell : {D : Type 0} → (name : List ℕ) (number : BoxNo) (next : MakeStage) (old new : StoreValue D) (before after : Option History) (began then : Faults) → IsStore before old → old.stopped ≡ false → IsNamedSo name number.0 old → IsStoppedSo old new → FellChanging (with_mailbox number.0 name) before after began then
+    → MakeClause name (stage.Naming number) next old new before after began then (did.Broken half.Whole) (Some (reply.Refused refusal.Stopped))
+naming_fell name number next old new before after began then is ran n same f = λ around behind run lane place said lists come shows stood.
+    let seen = seen_of old before began in
+    let later = seen_of new after then in
+    let stops : new.stopped ≡ true = ap (λ (s : StoreValue _). s.stopped) same in
+    let left = with_mailbox number.0 name lists in
+    let would : RunEvent = naming_event lane place (number_of run place) name (told_calls after) in (
+      (did_fall around behind run lane place said (request.Make name) Last lists seen later (did.Broken half.Whole)
+          (naming_refuses around run place said name number.0 old.map false refusal.Stopped (above_not number.0 old.map.highest.mailbox n.can.above) stood come.come.map_is (λ e. absurd (stops_memory e))) come
+          (stopped_stays old new before after began then (with_mailbox number.0 name) same f.change) (stopped_shows old new before after began then lists same shows) tt ran stops f.rose (
+            record { refused = refl; unanswered = refl; ran = ran; stopped = stops },
+            refl,
+            (
+              record {
+                would = would;
+                lane_is = refl;
+                request_is = refl;
+                part_is = refl;
+                did = λ other e. refl;
+                answer = reply.Done;
+                left = left;
+                made = ((no_check run name number.0 old before began lists shows n, made_so run lane place name number old before began lists (told_calls after) is come shows n stood.2), refl);
+              },
+              λ s. f.change.moments lists s,
+            ),
+          )).so,
+      λ e. absurd (never_more _ e),
+    )

@@ -1,0 +1,433 @@
+-- What the step of a make says, event by event.
+use Rattle.std.proofs.Common.{◌≡◌, ◌≢◌, ◌≤◌, ◌<◌, ◌+◌, ◌↔◌, ℕ, Bool, true, false, cond, List, Option, Some, None, refl, sym, ◌∙◌, ap, subst, arith, inl, inr}
+use Rattle.std.specs.Prelude.{◌⊎◌, ◌==◌, find, nat_lt}
+use Rattle.std.proofs.lemmas.Grind.{common_steps}
+use Rattle.disk_model.specs.Disk.{History, Faults, Files}
+use Rattle.disk_model.specs.FaultCounts.{NoFault, ChangeFaultCounted}
+use Rattle.disk_model.proofs.MomentLemmas.{each_image-map}
+use Rattle.mdbox_base.specs.Words.{IsName, IsNumber}
+use Rattle.mdbox_base.specs.declared.ids.BoxNo.{BoxNo}
+use Rattle.mdbox_base.specs.declared.progress.Did.{Did}
+use Rattle.mdbox_base.specs.declared.progress.Did.TheVariants as did
+use Rattle.mdbox_base.specs.declared.progress.Progress.{Progress}
+use Rattle.mdbox_base.specs.declared.progress.Progress.TheVariants as progress
+use Rattle.mdbox_base.specs.declared.replies.Refusal.{Refusal}
+use Rattle.mdbox_base.specs.declared.replies.Refusal.TheVariants as refusal
+use Rattle.mdbox_base.specs.declared.replies.Reply.{Reply}
+use Rattle.mdbox_base.specs.declared.replies.Reply.TheVariants as reply
+use Rattle.mdbox_base.specs.declared.script.Half.TheVariants as half
+use Rattle.model_lists.specs.Lists.{Lists}
+use Rattle.model_meaning.specs.MapMeaning.{MapRecord, MapMeaning, record_at}
+use Rattle.model_store.specs.Safe.{Safe}
+use Rattle.model_store.specs.Settled.{IsSettledFor, Leaves}
+use Rattle.list_machine.specs.Machine.{is_step}
+use Rattle.store_core.specs.Dues.{Moves, Spares, no_amounts, amounts_in, KeepsStored}
+use Rattle.store_core.specs.Keeping.{KeepsUids}
+use Rattle.store_core.specs.MadeLogs.{IsUnnamed, has_made_log, without_box}
+use Rattle.store_core.specs.Running.{IsStore}
+use Rattle.store_core.specs.Value.{StoreValue, indexes_of}
+use Rattle.store_core.proofs.DueLemmas.{moves_as, spares_kept, keeps_itself}
+use Rattle.store_core.proofs.NamingLemmas.{same_records}
+use Rattle.task_steps.specs.Step.{ended_by}
+use Rattle.task_steps.proofs.OneEventLemmas.{leaves_none}
+use Rattle.mail_ops.specs.Event.{refusal_told, told_as}
+use Rattle.mail_ops.specs.Making.{MakeValue, naming_refusal, making_refusal, IsReadyToMake, LeavesLogs, KeepsAllButLogs, make_left, make_lists, lists_by_make, with_drawn_box, NamesLog, RemovesLog, IsLogNotMade, IsStoppedSo, MakeAnswers, HasChangedDisk, FellChanging, same_lists, with_mailbox, MadeLogSo, FellIfStopped, CanBeNamed, MakesOn}
+use Rattle.mail_ops.specs.declared.event.NotDone.{NotDone}
+use Rattle.mail_ops.specs.declared.event.NotDone.TheVariants as not_done
+use Rattle.mail_ops.specs.declared.making.MakeStage.{MakeStage}
+use Rattle.mail_ops.specs.declared.making.MakeStage.TheVariants as stage
+use Rattle.mail_ops.proofs.EventLemmas.{fall}
+use Rattle.mail_ops.proofs.FlagEventLemmas.{due_kept}
+use Rattle.mail_ops.proofs.KeptUidLemmas.{logs_keep, same_keeps}
+use Rattle.mail_ops.proofs.MakeCheckLemmas.{naming_steps, making_steps}
+use Rattle.mail_ops.proofs.MakeEventLemmas.{MakeClause, first_stopped, naming_stopped, making_refused, making_unremembered, making_fell, making_done, naming_refused, naming_unremembered, removing_fell, naming_overtaken}
+use Rattle.mail_ops.proofs.MakeLogLemmas.{logs_stay, logs_more, logs_less, made_there, naming_keeps}
+use Rattle.mail_ops.proofs.MakeNamedLemmas.{IsNamedSo, named_due, naming_done, naming_fell}
+
+-- what a step says of an event
+pub record MakeKnown {D : Type 0} (name : List ℕ) (now next : MakeStage) (answer : Progress) (how : Did) (old new : StoreValue D) (before after : Option History) (began then : Faults) : Type 0 where
+  pub ready : IsReadyToMake next new
+  pub does : MakeClause name now next old new before after began then how (ended_by answer)
+  pub moments : (lists : Lists) → IsSettledFor lists before → Leaves lists (make_lists name now lists) before after
+  pub settled : new.stopped ≡ false → (lists : Lists) → IsSettledFor lists before → IsSettledFor (lists_by_make name now answer lists) after
+  pub stopped : (answer ≡ progress.Done (reply.Refused refusal.Stopped)) ↔ (new.stopped ≡ true)
+  pub fault : ChangeFaultCounted (answer ≡ progress.Done (reply.Refused refusal.Stopped)) began then
+  pub unfailed : answer ≢ progress.Done (reply.Refused refusal.Stopped) → NoFault began then
+  pub moves : Moves no_amounts no_amounts (amounts_in old) (amounts_in new)
+  pub spares : new.stopped ≡ old.stopped → Spares no_amounts old new before after
+  pub keeps : KeepsUids old new
+  pub logs : LeavesLogs now next old new
+  pub rest : KeepsAllButLogs old new
+  pub replies : MakeAnswers name now old new after next answer
+  pub left : answer ≡ progress.More → make_left next new < make_left now old
+
+-- What is known of the store and the name as an event begins.
+pub record MakeBegins {D : Type 0} (name : List ℕ) (now : MakeStage) (store : StoreValue D) (history : Option History) : Type 0 where
+  pub store_is : IsStore history store
+  pub runs : store.stopped ≡ false
+  pub is_name : IsName name
+  pub ready : IsReadyToMake now store
+  pub made : (number : ℕ) → has_made_log number store ≡ true → IsNumber number × (number ≤ store.drawn.mailbox) × IsUnnamed number store.map
+
+-- ---- answers that are told apart
+
+more_is : (given : Reply) → progress.More ≡ progress.Done given → ⊥
+more_is given e = cc e
+
+done_more : (given : Reply) → progress.Done given ≡ progress.More → ⊥
+done_more given e = cc e
+
+made_stopped : progress.Done reply.Done ≡ progress.Done (reply.Refused refusal.Stopped) → ⊥
+made_stopped e = let k : reply.Done ≡ reply.Refused refusal.Stopped = cc e in cc k
+
+why_is : (a b : Refusal) → progress.Done (reply.Refused a) ≡ progress.Done (reply.Refused b) → a ≡ b
+why_is a b e = let k : reply.Refused a ≡ reply.Refused b = cc e in cc k
+
+step_runs : (why : Refusal) → is_step why ≡ true → why ≡ refusal.Stopped → ⊥
+step_runs why s e = let k : true ≡ false = sym s ∙ ap is_step e in cc k
+
+memory_runs : refusal.NoMemory ≡ refusal.Stopped → ⊥
+memory_runs e = cc e
+
+-- ---- what a crash leaves
+
+-- safe for the same lists, so for these or others
+leaves_also : (lists later : Lists) (before after : Option History) → Leaves lists lists before after → Leaves lists later before after
+leaves_also lists later before after l = each_image-map (λ _ image. Safe image lists ⊎ Safe image lists) (λ _ image. Safe image lists ⊎ Safe image later) before after (λ m image s. either image s) l
+  where
+    either : (image : Files) → Safe image lists ⊎ Safe image lists → Safe image lists ⊎ Safe image later
+    either image (inl s) = inl s
+    either image (inr s) = inl s
+
+leaves_make : (name : List ℕ) (now : MakeStage) (lists : Lists) (before after : Option History) → Leaves lists lists before after → Leaves lists (make_lists name now lists) before after
+leaves_make name now lists before after l = leaves_also lists (make_lists name now lists) before after l
+
+-- what a refusal leaves of the lists
+refused_lists : (name : List ℕ) (now : MakeStage) (why : Refusal) (lists : Lists) (after : Option History) → IsSettledFor lists after → IsSettledFor (lists_by_make name now (progress.Done (reply.Refused why)) lists) after
+refused_lists name now why lists after s = s
+
+-- ---- what is kept of records
+
+named_spares : {D : Type 0} → (old new : StoreValue D) (number : BoxNo) (name : List ℕ) (before after : Option History) → NamesLog number name old new → KeepsStored before after → Spares no_amounts old new before after
+named_spares old new number name before after n keeps = record {
+  records = λ uid row more found.
+      let kept = spares_kept no_amounts old (record old { disk = new.disk }) before after refl keeps in
+      let own = kept.records uid row more found in
+      record {
+        now = own.now;
+        there = ap (λ (m : MapMeaning). record_at m uid) n.map ∙ (ap (λ (rows : List MapRecord). find (λ r. r.uid == uid) rows) (same_records old.map number name) ∙ own.there);
+        guid = own.guid;
+        stores = own.stores;
+      };
+}
+
+-- ---- the first event
+
+high_number : (highest drawn number : ℕ) → highest ≤ drawn → number ≡ drawn + 1 → nat_lt highest number ≡ true
+high_number highest drawn number l e = let k : highest < number = omega (arith, l, e) in grind (arith, common_steps, k)
+
+one_left : (b : Bool) → b ≡ true → cond b 1 3 < 2
+one_left true e = omega arith
+one_left false e = absurd (let k : false ≡ true = e in cc k)
+
+known_made : {D : Type 0} → (name : List ℕ) (number : BoxNo) (old new : StoreValue D) (before after : Option History) (began then : Faults) → MakeBegins name stage.First old before → MadeLogSo name number.0 old new before after began then
+    → MakeKnown name stage.First (stage.Naming number) progress.More did.Quiet old new before after began then
+known_made name number old new before after began then b m = record {
+  ready = made_there number old new m.log;
+  does = making_done name number old new before after began then b.runs m;
+  moments = λ lists s. m.disk.change.moments lists s;
+  settled = λ runs lists s. m.disk.settled lists s;
+  stopped = record { 0 = λ e. absurd (more_is (reply.Refused refusal.Stopped) e); 1 = λ e. absurd (fall new.stopped e (ap (λ (s : StoreValue _). s.stopped) m.log.same ∙ b.runs)) };
+  fault = record { reads = m.disk.change.reads; changes = m.disk.change.changes; rose = λ e. absurd (more_is (reply.Refused refusal.Stopped) e) };
+  unfailed = λ other. m.disk.unfailed;
+  moves = moves_as no_amounts (amounts_in old) (amounts_in new) (λ uid. due_kept old new uid map_is (ap (λ (s : StoreValue _). s.dues) m.log.same));
+  spares = λ same. spares_kept no_amounts old new before after map_is m.disk.stored;
+  keeps = logs_keep old new (ap (λ (s : StoreValue _). s.map.boxes) m.log.same) (ap (λ (s : StoreValue _). indexes_of s.boxes) m.log.same);
+  logs = logs_more number old new m.log;
+  rest = rest_of m.log.same;
+  replies = (m.free, m.log);
+  left = λ e. one_left (nat_lt new.map.highest.mailbox number.0) (ap (λ (s : StoreValue _). nat_lt s.map.highest.mailbox number.0) m.log.same ∙ high_number old.map.highest.mailbox old.drawn.mailbox number.0 b.store_is.drawn.mailbox m.log.next);
+}
+  where
+    map_is : new.map ≡ old.map
+    map_is = ap (λ (s : StoreValue _). s.map) m.log.same
+
+    rest_of : new ≡ record (with_drawn_box number.0 old) { disk = new.disk; made = new.made } → KeepsAllButLogs old new
+    rest_of same = subst (λ (s : StoreValue _). s ≡ record old { disk = s.disk; map_log = s.map_log; map = s.map; boxes = s.boxes; made = s.made; drawn = s.drawn; stopped = s.stopped }) (sym same) refl
+
+-- it was refused by a check: nothing has changed
+known_refused : {D : Type 0} → (name : List ℕ) (why : Refusal) (store : StoreValue D) (history : Option History) (faults : Faults) → MakeBegins name stage.First store history → making_refusal name store ≡ Some why
+    → MakeKnown name stage.First stage.First (progress.Done (reply.Refused why)) (did.Step half.Whole) store store history history faults faults
+known_refused name why store history faults b refuses = record {
+  ready = tt;
+  does = making_refused name stage.First store history faults why b.runs refuses;
+  moments = λ lists s. leaves_none history lists lists s;
+  settled = λ runs lists s. s;
+  stopped = record { 0 = λ e. absurd (step_runs why (making_steps name store why refuses) (why_is why refusal.Stopped e)); 1 = λ e. absurd (fall store.stopped e b.runs) };
+  fault = record { reads = refl; changes = omega arith; rose = λ e. absurd (step_runs why (making_steps name store why refuses) (why_is why refusal.Stopped e)) };
+  unfailed = λ other. refl;
+  moves = moves_as no_amounts (amounts_in store) (amounts_in store) (λ uid. refl);
+  spares = λ same. spares_kept no_amounts store store history history refl (keeps_itself history);
+  keeps = same_keeps store store refl;
+  logs = logs_stay stage.First store store refl;
+  rest = refl;
+  replies = (not_done.Refused why, refl, (refl, refuses));
+  left = λ e. absurd (done_more (reply.Refused why) e);
+}
+
+-- out of memory: a number is drawn
+known_unremembered : {D : Type 0} → (name : List ℕ) (store : StoreValue D) (history : Option History) (faults : Faults) → MakeBegins name stage.First store history → making_refusal name store ≡ None
+    → MakeKnown name stage.First stage.First (progress.Done (reply.Refused refusal.NoMemory)) did.Quiet store (with_drawn_box (store.drawn.mailbox + 1) store) history history faults faults
+known_unremembered name store history faults b free = record {
+  ready = tt;
+  does = making_unremembered name stage.First store history faults b.runs;
+  moments = λ lists s. leaves_none history lists lists s;
+  settled = λ runs lists s. s;
+  stopped = record { 0 = λ e. absurd (memory_runs (why_is refusal.NoMemory refusal.Stopped e)); 1 = λ e. absurd (fall store.stopped e b.runs) };
+  fault = record { reads = refl; changes = omega arith; rose = λ e. absurd (memory_runs (why_is refusal.NoMemory refusal.Stopped e)) };
+  unfailed = λ other. refl;
+  moves = moves_as no_amounts (amounts_in store) (amounts_in store) (λ uid. refl);
+  spares = λ same. spares_kept no_amounts store (with_drawn_box (store.drawn.mailbox + 1) store) history history refl (keeps_itself history);
+  keeps = logs_keep store (with_drawn_box (store.drawn.mailbox + 1) store) refl refl;
+  logs = logs_stay stage.First store (with_drawn_box (store.drawn.mailbox + 1) store) refl;
+  rest = refl;
+  replies = (not_done.NoMemory, refl, (refl, free));
+  left = λ e. absurd (done_more (reply.Refused refusal.NoMemory) e);
+}
+
+-- a change of the disk failed
+known_fell : {D : Type 0} → (name : List ℕ) (old new : StoreValue D) (before after : Option History) (began then : Faults) → MakeBegins name stage.First old before → IsLogNotMade name not_done.Stopped old new → FellChanging same_lists before after began then
+    → MakeKnown name stage.First stage.First (progress.Done (reply.Refused refusal.Stopped)) did.Failed old new before after began then
+known_fell name old new before after began then b n f = record {
+  ready = tt;
+  does = making_fell name stage.First old new before after began then b.runs n.0 f;
+  moments = λ lists s. f.change.moments lists s;
+  settled = λ runs lists s. absurd (fall new.stopped stops runs);
+  stopped = record { 0 = λ e. stops; 1 = λ e. refl };
+  fault = record { reads = f.change.reads; changes = f.change.changes; rose = λ e. f.rose };
+  unfailed = λ other. absurd (other refl);
+  moves = moves_as no_amounts (amounts_in old) (amounts_in new) (λ uid. due_kept old new uid (ap (λ (s : StoreValue _). s.map) n.0) (ap (λ (s : StoreValue _). s.dues) n.0));
+  spares = λ same. absurd (fall new.stopped stops (same ∙ b.runs));
+  keeps = logs_keep old new (ap (λ (s : StoreValue _). s.map.boxes) n.0) (ap (λ (s : StoreValue _). indexes_of s.boxes) n.0);
+  logs = logs_stay stage.First old new (ap (λ (s : StoreValue _). s.made) n.0);
+  rest = rest_of n.0;
+  replies = (not_done.Stopped, refl, n);
+  left = λ e. absurd (done_more (reply.Refused refusal.Stopped) e);
+}
+  where
+    stops : new.stopped ≡ true
+    stops = ap (λ (s : StoreValue _). s.stopped) n.0
+
+    rest_of : new ≡ record (with_drawn_box (old.drawn.mailbox + 1) old) { disk = new.disk; stopped = true } → KeepsAllButLogs old new
+    rest_of same = subst (λ (s : StoreValue _). s ≡ record old { disk = s.disk; map_log = s.map_log; map = s.map; boxes = s.boxes; made = s.made; drawn = s.drawn; stopped = s.stopped }) (sym same) refl
+
+abbrev KnownBy : {D : Type 0} → (D → Option History) → (D → Faults) → List ℕ → MakeStage → MakeStage → Progress → Did → StoreValue D → StoreValue D → Type 0
+KnownBy history faults name now next answer how old new = MakeKnown name now next answer how old new (history old.disk) (history new.disk) (faults old.disk) (faults new.disk)
+
+known_unmade : {D : Type 0} → (history : D → Option History) (faults : D → Faults) (name : List ℕ) (error : NotDone) (old new : StoreValue D) → MakeBegins name stage.First old (history old.disk) → IsLogNotMade name error old new → FellIfStopped error (history old.disk) (history new.disk) (faults old.disk) (faults new.disk)
+    → KnownBy history faults name stage.First stage.First (progress.Done (reply.Refused (refusal_told error))) (told_as half.Whole did.Failed error) old new
+known_unmade history faults name (not_done.Refused why) old new b n f =
+    subst (λ (s : StoreValue _). KnownBy history faults name stage.First stage.First (progress.Done (reply.Refused why)) (did.Step half.Whole) old s) (sym n.0) (known_refused name why old (history old.disk) (faults old.disk) b n.1)
+known_unmade history faults name not_done.NoMemory old new b n f =
+    subst (λ (s : StoreValue _). KnownBy history faults name stage.First stage.First (progress.Done (reply.Refused refusal.NoMemory)) did.Quiet old s) (sym n.0) (known_unremembered name old (history old.disk) (faults old.disk) b n.1)
+known_unmade history faults name not_done.Stopped old new b n f = known_fell name old new (history old.disk) (history new.disk) (faults old.disk) (faults new.disk) b n f
+
+-- ---- the second event
+
+named_so : {D : Type 0} → (name : List ℕ) (number : BoxNo) (store : StoreValue D) (history : Option History) → MakeBegins name (stage.Naming number) store history → CanBeNamed name number.0 store → IsNamedSo name number.0 store
+named_so name number store history b can = let m = b.made number.0 b.ready in record { can = can; is_name = b.is_name; is_number = m.0; was_drawn = m.1 }
+
+known_named : {D : Type 0} → (name : List ℕ) (number : BoxNo) (old new : StoreValue D) (before after : Option History) (began then : Faults) → MakeBegins name (stage.Naming number) old before → CanBeNamed name number.0 old → NamesLog number name old new → HasChangedDisk (with_mailbox number.0 name) before after began then
+    → MakeKnown name (stage.Naming number) stage.First (progress.Done reply.Done) (did.Step half.Whole) old new before after began then
+known_named name number old new before after began then b can n d = record {
+  ready = tt;
+  does = naming_done name number stage.First old new before after began then b.store_is b.runs (named_so name number old before b can) n d;
+  moments = λ lists s. d.change.moments lists s;
+  settled = λ runs lists s. d.settled lists s;
+  stopped = record { 0 = λ e. absurd (made_stopped e); 1 = λ e. absurd (fall new.stopped e (ap (λ (s : StoreValue _). s.stopped) n.same ∙ b.runs)) };
+  fault = record { reads = d.change.reads; changes = d.change.changes; rose = λ e. absurd (made_stopped e) };
+  unfailed = λ other. d.unfailed;
+  moves = moves_as no_amounts (amounts_in old) (amounts_in new) (λ uid. named_due old new number name uid n);
+  spares = λ same. named_spares old new number name before after n d.stored;
+  keeps = naming_keeps number name old new n;
+  logs = logs_less number old new n.made;
+  rest = rest_of n.same;
+  replies = (can.free, can.above, n);
+  left = λ e. absurd (done_more reply.Done e);
+}
+  where
+    rest_of : new ≡ record old { disk = new.disk; map_log = new.map_log; map = new.map; boxes = new.boxes; made = new.made } → KeepsAllButLogs old new
+    rest_of same = same ∙ ap (λ (s : StoreValue _). record old { disk = new.disk; map_log = new.map_log; map = new.map; boxes = new.boxes; made = new.made; drawn = s.drawn; stopped = s.stopped }) (sym same)
+
+-- the log was removed: what every answer says
+pub record RemovedKnown {D : Type 0} (now : MakeStage) (old new : StoreValue D) (before after : Option History) : Type 0 where
+  pub moves : Moves no_amounts no_amounts (amounts_in old) (amounts_in new)
+  pub spares : Spares no_amounts old new before after
+  pub keeps : KeepsUids old new
+  pub logs : LeavesLogs now stage.First old new
+  pub rest : KeepsAllButLogs old new
+  pub runs : new.stopped ≡ old.stopped
+
+removed_known : {D : Type 0} → (number : BoxNo) (old new : StoreValue D) (before after : Option History) (began then : Faults) → RemovesLog number.0 old new after → HasChangedDisk same_lists before after began then → RemovedKnown (stage.Naming number) old new before after
+removed_known number old new before after began then r d = record {
+  moves = moves_as no_amounts (amounts_in old) (amounts_in new) (λ uid. due_kept old new uid map_is (ap (λ (s : StoreValue _). s.dues) r.same));
+  spares = spares_kept no_amounts old new before after map_is d.stored;
+  keeps = logs_keep old new (ap (λ (s : StoreValue _). s.map.boxes) r.same) (ap (λ (s : StoreValue _). indexes_of s.boxes) r.same);
+  logs = logs_less number old new (ap (λ (s : StoreValue _). s.made) r.same);
+  rest = rest_of r.same;
+  runs = ap (λ (s : StoreValue _). s.stopped) r.same;
+}
+  where
+    map_is : new.map ≡ old.map
+    map_is = ap (λ (s : StoreValue _). s.map) r.same
+
+    rest_of : new ≡ record old { disk = new.disk; made = without_box number.0 old.made } → KeepsAllButLogs old new
+    rest_of same = subst (λ (s : StoreValue _). s ≡ record old { disk = s.disk; map_log = s.map_log; map = s.map; boxes = s.boxes; made = s.made; drawn = s.drawn; stopped = s.stopped }) (sym same) refl
+
+-- and it is answered by what it was refused, or that it is out of memory
+known_removed : {D : Type 0} → (name : List ℕ) (number : BoxNo) (why : Refusal) (how : Did) (old new : StoreValue D) (before after : Option History) (began then : Faults) → MakeBegins name (stage.Naming number) old before → RemovesLog number.0 old new after → HasChangedDisk same_lists before after began then
+    → (why ≡ refusal.Stopped → ⊥) → (naming_refusal name old ≡ Some why) ⊎ ((naming_refusal name old ≡ None) × (old.map.highest.mailbox < number.0) × (why ≡ refusal.NoMemory))
+    → MakeClause name (stage.Naming number) stage.First old new before after began then how (Some (reply.Refused why)) → MakeKnown name (stage.Naming number) stage.First (progress.Done (reply.Refused why)) how old new before after began then
+known_removed name number why how old new before after began then b r d running cause does =
+    let k = removed_known number old new before after began then r d in record {
+      ready = tt;
+      does = does;
+      moments = λ lists s. leaves_make name (stage.Naming number) lists before after (d.change.moments lists s);
+      settled = λ runs lists s. refused_lists name (stage.Naming number) why lists after (d.settled lists s);
+      stopped = record { 0 = λ e. absurd (running (why_is why refusal.Stopped e)); 1 = λ e. absurd (fall new.stopped e (k.runs ∙ b.runs)) };
+      fault = record { reads = d.change.reads; changes = d.change.changes; rose = λ e. absurd (running (why_is why refusal.Stopped e)) };
+      unfailed = λ other. d.unfailed;
+      moves = k.moves;
+      spares = λ same. k.spares;
+      keeps = k.keeps;
+      logs = k.logs;
+      rest = k.rest;
+      replies = (r, cause);
+      left = λ e. absurd (done_more (reply.Refused why) e);
+    }
+
+not_above : (highest number : ℕ) → number ≤ highest → nat_lt highest number ≡ false
+not_above highest number l = grind (arith, common_steps, l)
+
+two_left : (b : Bool) → b ≡ false → 2 < cond b 1 3
+two_left true e = absurd (let k : true ≡ false = e in cc k)
+two_left false e = omega arith
+
+-- the request begins anew
+known_overtaken : {D : Type 0} → (name : List ℕ) (number : BoxNo) (old new : StoreValue D) (before after : Option History) (began then : Faults) → MakeBegins name (stage.Naming number) old before → naming_refusal name old ≡ None → number.0 ≤ old.map.highest.mailbox → RemovesLog number.0 old new after
+    → HasChangedDisk same_lists before after began then → MakeKnown name (stage.Naming number) stage.First progress.More did.Quiet old new before after began then
+known_overtaken name number old new before after began then b free behind_it r d =
+    let k = removed_known number old new before after began then r d in record {
+      ready = tt;
+      does = naming_overtaken name number old new before after began then b.runs free behind_it r d;
+      moments = λ lists s. leaves_make name (stage.Naming number) lists before after (d.change.moments lists s);
+      settled = λ runs lists s. d.settled lists s;
+      stopped = record { 0 = λ e. absurd (more_is (reply.Refused refusal.Stopped) e); 1 = λ e. absurd (fall new.stopped e (k.runs ∙ b.runs)) };
+      fault = record { reads = d.change.reads; changes = d.change.changes; rose = λ e. absurd (more_is (reply.Refused refusal.Stopped) e) };
+      unfailed = λ other. d.unfailed;
+      moves = k.moves;
+      spares = λ same. k.spares;
+      keeps = k.keeps;
+      logs = k.logs;
+      rest = k.rest;
+      replies = (free, behind_it, r);
+      left = λ e. two_left (nat_lt old.map.highest.mailbox number.0) (not_above old.map.highest.mailbox number.0 behind_it);
+    }
+
+-- a change of the disk failed
+known_stopped : {D : Type 0} → (name : List ℕ) (number : BoxNo) (how : Did) (old new : StoreValue D) (before after : Option History) (began then : Faults) → MakeBegins name (stage.Naming number) old before → IsStoppedSo old new → ((lists : Lists) → IsSettledFor lists before → Leaves lists (make_lists name (stage.Naming number) lists) before after)
+    → ChangeFaultCounted (progress.Done (reply.Refused refusal.Stopped) ≡ progress.Done (reply.Refused refusal.Stopped)) began then → MakeClause name (stage.Naming number) (stage.Naming number) old new before after began then how (Some (reply.Refused refusal.Stopped))
+    → MakeKnown name (stage.Naming number) (stage.Naming number) (progress.Done (reply.Refused refusal.Stopped)) how old new before after began then
+known_stopped name number how old new before after began then b same moments fault does = record {
+  ready = ap (λ (s : StoreValue _). has_made_log number.0 s) same ∙ b.ready;
+  does = does;
+  moments = moments;
+  settled = λ runs lists s. absurd (fall new.stopped stops runs);
+  stopped = record { 0 = λ e. stops; 1 = λ e. refl };
+  fault = fault;
+  unfailed = λ other. absurd (other refl);
+  moves = moves_as no_amounts (amounts_in old) (amounts_in new) (λ uid. due_kept old new uid (ap (λ (s : StoreValue _). s.map) same) (ap (λ (s : StoreValue _). s.dues) same));
+  spares = λ again. absurd (fall new.stopped stops (again ∙ b.runs));
+  keeps = logs_keep old new (ap (λ (s : StoreValue _). s.map.boxes) same) (ap (λ (s : StoreValue _). indexes_of s.boxes) same);
+  logs = logs_stay (stage.Naming number) old new (ap (λ (s : StoreValue _). s.made) same);
+  rest = rest_of same;
+  replies = (refl, refl, same);
+  left = λ e. absurd (done_more (reply.Refused refusal.Stopped) e);
+}
+  where
+    stops : new.stopped ≡ true
+    stops = ap (λ (s : StoreValue _). s.stopped) same
+
+    rest_of : IsStoppedSo old new → KeepsAllButLogs old new
+    rest_of is = subst (λ (s : StoreValue _). s ≡ record old { disk = s.disk; map_log = s.map_log; map = s.map; boxes = s.boxes; made = s.made; drawn = s.drawn; stopped = s.stopped }) (sym is) refl
+
+fell_fault : (left : Lists → Lists) (before after : Option History) (began then : Faults) → FellChanging left before after began then → ChangeFaultCounted (progress.Done (reply.Refused refusal.Stopped) ≡ progress.Done (reply.Refused refusal.Stopped)) began then
+fell_fault left before after began then f = record { reads = f.change.reads; changes = f.change.changes; rose = λ e. f.rose }
+
+-- ---- any event
+
+known_by : {D : Type 0} → (history : D → Option History) (faults : D → Faults) (name : List ℕ) (now next : MakeStage) (answer : Progress) (how : Did) (old new : StoreValue D) → MakeBegins name now old (history old.disk) → MakesOn name now next answer how old new (history old.disk) (history new.disk) (faults old.disk) (faults new.disk)
+    → KnownBy history faults name now next answer how old new
+known_by history faults name stage.First (stage.Naming number) progress.More how old new b on =
+    subst (λ (h : Did). KnownBy history faults name stage.First (stage.Naming number) progress.More h old new) (sym on.0) (known_made name number old new (history old.disk) (history new.disk) (faults old.disk) (faults new.disk) b on.1)
+known_by history faults name stage.First stage.First (progress.Done (reply.Refused why)) how old new b on =
+    subst (λ (h : Did). KnownBy history faults name stage.First stage.First (progress.Done (reply.Refused why)) h old new) (sym on.2)
+    (subst (λ (w : Refusal). KnownBy history faults name stage.First stage.First (progress.Done (reply.Refused w)) (told_as half.Whole did.Failed on.0) old new) (sym on.1) (known_unmade history faults name on.0 old new b on.3 on.4))
+known_by history faults name (stage.Naming number) stage.First (progress.Done reply.Done) how old new b on =
+    subst (λ (h : Did). KnownBy history faults name (stage.Naming number) stage.First (progress.Done reply.Done) h old new) (sym on.0) (known_named name number old new (history old.disk) (history new.disk) (faults old.disk) (faults new.disk) b on.1 on.2 on.3)
+known_by history faults name (stage.Naming number) stage.First progress.More how old new b on =
+    subst (λ (h : Did). KnownBy history faults name (stage.Naming number) stage.First progress.More h old new) (sym on.0) (known_overtaken name number old new (history old.disk) (history new.disk) (faults old.disk) (faults new.disk) b on.1 on.2 on.3 on.4)
+known_by history faults name (stage.Naming number) stage.First (progress.Done (reply.Refused why)) how old new b on = by_cause on.2
+  where
+    before : Option History
+    before = history old.disk
+
+    after : Option History
+    after = history new.disk
+
+    by_cause : ((how ≡ did.Step half.Whole) × (naming_refusal name old ≡ Some why)) ⊎ ((how ≡ did.Quiet) × CanBeNamed name number.0 old × (why ≡ refusal.NoMemory)) → KnownBy history faults name (stage.Naming number) stage.First (progress.Done (reply.Refused why)) how old new
+    by_cause (inl e) =
+        subst (λ (h : Did). KnownBy history faults name (stage.Naming number) stage.First (progress.Done (reply.Refused why)) h old new) (sym e.0)
+        (known_removed name number why (did.Step half.Whole) old new before after (faults old.disk) (faults new.disk) b on.0 on.1 (step_runs why (naming_steps name old why e.1)) (inl e.1) (naming_refused name number stage.First old new before after (faults old.disk) (faults new.disk) why b.runs e.1 on.0 on.1))
+    by_cause (inr e) =
+        subst (λ (h : Did). KnownBy history faults name (stage.Naming number) stage.First (progress.Done (reply.Refused why)) h old new) (sym e.0)
+        (subst (λ (w : Refusal). KnownBy history faults name (stage.Naming number) stage.First (progress.Done (reply.Refused w)) did.Quiet old new) (sym e.2)
+        (known_removed name number refusal.NoMemory did.Quiet old new before after (faults old.disk) (faults new.disk) b on.0 on.1 memory_runs (inr (e.1.free, e.1.above, refl)) (naming_unremembered name number stage.First old new before after (faults old.disk) (faults new.disk) b.runs e.1 on.0 on.1)))
+known_by history faults name (stage.Naming number) (stage.Naming still) (progress.Done (reply.Refused why)) how old new b on =
+    subst (λ (w : Refusal). KnownBy history faults name (stage.Naming number) (stage.Naming still) (progress.Done (reply.Refused w)) how old new) (sym on.1)
+    (subst (λ (s : BoxNo). KnownBy history faults name (stage.Naming number) (stage.Naming s) (progress.Done (reply.Refused refusal.Stopped)) how old new) (sym on.0) (by_cause on.3))
+  where
+    before : Option History
+    before = history old.disk
+
+    after : Option History
+    after = history new.disk
+
+    by_cause : ((how ≡ did.Failed) × FellChanging same_lists before after (faults old.disk) (faults new.disk)) ⊎ ((how ≡ did.Broken half.Whole) × CanBeNamed name number.0 old × FellChanging (with_mailbox number.0 name) before after (faults old.disk) (faults new.disk))
+        → KnownBy history faults name (stage.Naming number) (stage.Naming number) (progress.Done (reply.Refused refusal.Stopped)) how old new
+    by_cause (inl e) =
+        subst (λ (h : Did). KnownBy history faults name (stage.Naming number) (stage.Naming number) (progress.Done (reply.Refused refusal.Stopped)) h old new) (sym e.0)
+        (known_stopped name number did.Failed old new before after (faults old.disk) (faults new.disk) b on.2 (λ lists s. leaves_make name (stage.Naming number) lists before after (e.1.change.moments lists s)) (fell_fault same_lists before after (faults old.disk) (faults new.disk) e.1)
+        (removing_fell name number (stage.Naming number) old new before after (faults old.disk) (faults new.disk) b.runs on.2 e.1))
+    by_cause (inr e) =
+        subst (λ (h : Did). KnownBy history faults name (stage.Naming number) (stage.Naming number) (progress.Done (reply.Refused refusal.Stopped)) h old new) (sym e.0)
+        (known_stopped name number (did.Broken half.Whole) old new before after (faults old.disk) (faults new.disk) b on.2 (λ lists s. e.2.change.moments lists s) (fell_fault (with_mailbox number.0 name) before after (faults old.disk) (faults new.disk) e.2)
+        (naming_fell name number (stage.Naming number) old new before after (faults old.disk) (faults new.disk) b.store_is b.runs (named_so name number old before b e.1) on.2 e.2))
+known_by history faults name now next answer how old new b on = absurd on
+
+-- Of a task that is seen as this.
+pub make_known_by : {D : Type 0} → (history : D → Option History) (faults : D → Faults) (task seen : MakeValue) (next : MakeStage) (answer : Progress) (how : Did) (old new : StoreValue D) → task ≡ seen → IsStore (history old.disk) old → old.stopped ≡ false → IsName task.name → IsReadyToMake seen.stage old
+    → ((number : ℕ) → has_made_log number old ≡ true → IsNumber number × (number ≤ old.drawn.mailbox) × IsUnnamed number old.map) → MakesOn task.name task.stage next answer how old new (history old.disk) (history new.disk) (faults old.disk) (faults new.disk)
+    → KnownBy history faults seen.name seen.stage next answer how old new
+make_known_by history faults task seen next answer how old new same is runs is_name ready made on =
+    subst (λ (v : MakeValue). KnownBy history faults v.name v.stage next answer how old new) same
+    (known_by history faults task.name task.stage next answer how old new (record { store_is = is; runs = runs; is_name = is_name; ready = subst (λ (v : MakeValue). IsReadyToMake v.stage old) (sym same) ready; made = made }) on)
+
+-- Of one whose store was stopped.
+stopped_at : {D : Type 0} → (name : List ℕ) (now next : MakeStage) (store : StoreValue D) (history : Option History) (faults : Faults) → store.stopped ≡ true → MakeClause name now next store store history history faults faults did.Quiet (Some (reply.Refused refusal.Stopped))
+stopped_at name stage.First next store history faults stopped = first_stopped name next store history faults stopped
+stopped_at name (stage.Naming number) next store history faults stopped = naming_stopped name number next store history faults stopped
+
+pub make_stopped : {D : Type 0} → (task seen : MakeValue) (store : StoreValue D) (history : Option History) (faults : Faults) → task ≡ seen → store.stopped ≡ true → MakeClause seen.name seen.stage task.stage store store history history faults faults did.Quiet (Some (reply.Refused refusal.Stopped))
+make_stopped task seen store history faults same stopped =
+    subst (λ (v : MakeValue). MakeClause v.name v.stage task.stage store store history history faults faults did.Quiet (Some (reply.Refused refusal.Stopped))) same (stopped_at task.name task.stage task.stage store history faults stopped)

@@ -1,0 +1,56 @@
+use Rattle.std.proofs.Common.{sym, ◌∙◌}
+use Rattle.task_steps.proofs.OneEventLemmas.{leaves_none}
+use Rattle.mail_ops.proofs.MakeLogLemmas.{logs_stay}
+use Rattle.mail_ops.proofs.MakeStepLemmas.{make_known_by, make_stopped}
+use Rattle.mail_ops.proofs.making.MakeTask.step.Goals as goal
+
+pub returns-then-stopped-clause-does : goal.returns-then-stopped-clause-does
+returns-then-stopped-clause-does g c = make_stopped _ _ c.args.store.now (g.D.Disk.history c.args.store.now.disk) (g.D.Disk.faults c.args.store.now.disk) c.self.view_is (sym c.stopped.ensures ∙ c.if-stopped.true)
+
+pub returns-then-stopped-clause-moments : goal.returns-then-stopped-clause-moments
+returns-then-stopped-clause-moments g c = λ lists s. leaves_none _ _ lists s
+
+pub returns-then-stopped-clause-keeps : goal.returns-then-stopped-clause-keeps
+returns-then-stopped-clause-keeps g c = λ name uid held k. k
+
+pub returns-clause-ready : goal.returns-clause-ready
+returns-clause-ready g c = (make_known_by g.D.Disk.history g.D.Disk.faults _ _ c.next_event-next.result.0 c.next_event-next.result.1 c.next_event-next.result.2 c.args.store.now c.next_event-next.new.store c.self.view_is c.facts.ensures.store (sym c.stopped.ensures ∙ c.if-stopped.false) c.known_name.ensures c.requires.ready c.known_logs.ensures.made c.next_event-next.ensures).ready
+
+pub returns-clause-does : goal.returns-clause-does
+returns-clause-does g c = (make_known_by g.D.Disk.history g.D.Disk.faults _ _ c.next_event-next.result.0 c.next_event-next.result.1 c.next_event-next.result.2 c.args.store.now c.next_event-next.new.store c.self.view_is c.facts.ensures.store (sym c.stopped.ensures ∙ c.if-stopped.false) c.known_name.ensures c.requires.ready c.known_logs.ensures.made c.next_event-next.ensures).does
+
+pub returns-clause-moments : goal.returns-clause-moments
+returns-clause-moments g c = (make_known_by g.D.Disk.history g.D.Disk.faults _ _ c.next_event-next.result.0 c.next_event-next.result.1 c.next_event-next.result.2 c.args.store.now c.next_event-next.new.store c.self.view_is c.facts.ensures.store (sym c.stopped.ensures ∙ c.if-stopped.false) c.known_name.ensures c.requires.ready c.known_logs.ensures.made c.next_event-next.ensures).moments
+
+pub returns-clause-settled : goal.returns-clause-settled
+returns-clause-settled g c = (make_known_by g.D.Disk.history g.D.Disk.faults _ _ c.next_event-next.result.0 c.next_event-next.result.1 c.next_event-next.result.2 c.args.store.now c.next_event-next.new.store c.self.view_is c.facts.ensures.store (sym c.stopped.ensures ∙ c.if-stopped.false) c.known_name.ensures c.requires.ready c.known_logs.ensures.made c.next_event-next.ensures).settled
+
+pub returns-clause-stopped : goal.returns-clause-stopped
+returns-clause-stopped g c = (make_known_by g.D.Disk.history g.D.Disk.faults _ _ c.next_event-next.result.0 c.next_event-next.result.1 c.next_event-next.result.2 c.args.store.now c.next_event-next.new.store c.self.view_is c.facts.ensures.store (sym c.stopped.ensures ∙ c.if-stopped.false) c.known_name.ensures c.requires.ready c.known_logs.ensures.made c.next_event-next.ensures).stopped
+
+pub returns-clause-unfailed : goal.returns-clause-unfailed
+returns-clause-unfailed g c = (make_known_by g.D.Disk.history g.D.Disk.faults _ _ c.next_event-next.result.0 c.next_event-next.result.1 c.next_event-next.result.2 c.args.store.now c.next_event-next.new.store c.self.view_is c.facts.ensures.store (sym c.stopped.ensures ∙ c.if-stopped.false) c.known_name.ensures c.requires.ready c.known_logs.ensures.made c.next_event-next.ensures).unfailed
+
+pub returns-clause-moves : goal.returns-clause-moves
+returns-clause-moves g c = (make_known_by g.D.Disk.history g.D.Disk.faults _ _ c.next_event-next.result.0 c.next_event-next.result.1 c.next_event-next.result.2 c.args.store.now c.next_event-next.new.store c.self.view_is c.facts.ensures.store (sym c.stopped.ensures ∙ c.if-stopped.false) c.known_name.ensures c.requires.ready c.known_logs.ensures.made c.next_event-next.ensures).moves
+
+pub returns-clause-spares : goal.returns-clause-spares
+returns-clause-spares g c = (make_known_by g.D.Disk.history g.D.Disk.faults _ _ c.next_event-next.result.0 c.next_event-next.result.1 c.next_event-next.result.2 c.args.store.now c.next_event-next.new.store c.self.view_is c.facts.ensures.store (sym c.stopped.ensures ∙ c.if-stopped.false) c.known_name.ensures c.requires.ready c.known_logs.ensures.made c.next_event-next.ensures).spares
+
+pub returns-clause-keeps : goal.returns-clause-keeps
+returns-clause-keeps g c = (make_known_by g.D.Disk.history g.D.Disk.faults _ _ c.next_event-next.result.0 c.next_event-next.result.1 c.next_event-next.result.2 c.args.store.now c.next_event-next.new.store c.self.view_is c.facts.ensures.store (sym c.stopped.ensures ∙ c.if-stopped.false) c.known_name.ensures c.requires.ready c.known_logs.ensures.made c.next_event-next.ensures).keeps
+
+pub returns-clause-logs : goal.returns-clause-logs
+returns-clause-logs g c = (make_known_by g.D.Disk.history g.D.Disk.faults _ _ c.next_event-next.result.0 c.next_event-next.result.1 c.next_event-next.result.2 c.args.store.now c.next_event-next.new.store c.self.view_is c.facts.ensures.store (sym c.stopped.ensures ∙ c.if-stopped.false) c.known_name.ensures c.requires.ready c.known_logs.ensures.made c.next_event-next.ensures).logs
+
+pub returns-clause-rest : goal.returns-clause-rest
+returns-clause-rest g c = (make_known_by g.D.Disk.history g.D.Disk.faults _ _ c.next_event-next.result.0 c.next_event-next.result.1 c.next_event-next.result.2 c.args.store.now c.next_event-next.new.store c.self.view_is c.facts.ensures.store (sym c.stopped.ensures ∙ c.if-stopped.false) c.known_name.ensures c.requires.ready c.known_logs.ensures.made c.next_event-next.ensures).rest
+
+pub returns-clause-left : goal.returns-clause-left
+returns-clause-left g c = (make_known_by g.D.Disk.history g.D.Disk.faults _ _ c.next_event-next.result.0 c.next_event-next.result.1 c.next_event-next.result.2 c.args.store.now c.next_event-next.new.store c.self.view_is c.facts.ensures.store (sym c.stopped.ensures ∙ c.if-stopped.false) c.known_name.ensures c.requires.ready c.known_logs.ensures.made c.next_event-next.ensures).left
+
+pub returns-clause-fault : goal.returns-clause-fault
+returns-clause-fault g c = λ ran. (make_known_by g.D.Disk.history g.D.Disk.faults _ _ c.next_event-next.result.0 c.next_event-next.result.1 c.next_event-next.result.2 c.args.store.now c.next_event-next.new.store c.self.view_is c.facts.ensures.store (sym c.stopped.ensures ∙ c.if-stopped.false) c.known_name.ensures c.requires.ready c.known_logs.ensures.made c.next_event-next.ensures).fault
+
+pub returns-clause-replies : goal.returns-clause-replies
+returns-clause-replies g c = λ ran. (make_known_by g.D.Disk.history g.D.Disk.faults _ _ c.next_event-next.result.0 c.next_event-next.result.1 c.next_event-next.result.2 c.args.store.now c.next_event-next.new.store c.self.view_is c.facts.ensures.store (sym c.stopped.ensures ∙ c.if-stopped.false) c.known_name.ensures c.requires.ready c.known_logs.ensures.made c.next_event-next.ensures).replies
