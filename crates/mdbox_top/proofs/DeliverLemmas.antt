@@ -6,6 +6,7 @@ use Rattle.disk_model.proofs.MomentLemmas.{each_image-map}
 use Rattle.mdbox_base.specs.Streams.{Rose, Refused}
 use Rattle.mdbox_base.specs.declared.entries.Highest.{Highest}
 use Rattle.mdbox_base.specs.declared.ids.Guid.{Guid}
+use Rattle.mdbox_base.specs.declared.ids.MapUid.{MapUid}
 use Rattle.mdbox_base.specs.declared.ids.Uid.{Uid}
 use Rattle.mdbox_base.specs.declared.replies.Refusal.{Refusal}
 use Rattle.mdbox_base.specs.declared.replies.Refusal.TheVariants as refusal
@@ -15,13 +16,16 @@ use Rattle.mdbox_base.specs.declared.requests.Request.TheVariants as request
 use Rattle.mdbox_base.specs.declared.stream.InputError.{InputError}
 use Rattle.mdbox_base.specs.declared.stream.InputError.TheVariants as read
 use Rattle.model_lists.specs.Lists.{Lists}
+use Rattle.model_meaning.specs.MapMeaning.{MapMeaning}
 use Rattle.model_store.specs.Safe.{Safe}
 use Rattle.model_store.specs.Settled.{IsSettledFor}
 use Rattle.task_steps.specs.Step.{HasNotBegun}
 use Rattle.task_steps.proofs.OneEventLemmas.{not_true}
+use Rattle.storage_files.specs.Files.{FilesValue}
 use Rattle.store_core.specs.Running.{IsStore}
 use Rattle.store_core.specs.Value.{StoreValue, indexes_of, list_named}
 use Rattle.mail_ops.specs.Task.{seen_of}
+use Rattle.mail_save.specs.Saved.{saved_region}
 use Rattle.store_open.specs.Opened.{IsOpenedAs}
 use Rattle.store_open.specs.declared.error.OpenError.{OpenError}
 use Rattle.store_open.specs.declared.error.OpenError.TheVariants as error
@@ -33,8 +37,8 @@ use Rattle.request_text.specs.declared.outcome.Outcome.{Outcome}
 use Rattle.request_text.specs.declared.outcome.Outcome.TheVariants as outcome
 use Rattle.mdbox_top.specs.Alone.{IsDoneAlone, IsUnopened}
 use Rattle.mdbox_top.specs.Changed.{saved_lists, lists_told}
-use Rattle.mdbox_top.specs.ChangeEvents.{IsAlike, AreAlongSave, SavesAlone}
-use Rattle.mdbox_top.specs.DeliverRun.{undelivered_cause, IsDeliverAnswer, OpensAlike, IsDeliverReply, SaveOutcome, AreSaved, SaveMoments, SaveRests, unread_outcome, IsUnread, DeliverOutcome, DeliverRests, DeliverStatus}
+use Rattle.mdbox_top.specs.ChangeEvents.{IsAlike, AreAlongSave, ShowsChanged, StoresAlone, SavesAlone}
+use Rattle.mdbox_top.specs.DeliverRun.{undelivered_cause, region_length, HasRecordLeft, HasRecordMore, IsDeliverAnswer, OpensAlike, OpensSaved, IsDeliverReply, SaveOutcome, AreSaved, SaveMoments, SaveRests, unread_outcome, IsUnread, DeliverOutcome, DeliverRests, DeliverStatus}
 use Rattle.mdbox_top.specs.InputRun.{IsOneOf}
 use Rattle.mdbox_top.specs.OpeningOutcome.{opening_outcome}
 use Rattle.mdbox_top.proofs.AloneLemmas.{alone_faults}
@@ -45,20 +49,37 @@ use Rattle.mdbox_top.proofs.RequestLemmas.{opening_number, shown_number, request
 use Rattle.mdbox_top.proofs.ServedLemmas.{OpenedNow, way_opens}
 use Rattle.mdbox_top.proofs.ShownLemmas.{LogsShow, opens_again}
 use Rattle.mdbox_top.proofs.UnderWayLemmas.{before_opening}
+use Rattle.mdbox_top.proofs.WroteLemmas.{wrote_message}
 
 -- ---- the end of a run
 
 pub deliver_input : (name : List ℕ) (left : Option (List ℕ)) (told : Option ℕ) (h k : Option (List ℕ)) (old new : Option History) (f g : Faults) (why : InputRefusal) → DeliverOutcome name left told h k old new f g (outcome.InputRefused why) → DeliverOutcome name left told h k old new f g outcome.NoMemory
 deliver_input name left told h k old new f g why (inl u) = inl (tt, u.1, u.2)
-deliver_input name left told h k old new f g why (inr d) = absurd (request_input (IsDeliverReply name d.1 d.0) (request.Deliver name d.1 d.0) h k old new f g why d.4)
+deliver_input name left told h k old new f g why (inr d) = absurd (request_input (IsDeliverReply name d.1 d.0) (request.Deliver name d.1 d.0) h k old new f g why d.4.ends)
+
+not_damage : IsOneOf (5 ∷ 6 ∷ 8 ∷ []) 3 → ⊥
+not_damage (inl e) = omega (arith, e)
+not_damage (inr (inl e)) = omega (arith, e)
+not_damage (inr (inr (inl e))) = omega (arith, e)
+not_damage (inr (inr (inr e))) = e
 
 pub deliver_damage : (name : List ℕ) (left : Option (List ℕ)) (told : Option ℕ) (h k : Option (List ℕ)) (old new : Option History) (f g : Faults) (s : StoreRefusal) → DeliverOutcome name left told h k old new f g (outcome.StoreRefused s) → DeliverOutcome name left told h k old new f g outcome.NoMemory
 deliver_damage name left told h k old new f g s (inl u) = absurd u.0
-deliver_damage name left told h k old new f g s (inr d) = inr (d.0, d.1, d.2, d.3, request_damage (IsDeliverReply name d.1 d.0) (request.Deliver name d.1 d.0) h k old new f g s d.4)
+deliver_damage name left told h k old new f g s (inr d) = inr (
+  d.0,
+  d.1,
+  d.2,
+  d.3,
+  record {
+    ends = request_damage (IsDeliverReply name d.1 d.0) (request.Deliver name d.1 d.0) h k old new f g s d.4.ends;
+    moments = d.4.moments;
+    rests = λ none. d.4.rests (λ failed. absurd (not_damage failed));
+  },
+)
 
 pub deliver_used : (name : List ℕ) (left : Option (List ℕ)) (told : Option ℕ) (h k : Option (List ℕ)) (old new : Option History) (f g : Faults) → DeliverOutcome name left told h k old new f g outcome.Usage → ⊥
 deliver_used name left told h k old new f g (inl u) = u.0
-deliver_used name left told h k old new f g (inr d) = request_used (IsDeliverReply name d.1 d.0) (request.Deliver name d.1 d.0) h k old new f g d.4
+deliver_used name left told h k old new f g (inr d) = request_used (IsDeliverReply name d.1 d.0) (request.Deliver name d.1 d.0) h k old new f g d.4.ends
 
 -- a message that wasn't read
 unread_number : (all : List ℕ) (o : Outcome) → IsUnread (Some all) o → IsOneOf (4 ∷ 5 ∷ 7 ∷ []) (status_of o)
@@ -102,7 +123,7 @@ deliver_status name None told h k old new f g o e = tt
 deliver_status name (Some all) told h k old new f g o (inl u) = (λ long. unread_number all o u.0, λ short lists s. short_number all o short u.0)
 deliver_status name (Some all) told h k old new f g o (inr d) = (
   λ long. absurd (let short = subst (λ (text : List ℕ). length text ≤ 67108864) (sym d.2.0) d.2.1 in omega (arith, long, short)),
-  λ short lists s. one_more (status_of o) (request_status (IsDeliverReply name d.1 d.0) (request.Deliver name d.1 d.0) h k old new f g o d.4 lists s),
+  λ short lists s. one_more (status_of o) (request_status (IsDeliverReply name d.1 d.0) (request.Deliver name d.1 d.0) h k old new f g o d.4.ends lists s),
 )
 
 pub deliver_rests_as : (name : List ℕ) (left : Option (List ℕ)) (told : Option ℕ) (F G : Type 0) (f g : Faults) (old new : Option History) → (F → G) → DeliverRests name left told F f g old new → DeliverRests name left told G f g old new
@@ -127,6 +148,10 @@ replied_number n (inr (inr (inr (inr (inr a))))) f = a
 pub save_reads : (name : List ℕ) (time : ℕ) (octets : List ℕ) (h k : Option (List ℕ)) (old new : Option History) (f g : Faults) (o : Outcome) → SaveOutcome name time octets h k old new f g o → o ≡ outcome.ReadFault → ⊥
 save_reads name time octets h k old new f g o (inl n) e = opened_number (status_of o) (status_of (opening_outcome n.why)) (opening_number n.why) (ap status_of n.ended_is) (ap status_of e)
 save_reads name time octets h k old new f g o (inr l) e = replied_number (status_of o) (shown_number _ l.given h k o l.printed) (ap status_of e)
+
+-- nor as a refusal of it
+pub save_input : (name : List ℕ) (time : ℕ) (octets : List ℕ) (h k : Option (List ℕ)) (old new : Option History) (f g : Faults) (o : Outcome) → SaveOutcome name time octets h k old new f g o → (why : InputRefusal) → o ≡ outcome.InputRefused why → ⊥
+save_input name time octets h k old new f g o e why is = request_input (IsDeliverReply name time octets) (request.Deliver name time octets) h k old new f g why (subst (λ (x : Outcome). SaveOutcome name time octets h k old new f g x) is e)
 
 -- ---- what was read
 
@@ -174,11 +199,30 @@ saved_runs given uid guid d s = let k : reply.Saved uid guid ≡ reply.Refused r
 refused_runs : (given : Reply) (why : Refusal) → given ≡ reply.Refused why → (why ≡ refusal.Stopped → ⊥) → given ≡ reply.Refused refusal.Stopped → ⊥
 refused_runs given why d running s = running (one_refusal why refusal.Stopped (sym d ∙ s))
 
-opens_alike : {D : Type 0} → (new : Option History) (s t : StoreValue D) → IsStore new t → t.stopped ≡ false → IsAlike s t → OpensAlike s.map (indexes_of s.boxes) new
-opens_alike new s t k runs b = record {
+record_left : (name : List ℕ) (time : ℕ) (octets : List ℕ) (a b : Highest) (m map : MapMeaning) (files : FilesValue) → a ≡ b → (map ≡ m) ⊎ HasRecordLeft name time octets a.map m files map → (map ≡ m) ⊎ HasRecordLeft name time octets b.map m files map
+record_left name time octets a b m map files same left = subst (λ (h : Highest). (map ≡ m) ⊎ HasRecordLeft name time octets h.map m files map) same left
+
+opens_alike : {D : Type 0} → (name : List ℕ) (time : ℕ) (octets : List ℕ) (new : Option History) (s t : StoreValue D) → IsStore new t → t.stopped ≡ false → s.drawn ≡ s.map.highest → IsAlike s t → (t.map ≡ s.map) ⊎ HasRecordLeft name time octets s.drawn.map s.map s.files t.map
+    → OpensAlike name time octets s.map (indexes_of s.boxes) s.files new
+opens_alike name time octets new s t k runs drawn b left = record {
   map = t.map;
   opened = subst (λ ms. IsOpenedAs new t.map ms) b.indexes (opens_again new t k runs);
   mailboxes = b.mailboxes;
+  left = record_left name time octets s.drawn s.map.highest s.map t.map s.files drawn left;
+}
+
+opens_saved : {D : Type 0} → (name : List ℕ) (time : ℕ) (octets : List ℕ) (guid : Guid) (old mid new : Option History) (s t : StoreValue D) → OpenedNow old mid s → IsStore new t → t.stopped ≡ false → ShowsChanged (saved_lists name time octets guid) s t → (uid : MapUid) → StoresAlone name time octets uid guid s t mid new
+    → OpensSaved name time octets guid s.map (indexes_of s.boxes) s.files old new
+opens_saved name time octets guid old mid new s t opened later runs shows uid stored = record {
+  map = t.map;
+  changed = indexes_of t.boxes;
+  opened = opens_again new t later runs;
+  shows = shows;
+  uid = uid;
+  at = stored.at;
+  guid_is = stored.guid_is;
+  more = subst (λ (h : Highest). HasRecordMore name time octets h.map s.map s.files uid stored.at t.map) opened.drawn stored.more;
+  mail = wrote_message time opened.swept.0 (saved_region name time octets guid.0) s.map s.files stored.at old mid new opened.swept.1 ((opened.store.running opened.running).files_known stored.at.file.0) stored.unsealed stored.mail;
 }
 
 deliver_tells : {D : Type 0} → (name : List ℕ) (time : ℕ) (octets : List ℕ) (given : Reply) (old mid new : Option History) (began now : Faults) (s t : StoreValue D) → DeliveringKnown name time octets given old mid new began now s t → IsDeliverReply name time octets old new given
@@ -186,15 +230,12 @@ deliver_tells name time octets given old mid new began now s t w = record {
   m = s.map;
   meanings = indexes_of s.boxes;
   opened = w.opened.opened;
-  given_is = subst (λ (h : Highest). IsDeliverAnswer (undelivered_cause (list_named s name) h) (list_named s name) s.map.store h given) w.opened.drawn w.saves.given_is;
+  files = s.files;
+  found = w.opened.files;
+  given_is = subst (λ (h : Highest). IsDeliverAnswer (undelivered_cause (list_named s name) h) (list_named s name) s.map.store (region_length name time octets) s.files given) w.opened.drawn w.saves.given_is;
   refused = λ why e. opens_unchanged old mid new s w.opened (w.back (w.saves.refused why (subst (λ (h : Highest). undelivered_cause (list_named s name) h ≡ Some why) (sym w.opened.drawn) e)));
-  unsaved = λ why e running. opens_alike new s t w.later (deliver_runs name time octets given old mid new began now s t w (refused_runs given why e running)) (w.saves.unsaved why e running);
-  done = λ uid guid e. record {
-    map = t.map;
-    changed = indexes_of t.boxes;
-    opened = opens_again new t w.later (deliver_runs name time octets given old mid new began now s t w (saved_runs given uid guid e));
-    shows = w.saves.shows uid guid e;
-  };
+  unsaved = λ why e running. opens_alike name time octets new s t w.later (deliver_runs name time octets given old mid new began now s t w (refused_runs given why e running)) w.opened.drawn (w.saves.unsaved why e running) (w.saves.left why e running);
+  done = λ uid guid e. opens_saved name time octets guid old mid new s t w.opened w.later (deliver_runs name time octets given old mid new began now s t w (saved_runs given uid guid e)) (w.saves.shows uid guid e) (w.saves.stored uid guid e).0 (w.saves.stored uid guid e).1;
   settled = λ running lists at. w.saves.settled (deliver_runs name time octets given old mid new began now s t w running) lists (w.opened.settled_again lists at);
 }
 

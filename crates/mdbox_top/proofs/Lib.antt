@@ -18,3 +18,4 @@ pub mod SaveLemmas
 pub mod ServedLemmas
 pub mod ShownLemmas
 pub mod UnderWayLemmas
+pub mod WroteLemmas

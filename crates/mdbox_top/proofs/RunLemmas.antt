@@ -149,6 +149,17 @@ six outcome.WriteFault e = absurd (omega (arith, e))
 six (outcome.StoreRefused why) e = absurd (omega (arith, e))
 six (outcome.InputRefused why) e = absurd (omega (arith, e))
 
+four : (o : Outcome) → status_of o ≡ 4 → (why : InputRefusal) × (o ≡ outcome.InputRefused why)
+four (outcome.InputRefused why) e = (why, refl)
+four outcome.Done e = absurd (omega (arith, e))
+four outcome.No e = absurd (omega (arith, e))
+four outcome.NoMemory e = absurd (omega (arith, e))
+four outcome.Usage e = absurd (omega (arith, e))
+four outcome.DiskFault e = absurd (omega (arith, e))
+four outcome.ReadFault e = absurd (omega (arith, e))
+four outcome.WriteFault e = absurd (omega (arith, e))
+four (outcome.StoreRefused why) e = absurd (omega (arith, e))
+
 seven : (o : Outcome) → status_of o ≡ 7 → o ≡ outcome.ReadFault
 seven outcome.ReadFault e = refl
 seven outcome.Done e = absurd (omega (arith, e))
@@ -195,6 +206,11 @@ pub unread : (o last : Outcome) (n : ℕ) → EndsAs o last → n ≡ status_of 
 unread o last n y s e =
     let l : last ≡ outcome.ReadFault = seven last (sym s ∙ e) in
     elim (kept o last y) [ inl same ↦ sym same ∙ l | inr none ↦ absurd (cc (sym none ∙ l)) ]
+
+pub uninput : (o last : Outcome) (n : ℕ) → EndsAs o last → n ≡ status_of last → n ≡ 4 → (why : InputRefusal) × (o ≡ outcome.InputRefused why)
+uninput o last n y s e =
+    let l = four last (sym s ∙ e) in
+    elim (kept o last y) [ inl same ↦ (l.0, sym same ∙ l.1) | inr none ↦ absurd (let k : outcome.NoMemory ≡ outcome.InputRefused l.0 = sym none ∙ l.1 in cc k) ]
 
 pub unwritten : (o last : Outcome) (n : ℕ) → EndsAs o last → n ≡ status_of last → n ≡ 8 → o ≡ outcome.WriteFault
 unwritten o last n y s e =

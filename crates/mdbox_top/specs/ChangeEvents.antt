@@ -3,6 +3,7 @@ use Rattle.std.specs.Prelude.{◌≡◌, ◌↔◌, ◌⊎◌, ◌+◌, ℕ, tru
 use Rattle.disk_model.specs.Disk.{History, Faults}
 use Rattle.disk_model.specs.FaultCounts.{NoFault, ChangeFaultCounted}
 use Rattle.mdbox_base.specs.declared.ids.Guid.{Guid}
+use Rattle.mdbox_base.specs.declared.ids.MapUid.{MapUid}
 use Rattle.mdbox_base.specs.declared.ids.Uid.{Uid}
 use Rattle.mdbox_base.specs.declared.replies.Refusal.{Refusal}
 use Rattle.mdbox_base.specs.declared.replies.Refusal.TheVariants as refusal
@@ -11,6 +12,7 @@ use Rattle.mdbox_base.specs.declared.replies.Reply.TheVariants as reply
 use Rattle.mdbox_base.specs.declared.requests.Request.{Request}
 use Rattle.mdbox_base.specs.declared.requests.Request.TheVariants as request
 use Rattle.model_lists.specs.Lists.{Lists, AreWellFormed}
+use Rattle.model_meaning.specs.MapMeaning.{is_sealed}
 use Rattle.model_store.specs.Listing.{ShowLists}
 use Rattle.model_store.specs.Settled.{IsSettledFor}
 use Rattle.journal.specs.Journal.{is_read_fault}
@@ -26,12 +28,15 @@ use Rattle.mail_ops.specs.declared.copy.CopyStage.TheVariants as copy_stage
 use Rattle.mail_ops.specs.declared.expunging.ExpungeStage.TheVariants as expunge_stage
 use Rattle.mail_ops.specs.declared.making.MakeStage.TheVariants as make_stage
 use Rattle.mail_ops.specs.declared.moving.MoveStage.TheVariants as move_stage
+use Rattle.mail_save.specs.Saved.{saved_region}
+use Rattle.mail_save.specs.declared.place.SavedAt.{SavedAt}
 use Rattle.mdbox_top.specs.Changed.{IsChangeAnswer, saved_lists, lists_told, AreOneOf, MomentsAmong}
 use Rattle.mdbox_top.specs.CopyRun.{uncopied_cause, IsCopyAnswer}
-use Rattle.mdbox_top.specs.DeliverRun.{undelivered_cause, IsDeliverAnswer, AreSaved}
+use Rattle.mdbox_top.specs.DeliverRun.{undelivered_cause, region_length, HasRecordLeft, HasRecordMore, IsDeliverAnswer, AreSaved}
 use Rattle.mdbox_top.specs.ExpungeRun.{lists_without}
 use Rattle.mdbox_top.specs.MakeRun.{lists_by_making}
 use Rattle.mdbox_top.specs.MoveRun.{AreAlongMove, IsMoveAnswer}
+use Rattle.mdbox_top.specs.SavedMail.{WroteMail}
 use Rattle.mdbox_top.specs.Served.{IsJournaled, ServesRequest, missing_cause}
 use Rattle.mdbox_top.specs.UnderWay.{IsUnderWay}
 
@@ -79,12 +84,22 @@ ShowsChanged change store later = (lists : Lists) → AreWellFormed lists → Sh
 abbrev pub AreAlongSave : List ℕ → ℕ → List ℕ → Lists → Lists → Type 0
 AreAlongSave name time octets lists some = (some ≡ lists) ⊎ AreSaved name time octets lists some
 
+-- The message was saved with this GUID: the map has its record more, and its region was written, to a storage file that isn't sealed.
+pub record StoresAlone {D : Type 0} (name : List ℕ) (time : ℕ) (octets : List ℕ) (uid : MapUid) (guid : Guid) (store later : StoreValue D) (old new : Option History) : Type 0 where
+  pub at : SavedAt
+  pub guid_is : at.guid ≡ guid
+  pub more : HasRecordMore name time octets store.drawn.map store.map store.files uid at later.map
+  pub unsealed : is_sealed store.map at.file.0 ≡ true → ⊥
+  pub mail : WroteMail time at.file.0 at.offset (saved_region name time octets guid.0) old new
+
 -- What the events of a delivery did. It was served, if the journal speaks of it.
 pub record SavesAlone {D : Type 0} (name : List ℕ) (time : ℕ) (octets : List ℕ) (store later : StoreValue D) (old new : Option History) (began now : Faults) (given : Reply) : Type 0 where
-  pub given_is : IsDeliverAnswer (undelivered_cause (list_named store name) store.drawn) (list_named store name) store.map.store store.drawn given
+  pub given_is : IsDeliverAnswer (undelivered_cause (list_named store name) store.drawn) (list_named store name) store.map.store (region_length name time octets) store.files given
   pub refused : (why : Refusal) → undelivered_cause (list_named store name) store.drawn ≡ Some why → later ≡ store
   pub unsaved : (why : Refusal) → given ≡ reply.Refused why → (why ≡ refusal.Stopped → ⊥) → IsAlike store later
+  pub left : (why : Refusal) → given ≡ reply.Refused why → (why ≡ refusal.Stopped → ⊥) → (later.map ≡ store.map) ⊎ HasRecordLeft name time octets store.drawn.map store.map store.files later.map
   pub shows : (uid : Uid) (guid : Guid) → given ≡ reply.Saved uid guid → ShowsChanged (saved_lists name time octets guid) store later
+  pub stored : (uid : Uid) (guid : Guid) → given ≡ reply.Saved uid guid → (map_uid : MapUid) × StoresAlone name time octets map_uid guid store later old new
   pub calm : is_read_fault (Some given) ≡ false
   pub served : IsJournaled (request.Deliver name time octets) → (lists : Lists) (seen : Seen) → IsWayTo HasNotBegun (request.Deliver name time octets) lists seen store old began lists → ServesRequest (request.Deliver name time octets) lists given seen.faults now seen.history new
   pub moments : MomentsAmong (AreAlongSave name time octets) old new

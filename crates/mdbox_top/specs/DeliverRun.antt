@@ -1,9 +1,13 @@
 -- How `deliver` ends.
-use Rattle.std.specs.Prelude.{◌≡◌, ◌≤◌, ◌<◌, ◌⊎◌, ℕ, List, [], ◌∷◌, length, Option, Some, None, IfSome}
+use Rattle.std.specs.Prelude.{◌≡◌, ◌≢◌, ◌≤◌, ◌<◌, ◌+◌, ◌⊎◌, ℕ, true, List, [], ◌∷◌, ◌++◌, length, All, Option, Some, None, IfSome}
 use Rattle.std.specs.Option.{option_or}
-use Rattle.disk_model.specs.Disk.{History, Faults, EachImage}
+use Rattle.disk_model.specs.Disk.{History, Faults, Between, EachImage, IfTold, reading}
+use Rattle.disk_model.specs.declared.name.FileName.TheVariants.{Mail}
 use Rattle.mdbox_base.specs.declared.entries.Highest.{Highest}
+use Rattle.mdbox_base.specs.Streams.{IsAtEnd}
+use Rattle.mdbox_base.specs.declared.ids.FileNo.{FileNo}
 use Rattle.mdbox_base.specs.declared.ids.Guid.{Guid}
+use Rattle.mdbox_base.specs.declared.ids.MapUid.{MapUid}
 use Rattle.mdbox_base.specs.declared.ids.Uid.{Uid}
 use Rattle.mdbox_base.specs.declared.replies.Refusal.{Refusal}
 use Rattle.mdbox_base.specs.declared.replies.Refusal.TheVariants as refusal
@@ -12,20 +16,29 @@ use Rattle.mdbox_base.specs.declared.replies.Reply.TheVariants as reply
 use Rattle.mdbox_base.specs.declared.requests.Request.TheVariants as request
 use Rattle.mdbox_base.specs.declared.stream.InputError.{InputError}
 use Rattle.mdbox_base.specs.declared.stream.InputError.TheVariants as read
-use Rattle.model_lists.specs.Lists.{Lists}
+use Rattle.model_lists.specs.Lists.{Lists, AreWellFormed}
 use Rattle.model_meaning.specs.BoxMeaning.{BoxMeaning}
-use Rattle.model_meaning.specs.MapMeaning.{MapMeaning}
-use Rattle.model_store.specs.Listing.{meaning_named}
+use Rattle.model_meaning.specs.MapMeaning.{MapMeaning, is_sealed, map_applied}
+use Rattle.model_storage.specs.WrittenFile.{written_header}
+use Rattle.model_store.specs.Listing.{ShowLists, meaning_named}
 use Rattle.model_store.specs.Safe.{Safe}
-use Rattle.model_store.specs.Settled.{IsSettledFor}
+use Rattle.model_store.specs.Settled.{HasSameInstance, HasSameRegion, IsSettledFor, files_of}
+use Rattle.storage_files.specs.Files.{FilesValue, IsTakeFor, end_in}
+use Rattle.storage_files.specs.declared.file.Take.TheVariants.{Known, New, Full}
+use Rattle.store_core.specs.Files.{EndsWith}
+use Rattle.store_files.specs.Found.{IsFoundFiles}
 use Rattle.mail_save.specs.Events.{box_refusal, uid_refusal}
-use Rattle.mail_save.specs.Saved.{place_guid}
+use Rattle.mail_save.specs.Parts.{origin_of}
+use Rattle.mail_save.specs.Record.{entry_lowered, entry_stored}
+use Rattle.mail_save.specs.Saved.{no_guid, place_guid, saved_region}
+use Rattle.mail_save.specs.declared.place.SavedAt.{SavedAt}
 use Rattle.store_open.specs.Opened.{IsOpenedAs}
 use Rattle.store_sweep.specs.Moments.{NoFailedChange}
+use Rattle.request_text.specs.Outcomes.{status_of}
 use Rattle.request_text.specs.declared.outcome.InputRefusal.TheVariants as input
 use Rattle.request_text.specs.declared.outcome.Outcome.{Outcome}
 use Rattle.request_text.specs.declared.outcome.Outcome.TheVariants as outcome
-use Rattle.mdbox_top.specs.Changed.{saved_lists, lists_told, OpensChanged, OpensUnchanged}
+use Rattle.mdbox_top.specs.Changed.{saved_lists, lists_told, OpensUnchanged}
 use Rattle.mdbox_top.specs.InputRun.{OfInput, IsOneOf}
 use Rattle.mdbox_top.specs.Served.{RequestOutcome}
 
@@ -36,48 +49,112 @@ use Rattle.mdbox_top.specs.Served.{RequestOutcome}
 abbrev pub undelivered_cause : Option BoxMeaning → Highest → Option Refusal
 undelivered_cause to highest = option_or (box_refusal to) (uid_refusal highest.map)
 
--- The message has the mailbox's next UID, and the GUID of the place where it was first stored.
-pub record IsSavedAs (to : Option BoxMeaning) (store : List ℕ) (given : Reply) : Type 0 where
+-- how many octets are written of a message, whatever its GUID
+abbrev pub region_length : List ℕ → ℕ → List ℕ → ℕ
+region_length name time octets = length (saved_region name time octets no_guid)
+
+-- The storage file that is taken for so many octets: one that has room, or a new one.
+abbrev pub IsFileFor : ℕ → FilesValue → FileNo → Type 0
+IsFileFor size files file = IsTakeFor size files (Known file) ⊎ IsTakeFor size files (New file)
+
+-- The message has the mailbox's next UID, and the GUID of the place where it was first stored, in the storage file that is taken
+-- for so many octets.
+pub record IsSavedAs (to : Option BoxMeaning) (store : List ℕ) (size : ℕ) (files : FilesValue) (given : Reply) : Type 0 where
   pub mailbox : BoxMeaning
   pub named : to ≡ Some mailbox
   pub uid : Uid
   pub next : uid.0 ≡ mailbox.next
   pub guid : Guid
-  pub file : ℕ
+  pub file : FileNo
   pub offset : ℕ
-  pub placed : guid.0 ≡ place_guid store file offset
+  pub placed : guid.0 ≡ place_guid store file.0 offset
+  pub taken : IsFileFor size files file
   pub given_is : given ≡ reply.Saved uid guid
 
--- no storage file could be taken, since the numbers of storage files are used up
-abbrev pub IsOutOfFiles : Highest → Reply → Type 0
-IsOutOfFiles highest given = (given ≡ reply.Refused (refusal.StoreFull 4294967294)) × (4294967294 ≤ highest.file)
+-- No storage file has room for so many octets, and the numbers of storage files are used up.
+abbrev pub IsOutOfFiles : ℕ → FilesValue → Reply → Type 0
+IsOutOfFiles size files given = (given ≡ reply.Refused (refusal.StoreFull 4294967294)) × IsTakeFor size files Full
 
--- Why it isn't saved is replied, if it isn't. Else it is; or it needed a new storage file, and there is no number for one; or there
--- was no memory; or a change of the disk failed, and the store is stopped.
-abbrev pub IsDeliverAnswer : Option Refusal → Option BoxMeaning → List ℕ → Highest → Reply → Type 0
-IsDeliverAnswer (Some why) to store highest given = given ≡ reply.Refused why
-IsDeliverAnswer None to store highest given = IsSavedAs to store given ⊎ (IsOutOfFiles highest given ⊎ ((given ≡ reply.Refused refusal.NoMemory) ⊎ (given ≡ reply.Refused refusal.Stopped)))
+-- Why it isn't saved is replied, if it isn't. Else it is, if and only if a storage file can be taken; but for out of memory, and
+-- for a change of the disk that failed, and the store is stopped.
+abbrev pub IsDeliverAnswer : Option Refusal → Option BoxMeaning → List ℕ → ℕ → FilesValue → Reply → Type 0
+IsDeliverAnswer (Some why) to store size files given = given ≡ reply.Refused why
+IsDeliverAnswer None to store size files given = IsSavedAs to store size files given ⊎ (IsOutOfFiles size files given ⊎ ((given ≡ reply.Refused refusal.NoMemory) ⊎ (given ≡ reply.Refused refusal.Stopped)))
 
--- The files open with the same listings and the same mailboxes; the map may have a record more, of no message that is listed.
-pub record OpensAlike (m : MapMeaning) (meanings : List BoxMeaning) (new : Option History) : Type 0 where
+-- ---- the record that is made
+
+-- Where the message was placed: at the end of the storage file that was taken for it, which is that of its header if the file is
+-- new. Its GUID, which no record had, names this place.
+pub record IsSavedPlace (time size : ℕ) (m : MapMeaning) (files : FilesValue) (at : SavedAt) : Type 0 where
+  pub size_is : at.size ≡ size
+  pub guid_is : at.guid.0 ≡ place_guid m.store at.file.0 at.offset
+  pub guid_new : All (λ row. row.guid ≢ at.guid.0) m.records
+  pub taken : (IsTakeFor size files (Known at.file) × (end_in at.file.0 files.files ≡ Some at.offset)) ⊎ (IsTakeFor size files (New at.file) × (at.offset ≡ length (written_header time)))
+
+-- The map means what it did, with the record of the message: under the next map uid, at its place, and with count 1.
+pub record HasRecordMore (name : List ℕ) (time : ℕ) (octets : List ℕ) (last : ℕ) (m : MapMeaning) (files : FilesValue) (uid : MapUid) (at : SavedAt) (map : MapMeaning) : Type 0 where
+  pub next : uid.0 ≡ last + 1
+  pub place : IsSavedPlace time (region_length name time octets) m files at
+  pub map_is : map ≡ map_applied (entry_stored (origin_of octets) uid at) m
+
+-- The map means what it did, with a record of the message, whose count, which was 1, was lowered.
+pub record HasRecordLeft (name : List ℕ) (time : ℕ) (octets : List ℕ) (last : ℕ) (m : MapMeaning) (files : FilesValue) (map : MapMeaning) : Type 0 where
+  pub uid : MapUid
+  pub at : SavedAt
+  pub made : MapMeaning
+  pub more : HasRecordMore name time octets last m files uid at made
+  pub lowered : map ≡ map_applied (entry_lowered uid) made
+
+-- ---- the storage files
+
+-- The disk reads the region at the end of its storage file, at its place; a new file has the header before it and nothing else.
+-- All other regions and instances that records name are carried over, and each sealed storage file reads as it did.
+pub record WroteMessage (time : ℕ) (region : List ℕ) (m : MapMeaning) (files : FilesValue) (at : SavedAt) (old new : Option History) : Type 0 where
+  pub ends : IfTold new (λ now. EndsWith at.offset region (now (Mail at.file.0)))
+  pub begun : end_in at.file.0 files.files ≡ None → IfTold new (λ now. reading (now (Mail at.file.0)) ≡ Some (written_header time ++ region))
+  pub regions : Between (λ a b. All (HasSameRegion (files_of a) (files_of b)) m.records) old new
+  pub instances : Between (λ a b. All (λ row. All (HasSameInstance (files_of a) (files_of b)) row.instances) m.records) old new
+  pub sealed : Between (λ a b. (number : ℕ) → is_sealed m number ≡ true → reading (b (Mail number)) ≡ reading (a (Mail number))) old new
+
+-- ---- what the files open with
+
+-- The files open with the same listings and the same mailboxes; the map is the same, or has the record of the message more, with
+-- count 0.
+pub record OpensAlike (name : List ℕ) (time : ℕ) (octets : List ℕ) (m : MapMeaning) (meanings : List BoxMeaning) (files : FilesValue) (new : Option History) : Type 0 where
   pub map : MapMeaning
   pub opened : IsOpenedAs new map meanings
   pub mailboxes : map.boxes ≡ m.boxes
+  pub left : (map ≡ m) ⊎ HasRecordLeft name time octets m.highest.map m files map
 
--- The reply to the delivery of these octets at this time, by what the logs mean from which the store opened. Where the logs say
--- why the message isn't saved, the files open with the same logs, all that the store reads is carried over, and the disk was
--- swept. With any other refusal they open with the same listings, unless the store is stopped. Where it is saved, their logs show
--- the lists with the message: last in its mailbox, with its next UID, without flags, with this time and these octets, and with
--- the GUID that is replied. Unless the store is stopped, a disk that was settled for lists is settled for those that the reply
--- tells.
+-- The files open. Of any lists that the logs showed their logs show those with the message, and the map has its record more.
+pub record OpensSaved (name : List ℕ) (time : ℕ) (octets : List ℕ) (guid : Guid) (m : MapMeaning) (meanings : List BoxMeaning) (files : FilesValue) (old new : Option History) : Type 0 where
+  pub map : MapMeaning
+  pub changed : List BoxMeaning
+  pub opened : IsOpenedAs new map changed
+  pub shows : (lists : Lists) → AreWellFormed lists → ShowLists m.boxes meanings lists → ShowLists map.boxes changed (saved_lists name time octets guid lists)
+  pub uid : MapUid
+  pub at : SavedAt
+  pub guid_is : at.guid ≡ guid
+  pub more : HasRecordMore name time octets m.highest.map m files uid at map
+  pub mail : WroteMessage time (saved_region name time octets guid.0) m files at old new
+
+-- The reply to the delivery of these octets at this time, by what the logs mean from which the store opened, and by the storage
+-- files that it found. Where the logs say why the message isn't saved, the files open with the same logs, all that the store reads
+-- is carried over, and the disk was swept. With any other refusal they open with the same listings, unless the store is stopped.
+-- Where it is saved, their logs show the lists with the message: last in its mailbox, with its next UID, without flags, with this
+-- time and these octets, and with the GUID that is replied; its octets were added to its storage file, and what else the store
+-- reads of storage files and instances is carried over. Unless the store is stopped, a disk that was settled for lists is settled
+-- for those that the reply tells.
 pub record IsDeliverReply (name : List ℕ) (time : ℕ) (octets : List ℕ) (old new : Option History) (given : Reply) : Type 0 where
   pub m : MapMeaning
   pub meanings : List BoxMeaning
   pub opened : IsOpenedAs old m meanings
-  pub given_is : IsDeliverAnswer (undelivered_cause (meaning_named name m.boxes meanings) m.highest) (meaning_named name m.boxes meanings) m.store m.highest given
+  pub files : FilesValue
+  pub found : IsFoundFiles m old files
+  pub given_is : IsDeliverAnswer (undelivered_cause (meaning_named name m.boxes meanings) m.highest) (meaning_named name m.boxes meanings) m.store (region_length name time octets) files given
   pub refused : (why : Refusal) → undelivered_cause (meaning_named name m.boxes meanings) m.highest ≡ Some why → OpensUnchanged m meanings old new
-  pub unsaved : (why : Refusal) → given ≡ reply.Refused why → (why ≡ refusal.Stopped → ⊥) → OpensAlike m meanings new
-  pub done : (uid : Uid) (guid : Guid) → given ≡ reply.Saved uid guid → OpensChanged (saved_lists name time octets guid) m meanings new
+  pub unsaved : (why : Refusal) → given ≡ reply.Refused why → (why ≡ refusal.Stopped → ⊥) → OpensAlike name time octets m meanings files new
+  pub done : (uid : Uid) (guid : Guid) → given ≡ reply.Saved uid guid → OpensSaved name time octets guid m meanings files old new
   pub settled : (given ≡ reply.Refused refusal.Stopped → ⊥) → (lists : Lists) → IsSettledFor lists old → IsSettledFor (lists_told (request.Deliver name time octets) given lists) new
 
 -- ---- a message that was read
@@ -117,6 +194,10 @@ IsMessageOf left octets = IfSome left (λ all. all ≡ octets) × (length octets
 abbrev pub IsTimeOf : Option ℕ → ℕ → Type 0
 IsTimeOf told time = IfSome told (λ now. time ≡ now)
 
+-- The input was read to its end, which came within 64 MiB. Only then is the clock asked.
+abbrev pub IsReadWhole : Option (List ℕ) → Option (List ℕ) → Type 0
+IsReadWhole left rest = ((octets : List ℕ) × IsMessageOf left octets) × IsAtEnd rest
+
 abbrev pub OfDelivery : Option (List ℕ) → Option ℕ → (ℕ → List ℕ → Type 0) → Type 0
 OfDelivery left told holds = (octets : List ℕ) × (time : ℕ) × IsMessageOf left octets × IsTimeOf told time × holds time octets
 
@@ -127,12 +208,19 @@ IsUnread left outcome.NoMemory = Unit {0}
 IsUnread left outcome.ReadFault = Unit {0}
 IsUnread left other = ⊥
 
+-- One delivery, of these octets at this time: how it ends, what a crash at any moment of it may leave, and what it leaves of the
+-- disk when it ends.
+pub record IsDelivery (name : List ℕ) (time : ℕ) (octets : List ℕ) (held later : Option (List ℕ)) (old new : Option History) (began now : Faults) (ended : Outcome) : Type 0 where
+  pub ends : SaveOutcome name time octets held later old new began now ended
+  pub moments : SaveMoments name time octets old new
+  pub rests : SaveRests name time octets (IsOneOf (5 ∷ 6 ∷ 8 ∷ []) (status_of ended)) began now old new
+
 -- How `deliver` ends: there is no message or no time, nothing is printed, and no call of the disk is made; or as the delivery of the
 -- message that the input is, at the time that the clock told.
 abbrev pub DeliverOutcome : List ℕ → Option (List ℕ) → Option ℕ → Option (List ℕ) → Option (List ℕ) → Option History → Option History → Faults → Faults → Outcome → Type 0
 DeliverOutcome name left told held later old new began now ended =
     (IsUnread left ended × (later ≡ held) × (new ≡ old))
-    ⊎ OfDelivery left told (λ time octets. SaveOutcome name time octets held later old new began now ended)
+    ⊎ OfDelivery left told (λ time octets. IsDelivery name time octets held later old new began now ended)
 
 -- What a crash at any moment may leave, and what `deliver` leaves of the disk when it ends: no call of it was made, or as the delivery
 -- of the message.

@@ -15,5 +15,6 @@ pub mod MakeRun
 pub mod MoveRun
 pub mod OpeningOutcome
 pub mod Run
+pub mod SavedMail
 pub mod Served
 pub mod UnderWay

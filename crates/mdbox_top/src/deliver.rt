@@ -5,9 +5,10 @@ ghost use Rattle.mdbox_base.specs.Streams.{Rose};
 ghost use Rattle.mdbox_base.specs.declared.requests.Request.TheVariants as request;
 ghost use Rattle.mdbox_top.specs.Alone.{MayFail, IsDoneAlone, IsUnopened};
 ghost use Rattle.mdbox_top.specs.ChangeEvents.{SavesAlone};
-ghost use Rattle.mdbox_top.specs.DeliverRun.{SaveOutcome, SaveMoments, SaveRests, IsMessageOf, IsTimeOf, unread_outcome, IsUnread, DeliverOutcome, DeliverMoments, DeliverRests};
+ghost use Rattle.mdbox_top.specs.DeliverRun.{SaveOutcome, SaveMoments, SaveRests, IsMessageOf, IsTimeOf, IsReadWhole, unread_outcome, IsUnread, DeliverOutcome, DeliverMoments, DeliverRests};
 ghost use Rattle.mdbox_top.specs.InputRun.{IsOneOf};
 ghost use Rattle.request_text.specs.Outcomes.{status_of};
+ghost use Rattle.request_text.specs.declared.outcome.InputRefusal.{InputRefusal};
 ghost use Rattle.request_text.specs.declared.outcome.Outcome.TheVariants as outcome;
 
 use crate::alone::print_outcome;
@@ -27,7 +28,8 @@ use store_open::{OpenRefused, open_store};
 const MESSAGE_LIMIT: u64 = 67_108_864;
 
 /// Reads a message from the input to its end, asks the clock, saves the message in the mailbox with this name, prints the reply,
-/// and hands the disk back. Unless there is a message and a time, no call of the disk is made.
+/// and hands the disk back. Unless there is a message the clock isn't asked, and unless there is a time too no call of the disk
+/// is made.
 pub fn deliver<D: Disk, I: Source, O: Sink, C: Clock>(
     alloc: Global,
     name: Name,
@@ -40,11 +42,13 @@ pub fn deliver<D: Disk, I: Source, O: Sink, C: Clock>(
     ensures moments { DeliverMoments name (I.left input.old) (C.time clock.old) (D.history disk) (D.history result.1) }
     ensures rests { DeliverRests name (I.left input.old) (C.time clock.old) (IsOneOf (5 ∷ 6 ∷ 8 ∷ []) (status_of result.0)) (D.faults disk) (D.faults result.1) (D.history disk) (D.history result.1) }
     ensures disk_fault { AnyFaultCounted (result.0 ≡ outcome.DiskFault) (D.faults disk) (D.faults result.1) }
-    ensures read_fault { result.0 ≡ outcome.ReadFault → Rose (I.faults input.old) (I.faults input.new) ⊎ Rose (C.faults clock.old) (C.faults clock.new) }
+    ensures read_fault { result.0 ≡ outcome.ReadFault → Rose (I.faults input.old) (I.faults input.new) ⊎ (Rose (C.faults clock.old) (C.faults clock.new) × IsReadWhole (I.left input.old) (I.left input.new)) }
     ensures write_fault { result.0 ≡ outcome.WriteFault → Rose (O.faults output.old) (O.faults output.new) }
     ensures disk_quiet { (IsOneOf (5 ∷ 6 ∷ 8 ∷ []) (status_of result.0) → ⊥) → NoFault (D.faults disk) (D.faults result.1) }
     ensures read_quiet { result.0 ≢ outcome.ReadFault → I.faults input.new ≡ I.faults input.old }
     ensures clock_quiet { result.0 ≢ outcome.ReadFault → C.faults clock.new ≡ C.faults clock.old }
+    ensures asked { (clock.new ≡ clock.old) ⊎ (IsReadWhole (I.left input.old) (I.left input.new) × (I.faults input.new ≡ I.faults input.old)) }
+    ensures too_long { (why : InputRefusal) → result.0 ≡ outcome.InputRefused why → clock.new ≡ clock.old }
     ensures write_quiet { result.0 ≢ outcome.WriteFault → O.faults output.new ≡ O.faults output.old }
     ensures counted { (I.faults input.old ≤ I.faults input.new) × (O.faults output.old ≤ O.faults output.new) × (C.faults clock.old ≤ C.faults clock.new) }
 {
@@ -63,7 +67,9 @@ fn read_message<I: Source, C: Clock>(
     ensures message { IfOk result (λ read. IsMessageOf (I.left input.old) read.0) }
     ensures time { IfOk result (λ read. IsTimeOf (C.time clock.old) read.1) }
     ensures unread { IfErr result (IsUnread (I.left input.old)) }
-    ensures cause { IfErr result (λ ended. ended ≡ outcome.ReadFault → Rose (I.faults input.old) (I.faults input.new) ⊎ Rose (C.faults clock.old) (C.faults clock.new)) }
+    ensures cause { IfErr result (λ ended. ended ≡ outcome.ReadFault → Rose (I.faults input.old) (I.faults input.new) ⊎ (Rose (C.faults clock.old) (C.faults clock.new) × IsReadWhole (I.left input.old) (I.left input.new))) }
+    ensures asked { (clock.new ≡ clock.old) ⊎ (IsReadWhole (I.left input.old) (I.left input.new) × (I.faults input.new ≡ I.faults input.old)) }
+    ensures too_long { IfErr result (λ ended. (why : InputRefusal) → ended ≡ outcome.InputRefused why → clock.new ≡ clock.old) }
     ensures quiet { OnOk result ((I.faults input.new ≡ I.faults input.old) × (C.faults clock.new ≡ C.faults clock.old)) }
     ensures unfailed { IfErr result (λ ended. ended ≢ outcome.ReadFault → (I.faults input.new ≡ I.faults input.old) × (C.faults clock.new ≡ C.faults clock.old)) }
     ensures counted { (I.faults input.old ≤ I.faults input.new) × (C.faults clock.old ≤ C.faults clock.new) }

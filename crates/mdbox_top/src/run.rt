@@ -7,6 +7,8 @@ ghost use Rattle.request_text.specs.Commands.{IsInRange, Says, SayNothing};
 ghost use Rattle.request_text.specs.Outcomes.{status_of, error_text};
 ghost use Rattle.request_text.specs.declared.command.Command.{Command};
 ghost use Rattle.request_text.specs.declared.outcome.Outcome.TheVariants as outcome;
+ghost use Rattle.request_text.specs.declared.outcome.InputRefusal.{InputRefusal};
+ghost use Rattle.mdbox_top.specs.DeliverRun.{IsReadWhole};
 ghost use Rattle.mdbox_top.specs.Run.{Ends, RunOutcome, Moments, Rests, HasStatus, MayHaveFailed, reads_input, uses_disk, asks_clock};
 
 use crate::alone::serve;
@@ -59,10 +61,14 @@ pub fn mdbox_run<D: Disk, I: Source, O: Sink, E: Sink, C: Clock>(
     ensures untouched { (command : Command) → Says (map string_bytes words.now) command → uses_disk command ≡ false → result.1 ≡ disk }
     ensures unasked { (command : Command) → Says (map string_bytes words.now) command → asks_clock command ≡ false → clock.new ≡ clock.old }
 
+    // The clock is asked once the input was read to its end, which came within its limit: of one that is refused it isn't.
+    ensures asked { (clock.new ≡ clock.old) ⊎ (IsReadWhole (I.left input.old) (I.left input.new) × (I.faults input.new ≡ I.faults input.old)) }
+    ensures refused { result.0.0 ≡ 4 → clock.new ≡ clock.old }
+
     // A fault only if that object's count of faults rose, and else it stayed: none is made up, and none hidden but by a
     // command that can't print that a read failed, or that the store is stopped. The counts never fall.
     ensures disk_fault { AnyFaultCounted (result.0.0 ≡ 6) (D.faults disk) (D.faults result.1) }
-    ensures read_fault { result.0.0 ≡ 7 → Rose (I.faults input.old) (I.faults input.new) ⊎ Rose (C.faults clock.old) (C.faults clock.new) }
+    ensures read_fault { result.0.0 ≡ 7 → Rose (I.faults input.old) (I.faults input.new) ⊎ (Rose (C.faults clock.old) (C.faults clock.new) × IsReadWhole (I.left input.old) (I.left input.new)) }
     ensures write_fault { result.0.0 ≡ 8 → Rose (O.faults output.old) (O.faults output.new) }
     ensures disk_quiet { (command : Command) → Says (map string_bytes words.now) command → (MayHaveFailed command result.0.0 → ⊥) → NoFault (D.faults disk) (D.faults result.1) }
     ensures read_quiet { result.0.0 ≢ 7 → I.faults input.new ≡ I.faults input.old }
@@ -96,11 +102,13 @@ pub fn mdbox_alone<D: Disk, I: Source, O: Sink, E: Sink, C: Clock>(
     ensures untouched { uses_disk command ≡ false → result.1 ≡ disk }
     ensures unasked { asks_clock command ≡ false → clock.new ≡ clock.old }
     ensures disk_fault { AnyFaultCounted (result.0.0 ≡ 6) (D.faults disk) (D.faults result.1) }
-    ensures read_fault { result.0.0 ≡ 7 → Rose (I.faults input.old) (I.faults input.new) ⊎ Rose (C.faults clock.old) (C.faults clock.new) }
+    ensures read_fault { result.0.0 ≡ 7 → Rose (I.faults input.old) (I.faults input.new) ⊎ (Rose (C.faults clock.old) (C.faults clock.new) × IsReadWhole (I.left input.old) (I.left input.new)) }
     ensures write_fault { result.0.0 ≡ 8 → Rose (O.faults output.old) (O.faults output.new) }
     ensures disk_quiet { (MayHaveFailed command result.0.0 → ⊥) → NoFault (D.faults disk) (D.faults result.1) }
     ensures read_quiet { result.0.0 ≢ 7 → I.faults input.new ≡ I.faults input.old }
     ensures clock_quiet { result.0.0 ≢ 7 → C.faults clock.new ≡ C.faults clock.old }
+    ensures asked { (clock.new ≡ clock.old) ⊎ (IsReadWhole (I.left input.old) (I.left input.new) × (I.faults input.new ≡ I.faults input.old)) }
+    ensures refused { result.0.0 ≡ 4 → clock.new ≡ clock.old }
     ensures write_quiet { result.0.0 ≢ 8 → O.faults output.new ≡ O.faults output.old }
     ensures counted { (I.faults input.old ≤ I.faults input.new) × (O.faults output.old ≤ O.faults output.new) × (E.faults errors.old ≤ E.faults errors.new) × (C.faults clock.old ≤ C.faults clock.new) }
 {
@@ -125,11 +133,13 @@ fn perform<D: Disk, I: Source, O: Sink, C: Clock>(
     ensures unasked { asks_clock command ≡ false → clock.new ≡ clock.old }
     ensures rests { Rests command (I.left input.old) (C.time clock.old) (MayHaveFailed command (status_of result.0)) (D.faults disk) (D.faults result.1) (D.history disk) (D.history result.1) }
     ensures disk_fault { AnyFaultCounted (result.0 ≡ outcome.DiskFault) (D.faults disk) (D.faults result.1) }
-    ensures read_fault { result.0 ≡ outcome.ReadFault → Rose (I.faults input.old) (I.faults input.new) ⊎ Rose (C.faults clock.old) (C.faults clock.new) }
+    ensures read_fault { result.0 ≡ outcome.ReadFault → Rose (I.faults input.old) (I.faults input.new) ⊎ (Rose (C.faults clock.old) (C.faults clock.new) × IsReadWhole (I.left input.old) (I.left input.new)) }
     ensures write_fault { result.0 ≡ outcome.WriteFault → Rose (O.faults output.old) (O.faults output.new) }
     ensures disk_quiet { (MayHaveFailed command (status_of result.0) → ⊥) → NoFault (D.faults disk) (D.faults result.1) }
     ensures read_quiet { result.0 ≢ outcome.ReadFault → I.faults input.new ≡ I.faults input.old }
     ensures clock_quiet { result.0 ≢ outcome.ReadFault → C.faults clock.new ≡ C.faults clock.old }
+    ensures asked { (clock.new ≡ clock.old) ⊎ (IsReadWhole (I.left input.old) (I.left input.new) × (I.faults input.new ≡ I.faults input.old)) }
+    ensures refused { (why : InputRefusal) → result.0 ≡ outcome.InputRefused why → clock.new ≡ clock.old }
     ensures write_quiet { result.0 ≢ outcome.WriteFault → O.faults output.new ≡ O.faults output.old }
     ensures counted { (I.faults input.old ≤ I.faults input.new) × (O.faults output.old ≤ O.faults output.new) × (C.faults clock.old ≤ C.faults clock.new) }
 {

@@ -1,9 +1,9 @@
 use Rattle.std.proofs.Common.{refl, inl, inr, arith}
-use Rattle.mdbox_top.proofs.DeliverLemmas.{save_reads, unread_apart}
+use Rattle.mdbox_top.proofs.DeliverLemmas.{save_input, save_reads, unread_apart}
 use Rattle.mdbox_top.proofs.deliver.deliver.Goals as goal
 
 pub returns-in-Ok-clause-ends : goal.returns-in-Ok-clause-ends
-returns-in-Ok-clause-ends g c = inr (c.in-Ok.message, c.in-Ok.time, c.in-Ok.ensures.message, c.in-Ok.ensures.time, c.save.ensures.ends)
+returns-in-Ok-clause-ends g c = inr (c.in-Ok.message, c.in-Ok.time, c.in-Ok.ensures.message, c.in-Ok.ensures.time, record { ends = c.save.ensures.ends; moments = c.save.ensures.moments; rests = c.save.ensures.rests })
 
 pub returns-in-Ok-clause-moments : goal.returns-in-Ok-clause-moments
 returns-in-Ok-clause-moments g c = inr (c.in-Ok.message, c.in-Ok.time, c.in-Ok.ensures.message, c.in-Ok.ensures.time, c.save.ensures.moments)
@@ -31,3 +31,6 @@ returns-in-Err-clause-write_fault g c = λ e. absurd (unread_apart _ c.in-Err.ou
 
 pub returns-in-Err-clause-disk_quiet : goal.returns-in-Err-clause-disk_quiet
 returns-in-Err-clause-disk_quiet g c = λ other. refl
+
+pub returns-in-Ok-clause-too_long : goal.returns-in-Ok-clause-too_long
+returns-in-Ok-clause-too_long g c = λ why e. absurd (save_input c.args.name c.in-Ok.time c.in-Ok.message _ _ _ _ _ _ c.save.result.0 c.save.ensures.ends why e)

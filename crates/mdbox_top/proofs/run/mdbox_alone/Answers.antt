@@ -1,7 +1,7 @@
 use Rattle.std.proofs.Common.{ℕ, sym, subst}
 use Rattle.request_text.specs.Outcomes.{status_of}
 use Rattle.mdbox_top.specs.Run.{MayHaveFailed}
-use Rattle.mdbox_top.proofs.RunLemmas.{last_ends, has_status, fails_last, rests_last}
+use Rattle.mdbox_top.proofs.RunLemmas.{last_ends, has_status, fails_last, rests_last, uninput}
 use Rattle.mdbox_top.proofs.run.mdbox_alone.Goals as goal
 
 pub returns-clause-run : goal.returns-clause-run
@@ -23,3 +23,9 @@ pub returns-clause-disk_quiet : goal.returns-clause-disk_quiet
 returns-clause-disk_quiet g c = λ no.
     let told = c.report.ensures.told in
     c.perform-outcome.ensures.disk_quiet (λ failed. no (subst (λ (n : ℕ). MayHaveFailed c.args.command n) (sym told.2) (fails_last c.args.command c.perform-outcome.result.0 told.0 told.1 failed)))
+
+pub returns-clause-refused : goal.returns-clause-refused
+returns-clause-refused g c = λ four.
+    let told = c.report.ensures.told in
+    let o = uninput c.perform-outcome.result.0 told.0 _ told.1 told.2 four in
+    c.perform-outcome.ensures.refused o.0 o.1
