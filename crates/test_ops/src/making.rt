@@ -191,8 +191,8 @@ fn each_call_of_a_make_that_fails(rt: HostRuntime) -> Result<(), Fail> {
     let mut made: u64 = 0;
     for failing in 1..60 {
         match with_fault(rt.alloc(), failing)? {
-            Some((End::Refused(Refusal::Stopped), None)) => stopped += 1,
-            Some((End::Made, Some(0))) => made += 1,
+            Some((End::Refused(Refusal::Stopped), None)) => stopped = stopped.saturating_add(1),
+            Some((End::Made, Some(0))) => made = made.saturating_add(1),
             Some(other) => assert_eq!(rt; Some(other), None, "call {failing}"),
             None => {}
         }
@@ -233,9 +233,10 @@ fn shown(alloc: Global, disk: MemDisk) -> Result<(u64, Option<u32>), Fail> {
 fn a_make_that_crashes(rt: HostRuntime) -> Result<(), Fail> {
     let disk = made_disk(rt.alloc())?;
     let last = disk.calls();
+    let last_but_one = last.saturating_sub(1);
     let before = last.saturating_sub(CALLS);
     each_crash(rt.alloc(), &disk, before, |image, run, choice| {
-        let left = run + 1 == last && matches!(choice, Choice::New | Choice::Torn(1));
+        let left = run == last_but_one && matches!(choice, Choice::New | Choice::Torn(1));
         let made = (run == last || left).then_some(0);
         assert_eq!(rt;
             shown(rt.alloc(), image)?,
