@@ -231,13 +231,12 @@ fn an_instance_is_read_from_any_offset(rt: HostRuntime) -> Result<(), Fail> {
     Ok(())
 }
 
-/// How three savings of one text end in a new store on a disk of whose calls this one fails, counted from the opening on, and
-/// whether the store is stopped then. None if the store isn't opened.
-fn with_fault(
-    alloc: Global,
-    failing: u64,
-    octets: &[u8],
-) -> Result<Option<([Saved; 3], bool)>, Fail>
+/// How three savings end, and whether the store is stopped then.
+type Three = (Saved, Saved, Saved, bool);
+
+/// How three savings of one text end in a new store on a disk of whose calls this one fails, counted from the opening on. None if
+/// the store isn't opened.
+fn with_fault(alloc: Global, failing: u64, octets: &[u8]) -> Result<Option<Three>, Fail>
     requires { length octets.now ≤ 4294967295 }
 {
     let calls = Seq::of(vec![in alloc; failing]?);
@@ -250,7 +249,7 @@ fn with_fault(
             let third = save(&mut store, ABC, octets);
             let stopped = store.stopped();
             let _disk = store.into_disk();
-            Ok(Some(([first, second, third], stopped)))
+            Ok(Some((first, second, third, stopped)))
         }
         Err(
             OpenRefused {
@@ -263,22 +262,24 @@ fn with_fault(
 
 /// The kinds of ends: the store isn't opened; it is stopped; the second saving, or the third one, can't read; all three end well.
 /// None of another end.
-fn kind_of(found: Option<([Saved; 3], bool)>) -> Option<usize> {
-    let Some((saved, stopped)) = found else {
+fn kind_of(found: Option<Three>) -> Option<usize> {
+    let Some((first, second, third, stopped)) = found else {
         return Some(0);
     };
-    let refused = Saved::Refused(PlaceStop::Stopped);
-    let (placed, known) = (Saved::Placed(ONE), Saved::Known(ONE));
     if stopped {
-        return (saved == [refused; 3]).then_some(1);
+        let refused = Saved::Refused(PlaceStop::Stopped);
+        return (first == refused && second == refused && third == refused).then_some(1);
     }
-    if saved == [placed, Saved::Unread, known] {
-        return Some(2);
+    if first != Saved::Placed(ONE) {
+        return None;
     }
-    if saved == [placed, known, Saved::Unread] {
-        return Some(3);
+    let known = Saved::Known(ONE);
+    match (second == known, third == known) {
+        (true, true) => Some(4),
+        (false, true) => (second == Saved::Unread).then_some(2),
+        (true, false) => (third == Saved::Unread).then_some(3),
+        (false, false) => None,
     }
-    (saved == [placed, known, known]).then_some(4)
 }
 
 /// A placing makes 4 calls of the disk, and each that fails stops the store. A comparison of 9,000 octets asks for the length
