@@ -136,7 +136,7 @@ fn into_one(
     let row = InstRow {
         hash: reference.hash,
         id: reference.id,
-        size: text.len() as u32,
+        size: text.len().min(u32::MAX as usize) as u32,
     };
     if rejoin_into(&mut out, whole, body, &[reference], &[row], text) {
         Ok(Some(out))
