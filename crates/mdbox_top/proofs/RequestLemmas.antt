@@ -2,6 +2,7 @@
 use Rattle.std.specs.Prelude.{◌≡◌, ◌⊎◌, ℕ, List, [], ◌∷◌, Option, Some, None}
 use Rattle.std.proofs.Common.{refl, sym, ◌∙◌, ap, subst, inl, inr, append-nil, arith}
 use Rattle.disk_model.specs.Disk.{History, Faults, IsIdle}
+use Rattle.disk_model.specs.FaultCounts.{NoFault}
 use Rattle.disk_model.proofs.IdleLemmas.{idle-begins}
 use Rattle.mdbox_base.specs.Streams.{Appended}
 use Rattle.mdbox_base.specs.declared.replies.Refusal.TheVariants as refusal
@@ -108,7 +109,7 @@ fault_number : (s : StoreRefusal) (why : OpenError) → outcome.StoreRefused s �
 fault_number s why e d = let f : 3 ≡ 6 = ap status_of e ∙ ap (λ (w : OpenError). status_of (opening_outcome w)) d in omega (arith, f)
 
 pub request_damage : (Tells : Option History → Option History → Reply → Type 0) (request : Request) (h k : Option (List ℕ)) (old new : Option History) (f g : Faults) (s : StoreRefusal) → RequestOutcome Tells request h k old new f g (outcome.StoreRefused s) → RequestOutcome Tells request h k old new f g outcome.NoMemory
-request_damage Tells request h k old new f g s (inl n) = inl (record { why = error.NoMemory; ended_is = refl; unprinted = n.unprinted; cause = tt; idle = λ other. n.idle (fault_number s n.why n.ended_is); untouched = n.untouched })
+request_damage Tells request h k old new f g s (inl n) = inl (record { why = error.NoMemory; ended_is = refl; unprinted = n.unprinted; cause = tt; idle = λ other. n.idle (fault_number s n.why n.ended_is); untouched = n.untouched; unfailed = λ other. n.unfailed (fault_number s n.why n.ended_is) })
 request_damage Tells request h k old new f g s (inr l) = absurd (shown_by 3 (shown_number _ l.given h k (outcome.StoreRefused s) l.printed) (inr (inl refl)))
 
 -- a settled disk has a store, which is damaged nowhere
@@ -134,16 +135,16 @@ request_status Tells request h k old new f g o (inr l) lists s = shown_number _ 
 
 -- a store that was not opened
 pub unopened : (Tells : Option History → Option History → Reply → Type 0) (request : Request) (h : Option (List ℕ)) (old new : Option History) (f g : Faults) (why : OpenError) → IsOpeningError old why → ((why ≡ error.DiskFault → ⊥) → IsIdle old new) → IdleUnless Opening old new
-    → RequestOutcome Tells request h h old new f g (opening_outcome why)
-unopened Tells request h old new f g why cause idle untouched = inl (record { why = why; ended_is = refl; unprinted = refl; cause = cause; idle = idle; untouched = untouched })
+    → ((why ≡ error.DiskFault → ⊥) → NoFault f g) → RequestOutcome Tells request h h old new f g (opening_outcome why)
+unopened Tells request h old new f g why cause idle untouched unfailed = inl (record { why = why; ended_is = refl; unprinted = refl; cause = cause; idle = idle; untouched = untouched; unfailed = unfailed })
 
 -- a store for which the disk was not asked, for out of memory
 unchanged : (old : Option History) → IdleUnless Opening old old
 unchanged None = tt
 unchanged (Some now) = λ lacks. idle-begins (Some now)
 
-pub unasked : (Tells : Option History → Option History → Reply → Type 0) (request : Request) (h : Option (List ℕ)) (old : Option History) (f g : Faults) → RequestOutcome Tells request h h old old f g outcome.NoMemory
-unasked Tells request h old f g = unopened Tells request h old old f g error.NoMemory tt (λ other. idle-begins old) (unchanged old)
+pub unasked : (Tells : Option History → Option History → Reply → Type 0) (request : Request) (h : Option (List ℕ)) (old : Option History) (f : Faults) → RequestOutcome Tells request h h old old f f outcome.NoMemory
+unasked Tells request h old f = unopened Tells request h old old f f error.NoMemory tt (λ other. idle-begins old) (unchanged old) (λ other. refl)
 
 -- ---- a fault of the disk
 

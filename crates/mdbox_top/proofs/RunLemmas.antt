@@ -258,16 +258,16 @@ rests_last other left told F G f g old new h r = tt
 
 -- ---- words that name a mailbox, whose name finds no memory
 
-pub named_unasked : (c : Command) → NamesMailbox c → (left : Option (List ℕ)) (told : Option ℕ) (h : Option (List ℕ)) (old : Option History) (f g : Faults) → Ends c left told h h old old f g outcome.NoMemory
-named_unasked (command.Deliver name) named left told h old f g = inl (tt, refl, refl)
-named_unasked (command.List name) named left told h old f g = unasked (IsListReply name) (request.List name) h old f g
-named_unasked (command.Fetch name uid) named left told h old f g = unasked (IsFetchReply name uid) (request.Fetch name uid) h old f g
-named_unasked (command.Flag name uid flags) named left told h old f g = unasked (IsFlagReply name uid flags) (request.Flag name uid flags) h old f g
-named_unasked (command.Expunge name uid) named left told h old f g = unasked (IsExpungeReply name uid) (request.Expunge name uid) h old f g
-named_unasked (command.Copy name uid target) named left told h old f g = unasked (IsCopyReply name uid target) (request.Copy name uid target) h old f g
-named_unasked (command.Move name uid target) named left told h old f g = unasked (IsMoveReply name uid target) (request.Move name uid target) h old f g
-named_unasked (command.Make name) named left told h old f g = unasked (IsMakeReply name) (request.Make name) h old f g
-named_unasked other named left told h old f g = absurd named
+pub named_unasked : (c : Command) → NamesMailbox c → (left : Option (List ℕ)) (told : Option ℕ) (h : Option (List ℕ)) (old : Option History) (f : Faults) → Ends c left told h h old old f f outcome.NoMemory
+named_unasked (command.Deliver name) named left told h old f = inl (tt, refl, refl)
+named_unasked (command.List name) named left told h old f = unasked (IsListReply name) (request.List name) h old f
+named_unasked (command.Fetch name uid) named left told h old f = unasked (IsFetchReply name uid) (request.Fetch name uid) h old f
+named_unasked (command.Flag name uid flags) named left told h old f = unasked (IsFlagReply name uid flags) (request.Flag name uid flags) h old f
+named_unasked (command.Expunge name uid) named left told h old f = unasked (IsExpungeReply name uid) (request.Expunge name uid) h old f
+named_unasked (command.Copy name uid target) named left told h old f = unasked (IsCopyReply name uid target) (request.Copy name uid target) h old f
+named_unasked (command.Move name uid target) named left told h old f = unasked (IsMoveReply name uid target) (request.Move name uid target) h old f
+named_unasked (command.Make name) named left told h old f = unasked (IsMakeReply name) (request.Make name) h old f
+named_unasked other named left told h old f = absurd named
 
 -- a settled disk of which no call is made
 still_safe : (lists : Lists) (h : Option History) → IsSettledFor lists h → EachImage (λ _ image. Safe image lists) h h

@@ -82,14 +82,15 @@ ShowsReply text given held later outcome.NoMemory = WritesPrefix held [] text la
 ShowsReply text given held later ended = (ended ≡ reply_outcome given) × Appended held text later
 
 -- The store was not opened, for a cause in the files, a fault, or out of memory: nothing was printed. Nothing has changed but
--- after a fault, and then only if the files open.
-pub record IsNotOpened (held later : Option (List ℕ)) (old new : Option History) (ended : Outcome) : Type 0 where
+-- after a fault, and then only if the files open. With any other cause no call of the disk failed.
+pub record IsNotOpened (held later : Option (List ℕ)) (old new : Option History) (began now : Faults) (ended : Outcome) : Type 0 where
   pub why : OpenError
   pub ended_is : ended ≡ opening_outcome why
   pub unprinted : later ≡ held
   pub cause : IsOpeningError old why
   pub idle : (why ≡ error.DiskFault → ⊥) → IsIdle old new
   pub untouched : IdleUnless Opening old new
+  pub unfailed : (why ≡ error.DiskFault → ⊥) → NoFault began now
 
 -- The journal speaks of the request. Of a delivery it does unless a part of its message could be detached: that part isn't, yet.
 abbrev pub IsJournaled : Request → Type 0
@@ -107,7 +108,7 @@ pub record IsReplied (Tells : Option History → Option History → Reply → Ty
 
 -- How a request alone ends: the store was not opened, or it replied.
 abbrev pub RequestOutcome : (Option History → Option History → Reply → Type 0) → Request → Option (List ℕ) → Option (List ℕ) → Option History → Option History → Faults → Faults → Outcome → Type 0
-RequestOutcome Tells request held later old new began now ended = IsNotOpened held later old new ended ⊎ IsReplied Tells request held later old new began now ended
+RequestOutcome Tells request held later old new began now ended = IsNotOpened held later old new began now ended ⊎ IsReplied Tells request held later old new began now ended
 
 -- Why the message with this UID isn't found, by what the log of its mailbox means: no mailbox has the name, or no message of it
 -- the UID.
