@@ -5,6 +5,7 @@ use Rattle.std.proofs.Common.{refl, sym, ◌∙◌, ap, subst, inl, inr, arith}
 use Rattle.disk_model.specs.Disk.{Files, History, Faults}
 use Rattle.disk_model.proofs.MomentLemmas.{each_image-map}
 use Rattle.mdbox_base.specs.declared.entries.Highest.{Highest}
+use Rattle.mdbox_base.specs.declared.entries.MapEntry.TheVariants as entry
 use Rattle.mdbox_base.specs.declared.ids.BoxNo.{BoxNo}
 use Rattle.mdbox_base.specs.declared.progress.Did.{Did}
 use Rattle.mdbox_base.specs.declared.progress.Progress.{Progress}
@@ -16,7 +17,7 @@ use Rattle.mdbox_base.specs.declared.replies.Reply.TheVariants as reply
 use Rattle.mdbox_base.specs.declared.requests.Request.TheVariants as request
 use Rattle.model_lists.specs.Lists.{Mailbox, Lists, empty_mailbox}
 use Rattle.model_meaning.specs.BoxMeaning.{BoxMeaning, box_meaning}
-use Rattle.model_meaning.specs.MapMeaning.{MapBox, MapMeaning}
+use Rattle.model_meaning.specs.MapMeaning.{MapBox, MapMeaning, map_applied}
 use Rattle.model_meaning.proofs.AppliedLemmas.{boxes_by_mailbox}
 use Rattle.model_store.specs.Listing.{ShowsMailbox, ShowLists, meaning_named}
 use Rattle.model_store.specs.Safe.{Safe}
@@ -202,6 +203,7 @@ refused_ends history faults name first t why is same means serves = record {
   refused = λ other e running memory. same (λ f. running (sym (one_refusal why other e) ∙ f)) (λ f. memory (sym (one_refusal why other e) ∙ f));
   memory = λ e. means (one_refusal why refusal.NoMemory e);
   shows = λ e. absurd (cc e);
+  named = λ e. absurd (cc e);
   calm = make_calm name first (reply.Refused why) is;
   serves = serves;
 }
@@ -260,6 +262,10 @@ done_makes history faults name number first s t how so event k named = record {
   refused = λ why e. absurd (cc e);
   memory = λ e. absurd (cc e);
   shows = λ e. shows_from number.0 (next_of first) name first s t so.knows.number_is (map_kept name number.0 first s so.knows) (indexes_kept name number.0 first s so.knows) (named_shows number name s t named);
+  named = λ e. record {
+    map_is = named.map ∙ ap (map_applied (entry.B number 1 name)) (map_kept name number.0 first s so.knows) ∙ ap (λ (n : ℕ). map_applied (entry.B (record { 0 = n }) 1 name) first.map) so.knows.number_is;
+    indexes = named.indexes ∙ ap (λ (ms : List BoxMeaning). ms ++ box_meaning [] ∷ []) (indexes_kept name number.0 first s so.knows);
+  };
   calm = refl;
   serves = done_serves history faults name number first s t how so event k;
 }
@@ -334,6 +340,11 @@ make_tells name given old mid new began now s t w =
         opened = opens_again new t w.later (make_runs name given old mid new began now s t w (done_runs given e));
         shows = λ lists formed shows. subst (λ (n : ℕ). ShowLists t.map.boxes (indexes_of t.boxes) (with_mailbox n name lists)) next (w.makes.shows e lists formed shows);
       };
+      named = λ e.
+          let more = w.makes.named e in
+          subst (λ (n : ℕ). IsOpenedAs new (map_applied (entry.B (record { 0 = n }) 1 name) s.map) (indexes_of s.boxes ++ box_meaning [] ∷ [])) next
+          (subst (λ (m : MapMeaning). IsOpenedAs new m (indexes_of s.boxes ++ box_meaning [] ∷ [])) more.map_is
+          (subst (λ (ms : List BoxMeaning). IsOpenedAs new t.map ms) more.indexes (opens_again new t w.later (make_runs name given old mid new began now s t w (done_runs given e)))));
       settled = λ running lists at. subst (λ (n : ℕ). IsSettledFor (lists_by_making n name given lists) new) next (w.makes.serves.settled (make_runs name given old mid new began now s t w running) lists (w.opened.settled_again lists at));
     }
 

@@ -1,7 +1,8 @@
 -- The events of a request alone that changes lists, one behind another.
-use Rattle.std.specs.Prelude.{◌≡◌, ◌↔◌, ◌⊎◌, ◌+◌, ℕ, true, false, List, Option, Some}
+use Rattle.std.specs.Prelude.{◌≡◌, ◌↔◌, ◌⊎◌, ◌+◌, ◌++◌, ◌∷◌, [], ℕ, true, false, List, Option, Some}
 use Rattle.disk_model.specs.Disk.{History, Faults}
 use Rattle.disk_model.specs.FaultCounts.{NoFault, ChangeFaultCounted}
+use Rattle.mdbox_base.specs.declared.entries.MapEntry.TheVariants as map_entry
 use Rattle.mdbox_base.specs.declared.ids.Guid.{Guid}
 use Rattle.mdbox_base.specs.declared.ids.MapUid.{MapUid}
 use Rattle.mdbox_base.specs.declared.ids.Uid.{Uid}
@@ -12,7 +13,8 @@ use Rattle.mdbox_base.specs.declared.replies.Reply.TheVariants as reply
 use Rattle.mdbox_base.specs.declared.requests.Request.{Request}
 use Rattle.mdbox_base.specs.declared.requests.Request.TheVariants as request
 use Rattle.model_lists.specs.Lists.{Lists, AreWellFormed}
-use Rattle.model_meaning.specs.MapMeaning.{is_sealed}
+use Rattle.model_meaning.specs.BoxMeaning.{box_meaning}
+use Rattle.model_meaning.specs.MapMeaning.{is_sealed, map_applied}
 use Rattle.model_store.specs.Listing.{ShowLists}
 use Rattle.model_store.specs.Settled.{IsSettledFor}
 use Rattle.journal.specs.Journal.{is_read_fault}
@@ -136,11 +138,17 @@ pub record MeansAsBefore {D : Type 0} (store later : StoreValue D) : Type 0 wher
   pub map_is : later.map ≡ store.map
   pub indexes : indexes_of later.boxes ≡ indexes_of store.boxes
 
+-- The store's map means what it did, with the entry that names this mailbox, whose log means nothing yet.
+pub record HasMailboxMore {D : Type 0} (number : ℕ) (name : List ℕ) (store later : StoreValue D) : Type 0 where
+  pub map_is : later.map ≡ map_applied (map_entry.B (record { 0 = number }) 1 name) store.map
+  pub indexes : indexes_of later.boxes ≡ indexes_of store.boxes ++ box_meaning [] ∷ []
+
 -- What the events of a make did.
 pub record MakesAlone {D : Type 0} (name : List ℕ) (store later : StoreValue D) (old new : Option History) (began now : Faults) (given : Reply) : Type 0 where
   pub given_is : IsChangeAnswer (making_refusal name store) given
   pub refused : (why : Refusal) → given ≡ reply.Refused why → (why ≡ refusal.Stopped → ⊥) → (why ≡ refusal.NoMemory → ⊥) → later ≡ store
   pub memory : given ≡ reply.Refused refusal.NoMemory → MeansAsBefore store later
   pub shows : given ≡ reply.Done → ShowsChanged (with_mailbox (store.drawn.mailbox + 1) name) store later
+  pub named : given ≡ reply.Done → HasMailboxMore (store.drawn.mailbox + 1) name store later
   pub calm : is_read_fault (Some given) ≡ false
   pub serves : ServesAlone (IsAtMake make_stage.First) (request.Make name) (AreOneOf (with_mailbox (store.drawn.mailbox + 1) name)) (lists_by_making (store.drawn.mailbox + 1) name given) store later old new began now given

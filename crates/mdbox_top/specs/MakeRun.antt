@@ -1,7 +1,8 @@
 -- How `make` ends.
-use Rattle.std.specs.Prelude.{◌≡◌, ◌⊎◌, ◌+◌, ℕ, nat_le, List, length, is_some, Option}
+use Rattle.std.specs.Prelude.{◌≡◌, ◌⊎◌, ◌+◌, ◌++◌, ◌∷◌, [], ℕ, nat_le, List, length, is_some, Option}
 use Rattle.std.specs.Option.{option_or}
 use Rattle.disk_model.specs.Disk.{History, Faults, EachImage}
+use Rattle.mdbox_base.specs.declared.entries.MapEntry.TheVariants as map_entry
 use Rattle.mdbox_base.specs.declared.replies.Refusal.{Refusal}
 use Rattle.mdbox_base.specs.declared.replies.Refusal.TheVariants as refusal
 use Rattle.mdbox_base.specs.declared.replies.Reply.{Reply}
@@ -9,8 +10,8 @@ use Rattle.mdbox_base.specs.declared.replies.Reply.TheVariants as reply
 use Rattle.mdbox_base.specs.declared.requests.Request.TheVariants as request
 use Rattle.model_lists.specs.Lists.{Lists}
 use Rattle.list_machine.specs.Machine.{refused_where, is_used_up}
-use Rattle.model_meaning.specs.BoxMeaning.{BoxMeaning}
-use Rattle.model_meaning.specs.MapMeaning.{MapMeaning}
+use Rattle.model_meaning.specs.BoxMeaning.{BoxMeaning, box_meaning}
+use Rattle.model_meaning.specs.MapMeaning.{MapMeaning, map_applied}
 use Rattle.model_store.specs.Listing.{meaning_named}
 use Rattle.model_store.specs.Safe.{Safe}
 use Rattle.model_store.specs.Settled.{IsSettledFor}
@@ -31,6 +32,10 @@ unmade_cause found m =
 abbrev pub next_mailbox : MapMeaning → ℕ
 next_mailbox m = m.highest.mailbox + 1
 
+-- what the map's log means with the entry that names the next mailbox
+abbrev pub with_next_named : List ℕ → MapMeaning → MapMeaning
+with_next_named name m = map_applied (map_entry.B (record { 0 = next_mailbox m }) 1 name) m
+
 -- the lists that this reply leaves: it is done, and an empty mailbox with this number and name is last; or they are the same
 abbrev pub lists_by_making : ℕ → List ℕ → Reply → Lists → Lists
 lists_by_making number name reply.Done lists = with_mailbox number name lists
@@ -38,8 +43,9 @@ lists_by_making number name given lists = lists
 
 -- The reply to the making of a mailbox with this name, by what the logs mean from which the store opened. Where it is refused, the
 -- files open with the same logs, all that the store reads is carried over, and the disk was swept. Out of memory, they open with the
--- same logs. Where it is done, their logs show the lists with the empty mailbox last. Unless the store is stopped, a disk that was
--- settled for lists is settled for those that the reply tells.
+-- same logs. Where it is done, they open with the same logs, with the entry that names the mailbox and with its log, and these show
+-- the lists with the empty mailbox last. Unless the store is stopped, a disk that was settled for lists is settled for those that the
+-- reply tells.
 pub record IsMakeReply (name : List ℕ) (old new : Option History) (given : Reply) : Type 0 where
   pub m : MapMeaning
   pub meanings : List BoxMeaning
@@ -48,6 +54,7 @@ pub record IsMakeReply (name : List ℕ) (old new : Option History) (given : Rep
   pub refused : (why : Refusal) → given ≡ reply.Refused why → (why ≡ refusal.Stopped → ⊥) → (why ≡ refusal.NoMemory → ⊥) → OpensUnchanged m meanings old new
   pub memory : given ≡ reply.Refused refusal.NoMemory → IsOpenedAs new m meanings
   pub done : given ≡ reply.Done → OpensChanged (with_mailbox (next_mailbox m) name) m meanings new
+  pub named : given ≡ reply.Done → IsOpenedAs new (with_next_named name m) (meanings ++ box_meaning [] ∷ [])
   pub settled : (given ≡ reply.Refused refusal.Stopped → ⊥) → (lists : Lists) → IsSettledFor lists old → IsSettledFor (lists_by_making (next_mailbox m) name given lists) new
 
 -- How `make` ends: the reply is printed, which is `OK`, or why no mailbox is made, or `NO 17 memory`, or `NO 19 stopped`; or a
