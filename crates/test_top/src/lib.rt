@@ -10,6 +10,8 @@ mod delivers;
 #[cfg(test)]
 mod fetches;
 #[cfg(test)]
+mod full;
+#[cfg(test)]
 mod makes;
 #[cfg(test)]
 mod moves;
