@@ -63,13 +63,7 @@ pub fn take_parts(
             mailbox,
             generation,
             name,
-        } => {
-            let at = BoxAt {
-                number: mailbox,
-                generation,
-            };
-            boxes.push_reserved(Mailbox { at, name });
-        }
+        } => boxes.push_reserved(Mailbox::of(mailbox, generation, name)),
         MapEntry::E { file } => seal(files, file),
         other => change_parts(records, boxes, &other),
     }

@@ -20,6 +20,16 @@ pub struct Mailbox {
     pub name: Name,
 }
 
+impl Mailbox {
+    /// The mailbox with this number, generation and name.
+    pub fn of(number: BoxNo, generation: u32, name: Name) -> Mailbox
+        ensures { result ≡ record { at = record { number = number; generation = generation }; name = name } }
+    {
+        let at = BoxAt { number, generation };
+        Mailbox { at, name }
+    }
+}
+
 /// The place of the mailbox with this number, by search; else how many mailboxes there are.
 pub fn place_with_number(boxes: &[Mailbox], number: BoxNo) -> usize
     requires { AllPairs (λ a b. a.at.number.0 < b.at.number.0) boxes.now }

@@ -1,8 +1,9 @@
-use Rattle.std.proofs.Common.{◌∙◌, sym, ap, map, arith}
+use Rattle.std.proofs.Common.{◌++◌, ◌∷◌, [], ◌∙◌, sym, ap, map, arith}
 use Rattle.std.proofs.lemmas.List.{map_push}
 use Rattle.model_meaning.proofs.AppliedLemmas.{records_by_stored, records_by_mailbox, records_by_sealed, boxes_by_stored, boxes_by_mailbox, boxes_by_sealed}
 use Rattle.map_rows.specs.TableValue.{TableValue}
 use Rattle.map_index.specs.Shown.{box_of}
+use Rattle.map_index.specs.declared.rows.Mailbox.{Mailbox}
 use Rattle.map_index.proofs.ListedLemmas.{table_is}
 use Rattle.map_index.proofs.MapAppliedLemmas.{adds_none, room_stays}
 use Rattle.map_index.proofs.changes.take_parts.Goals as goal
@@ -23,7 +24,7 @@ returns-in-S-clause-boxes c = rw c.in-S.is (sym (boxes_by_stored c.in-S.origin c
 pub returns-in-B-clause-boxes : goal.returns-in-B-clause-boxes
 returns-in-B-clause-boxes c =
     rw c.in-B.is
-    (ap (map box_of) c.push_reserved.ensures.items ∙ map_push box_of _ _
+    (ap (map box_of) (c.push_reserved.ensures.items ∙ ap (λ (b : Mailbox). c.args.boxes.now.items ++ b ∷ []) c.of.ensures) ∙ map_push box_of _ _
     ∙ sym (boxes_by_mailbox c.in-B.mailbox c.in-B.generation c.in-B.name (map box_of c.args.boxes.now.items)))
 
 pub returns-in-B-clause-records : goal.returns-in-B-clause-records
