@@ -10,7 +10,7 @@ use mdbox_base::{ExtRef, InstRow, LineForm};
 
 /// Adds to `out` the whole of a stored body, references and instances, where it has `whole` octets. The instances stand one
 /// behind another in `octets`, each with as many as its row says. No if and only if they have no whole of this size; then
-/// `out` holds any part of one. It takes no memory.
+/// `out` may hold any octets. It takes no memory.
 pub fn rejoin_into(
     out: &mut Vec<u8>,
     whole: usize,
