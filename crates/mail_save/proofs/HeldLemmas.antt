@@ -48,5 +48,5 @@ due_as : {D : Type 0} → (old new : StoreValue D) (uid : ℕ) → new.map ≡ o
 due_as old new uid map dues = ap (λ (m : MapMeaning). number_beside uid m.records new.dues) map ∙ ap (number_beside uid old.map.records) dues
 
 pub unstored_due : {D : Type 0} → (at : SavedAt) (why : Refusal) (old new : StoreValue D) → StoresNone at why old new → (uid : ℕ) → due_at uid new ≡ due_at uid old
-unstored_due at why old new (inl k) uid = due_as old new uid k.1.map k.1.dues
+unstored_due at why old new (inl k) uid = ap (λ v. due_at uid v) k.1.same
 unstored_due at why old new (inr k) uid = ap (λ v. due_at uid v) k.1.same

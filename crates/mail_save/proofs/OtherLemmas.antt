@@ -10,7 +10,7 @@ use Rattle.mdbox_base.specs.declared.replies.Refusal.{Refusal}
 use Rattle.model_meaning.proofs.KeptRowLemmas.{kept_all, kept_rows}
 use Rattle.model_meaning.specs.MapFits.{IsApart, IsFree}
 use Rattle.model_meaning.specs.MapMeaning.{MapRecord, MapMeaning, map_applied, number_at, record_changed, record_made, record_rules, has_map_uid}
-use Rattle.storage_files.specs.Files.{FilesValue, end_in, is_taken_in}
+use Rattle.storage_files.specs.Files.{end_in, is_taken_in}
 use Rattle.storage_files.specs.declared.file.Take.{Take}
 use Rattle.storage_files.specs.declared.file.Take.TheVariants.{Known, New, Full}
 use Rattle.store_core.specs.Value.{StoreValue}
@@ -80,6 +80,9 @@ same_map at old new map h = subst (λ (m : MapMeaning). IsFree m at.file.0 at.of
 pub keeps_same : {D : Type 0} → (now : SaveStage) (old new : StoreValue D) → new.map ≡ old.map → new.files.files ≡ old.files.files → KeepsOthers now old new
 keeps_same now old new map files = keeps_by now old new (λ number taken other. (ap (is_taken_in number) files, ap (end_in number) files)) (λ at h other. same_map at old new map h)
 
+pub alone_keeps : {D : Type 0} → (now : SaveStage) (old new : StoreValue D) → IsLeftAlone old new → KeepsOthers now old new
+alone_keeps now old new k = keeps_same now old new (ap (λ v. v.map) k.same) (ap (λ v. v.files.files) k.same)
+
 -- ---- by event
 
 takes_ends : {D : Type 0} → (take : Take) (header : ℕ) (file : FileNo) (old new : StoreValue D) → TookAs take header file old new → (number : ℕ) → number ≢ file.0 → end_in number new.files.files ≡ end_in number old.files.files
@@ -123,16 +126,13 @@ storing_keeps at origin time size room added old new mine s =
     ))
 
 pub unstored_keeps : {D : Type 0} → (at : SavedAt) (origin : ℕ) (room : Unit {0}) (why : Refusal) (old new : StoreValue D) → StoresNone at why old new → KeepsOthers (stage.Storing at origin room) old new
-unstored_keeps at origin room why old new (inl k) = keeps_same (stage.Storing at origin room) old new k.1.map (ap (λ (f : FilesValue). f.files) k.1.files)
+unstored_keeps at origin room why old new (inl k) = alone_keeps (stage.Storing at origin room) old new k.1
 unstored_keeps at origin room why old new (inr k) =
     keeps_by (stage.Storing at origin room) old new (λ number taken other. (k.1.others number other, k.1.ends number)) (λ place h other. same_map place old new (ap (λ v. v.map) k.1.same) h)
 
-pub alone_keeps : {D : Type 0} → (now : SaveStage) (old new : StoreValue D) → IsLeftAlone old new → KeepsOthers now old new
-alone_keeps now old new k = keeps_same now old new k.map (ap (λ (f : FilesValue). f.files) k.files)
-
 pub lowering_keeps : {D : Type 0} → (uid : MapUid) (why : Refusal) (room : Unit {0}) (old new : StoreValue D) → LowersRecord uid old new → KeepsOthers (stage.GivingBack uid why room) old new
 lowering_keeps uid why room old new l =
-    keeps_by (stage.GivingBack uid why room) old new (λ number taken other. (ap (λ (f : FilesValue). is_taken_in number f.files) l.files, ap (λ (f : FilesValue). end_in number f.files) l.files)) (λ place h other.
+    keeps_by (stage.GivingBack uid why room) old new (λ number taken other. (ap (λ v. is_taken_in number v.files.files) l.same, ap (λ v. end_in number v.files.files) l.same)) (λ place h other.
     subst (λ (m : MapMeaning). IsFree m place.file.0 place.offset place.size × All (λ row. row.guid ≢ place.guid.0) m.records) (sym l.map) (
       free_by old.map (entry_lowered uid) place.file.0 place.offset place.size (λ row. counted_as (has_map_uid row.uid (uid ∷ [])) (row.count - 1) row) (All-nil (λ (row : MapRecord). row.file ≡ place.file.0 → ⊥)) h.free,
       new_by old.map (entry_lowered uid) place.guid.0 (λ row. counted_as (has_map_uid row.uid (uid ∷ [])) (row.count - 1) row) (All-nil (λ (row : MapRecord). row.guid ≢ place.guid.0)) h.guid_new,

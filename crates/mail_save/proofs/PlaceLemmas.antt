@@ -15,8 +15,9 @@ use Rattle.store_core.proofs.BoxCrashLemmas.{leaves_none}
 use Rattle.model_meaning.specs.MapMeaning.{MapMeaning, is_own, number_at}
 use Rattle.storage_files.specs.Files.{end_in, is_taken_in}
 use Rattle.store_core.specs.Files.{IsNewPlace}
-use Rattle.store_core.specs.Value.{StoreValue}
+use Rattle.store_core.specs.Value.{StoreValue, indexes_of}
 use Rattle.mail_save.specs.Left.{HoldsFile, HoldsRegion}
+use Rattle.mail_save.specs.SaveEffects.{IsLeftAlone}
 use Rattle.mail_save.specs.Saved.{place_guid}
 use Rattle.mail_save.specs.declared.place.SavedAt.{SavedAt}
 
@@ -52,6 +53,13 @@ offset_of_place store file offset long small =
 pub guid_is_new : (m : MapMeaning) (file offset : ℕ) → length m.store ≡ 8 → file < 2 ^ 32 → offset < 2 ^ 32 → IsNewPlace m file offset → All (λ row. row.guid ≢ place_guid m.store file offset) m.records
 guid_is_new m file offset long f o new = λ k d lt e.
     new k d lt (ap (is_own m.store) e ∙ own_place m.store file offset long) (ap (number_at 8) e ∙ file_of_place m.store file offset long f) (ap (number_at 12) e ∙ offset_of_place m.store file offset long o)
+
+-- a change of the disk failed
+pub left_fallen : {D : Type 0} → (old new : StoreValue D) → new ≡ record old { disk = new.disk; stopped = true } → IsLeftAlone old new
+left_fallen old new fell = record {
+  indexes = ap (λ v. indexes_of v.boxes) fell;
+  same = subst (λ (v : StoreValue _). v ≡ record old { disk = v.disk; map_log = v.map_log; boxes = v.boxes; stopped = v.stopped }) (sym fell) refl;
+}
 
 -- ---- a region that was placed
 

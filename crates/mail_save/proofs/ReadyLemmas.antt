@@ -167,5 +167,5 @@ record_ready at origin name time size octets added old new before after s guid_n
         },
         tt,
       )) keeps (region.stores added.map_uid);
-  unlisted = ap (λ (g : List ℕ). references_to new g) (ap (λ g. g.0) made.guid_is) ∙ (ap (λ bs. refs_in (indexes_of bs) at.guid.0) made.boxes ∙ unlisted old at.guid.0 before s guid_new);
+  unlisted = ap (λ (g : List ℕ). references_to new g) (ap (λ g. g.0) made.guid_is) ∙ (ap (λ v. refs_in (indexes_of v.boxes) at.guid.0) made.same ∙ unlisted old at.guid.0 before s guid_new);
 }

@@ -67,7 +67,7 @@ use Rattle.mail_save.proofs.SaveLastLemmas.{FindsBox, saved_message, broken_save
 use Rattle.mail_save.proofs.SaveListLemmas.{box_checked, made_of}
 use Rattle.mail_save.proofs.SaveRefusedLemmas.{ends_first, ends_taking, ends_placing, ends_storing, ends_giving, first_at, taking_at, placing_at, storing_at, lowering_at, fallen_save, forgotten_save, checked_save, full_files, full_uids}
 use Rattle.mail_save.proofs.SaveRoomLemmas.{known_room, no_room, lt_true, true_lt}
-use Rattle.mail_save.proofs.SaveStoreLemmas.{sees_around, same_ends, files_ends, gave_on, tells_store, has_run, due_stays, stays_so, drawn_file, drawn_map, less_due, place_long, place_octets, place_file, place_new, place_given, file_below, is_before}
+use Rattle.mail_save.proofs.SaveStoreLemmas.{sees_around, same_ends, gave_on, tells_store, has_run, due_stays, stays_so, drawn_file, drawn_map, less_due, place_long, place_octets, place_file, place_new, place_given, file_below, is_before}
 
 -- ---- an event
 
@@ -383,7 +383,8 @@ placing_more parts file at origin room name time size octets how old new before 
 -- one that left the store as it was, of which a change failed
 stays_alone : {D : Type 0} → (old new : StoreValue D) (before after : Option History) (began faulted : Faults) → IsLeftAlone old new → Grows before after → faulted.reads ≡ began.reads → began.changes ≤ faulted.changes → StaysSo no_numbers (seen_saving old before began) (seen_saving new after faulted)
 stays_alone old new before after began faulted k grows reads changes =
-    stays_so no_numbers old new before after began faulted k.map (k.drawn ∙ sym (drawn_none old.drawn)) k.dues k.indexes (let d = ap (λ (h : Highest). h.file) k.drawn in omega (arith, d)) (same_ends old new (files_ends old new k.files)) grows (equal_reads began faulted reads) changes
+    stays_so no_numbers old new before after began faulted (ap (λ (v : StoreValue _). v.map) k.same) (ap (λ (v : StoreValue _). v.drawn) k.same ∙ sym (drawn_none old.drawn)) (ap (λ (v : StoreValue _). v.dues) k.same) k.indexes
+    (let d = ap (λ (v : StoreValue _). v.drawn.file) k.same in omega (arith, d)) (same_ends old new (λ n. ap (λ (v : StoreValue _). end_in n v.files.files) k.same)) grows (equal_reads began faulted reads) changes
 
 pub placing_refused : {D : Type 0} → (parts : SavedParts) (file : FileNo) (why : Refusal) (name : List ℕ) (time size : ℕ) (octets : List ℕ) (how : Did) (old new : StoreValue D) (before after : Option History) (began faulted : Faults) → EventOf (stage.Placing parts file) stage.Ended name time size octets (progress.Done (reply.Refused why)) how old new before after began faulted
     → DeliveryClause octets (stage.Placing parts file) stage.Ended name time (progress.Done (reply.Refused why)) how old new before after began faulted
@@ -415,7 +416,7 @@ storing_more at origin room left added name time size octets how old new before 
     (λ behind. subst (λ (g : Guid). Steps (IsStoringMessage at.file.0 at.guid.0) (IsAddingMessage g.0 added.map_uid.0) (around_saving octets (stage.Storing at origin room) old) behind (request.Deliver name time octets) (seen_saving old before began) (seen_saving new after faulted) did.Quiet None) (sym p.guid_is)
     (stores_message (around_saving octets (stage.Storing at origin room) old) behind name time octets at.file.0 at.guid.0 added.map_uid.0 at.size at.offset (seen_saving old before began) (seen_saving new after faulted) (sees_around octets (stage.Storing at origin room) old before began e.is e.order e.whole)
     p.uid_is p.few (sym e.left.0.guid_offset)
-    (has_run old new before after began faulted e.ran runs p.mailboxes (ap indexes_of p.boxes) (λ lists t. s.moments lists (r.ready (record { 0 = old.drawn.map + 1 }) lists t) t) (λ lists t. s.rests runs lists (r.ready (record { 0 = old.drawn.map + 1 }) lists t) t) s.grows (s.unfailed more_differs))
+    (has_run old new before after began faulted e.ran runs p.mailboxes (ap (λ (v : StoreValue _). indexes_of v.boxes) p.same) (λ lists t. s.moments lists (r.ready (record { 0 = old.drawn.map + 1 }) lists t) t) (λ lists t. s.rests runs lists (r.ready (record { 0 = old.drawn.map + 1 }) lists t) t) s.grows (s.unfailed more_differs))
     (subst (λ (n : ℕ). new.map ≡ map_applied (entry_stored n added.map_uid at) old.map) none p.map) drawn (λ other. p.due other)
     (tells_store old new before after began faulted (ap (λ (m : MapMeaning). m.store) p.map) (omega (arith, number)) (same_ends old new p.ends))))
 
@@ -541,11 +542,11 @@ adding_saved added room uid guid name time size octets how old new before after 
     (record {
       ran = e.ran;
       runs = runs;
-      map = p.map;
-      drawn = p.drawn;
+      map = ap (λ (v : StoreValue _). v.map) p.same;
+      drawn = ap (λ (v : StoreValue _). v.drawn) p.same;
       taken = p.taken ∙ ap (λ (x : BoxEntry). meanings_by p.number.0 x old.map.boxes (indexes_of old.boxes)) entry;
       due = λ other. less_due added.map_uid old new other e.left.1 (p.due p.room.mailbox other p.room.named);
-      tells = tells_store old new before after began faulted (ap (λ (m : MapMeaning). m.store) p.map) (let d = ap (λ (h : Highest). h.file) p.drawn in omega (arith, d)) (same_ends old new (files_ends old new p.files));
+      tells = tells_store old new before after began faulted (ap (λ (v : StoreValue _). v.map.store) p.same) (let d = ap (λ (v : StoreValue _). v.drawn.file) p.same in omega (arith, d)) (same_ends old new (λ n. ap (λ (v : StoreValue _). end_in n v.files.files) p.same));
       moments = λ lists t. subst (λ (x : BoxEntry). Leaves lists (lists_by p.number.0 octets x lists) before after) entry (s.moments p.number uid p.room lists octets (r.brings uid) t);
       settled = λ lists t. subst (λ (x : BoxEntry). IsSettledFor (lists_by p.number.0 octets x lists) after) entry (s.rests runs p.number p.room lists octets (r.brings uid) t);
       grows = s.grows;
@@ -631,8 +632,8 @@ giving_refused uid cause room why name time size octets how old new before after
         with_did octets (stage.GivingBack uid cause room) stage.Ended name time (progress.Done (reply.Refused why)) how did.Quiet old new before after began faulted (s.did_is ∙ gives_quietly why other)
         (subst (λ (w : Refusal). DeliveryClause octets (stage.GivingBack uid cause room) stage.Ended name time (progress.Done (reply.Refused w)) did.Quiet old new before after began faulted) (sym k.0)
         (λ behind. lowers_count (around_saving octets (stage.GivingBack uid cause room) old) behind name time octets uid.0 cause (IsAtSave stage.Ended) (seen_saving old before began) (seen_saving new after faulted) sees
-        (has_run old new before after began faulted e.ran runs p.mailboxes (ap indexes_of p.boxes) s.moments (s.rests runs) s.grows (s.unfailed (refused_differs why other))) p.map p.drawn (λ u. less_due uid old new u e.left.0 (p.due u))
-        (tells_store old new before after began faulted (ap (λ (m : MapMeaning). m.store) p.map) (let d = ap (λ (h : Highest). h.file) p.drawn in omega (arith, d)) (same_ends old new (files_ends old new p.files)))))
+        (has_run old new before after began faulted e.ran runs p.mailboxes (ap (λ (v : StoreValue _). indexes_of v.boxes) p.same) s.moments (s.rests runs) s.grows (s.unfailed (refused_differs why other))) p.map (ap (λ (v : StoreValue _). v.drawn) p.same) (λ u. less_due uid old new u e.left.0 (p.due u))
+        (tells_store old new before after began faulted (ap (λ (m : MapMeaning). m.store) p.map) (let d = ap (λ (v : StoreValue _). v.drawn.file) p.same in omega (arith, d)) (same_ends old new (λ n. ap (λ (v : StoreValue _). end_in n v.files.files) p.same)))))
     by_case (inr k) =
         let s = e.saves in
         let stop : progress.Done (reply.Refused why) ≡ stopped_reply = ap (λ (w : Refusal). progress.Done (reply.Refused w)) k.0 in

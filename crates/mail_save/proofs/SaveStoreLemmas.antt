@@ -73,9 +73,6 @@ pub record EndsGoOn {D : Type 0} (old new : StoreValue D) : Type 0 where
 pub same_ends : {D : Type 0} → (old new : StoreValue D) → AreEndsSame old new → EndsGoOn old new
 same_ends old new same = record { gave = λ n offset le e. ap (λ (o : Option ℕ). is_before offset o) (same n) ∙ e; known = λ n e. ap (λ (o : Option ℕ). is_some o) (sym (same n)) ∙ e }
 
-pub files_ends : {D : Type 0} → (old new : StoreValue D) → new.files ≡ old.files → AreEndsSame old new
-files_ends old new same = λ n. ap (λ (f : FilesValue). end_in n f.files) same
-
 all_true : (a b c : Bool) → a ≡ true → b ≡ true → c ≡ true → (a && (b && c)) ≡ true
 all_true a b c x y z = rw (x, y, z) refl
 

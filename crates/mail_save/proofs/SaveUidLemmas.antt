@@ -82,7 +82,7 @@ same_stays : {D : Type 0} → (old new : StoreValue D) → new.map ≡ old.map �
 same_stays old new map boxes = logs_stay old new (ap (λ (m : MapMeaning). m.boxes) map) (ap indexes_of boxes)
 
 alone_stays : {D : Type 0} → (old new : StoreValue D) → IsLeftAlone old new → KeepsUids old new
-alone_stays old new k = logs_stay old new (ap (λ (m : MapMeaning). m.boxes) k.map) k.indexes
+alone_stays old new k = logs_stay old new (ap (λ v. v.map.boxes) k.same) k.indexes
 
 -- ---- by event
 
@@ -96,7 +96,7 @@ added_stays name added given old new a = λ other uid held k. by_case other uid 
     later = meanings_by a.number.0 entry old.map.boxes (indexes_of old.boxes)
 
     as_named : (other : List ℕ) → list_named new other ≡ meaning_named other old.map.boxes later
-    as_named other = ap (λ (bs : List MapBox). meaning_named other bs (indexes_of new.boxes)) (ap (λ (m : MapMeaning). m.boxes) a.map) ∙ ap (meaning_named other old.map.boxes) a.taken
+    as_named other = ap (λ (bs : List MapBox). meaning_named other bs (indexes_of new.boxes)) (ap (λ v. v.map.boxes) a.same) ∙ ap (meaning_named other old.map.boxes) a.taken
 
     by_case : (other : List ℕ) (uid held : ℕ) (k : KeepsUid other uid held old) → (meaning_named other old.map.boxes later ≡ Some k.m) ⊎ ((meaning_named other old.map.boxes later ≡ Some (box_applied entry k.m)) × (k.m ≡ a.room.mailbox)) → KeepsUid other uid held new
     by_case other uid held k (inl same) = record { m = k.m; named = as_named other ∙ same; below = k.below; same = k.same }
@@ -128,11 +128,11 @@ uids_stay (stage.Taking parts) (stage.Placing laid file) name time size progress
 uids_stay (stage.Taking parts) stage.Ended name time size (progress.Done (reply.Refused why)) old new e = untaken_stays (length parts.region) why old new e
 uids_stay (stage.Placing parts file) (stage.Storing at origin room) name time size progress.More old new e = same_stays old new (ap (λ v. v.map) e.same) (ap (λ v. v.boxes) e.same)
 uids_stay (stage.Placing parts file) stage.Ended name time size (progress.Done (reply.Refused why)) old new e = alone_stays old new e
-uids_stay (stage.Storing at origin room) (stage.Adding added left) name time size progress.More old new e = logs_stay old new e.mailboxes (ap indexes_of e.boxes)
+uids_stay (stage.Storing at origin room) (stage.Adding added left) name time size progress.More old new e = logs_stay old new e.mailboxes (ap (λ v. indexes_of v.boxes) e.same)
 uids_stay (stage.Storing at origin room) stage.Ended name time size (progress.Done (reply.Refused why)) old new e = unstored_stays at why old new e
 uids_stay (stage.Adding added room) stage.Ended name time size (progress.Done (reply.Saved uid guid)) old new e = added_stays name added uid old new e.1
 uids_stay (stage.Adding added room) stage.Ended name time size (progress.Done (reply.Refused why)) old new e = alone_stays old new e
 uids_stay (stage.Adding added room) (stage.GivingBack uid why left) name time size progress.More old new e = store_stays old new e.1
-uids_stay (stage.GivingBack uid why room) stage.Ended name time size (progress.Done (reply.Refused given)) old new (inl e) = logs_stay old new e.1.mailboxes (ap indexes_of e.1.boxes)
+uids_stay (stage.GivingBack uid why room) stage.Ended name time size (progress.Done (reply.Refused given)) old new (inl e) = logs_stay old new e.1.mailboxes (ap (λ v. indexes_of v.boxes) e.1.same)
 uids_stay (stage.GivingBack uid why room) stage.Ended name time size (progress.Done (reply.Refused given)) old new (inr e) = alone_stays old new e.1
 uids_stay now next name time size answer old new e = absurd e

@@ -1,7 +1,8 @@
 -- What storing a record, and lowering its count, make of a store.
-use Rattle.std.proofs.Common.{◌≡◌, ◌≤◌, ◌+◌, ℕ, List, [], Option, Some, inl, inr, refl, ◌∙◌, ap, arith}
+use Rattle.std.proofs.Common.{◌≡◌, ◌≤◌, ◌+◌, ℕ, List, [], Option, Some, inl, inr, refl, sym, ◌∙◌, ap, subst, arith}
 use Rattle.disk_model.specs.Disk.{History, Between}
 use Rattle.disk_model.proofs.BetweenLemmas.{between-map}
+use Rattle.mdbox_base.specs.declared.entries.Highest.{Highest}
 use Rattle.mdbox_base.specs.declared.entries.InstRow.{InstRow}
 use Rattle.mdbox_base.specs.declared.entries.MapEntry.{MapEntry}
 use Rattle.mdbox_base.specs.declared.entries.MapEntry.TheVariants as map_entry
@@ -31,6 +32,12 @@ IsMapChange old new = new ≡ record old { disk = new.disk; map_log = new.map_lo
 abbrev pub giver_store : {D : Type 0} → ℕ → StoreValue D → StoreValue D
 giver_store file store = record store { files = record store.files { files = released_in file store.files.files } }
 
+given_change : {D : Type 0} → (file : ℕ) (old mid new : StoreValue D) → IsMapChange old mid → new ≡ giver_store file mid
+    → new ≡ record old { disk = new.disk; map_log = new.map_log; map = new.map; files = record old.files { files = released_in file old.files.files }; drawn = new.drawn; dues = new.dues; stopped = new.stopped }
+given_change file old mid new same given =
+    let whole : new ≡ record old { disk = mid.disk; map_log = mid.map_log; map = mid.map; files = record old.files { files = released_in file old.files.files }; drawn = mid.drawn; dues = mid.dues; stopped = mid.stopped } = given ∙ ap (giver_store file) same in
+    subst (λ (v : StoreValue _). v ≡ record old { disk = v.disk; map_log = v.map_log; map = v.map; files = record old.files { files = released_in file old.files.files }; drawn = v.drawn; dues = v.dues; stopped = v.stopped }) (sym whole) refl
+
 pub stores_placed : {D : Type 0} → (at : SavedAt) (origin time size : ℕ) (uid : MapUid) (instances : List InstRow) (old mid new : StoreValue D) → instances ≡ [] → uid.0 ≡ old.drawn.map + 1 → uid.0 ≤ 4294967294
     → mid.map ≡ map_applied (map_entry.S origin 1 uid at.file at.offset at.size at.guid instances) old.map
     → record_at mid.map uid.0 ≡ Some (stored_row origin 1 uid at.file at.offset at.size at.guid instances)
@@ -48,11 +55,10 @@ stores_placed at origin time size uid instances old mid new none next high taken
   there = ap (λ v. record_at v.map uid.0) given ∙ (there ∙ ap (λ (rows : List InstRow). Some (stored_row origin 1 uid at.file at.offset at.size at.guid rows)) none);
   drawn = ap (λ v. v.drawn) given ∙ drawn;
   due = λ other. ap (λ v. due_at other v) given ∙ due other;
-  boxes = ap (λ v. v.boxes) given ∙ ap (λ v. v.boxes) same;
   mailboxes = ap (λ v. v.map.boxes) given ∙ boxes;
-  files = ap (λ v. v.files) given ∙ ap (λ v. record v.files { files = released_in at.file.0 v.files.files }) same;
   ends = λ number. ends number ∙ ap (λ v. end_in number v.files.files) same;
   others = λ number apart. ap (λ v. is_taken_in number v.files.files) given ∙ (released_others at.file.0 number mid.files.files apart ∙ ap (λ v. is_taken_in number v.files.files) same);
+  same = given_change at.file.0 old mid new same given;
 }
 
 -- the same of a store in which nothing was stored
@@ -63,23 +69,35 @@ gives_back file old mid new same given ends = record {
   same = given ∙ ap (giver_store file) same;
 }
 
+alone_as : {D : Type 0} → (old new v : StoreValue D) → new ≡ v → v ≡ record old { disk = v.disk; map_log = v.map_log; boxes = v.boxes; stopped = v.stopped } → new ≡ record old { disk = new.disk; map_log = new.map_log; boxes = new.boxes; stopped = new.stopped }
+alone_as old new v is at = subst (λ (w : StoreValue _). w ≡ record old { disk = w.disk; map_log = w.map_log; boxes = w.boxes; stopped = w.stopped }) (sym is) at
+
 -- a change of the disk failed
 pub left_alone : {D : Type 0} → (old new : StoreValue D) → IsMapChange old new → new.map ≡ old.map → new.drawn ≡ old.drawn → new.dues ≡ old.dues → IsLeftAlone old new
-left_alone old new same map drawn dues = record { map = map; indexes = ap (λ v. indexes_of v.boxes) same; dues = dues; drawn = drawn; files = ap (λ v. v.files) same }
+left_alone old new same map drawn dues = record {
+  indexes = ap (λ v. indexes_of v.boxes) same;
+  same = alone_as old new (record old { disk = new.disk; map_log = new.map_log; stopped = new.stopped }) (same
+      ∙ (ap (λ (m : MapMeaning). record old { disk = new.disk; map_log = new.map_log; map = m; drawn = new.drawn; dues = new.dues; stopped = new.stopped }) map
+      ∙ (ap (λ (d : Highest). record old { disk = new.disk; map_log = new.map_log; drawn = d; dues = new.dues; stopped = new.stopped }) drawn ∙ ap (λ (n : List ℕ). record old { disk = new.disk; map_log = new.map_log; dues = n; stopped = new.stopped }) dues))) refl;
+}
+
+pub left_unadded : {D : Type 0} → (old new : StoreValue D) → new ≡ record old { disk = new.disk; boxes = new.boxes; dues = new.dues; stopped = new.stopped } → indexes_of new.boxes ≡ indexes_of old.boxes → new.dues ≡ old.dues → IsLeftAlone old new
+left_unadded old new same indexes dues = record {
+  indexes = indexes;
+  same = alone_as old new (record old { disk = new.disk; boxes = new.boxes; stopped = new.stopped }) (same ∙ ap (λ (n : List ℕ). record old { disk = new.disk; boxes = new.boxes; dues = n; stopped = new.stopped }) dues) refl;
+}
 
 pub lowers_record : {D : Type 0} → (uid : MapUid) (entry : MapEntry) (old new : StoreValue D) → entry ≡ entry_lowered uid → IsMapChange old new → new.map ≡ map_applied entry old.map → new.map.boxes ≡ old.map.boxes → new.drawn ≡ drawn_by entry old.drawn
     → ((other : ℕ) → due_at other new ≡ due_by entry (λ k. due_at k old) other) → LowersRecord uid old new
 lowers_record uid entry old new is same taken boxes drawn due = record {
   map = taken ∙ ap (λ (e : MapEntry). map_applied e old.map) is;
   due = λ other. due other ∙ ap (λ (e : MapEntry). due_by e (λ k. due_at k old) other) is;
-  boxes = ap (λ v. v.boxes) same;
   mailboxes = boxes;
-  drawn = drawn ∙ ap (λ (e : MapEntry). drawn_by e old.drawn) is;
-  files = ap (λ v. v.files) same;
+  same = same ∙ ap (λ (d : Highest). record old { disk = new.disk; map_log = new.map_log; map = new.map; drawn = d; dues = new.dues; stopped = new.stopped }) (drawn ∙ ap (λ (e : MapEntry). drawn_by e old.drawn) is);
 }
 
 pub unstored_map : {D : Type 0} → (at : SavedAt) (why : Refusal) (old new : StoreValue D) → StoresNone at why old new → new.map ≡ old.map
-unstored_map at why old new (inl k) = k.1.map
+unstored_map at why old new (inl k) = ap (λ v. v.map) k.1.same
 unstored_map at why old new (inr k) = ap (λ v. v.map) k.1.same
 
 -- ---- records that are kept

@@ -17,11 +17,11 @@ use Rattle.store_core.proofs.KeptFileLemmas.{none_begun}
 use Rattle.store_core.specs.Running.{IsStore}
 use Rattle.store_core.specs.Value.{StoreValue}
 use Rattle.mail_save.specs.Left.{HoldsFile}
-use Rattle.mail_save.specs.SaveEffects.{FailsToMake, FindsNoNumber, TakesFileFor, TakesNone}
+use Rattle.mail_save.specs.SaveEffects.{FailsToMake, FindsNoNumber, TakesFileFor, TakesNone, roomy_files}
 
--- the store with so much room for taking files, behind a file that was taken, and behind one that was made
-abbrev pub roomier_store : {D : Type 0} → ℕ → StoreValue D → StoreValue D
-roomier_store spare store = record store { files = record store.files { spare = spare } }
+-- the store with room for taking a file, behind a file that was taken, and behind one that was made
+abbrev pub roomier_store : {D : Type 0} → StoreValue D → StoreValue D
+roomier_store store = record store { files = roomy_files store.files }
 
 abbrev pub taker_store : {D : Type 0} → Take → StoreValue D → StoreValue D
 taker_store take store = record store { files = after_take take store.files; drawn = record store.drawn { file = (after_take take store.files).highest } }
@@ -43,28 +43,29 @@ drawn_still store high = ap (λ (n : ℕ). record store.drawn { file = n }) high
 free_before : (size : ℕ) (file : FileNo) (files : List MailFile) (f : MailFile) → Contains files f → f.file ≡ file → MayBeTakenFor size f → ((at : ℕ) → slice_get files at ≡ Some f → file_in file.0 files ≡ Some f) → is_taken_in file.0 files ≡ false
 free_before size file files f at same room found = ap (λ (o : Option MailFile). option_map_or (λ g. g.taken) o false) (found at.0 (slice_get-get_or files at.0 f at.1 ∙ ap Some at.2)) ∙ room.free
 
-known_takes : {D : Type 0} → (header size spare : ℕ) (file : FileNo) (old : StoreValue D) → AreFilesInOrder old.files → old.files.highest ≡ old.drawn.file → IsTakeFor size (roomier_store spare old).files (Known file) → TakesFileFor header size file old (taker_store (Known file) (roomier_store spare old))
-known_takes header size spare file old order high is = record {
+known_takes : {D : Type 0} → (header size : ℕ) (file : FileNo) (old : StoreValue D) → AreFilesInOrder old.files → old.files.highest ≡ old.drawn.file → IsTakeFor size (roomier_store old).files (Known file) → TakesFileFor header size file old (taker_store (Known file) (roomier_store old))
+known_takes header size file old order high is = record {
   take = Known file;
   is = is;
   took = (refl, drawn_still old high, λ number. ends-kept file.0 number (with_taken true) old.files.files (λ f. refl) (λ f. refl));
   free = free_before size file old.files.files is.0 is.1 is.2 is.3 (λ at get. file-found old.files.files file.0 at is.0 order.rising get (ap (λ (n : FileNo). n.0) is.2));
+  files = refl;
   others = λ number apart. taken_at number (changed_in file.0 (with_taken true) old.files.files) old.files.files (file-other file.0 number (with_taken true) old.files.files (λ f. refl) apart);
   same = refl;
 }
 
-pub takes_known : {D : Type 0} → (header size spare : ℕ) (file : FileNo) (old reserved new : StoreValue D) → AreFilesInOrder old.files → old.files.highest ≡ old.drawn.file → reserved ≡ roomier_store spare old → new ≡ taker_store (Known file) reserved
+pub takes_known : {D : Type 0} → (header size : ℕ) (file : FileNo) (old reserved new : StoreValue D) → AreFilesInOrder old.files → old.files.highest ≡ old.drawn.file → reserved ≡ roomier_store old → new ≡ taker_store (Known file) reserved
     → IsTakeFor size reserved.files (Known file) → TakesFileFor header size file old new
-takes_known header size spare file old reserved new order high r t is =
-    subst (TakesFileFor header size file old) (sym (t ∙ ap (taker_store (Known file)) r)) (known_takes header size spare file old order high (subst (λ (v : StoreValue _). IsTakeFor size v.files (Known file)) r is))
+takes_known header size file old reserved new order high r t is =
+    subst (TakesFileFor header size file old) (sym (t ∙ ap (taker_store (Known file)) r)) (known_takes header size file old order high (subst (λ (v : StoreValue _). IsTakeFor size v.files (Known file)) r is))
 
 -- ---- a new one
 
 begun_files : FileNo → List MailFile → List MailFile
 begun_files file files = files ++ file_begun file ∷ []
 
-new_takes : {D : Type 0} → (size spare end : ℕ) (file : FileNo) (disk : D) (old : StoreValue D) → AreFilesInOrder old.files → IsTakeFor size (roomier_store spare old).files (New file) → TakesFileFor end size file old (maker_store file.0 end disk (taker_store (New file) (roomier_store spare old)))
-new_takes size spare end file disk old order is =
+new_takes : {D : Type 0} → (size end : ℕ) (file : FileNo) (disk : D) (old : StoreValue D) → AreFilesInOrder old.files → IsTakeFor size (roomier_store old).files (New file) → TakesFileFor end size file old (maker_store file.0 end disk (taker_store (New file) (roomier_store old)))
+new_takes size end file disk old order is =
     let none : file_in file.0 old.files.files ≡ None = none_begun file old.files order is.1 in
     let files : List MailFile = old.files.files ++ file_begun file ∷ [] in
     record {
@@ -77,15 +78,16 @@ new_takes size spare end file disk old order is =
         ends-here file.0 end files (file_begun file) (file-begun file old.files.files none),
         λ number apart. ends-other file.0 number (ending_at end) files (λ f. refl) apart ∙ ends-begun number file old.files.files,
       );
+      files = refl;
       free = ap (λ (o : Option MailFile). option_map_or (λ g. g.taken) o false) none;
       others = λ number apart. taken_at number (changed_in file.0 (ending_at end) files) old.files.files (file-other file.0 number (ending_at end) files (λ f. refl) apart ∙ file-before_begun file number old.files.files apart);
       same = refl;
     }
 
-pub takes_new : {D : Type 0} → (size spare end : ℕ) (file : FileNo) (old reserved taken new : StoreValue D) → AreFilesInOrder old.files → reserved ≡ roomier_store spare old → taken ≡ taker_store (New file) reserved → new ≡ maker_store file.0 end new.disk taken
+pub takes_new : {D : Type 0} → (size end : ℕ) (file : FileNo) (old reserved taken new : StoreValue D) → AreFilesInOrder old.files → reserved ≡ roomier_store old → taken ≡ taker_store (New file) reserved → new ≡ maker_store file.0 end new.disk taken
     → IsTakeFor size reserved.files (New file) → TakesFileFor end size file old new
-takes_new size spare end file old reserved taken new order r t m is =
-    subst (TakesFileFor end size file old) (sym (m ∙ ap (maker_store file.0 end new.disk) (t ∙ ap (taker_store (New file)) r))) (new_takes size spare end file new.disk old order (subst (λ (v : StoreValue _). IsTakeFor size v.files (New file)) r is))
+takes_new size end file old reserved taken new order r t m is =
+    subst (TakesFileFor end size file old) (sym (m ∙ ap (maker_store file.0 end new.disk) (t ∙ ap (taker_store (New file)) r))) (new_takes size end file new.disk old order (subst (λ (v : StoreValue _). IsTakeFor size v.files (New file)) r is))
 
 -- of as many octets
 pub takes_as : {D : Type 0} → (header other : List ℕ) (size many : ℕ) (file : FileNo) (old new : StoreValue D) → header ≡ other → size ≡ many → TakesFileFor (length header) size file old new → TakesFileFor (length other) many file old new
@@ -93,8 +95,8 @@ takes_as header other size many file old new e f t = subst (λ (h : List ℕ). T
 
 -- ---- none
 
-new_fails : {D : Type 0} → (size spare : ℕ) (file : FileNo) (disk : D) (old : StoreValue D) → AreFilesInOrder old.files → IsTakeFor size (roomier_store spare old).files (New file) → FailsToMake size old (faller_store disk (taker_store (New file) (roomier_store spare old)))
-new_fails size spare file disk old order is = record {
+new_fails : {D : Type 0} → (size : ℕ) (file : FileNo) (disk : D) (old : StoreValue D) → AreFilesInOrder old.files → IsTakeFor size (roomier_store old).files (New file) → FailsToMake size old (faller_store disk (taker_store (New file) (roomier_store old)))
+new_fails size file disk old order is = record {
   file = file;
   is = is;
   free = ap (λ (o : Option MailFile). option_map_or (λ g. g.taken) o false) (none_begun file old.files order is.1);
@@ -103,21 +105,21 @@ new_fails size spare file disk old order is = record {
   same = refl;
 }
 
-pub takes_failing : {D : Type 0} → (size spare : ℕ) (file : FileNo) (old reserved taken new : StoreValue D) → AreFilesInOrder old.files → reserved ≡ roomier_store spare old → taken ≡ taker_store (New file) reserved → new ≡ faller_store new.disk taken → IsTakeFor size reserved.files (New file)
+pub takes_failing : {D : Type 0} → (size : ℕ) (file : FileNo) (old reserved taken new : StoreValue D) → AreFilesInOrder old.files → reserved ≡ roomier_store old → taken ≡ taker_store (New file) reserved → new ≡ faller_store new.disk taken → IsTakeFor size reserved.files (New file)
     → TakesNone size refusal.Stopped old new
-takes_failing size spare file old reserved taken new order r t m is =
-    inr (inr (refl, subst (FailsToMake size old) (sym (m ∙ ap (faller_store new.disk) (t ∙ ap (taker_store (New file)) r))) (new_fails size spare file new.disk old order (subst (λ (v : StoreValue _). IsTakeFor size v.files (New file)) r is))))
+takes_failing size file old reserved taken new order r t m is =
+    inr (inr (refl, subst (FailsToMake size old) (sym (m ∙ ap (faller_store new.disk) (t ∙ ap (taker_store (New file)) r))) (new_fails size file new.disk old order (subst (λ (v : StoreValue _). IsTakeFor size v.files (New file)) r is))))
 
-full_finds : {D : Type 0} → (size spare : ℕ) (old : StoreValue D) → old.files.highest ≡ old.drawn.file → IsTakeFor size (roomier_store spare old).files Full → FindsNoNumber size old (taker_store Full (roomier_store spare old))
-full_finds size spare old high is = record {
+full_finds : {D : Type 0} → (size : ℕ) (old : StoreValue D) → old.files.highest ≡ old.drawn.file → IsTakeFor size (roomier_store old).files Full → FindsNoNumber size old (taker_store Full (roomier_store old))
+full_finds size old high is = record {
   full = is;
-  same = ap (λ (n : ℕ). record old { files = record old.files { spare = spare }; drawn = record old.drawn { file = n } }) high;
+  same = ap (λ (n : ℕ). record old { files = roomy_files old.files; drawn = record old.drawn { file = n } }) high;
 }
 
-pub takes_full : {D : Type 0} → (size spare : ℕ) (old reserved new : StoreValue D) → old.files.highest ≡ old.drawn.file → reserved ≡ roomier_store spare old → new ≡ taker_store Full reserved → IsTakeFor size reserved.files Full
+pub takes_full : {D : Type 0} → (size : ℕ) (old reserved new : StoreValue D) → old.files.highest ≡ old.drawn.file → reserved ≡ roomier_store old → new ≡ taker_store Full reserved → IsTakeFor size reserved.files Full
     → TakesNone size (refusal.StoreFull 4294967294) old new
-takes_full size spare old reserved new high r t is =
-    inr (inl (refl, subst (FindsNoNumber size old) (sym (t ∙ ap (taker_store Full) r)) (full_finds size spare old high (subst (λ (v : StoreValue _). IsTakeFor size v.files Full) r is))))
+takes_full size old reserved new high r t is =
+    inr (inl (refl, subst (FindsNoNumber size old) (sym (t ∙ ap (taker_store Full) r)) (full_finds size old high (subst (λ (v : StoreValue _). IsTakeFor size v.files Full) r is))))
 
 pub untaken_why : {D : Type 0} → (size : ℕ) (why : Refusal) (old new : StoreValue D) → TakesNone size why old new → (why ≡ refusal.Stopped) ⊎ ((why ≡ refusal.NoMemory) ⊎ (why ≡ refusal.StoreFull 4294967294))
 untaken_why size why old new (inl k) = inr (inl k.0)

@@ -1,5 +1,5 @@
 -- What each event of a delivery makes of the store.
-use Rattle.std.specs.Prelude.{◌≡◌, ◌≢◌, ◌⊎◌, ◌<◌, ◌+◌, ℕ, true, false, List, [], length, Option, Some, None}
+use Rattle.std.specs.Prelude.{◌≡◌, ◌≢◌, ◌⊎◌, ◌<◌, ◌+◌, ℕ, max, true, false, List, [], length, Option, Some, None}
 use Rattle.attach_detach.specs.Prepared.{IsPlain}
 use Rattle.disk_model.specs.Disk.{History}
 use Rattle.mdbox_base.specs.declared.ids.BoxNo.{BoxNo}
@@ -16,7 +16,7 @@ use Rattle.model_appends.specs.Appending.{meanings_by}
 use Rattle.model_appends.specs.MapAppending.{stored_row}
 use Rattle.model_meaning.specs.BoxMeaning.{BoxMeaning}
 use Rattle.model_meaning.specs.MapMeaning.{MapRecord, map_applied, record_at}
-use Rattle.storage_files.specs.Files.{IsTakeFor, end_in, is_taken_in, released_in}
+use Rattle.storage_files.specs.Files.{FilesValue, IsTakeFor, after_take, changed_in, end_in, ending_at, is_taken_in, released_in}
 use Rattle.storage_files.specs.declared.file.Take.{Take}
 use Rattle.storage_files.specs.declared.file.Take.TheVariants.{Known, New, Full}
 use Rattle.store_core.specs.Dues.{due_at, IsSpared}
@@ -45,13 +45,10 @@ AreOtherEndsSame file old new = (number : ℕ) → number ≢ file → end_in nu
 abbrev pub AreOthersTaken : {D : Type 0} → ℕ → StoreValue D → StoreValue D → Type 0
 AreOthersTaken file old new = (number : ℕ) → number ≢ file → is_taken_in number new.files.files ≡ is_taken_in number old.files.files
 
--- What the logs mean, what is due, the numbers drawn and the storage files stay.
+-- What the logs mean stays, and so does all else but the disk, and whether the store is stopped.
 pub record IsLeftAlone {D : Type 0} (old new : StoreValue D) : Type 0 where
-  pub map : new.map ≡ old.map
   pub indexes : indexes_of new.boxes ≡ indexes_of old.boxes
-  pub dues : new.dues ≡ old.dues
-  pub drawn : new.drawn ≡ old.drawn
-  pub files : new.files ≡ old.files
+  pub same : new ≡ record old { disk = new.disk; map_log = new.map_log; boxes = new.boxes; stopped = new.stopped }
 
 -- each record is there still, and stores what it stored
 abbrev pub AreSpared : {D : Type 0} → StoreValue D → StoreValue D → Option History → Option History → Type 0
@@ -66,11 +63,21 @@ TookAs (New taken) header file old new =
     (taken ≡ file) × (new.drawn ≡ record old.drawn { file = file.0 }) × (end_in file.0 old.files.files ≡ None) × (end_in file.0 new.files.files ≡ Some header) × AreOtherEndsSame file.0 old new
 TookAs Full header file old new = ⊥
 
+-- with room for one more
+abbrev pub roomy_files : FilesValue → FilesValue
+roomy_files files = record files { spare = max files.spare 1 }
+
+-- behind one that was taken; a new one was made with a header of so many octets
+abbrev pub taken_files : Take → ℕ → FilesValue → FilesValue
+taken_files (New file) header files = record (after_take (New file) files) { files = changed_in file.0 (ending_at header) (after_take (New file) files).files }
+taken_files take header files = after_take take files
+
 -- This file was taken for so many octets, which nobody had taken. A new one has a header of so many.
 pub record TakesFileFor {D : Type 0} (header size : ℕ) (file : FileNo) (old new : StoreValue D) : Type 0 where
   pub take : Take
   pub is : IsTakeFor size old.files take
   pub took : TookAs take header file old new
+  pub files : new.files ≡ taken_files take header (roomy_files old.files)
   pub free : is_taken_in file.0 old.files.files ≡ false
   pub others : AreOthersTaken file.0 old new
   pub same : new ≡ record old { disk = new.disk; files = new.files; drawn = new.drawn }
@@ -78,7 +85,7 @@ pub record TakesFileFor {D : Type 0} (header size : ℕ) (file : FileNo) (old ne
 -- None was taken, since there was no memory, no file has room and all numbers are used up, or a new one could not be made.
 pub record FindsNoNumber {D : Type 0} (size : ℕ) (old new : StoreValue D) : Type 0 where
   pub full : IsTakeFor size old.files Full
-  pub same : new ≡ record old { files = record old.files { spare = new.files.spare } }
+  pub same : new ≡ record old { files = roomy_files old.files }
 
 pub record FailsToMake {D : Type 0} (size : ℕ) (old new : StoreValue D) : Type 0 where
   pub file : FileNo
@@ -86,7 +93,7 @@ pub record FailsToMake {D : Type 0} (size : ℕ) (old new : StoreValue D) : Type
   pub free : is_taken_in file.0 old.files.files ≡ false
   pub ends : AreEndsSame old new
   pub others : AreOthersTaken file.0 old new
-  pub same : new ≡ record old { disk = new.disk; files = new.files; drawn = record old.drawn { file = file.0 }; stopped = true }
+  pub same : new ≡ record old { disk = new.disk; files = after_take (New file) (roomy_files old.files); drawn = record old.drawn { file = file.0 }; stopped = true }
 
 abbrev pub TakesNone : {D : Type 0} → ℕ → Refusal → StoreValue D → StoreValue D → Type 0
 TakesNone size why old new =
@@ -104,7 +111,7 @@ pub record PlacesParts {D : Type 0} (parts : SavedParts) (file : FileNo) (at : S
   pub ends : end_in file.0 new.files.files ≡ Some (at.offset + at.size)
   pub others : AreOtherEndsSame file.0 old new
   pub taken : (number : ℕ) → is_taken_in number new.files.files ≡ is_taken_in number old.files.files
-  pub same : new ≡ record old { disk = new.disk; files = new.files }
+  pub same : new ≡ record old { disk = new.disk; files = record old.files { files = changed_in file.0 (ending_at (at.offset + at.size)) old.files.files } }
 
 -- ---- its record is stored
 
@@ -123,11 +130,10 @@ pub record StoresPlaced {D : Type 0} (at : SavedAt) (origin time size : ℕ) (ad
   pub there : record_at new.map added.map_uid.0 ≡ Some (saved_row origin added.map_uid at)
   pub drawn : new.drawn ≡ record old.drawn { map = added.map_uid.0 }
   pub due : (uid : ℕ) → due_at uid new ≡ due_by (entry_stored origin added.map_uid at) (λ other. due_at other old) uid
-  pub boxes : new.boxes ≡ old.boxes
   pub mailboxes : new.map.boxes ≡ old.map.boxes
-  pub files : new.files ≡ record old.files { files = released_in at.file.0 old.files.files }
   pub ends : AreEndsSame old new
   pub others : AreOthersTaken at.file.0 old new
+  pub same : new ≡ record old { disk = new.disk; map_log = new.map_log; map = new.map; files = record old.files { files = released_in at.file.0 old.files.files }; drawn = new.drawn; dues = new.dues; stopped = new.stopped }
 
 -- The storage file is given back, and nothing else has changed.
 pub record GivesFileBack {D : Type 0} (file : ℕ) (old new : StoreValue D) : Type 0 where
@@ -147,18 +153,14 @@ pub record AddsStored {D : Type 0} (name : List ℕ) (added : Added) (uid : Uid)
   pub room : HasRoomUnder name number uid old
   pub taken : indexes_of new.boxes ≡ meanings_by number.0 (entry_added uid added) old.map.boxes (indexes_of old.boxes)
   pub due : (m : BoxMeaning) (other : ℕ) → list_named old name ≡ Some m → due_at other new ≡ due_by_box m (entry_added uid added) (λ k. due_at k old) other
-  pub map : new.map ≡ old.map
-  pub drawn : new.drawn ≡ old.drawn
-  pub files : new.files ≡ old.files
+  pub same : new ≡ record old { disk = new.disk; boxes = new.boxes; dues = new.dues; stopped = new.stopped }
 
 -- The count of its record is lowered, and one less of it is due.
 pub record LowersRecord {D : Type 0} (uid : MapUid) (old new : StoreValue D) : Type 0 where
   pub map : new.map ≡ map_applied (entry_lowered uid) old.map
   pub due : (other : ℕ) → due_at other new ≡ due_by (entry_lowered uid) (λ k. due_at k old) other
-  pub boxes : new.boxes ≡ old.boxes
   pub mailboxes : new.map.boxes ≡ old.map.boxes
-  pub drawn : new.drawn ≡ old.drawn
-  pub files : new.files ≡ old.files
+  pub same : new ≡ record old { disk = new.disk; map_log = new.map_log; map = new.map; dues = new.dues; stopped = new.stopped }
 
 -- ---- by stage
 

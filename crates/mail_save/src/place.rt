@@ -8,7 +8,7 @@ ghost use Rattle.mdbox_base.specs.declared.replies.Refusal.TheVariants as refusa
 ghost use Rattle.model_appends.specs.Appending.{LeavesAsRead};
 ghost use Rattle.model_lists.specs.Lists.{Lists};
 ghost use Rattle.model_store.specs.Settled.{IsSettledFor, Leaves};
-ghost use Rattle.storage_files.specs.Files.{end_in, is_taken_in};
+ghost use Rattle.storage_files.specs.Files.{changed_in, end_in, ending_at, is_taken_in};
 ghost use Rattle.store_core.specs.Dues.{KeepsStored};
 ghost use Rattle.store_core.specs.Files.{EndsWith};
 ghost use Rattle.mail_save.specs.Left.{HoldsFile, HoldsRegion};
@@ -103,6 +103,7 @@ pub fn place_region<D: Disk>(
     ensures ends { IfOk result (λ at. end_in file.0 store.new.files.files ≡ Some (at.offset + at.size)) }
     ensures others { OnOk result (AreOtherEndsSame file.0 store.old store.new) }
     ensures still_taken { (number : ℕ) → is_taken_in number store.new.files.files ≡ is_taken_in number store.old.files.files }
+    ensures ok { IfOk result (λ at. store.new ≡ record store.old { disk = store.new.disk; files = record store.old.files { files = changed_in file.0 (ending_at (at.offset + at.size)) store.old.files.files } }) }
     ensures alone { IsErr result → IsLeftAlone store.old store.new }
     ensures any_moment { (lists : Lists) → IsSettledFor lists (D.history store.old.disk) → Leaves lists lists (D.history store.old.disk) (D.history store.new.disk) }
     ensures settled { OnOk result ((lists : Lists) → IsSettledFor lists (D.history store.old.disk) → IsSettledFor lists (D.history store.new.disk)) }

@@ -309,6 +309,9 @@ taken_logs header size file first s t same took = record {
   drawn = took_drawn took.take header file s t took.took ∙ ap (λ (v : StoreValue _). v.drawn.map) same;
 }
 
+placed_same : {D : Type 0} → {files : FilesValue} → (s t : StoreValue D) → t ≡ record s { disk = t.disk; files = files } → t ≡ record s { disk = t.disk; files = t.files }
+placed_same {files = files} s t same = same ∙ ap (λ (f : FilesValue). record s { disk = t.disk; files = f }) (sym (ap (λ (v : StoreValue _). v.files) same))
+
 placed_logs : {D : Type 0} → (first s t : StoreValue D) → KeepsLogs first s → t ≡ record s { disk = t.disk; files = t.files } → KeepsLogs first t
 placed_logs first s t k same = record {
   map = ap (λ (v : StoreValue _). v.map) same ∙ k.map;
@@ -318,7 +321,7 @@ placed_logs first s t k same = record {
 
 stored_alike : {D : Type 0} → (at : SavedAt) (origin time size : ℕ) (added : Added) (first s t : StoreValue D) → KeepsLogs first s → StoresPlaced at origin time size added s t → IsAlike first t
 stored_alike at origin time size added first s t k e = record {
-  indexes = ap indexes_of e.boxes ∙ k.indexes;
+  indexes = ap (λ (v : StoreValue _). indexes_of v.boxes) e.same ∙ k.indexes;
   mailboxes = e.mailboxes ∙ ap (λ (m : MapMeaning). m.boxes) k.map;
 }
 
@@ -365,7 +368,7 @@ placed_at name time octets at first s began (inr new) = inr (new.0, one_end at.o
 placed_alone : {D : Type 0} → (history : D → Option History) (name : List ℕ) (time : ℕ) (octets : List ℕ) (parts : SavedParts) (file : FileNo) (at : SavedAt) (origin : ℕ) (first s t : StoreValue D) → TakenAlone history name time octets first s file → s.stopped ≡ false → IsStore (history s.disk) s → AreLaidOut name time octets parts
     → PlacesParts parts file at origin s t → HoldsRegion at t → HasAppended name time octets at.guid.0 file.0 (history s.disk) (history t.disk) → PlacedAlone history name time octets first t at origin
 placed_alone history name time octets parts file at origin first s t knows0 runs is laid e holds wrote0 = record {
-  logs = placed_logs first s t knows.logs e.same;
+  logs = placed_logs first s t knows.logs (placed_same s t e.same);
   free = knows.free;
   origin_is = e.origin_is ∙ laid.origin;
   place = record {
@@ -551,7 +554,7 @@ saved_shown name time octets added uid guid first s t b timed sized guided adds 
     let from_first : ShowLists s.map.boxes (indexes_of s.boxes) lists = subst (λ (bs : List MapBox). ShowLists bs (indexes_of s.boxes) lists) (sym b.mailboxes) (subst (λ (ms : List BoxMeaning). ShowLists first.map.boxes ms lists) (sym b.indexes) h) in
     let shown = save_shows name octets added adds.number uid s lists adds.room sized well from_first in
     let there = subst (λ (ms : List BoxMeaning). ShowLists s.map.boxes ms (saved_lists name added.time octets added.guid lists)) (sym adds.taken) shown in
-    let at = subst (λ (m : MapMeaning). ShowLists m.boxes (indexes_of t.boxes) (saved_lists name added.time octets added.guid lists)) (sym adds.map) there in
+    let at = subst (λ (m : MapMeaning). ShowLists m.boxes (indexes_of t.boxes) (saved_lists name added.time octets added.guid lists)) (ap (λ (v : StoreValue _). v.map) (sym adds.same)) there in
     subst (λ (g : Guid). ShowLists t.map.boxes (indexes_of t.boxes) (saved_lists name time octets g lists)) (sym guided)
     (subst (λ (n : ℕ). ShowLists t.map.boxes (indexes_of t.boxes) (saved_lists name n octets added.guid lists)) timed at)
 
@@ -658,7 +661,7 @@ adds_late name time octets first s t added room why (inr (inr back)) = absurd (m
 gives_late : {D : Type 0} → (history : D → Option History) (name : List ℕ) (time : ℕ) (octets : List ℕ) (uid : MapUid) (guid : Guid) (given : Refusal) (first s t : StoreValue D) → RecordedAlone history name time octets first s uid guid → given ≡ refusal.NoMemory → LowersRecord uid s t → LateCause name time octets first t given
 gives_late history name time octets uid guid given first s t knows memory lowered = inr (
   inl memory,
-  record { indexes = ap indexes_of lowered.boxes ∙ knows.alike.indexes; mailboxes = lowered.mailboxes ∙ knows.alike.mailboxes },
+  record { indexes = ap (λ (v : StoreValue _). indexes_of v.boxes) lowered.same ∙ knows.alike.indexes; mailboxes = lowered.mailboxes ∙ knows.alike.mailboxes },
   inr (record { uid = uid; at = knows.stored.at; made = s.map; more = knows.stored.more; lowered = lowered.map }),
 )
 

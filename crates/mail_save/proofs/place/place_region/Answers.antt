@@ -5,7 +5,7 @@ use Rattle.storage_files.proofs.FileListLemmas.{ends-other}
 use Rattle.storage_files.specs.Files.{end_in, ending_at}
 use Rattle.store_core.specs.Files.{EndsWith}
 use Rattle.store_core.specs.Value.{indexes_of}
-use Rattle.mail_save.proofs.PlaceLemmas.{region_placed, place_named}
+use Rattle.mail_save.proofs.PlaceLemmas.{left_fallen, region_placed, place_named}
 use Rattle.mail_save.proofs.MailFileLemmas.{appended}
 use Rattle.mail_save.proofs.place.place_region.Goals as goal
 
@@ -32,7 +32,7 @@ returns-clause-others g c = λ number apart.
 pub returns-in_err-offset-clause-alone : goal.returns-in_err-offset-clause-alone
 returns-in_err-offset-clause-alone g c = λ e.
     let o = c.in_err-offset.ensures.err in
-    record { map = ap (λ v. v.map) o; indexes = ap (λ v. indexes_of v.boxes) o; dues = ap (λ v. v.dues) o; drawn = ap (λ v. v.drawn) o; files = ap (λ v. v.files) o }
+    left_fallen c.args.store.now c.place.new.self o
 
 pub returns-clause-appended : goal.returns-clause-appended
 returns-clause-appended g c = λ time octets is. appended c.args.name.now time octets _ _ c.args.file.0 _ _ (c.set_guid.ensures time octets is) c.in_ok-offset.ensures.others c.in_ok-offset.ensures.added

@@ -22,7 +22,7 @@ returns-in-Known-clause-taken g c = holds_known c.args.size c.in-Known.file c.ta
 
 pub returns-in-Known-clause-takes : goal.returns-in-Known-clause-takes
 returns-in-Known-clause-takes g c =
-    takes_known _ c.args.size _ c.in-Known.file c.args.store.now c.reserve.new.self c.take_for.new.self c.facts.ensures.files c.facts.ensures.store.files.highest c.in_default.ensures.ok c.in-Known.ensures.same c.in-Known.ensures.take
+    takes_known _ c.args.size c.in-Known.file c.args.store.now c.reserve.new.self c.take_for.new.self c.facts.ensures.files c.facts.ensures.store.files.highest c.in_default.ensures.ok c.in-Known.ensures.same c.in-Known.ensures.take
 
 pub returns-in-Known-clause-any_moment : goal.returns-in-Known-clause-any_moment
 returns-in-Known-clause-any_moment g c = λ lists s.
@@ -36,7 +36,7 @@ returns-in-Ok-clause-taken g c =
 
 pub returns-in-Ok-clause-takes : goal.returns-in-Ok-clause-takes
 returns-in-Ok-clause-takes g c =
-    takes_new c.args.size _ _ c.in-New.file c.args.store.now c.reserve.new.self c.take_for.new.self c.make_file.new.self c.facts.ensures.files c.in_default.ensures.ok c.in-New.ensures.same c.in-Ok.ensures.ok c.in-New.ensures.take
+    takes_new c.args.size _ c.in-New.file c.args.store.now c.reserve.new.self c.take_for.new.self c.make_file.new.self c.facts.ensures.files c.in_default.ensures.ok c.in-New.ensures.same c.in-Ok.ensures.ok c.in-New.ensures.take
 
 pub returns-in-Ok-clause-settled : goal.returns-in-Ok-clause-settled
 returns-in-Ok-clause-settled g c = λ ran lists s.
@@ -44,7 +44,7 @@ returns-in-Ok-clause-settled g c = λ ran lists s.
 
 pub returns-in-Err-make_file-clause-none : goal.returns-in-Err-make_file-clause-none
 returns-in-Err-make_file-clause-none g c =
-    takes_failing c.args.size _ c.in-New.file c.args.store.now c.reserve.new.self c.take_for.new.self c.make_file.new.self c.facts.ensures.files c.in_default.ensures.ok c.in-New.ensures.same c.in-Err-make_file.ensures.err c.in-New.ensures.take
+    takes_failing c.args.size c.in-New.file c.args.store.now c.reserve.new.self c.take_for.new.self c.make_file.new.self c.facts.ensures.files c.in_default.ensures.ok c.in-New.ensures.same c.in-Err-make_file.ensures.err c.in-New.ensures.take
 
 -- ---- no number is left
 
@@ -53,7 +53,7 @@ returns-in-Full-clause-any_moment g c = λ lists s.
     unchanged_leaves g.D.Disk.history c.args.store.now.disk c.take_for.new.self.disk (ap (λ v. v.disk) c.in-Full.ensures.same ∙ ap (λ v. v.disk) c.in_default.ensures.ok) lists lists s
 
 pub returns-in-Full-clause-none : goal.returns-in-Full-clause-none
-returns-in-Full-clause-none g c = takes_full c.args.size _ c.args.store.now c.reserve.new.self c.take_for.new.self c.facts.ensures.store.files.highest c.in_default.ensures.ok c.in-Full.ensures.same c.in-Full.ensures.take
+returns-in-Full-clause-none g c = takes_full c.args.size c.args.store.now c.reserve.new.self c.take_for.new.self c.facts.ensures.store.files.highest c.in_default.ensures.ok c.in-Full.ensures.same c.in-Full.ensures.take
 
 -- ---- on the disk
 

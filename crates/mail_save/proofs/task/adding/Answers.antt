@@ -5,7 +5,7 @@ use Rattle.mail_save.specs.Task.{Saves}
 use Rattle.mail_save.specs.declared.task.SaveStage.TheVariants as stage
 use Rattle.mail_save.proofs.PlaceLemmas.{unchanged_settled}
 use Rattle.mail_save.proofs.SaveEventLemmas.{add_refused, done_goes_on, faults_by, is_false, more_apart, more_runs, ok_apart, saved_apart, saved_runs, refused_stops, unfallen}
-use Rattle.mail_save.proofs.StoringLemmas.{spared_kept}
+use Rattle.mail_save.proofs.StoringLemmas.{left_unadded, spared_kept}
 use Rattle.mail_save.proofs.HeldLemmas.{nothing_moves, one_less}
 use Rattle.mail_save.specs.Held.{save_amounts}
 use Rattle.mail_save.proofs.OtherLemmas.{keeps_same}
@@ -24,7 +24,7 @@ returns-in-Ok g c = λ size.
       ready = λ e. absurd (done_goes_on _ e);
       left = λ e. absurd (done_goes_on _ e);
       fewer = λ e. absurd (done_goes_on _ e);
-      effects = (refl, record { number = o.uid.0; room = o.uid.1; taken = o.uid.2; due = o.due; map = ap (λ v. v.map) o.same; drawn = ap (λ v. v.drawn) o.same; files = ap (λ v. v.files) o.same });
+      effects = (refl, record { number = o.uid.0; room = o.uid.1; taken = o.uid.2; due = o.due; same = o.same });
       mail = λ ran. o.mail;
       idle = λ e. ap (λ v. g.D.Disk.history v.disk) e;
       spared = λ ran. spared_kept c.args.store.now c.add_message.new.store _ _ (ap (λ v. v.map) o.same) (o.stored ran);
@@ -48,7 +48,7 @@ returns-then-stopped g c = λ size.
       ready = λ e. absurd (done_goes_on _ e);
       left = λ e. absurd (done_goes_on _ e);
       fewer = λ e. absurd (done_goes_on _ e);
-      effects = record { map = ap (λ v. v.map) o.same; indexes = (o.untaken refl).0; dues = (o.untaken refl).1; drawn = ap (λ v. v.drawn) o.same; files = ap (λ v. v.files) o.same };
+      effects = left_unadded c.args.store.now c.add_message.new.store o.same (o.untaken refl).0 (o.untaken refl).1;
       mail = λ ran. absurd (unfallen c.add_message.new.store.stopped fell ran);
       idle = λ e. ap (λ v. g.D.Disk.history v.disk) e;
       spared = λ ran. absurd (unfallen c.add_message.new.store.stopped fell ran);

@@ -42,7 +42,7 @@ returns-in-Ok g c = λ size_now.
       ends = o.ends;
       others = o.others;
       taken = o.still_taken;
-      same = o.same ∙ ap (λ (b : Bool). record c.args.store.now { disk = c.place_region.new.store.disk; files = c.place_region.new.store.files; stopped = b }) (runs ∙ sym c.requires.running);
+      same = o.ok;
     } in
     subst (λ l. Saves (stage.Placing c.args.parts c.args.file) l.next c.args.name.now c.args.time size_now l.answer l.did c.args.store.now c.place_region.new.store (g.D.Disk.history c.args.store.now.disk) (g.D.Disk.history c.place_region.new.store.disk) (g.D.Disk.faults c.args.store.now.disk) (g.D.Disk.faults c.place_region.new.store.disk)) (sym c.goes_on.ensures) (record {
       replies = tt;
