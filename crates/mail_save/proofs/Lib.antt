@@ -1,5 +1,6 @@
 pub mod AddLemmas
 pub mod DeliveredListLemmas
+pub mod HeldInstanceLemmas
 pub mod HeldLemmas
 pub mod MailFileLemmas
 pub mod OtherLemmas
@@ -9,6 +10,7 @@ pub mod RecordLemmas
 pub mod RegionSizeLemmas
 pub mod SaveDidLemmas
 pub mod SaveDoesLemmas
+pub mod SavedRegionLemmas
 pub mod SaveEventLemmas
 pub mod SaveFrontLemmas
 pub mod SaveKeptLemmas
@@ -21,7 +23,6 @@ pub mod SaveRunLemmas
 pub mod SaveStepLemmas
 pub mod SaveStoreLemmas
 pub mod SaveUidLemmas
-pub mod SavedRegionLemmas
 pub mod StoredMessageLemmas
 pub mod StoringLemmas
 pub mod TakingLemmas

@@ -15,6 +15,7 @@ use Rattle.disk_model.proofs.BetweenLemmas.{between-on}
 use Rattle.disk_model.proofs.MomentLemmas.{if_told-map, if_told-both}
 use Rattle.mdbox_base.specs.Words.{IsOctets}
 use Rattle.mdbox_base.specs.declared.entries.BoxEntry.{BoxEntry}
+use Rattle.mdbox_base.specs.declared.entries.InstRow.{InstRow}
 use Rattle.mdbox_base.specs.declared.ids.Guid.{Guid}
 use Rattle.mdbox_base.specs.declared.ids.MapUid.{MapUid}
 use Rattle.model_appends.specs.Appending.{LeavesAsRead, message_made}
@@ -52,8 +53,8 @@ seam_part before region offset size long whole =
     ap (take size) (subst (λ (n : ℕ). drop n (before ++ region) ≡ region) long (drop-append_seam before region))
     ∙ subst (λ (n : ℕ). take n region ≡ region) whole (take-length region)
 
-region_there : (at : SavedAt) (origin : ℕ) (uid : MapUid) (region : List ℕ) (now : DiskState) → length region ≡ at.size → EndsWith at.offset region (now (file.Mail at.file.0)) → HasRegionOctets (files_of now) (saved_row origin uid at) region
-region_there at origin uid region now long e = record {
+region_there : (at : SavedAt) (origin : ℕ) (rows : List InstRow) (uid : MapUid) (region : List ℕ) (now : DiskState) → length region ≡ at.size → EndsWith at.offset region (now (file.Mail at.file.0)) → HasRegionOctets (files_of now) (saved_row origin rows uid at) region
+region_there at origin rows uid region now long e = record {
   there = e.before ++ region;
   in_file = e.reads;
   inside = let both = length-append e.before region in let front = e.long in omega (arith, both, front, long);
@@ -61,9 +62,9 @@ region_there at origin uid region now long e = record {
 }
 
 -- a crash leaves it as it reads
-region_synced : (at : SavedAt) (origin : ℕ) (uid : MapUid) (region : List ℕ) (now : DiskState) → length region ≡ at.size → EndsWith at.offset region (now (file.Mail at.file.0)) → LeavesAsRead (file.Mail at.file.0) now → IsSyncedRegion now (saved_row origin uid at)
-region_synced at origin uid region now long e leaves = λ image is.
-    let h = region_there at origin uid region now long e in
+region_synced : (at : SavedAt) (origin : ℕ) (rows : List InstRow) (uid : MapUid) (region : List ℕ) (now : DiskState) → length region ≡ at.size → EndsWith at.offset region (now (file.Mail at.file.0)) → LeavesAsRead (file.Mail at.file.0) now → IsSyncedRegion now (saved_row origin rows uid at)
+region_synced at origin rows uid region now long e leaves = λ image is.
+    let h = region_there at origin rows uid region now long e in
     record {
       first = h.there;
       second = h.there;
@@ -89,22 +90,23 @@ own_is_whole octets own = none_filtered (λ (part : Part). part.detachable) (par
     by_test true e = absurd (omega (arith, e))
     by_test false e = refl
 
-pub region_ready : (at : SavedAt) (origin time : ℕ) (name octets : List ℕ) (after : Option History) → origin ≡ origin_of octets → CanBeSaved name time octets → length at.guid.0 ≡ 16 → IsOctets at.guid.0 → length (saved_region name time octets at.guid.0) ≡ at.size
-    → IfTold after (λ now. EndsWith at.offset (saved_region name time octets at.guid.0) (now (file.Mail at.file.0))) → ((lists : Lists) → IsSettledFor lists after → IfTold after (LeavesAsRead (file.Mail at.file.0))) → IsRegionReady at origin name time octets after
-region_ready at origin time name octets after is can sixteen each long placed held = record {
+pub region_ready : (at : SavedAt) (origin : ℕ) (rows : List InstRow) (time : ℕ) (name octets : List ℕ) (after : Option History) → rows ≡ [] → origin ≡ origin_of octets → CanBeSaved name time octets → length at.guid.0 ≡ 16 → IsOctets at.guid.0 → length (saved_region name time octets at.guid.0) ≡ at.size
+    → IfTold after (λ now. EndsWith at.offset (saved_region name time octets at.guid.0) (now (file.Mail at.file.0))) → ((lists : Lists) → IsSettledFor lists after → IfTold after (LeavesAsRead (file.Mail at.file.0))) → IsRegionReady at origin rows name time octets after
+region_ready at origin rows time name octets after none is can sixteen each long placed held = record {
   origin_is = is;
-  written = λ uid. if_told-map _ _ after (λ now e. region_there at origin uid (saved_region name time octets at.guid.0) now long e) placed;
+  rows_are = none;
+  written = λ uid. if_told-map _ _ after (λ now e. region_there at origin rows uid (saved_region name time octets at.guid.0) now long e) placed;
   stores = λ uid. if_told-map _ _ after (λ now e. stored uid now e) placed;
   ready = λ uid lists s.
-      if_told-both _ _ (λ now. IsSyncedRegion now (saved_row origin uid at) × (origin ≡ 0 → IsOwnSave (files_of now) (saved_row origin uid at))) after
+      if_told-both _ _ (λ now. IsSyncedRegion now (saved_row origin rows uid at) × (origin ≡ 0 → IsOwnSave (files_of now) (saved_row origin rows uid at))) after
       (λ now e leaves. (
-        region_synced at origin uid (saved_region name time octets at.guid.0) now long e leaves,
-        λ own. (λ other kept. region_detached (files_of now) (saved_row origin uid at) octets other (stored uid now e) refl (own_is_whole octets (sym is ∙ own)) kept, All-nil (HasItsHash (files_of now))),
+        region_synced at origin rows uid (saved_region name time octets at.guid.0) now long e leaves,
+        λ own. (λ other kept. region_detached (files_of now) (saved_row origin rows uid at) octets other (stored uid now e) none (own_is_whole octets (sym is ∙ own)) kept, subst (λ (rs : List InstRow). All (HasItsHash (files_of now)) rs) (sym none) (All-nil (HasItsHash (files_of now)))),
       )) placed (held lists s);
 }
   where
-    stored : (uid : MapUid) (now : DiskState) → EndsWith at.offset (saved_region name time octets at.guid.0) (now (file.Mail at.file.0)) → StoresMessage (files_of now) (saved_row origin uid at) octets
-    stored uid now e = region_stores (files_of now) (saved_row origin uid at) name time octets can (record { long = sixteen; each = each }) refl (region_there at origin uid (saved_region name time octets at.guid.0) now long e)
+    stored : (uid : MapUid) (now : DiskState) → EndsWith at.offset (saved_region name time octets at.guid.0) (now (file.Mail at.file.0)) → StoresMessage (files_of now) (saved_row origin rows uid at) octets
+    stored uid now e = region_stores (files_of now) (saved_row origin rows uid at) name time octets can (record { long = sixteen; each = each }) none (region_there at origin rows uid (saved_region name time octets at.guid.0) now long e)
 
 -- ---- no mailbox lists a message with a new GUID
 
@@ -143,16 +145,16 @@ region_reads row octets before after same there =
     between-on (λ a b. ((number : ℕ) → reading (b (file.Mail number)) ≡ reading (a (file.Mail number))) × ((hash id : List ℕ) → reading (b (file.Inst hash id)) ≡ reading (a (file.Inst hash id)))) (λ now. HasRegionOctets (files_of now) row octets) (λ now. HasRegionOctets (files_of now) row octets) before after
     (λ a b kept h. record { there = h.there; in_file = kept.0 row.file ∙ h.in_file; inside = h.inside; region = h.region }) same there
 
-pub record_ready : {D : Type 0} → (at : SavedAt) (origin : ℕ) (name : List ℕ) (time size : ℕ) (octets : List ℕ) (added : Added) (old new : StoreValue D) (before after : Option History) → IsStore before old → All (λ r. r.guid ≢ at.guid.0) old.map.records → StoresPlaced at origin time size added old new → size ≡ length octets
-    → IsRegionReady at origin name time octets before → KeepsStored before after → ReadsSameMail before after → IsRecordReady added name time octets new after
-record_ready at origin name time size octets added old new before after s guid_new made long region keeps same = record {
+pub record_ready : {D : Type 0} → (at : SavedAt) (origin : ℕ) (rows : List InstRow) (name : List ℕ) (time size : ℕ) (octets : List ℕ) (added : Added) (old new : StoreValue D) (before after : Option History) → IsStore before old → All (λ r. r.guid ≢ at.guid.0) old.map.records → StoresPlaced at origin rows time size added old new → size ≡ length octets
+    → IsRegionReady at origin rows name time octets before → KeepsStored before after → ReadsSameMail before after → IsRecordReady added name time octets new after
+record_ready at origin rows name time size octets added old new before after s guid_new made long region keeps same = record {
   time_is = made.time_is;
   size_is = made.size_is ∙ long;
-  row = saved_row origin added.map_uid at;
+  row = saved_row origin rows added.map_uid at;
   there = made.there;
-  written = subst (λ (g : Guid). IfTold after (λ now. HasRegionOctets (files_of now) (saved_row origin added.map_uid at) (saved_region name time octets g.0))) (sym made.guid_is) (region_reads (saved_row origin added.map_uid at) (saved_region name time octets at.guid.0) before after same (region.written added.map_uid));
+  written = subst (λ (g : Guid). IfTold after (λ now. HasRegionOctets (files_of now) (saved_row origin rows added.map_uid at) (saved_region name time octets g.0))) (sym made.guid_is) (region_reads (saved_row origin rows added.map_uid at) (saved_region name time octets at.guid.0) before after same (region.written added.map_uid));
   brings = λ uid.
-      between-on _ (λ disk. StoresMessage (files_of disk) (saved_row origin added.map_uid at) octets) (λ now. AreListed (files_of now) new.map (row_made (entry_added uid added)) (message_made octets (entry_added uid added))) before after
+      between-on _ (λ disk. StoresMessage (files_of disk) (saved_row origin rows added.map_uid at) octets) (λ now. AreListed (files_of now) new.map (row_made (entry_added uid added)) (message_made octets (entry_added uid added))) before after
       (λ a b kept stores. (
         record {
           uid = refl;
@@ -160,10 +162,10 @@ record_ready at origin name time size octets added old new before after s guid_n
           time = refl;
           guid = refl;
           size = sym (made.size_is ∙ long);
-          entry = saved_row origin added.map_uid at;
+          entry = saved_row origin rows added.map_uid at;
           found = made.there;
           same = ap (λ g. g.0) (sym made.guid_is);
-          octets = kept (saved_row origin added.map_uid at) octets stores;
+          octets = kept (saved_row origin rows added.map_uid at) octets stores;
         },
         tt,
       )) keeps (region.stores added.map_uid);

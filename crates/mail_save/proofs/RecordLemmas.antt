@@ -1,17 +1,18 @@
 -- A message that was placed can be stored in the map.
-use Rattle.std.proofs.Common.{◌≡◌, ◌≤◌, ◌+◌, ◌==◌, ◌&&◌, ℕ, Bool, true, false, not, inl, inr, List, [], ◌∷◌, Option, Some, None, All, refl, sym, ◌∙◌, ap, subst, arith, length, get_or}
-use Rattle.std.specs.Prelude.{if◌then◌else◌}
+use Rattle.std.proofs.Common.{◌≡◌, ◌≤◌, ◌+◌, ◌==◌, ◌&&◌, ℕ, Bool, true, false, not, inl, inr, List, [], ◌∷◌, Option, Some, None, All, refl, sym, ◌∙◌, ap, subst, arith, length}
+use Rattle.std.specs.Prelude.{AllPairs, if◌then◌else◌}
+use Rattle.std.specs.List.{AllByRecursion}
 use Rattle.std.specs.Option.{option_map, option_and_then}
 use Rattle.std.proofs.lemmas.Bool.{cases_eq, cond-false, ne_eqb}
-use Rattle.std.proofs.lemmas.List.Elements.{All-nil, All-cons, All-head, All-tail}
+use Rattle.std.proofs.lemmas.List.Elements.{All-nil, All-cons, All-head, All-tail, recursion_from_All}
 use Rattle.disk_model.specs.Disk.{Files, History, IfTold}
 use Rattle.disk_model.specs.declared.name.FileName.TheVariants as file
 use Rattle.disk_model.proofs.MomentLemmas.{if_told-map}
 use Rattle.mdbox_base.specs.Words.{IsNumber}
 use Rattle.mdbox_base.specs.declared.entries.InstRow.{InstRow}
-use Rattle.mdbox_base.specs.declared.entries.MapEntry.TheVariants as map_entry
 use Rattle.mdbox_base.specs.declared.ids.MapUid.{MapUid}
 use Rattle.model_appends.specs.MapAppending.{stored_row}
+use Rattle.model_logs.specs.Entries.{RowInRange}
 use Rattle.model_meaning.specs.MapFits.{AgreesOn, FitsStored}
 use Rattle.model_meaning.specs.MapMeaning.{MapRecord, is_own, number_at, guid_file}
 use Rattle.model_store.specs.Safe.{LiesInFile}
@@ -57,18 +58,15 @@ guid_drawn at store history is order held =
 
 -- ---- it fits
 
-none_agree : (row : MapRecord) → All (λ i. All (AgreesOn i) row.instances) []
-none_agree row = All-nil (λ (i : InstRow). All (AgreesOn i) row.instances)
-
-pub record_fits : {D : Type 0} (origin : ℕ) (uid : MapUid) (at : SavedAt) (instances : List InstRow) (store : StoreValue D) (history : Option History) → instances ≡ [] → IsStore history store → AreFilesInOrder store.files → HoldsRegion at store
+pub record_fits : {D : Type 0} (origin : ℕ) (uid : MapUid) (at : SavedAt) (instances : List InstRow) (store : StoreValue D) (history : Option History) → AllPairs AgreesOn instances × All (λ other. All (λ row. All (AgreesOn row) other.instances) instances) store.map.records → IsStore history store → AreFilesInOrder store.files → HoldsRegion at store
     → origin ≤ 1 → 1 ≤ at.size → uid.0 ≡ store.drawn.map + 1 → IsNumber uid.0 → FitsStored store.map origin uid.0 at.file.0 at.offset at.size at.guid.0 instances
-record_fits origin uid at instances store history none is order held known some drawn number =
+record_fits origin uid at instances store history agree is order held known some drawn number =
     let up = is.drawn.map in
     let inside = held.inside in
     let small = held.small in
     let low = file_below at.file.0 store.files.highest held.end store.files.files order.below held.ends in
     let last = order.last in
-    subst (λ (rows : List InstRow). FitsStored store.map origin uid.0 at.file.0 at.offset at.size at.guid.0 rows) (sym none) (record {
+    record {
       known_origin = known;
       uid_number = number;
       uid_new = omega (arith, up, drawn);
@@ -79,9 +77,9 @@ record_fits origin uid at instances store history none is order held known some 
         free = held.free;
       };
       guid_new = held.guid_new;
-      known = λ k d lt. none_agree (get_or store.map.records k d);
-      earlier = λ i j d lt low. absurd (omega (arith, low));
-    })
+      known = agree.1;
+      earlier = agree.0;
+    }
 
 -- ---- below the end of its file
 
@@ -121,8 +119,8 @@ record_lies origin uid at instances store history held known =
 
 -- ---- ready
 
-pub ready_as : (origin : ℕ) (uid : MapUid) (at : SavedAt) (next : ℕ) (instances : List InstRow) (history : Option History) → uid.0 ≡ next → instances ≡ [] → IsReadyToStore (entry_stored origin (record { 0 = next }) at) history
-    → IsReadyToStore (map_entry.S origin 1 uid at.file at.offset at.size at.guid instances) history
-ready_as origin uid at next instances history is none ready =
-    subst (λ (rows : List InstRow). IsReadyToStore (map_entry.S origin 1 uid at.file at.offset at.size at.guid rows) history) (sym none)
-    (subst (λ (u : MapUid). IsReadyToStore (entry_stored origin u at) history) (ap (λ (n : ℕ). record { 0 = n }) (sym is)) ready)
+pub ready_as : (origin : ℕ) (rows : List InstRow) (uid : MapUid) (at : SavedAt) (next : ℕ) (history : Option History) → uid.0 ≡ next → IsReadyToStore (entry_stored origin rows (record { 0 = next }) at) history → IsReadyToStore (entry_stored origin rows uid at) history
+ready_as origin rows uid at next history is ready = subst (λ (u : MapUid). IsReadyToStore (entry_stored origin rows u at) history) (ap (λ (n : ℕ). record { 0 = n }) (sym is)) ready
+
+pub rows_in_range : (rows : List InstRow) → All RowInRange rows → AllByRecursion RowInRange rows
+rows_in_range rows h = recursion_from_All RowInRange rows h

@@ -32,10 +32,10 @@ save_does (stage.First prepared) (stage.Taking parts) name time size octets prog
 save_does (stage.First prepared) stage.Ended name time size octets (progress.Done (reply.Refused why)) how old new before after began faulted e = first_refused prepared why name time size octets how old new before after began faulted e
 save_does (stage.Taking parts) (stage.Placing laid file) name time size octets progress.More how old new before after began faulted e = taking_more parts laid file name time size octets how old new before after began faulted e
 save_does (stage.Taking parts) stage.Ended name time size octets (progress.Done (reply.Refused why)) how old new before after began faulted e = taking_refused parts why name time size octets how old new before after began faulted e
-save_does (stage.Placing parts file) (stage.Storing at origin room) name time size octets progress.More how old new before after began faulted e = placing_more parts file at origin room name time size octets how old new before after began faulted e
+save_does (stage.Placing parts file) (stage.Storing at origin rows room) name time size octets progress.More how old new before after began faulted e = placing_more parts file at origin rows room name time size octets how old new before after began faulted e
 save_does (stage.Placing parts file) stage.Ended name time size octets (progress.Done (reply.Refused why)) how old new before after began faulted e = placing_refused parts file why name time size octets how old new before after began faulted e
-save_does (stage.Storing at origin room) (stage.Adding added left) name time size octets progress.More how old new before after began faulted e = storing_more at origin room left added name time size octets how old new before after began faulted e
-save_does (stage.Storing at origin room) stage.Ended name time size octets (progress.Done (reply.Refused why)) how old new before after began faulted e = storing_refused at origin room why name time size octets how old new before after began faulted e
+save_does (stage.Storing at origin rows room) (stage.Adding added left) name time size octets progress.More how old new before after began faulted e = storing_more at origin rows room left added name time size octets how old new before after began faulted e
+save_does (stage.Storing at origin rows room) stage.Ended name time size octets (progress.Done (reply.Refused why)) how old new before after began faulted e = storing_refused at origin rows room why name time size octets how old new before after began faulted e
 save_does (stage.Adding added room) stage.Ended name time size octets (progress.Done (reply.Saved uid guid)) how old new before after began faulted e = adding_saved added room uid guid name time size octets how old new before after began faulted e
 save_does (stage.Adding added room) stage.Ended name time size octets (progress.Done (reply.Refused why)) how old new before after began faulted e = adding_refused added room why name time size octets how old new before after began faulted e
 save_does (stage.Adding added room) (stage.GivingBack uid why left) name time size octets progress.More how old new before after began faulted e = adding_more added room left uid why name time size octets how old new before after began faulted e
@@ -44,7 +44,7 @@ save_does now next name time size octets answer how old new before after began f
 
 -- ---- of one that was
 
-save_stopped : {D : Type 0} → (now next : SaveStage) (name : List ℕ) (time : ℕ) (octets : List ℕ) (store : StoreValue D) (history : Option History) (faults : Faults) → IsStore history store → AreFilesInOrder store.files → HasLeft now name time store → has_detachable octets ≡ false → store.stopped ≡ true
+save_stopped : {D : Type 0} → (now next : SaveStage) (name : List ℕ) (time : ℕ) (octets : List ℕ) (store : StoreValue D) (history : Option History) (faults : Faults) → IsStore history store → AreFilesInOrder store.files → HasLeft now name time store history → has_detachable octets ≡ false → store.stopped ≡ true
     → DeliveryClause octets now next name time stopped_reply did.Quiet store store history history faults faults
 save_stopped (stage.First prepared) next name time octets store history faults is order left whole stopped = λ behind.
     let around = around_saving octets (stage.First prepared) store in
@@ -53,14 +53,14 @@ save_stopped (stage.Taking parts) next name time octets store history faults is 
     let around = around_saving octets (stage.Taking parts) store in
     let sees = sees_around octets (stage.Taking parts) store history faults is order whole in
     stopped_save around behind name time octets (TakesFile (is_none (room_among (length parts.region) store.files.files))) (IsAtSave (stage.Taking parts)) (IsAtSave next) (seen_saving store history faults) sees (ends_taking name time octets (is_none (room_among (length parts.region) store.files.files)))
-    (taking_at around name time octets sees.whole) (λ file. refl) stopped
+    (taking_at around name time octets parts.rows sees.whole) (λ file. refl) stopped
 save_stopped (stage.Placing parts file) next name time octets store history faults is order left whole stopped = λ behind.
     let around = around_saving octets (stage.Placing parts file) store in
-    stopped_save around behind name time octets PlacesMessage (IsAtSave (stage.Placing parts file)) (IsAtSave next) (seen_saving store history faults) (sees_around octets (stage.Placing parts file) store history faults is order whole) (ends_placing name time octets) (placing_at around name time octets file.0) (λ n. refl) stopped
-save_stopped (stage.Storing at origin room) next name time octets store history faults is order left whole stopped = λ behind.
-    let around = around_saving octets (stage.Storing at origin room) store in
-    stopped_save around behind name time octets StoresRecord (IsAtSave (stage.Storing at origin room)) (IsAtSave next) (seen_saving store history faults) (sees_around octets (stage.Storing at origin room) store history faults is order whole) (ends_storing name time octets)
-    (storing_at around name time octets at.file.0 at.guid.0) (λ n. refl) stopped
+    stopped_save around behind name time octets PlacesMessage (IsAtSave (stage.Placing parts file)) (IsAtSave next) (seen_saving store history faults) (sees_around octets (stage.Placing parts file) store history faults is order whole) (ends_placing name time octets) (placing_at around name time octets parts.rows file.0) (λ n. refl) stopped
+save_stopped (stage.Storing at origin rows room) next name time octets store history faults is order left whole stopped = λ behind.
+    let around = around_saving octets (stage.Storing at origin rows room) store in
+    stopped_save around behind name time octets StoresRecord (IsAtSave (stage.Storing at origin rows room)) (IsAtSave next) (seen_saving store history faults) (sees_around octets (stage.Storing at origin rows room) store history faults is order whole) (ends_storing name time octets)
+    (storing_at around name time octets rows at.file.0 at.guid.0) (λ n. refl) stopped
 save_stopped (stage.Adding added room) next name time octets store history faults is order left whole stopped = λ behind.
     unsaved_stopped (around_saving octets (stage.Adding added room) store) behind name time octets added.guid.0 added.map_uid.0 (IsAtSave next) (seen_saving store history faults) (sees_around octets (stage.Adding added room) store history faults is order whole) (λ n. refl) stopped
 save_stopped (stage.GivingBack uid why room) next name time octets store history faults is order left whole stopped = λ behind.
@@ -75,10 +75,10 @@ abbrev DoesBy : {D : Type 0} → (D → Option History) → (D → Faults) → L
 DoesBy history faults octets now next name time answer how old new = DeliveryClause octets now next name time answer how old new (history old.disk) (history new.disk) (faults old.disk) (faults new.disk)
 
 pub seen_does : {D : Type 0} → (history : D → Option History) (faults : D → Faults) (task seen : SaveValue) (now next : SaveStage) (octets : List ℕ) (answer : Progress) (how : Did) (old new : StoreValue D) → task ≡ seen → now ≡ task.stage → IsStore (history old.disk) old → AreFilesInOrder old.files
-    → length old.map.store ≡ 8 → IsOctets old.map.store → seen.time < 2 ^ 64 → old.stopped ≡ false → HasLeft seen.stage seen.name seen.time old → has_detachable octets ≡ false → IsReadyToSave seen.stage seen.name seen.time seen.size octets old (history old.disk)
+    → length old.map.store ≡ 8 → IsOctets old.map.store → seen.time < 2 ^ 64 → old.stopped ≡ false → HasLeft seen.stage seen.name seen.time old (history old.disk) → has_detachable octets ≡ false → IsReadyToSave seen.stage seen.name seen.time seen.size octets old (history old.disk)
     → Saves now next task.name task.time task.size answer how old new (history old.disk) (history new.disk) (faults old.disk) (faults new.disk) → DoesBy history faults octets seen.stage next seen.name seen.time answer how old new
 seen_does history faults task seen now next octets answer how old new same at is order long each timed ran left whole ready saves =
-    subst (λ (v : SaveValue). HasLeft v.stage v.name v.time old → v.time < 2 ^ 64 → IsReadyToSave v.stage v.name v.time v.size octets old (history old.disk) → DoesBy history faults octets v.stage next v.name v.time answer how old new) same
+    subst (λ (v : SaveValue). HasLeft v.stage v.name v.time old (history old.disk) → v.time < 2 ^ 64 → IsReadyToSave v.stage v.name v.time v.size octets old (history old.disk) → DoesBy history faults octets v.stage next v.name v.time answer how old new) same
     (λ held small fit. save_does task.stage next task.name task.time task.size octets answer how old new (history old.disk) (history new.disk) (faults old.disk) (faults new.disk) (record {
       is = is;
       order = order;
@@ -94,6 +94,6 @@ seen_does history faults task seen now next octets answer how old new same at is
     }))
     left timed ready
 
-pub seen_stopped : {D : Type 0} → (history : D → Option History) (faults : D → Faults) (task seen : SaveValue) (octets : List ℕ) (store : StoreValue D) → task ≡ seen → IsStore (history store.disk) store → AreFilesInOrder store.files → HasLeft seen.stage seen.name seen.time store → has_detachable octets ≡ false → store.stopped ≡ true
+pub seen_stopped : {D : Type 0} → (history : D → Option History) (faults : D → Faults) (task seen : SaveValue) (octets : List ℕ) (store : StoreValue D) → task ≡ seen → IsStore (history store.disk) store → AreFilesInOrder store.files → HasLeft seen.stage seen.name seen.time store (history store.disk) → has_detachable octets ≡ false → store.stopped ≡ true
     → DoesBy history faults octets seen.stage task.stage seen.name seen.time stopped_reply did.Quiet store store
 seen_stopped history faults task seen octets store same is order left whole stopped = save_stopped seen.stage task.stage seen.name seen.time octets store (history store.disk) (faults store.disk) is order left whole stopped

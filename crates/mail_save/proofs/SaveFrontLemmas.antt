@@ -1,5 +1,5 @@
 -- The events of a delivery up to that which stores the message, by the clause of a step.
-use Rattle.std.proofs.Common.{◌≡◌, ◌≤◌, ◌<◌, ◌+◌, ◌==◌, ◌||◌, ℕ, Bool, true, false, not, cond, List, [], ◌∷◌, ◌++◌, Option, Some, None, refl, sym, ◌∙◌, ap, subst, arith, inl}
+use Rattle.std.proofs.Common.{◌≡◌, ◌≤◌, ◌<◌, ◌+◌, ◌==◌, ◌||◌, ℕ, Bool, true, false, not, cond, List, [], ◌∷◌, ◌++◌, Option, Some, None, refl, sym, ◌∙◌, ap, subst, append_assoc, arith, inl}
 use Rattle.std.specs.Prelude.{◌≢◌, nat_lt, nat_le, is_none, is_some, length, filter, flat_map, All, if◌then◌else◌}
 use Rattle.std.specs.List.{list_any}
 use Rattle.std.specs.Option.{IfSome, option_map_or, option_or}
@@ -31,7 +31,7 @@ use Rattle.task_steps.specs.Step.{Seen, ShowsSeen, was_given, HasComeTo, HasNotB
 use Rattle.task_steps.proofs.SeenLemmas.{no_guids, is_new}
 use Rattle.journal.proofs.RunLemmas.{drawn_none}
 use Rattle.mail_save.specs.SaveStages.{IsTakingFile, IsPlacingMessage, IsStoringMessage, IsAddingMessage}
-use Rattle.mail_save.proofs.SaveRunLemmas.{takes_next, places_next, stores_next, taken_file, given_guid, no_instances}
+use Rattle.mail_save.proofs.SaveRunLemmas.{takes_next, places_next, stores_next, taken_file, given_guid, found_rows}
 use Rattle.mail_save.proofs.SaveDidLemmas.{some_part, given_more, HasRun, KeepsTelling, TellsMore, comes_drawn, comes_stored, comes_to_more, tells_on, quiet_on}
 
 -- ---- what an event finds
@@ -69,11 +69,11 @@ pub record KeepsMap (old new : Seen) : Type 0 where
 
 pub begins_save : (around after : Around) (name : List ℕ) (time : ℕ) (octets : List ℕ) (old new : Seen) → SeesAround octets around old → KeepsMap old new → new.drawn ≡ old.drawn → KeepsTelling old new
     → ((run : Run) (lists : Lists) (event : RunEvent) → HasComeTo run old → ShowsSeen old lists → first_refusal run lists (part_checks run event (request.Deliver name time octets) First) ≡ None)
-    → Steps HasNotBegun IsTakingFile around after (request.Deliver name time octets) old new did.Quiet None
+    → Steps HasNotBegun (IsTakingFile []) around after (request.Deliver name time octets) old new did.Quiet None
 begins_save around after name time octets old new sees keeps drawn tells allowed = λ run lane place said lists come shows stood.
     let q = request.Deliver name time octets in
     let event : RunEvent = event_of lane place First (told_calls new.history) in
-    quiet_on around after run lane place said q lists old new event IsTakingFile
+    quiet_on around after run lane place said q lists old new event (IsTakingFile [])
     (record {
       lane_is = refl;
       request_is = refl;
@@ -91,7 +91,7 @@ begins_save around after name time octets old new sees keeps drawn tells allowed
     refl keeps.run
     (comes_to_more run event old new come (comes_drawn run event old new come keeps.map (drawn ∙ sym (drawn_none old.drawn)) keeps.run.grows refl refl) (λ uid. let e = keeps.due uid in omega (arith, e)) (record { pins = refl; unpins = refl; doomed = refl; removed = refl; gone = refl }) (tells_on event old new refl tells))
     (no_guids run event refl) shows
-    (record { first = event; own_are = own_first place run event [] refl stood.0; laid = record { part = refl; did = refl } }, stood.1)
+    (record { first = event; more = []; own_are = own_first place run event [] refl stood.0; laid = record { part = refl; did = refl }; attached = tt; found = refl }, stood.1)
   where
     by_tests : (b : Bool) (c : Bool) (d : Bool) → (if b then (if c then Some Compares else Some PlacesInstance) else Some (TakesFile d)) ≡ None → ⊥
     by_tests true true d e = some_part Compares e
@@ -107,13 +107,13 @@ took_itself : (lane place : ℕ) (new : Bool) (drew : Highest) (file other calls
 took_itself lane place new drew file other calls e = ap (λ (b : Bool). (b || (0 == other)) || false) (eq-eqb file other e)
 
 -- one that is there and has room
-pub takes_known : (around after : Around) (name : List ℕ) (time : ℕ) (octets : List ℕ) (file : ℕ) (old new : Seen) → SeesAround octets around old → around.room ≡ Some file → KeepsMap old new → new.drawn ≡ old.drawn → KeepsTelling old new
-    → Steps IsTakingFile (IsPlacingMessage file) around after (request.Deliver name time octets) old new did.Quiet None
-takes_known around after name time octets file old new sees room keeps drawn tells = λ run lane place said lists come shows stood.
+pub takes_known : (around after : Around) (name : List ℕ) (time : ℕ) (octets : List ℕ) (rows : List InstRow) (file : ℕ) (old new : Seen) → SeesAround octets around old → around.room ≡ Some file → KeepsMap old new → new.drawn ≡ old.drawn → KeepsTelling old new
+    → Steps (IsTakingFile rows) (IsPlacingMessage rows file) around after (request.Deliver name time octets) old new did.Quiet None
+takes_known around after name time octets rows file old new sees room keeps drawn tells = λ run lane place said lists come shows stood.
     let q = request.Deliver name time octets in
     let event : RunEvent = record (event_of lane place (TakesFile false) (told_calls new.history)) { files = record { file = file; target = 0 } ∷ [] } in
     let s = stood.0 in
-    quiet_on around after run lane place said q lists old new event (IsPlacingMessage file)
+    quiet_on around after run lane place said q lists old new event (IsPlacingMessage rows file)
     (record {
       lane_is = refl;
       request_is = refl;
@@ -122,7 +122,7 @@ takes_known around after name time octets file old new sees room keeps drawn tel
       unrefused = refl;
       finds = sees.parts;
       found = finds_place octets around run old sees come;
-      part_is = takes_next around run name time octets (own_events place run) sees.whole s ∙ ap (λ (r : Option ℕ). Some (TakesFile (is_none r))) room;
+      part_is = takes_next around run name time octets rows place sees.whole s ∙ ap (λ (r : Option ℕ). Some (TakesFile (is_none r))) room;
       allowed = refl;
       did = ap (λ (r : Option ℕ). record (event_of lane place (TakesFile false) (told_calls new.history)) { files = record { file = option_map_or (λ f. f) r ((drawn_of run).file + 1); target = 0 } ∷ [] }) (sym room);
       ends = record { 0 = λ h. absurd (h refl); 1 = λ h. absurd (some_part PlacesMessage h) };
@@ -131,22 +131,22 @@ takes_known around after name time octets file old new sees room keeps drawn tel
     refl keeps.run
     (comes_to_more run event old new come (comes_drawn run event old new come keeps.map (drawn ∙ sym (drawn_none old.drawn)) keeps.run.grows refl refl) (λ uid. let e = keeps.due uid in omega (arith, e)) (record { pins = refl; unpins = refl; doomed = refl; removed = refl; gone = refl }) (tells_on event old new refl tells))
     (no_guids run event refl) shows
-    (record { first = s.first; second = event; own_are = own_first place run event (s.first ∷ []) refl s.own_are; laid = s.laid; took = record { new = false; part = refl; did = refl } }, stood.1)
+    (record { front = own_events place run; second = event; own_are = own_first place run event (own_events place run) refl refl; attached = s; took = record { new = false; part = refl; did = refl } }, stood.1)
 
 -- a new one, with the next number
 next_fits : (drawn : ℕ) → drawn < 4294967294 → nat_lt 4294967294 (drawn + 1) ≡ false
 next_fits drawn l = grind (arith, common_steps, l)
 
-pub takes_new : (around after : Around) (name : List ℕ) (time : ℕ) (octets : List ℕ) (file : ℕ) (old new : Seen) → SeesAround octets around old → around.room ≡ None → file ≡ old.drawn.file + 1 → old.drawn.file < 4294967294 → KeepsMap old new → new.drawn ≡ drawn_also old.drawn (record no_numbers { file = 1 })
+pub takes_new : (around after : Around) (name : List ℕ) (time : ℕ) (octets : List ℕ) (rows : List InstRow) (file : ℕ) (old new : Seen) → SeesAround octets around old → around.room ≡ None → file ≡ old.drawn.file + 1 → old.drawn.file < 4294967294 → KeepsMap old new → new.drawn ≡ drawn_also old.drawn (record no_numbers { file = 1 })
     → ((event : RunEvent) → event.given ≡ [] → ((other : ℕ) → file ≡ other → took_file other event ≡ true) → TellsMore event old new)
-    → Steps IsTakingFile (IsPlacingMessage file) around after (request.Deliver name time octets) old new did.Quiet None
-takes_new around after name time octets file old new sees room next few keeps drawn tells = λ run lane place said lists come shows stood.
+    → Steps (IsTakingFile rows) (IsPlacingMessage rows file) around after (request.Deliver name time octets) old new did.Quiet None
+takes_new around after name time octets rows file old new sees room next few keeps drawn tells = λ run lane place said lists come shows stood.
     let q = request.Deliver name time octets in
     let event : RunEvent = record (event_of lane place (TakesFile true) (told_calls new.history)) { files = record { file = file; target = 0 } ∷ []; drew = record no_numbers { file = 1 } } in
     let s = stood.0 in
     let same : (drawn_of run).file ≡ old.drawn.file = ap (λ (d : Highest). d.file) come.come.drawn_is in
     let number : file ≡ (drawn_of run).file + 1 = next ∙ ap (λ (n : ℕ). n + 1) (sym same) in
-    quiet_on around after run lane place said q lists old new event (IsPlacingMessage file)
+    quiet_on around after run lane place said q lists old new event (IsPlacingMessage rows file)
     (record {
       lane_is = refl;
       request_is = refl;
@@ -155,7 +155,7 @@ takes_new around after name time octets file old new sees room next few keeps dr
       unrefused = refl;
       finds = sees.parts;
       found = finds_place octets around run old sees come;
-      part_is = takes_next around run name time octets (own_events place run) sees.whole s ∙ ap (λ (r : Option ℕ). Some (TakesFile (is_none r))) room;
+      part_is = takes_next around run name time octets rows place sees.whole s ∙ ap (λ (r : Option ℕ). Some (TakesFile (is_none r))) room;
       allowed = ap (λ (b : Bool). option_or (refused_where b (refusal.StoreFull 4294967294)) None) (next_fits (drawn_of run).file (omega (arith, same, few)));
       did = ap (λ (n : ℕ). record (event_of lane place (TakesFile true) (told_calls new.history)) { files = record { file = n; target = 0 } ∷ []; drew = record no_numbers { file = 1 } }) number
           ∙ ap (λ (r : Option ℕ). record (event_of lane place (TakesFile true) (told_calls new.history)) { files = record { file = option_map_or (λ f. f) r ((drawn_of run).file + 1); target = 0 } ∷ []; drew = record no_numbers { file = 1 } }) (sym room);
@@ -166,7 +166,7 @@ takes_new around after name time octets file old new sees room next few keeps dr
     (comes_to_more run event old new come (comes_drawn run event old new come keeps.map drawn keeps.run.grows refl refl) (λ uid. let e = keeps.due uid in omega (arith, e)) (record { pins = refl; unpins = refl; doomed = refl; removed = refl; gone = refl })
     (tells event refl (λ other e. took_itself lane place true (record no_numbers { file = 1 }) file other (told_calls new.history) e)))
     (no_guids run event refl) shows
-    (record { first = s.first; second = event; own_are = own_first place run event (s.first ∷ []) refl s.own_are; laid = s.laid; took = record { new = true; part = refl; did = refl } }, stood.1)
+    (record { front = own_events place run; second = event; own_are = own_first place run event (own_events place run) refl refl; attached = s; took = record { new = true; part = refl; did = refl } }, stood.1)
 
 -- ---- the message is placed
 
@@ -208,17 +208,17 @@ given_now : (run : Run) (event : RunEvent) (guid : List ℕ) → event.given ≡
 given_now run event guid is =
     given_more run event guid ∙ (ap (λ (gs : List (List ℕ)). was_given run guid || list_any (bytes_eq guid) gs) is ∙ (ap (λ (b : Bool). was_given run guid || (b || false)) ((bytes_eq-Decides guid guid).1 refl) ∙ or_true (was_given run guid)))
 
-pub places_message : (around after : Around) (name : List ℕ) (time : ℕ) (octets : List ℕ) (file : ℕ) (guid : List ℕ) (old new : Seen) → SeesAround octets around old → length guid ≡ 16 → IsOctets guid → guid_file old.map.store guid ≡ file → old.gave guid ≡ false → KeepsMap old new → new.drawn ≡ old.drawn
+pub places_message : (around after : Around) (name : List ℕ) (time : ℕ) (octets : List ℕ) (rows : List InstRow) (file : ℕ) (guid : List ℕ) (old new : Seen) → SeesAround octets around old → length guid ≡ 16 → IsOctets guid → guid_file old.map.store guid ≡ file → old.gave guid ≡ false → KeepsMap old new → new.drawn ≡ old.drawn
     → KeepsTelling old new → new.gave guid ≡ true
-    → Steps (IsPlacingMessage file) (IsStoringMessage file guid) around after (request.Deliver name time octets) old new did.Quiet None
-places_message around after name time octets file guid old new sees long each named fresh keeps drawn tells gave = λ run lane place said lists come shows stood.
+    → Steps (IsPlacingMessage rows file) (IsStoringMessage rows file guid) around after (request.Deliver name time octets) old new did.Quiet None
+places_message around after name time octets rows file guid old new sees long each named fresh keeps drawn tells gave = λ run lane place said lists come shows stood.
     let q = request.Deliver name time octets in
     let event : RunEvent = record (event_of lane place PlacesMessage (told_calls new.history)) { given = guid ∷ [] } in
     let s = stood.0 in
     let id : run.store ≡ old.map.store = ap (λ (m : MapMeaning). m.store) come.come.map_is in
     let own : guid_file run.store guid ≡ file = ap (λ (k : List ℕ). guid_file k guid) id ∙ named in
     let unknown : was_given run guid ≡ false = is_new run old guid come fresh in
-    quiet_on around after run lane place said q lists old new event (IsStoringMessage file guid)
+    quiet_on around after run lane place said q lists old new event (IsStoringMessage rows file guid)
     (record {
       lane_is = refl;
       request_is = refl;
@@ -227,9 +227,9 @@ places_message around after name time octets file guid old new sees long each na
       unrefused = refl;
       finds = sees.parts;
       found = finds_place octets around run old sees come;
-      part_is = places_next around run name time octets file (own_events place run) s;
+      part_is = places_next around run name time octets rows file (own_events place run) s;
       allowed = refl;
-      did = (guid, taken_file place run file s ∙ ap (λ (n : ℕ). Some n) (sym own), long, refl);
+      did = (guid, taken_file place run rows file s ∙ ap (λ (n : ℕ). Some n) (sym own), long, refl);
       ends = record { 0 = λ h. absurd (h refl); 1 = λ h. absurd (some_part StoresRecord h) };
       replied = tt;
     })
@@ -237,7 +237,7 @@ places_message around after name time octets file guid old new sees long each na
     (comes_to_more run event old new come (comes_drawn run event old new come keeps.map (drawn ∙ sym (drawn_none old.drawn)) keeps.run.grows refl refl) (λ uid. let e = keeps.due uid in omega (arith, e)) (record { pins = refl; unpins = refl; doomed = refl; removed = refl; gone = refl })
     (record { pins = tells.pins; doomed = tells.doomed; used = tells.used; unused = tells.unused; gave = tells.gave; given = λ g some. by_guid g some; files = λ f e. inl (tells.files f e); instances = tells.instances }))
     (All-cons (λ (g : List ℕ). was_given run g ≡ false) guid [] unknown (All-nil (λ (g : List ℕ). was_given run g ≡ false))) shows (
-      record { first = s.first; second = s.second; third = event; own_are = own_first place run event (s.first ∷ s.second ∷ []) refl s.own_are; laid = s.laid; took = s.took; placed = record { part = refl; did = refl } },
+      record { front = s.front; second = s.second; third = event; own_are = own_first place run event (s.front ++ s.second ∷ []) refl s.own_are ∙ append_assoc s.front (s.second ∷ []) (event ∷ []); attached = s.attached; took = s.took; placed = record { part = refl; did = refl } },
       own,
       record {
         long = long;
@@ -269,12 +269,12 @@ stored_event lane place number f at long g is calls = record (event_of lane plac
   drew = record no_numbers { map = 1 };
 }
 
-pub stores_message : (around after : Around) (name : List ℕ) (time : ℕ) (octets : List ℕ) (file : ℕ) (guid : List ℕ) (uid size offset : ℕ) (old new : Seen) → SeesAround octets around old → uid ≡ old.drawn.map + 1 → old.drawn.map < 4294967294 → offset ≡ number_at 12 guid → HasRun old new
-    → new.map ≡ map_applied (map_entry.S 0 1 (record { 0 = uid }) (record { 0 = file }) offset size (record { 0 = guid }) []) old.map → new.drawn ≡ drawn_also old.drawn (record no_numbers { map = 1 }) → ((other : ℕ) → new.due other ≡ old.due other + one_due uid other) → KeepsTelling old new
-    → Steps (IsStoringMessage file guid) (IsAddingMessage guid uid) around after (request.Deliver name time octets) old new did.Quiet None
-stores_message around after name time octets file guid uid size offset old new sees next few place_is h taken drawn due tells = λ run lane place said lists come shows stood.
+pub stores_message : (around after : Around) (name : List ℕ) (time : ℕ) (octets : List ℕ) (rows : List InstRow) (file : ℕ) (guid : List ℕ) (uid size offset : ℕ) (old new : Seen) → SeesAround octets around old → uid ≡ old.drawn.map + 1 → old.drawn.map < 4294967294 → offset ≡ number_at 12 guid → HasRun old new
+    → new.map ≡ map_applied (map_entry.S 0 1 (record { 0 = uid }) (record { 0 = file }) offset size (record { 0 = guid }) rows) old.map → new.drawn ≡ drawn_also old.drawn (record no_numbers { map = 1 }) → ((other : ℕ) → new.due other ≡ old.due other + one_due uid other) → KeepsTelling old new
+    → Steps (IsStoringMessage rows file guid) (IsAddingMessage guid uid) around after (request.Deliver name time octets) old new did.Quiet None
+stores_message around after name time octets rows file guid uid size offset old new sees next few place_is h taken drawn due tells = λ run lane place said lists come shows stood.
     let q = request.Deliver name time octets in
-    let entry = map_entry.S 0 1 (record { 0 = uid }) (record { 0 = file }) offset size (record { 0 = guid }) [] in
+    let entry = map_entry.S 0 1 (record { 0 = uid }) (record { 0 = file }) offset size (record { 0 = guid }) rows in
     let event : RunEvent = record (event_of lane place StoresRecord (told_calls new.history)) { map_entries = entry ∷ []; drew = record no_numbers { map = 1 } } in
     let s = stood.0 in
     let same : (drawn_of run).map ≡ old.drawn.map = ap (λ (d : Highest). d.map) come.come.drawn_is in
@@ -288,16 +288,16 @@ stores_message around after name time octets file guid uid size offset old new s
       unrefused = refl;
       finds = sees.parts;
       found = finds_place octets around run old sees come;
-      part_is = stores_next around run name time octets file guid (own_events place run) s;
+      part_is = stores_next around run name time octets rows file guid (own_events place run) s;
       allowed = ap (λ (b : Bool). option_or (refused_where b (refusal.StoreFull 4294967294)) None) (few_uids (drawn_of run).map (omega (arith, same, few)));
       did = (
         guid,
         size,
-        given_guid place run file guid s,
-        ap (λ (n : ℕ). stored_event lane place n file offset size guid [] (told_calls new.history)) number
-            ∙ (ap (λ (n : ℕ). stored_event lane place ((drawn_of run).map + 1) n offset size guid [] (told_calls new.history)) (sym stood.1)
-            ∙ (ap (λ (n : ℕ). stored_event lane place ((drawn_of run).map + 1) (guid_file run.store guid) n size guid [] (told_calls new.history)) place_is
-            ∙ ap (λ (is : List InstRow). stored_event lane place ((drawn_of run).map + 1) (guid_file run.store guid) (number_at 12 guid) size guid is (told_calls new.history)) (sym (no_instances place run file guid s)))),
+        given_guid place run rows file guid s,
+        ap (λ (n : ℕ). stored_event lane place n file offset size guid rows (told_calls new.history)) number
+            ∙ (ap (λ (n : ℕ). stored_event lane place ((drawn_of run).map + 1) n offset size guid rows (told_calls new.history)) (sym stood.1)
+            ∙ (ap (λ (n : ℕ). stored_event lane place ((drawn_of run).map + 1) (guid_file run.store guid) n size guid rows (told_calls new.history)) place_is
+            ∙ ap (λ (is : List InstRow). stored_event lane place ((drawn_of run).map + 1) (guid_file run.store guid) (number_at 12 guid) size guid is (told_calls new.history)) (sym (found_rows place run rows file guid s)))),
       );
       ends = record { 0 = λ h. absurd (h refl); 1 = λ h. absurd (some_part Last h) };
       replied = tt;
@@ -306,13 +306,14 @@ stores_message around after name time octets file guid uid size offset old new s
     (comes_to_more run event old new come (comes_stored run event entry old new come taken drawn h.grows refl refl) (λ u. stored_due (old.due u) (new.due u) uid u (due u)) (record { pins = refl; unpins = refl; doomed = refl; removed = refl; gone = refl }) (tells_on event old new refl tells))
     (no_guids run event refl) shows (
       record {
-        first = s.first;
+        rows = rows;
+        file = file;
+        front = s.front;
         second = s.second;
         third = s.third;
         fourth = event;
-        file = file;
-        own_are = own_first place run event (s.first ∷ s.second ∷ s.third ∷ []) refl s.own_are;
-        laid = s.laid;
+        own_are = own_first place run event (s.front ++ s.second ∷ s.third ∷ []) refl s.own_are ∙ append_assoc s.front (s.second ∷ s.third ∷ []) (event ∷ []);
+        attached = s.attached;
         took = s.took;
         placed = s.placed;
         stored = record { part = refl; entry = entry; raised = refl; did = refl };

@@ -4,6 +4,7 @@ use Rattle.std.specs.Prelude.{◌≢◌}
 use Rattle.std.specs.List.{list_any}
 use Rattle.std.specs.Str.{bytes_eq}
 use Rattle.std.proofs.lemmas.Bool.{ne_eqb}
+use Rattle.mdbox_base.specs.declared.entries.InstRow.{InstRow}
 use Rattle.mdbox_base.specs.declared.replies.Refusal.{Refusal}
 use Rattle.list_machine.specs.Run.{RunEvent, Run, and_then, own_events}
 use Rattle.journal.proofs.OwnEventLemmas.{own_other}
@@ -26,25 +27,41 @@ guid_stays guid place run event other new own = record {
   once = others_still run event place guid other new own.given own.once;
 }
 
-taking_stays : IsKept IsTakingFile
-taking_stays run place said event other new stood =
+taking_stays : (rows : List InstRow) → IsKept (IsTakingFile rows)
+taking_stays rows run place said event other new stood =
     let s = stood.0 in
-    (record { first = s.first; own_are = own_stays place run event _ other s.own_are; laid = s.laid }, stood.1)
+    (record { first = s.first; more = s.more; own_are = own_stays place run event _ other s.own_are; laid = s.laid; attached = s.attached; found = s.found }, stood.1)
 
-placing_stays : (file : ℕ) → IsKept (IsPlacingMessage file)
-placing_stays file run place said event other new stood =
+placing_stays : (rows : List InstRow) (file : ℕ) → IsKept (IsPlacingMessage rows file)
+placing_stays rows file run place said event other new stood =
     let s = stood.0 in
-    (record { first = s.first; second = s.second; own_are = own_stays place run event _ other s.own_are; laid = s.laid; took = s.took }, stood.1)
+    (record { front = s.front; second = s.second; own_are = own_stays place run event _ other s.own_are; attached = s.attached; took = s.took }, stood.1)
 
-storing_stays : (file : ℕ) (guid : List ℕ) → IsKept (IsStoringMessage file guid)
-storing_stays file guid run place said event other new stood =
-    let s = stood.0 in
-    (record { first = s.first; second = s.second; third = s.third; own_are = own_stays place run event _ other s.own_are; laid = s.laid; took = s.took; placed = s.placed }, stood.1, guid_stays guid place run event other new stood.2, stood.3)
+storing_stays : (rows : List InstRow) (file : ℕ) (guid : List ℕ) → IsKept (IsStoringMessage rows file guid)
+storing_stays rows file guid run place said event other new stood =
+    let s = stood.0 in (
+      record { front = s.front; second = s.second; third = s.third; own_are = own_stays place run event _ other s.own_are; attached = s.attached; took = s.took; placed = s.placed },
+      stood.1,
+      guid_stays guid place run event other new stood.2,
+      stood.3,
+    )
 
 adding_stays : (guid : List ℕ) (uid : ℕ) → IsKept (IsAddingMessage guid uid)
 adding_stays guid uid run place said event other new stood =
     let s = stood.0 in (
-      record { first = s.first; second = s.second; third = s.third; fourth = s.fourth; file = s.file; own_are = own_stays place run event _ other s.own_are; laid = s.laid; took = s.took; placed = s.placed; stored = s.stored },
+      record {
+        rows = s.rows;
+        file = s.file;
+        front = s.front;
+        second = s.second;
+        third = s.third;
+        fourth = s.fourth;
+        own_are = own_stays place run event _ other s.own_are;
+        attached = s.attached;
+        took = s.took;
+        placed = s.placed;
+        stored = s.stored;
+      },
       guid_stays guid place run event other new stood.1,
       stood.2,
     )
@@ -53,15 +70,16 @@ lowering_stays : (uid : ℕ) (why : Refusal) → IsKept (IsLoweringCount uid why
 lowering_stays uid why run place said event other new stood =
     let s = stood.0 in (
       record {
-        first = s.first;
+        rows = s.rows;
+        file = s.file;
+        guid = s.guid;
+        front = s.front;
         second = s.second;
         third = s.third;
         fourth = s.fourth;
         fifth = s.fifth;
-        file = s.file;
-        guid = s.guid;
         own_are = own_stays place run event _ other s.own_are;
-        laid = s.laid;
+        attached = s.attached;
         took = s.took;
         placed = s.placed;
         stored = s.stored;
@@ -73,9 +91,9 @@ lowering_stays uid why run place said event other new stood =
 
 pub save_kept : (now : SaveStage) → IsKept (IsAtSave now)
 save_kept (stage.First prepared) = not_begun_stays
-save_kept (stage.Taking parts) = taking_stays
-save_kept (stage.Placing parts file) = placing_stays file.0
-save_kept (stage.Storing at origin room) = storing_stays at.file.0 at.guid.0
+save_kept (stage.Taking parts) = taking_stays parts.rows
+save_kept (stage.Placing parts file) = placing_stays parts.rows file.0
+save_kept (stage.Storing at origin rows room) = storing_stays rows at.file.0 at.guid.0
 save_kept (stage.Adding added room) = adding_stays added.guid.0 added.map_uid.0
 save_kept (stage.GivingBack uid why room) = lowering_stays uid.0 why
 save_kept stage.Ended = λ run place said event other new stood. absurd stood

@@ -1,5 +1,5 @@
 -- The last events of a delivery, by the clause of a step: the message is added, or refused, and its record given back.
-use Rattle.std.proofs.Common.{◌≡◌, ◌≤◌, ◌<◌, ◌+◌, ◌^◌, ℕ, Bool, true, false, List, [], ◌∷◌, ◌++◌, ◌⊎◌, Option, Some, None, refl, sym, ◌∙◌, ap, subst, arith, inl, inr}
+use Rattle.std.proofs.Common.{◌≡◌, ◌≤◌, ◌<◌, ◌+◌, ◌^◌, ℕ, Bool, true, false, List, [], ◌∷◌, ◌++◌, ◌⊎◌, Option, Some, None, refl, sym, ◌∙◌, ap, subst, append_assoc, arith, inl, inr}
 use Rattle.std.specs.Prelude.{find, length, if◌then◌else◌, slice_get}
 use Rattle.std.specs.Option.{option_map, option_or}
 use Rattle.std.specs.Str.{bytes_eq}
@@ -238,15 +238,16 @@ lowers_next place lane calls run guid held said why answer stood is cause =
     let s = stood.0 in
     let event : RunEvent = refusal_event lane place Last why None no_numbers calls in (
       record {
-        first = s.first;
+        rows = s.rows;
+        file = s.file;
+        guid = guid;
+        front = s.front;
         second = s.second;
         third = s.third;
         fourth = s.fourth;
         fifth = event;
-        file = s.file;
-        guid = guid;
-        own_are = own_first place run event (s.first ∷ s.second ∷ s.third ∷ s.fourth ∷ []) refl s.own_are;
-        laid = s.laid;
+        own_are = own_first place run event (s.front ++ s.second ∷ s.third ∷ s.fourth ∷ []) refl s.own_are ∙ append_assoc s.front (s.second ∷ s.third ∷ s.fourth ∷ []) (event ∷ []);
+        attached = s.attached;
         took = s.took;
         placed = s.placed;
         stored = s.stored;

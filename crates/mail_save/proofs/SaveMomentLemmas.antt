@@ -46,7 +46,7 @@ pub save_moments : {D : Type 0} → (now next : SaveStage) (name : List ℕ) (ti
 save_moments (stage.First prepared) next name time size answer how old new before after began ended show is runs s octets ready lists at = s.moments lists at
 save_moments (stage.Taking parts) next name time size answer how old new before after began ended show is runs s octets ready lists at = s.moments lists at
 save_moments (stage.Placing parts file) next name time size answer how old new before after began ended show is runs s octets ready lists at = s.moments lists at
-save_moments (stage.Storing place origin room) next name time size answer how old new before after began ended show is runs s octets ready lists at = s.moments lists (ready.1.ready (record { 0 = old.drawn.map + 1 }) lists at) at
+save_moments (stage.Storing place origin rows room) next name time size answer how old new before after began ended show is runs s octets ready lists at = s.moments lists (ready.1.ready (record { 0 = old.drawn.map + 1 }) lists at) at
 save_moments (stage.Adding added room) next name time size answer how old new before after began ended show is runs s octets ready lists at = adding_moments added room name time size next answer how old new before after began ended show is runs s octets ready.1 lists at
 save_moments (stage.GivingBack uid why room) next name time size answer how old new before after began ended show is runs s octets ready lists at = s.moments lists at
 save_moments stage.Ended next name time size answer how old new before after began ended show is runs s octets ready lists at = s.moments lists at
@@ -73,7 +73,7 @@ pub save_rests : {D : Type 0} → (now next : SaveStage) (name : List ℕ) (time
 save_rests (stage.First prepared) next name time size answer how old new before after began ended show is runs s ran octets ready lists at = s.rests ran lists at
 save_rests (stage.Taking parts) next name time size answer how old new before after began ended show is runs s ran octets ready lists at = s.rests ran lists at
 save_rests (stage.Placing parts file) next name time size answer how old new before after began ended show is runs s ran octets ready lists at = s.rests ran lists at
-save_rests (stage.Storing place origin room) next name time size answer how old new before after began ended show is runs s ran octets ready lists at = s.rests ran lists (ready.1.ready (record { 0 = old.drawn.map + 1 }) lists at) at
+save_rests (stage.Storing place origin rows room) next name time size answer how old new before after began ended show is runs s ran octets ready lists at = s.rests ran lists (ready.1.ready (record { 0 = old.drawn.map + 1 }) lists at) at
 save_rests (stage.Adding added room) next name time size answer how old new before after began ended show is runs s ran octets ready lists at = adding_rests added room name time size next answer how old new before after began ended show is runs s ran octets ready.1 lists at
 save_rests (stage.GivingBack uid why room) next name time size answer how old new before after began ended show is runs s ran octets ready lists at = s.rests ran lists at
 save_rests stage.Ended next name time size answer how old new before after began ended show is runs s ran octets ready lists at = s.rests ran lists at

@@ -4,6 +4,7 @@ use Rattle.std.specs.Prelude.{nat_lt, nat_le, is_none, length, slice_get}
 use Rattle.std.specs.Option.{option_or}
 use Rattle.mdbox_base.specs.Streams.{Rose}
 use Rattle.mdbox_base.specs.declared.entries.Highest.{Highest}
+use Rattle.mdbox_base.specs.declared.entries.InstRow.{InstRow}
 use Rattle.mdbox_base.specs.declared.progress.Did.TheVariants as did
 use Rattle.mdbox_base.specs.declared.replies.Refusal.{Refusal}
 use Rattle.mdbox_base.specs.declared.replies.Refusal.TheVariants as refusal
@@ -151,14 +152,14 @@ checked_save around after name time octets part Stood Stands why old new sees en
 pub first_at : (around : Around) (q : Request) → IsNextAt HasNotBegun around q First
 first_at around q = record { next = λ run place said stood. ap (λ (es : List RunEvent). next_part around run q es) stood.0 }
 
-pub taking_at : (around : Around) (name : List ℕ) (time : ℕ) (octets : List ℕ) → around.parts ≡ 0 → IsNextAt IsTakingFile around (deliver name time octets) (TakesFile (is_none around.room))
-taking_at around name time octets none = record { next = λ run place said stood. takes_next around run name time octets (own_events place run) none stood.0 }
+pub taking_at : (around : Around) (name : List ℕ) (time : ℕ) (octets : List ℕ) (rows : List InstRow) → around.parts ≡ 0 → IsNextAt (IsTakingFile rows) around (deliver name time octets) (TakesFile (is_none around.room))
+taking_at around name time octets rows none = record { next = λ run place said stood. takes_next around run name time octets rows place none stood.0 }
 
-pub placing_at : (around : Around) (name : List ℕ) (time : ℕ) (octets : List ℕ) (file : ℕ) → IsNextAt (IsPlacingMessage file) around (deliver name time octets) PlacesMessage
-placing_at around name time octets file = record { next = λ run place said stood. places_next around run name time octets file (own_events place run) stood.0 }
+pub placing_at : (around : Around) (name : List ℕ) (time : ℕ) (octets : List ℕ) (rows : List InstRow) (file : ℕ) → IsNextAt (IsPlacingMessage rows file) around (deliver name time octets) PlacesMessage
+placing_at around name time octets rows file = record { next = λ run place said stood. places_next around run name time octets rows file (own_events place run) stood.0 }
 
-pub storing_at : (around : Around) (name : List ℕ) (time : ℕ) (octets : List ℕ) (file : ℕ) (guid : List ℕ) → IsNextAt (IsStoringMessage file guid) around (deliver name time octets) StoresRecord
-storing_at around name time octets file guid = record { next = λ run place said stood. stores_next around run name time octets file guid (own_events place run) stood.0 }
+pub storing_at : (around : Around) (name : List ℕ) (time : ℕ) (octets : List ℕ) (rows : List InstRow) (file : ℕ) (guid : List ℕ) → IsNextAt (IsStoringMessage rows file guid) around (deliver name time octets) StoresRecord
+storing_at around name time octets rows file guid = record { next = λ run place said stood. stores_next around run name time octets rows file guid (own_events place run) stood.0 }
 
 pub lowering_why : (why : Refusal) → (is_step why ≡ true) ⊎ (why ≡ refusal.NoMemory) → why ≡ refusal.Stopped → ⊥
 lowering_why why (inl s) e = step_runs why s e

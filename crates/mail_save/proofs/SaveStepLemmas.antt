@@ -11,6 +11,7 @@ use Rattle.mdbox_base.specs.Words.{IsOctets}
 use Rattle.mdbox_base.specs.declared.entries.BoxEntry.{BoxEntry}
 use Rattle.mdbox_base.specs.declared.entries.BoxEntry.TheVariants as box_entry
 use Rattle.mdbox_base.specs.declared.entries.Highest.{Highest}
+use Rattle.mdbox_base.specs.declared.entries.InstRow.{InstRow}
 use Rattle.mdbox_base.specs.declared.ids.BoxNo.{BoxNo}
 use Rattle.mdbox_base.specs.declared.ids.FileNo.{FileNo}
 use Rattle.mdbox_base.specs.declared.ids.Guid.{Guid}
@@ -44,7 +45,7 @@ use Rattle.store_core.specs.Knows.{may_have_given}
 use Rattle.store_core.specs.Value.{StoreValue, indexes_of, list_named, references_to}
 use Rattle.store_core.proofs.BoxCrashLemmas.{leaves_none}
 use Rattle.store_core.proofs.ShownLemmas.{refs_shown}
-use Rattle.task_steps.specs.Step.{HasComeTo, Steps, ended_by}
+use Rattle.task_steps.specs.Step.{HasComeTo, HasNotBegun, Steps, ended_by}
 use Rattle.mail_save.specs.Added.{HasRoomUnder, entry_added}
 use Rattle.mail_save.specs.Events.{box_refusal, save_refusal, uid_refusal, has_detachable}
 use Rattle.mail_save.specs.Parts.{origin_of}
@@ -76,7 +77,7 @@ pub record EventOf {D : Type 0} (now next : SaveStage) (name : List ℕ) (time s
   pub is : IsStore before old
   pub order : AreFilesInOrder old.files
   pub ran : old.stopped ≡ false
-  pub left : HasLeft now name time old
+  pub left : HasLeft now name time old before
   pub ready : IsReadyToSave now name time size octets old before
   pub whole : has_detachable octets ≡ false
   pub timed : time < 2 ^ 64
@@ -153,13 +154,14 @@ first_more prepared parts name time size octets how old new before after began f
     let runs = not_stopped new.stopped (progress.More ≡ stopped_reply) s.stopped more_differs in
     let drawn = ap (λ (v : StoreValue _). v.drawn) same in
     with_did octets (stage.First prepared) (stage.Taking parts) name time progress.More how did.Quiet old new before after began faulted s.did_is
-    (λ after_it. begins_save (around_saving octets (stage.First prepared) old) after_it name time octets (seen_saving old before began) (seen_saving new after faulted) (sees_around octets (stage.First prepared) old before began e.is e.order e.whole)
+    (λ after_it. subst (λ (rows : List InstRow). Steps HasNotBegun (IsTakingFile rows) (around_saving octets (stage.First prepared) old) after_it (request.Deliver name time octets) (seen_saving old before began) (seen_saving new after faulted) did.Quiet None) (sym (s.effects.2 octets e.ready.1).rows)
+    (begins_save (around_saving octets (stage.First prepared) old) after_it name time octets (seen_saving old before began) (seen_saving new after faulted) (sees_around octets (stage.First prepared) old before began e.is e.order e.whole)
     (record {
       run = has_run old new before after began faulted e.ran runs (ap (λ (v : StoreValue _). v.map.boxes) same) (ap (λ (v : StoreValue _). indexes_of v.boxes) same) s.moments (s.rests runs) s.grows (s.unfailed more_differs);
       map = ap (λ (v : StoreValue _). v.map) same;
       due = λ uid. ap (λ (v : StoreValue _). due_at uid v) same;
     }) drawn (tells_store old new before after began faulted (ap (λ (v : StoreValue _). v.map.store) same) (let d = ap (λ (v : StoreValue _). v.drawn.file) same in omega (arith, d)) (same_ends old new (λ n. ap (λ (v : StoreValue _). end_in n v.files.files) same)))
-    (λ run lists event come shows. first_checked run name time octets old before began lists event come shows.1 ∙ s.effects.1))
+    (λ run lists event come shows. first_checked run name time octets old before began lists event come shows.1 ∙ s.effects.1)))
     behind
 
 -- a store that was left as it was
@@ -246,12 +248,17 @@ taking_more parts laid file name time size octets how old new before after began
     sees : SeesAround octets (around_saving octets (stage.Taking parts) old) (seen_saving old before began)
     sees = sees_around octets (stage.Taking parts) old before began e.is e.order e.whole
 
+    as_laid : (behind : Around) → Steps (IsTakingFile parts.rows) (IsPlacingMessage parts.rows file.0) (around_saving octets (stage.Taking parts) old) behind (request.Deliver name time octets) (seen_saving old before began) (seen_saving new after faulted) did.Quiet None
+        → Steps (IsTakingFile parts.rows) (IsPlacingMessage laid.rows file.0) (around_saving octets (stage.Taking parts) old) behind (request.Deliver name time octets) (seen_saving old before began) (seen_saving new after faulted) did.Quiet None
+    as_laid behind does =
+        subst (λ (p : SavedParts). Steps (IsTakingFile parts.rows) (IsPlacingMessage p.rows file.0) (around_saving octets (stage.Taking parts) old) behind (request.Deliver name time octets) (seen_saving old before began) (seen_saving new after faulted) did.Quiet None) (sym e.saves.effects.0) does
+
     by_take : (take : Take) → IsTakeFor (length parts.region) old.files take → TookAs take (length parts.header) file old new → DeliveryClause octets (stage.Taking parts) (stage.Placing laid file) name time progress.More did.Quiet old new before after began faulted
     by_take (Known taken) is took = λ behind.
         let most = subst (λ (n : FileNo). All (λ g. MayBeTakenFor (length parts.region) g → g.file.0 ≤ n.0) old.files.files) (sym is.2) is.4 in
         let room = known_room (length parts.region) old.files.files is.0 e.order.rising is.1 is.3 most ∙ ap (λ (n : FileNo). Some n.0) (is.2 ∙ took.0) in
-        takes_known (around_saving octets (stage.Taking parts) old) behind name time octets file.0 (seen_saving old before began) (seen_saving new after faulted) sees room keeps took.1
-        (tells_store old new before after began faulted id (let d = ap (λ (h : Highest). h.file) took.1 in omega (arith, d)) (same_ends old new took.2))
+        as_laid behind (takes_known (around_saving octets (stage.Taking parts) old) behind name time octets parts.rows file.0 (seen_saving old before began) (seen_saving new after faulted) sees room keeps took.1
+        (tells_store old new before after began faulted id (let d = ap (λ (h : Highest). h.file) took.1 in omega (arith, d)) (same_ends old new took.2)))
     by_take (New taken) is took = λ behind.
         let high = e.is.files.highest in
         let fresh = is.1 in
@@ -259,7 +266,7 @@ taking_more parts laid file name time size octets how old new before after began
         let named = ap (λ (n : FileNo). n.0) took.0 in
         let next : file.0 ≡ old.drawn.file + 1 = omega (arith, high, fresh, named) in
         let drawn = ap (λ (h : Highest). h.file) took.1 in
-        takes_new (around_saving octets (stage.Taking parts) old) behind name time octets file.0 (seen_saving old before began) (seen_saving new after faulted) sees (no_room (length parts.region) old.files.files is.0) next (omega (arith, high, less)) keeps (took.1 ∙ drawn_file old.drawn file.0 next)
+        as_laid behind (takes_new (around_saving octets (stage.Taking parts) old) behind name time octets parts.rows file.0 (seen_saving old before began) (seen_saving new after faulted) sees (no_room (length parts.region) old.files.files is.0) next (omega (arith, high, less)) keeps (took.1 ∙ drawn_file old.drawn file.0 next)
         (λ event none itself. record {
           pins = λ n. refl;
           doomed = λ n. refl;
@@ -272,7 +279,7 @@ taking_more parts laid file name time size octets how old new before after began
             | inr apart ↦ inl (ap (λ (o : Option ℕ). is_some o) (sym (took.4 n apart)) ∙ there)
           ];
           instances = λ i. refl;
-        })
+        }))
     by_take Full is took = absurd took
 
 pub taking_refused : {D : Type 0} → (parts : SavedParts) (why : Refusal) (name : List ℕ) (time size : ℕ) (octets : List ℕ) (how : Did) (old new : StoreValue D) (before after : Option History) (began faulted : Faults) → EventOf (stage.Taking parts) stage.Ended name time size octets (progress.Done (reply.Refused why)) how old new before after began faulted
@@ -294,8 +301,8 @@ taking_refused parts why name time size octets how old new before after began fa
         let same = e.saves.unfailed (refused_differs why other) in
         with_did octets (stage.Taking parts) stage.Ended name time (progress.Done (reply.Refused why)) how did.Quiet old new before after began faulted (e.saves.did_is ∙ ap failing_did m.0)
         (subst (λ (w : Refusal). DeliveryClause octets (stage.Taking parts) stage.Ended name time (progress.Done (reply.Refused w)) did.Quiet old new before after began faulted) (sym m.0)
-        (λ behind. forgotten_save (around_saving octets (stage.Taking parts) old) behind name time octets (TakesFile (is_none (room_among (length parts.region) old.files.files))) IsTakingFile (IsAtSave stage.Ended) (seen_saving old before began) (seen_saving new after faulted) sees (ends_taking name time octets _)
-        (taking_at (around_saving octets (stage.Taking parts) old) name time octets sees.whole) refl (λ run place said stood. stood.1) (goes other (ap (λ (v : StoreValue _). v.map) m.1) (ap (λ (v : StoreValue _). v.boxes) m.1))
+        (λ behind. forgotten_save (around_saving octets (stage.Taking parts) old) behind name time octets (TakesFile (is_none (room_among (length parts.region) old.files.files))) (IsTakingFile parts.rows) (IsAtSave stage.Ended) (seen_saving old before began) (seen_saving new after faulted) sees (ends_taking name time octets _)
+        (taking_at (around_saving octets (stage.Taking parts) old) name time octets parts.rows sees.whole) refl (λ run place said stood. stood.1) (goes other (ap (λ (v : StoreValue _). v.map) m.1) (ap (λ (v : StoreValue _). v.boxes) m.1))
         (stays_same old new before after began faulted m.1 e.saves.grows (same_reads began faulted same) (same_changes began faulted same))))
     by_cause (inr (inl f)) =
         let step : is_step why ≡ true = ap is_step f.0 in
@@ -306,8 +313,8 @@ taking_refused parts why name time size octets how old new before after began fa
         let high = e.is.files.highest in
         let full = f.1.full.1 in
         with_did octets (stage.Taking parts) stage.Ended name time (progress.Done (reply.Refused why)) how (did.Step half.Whole) old new before after began faulted (e.saves.did_is ∙ step_did why step)
-        (λ behind. checked_save (around_saving octets (stage.Taking parts) old) behind name time octets (TakesFile (is_none (room_among (length parts.region) old.files.files))) IsTakingFile (IsAtSave stage.Ended) why (seen_saving old before began) (seen_saving new after faulted) sees (ends_taking name time octets _)
-        (taking_at (around_saving octets (stage.Taking parts) old) name time octets sees.whole) (λ run place said stood. stood.1) step
+        (λ behind. checked_save (around_saving octets (stage.Taking parts) old) behind name time octets (TakesFile (is_none (room_among (length parts.region) old.files.files))) (IsTakingFile parts.rows) (IsAtSave stage.Ended) why (seen_saving old before began) (seen_saving new after faulted) sees (ends_taking name time octets _)
+        (taking_at (around_saving octets (stage.Taking parts) old) name time octets parts.rows sees.whole) (λ run place said stood. stood.1) step
         (λ run lists event come shows. full_files name time octets (around_saving octets (stage.Taking parts) old) (seen_saving old before began) (no_room (length parts.region) old.files.files f.1.full.0) (omega (arith, high, full)) run lists event come shows ∙ ap (λ (w : Refusal). Some w) (sym f.0))
         (goes other map (ap (λ (v : StoreValue _). v.boxes) k))
         (stays_so no_numbers old new before after began faulted map (ap (λ (v : StoreValue _). v.drawn) k ∙ sym (drawn_none old.drawn)) (ap (λ (v : StoreValue _). v.dues) k) (ap (λ (v : StoreValue _). indexes_of v.boxes) k) (let d = ap (λ (v : StoreValue _). v.drawn.file) k in omega (arith, d))
@@ -324,8 +331,8 @@ taking_refused parts why name time size octets how old new before after began fa
         let number = ap (λ (h : Highest). h.file) drawn in
         with_did octets (stage.Taking parts) stage.Ended name time (progress.Done (reply.Refused why)) how did.Failed old new before after began faulted (s.did_is ∙ ap failing_did f.0)
         (subst (λ (w : Refusal). DeliveryClause octets (stage.Taking parts) stage.Ended name time (progress.Done (reply.Refused w)) did.Failed old new before after began faulted) (sym f.0)
-        (λ behind. fallen_save (around_saving octets (stage.Taking parts) old) behind name time octets (TakesFile (is_none (room_among (length parts.region) old.files.files))) IsTakingFile (IsAtSave stage.Ended) (record no_numbers { file = 1 }) (seen_saving old before began) (seen_saving new after faulted) sees (ends_taking name time octets _)
-        (taking_at (around_saving octets (stage.Taking parts) old) name time octets sees.whole)
+        (λ behind. fallen_save (around_saving octets (stage.Taking parts) old) behind name time octets (TakesFile (is_none (room_among (length parts.region) old.files.files))) (IsTakingFile parts.rows) (IsAtSave stage.Ended) (record no_numbers { file = 1 }) (seen_saving old before began) (seen_saving new after faulted) sees (ends_taking name time octets _)
+        (taking_at (around_saving octets (stage.Taking parts) old) name time octets parts.rows sees.whole)
         (λ run event. inr (sym (ap (λ (o : Option ℕ). draws run event (request.Deliver name time octets) (TakesFile (is_none o))) (no_room (length parts.region) old.files.files f.1.is.0))))
         (stays_so (record no_numbers { file = 1 }) old new before after began faulted map (drawn ∙ drawn_file old.drawn f.1.file.0 next) (ap (λ (v : StoreValue _). v.dues) k) (ap (λ (v : StoreValue _). indexes_of v.boxes) k) (omega (arith, number, next)) (same_ends old new f.1.ends) s.grows (equal_reads began faulted s.fault.reads) s.fault.changes)
         e.ran (s.stopped.0 stop) (s.fault.rose stop) (λ lists t. s.moments lists t)))
@@ -338,9 +345,9 @@ some_end a b e = cc e
 past_still : (offset end size : ℕ) → is_before offset (Some end) ≡ true → is_before offset (Some (end + size)) ≡ true
 past_still offset end size b = let l = lt_true offset end b in true_lt offset (end + size) (omega (arith, l))
 
-pub placing_more : {D : Type 0} → (parts : SavedParts) (file : FileNo) (at : SavedAt) (origin : ℕ) (room : LowerRoom) (name : List ℕ) (time size : ℕ) (octets : List ℕ) (how : Did) (old new : StoreValue D) (before after : Option History) (began faulted : Faults) → EventOf (stage.Placing parts file) (stage.Storing at origin room) name time size octets progress.More how old new before after began faulted
-    → DeliveryClause octets (stage.Placing parts file) (stage.Storing at origin room) name time progress.More how old new before after began faulted
-placing_more parts file at origin room name time size octets how old new before after began faulted e =
+pub placing_more : {D : Type 0} → (parts : SavedParts) (file : FileNo) (at : SavedAt) (origin : ℕ) (rows : List InstRow) (room : LowerRoom) (name : List ℕ) (time size : ℕ) (octets : List ℕ) (how : Did) (old new : StoreValue D) (before after : Option History) (began faulted : Faults) → EventOf (stage.Placing parts file) (stage.Storing at origin rows room) name time size octets progress.More how old new before after began faulted
+    → DeliveryClause octets (stage.Placing parts file) (stage.Storing at origin rows room) name time progress.More how old new before after began faulted
+placing_more parts file at origin rows room name time size octets how old new before after began faulted e =
     let s = e.saves in
     let p = s.effects in
     let runs = not_stopped new.stopped (progress.More ≡ stopped_reply) s.stopped more_differs in
@@ -358,9 +365,10 @@ placing_more parts file at origin room name time size octets how old new before 
     let near : at.offset < 2 ^ 32 = omega (arith, began_at, fits) in
     let fresh = ap (may_have_given old) p.guid ∙ place_new old file.0 at.offset e.id_long small near p.began in
     let gave = ap (may_have_given new) p.guid ∙ place_given new old.map.store file.0 at.offset (at.offset + at.size) (ap (λ (m : MapMeaning). m.store) map) e.id_long small near (omega (arith, low, high, number)) p.ends (omega (arith, some, long)) in
-    with_did octets (stage.Placing parts file) (stage.Storing at origin room) name time progress.More how did.Quiet old new before after began faulted s.did_is
-    (λ behind. subst (λ (n : FileNo). Steps (IsPlacingMessage file.0) (IsStoringMessage n.0 at.guid.0) (around_saving octets (stage.Placing parts file) old) behind (request.Deliver name time octets) (seen_saving old before began) (seen_saving new after faulted) did.Quiet None) (sym p.file_is)
-    (places_message (around_saving octets (stage.Placing parts file) old) behind name time octets file.0 at.guid.0 (seen_saving old before began) (seen_saving new after faulted) (sees_around octets (stage.Placing parts file) old before began e.is e.order e.whole)
+    with_did octets (stage.Placing parts file) (stage.Storing at origin rows room) name time progress.More how did.Quiet old new before after began faulted s.did_is
+    (λ behind. subst (λ (is : List InstRow). Steps (IsPlacingMessage parts.rows file.0) (IsStoringMessage is at.file.0 at.guid.0) (around_saving octets (stage.Placing parts file) old) behind (request.Deliver name time octets) (seen_saving old before began) (seen_saving new after faulted) did.Quiet None) (sym p.rows_are)
+    (subst (λ (n : FileNo). Steps (IsPlacingMessage parts.rows file.0) (IsStoringMessage parts.rows n.0 at.guid.0) (around_saving octets (stage.Placing parts file) old) behind (request.Deliver name time octets) (seen_saving old before began) (seen_saving new after faulted) did.Quiet None) (sym p.file_is)
+    (places_message (around_saving octets (stage.Placing parts file) old) behind name time octets parts.rows file.0 at.guid.0 (seen_saving old before began) (seen_saving new after faulted) (sees_around octets (stage.Placing parts file) old before began e.is e.order e.whole)
     (ap length p.guid ∙ place_long old.map.store file.0 at.offset e.id_long) (subst IsOctets (sym p.guid) (place_octets old.map.store file.0 at.offset e.id_octets)) (ap (guid_file old.map.store) p.guid ∙ place_file old.map.store file.0 at.offset e.id_long (omega (arith, low, last))) fresh
     (record {
       run = has_run old new before after began faulted e.ran runs (ap (λ (m : MapMeaning). m.boxes) map) (ap (λ (v : StoreValue _). indexes_of v.boxes) p.same) s.moments (s.rests runs) s.grows (s.unfailed more_differs);
@@ -378,7 +386,7 @@ placing_more parts file at origin room name time size octets how old new before 
         | inl same ↦ ap (λ (k : ℕ). is_some (end_in k old.files.files)) same ∙ ap (λ (o : Option ℕ). is_some o) p.began
         | inr apart ↦ ap (λ (o : Option ℕ). is_some o) (sym (p.others n apart)) ∙ there
       ];
-    })) gave))
+    })) gave)))
 
 -- one that left the store as it was, of which a change failed
 stays_alone : {D : Type 0} → (old new : StoreValue D) (before after : Option History) (began faulted : Faults) → IsLeftAlone old new → Grows before after → faulted.reads ≡ began.reads → began.changes ≤ faulted.changes → StaysSo no_numbers (seen_saving old before began) (seen_saving new after faulted)
@@ -394,17 +402,17 @@ placing_refused parts file why name time size octets how old new before after be
     let stop : progress.Done (reply.Refused why) ≡ stopped_reply = ap (λ (w : Refusal). progress.Done (reply.Refused w)) is in
     with_did octets (stage.Placing parts file) stage.Ended name time (progress.Done (reply.Refused why)) how did.Failed old new before after began faulted (s.did_is ∙ ap failing_did is)
     (subst (λ (w : Refusal). DeliveryClause octets (stage.Placing parts file) stage.Ended name time (progress.Done (reply.Refused w)) did.Failed old new before after began faulted) (sym is)
-    (λ behind. fallen_save (around_saving octets (stage.Placing parts file) old) behind name time octets PlacesMessage (IsPlacingMessage file.0) (IsAtSave stage.Ended) no_numbers (seen_saving old before began) (seen_saving new after faulted) (sees_around octets (stage.Placing parts file) old before began e.is e.order e.whole) (ends_placing name time octets)
-    (placing_at (around_saving octets (stage.Placing parts file) old) name time octets file.0) (λ run event. inl refl) (stays_alone old new before after began faulted s.effects s.grows s.fault.reads s.fault.changes) e.ran (s.stopped.0 stop) (s.fault.rose stop) (λ lists t. s.moments lists t)))
+    (λ behind. fallen_save (around_saving octets (stage.Placing parts file) old) behind name time octets PlacesMessage (IsPlacingMessage parts.rows file.0) (IsAtSave stage.Ended) no_numbers (seen_saving old before began) (seen_saving new after faulted) (sees_around octets (stage.Placing parts file) old before began e.is e.order e.whole) (ends_placing name time octets)
+    (placing_at (around_saving octets (stage.Placing parts file) old) name time octets parts.rows file.0) (λ run event. inl refl) (stays_alone old new before after began faulted s.effects s.grows s.fault.reads s.fault.changes) e.ran (s.stopped.0 stop) (s.fault.rose stop) (λ lists t. s.moments lists t)))
 
 -- ---- the message is stored
 
 own_save : (octets : List ℕ) → has_detachable octets ≡ false → origin_of octets ≡ 0
 own_save octets whole = ap (λ (b : Bool). if b then 1 else 0) whole
 
-pub storing_more : {D : Type 0} → (at : SavedAt) (origin : ℕ) (room left : LowerRoom) (added : Added) (name : List ℕ) (time size : ℕ) (octets : List ℕ) (how : Did) (old new : StoreValue D) (before after : Option History) (began faulted : Faults) → EventOf (stage.Storing at origin room) (stage.Adding added left) name time size octets progress.More how old new before after began faulted
-    → DeliveryClause octets (stage.Storing at origin room) (stage.Adding added left) name time progress.More how old new before after began faulted
-storing_more at origin room left added name time size octets how old new before after began faulted e =
+pub storing_more : {D : Type 0} → (at : SavedAt) (origin : ℕ) (rows : List InstRow) (room left : LowerRoom) (added : Added) (name : List ℕ) (time size : ℕ) (octets : List ℕ) (how : Did) (old new : StoreValue D) (before after : Option History) (began faulted : Faults) → EventOf (stage.Storing at origin rows room) (stage.Adding added left) name time size octets progress.More how old new before after began faulted
+    → DeliveryClause octets (stage.Storing at origin rows room) (stage.Adding added left) name time progress.More how old new before after began faulted
+storing_more at origin rows room left added name time size octets how old new before after began faulted e =
     let s = e.saves in
     let p = s.effects in
     let r = e.ready.1 in
@@ -412,20 +420,20 @@ storing_more at origin room left added name time size octets how old new before 
     let none : origin ≡ 0 = r.origin_is ∙ own_save octets e.whole in
     let drawn = p.drawn ∙ drawn_map old.drawn added.map_uid.0 p.uid_is in
     let number = ap (λ (h : Highest). h.file) p.drawn in
-    with_did octets (stage.Storing at origin room) (stage.Adding added left) name time progress.More how did.Quiet old new before after began faulted s.did_is
-    (λ behind. subst (λ (g : Guid). Steps (IsStoringMessage at.file.0 at.guid.0) (IsAddingMessage g.0 added.map_uid.0) (around_saving octets (stage.Storing at origin room) old) behind (request.Deliver name time octets) (seen_saving old before began) (seen_saving new after faulted) did.Quiet None) (sym p.guid_is)
-    (stores_message (around_saving octets (stage.Storing at origin room) old) behind name time octets at.file.0 at.guid.0 added.map_uid.0 at.size at.offset (seen_saving old before began) (seen_saving new after faulted) (sees_around octets (stage.Storing at origin room) old before began e.is e.order e.whole)
+    with_did octets (stage.Storing at origin rows room) (stage.Adding added left) name time progress.More how did.Quiet old new before after began faulted s.did_is
+    (λ behind. subst (λ (g : Guid). Steps (IsStoringMessage rows at.file.0 at.guid.0) (IsAddingMessage g.0 added.map_uid.0) (around_saving octets (stage.Storing at origin rows room) old) behind (request.Deliver name time octets) (seen_saving old before began) (seen_saving new after faulted) did.Quiet None) (sym p.guid_is)
+    (stores_message (around_saving octets (stage.Storing at origin rows room) old) behind name time octets rows at.file.0 at.guid.0 added.map_uid.0 at.size at.offset (seen_saving old before began) (seen_saving new after faulted) (sees_around octets (stage.Storing at origin rows room) old before began e.is e.order e.whole)
     p.uid_is p.few (sym e.left.0.guid_offset)
     (has_run old new before after began faulted e.ran runs p.mailboxes (ap (λ (v : StoreValue _). indexes_of v.boxes) p.same) (λ lists t. s.moments lists (r.ready (record { 0 = old.drawn.map + 1 }) lists t) t) (λ lists t. s.rests runs lists (r.ready (record { 0 = old.drawn.map + 1 }) lists t) t) s.grows (s.unfailed more_differs))
-    (subst (λ (n : ℕ). new.map ≡ map_applied (entry_stored n added.map_uid at) old.map) none p.map) drawn (λ other. p.due other)
+    (subst (λ (n : ℕ). new.map ≡ map_applied (entry_stored n rows added.map_uid at) old.map) none p.map) drawn (λ other. p.due other)
     (tells_store old new before after began faulted (ap (λ (m : MapMeaning). m.store) p.map) (omega (arith, number)) (same_ends old new p.ends))))
 
-pub storing_refused : {D : Type 0} → (at : SavedAt) (origin : ℕ) (room : LowerRoom) (why : Refusal) (name : List ℕ) (time size : ℕ) (octets : List ℕ) (how : Did) (old new : StoreValue D) (before after : Option History) (began faulted : Faults) → EventOf (stage.Storing at origin room) stage.Ended name time size octets (progress.Done (reply.Refused why)) how old new before after began faulted
-    → DeliveryClause octets (stage.Storing at origin room) stage.Ended name time (progress.Done (reply.Refused why)) how old new before after began faulted
-storing_refused at origin room why name time size octets how old new before after began faulted e = by_cause e.saves.replies e.saves.effects
+pub storing_refused : {D : Type 0} → (at : SavedAt) (origin : ℕ) (rows : List InstRow) (room : LowerRoom) (why : Refusal) (name : List ℕ) (time size : ℕ) (octets : List ℕ) (how : Did) (old new : StoreValue D) (before after : Option History) (began faulted : Faults) → EventOf (stage.Storing at origin rows room) stage.Ended name time size octets (progress.Done (reply.Refused why)) how old new before after began faulted
+    → DeliveryClause octets (stage.Storing at origin rows room) stage.Ended name time (progress.Done (reply.Refused why)) how old new before after began faulted
+storing_refused at origin rows room why name time size octets how old new before after began faulted e = by_cause e.saves.replies e.saves.effects
   where
-    sees : SeesAround octets (around_saving octets (stage.Storing at origin room) old) (seen_saving old before began)
-    sees = sees_around octets (stage.Storing at origin room) old before began e.is e.order e.whole
+    sees : SeesAround octets (around_saving octets (stage.Storing at origin rows room) old) (seen_saving old before began)
+    sees = sees_around octets (stage.Storing at origin rows room) old before began e.is e.order e.whole
 
     goes : (why ≡ refusal.Stopped → ⊥) → GivesFileBack at.file.0 old new → HasRun (seen_saving old before began) (seen_saving new after faulted)
     goes other k =
@@ -441,37 +449,37 @@ storing_refused at origin room why name time size octets how old new before afte
         stays_so no_numbers old new before after began faulted (ap (λ (v : StoreValue _). v.map) k.same) (ap (λ (v : StoreValue _). v.drawn) k.same ∙ sym (drawn_none old.drawn)) (ap (λ (v : StoreValue _). v.dues) k.same) (ap (λ (v : StoreValue _). indexes_of v.boxes) k.same)
         (let d = ap (λ (v : StoreValue _). v.drawn.file) k.same in omega (arith, d)) (same_ends old new k.ends) e.saves.grows (same_reads began faulted same) (same_changes began faulted same)
 
-    full : why ≡ refusal.StoreFull 4294967294 → nat_le 4294967294 old.drawn.map ≡ true → (why ≡ refusal.Stopped → ⊥) → GivesFileBack at.file.0 old new → DeliveryClause octets (stage.Storing at origin room) stage.Ended name time (progress.Done (reply.Refused why)) how old new before after began faulted
+    full : why ≡ refusal.StoreFull 4294967294 → nat_le 4294967294 old.drawn.map ≡ true → (why ≡ refusal.Stopped → ⊥) → GivesFileBack at.file.0 old new → DeliveryClause octets (stage.Storing at origin rows room) stage.Ended name time (progress.Done (reply.Refused why)) how old new before after began faulted
     full is used other k =
         let step : is_step why ≡ true = ap is_step is in
-        with_did octets (stage.Storing at origin room) stage.Ended name time (progress.Done (reply.Refused why)) how (did.Step half.Whole) old new before after began faulted (e.saves.did_is ∙ step_did why step)
-        (λ behind. checked_save (around_saving octets (stage.Storing at origin room) old) behind name time octets StoresRecord (IsAtSave (stage.Storing at origin room)) (IsAtSave stage.Ended) why (seen_saving old before began) (seen_saving new after faulted) sees (ends_storing name time octets)
-        (storing_at (around_saving octets (stage.Storing at origin room) old) name time octets at.file.0 at.guid.0) (λ run place said stood. stood.3) step
+        with_did octets (stage.Storing at origin rows room) stage.Ended name time (progress.Done (reply.Refused why)) how (did.Step half.Whole) old new before after began faulted (e.saves.did_is ∙ step_did why step)
+        (λ behind. checked_save (around_saving octets (stage.Storing at origin rows room) old) behind name time octets StoresRecord (IsAtSave (stage.Storing at origin rows room)) (IsAtSave stage.Ended) why (seen_saving old before began) (seen_saving new after faulted) sees (ends_storing name time octets)
+        (storing_at (around_saving octets (stage.Storing at origin rows room) old) name time octets rows at.file.0 at.guid.0) (λ run place said stood. stood.3) step
         (λ run lists event come shows. full_uids name time octets (seen_saving old before began) used run lists event come shows ∙ ap (λ (w : Refusal). Some w) (sym is)) (goes other k) (stays other k))
 
-    forgotten : why ≡ refusal.NoMemory → (why ≡ refusal.Stopped → ⊥) → GivesFileBack at.file.0 old new → DeliveryClause octets (stage.Storing at origin room) stage.Ended name time (progress.Done (reply.Refused why)) how old new before after began faulted
+    forgotten : why ≡ refusal.NoMemory → (why ≡ refusal.Stopped → ⊥) → GivesFileBack at.file.0 old new → DeliveryClause octets (stage.Storing at origin rows room) stage.Ended name time (progress.Done (reply.Refused why)) how old new before after began faulted
     forgotten m other k =
-        with_did octets (stage.Storing at origin room) stage.Ended name time (progress.Done (reply.Refused why)) how did.Quiet old new before after began faulted (e.saves.did_is ∙ ap failing_did m)
-        (subst (λ (w : Refusal). DeliveryClause octets (stage.Storing at origin room) stage.Ended name time (progress.Done (reply.Refused w)) did.Quiet old new before after began faulted) (sym m)
-        (λ behind. forgotten_save (around_saving octets (stage.Storing at origin room) old) behind name time octets StoresRecord (IsAtSave (stage.Storing at origin room)) (IsAtSave stage.Ended) (seen_saving old before began) (seen_saving new after faulted) sees (ends_storing name time octets)
-        (storing_at (around_saving octets (stage.Storing at origin room) old) name time octets at.file.0 at.guid.0) refl (λ run place said stood. stood.3) (goes other k) (stays other k)))
+        with_did octets (stage.Storing at origin rows room) stage.Ended name time (progress.Done (reply.Refused why)) how did.Quiet old new before after began faulted (e.saves.did_is ∙ ap failing_did m)
+        (subst (λ (w : Refusal). DeliveryClause octets (stage.Storing at origin rows room) stage.Ended name time (progress.Done (reply.Refused w)) did.Quiet old new before after began faulted) (sym m)
+        (λ behind. forgotten_save (around_saving octets (stage.Storing at origin rows room) old) behind name time octets StoresRecord (IsAtSave (stage.Storing at origin rows room)) (IsAtSave stage.Ended) (seen_saving old before began) (seen_saving new after faulted) sees (ends_storing name time octets)
+        (storing_at (around_saving octets (stage.Storing at origin rows room) old) name time octets rows at.file.0 at.guid.0) refl (λ run place said stood. stood.3) (goes other k) (stays other k)))
 
-    fell : why ≡ refusal.Stopped → IsLeftAlone old new → DeliveryClause octets (stage.Storing at origin room) stage.Ended name time (progress.Done (reply.Refused why)) how old new before after began faulted
+    fell : why ≡ refusal.Stopped → IsLeftAlone old new → DeliveryClause octets (stage.Storing at origin rows room) stage.Ended name time (progress.Done (reply.Refused why)) how old new before after began faulted
     fell is k =
         let s = e.saves in
         let r = e.ready.1 in
         let stop : progress.Done (reply.Refused why) ≡ stopped_reply = ap (λ (w : Refusal). progress.Done (reply.Refused w)) is in
-        with_did octets (stage.Storing at origin room) stage.Ended name time (progress.Done (reply.Refused why)) how did.Failed old new before after began faulted (s.did_is ∙ ap failing_did is)
-        (subst (λ (w : Refusal). DeliveryClause octets (stage.Storing at origin room) stage.Ended name time (progress.Done (reply.Refused w)) did.Failed old new before after began faulted) (sym is)
-        (λ behind. fallen_save (around_saving octets (stage.Storing at origin room) old) behind name time octets StoresRecord (IsAtSave (stage.Storing at origin room)) (IsAtSave stage.Ended) no_numbers (seen_saving old before began) (seen_saving new after faulted) sees (ends_storing name time octets)
-        (storing_at (around_saving octets (stage.Storing at origin room) old) name time octets at.file.0 at.guid.0) (λ run event. inl refl) (stays_alone old new before after began faulted k s.grows s.fault.reads s.fault.changes) e.ran (s.stopped.0 stop) (s.fault.rose stop)
+        with_did octets (stage.Storing at origin rows room) stage.Ended name time (progress.Done (reply.Refused why)) how did.Failed old new before after began faulted (s.did_is ∙ ap failing_did is)
+        (subst (λ (w : Refusal). DeliveryClause octets (stage.Storing at origin rows room) stage.Ended name time (progress.Done (reply.Refused w)) did.Failed old new before after began faulted) (sym is)
+        (λ behind. fallen_save (around_saving octets (stage.Storing at origin rows room) old) behind name time octets StoresRecord (IsAtSave (stage.Storing at origin rows room)) (IsAtSave stage.Ended) no_numbers (seen_saving old before began) (seen_saving new after faulted) sees (ends_storing name time octets)
+        (storing_at (around_saving octets (stage.Storing at origin rows room) old) name time octets rows at.file.0 at.guid.0) (λ run event. inl refl) (stays_alone old new before after began faulted k s.grows s.fault.reads s.fault.changes) e.ran (s.stopped.0 stop) (s.fault.rose stop)
         (λ lists t. s.moments lists (r.ready (record { 0 = old.drawn.map + 1 }) lists t) t)))
 
     full_runs : why ≡ refusal.StoreFull 4294967294 → why ≡ refusal.Stopped → ⊥
     full_runs is k = step_runs why (ap is_step is) k
 
     by_cause : (uid_refusal old.drawn.map ≡ Some why) ⊎ ((uid_refusal old.drawn.map ≡ None) × ((why ≡ refusal.Stopped) ⊎ (why ≡ refusal.NoMemory))) → StoresNone at why old new
-        → DeliveryClause octets (stage.Storing at origin room) stage.Ended name time (progress.Done (reply.Refused why)) how old new before after began faulted
+        → DeliveryClause octets (stage.Storing at origin rows room) stage.Ended name time (progress.Done (reply.Refused why)) how old new before after began faulted
     by_cause cause (inl k) = fell k.0 k.1
     by_cause (inl used) (inr k) = let u = uid_full (nat_le 4294967294 old.drawn.map) why used in full u.1 u.0 k.0 k.1
     by_cause (inr (some, inl is)) (inr k) = absurd (k.0 is)

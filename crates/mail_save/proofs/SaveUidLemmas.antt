@@ -126,10 +126,10 @@ uids_stay (stage.First prepared) (stage.Taking parts) name time size progress.Mo
 uids_stay (stage.First prepared) stage.Ended name time size (progress.Done (reply.Refused why)) old new e = store_stays old new e
 uids_stay (stage.Taking parts) (stage.Placing laid file) name time size progress.More old new e = same_stays old new (ap (λ v. v.map) e.1.same) (ap (λ v. v.boxes) e.1.same)
 uids_stay (stage.Taking parts) stage.Ended name time size (progress.Done (reply.Refused why)) old new e = untaken_stays (length parts.region) why old new e
-uids_stay (stage.Placing parts file) (stage.Storing at origin room) name time size progress.More old new e = same_stays old new (ap (λ v. v.map) e.same) (ap (λ v. v.boxes) e.same)
+uids_stay (stage.Placing parts file) (stage.Storing at origin rows room) name time size progress.More old new e = same_stays old new (ap (λ v. v.map) e.same) (ap (λ v. v.boxes) e.same)
 uids_stay (stage.Placing parts file) stage.Ended name time size (progress.Done (reply.Refused why)) old new e = alone_stays old new e
-uids_stay (stage.Storing at origin room) (stage.Adding added left) name time size progress.More old new e = logs_stay old new e.mailboxes (ap (λ v. indexes_of v.boxes) e.same)
-uids_stay (stage.Storing at origin room) stage.Ended name time size (progress.Done (reply.Refused why)) old new e = unstored_stays at why old new e
+uids_stay (stage.Storing at origin rows room) (stage.Adding added left) name time size progress.More old new e = logs_stay old new e.mailboxes (ap (λ v. indexes_of v.boxes) e.same)
+uids_stay (stage.Storing at origin rows room) stage.Ended name time size (progress.Done (reply.Refused why)) old new e = unstored_stays at why old new e
 uids_stay (stage.Adding added room) stage.Ended name time size (progress.Done (reply.Saved uid guid)) old new e = added_stays name added uid old new e.1
 uids_stay (stage.Adding added room) stage.Ended name time size (progress.Done (reply.Refused why)) old new e = alone_stays old new e
 uids_stay (stage.Adding added room) (stage.GivingBack uid why left) name time size progress.More old new e = store_stays old new e.1

@@ -1,15 +1,13 @@
 -- What storing a record, and lowering its count, make of a store.
-use Rattle.std.proofs.Common.{◌≡◌, ◌≤◌, ◌+◌, ℕ, List, [], Option, Some, inl, inr, refl, sym, ◌∙◌, ap, subst, arith}
+use Rattle.std.proofs.Common.{◌≡◌, ◌≤◌, ◌+◌, ℕ, List, Option, Some, inl, inr, refl, sym, ◌∙◌, ap, subst, arith}
 use Rattle.disk_model.specs.Disk.{History, Between}
 use Rattle.disk_model.proofs.BetweenLemmas.{between-map}
 use Rattle.mdbox_base.specs.declared.entries.Highest.{Highest}
 use Rattle.mdbox_base.specs.declared.entries.InstRow.{InstRow}
 use Rattle.mdbox_base.specs.declared.entries.MapEntry.{MapEntry}
-use Rattle.mdbox_base.specs.declared.entries.MapEntry.TheVariants as map_entry
 use Rattle.mdbox_base.specs.declared.ids.MapUid.{MapUid}
 use Rattle.mdbox_base.specs.declared.replies.Refusal.{Refusal}
 use Rattle.model_appends.specs.Amounts.{due_by}
-use Rattle.model_appends.specs.MapAppending.{stored_row}
 use Rattle.model_meaning.specs.MapMeaning.{MapRecord, MapMeaning, map_applied, record_at}
 use Rattle.model_store.specs.Settled.{files_of}
 use Rattle.model_store.specs.Stands.{StoresMessage}
@@ -18,7 +16,7 @@ use Rattle.store_core.specs.Dues.{due_at, KeepsStored}
 use Rattle.store_core.specs.MapAppend.{drawn_by}
 use Rattle.store_core.specs.Value.{StoreValue, indexes_of}
 use Rattle.mail_save.specs.Record.{entry_stored, entry_lowered}
-use Rattle.mail_save.specs.SaveEffects.{AreSpared, GivesFileBack, IsLeftAlone, LowersRecord, StoresNone, StoresPlaced}
+use Rattle.mail_save.specs.SaveEffects.{AreSpared, GivesFileBack, IsLeftAlone, LowersRecord, StoresNone, StoresPlaced, saved_row}
 use Rattle.mail_save.specs.declared.place.SavedAt.{SavedAt}
 use Rattle.mail_save.proofs.TakingLemmas.{released_others}
 
@@ -38,21 +36,20 @@ given_change file old mid new same given =
     let whole : new ≡ record old { disk = mid.disk; map_log = mid.map_log; map = mid.map; files = record old.files { files = released_in file old.files.files }; drawn = mid.drawn; dues = mid.dues; stopped = mid.stopped } = given ∙ ap (giver_store file) same in
     subst (λ (v : StoreValue _). v ≡ record old { disk = v.disk; map_log = v.map_log; map = v.map; files = record old.files { files = released_in file old.files.files }; drawn = v.drawn; dues = v.dues; stopped = v.stopped }) (sym whole) refl
 
-pub stores_placed : {D : Type 0} → (at : SavedAt) (origin time size : ℕ) (uid : MapUid) (instances : List InstRow) (old mid new : StoreValue D) → instances ≡ [] → uid.0 ≡ old.drawn.map + 1 → uid.0 ≤ 4294967294
-    → mid.map ≡ map_applied (map_entry.S origin 1 uid at.file at.offset at.size at.guid instances) old.map
-    → record_at mid.map uid.0 ≡ Some (stored_row origin 1 uid at.file at.offset at.size at.guid instances)
+pub stores_placed : {D : Type 0} → (at : SavedAt) (origin : ℕ) (rows : List InstRow) (time size : ℕ) (uid : MapUid) (old mid new : StoreValue D) → uid.0 ≡ old.drawn.map + 1 → uid.0 ≤ 4294967294
+    → mid.map ≡ map_applied (entry_stored origin rows uid at) old.map → record_at mid.map uid.0 ≡ Some (saved_row origin rows uid at)
     → mid.drawn ≡ record old.drawn { map = uid.0 }
-    → ((other : ℕ) → due_at other mid ≡ due_by (entry_stored origin uid at) (λ k. due_at k old) other)
+    → ((other : ℕ) → due_at other mid ≡ due_by (entry_stored origin rows uid at) (λ k. due_at k old) other)
     → mid.map.boxes ≡ old.map.boxes → IsMapChange old mid → new ≡ giver_store at.file.0 mid → ((number : ℕ) → end_in number new.files.files ≡ end_in number mid.files.files)
-    → StoresPlaced at origin time size (record { map_uid = uid; guid = at.guid; time = time; size = size }) old new
-stores_placed at origin time size uid instances old mid new none next high taken there drawn due boxes same given ends = record {
+    → StoresPlaced at origin rows time size (record { map_uid = uid; guid = at.guid; time = time; size = size }) old new
+stores_placed at origin rows time size uid old mid new next high taken there drawn due boxes same given ends = record {
   uid_is = next;
   few = omega (arith, next, high);
   guid_is = refl;
   time_is = refl;
   size_is = refl;
-  map = ap (λ v. v.map) given ∙ (taken ∙ ap (λ (rows : List InstRow). map_applied (map_entry.S origin 1 uid at.file at.offset at.size at.guid rows) old.map) none);
-  there = ap (λ v. record_at v.map uid.0) given ∙ (there ∙ ap (λ (rows : List InstRow). Some (stored_row origin 1 uid at.file at.offset at.size at.guid rows)) none);
+  map = ap (λ v. v.map) given ∙ taken;
+  there = ap (λ v. record_at v.map uid.0) given ∙ there;
   drawn = ap (λ v. v.drawn) given ∙ drawn;
   due = λ other. ap (λ v. due_at other v) given ∙ due other;
   mailboxes = ap (λ v. v.map.boxes) given ∙ boxes;

@@ -1,8 +1,11 @@
 -- What a store has for a delivery between its events.
-use Rattle.std.specs.Prelude.{◌≡◌, ◌≢◌, ◌≤◌, ◌+◌, ℕ, true, All, Some}
+use Rattle.std.specs.Prelude.{◌≡◌, ◌≢◌, ◌≤◌, ◌<◌, ◌+◌, ◌^◌, ℕ, true, List, length, All, Option, Some}
+use Rattle.disk_model.specs.Disk.{History, IfTold}
+use Rattle.mdbox_base.specs.declared.entries.InstRow.{InstRow}
 use Rattle.model_meaning.specs.MapFits.{IsFree}
 use Rattle.model_meaning.specs.MapMeaning.{number_at}
 use Rattle.storage_files.specs.Files.{is_taken_in, end_in}
+use Rattle.store_core.specs.StoreInstances.{IsKnownRow, IsFirstKnown}
 use Rattle.store_core.specs.Value.{StoreValue}
 use Rattle.mail_save.specs.declared.place.SavedAt.{SavedAt}
 
@@ -13,6 +16,12 @@ pub record HoldsFile {D : Type 0} (file size : ℕ) (store : StoreValue D) : Typ
   pub end : ℕ
   pub ends : end_in file store.files.files ≡ Some end
   pub fits : end + size ≤ 4294967295
+
+-- The instances that a record will name are known, and each is the first known one of its octets. A record has room for them.
+pub record HoldsInstances {D : Type 0} (rows : List InstRow) (store : StoreValue D) (history : Option History) : Type 0 where
+  pub known : All (IsKnownRow store.instances.known) rows
+  pub first : IfTold history (λ now. All (IsFirstKnown store.instances.known now) rows)
+  pub few : length rows < 2 ^ 16
 
 -- The message's region stands in the storage file, which is taken still, and overlaps no record's. Its GUID names this place, and
 -- no record has it.

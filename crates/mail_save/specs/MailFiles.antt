@@ -31,5 +31,5 @@ pub record HasAppended (name : List ℕ) (time : ℕ) (octets : List ℕ) (guid 
 -- By stage: one event takes a file, one adds to it, and the others write to none.
 abbrev pub WritesMail : {D : Type 0} → SaveStage → SaveStage → List ℕ → ℕ → StoreValue D → Option History → Option History → Type 0
 WritesMail (stage.Taking parts) (stage.Placing laid file) name time old before after = TakesWithHeader parts.header file.0 old before after
-WritesMail (stage.Placing parts file) (stage.Storing at origin room) name time old before after = (octets : List ℕ) → AreLaidOut name time octets parts → HasAppended name time octets at.guid.0 file.0 before after
+WritesMail (stage.Placing parts file) (stage.Storing at origin rows room) name time old before after = (octets : List ℕ) → AreLaidOut name time octets parts → HasAppended name time octets at.guid.0 file.0 before after
 WritesMail now next name time old before after = ReadsSameMail before after

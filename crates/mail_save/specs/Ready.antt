@@ -1,7 +1,8 @@
 -- What a delivery has between its events, of the message with these octets: what each event needs of the store and its disk.
-use Rattle.std.specs.Prelude.{◌≡◌, ◌≤◌, ℕ, List, length, Option, Some}
+use Rattle.std.specs.Prelude.{◌≡◌, ◌≤◌, ℕ, List, [], length, Option, Some}
 use Rattle.attach_detach.specs.Prepared.{IsPlain}
 use Rattle.disk_model.specs.Disk.{History, IfTold}
+use Rattle.mdbox_base.specs.declared.entries.InstRow.{InstRow}
 use Rattle.mdbox_base.specs.declared.ids.MapUid.{MapUid}
 use Rattle.mdbox_base.specs.declared.ids.Uid.{Uid}
 use Rattle.mdbox_base.specs.declared.progress.Progress.{Progress}
@@ -29,11 +30,12 @@ use Rattle.mail_save.specs.declared.task.SaveStage.TheVariants as stage
 -- The region that was placed has the octets that are written of the message, and a record of it stores the message, under any map
 -- uid; and of a settled disk the region is ready: a crash leaves it as it reads, and a record of an own save stores its detached
 -- form.
-pub record IsRegionReady (at : SavedAt) (origin : ℕ) (name : List ℕ) (time : ℕ) (octets : List ℕ) (history : Option History) : Type 0 where
+pub record IsRegionReady (at : SavedAt) (origin : ℕ) (rows : List InstRow) (name : List ℕ) (time : ℕ) (octets : List ℕ) (history : Option History) : Type 0 where
   pub origin_is : origin ≡ origin_of octets
-  pub written : (uid : MapUid) → IfTold history (λ now. HasRegionOctets (files_of now) (saved_row origin uid at) (saved_region name time octets at.guid.0))
-  pub stores : (uid : MapUid) → IfTold history (λ now. StoresMessage (files_of now) (saved_row origin uid at) octets)
-  pub ready : (uid : MapUid) (lists : Lists) → IsSettledFor lists history → IsReadyToStore (entry_stored origin uid at) history
+  pub rows_are : rows ≡ []
+  pub written : (uid : MapUid) → IfTold history (λ now. HasRegionOctets (files_of now) (saved_row origin rows uid at) (saved_region name time octets at.guid.0))
+  pub stores : (uid : MapUid) → IfTold history (λ now. StoresMessage (files_of now) (saved_row origin rows uid at) octets)
+  pub ready : (uid : MapUid) (lists : Lists) → IsSettledFor lists history → IsReadyToStore (entry_stored origin rows uid at) history
 
 -- The record that was stored has a region with the octets that are written of the message, and brings the message to any mailbox,
 -- under any UID. None lists it yet.
@@ -56,7 +58,7 @@ abbrev pub IsReadyToSave : {D : Type 0} → SaveStage → List ℕ → ℕ → �
 IsReadyToSave (stage.First prepared) name time size octets store history = HasSize size octets × IsPlain octets prepared
 IsReadyToSave (stage.Taking parts) name time size octets store history = HasSize size octets × AreLaidOut name time octets parts
 IsReadyToSave (stage.Placing parts file) name time size octets store history = HasSize size octets × AreLaidOut name time octets parts
-IsReadyToSave (stage.Storing at origin room) name time size octets store history = HasSize size octets × IsRegionReady at origin name time octets history
+IsReadyToSave (stage.Storing at origin rows room) name time size octets store history = HasSize size octets × IsRegionReady at origin rows name time octets history
 IsReadyToSave (stage.Adding added room) name time size octets store history = HasSize size octets × IsRecordReady added name time octets store history
 IsReadyToSave now name time size octets store history = HasSize size octets
 

@@ -1,7 +1,8 @@
 -- What each event of a delivery makes of the store.
-use Rattle.std.specs.Prelude.{◌≡◌, ◌≢◌, ◌⊎◌, ◌<◌, ◌+◌, ℕ, max, true, false, List, [], length, Option, Some, None}
+use Rattle.std.specs.Prelude.{◌≡◌, ◌≢◌, ◌⊎◌, ◌<◌, ◌+◌, ℕ, max, true, false, List, length, Option, Some, None}
 use Rattle.attach_detach.specs.Prepared.{IsPlain}
 use Rattle.disk_model.specs.Disk.{History}
+use Rattle.mdbox_base.specs.declared.entries.InstRow.{InstRow}
 use Rattle.mdbox_base.specs.declared.ids.BoxNo.{BoxNo}
 use Rattle.mdbox_base.specs.declared.ids.FileNo.{FileNo}
 use Rattle.mdbox_base.specs.declared.ids.MapUid.{MapUid}
@@ -102,9 +103,10 @@ TakesNone size why old new =
 -- ---- the message is placed
 
 -- Its region stands at the old end of the file that was taken, and its GUID names this place.
-pub record PlacesParts {D : Type 0} (parts : SavedParts) (file : FileNo) (at : SavedAt) (origin : ℕ) (old new : StoreValue D) : Type 0 where
+pub record PlacesParts {D : Type 0} (parts : SavedParts) (file : FileNo) (at : SavedAt) (origin : ℕ) (rows : List InstRow) (old new : StoreValue D) : Type 0 where
   pub file_is : at.file ≡ file
   pub origin_is : origin ≡ parts.origin
+  pub rows_are : rows ≡ parts.rows
   pub size_is : at.size ≡ length parts.region
   pub guid : at.guid.0 ≡ place_guid old.map.store file.0 at.offset
   pub began : end_in file.0 old.files.files ≡ Some at.offset
@@ -116,20 +118,20 @@ pub record PlacesParts {D : Type 0} (parts : SavedParts) (file : FileNo) (at : S
 -- ---- its record is stored
 
 -- the record of a message that was placed
-abbrev pub saved_row : ℕ → MapUid → SavedAt → MapRecord
-saved_row origin uid at = stored_row origin 1 uid at.file at.offset at.size at.guid []
+abbrev pub saved_row : ℕ → List InstRow → MapUid → SavedAt → MapRecord
+saved_row origin rows uid at = stored_row origin 1 uid at.file at.offset at.size at.guid rows
 
 -- It has the next map uid, and one of it is due. The storage file is given back.
-pub record StoresPlaced {D : Type 0} (at : SavedAt) (origin time size : ℕ) (added : Added) (old new : StoreValue D) : Type 0 where
+pub record StoresPlaced {D : Type 0} (at : SavedAt) (origin : ℕ) (rows : List InstRow) (time size : ℕ) (added : Added) (old new : StoreValue D) : Type 0 where
   pub uid_is : added.map_uid.0 ≡ old.drawn.map + 1
   pub few : old.drawn.map < 4294967294
   pub guid_is : added.guid ≡ at.guid
   pub time_is : added.time ≡ time
   pub size_is : added.size ≡ size
-  pub map : new.map ≡ map_applied (entry_stored origin added.map_uid at) old.map
-  pub there : record_at new.map added.map_uid.0 ≡ Some (saved_row origin added.map_uid at)
+  pub map : new.map ≡ map_applied (entry_stored origin rows added.map_uid at) old.map
+  pub there : record_at new.map added.map_uid.0 ≡ Some (saved_row origin rows added.map_uid at)
   pub drawn : new.drawn ≡ record old.drawn { map = added.map_uid.0 }
-  pub due : (uid : ℕ) → due_at uid new ≡ due_by (entry_stored origin added.map_uid at) (λ other. due_at other old) uid
+  pub due : (uid : ℕ) → due_at uid new ≡ due_by (entry_stored origin rows added.map_uid at) (λ other. due_at other old) uid
   pub mailboxes : new.map.boxes ≡ old.map.boxes
   pub ends : AreEndsSame old new
   pub others : AreOthersTaken at.file.0 old new
@@ -170,10 +172,10 @@ SaveEffects (stage.First prepared) (stage.Taking parts) name time size progress.
 SaveEffects (stage.First prepared) stage.Ended name time size (progress.Done (reply.Refused why)) old new = new ≡ old
 SaveEffects (stage.Taking parts) (stage.Placing laid file) name time size progress.More old new = (laid ≡ parts) × TakesFileFor (length parts.header) (length parts.region) file old new
 SaveEffects (stage.Taking parts) stage.Ended name time size (progress.Done (reply.Refused why)) old new = TakesNone (length parts.region) why old new
-SaveEffects (stage.Placing parts file) (stage.Storing at origin room) name time size progress.More old new = PlacesParts parts file at origin old new
+SaveEffects (stage.Placing parts file) (stage.Storing at origin rows room) name time size progress.More old new = PlacesParts parts file at origin rows old new
 SaveEffects (stage.Placing parts file) stage.Ended name time size (progress.Done (reply.Refused why)) old new = IsLeftAlone old new
-SaveEffects (stage.Storing at origin room) (stage.Adding added left) name time size progress.More old new = StoresPlaced at origin time size added old new
-SaveEffects (stage.Storing at origin room) stage.Ended name time size (progress.Done (reply.Refused why)) old new = StoresNone at why old new
+SaveEffects (stage.Storing at origin rows room) (stage.Adding added left) name time size progress.More old new = StoresPlaced at origin rows time size added old new
+SaveEffects (stage.Storing at origin rows room) stage.Ended name time size (progress.Done (reply.Refused why)) old new = StoresNone at why old new
 SaveEffects (stage.Adding added room) stage.Ended name time size (progress.Done (reply.Saved uid guid)) old new = (guid ≡ added.guid) × AddsStored name added uid old new
 SaveEffects (stage.Adding added room) stage.Ended name time size (progress.Done (reply.Refused why)) old new = IsLeftAlone old new
 SaveEffects (stage.Adding added room) (stage.GivingBack uid why left) name time size progress.More old new = (uid ≡ added.map_uid) × (new ≡ old)

@@ -64,9 +64,9 @@ around_saving octets now store = record {
 
 abbrev pub IsAtSave : SaveStage → Run → ℕ → List Reply → Type 0
 IsAtSave (stage.First prepared) run place said = HasNotBegun run place said
-IsAtSave (stage.Taking parts) run place said = IsTakingFile run place said
-IsAtSave (stage.Placing parts file) run place said = IsPlacingMessage file.0 run place said
-IsAtSave (stage.Storing at origin room) run place said = IsStoringMessage at.file.0 at.guid.0 run place said
+IsAtSave (stage.Taking parts) run place said = IsTakingFile parts.rows run place said
+IsAtSave (stage.Placing parts file) run place said = IsPlacingMessage parts.rows file.0 run place said
+IsAtSave (stage.Storing at origin rows room) run place said = IsStoringMessage rows at.file.0 at.guid.0 run place said
 IsAtSave (stage.Adding added room) run place said = IsAddingMessage added.guid.0 added.map_uid.0 run place said
 IsAtSave (stage.GivingBack uid why room) run place said = IsLoweringCount uid.0 why run place said
 IsAtSave stage.Ended run place said = ⊥

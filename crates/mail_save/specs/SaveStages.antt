@@ -1,13 +1,15 @@
 -- Where a delivery stands in a run.
-use Rattle.std.specs.Prelude.{◌≡◌, ◌≢◌, ◌⊎◌, ℕ, Bool, true, List, [], ◌∷◌, length, if◌then◌else◌, Some, All}
+use Rattle.std.specs.Prelude.{◌≡◌, ◌≢◌, ◌⊎◌, ℕ, Bool, true, List, [], ◌∷◌, ◌++◌, length, flat_map, if◌then◌else◌, Some, All}
+use Rattle.std.specs.List.{AllByRecursion}
 use Rattle.mdbox_base.specs.Words.{IsOctets}
+use Rattle.mdbox_base.specs.declared.entries.InstRow.{InstRow}
 use Rattle.mdbox_base.specs.declared.entries.MapEntry.{MapEntry}
 use Rattle.mdbox_base.specs.declared.replies.Refusal.{Refusal}
 use Rattle.mdbox_base.specs.declared.replies.Refusal.TheVariants as refusal
 use Rattle.mdbox_base.specs.declared.replies.Reply.{Reply}
 use Rattle.mdbox_base.specs.declared.replies.Reply.TheVariants as reply
 use Rattle.model_meaning.specs.MapMeaning.{guid_file}
-use Rattle.list_machine.specs.Run.{First, TakesFile, PlacesMessage, StoresRecord, Last, RunEvent, Run, own_events, given_by_others}
+use Rattle.list_machine.specs.Run.{First, Compares, PlacesInstance, TakesFile, PlacesMessage, StoresRecord, Last, RunEvent, Run, own_events, given_by_others}
 use Rattle.list_machine.specs.Machine.{is_step}
 use Rattle.journal.specs.Events.{plain, uid_raised}
 use Rattle.task_steps.specs.Step.{was_given}
@@ -18,6 +20,11 @@ use Rattle.task_steps.specs.Step.{was_given}
 pub record HasLaidOut (event : RunEvent) : Type 0 where
   pub part : event.part ≡ First
   pub did : event ≡ plain event
+
+-- the event compared an instance with the next part of the message, or placed that part as one
+pub record HasAttached (event : RunEvent) : Type 0 where
+  pub part : (event.part ≡ Compares) ⊎ (event.part ≡ PlacesInstance)
+  pub did : event ≡ record (plain event) { compared = event.compared; equal = event.equal; placed = event.placed; drew = event.drew }
 
 -- the event took this storage file, a new one or not
 pub record TookFile (file : ℕ) (event : RunEvent) : Type 0 where
@@ -45,54 +52,59 @@ pub record WasNotAdded (why : Refusal) (event : RunEvent) : Type 0 where
 
 -- ---- its events so far
 
--- It laid the message out.
-pub record AreLaidSoFar (own : List RunEvent) : Type 0 where
+-- It laid the message out, and found these instances for its parts, in order.
+pub record AreAttachedSoFar (rows : List InstRow) (own : List RunEvent) : Type 0 where
   pub first : RunEvent
-  pub own_are : own ≡ first ∷ []
+  pub more : List RunEvent
+  pub own_are : own ≡ first ∷ more
   pub laid : HasLaidOut first
+  pub attached : AllByRecursion HasAttached more
+  pub found : flat_map (λ event. event.equal ++ event.placed) more ≡ rows
 
 -- It also took this storage file.
-pub record AreTakenSoFar (file : ℕ) (own : List RunEvent) : Type 0 where
-  pub first : RunEvent
+pub record AreTakenSoFar (rows : List InstRow) (file : ℕ) (own : List RunEvent) : Type 0 where
+  pub front : List RunEvent
   pub second : RunEvent
-  pub own_are : own ≡ first ∷ second ∷ []
-  pub laid : HasLaidOut first
+  pub own_are : own ≡ front ++ second ∷ []
+  pub attached : AreAttachedSoFar rows front
   pub took : TookFile file second
 
 -- It also placed the message there, with this GUID.
-pub record ArePlacedSoFar (file : ℕ) (guid : List ℕ) (own : List RunEvent) : Type 0 where
-  pub first : RunEvent
+pub record ArePlacedSoFar (rows : List InstRow) (file : ℕ) (guid : List ℕ) (own : List RunEvent) : Type 0 where
+  pub front : List RunEvent
   pub second : RunEvent
   pub third : RunEvent
-  pub own_are : own ≡ first ∷ second ∷ third ∷ []
-  pub laid : HasLaidOut first
+  pub own_are : own ≡ front ++ second ∷ third ∷ []
+  pub attached : AreAttachedSoFar rows front
   pub took : TookFile file second
   pub placed : HasPlaced guid third
 
 -- It also stored the message under this map uid.
 pub record AreStoredSoFar (guid : List ℕ) (uid : ℕ) (own : List RunEvent) : Type 0 where
-  pub first : RunEvent
+  pub rows : List InstRow
+  pub file : ℕ
+  pub front : List RunEvent
   pub second : RunEvent
   pub third : RunEvent
   pub fourth : RunEvent
-  pub file : ℕ
-  pub own_are : own ≡ first ∷ second ∷ third ∷ fourth ∷ []
-  pub laid : HasLaidOut first
+  pub own_are : own ≡ front ++ second ∷ third ∷ fourth ∷ []
+  pub attached : AreAttachedSoFar rows front
   pub took : TookFile file second
   pub placed : HasPlaced guid third
   pub stored : HasStored uid fourth
 
 -- It also tried to add the message, and was refused by this.
 pub record AreRefusedSoFar (uid : ℕ) (why : Refusal) (own : List RunEvent) : Type 0 where
-  pub first : RunEvent
+  pub rows : List InstRow
+  pub file : ℕ
+  pub guid : List ℕ
+  pub front : List RunEvent
   pub second : RunEvent
   pub third : RunEvent
   pub fourth : RunEvent
   pub fifth : RunEvent
-  pub file : ℕ
-  pub guid : List ℕ
-  pub own_are : own ≡ first ∷ second ∷ third ∷ fourth ∷ fifth ∷ []
-  pub laid : HasLaidOut first
+  pub own_are : own ≡ front ++ second ∷ third ∷ fourth ∷ fifth ∷ []
+  pub attached : AreAttachedSoFar rows front
   pub took : TookFile file second
   pub placed : HasPlaced guid third
   pub stored : HasStored uid fourth
@@ -108,16 +120,16 @@ pub record IsOwnGuid (guid : List ℕ) (run : Run) (place : ℕ) : Type 0 where
   pub once : All (λ other. other ≢ guid) (given_by_others place run)
 
 -- Nothing was answered yet at these stages, and they tell the events so far: it takes a file next, places the message in this
--- file, stores a message of this file with this GUID, or adds that of this GUID under this map uid.
-abbrev pub IsTakingFile : Run → ℕ → List Reply → Type 0
-IsTakingFile run place said = AreLaidSoFar (own_events place run) × (said ≡ [])
+-- file, stores a message of this file with this GUID, each with these instances, or adds that of this GUID under this map uid.
+abbrev pub IsTakingFile : List InstRow → Run → ℕ → List Reply → Type 0
+IsTakingFile rows run place said = AreAttachedSoFar rows (own_events place run) × (said ≡ [])
 
-abbrev pub IsPlacingMessage : ℕ → Run → ℕ → List Reply → Type 0
-IsPlacingMessage file run place said = AreTakenSoFar file (own_events place run) × (said ≡ [])
+abbrev pub IsPlacingMessage : List InstRow → ℕ → Run → ℕ → List Reply → Type 0
+IsPlacingMessage rows file run place said = AreTakenSoFar rows file (own_events place run) × (said ≡ [])
 
 -- the file that was taken is that of the GUID
-abbrev pub IsStoringMessage : ℕ → List ℕ → Run → ℕ → List Reply → Type 0
-IsStoringMessage file guid run place said = ArePlacedSoFar file guid (own_events place run) × (guid_file run.store guid ≡ file) × IsOwnGuid guid run place × (said ≡ [])
+abbrev pub IsStoringMessage : List InstRow → ℕ → List ℕ → Run → ℕ → List Reply → Type 0
+IsStoringMessage rows file guid run place said = ArePlacedSoFar rows file guid (own_events place run) × (guid_file run.store guid ≡ file) × IsOwnGuid guid run place × (said ≡ [])
 
 abbrev pub IsAddingMessage : List ℕ → ℕ → Run → ℕ → List Reply → Type 0
 IsAddingMessage guid uid run place said = AreStoredSoFar guid uid (own_events place run) × IsOwnGuid guid run place × (said ≡ [])

@@ -25,7 +25,7 @@ use Rattle.store_core.specs.Value.{StoreValue, list_named}
 use Rattle.mail_save.specs.Added.{HasRoomUnder, entry_added}
 use Rattle.mail_save.specs.Events.{box_refusal, save_refusal, uid_refusal}
 use Rattle.mail_save.specs.Held.{save_amounts}
-use Rattle.mail_save.specs.Left.{HoldsFile, HoldsRegion}
+use Rattle.mail_save.specs.Left.{HoldsFile, HoldsInstances, HoldsRegion}
 use Rattle.mail_save.specs.MailFiles.{WritesMail}
 use Rattle.mail_save.specs.Others.{KeepsOthers}
 use Rattle.mail_save.specs.Parts.{AreLaidOut}
@@ -49,24 +49,24 @@ pub record SaveValue : Type 0 where
 abbrev pub IsOfMessage : List ℕ → ℕ → SavedParts → Type 0
 IsOfMessage name time parts = (octets : List ℕ) × (length octets ≤ 67108864) × AreLaidOut name time octets parts
 
--- What the task and its store have before an event: the message, the file that was taken, the region that was placed, or the
--- record that is held. Of a task that has ended there is none.
-abbrev pub HasLeft : {D : Type 0} → SaveStage → List ℕ → ℕ → StoreValue D → Type 0
-HasLeft (stage.First prepared) name time store = (octets : List ℕ) × (length octets ≤ 67108864) × IsPlain octets prepared
-HasLeft (stage.Taking parts) name time store = IsOfMessage name time parts
-HasLeft (stage.Placing parts file) name time store = IsOfMessage name time parts × HoldsFile file.0 (length parts.region) store
-HasLeft (stage.Storing at origin room) name time store = HoldsRegion at store × (origin ≤ 1) × (1 ≤ at.size)
-HasLeft (stage.Adding added room) name time store =
+-- What the task and its store have before an event: the message, the instances that its record will name, the file that was
+-- taken, the region that was placed, or the record that is held. Of a task that has ended there is none.
+abbrev pub HasLeft : {D : Type 0} → SaveStage → List ℕ → ℕ → StoreValue D → Option History → Type 0
+HasLeft (stage.First prepared) name time store history = (octets : List ℕ) × (length octets ≤ 67108864) × IsPlain octets prepared
+HasLeft (stage.Taking parts) name time store history = IsOfMessage name time parts × HoldsInstances parts.rows store history
+HasLeft (stage.Placing parts file) name time store history = IsOfMessage name time parts × HoldsFile file.0 (length parts.region) store × HoldsInstances parts.rows store history
+HasLeft (stage.Storing at origin rows room) name time store history = HoldsRegion at store × (origin ≤ 1) × (1 ≤ at.size) × HoldsInstances rows store history
+HasLeft (stage.Adding added room) name time store history =
     HasRecord store.map added.map_uid.0 (λ row. row.guid ≡ added.guid.0) × (1 ≤ due_at added.map_uid.0 store) × (added.size ≤ 67108864)
-HasLeft (stage.GivingBack uid why room) name time store = (1 ≤ due_at uid.0 store) × (why ≢ refusal.Stopped)
-HasLeft stage.Ended name time store = ⊥
+HasLeft (stage.GivingBack uid why room) name time store history = (1 ≤ due_at uid.0 store) × (why ≢ refusal.Stopped)
+HasLeft stage.Ended name time store history = ⊥
 
 -- how many events are still to come at the most
 abbrev pub save_events_left : SaveStage → ℕ
 save_events_left (stage.First prepared) = 6
 save_events_left (stage.Taking parts) = 5
 save_events_left (stage.Placing parts file) = 4
-save_events_left (stage.Storing at origin room) = 3
+save_events_left (stage.Storing at origin rows room) = 3
 save_events_left (stage.Adding added room) = 2
 save_events_left (stage.GivingBack uid why room) = 1
 save_events_left stage.Ended = 0
@@ -76,8 +76,8 @@ save_events_left stage.Ended = 0
 -- Each image at every moment is safe for the lists of a settled disk, whatever fails. One that stores the message asks that
 -- its region is ready; one that adds it may leave the lists with the message, of the octets that its record stores.
 abbrev pub MomentsAt : {D : Type 0} → SaveStage → List ℕ → StoreValue D → Option History → Option History → Type 0
-MomentsAt (stage.Storing at origin room) name store old new =
-    (lists : Lists) → IsReadyToStore (entry_stored origin (record { 0 = store.drawn.map + 1 }) at) old → IsSettledFor lists old → Leaves lists lists old new
+MomentsAt (stage.Storing at origin rows room) name store old new =
+    (lists : Lists) → IsReadyToStore (entry_stored origin rows (record { 0 = store.drawn.map + 1 }) at) old → IsSettledFor lists old → Leaves lists lists old new
 MomentsAt (stage.Adding added room) name store old new =
     (number : BoxNo) (uid : Uid) → HasRoomUnder name number uid store → (lists : Lists) (octets : List ℕ) → Brings store.map (entry_added uid added) octets old → IsSettledFor lists old
     → Leaves lists (lists_by number.0 octets (entry_added uid added) lists) old new
@@ -86,8 +86,8 @@ MomentsAt other name store old new = (lists : Lists) → IsSettledFor lists old 
 -- Unless the store is stopped then, the disk is settled for its lists again, or, after a message was saved, for those with the
 -- message.
 abbrev pub RestsAt : {D : Type 0} → SaveStage → List ℕ → Progress → StoreValue D → Option History → Option History → Type 0
-RestsAt (stage.Storing at origin room) name answer store old new =
-    (lists : Lists) → IsReadyToStore (entry_stored origin (record { 0 = store.drawn.map + 1 }) at) old → IsSettledFor lists old → IsSettledFor lists new
+RestsAt (stage.Storing at origin rows room) name answer store old new =
+    (lists : Lists) → IsReadyToStore (entry_stored origin rows (record { 0 = store.drawn.map + 1 }) at) old → IsSettledFor lists old → IsSettledFor lists new
 RestsAt (stage.Adding added room) name (progress.Done (reply.Saved uid guid)) store old new =
     (number : BoxNo) → HasRoomUnder name number uid store → (lists : Lists) (octets : List ℕ) → Brings store.map (entry_added uid added) octets old → IsSettledFor lists old
     → IsSettledFor (lists_by number.0 octets (entry_added uid added) lists) new
@@ -105,7 +105,7 @@ abbrev pub RepliesAt : {D : Type 0} → SaveStage → List ℕ → Progress → 
 RepliesAt (stage.First prepared) name answer next store = GoesOnOr (λ why. (save_refusal name store ≡ Some why) ⊎ ((save_refusal name store ≡ None) × (why ≡ refusal.NoMemory))) answer
 RepliesAt (stage.Taking parts) name answer next store = GoesOnOr (λ why. (why ≡ refusal.Stopped) ⊎ ((why ≡ refusal.NoMemory) ⊎ (why ≡ refusal.StoreFull 4294967294))) answer
 RepliesAt (stage.Placing parts file) name answer next store = GoesOnOr (λ why. why ≡ refusal.Stopped) answer
-RepliesAt (stage.Storing at origin room) name answer next store =
+RepliesAt (stage.Storing at origin rows room) name answer next store =
     GoesOnOr (λ why. (uid_refusal store.drawn.map ≡ Some why) ⊎ ((uid_refusal store.drawn.map ≡ None) × ((why ≡ refusal.Stopped) ⊎ (why ≡ refusal.NoMemory)))) answer
 RepliesAt (stage.Adding added room) name answer next store =
     ((number : BoxNo) × (uid : Uid) × HasRoomUnder name number uid store × (answer ≡ progress.Done (reply.Saved uid added.guid)))
@@ -150,7 +150,7 @@ pub record Saves {D : Type 0} (now next : SaveStage) (name : List ℕ) (time siz
   pub rests : new.stopped ≡ false → RestsAt now name answer old before after
   pub mail : new.stopped ≡ false → WritesMail now next name time old before after
   pub ready : answer ≡ progress.More → (octets : List ℕ) → IsReadyToSave now name time size octets old before → IsReadyToSave next name time size octets new after
-  pub left : answer ≡ progress.More → HasLeft next name time new
+  pub left : answer ≡ progress.More → HasLeft next name time new after
   pub fewer : answer ≡ progress.More → save_events_left next < save_events_left now
   pub effects : SaveEffects now next name time size answer old new
   pub idle : new ≡ old → after ≡ before

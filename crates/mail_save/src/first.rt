@@ -13,7 +13,7 @@ use crate::region::lay_out;
 use attach_detach::Prepared;
 use dbox_file::push_file_header;
 use disk_model::Disk;
-use mdbox_base::{Name, NoMemory, Octets, Refusal};
+use mdbox_base::{InstRow, Name, NoMemory, Octets, Refusal, Seq};
 use mime_parts::leaf_parts;
 use model_mime::Part;
 use std::alloc::Global;
@@ -31,6 +31,8 @@ pub struct SavedParts {
     pub region: Octets,
     /// The origin of its record: 1 of a message with a part that can be detached, which is stored whole.
     pub origin: u8,
+    /// The instances that its record names.
+    pub rows: Seq<InstRow>,
     pub room: LowerRoom,
 }
 
@@ -76,6 +78,7 @@ fn parts_of(
         header,
         region,
         origin,
+        rows: Seq::empty(alloc),
         room: LowerRoom::of(alloc)?,
     })
 }

@@ -1,21 +1,22 @@
 // The record of a message in the map.
-ghost use Rattle.std.specs.Prelude.{◌≡◌, ◌≢◌, ◌↔◌, ◌⊎◌, ◌≤◌, ◌<◌, ◌+◌, ◌∷◌, [], ℕ, true, false, Some, None, IfOk, IfErr, OnOk, IsErr, IsErrOf};
+ghost use Rattle.std.specs.Prelude.{◌≡◌, ◌≢◌, ◌↔◌, ◌⊎◌, ◌≤◌, ◌<◌, ◌+◌, ◌∷◌, [], ℕ, All, true, false, Some, None, IfOk, IfErr, OnOk, IsErr, IsErrOf};
 ghost use Rattle.disk_model.specs.Disk.{Grows};
 ghost use Rattle.disk_model.specs.FaultCounts.{NoFault, ChangeFaultCounted};
 ghost use Rattle.mdbox_base.specs.declared.replies.Refusal.TheVariants as refusal;
 ghost use Rattle.model_lists.specs.Lists.{Lists};
+ghost use Rattle.model_logs.specs.Entries.{RowInRange};
 ghost use Rattle.model_store.specs.Settled.{IsSettledFor, Leaves};
 ghost use Rattle.store_core.specs.Dues.{due_at, KeepsStored};
 ghost use Rattle.store_core.specs.MapAppend.{IsReadyToStore};
 ghost use Rattle.mail_save.specs.Events.{uid_refusal};
-ghost use Rattle.mail_save.specs.Left.{HoldsRegion};
+ghost use Rattle.mail_save.specs.Left.{HoldsInstances, HoldsRegion};
 ghost use Rattle.mail_save.specs.MailFiles.{ReadsSameMail};
 ghost use Rattle.mail_save.specs.Record.{entry_stored, entry_lowered};
 ghost use Rattle.mail_save.specs.SaveEffects.{AreSpared, IsLeftAlone, LowersRecord, StoresPlaced, StoresNone};
 
 use crate::place::SavedAt;
 use disk_model::Disk;
-use mdbox_base::{MapEntry, MapUid, NoMemory, Refusal, Seq};
+use mdbox_base::{Hash, InstId, InstRow, MapEntry, MapUid, NoMemory, Refusal, Seq};
 use std::alloc::Global;
 use std::marker::Model;
 use store_core::{StepError, Stopped, Store};
@@ -59,22 +60,43 @@ impl LowerRoom {
     }
 }
 
-/// Stores a message that was placed in the map, and gives its storage file back.
+/// What the types say of an instance.
+fn known_row(row: InstRow)
+    ensures { RowInRange row }
+{
+    let InstRow {
+        hash: Hash(_hash),
+        id: InstId(_id),
+        size: _size,
+    } = row;
+}
+
+/// What they say of instances.
+fn known_rows(rows: &[InstRow])
+    ensures { All RowInRange rows.now }
+{
+    for row in rows {
+        known_row(*row);
+    }
+}
+
+/// Stores a message that was placed in the map, with the instances that its record names, and gives its storage file back.
 pub fn store_record<D: Disk>(
     store: &mut Store<D>,
-    alloc: Global,
     at: SavedAt,
     origin: u8,
+    rows: Seq<InstRow>,
 ) -> Result<MapUid, Refusal>
     requires running { store.old.stopped ≡ false }
     requires origin { origin ≤ 1 }
     requires placed { HoldsRegion at store.old }
     requires size { 1 ≤ at.size }
-    ensures stores { IfOk result (λ uid. (time size : ℕ) → StoresPlaced at origin time size (record { map_uid = uid; guid = at.guid; time = time; size = size }) store.old store.new) }
+    requires instances { HoldsInstances rows store.old (D.history store.old.disk) }
+    ensures stores { IfOk result (λ uid. (time size : ℕ) → StoresPlaced at origin rows time size (record { map_uid = uid; guid = at.guid; time = time; size = size }) store.old store.new) }
     ensures none { IfErr result (λ why. StoresNone at why store.old store.new) }
     ensures spared { OnOk result (AreSpared store.old store.new (D.history store.old.disk) (D.history store.new.disk)) }
-    ensures any_moment { (lists : Lists) → IsReadyToStore (entry_stored origin (record { 0 = store.old.drawn.map + 1 }) at) (D.history store.old.disk) → IsSettledFor lists (D.history store.old.disk) → Leaves lists lists (D.history store.old.disk) (D.history store.new.disk) }
-    ensures settled { store.new.stopped ≡ false → (lists : Lists) → IsReadyToStore (entry_stored origin (record { 0 = store.old.drawn.map + 1 }) at) (D.history store.old.disk) → IsSettledFor lists (D.history store.old.disk) → IsSettledFor lists (D.history store.new.disk) }
+    ensures any_moment { (lists : Lists) → IsReadyToStore (entry_stored origin rows (record { 0 = store.old.drawn.map + 1 }) at) (D.history store.old.disk) → IsSettledFor lists (D.history store.old.disk) → Leaves lists lists (D.history store.old.disk) (D.history store.new.disk) }
+    ensures settled { store.new.stopped ≡ false → (lists : Lists) → IsReadyToStore (entry_stored origin rows (record { 0 = store.old.drawn.map + 1 }) at) (D.history store.old.disk) → IsSettledFor lists (D.history store.old.disk) → IsSettledFor lists (D.history store.new.disk) }
     ensures stored { store.new.stopped ≡ false → KeepsStored (D.history store.old.disk) (D.history store.new.disk) }
     ensures mail { OnOk result (ReadsSameMail (D.history store.old.disk) (D.history store.new.disk)) }
     ensures refused { IfErr result (λ why. (uid_refusal store.old.drawn.map ≡ Some why) ⊎ ((uid_refusal store.old.drawn.map ≡ None) × ((why ≡ refusal.Stopped) ⊎ (why ≡ refusal.NoMemory)))) }
@@ -84,6 +106,7 @@ pub fn store_record<D: Disk>(
     ensures unfailed { store.new.stopped ≡ false → NoFault (D.faults store.old.disk) (D.faults store.new.disk) }
 {
     store.facts();
+    known_rows(rows.as_slice());
     let Some(uid) = store.next_map_uid() else {
         store.release(at.file);
         return Err(Refusal::StoreFull(LAST_UID));
@@ -96,7 +119,7 @@ pub fn store_record<D: Disk>(
         offset: at.offset,
         size: at.size,
         guid: at.guid,
-        instances: Seq::empty(alloc),
+        instances: rows,
     };
     match store.append_map(&entry) {
         Ok(()) => {

@@ -14,7 +14,7 @@ ghost use Rattle.store_core.specs.Dues.{due_at};
 ghost use Rattle.store_core.specs.Keeping.{KeepsUids};
 ghost use Rattle.task_steps.specs.Step.{Steps, ended_by};
 ghost use Rattle.mail_save.specs.Events.{has_detachable};
-ghost use Rattle.mail_save.specs.Left.{HoldsFile};
+ghost use Rattle.mail_save.specs.Left.{HoldsFile, HoldsInstances};
 ghost use Rattle.mail_save.specs.Ready.{IsReadyToSave, save_lists, lists_delivered};
 ghost use Rattle.mail_save.specs.SaveSeen.{IsAtSave, around_saving, seen_saving};
 ghost use Rattle.mail_save.specs.Task.{HasLeft, IsOfMessage, Saves, stopped_reply, refused_did, failing_did};
@@ -26,7 +26,7 @@ use crate::place::{SavedAt, place_region, take_file};
 use crate::record::{LowerRoom, give_back, store_record};
 use attach_detach::Prepared;
 use disk_model::Disk;
-use mdbox_base::{Did, FileNo, Half, MapUid, Name, Progress, Refusal, Reply};
+use mdbox_base::{Did, FileNo, Half, InstRow, MapUid, Name, Progress, Refusal, Reply, Seq};
 use std::marker::Model;
 use std::mem;
 use store_core::{Stopped, Store, listings_are_shown};
@@ -47,6 +47,7 @@ pub enum SaveStage {
     Storing {
         at: SavedAt,
         origin: u8,
+        rows: Seq<InstRow>,
         room: LowerRoom,
     },
     /// One that adds it to its mailbox.
@@ -120,7 +121,7 @@ impl SaveTask {
     /// in it, stored in the map, and added to its mailbox. Where it can't be added, one more event gives its record back. The
     /// store has to have what the event before left.
     pub fn step<D: Disk>(&mut self, store: &mut Store<D>) -> Progress
-        requires left { HasLeft self.old.stage self.old.name self.old.time store.old }
+        requires left { HasLeft self.old.stage self.old.name self.old.time store.old (D.history store.old.disk) }
         ensures saves { store.old.stopped ≡ false → Saves self.old.stage self.new.stage self.old.name self.old.time self.old.size result self.new.did store.old store.new (D.history store.old.disk) (D.history store.new.disk) (D.faults store.old.disk) (D.faults store.new.disk) }
 
         // Of the message with these octets, of which no part can be detached, where the task is ready for it: which event of a
@@ -163,7 +164,7 @@ fn next_event<D: Disk>(
     now: SaveStage,
 ) -> Led
     requires running { store.old.stopped ≡ false }
-    requires left { HasLeft now name.now time store.old }
+    requires left { HasLeft now name.now time store.old (D.history store.old.disk) }
     requires size { size ≤ 67108864 }
     ensures { Saves now result.next name.now time size result.answer result.did store.old store.new (D.history store.old.disk) (D.history store.new.disk) (D.faults store.old.disk) (D.faults store.new.disk) }
 {
@@ -171,9 +172,12 @@ fn next_event<D: Disk>(
         SaveStage::First(prepared) => first_event(store, name, time, &prepared),
         SaveStage::Taking(parts) => taking(store, name, time, parts),
         SaveStage::Placing { parts, file } => placing(store, name, time, parts, file),
-        SaveStage::Storing { at, origin, room } => {
-            storing(store, name, time, size, at, origin, room)
-        }
+        SaveStage::Storing {
+            at,
+            origin,
+            rows,
+            room,
+        } => storing(store, name, time, size, at, origin, rows, room),
         SaveStage::Adding { added, room } => adding(store, name, time, added, room),
         SaveStage::GivingBack { uid, why, room } => giving_back(store, uid, why, room),
         SaveStage::Ended => unreachable!(),
@@ -254,6 +258,7 @@ fn known_name(name: &Name)
 fn taking<D: Disk>(store: &mut Store<D>, name: &Name, time: u64, parts: SavedParts) -> Led
     requires running { store.old.stopped ≡ false }
     requires message { IsOfMessage name.now time parts }
+    requires instances { HoldsInstances parts.rows store.old (D.history store.old.disk) }
     ensures { (size : ℕ) → Saves (stage.Taking parts) result.next name.now time size result.answer result.did store.old store.new (D.history store.old.disk) (D.history store.new.disk) (D.faults store.old.disk) (D.faults store.new.disk) }
 {
     known_name(name);
@@ -275,18 +280,25 @@ fn placing<D: Disk>(
     requires running { store.old.stopped ≡ false }
     requires message { IsOfMessage name.now time parts }
     requires taken { HoldsFile file.0 (length parts.region) store.old }
+    requires instances { HoldsInstances parts.rows store.old (D.history store.old.disk) }
     ensures { (size : ℕ) → Saves (stage.Placing parts file) result.next name.now time size result.answer result.did store.old store.new (D.history store.old.disk) (D.history store.new.disk) (D.faults store.old.disk) (D.faults store.new.disk) }
 {
     let SavedParts {
         header: _header,
         region,
         origin,
+        rows,
         room,
     } = parts;
     let mut region = region.into_vec();
     known_name(name);
     match place_region(store, name, &mut region, file) {
-        Ok(at) => goes_on(SaveStage::Storing { at, origin, room }),
+        Ok(at) => goes_on(SaveStage::Storing {
+            at,
+            origin,
+            rows,
+            room,
+        }),
         Err(Stopped) => ends(Refusal::Stopped, Did::Failed),
     }
 }
@@ -299,16 +311,16 @@ fn storing<D: Disk>(
     size: u32,
     at: SavedAt,
     origin: u8,
+    rows: Seq<InstRow>,
     room: LowerRoom,
 ) -> Led
     requires running { store.old.stopped ≡ false }
-    requires left { HasLeft (stage.Storing at origin room) name.now time store.old }
+    requires left { HasLeft (stage.Storing at origin rows room) name.now time store.old (D.history store.old.disk) }
     requires size { size ≤ 67108864 }
-    ensures { Saves (stage.Storing at origin room) result.next name.now time size result.answer result.did store.old store.new (D.history store.old.disk) (D.history store.new.disk) (D.faults store.old.disk) (D.faults store.new.disk) }
+    ensures { Saves (stage.Storing at origin rows room) result.next name.now time size result.answer result.did store.old store.new (D.history store.old.disk) (D.history store.new.disk) (D.faults store.old.disk) (D.faults store.new.disk) }
 {
     store.facts();
-    let alloc = store.alloc();
-    match store_record(store, alloc, at, origin) {
+    match store_record(store, at, origin, rows) {
         Ok(map_uid) => goes_on(SaveStage::Adding {
             added: Added {
                 map_uid,
@@ -331,7 +343,7 @@ fn adding<D: Disk>(
     room: LowerRoom,
 ) -> Led
     requires running { store.old.stopped ≡ false }
-    requires left { HasLeft (stage.Adding added room) name.now time store.old }
+    requires left { HasLeft (stage.Adding added room) name.now time store.old (D.history store.old.disk) }
     ensures { (size : ℕ) → Saves (stage.Adding added room) result.next name.now time size result.answer result.did store.old store.new (D.history store.old.disk) (D.history store.new.disk) (D.faults store.old.disk) (D.faults store.new.disk) }
 {
     match add_message(store, name, added) {

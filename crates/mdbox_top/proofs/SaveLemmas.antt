@@ -5,6 +5,7 @@ use Rattle.std.proofs.Common.{refl, sym, ◌∙◌, ap, subst, inl, inr}
 use Rattle.attach_detach.specs.declared.message.Prepared.{Prepared}
 use Rattle.disk_model.specs.Disk.{History, Faults}
 use Rattle.disk_model.specs.FaultCounts.{NoFault, ChangeFaultCounted}
+use Rattle.mdbox_base.specs.declared.entries.InstRow.{InstRow}
 use Rattle.mdbox_base.specs.declared.ids.BoxNo.{BoxNo}
 use Rattle.mdbox_base.specs.declared.ids.FileNo.{FileNo}
 use Rattle.mdbox_base.specs.declared.ids.Guid.{Guid}
@@ -151,7 +152,7 @@ more_lists (stage.Adding added room) name octets lists = refl
 more_lists (stage.First prepared) name octets lists = refl
 more_lists (stage.Taking parts) name octets lists = refl
 more_lists (stage.Placing parts file) name octets lists = refl
-more_lists (stage.Storing at origin room) name octets lists = refl
+more_lists (stage.Storing at origin rows room) name octets lists = refl
 more_lists (stage.GivingBack uid why room) name octets lists = refl
 more_lists stage.Ended name octets lists = refl
 
@@ -160,7 +161,7 @@ refused_lists (stage.Adding added room) name octets why lists = refl
 refused_lists (stage.First prepared) name octets why lists = refl
 refused_lists (stage.Taking parts) name octets why lists = refl
 refused_lists (stage.Placing parts file) name octets why lists = refl
-refused_lists (stage.Storing at origin room) name octets why lists = refl
+refused_lists (stage.Storing at origin rows room) name octets why lists = refl
 refused_lists (stage.GivingBack uid cause room) name octets why lists = refl
 refused_lists stage.Ended name octets why lists = refl
 
@@ -178,7 +179,7 @@ pub record SaveEvent {D : Type 0} (history : D → Option History) (faults : D �
   pub effects : SaveEffects now next name time (length octets) answer s t
   pub is : IsStore (history s.disk) s
   pub ready : IsReadyToSave now name time (length octets) octets s (history s.disk)
-  pub left : answer ≡ progress.More → HasLeft next name time t
+  pub left : answer ≡ progress.More → HasLeft next name time t (history t.disk)
   pub mail : t.stopped ≡ false → WritesMail now next name time s (history s.disk) (history t.disk)
 
 -- ---- so far
@@ -219,7 +220,7 @@ abbrev pub SaveKnows : {D : Type 0} → (D → Option History) → List ℕ → 
 SaveKnows history name time octets first s (stage.First prepared) = s ≡ first
 SaveKnows history name time octets first s (stage.Taking parts) = (s ≡ first) × (save_refusal name first ≡ None)
 SaveKnows history name time octets first s (stage.Placing parts file) = TakenAlone history name time octets first s file
-SaveKnows history name time octets first s (stage.Storing at origin room) = PlacedAlone history name time octets first s at origin
+SaveKnows history name time octets first s (stage.Storing at origin rows room) = PlacedAlone history name time octets first s at origin
 SaveKnows history name time octets first s (stage.Adding added room) = RecordedAlone history name time octets first s added.map_uid added.guid × (added.time ≡ time) × (added.size ≡ length octets)
 SaveKnows history name time octets first s (stage.GivingBack uid why room) = (guid : Guid) × RecordedAlone history name time octets first s uid guid × (why ≡ refusal.NoMemory)
 SaveKnows history name time octets first s stage.Ended = Unit {0}
@@ -229,7 +230,7 @@ along history name time octets first s (stage.Adding added room) knows lists = i
 along history name time octets first s (stage.First prepared) knows lists = inl refl
 along history name time octets first s (stage.Taking parts) knows lists = inl refl
 along history name time octets first s (stage.Placing parts file) knows lists = inl refl
-along history name time octets first s (stage.Storing at origin room) knows lists = inl refl
+along history name time octets first s (stage.Storing at origin rows room) knows lists = inl refl
 along history name time octets first s (stage.GivingBack uid why room) knows lists = inl refl
 along history name time octets first s stage.Ended knows lists = inl refl
 
@@ -257,7 +258,7 @@ said_none : (now : SaveStage) (why : Refusal) (run : Run) (said : List Reply) �
 said_none (stage.First prepared) why run said at only = at.1
 said_none (stage.Taking parts) why run said at only = at.1
 said_none (stage.Placing parts file) why run said at only = at.1
-said_none (stage.Storing place origin room) why run said at only = at.3
+said_none (stage.Storing place origin rows room) why run said at only = at.3
 said_none (stage.Adding added room) why run said at only = at.2
 said_none (stage.GivingBack uid cause room) why run said at only = at.1 ∙ ap answered_by (only uid cause room refl)
 said_none stage.Ended why run said at only = absurd at
@@ -319,8 +320,8 @@ placed_logs first s t k same = record {
   drawn = ap (λ (v : StoreValue _). v.drawn.map) same ∙ k.drawn;
 }
 
-stored_alike : {D : Type 0} → (at : SavedAt) (origin time size : ℕ) (added : Added) (first s t : StoreValue D) → KeepsLogs first s → StoresPlaced at origin time size added s t → IsAlike first t
-stored_alike at origin time size added first s t k e = record {
+stored_alike : {D : Type 0} → (at : SavedAt) (origin : ℕ) (rows : List InstRow) (time size : ℕ) (added : Added) (first s t : StoreValue D) → KeepsLogs first s → StoresPlaced at origin rows time size added s t → IsAlike first t
+stored_alike at origin rows time size added first s t k e = record {
   indexes = ap (λ (v : StoreValue _). indexes_of v.boxes) e.same ∙ k.indexes;
   mailboxes = e.mailboxes ∙ ap (λ (m : MapMeaning). m.boxes) k.map;
 }
@@ -365,9 +366,9 @@ placed_at : {D : Type 0} → (name : List ℕ) (time : ℕ) (octets : List ℕ) 
 placed_at name time octets at first s began (inl known) = inl (known.0, sym known.1 ∙ began)
 placed_at name time octets at first s began (inr new) = inr (new.0, one_end at.offset (length (written_header time)) (sym began ∙ new.1))
 
-placed_alone : {D : Type 0} → (history : D → Option History) (name : List ℕ) (time : ℕ) (octets : List ℕ) (parts : SavedParts) (file : FileNo) (at : SavedAt) (origin : ℕ) (first s t : StoreValue D) → TakenAlone history name time octets first s file → s.stopped ≡ false → IsStore (history s.disk) s → AreLaidOut name time octets parts
-    → PlacesParts parts file at origin s t → HoldsRegion at t → HasAppended name time octets at.guid.0 file.0 (history s.disk) (history t.disk) → PlacedAlone history name time octets first t at origin
-placed_alone history name time octets parts file at origin first s t knows0 runs is laid e holds wrote0 = record {
+placed_alone : {D : Type 0} → (history : D → Option History) (name : List ℕ) (time : ℕ) (octets : List ℕ) (parts : SavedParts) (file : FileNo) (at : SavedAt) (origin : ℕ) (rows : List InstRow) (first s t : StoreValue D) → TakenAlone history name time octets first s file → s.stopped ≡ false → IsStore (history s.disk) s → AreLaidOut name time octets parts
+    → PlacesParts parts file at origin rows s t → HoldsRegion at t → HasAppended name time octets at.guid.0 file.0 (history s.disk) (history t.disk) → PlacedAlone history name time octets first t at origin
+placed_alone history name time octets parts file at origin rows first s t knows0 runs is laid e holds wrote0 = record {
   logs = placed_logs first s t knows.logs (placed_same s t e.same);
   free = knows.free;
   origin_is = e.origin_is ∙ laid.origin;
@@ -390,10 +391,10 @@ placed_alone history name time octets parts file at origin first s t knows0 runs
     wrote : HasAppended name time octets at.guid.0 at.file.0 (history s.disk) (history t.disk)
     wrote = subst (λ (f : FileNo). HasAppended name time octets at.guid.0 f.0 (history s.disk) (history t.disk)) (sym e.file_is) wrote0
 
-recorded_alone : {D : Type 0} → (history : D → Option History) (name : List ℕ) (time : ℕ) (octets : List ℕ) (at : SavedAt) (origin size : ℕ) (added : Added) (first s t : StoreValue D) → PlacedAlone history name time octets first s at origin → StoresPlaced at origin time size added s t → ReadsSameMail (history s.disk) (history t.disk)
+recorded_alone : {D : Type 0} → (history : D → Option History) (name : List ℕ) (time : ℕ) (octets : List ℕ) (at : SavedAt) (origin : ℕ) (rows : List InstRow) (size : ℕ) (added : Added) (first s t : StoreValue D) → rows ≡ [] → PlacedAlone history name time octets first s at origin → StoresPlaced at origin rows time size added s t → ReadsSameMail (history s.disk) (history t.disk)
     → RecordedAlone history name time octets first t added.map_uid added.guid
-recorded_alone history name time octets at origin size added first s t knows e same = record {
-  alike = stored_alike at origin time size added first s t knows.logs e;
+recorded_alone history name time octets at origin rows size added first s t none knows e same = record {
+  alike = stored_alike at origin rows time size added first s t knows.logs e;
   free = knows.free;
   stored = record {
     at = at;
@@ -401,7 +402,7 @@ recorded_alone history name time octets at origin size added first s t knows e s
     more = record {
       next = e.uid_is ∙ ap (λ (n : ℕ). n + 1) knows.logs.drawn;
       place = knows.place;
-      map_is = e.map ∙ (ap (λ (m : MapMeaning). map_applied (entry_stored origin added.map_uid at) m) knows.logs.map ∙ ap (λ (n : ℕ). map_applied (entry_stored n added.map_uid at) first.map) knows.origin_is);
+      map_is = e.map ∙ (ap (λ (m : MapMeaning). map_applied (entry_stored origin rows added.map_uid at) m) knows.logs.map ∙ (ap (λ (n : ℕ). map_applied (entry_stored n rows added.map_uid at) first.map) knows.origin_is ∙ ap (λ (is : List InstRow). map_applied (entry_stored (origin_of octets) is added.map_uid at) first.map) none));
     };
     unsealed = knows.unsealed;
     mail = subst (λ (g : Guid). WroteMail time at.file.0 at.offset (saved_region name time octets g.0) (history first.disk) (history t.disk)) (sym e.guid_is) (wrote_on time at.file.0 at.offset (saved_region name time octets at.guid.0) (history first.disk) (history s.disk) (history t.disk) knows.mail same);
@@ -432,12 +433,12 @@ saving_on history faults name time octets first s t (stage.First prepared) (stag
 saving_on history faults name time octets first s t (stage.Taking parts) (stage.Placing laid file) how so event =
     saving_by history faults name time octets first s t (stage.Taking parts) (stage.Placing laid file) how so event
     (taken_alone history name time octets parts file first s t so.knows.0 so.running so.knows.1 event.is event.ready.1 event.effects.1 (event.mail (goes_on_running t event.stopped)))
-saving_on history faults name time octets first s t (stage.Placing parts file) (stage.Storing at origin room) how so event =
-    saving_by history faults name time octets first s t (stage.Placing parts file) (stage.Storing at origin room) how so event
-    (placed_alone history name time octets parts file at origin first s t so.knows so.running event.is event.ready.1 event.effects (event.left refl).0 (event.mail (goes_on_running t event.stopped) octets event.ready.1))
-saving_on history faults name time octets first s t (stage.Storing at origin room) (stage.Adding added left) how so event =
-    saving_by history faults name time octets first s t (stage.Storing at origin room) (stage.Adding added left) how so event
-    (recorded_alone history name time octets at origin (length octets) added first s t so.knows event.effects (event.mail (goes_on_running t event.stopped)), event.effects.time_is, event.effects.size_is)
+saving_on history faults name time octets first s t (stage.Placing parts file) (stage.Storing at origin rows room) how so event =
+    saving_by history faults name time octets first s t (stage.Placing parts file) (stage.Storing at origin rows room) how so event
+    (placed_alone history name time octets parts file at origin rows first s t so.knows so.running event.is event.ready.1 event.effects (event.left refl).0 (event.mail (goes_on_running t event.stopped) octets event.ready.1))
+saving_on history faults name time octets first s t (stage.Storing at origin rows room) (stage.Adding added left) how so event =
+    saving_by history faults name time octets first s t (stage.Storing at origin rows room) (stage.Adding added left) how so event
+    (recorded_alone history name time octets at origin rows (length octets) added first s t event.ready.1.rows_are so.knows event.effects (event.mail (goes_on_running t event.stopped)), event.effects.time_is, event.effects.size_is)
 saving_on history faults name time octets first s t (stage.Adding added room) (stage.GivingBack uid why left) how so event =
     saving_by history faults name time octets first s t (stage.Adding added room) (stage.GivingBack uid why left) how so event (
       added.guid,
@@ -675,8 +676,8 @@ saves_end history faults name time octets first s t (stage.Taking parts) stage.E
     later_saves history faults name time octets first s t (stage.Taking parts) stage.Ended how why so event k so.knows.1 (takes_late name time octets (length parts.region) why first s t so.knows.0 (ap length event.ready.1.region) event.effects)
 saves_end history faults name time octets first s t (stage.Placing parts file) stage.Ended how (reply.Refused why) f so event k =
     later_saves history faults name time octets first s t (stage.Placing parts file) stage.Ended how why so event k so.knows.free (inl event.replies)
-saves_end history faults name time octets first s t (stage.Storing at origin room) stage.Ended how (reply.Refused why) f so event k =
-    later_saves history faults name time octets first s t (stage.Storing at origin room) stage.Ended how why so event k so.knows.free (stores_late name time octets at first s t why so.knows.logs so.knows.free event.replies event.effects)
+saves_end history faults name time octets first s t (stage.Storing at origin rows room) stage.Ended how (reply.Refused why) f so event k =
+    later_saves history faults name time octets first s t (stage.Storing at origin rows room) stage.Ended how why so event k so.knows.free (stores_late name time octets at first s t why so.knows.logs so.knows.free event.replies event.effects)
 saves_end history faults name time octets first s t (stage.Adding added room) stage.Ended how (reply.Saved uid guid) f so event k =
     done_saves history name time octets added uid guid first s t (faults first.disk) (faults t.disk) so.knows.0 so.knows.1 so.knows.2 event.effects.0 event.effects.1 (event.mail (saved_running uid guid t event.stopped))
     (saving_ended history faults name time octets first s t (stage.Adding added room) stage.Ended how (reply.Saved uid guid) so event k refl
@@ -697,7 +698,7 @@ has_size : {D : Type 0} → (now : SaveStage) (name : List ℕ) (time size : ℕ
 has_size (stage.First prepared) name time size octets s h ready = ready.0.0
 has_size (stage.Taking parts) name time size octets s h ready = ready.0.0
 has_size (stage.Placing parts file) name time size octets s h ready = ready.0.0
-has_size (stage.Storing at origin room) name time size octets s h ready = ready.0.0
+has_size (stage.Storing at origin rows room) name time size octets s h ready = ready.0.0
 has_size (stage.Adding added room) name time size octets s h ready = ready.0.0
 has_size (stage.GivingBack uid why room) name time size octets s h ready = ready.0
 has_size stage.Ended name time size octets s h ready = ready.0
@@ -722,8 +723,8 @@ pub ready_as : {D : Type 0} → (name other : List ℕ) (time last size many : �
 ready_as name other time last size many octets now s h names times sizes ready =
     subst (λ (n : List ℕ). IsReadyToSave now n time size octets s h) (sym names) (subst (λ (m : ℕ). IsReadyToSave now other m size octets s h) (sym times) (subst (λ (k : ℕ). IsReadyToSave now other last k octets s h) (sym sizes) ready))
 
-pub left_as : {D : Type 0} → (name other : List ℕ) (time last : ℕ) (now : SaveStage) (s : StoreValue D) → name ≡ other → time ≡ last → HasLeft now other last s → HasLeft now name time s
-left_as name other time last now s names times left = subst (λ (n : List ℕ). HasLeft now n time s) (sym names) (subst (λ (m : ℕ). HasLeft now other m s) (sym times) left)
+pub left_as : {D : Type 0} → (name other : List ℕ) (time last : ℕ) (now : SaveStage) (s : StoreValue D) (h : Option History) → name ≡ other → time ≡ last → HasLeft now other last s h → HasLeft now name time s h
+left_as name other time last now s h names times left = subst (λ (n : List ℕ). HasLeft now n time s h) (sym names) (subst (λ (m : ℕ). HasLeft now other m s h) (sym times) left)
 
 pub save_event : {D : Type 0} → (history : D → Option History) (faults : D → Faults) (name : List ℕ) (time size : ℕ) (octets : List ℕ) (now next : SaveStage) (s t : StoreValue D) (how : Did) (answer : Progress) → s.stopped ≡ false → SaveSaid history faults name time size octets now next s t how answer
     → SaveEvent history faults name time octets now next s t how answer

@@ -95,7 +95,7 @@ pub record IsSavedPlace (time size : ℕ) (m : MapMeaning) (files : FilesValue) 
 pub record HasRecordMore (name : List ℕ) (time : ℕ) (octets : List ℕ) (last : ℕ) (m : MapMeaning) (files : FilesValue) (uid : MapUid) (at : SavedAt) (map : MapMeaning) : Type 0 where
   pub next : uid.0 ≡ last + 1
   pub place : IsSavedPlace time (region_length name time octets) m files at
-  pub map_is : map ≡ map_applied (entry_stored (origin_of octets) uid at) m
+  pub map_is : map ≡ map_applied (entry_stored (origin_of octets) [] uid at) m
 
 -- The map means what it did, with a record of the message, whose count, which was 1, was lowered.
 pub record HasRecordLeft (name : List ℕ) (time : ℕ) (octets : List ℕ) (last : ℕ) (m : MapMeaning) (files : FilesValue) (map : MapMeaning) : Type 0 where

@@ -5,6 +5,7 @@ use Rattle.mail_save.specs.Task.{Saves}
 use Rattle.mail_save.specs.declared.task.SaveStage.TheVariants as stage
 use Rattle.mail_save.proofs.SaveEventLemmas.{more_apart, more_runs, no_faults, done_goes_on, refused_rose, refused_stops, never_stops, first_calm}
 use Rattle.mail_save.proofs.StoringLemmas.{spared_kept}
+use Rattle.mail_save.proofs.HeldInstanceLemmas.{holds_none}
 use Rattle.mail_save.proofs.HeldLemmas.{nothing_moves}
 use Rattle.mail_save.specs.Held.{save_amounts}
 use Rattle.mail_save.proofs.OtherLemmas.{keeps_same}
@@ -22,7 +23,7 @@ returns-in-Ok g c = λ size.
       moments = λ lists s. leaves_none h lists lists s;
       rests = λ ran lists s. s;
       ready = λ e octets h. (h.0, c.in-Ok.ensures.begun.1 octets h.1);
-      left = λ e. (m.0, m.1, c.in-Ok.ensures.begun.1 m.0 m.2);
+      left = λ e. (let laid = c.in-Ok.ensures.begun.1 m.0 m.2 in ((m.0, m.1, laid), holds_none c.in-Ok.parts.rows c.args.store.now h laid.rows));
       fewer = λ e. omega arith;
       effects = (refl, c.in-Ok.ensures.begun.0, c.in-Ok.ensures.begun.1);
       mail = λ ran. mail_itself h;

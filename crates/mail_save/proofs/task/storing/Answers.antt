@@ -16,20 +16,20 @@ returns-in-Ok g c =
     let o = c.in-Ok.ensures in
     let made = o.stores c.args.time c.args.size in
     let runs = is_false c.store_record.new.store.stopped (λ e. ok_apart _ _ (o.stopped.1 e)) in
-    subst (λ l. Saves (stage.Storing c.args.at c.args.origin c.args.room) l.next c.args.name.now c.args.time c.args.size l.answer l.did c.args.store.now c.store_record.new.store (g.D.Disk.history c.args.store.now.disk) (g.D.Disk.history c.store_record.new.store.disk) (g.D.Disk.faults c.args.store.now.disk) (g.D.Disk.faults c.store_record.new.store.disk)) (sym c.goes_on.ensures) (record {
+    subst (λ l. Saves (stage.Storing c.args.at c.args.origin c.args.rows c.args.room) l.next c.args.name.now c.args.time c.args.size l.answer l.did c.args.store.now c.store_record.new.store (g.D.Disk.history c.args.store.now.disk) (g.D.Disk.history c.store_record.new.store.disk) (g.D.Disk.faults c.args.store.now.disk) (g.D.Disk.faults c.store_record.new.store.disk)) (sym c.goes_on.ensures) (record {
       replies = tt;
       did_is = refl;
       moments = o.any_moment;
       rests = o.settled;
-      ready = λ e octets h. (h.0, record_ready c.args.at c.args.origin c.args.name.now c.args.time c.args.size octets _ c.args.store.now c.store_record.new.store _ _ c.facts.ensures.store c.requires.left.0.guid_new made h.0.0 h.1 (o.stored runs) o.mail);
-      left = λ e. ((saved_row c.args.origin c.in-Ok.map_uid c.args.at, made.there, refl), one_is_due c.in-Ok.map_uid.0 _ _ (made.due c.in-Ok.map_uid.0), c.requires.size);
+      ready = λ e octets h. (h.0, record_ready c.args.at c.args.origin c.args.rows c.args.name.now c.args.time c.args.size octets _ c.args.store.now c.store_record.new.store _ _ c.facts.ensures.store c.requires.left.0.guid_new made h.0.0 h.1 (o.stored runs) o.mail);
+      left = λ e. ((saved_row c.args.origin c.args.rows c.in-Ok.map_uid c.args.at, made.there, refl), one_is_due c.in-Ok.map_uid.0 _ _ (made.due c.in-Ok.map_uid.0), c.requires.size);
       fewer = λ e. omega arith;
       effects = made;
       mail = λ ran. o.mail;
       idle = λ e. ap (λ v. g.D.Disk.history v.disk) e;
       spared = λ ran. o.spared;
-      others = storing_keeps c.args.at c.args.origin c.args.time c.args.size c.args.room _ c.args.store.now c.store_record.new.store c.requires.left.0 made;
-      moves = λ ran. one_more c.in-Ok.map_uid (save_amounts (stage.Storing c.args.at c.args.origin c.args.room)) (save_amounts (stage.Adding (record { map_uid = c.in-Ok.map_uid; guid = c.args.at.guid; time = c.args.time; size = c.args.size }) c.args.room)) c.args.store.now c.store_record.new.store (λ uid. refl) (λ uid. refl) made.due;
+      others = storing_keeps c.args.at c.args.origin c.args.rows c.args.time c.args.size c.args.room _ c.args.store.now c.store_record.new.store c.requires.left.0 made;
+      moves = λ ran. one_more c.in-Ok.map_uid (save_amounts (stage.Storing c.args.at c.args.origin c.args.rows c.args.room)) (save_amounts (stage.Adding (record { map_uid = c.in-Ok.map_uid; guid = c.args.at.guid; time = c.args.time; size = c.args.size }) c.args.room)) c.args.store.now c.store_record.new.store (λ uid. refl) (λ uid. refl) made.due;
       stopped = more_runs c.store_record.new.store.stopped runs;
       fault = faults_by _ _ _ _ (λ e. absurd (more_apart e)) o.fault;
       unfailed = λ e. o.unfailed runs;
@@ -39,7 +39,7 @@ returns-in-Ok g c =
 pub returns-in-Err : goal.returns-in-Err
 returns-in-Err g c =
     let o = c.in-Err.ensures in
-    subst (λ l. Saves (stage.Storing c.args.at c.args.origin c.args.room) l.next c.args.name.now c.args.time c.args.size l.answer l.did c.args.store.now c.store_record.new.store (g.D.Disk.history c.args.store.now.disk) (g.D.Disk.history c.store_record.new.store.disk) (g.D.Disk.faults c.args.store.now.disk) (g.D.Disk.faults c.store_record.new.store.disk)) (sym c.ends.ensures) (record {
+    subst (λ l. Saves (stage.Storing c.args.at c.args.origin c.args.rows c.args.room) l.next c.args.name.now c.args.time c.args.size l.answer l.did c.args.store.now c.store_record.new.store (g.D.Disk.history c.args.store.now.disk) (g.D.Disk.history c.store_record.new.store.disk) (g.D.Disk.faults c.args.store.now.disk) (g.D.Disk.faults c.store_record.new.store.disk)) (sym c.ends.ensures) (record {
       replies = o.refused;
       did_is = c.did_fail.ensures;
       moments = o.any_moment;
@@ -51,8 +51,8 @@ returns-in-Err g c =
       mail = λ ran. unstored_mail g.D.Disk.history c.args.at c.in-Err.why c.args.store.now c.store_record.new.store o.none (λ e. unfallen c.store_record.new.store.stopped (o.stopped.0 (ap Err e)) ran);
       idle = λ e. ap (λ v. g.D.Disk.history v.disk) e;
       spared = λ ran. spared_kept c.args.store.now c.store_record.new.store _ _ (unstored_map c.args.at c.in-Err.why c.args.store.now c.store_record.new.store o.none) (o.stored ran);
-      others = unstored_keeps c.args.at c.args.origin c.args.room c.in-Err.why c.args.store.now c.store_record.new.store o.none;
-      moves = λ ran. nothing_moves (save_amounts (stage.Storing c.args.at c.args.origin c.args.room)) (save_amounts stage.Ended) c.args.store.now c.store_record.new.store (λ uid. refl) (unstored_due c.args.at c.in-Err.why c.args.store.now c.store_record.new.store o.none);
+      others = unstored_keeps c.args.at c.args.origin c.args.rows c.args.room c.in-Err.why c.args.store.now c.store_record.new.store o.none;
+      moves = λ ran. nothing_moves (save_amounts (stage.Storing c.args.at c.args.origin c.args.rows c.args.room)) (save_amounts stage.Ended) c.args.store.now c.store_record.new.store (λ uid. refl) (unstored_due c.args.at c.in-Err.why c.args.store.now c.store_record.new.store o.none);
       stopped = refused_stops c.in-Err.why c.store_record.new.store.stopped (record { 0 = λ e. o.stopped.0 (ap Err e); 1 = λ e. one_error _ _ (o.stopped.1 e) });
       fault = faults_by _ _ _ _ (λ e. ap Err (refused_rose c.in-Err.why e)) o.fault;
       unfailed = λ e. o.unfailed (is_false c.store_record.new.store.stopped (λ s. e (refused_is c.in-Err.why (one_error _ _ (o.stopped.1 s)))));

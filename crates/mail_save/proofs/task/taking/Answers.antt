@@ -8,6 +8,7 @@ use Rattle.mail_save.proofs.RegionSizeLemmas.{parts_short}
 use Rattle.mail_save.proofs.SaveEventLemmas.{done_goes_on, faults_by, is_false, more_apart, more_runs, ok_apart, one_error, refused_is, refused_rose, refused_stops, unfallen}
 use Rattle.mail_save.proofs.StoringLemmas.{spared_kept}
 use Rattle.mail_save.proofs.TakingLemmas.{takes_as, untaken_why}
+use Rattle.mail_save.proofs.HeldInstanceLemmas.{taken_holds}
 use Rattle.mail_save.proofs.HeldLemmas.{nothing_moves}
 use Rattle.mail_save.specs.Held.{save_amounts}
 use Rattle.mail_save.proofs.OtherLemmas.{taking_keeps, untaken_keeps}
@@ -42,7 +43,11 @@ returns-in-Ok g c = λ size.
       moments = o.any_moment;
       rests = o.settled;
       ready = λ e octets h. h;
-      left = λ e. (c.requires.message, subst (λ n. HoldsFile c.in-Ok.file.0 n c.take_file.new.store) c.length-size.ensures o.taken);
+      left = λ e. (
+        c.requires.message,
+        subst (λ n. HoldsFile c.in-Ok.file.0 n c.take_file.new.store) c.length-size.ensures o.taken,
+        taken_holds c.args.parts.rows _ c.in-Ok.file.0 c.args.store.now c.take_file.new.store _ _ (ap (λ v. v.instances) o.same) o.mail c.requires.instances,
+      );
       fewer = λ e. omega arith;
       effects = (refl, takes_as _ _ _ _ c.in-Ok.file c.args.store.now c.take_file.new.store c.as_slice.ensures c.length-size.ensures o.takes);
       mail = λ ran. subst (λ (h : List ℕ). TakesWithHeader h c.in-Ok.file.0 c.args.store.now (g.D.Disk.history c.args.store.now.disk) (g.D.Disk.history c.take_file.new.store.disk)) c.as_slice.ensures o.mail;

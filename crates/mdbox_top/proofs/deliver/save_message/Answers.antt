@@ -24,7 +24,7 @@ loop-reply-preserved g c =
     record {
       name_is = step.request.0 ∙ now.name_is;
       time_is = step.request.1 ∙ now.time_is;
-      left = left_as c.step.new.self.name c.loop-reply.task.name c.step.new.self.time c.loop-reply.task.time c.step.new.self.stage c.step.new.store step.request.0 step.request.1 (says.left c.in_default.is);
+      left = left_as c.step.new.self.name c.loop-reply.task.name c.step.new.self.time c.loop-reply.task.time c.step.new.self.stage c.step.new.store _ step.request.0 step.request.1 (says.left c.in_default.is);
       ready = ready_as c.step.new.self.name c.loop-reply.task.name c.step.new.self.time c.loop-reply.task.time c.step.new.self.size c.loop-reply.task.size c.args.message c.step.new.self.stage c.step.new.store _ step.request.0 step.request.1 step.request.2 (says.ready c.in_default.is c.args.message now.ready);
       so_far = save_goes_on g.D.Disk.history g.D.Disk.faults c.args.name c.args.time c.loop-reply.task.size c.args.message c.args.store.now c.loop-reply.store c.step.new.store c.loop-reply.task.stage c.step.new.self.stage c.step.new.self.did c.step.result c.in_default.is now.so_far said;
     }

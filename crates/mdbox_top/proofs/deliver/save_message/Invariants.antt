@@ -8,7 +8,7 @@ abbrev pub invariant-loop-reply : goal.invariant-loop-reply
 invariant-loop-reply g l = record {
   name_is : l.task.name ≡ l.fn.name;
   time_is : l.task.time ≡ l.fn.time;
-  left : HasLeft l.task.stage l.task.name l.task.time l.store;
+  left : HasLeft l.task.stage l.task.name l.task.time l.store (g.D.Disk.history l.store.disk);
   ready : IsReadyToSave l.task.stage l.task.name l.task.time l.task.size l.fn.message l.store (g.D.Disk.history l.store.disk);
   so_far : IsSavingAlone g.D.Disk.history g.D.Disk.faults l.fn.name l.fn.time l.fn.message l.initial.store l.store l.task.stage;
 }
