@@ -1,6 +1,7 @@
 -- What calls and events leave to tasks that have begun.
-use Rattle.std.specs.Prelude.{◌≡◌, ◌<◌, ◌≤◌, ◌+◌, ℕ, List, Option, Some}
-use Rattle.disk_model.specs.Disk.{History, Between, reading}
+use Rattle.std.specs.Prelude.{◌≡◌, ◌<◌, ◌≤◌, ◌+◌, ℕ, List, count_by, Option, Some}
+use Rattle.std.specs.Str.{bytes_eq}
+use Rattle.disk_model.specs.Disk.{DiskState, History, Between, reading}
 use Rattle.disk_model.specs.declared.name.FileName.TheVariants as file
 use Rattle.mdbox_base.specs.declared.entries.InstRow.{InstRow}
 use Rattle.mdbox_base.specs.declared.ids.Hash.{Hash}
@@ -45,6 +46,14 @@ pub record KeepsInstances {D : Type 0} (old new : StoreValue D) (before after : 
   pub first : Between (λ a b. (row : InstRow) → IsKnownRow old.instances.known row → IsFirstKnown old.instances.known a row → IsFirstKnown new.instances.known b row) before after
   pub compared : (hash : Hash) (size : ℕ) (octets : List ℕ) (last : Option InstId) (drawn : ℕ) → drawn ≤ old.instances.highest
       → IsUnlikeCompared old.instances.store hash size octets last drawn old.instances.known before → IsUnlikeCompared old.instances.store hash size octets last drawn new.instances.known after
+
+-- each instance reads as it did
+abbrev pub ReadsInstances : DiskState → DiskState → Type 0
+ReadsInstances a b = (hash id : List ℕ) → reading (b (file.Inst hash id)) ≡ reading (a (file.Inst hash id))
+
+-- how often a task holds an instance that has found these, once for each row of its id
+abbrev pub holds_of : List InstRow → InstId → ℕ
+holds_of found id = count_by (λ row. bytes_eq row.id.0 id.0) found
 
 -- By as many as a task's own holds of an instance grow or shrink, those of all tasks do.
 abbrev pub MovesHolds : {D : Type 0} → (InstId → ℕ) → (InstId → ℕ) → StoreValue D → StoreValue D → Type 0
