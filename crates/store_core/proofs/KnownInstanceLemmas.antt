@@ -161,7 +161,7 @@ instances_boxed old new v w k b number e p known same instances drawn m =
 
 -- ---- holders
 
-row_held : (id other : InstId) (holders : ℕ) (known : List KnownInstance) → option_map (λ k. k.row) (instance_in other (with_holders id holders known)) ≡ option_map (λ k. k.row) (instance_in other known)
+pub row_held : (id other : InstId) (holders : ℕ) (known : List KnownInstance) → option_map (λ k. k.row) (instance_in other (with_holders id holders known)) ≡ option_map (λ k. k.row) (instance_in other known)
 row_held id other holders [] = refl
 row_held id other holders (k ∷ known) = by_hit (has_id id k) (has_id other k) refl (row_held id other holders known)
   where
@@ -174,7 +174,7 @@ row_held id other holders (k ∷ known) = by_hit (has_id id k) (has_id other k) 
     by_hit false false e rest = ap (λ (t : Bool). option_map (λ (k : KnownInstance). k.row) (if t then Some k else instance_in other (with_holders id holders known))) e ∙ rest
 
 -- what holds of a row holds of it with other holders
-all_held : (P : InstRow → Type 0) (id : InstId) (holders : ℕ) (known : List KnownInstance) → All (λ k. P k.row) known → All (λ k. P k.row) (with_holders id holders known)
+pub all_held : (P : InstRow → Type 0) (id : InstId) (holders : ℕ) (known : List KnownInstance) → All (λ k. P k.row) known → All (λ k. P k.row) (with_holders id holders known)
 all_held P id holders [] a = All-nil (λ (k : KnownInstance). P k.row)
 all_held P id holders (k ∷ known) a =
     All-cons (λ (j : KnownInstance). P j.row) (if has_id id k then record k { holders = holders } else k) (with_holders id holders known)
