@@ -1,27 +1,32 @@
 -- Candidates that are compared one after another.
 use Rattle.std.specs.Prelude.{Contains, IsSome, ◌⊎◌}
 use Rattle.std.specs.Option.{option_map, option_map_or}
+use Rattle.std.specs.Str.{bytes_eq}
 use Rattle.std.specs.Ordering.{is_lt}
 use Rattle.std.specs.declared.cmp.Ordering.TheVariants.{Less}
-use Rattle.std.proofs.Common.{◌≡◌, ◌≢◌, inl, inr, ℕ, ◌<◌, ◌≤◌, ◌==◌, Bool, true, false, ◌&&◌, cond, List, [], ◌∷◌, length, filter, find, get_or, Option, Some, None, All, refl, sym, ◌∙◌, ap, subst, arith}
+use Rattle.std.proofs.Common.{◌≡◌, ◌≢◌, inl, inr, ℕ, ◌+◌, ◌<◌, ◌≤◌, ◌==◌, Bool, true, false, ◌&&◌, cond, List, [], ◌∷◌, length, filter, find, get_or, Option, Some, None, All, refl, sym, ◌∙◌, ap, subst, arith}
 use Rattle.std.proofs.lemmas.Cmp.{nat_list_cmp_total}
 use Rattle.std.proofs.lemmas.Bool.{cases_Bool, cond-true, cond-false, true≢false, false≢true}
 use Rattle.std.proofs.lemmas.Bool.Decides.{nat_tests}
 use Rattle.std.proofs.lemmas.Option.{same_Some}
 use Rattle.std.proofs.lemmas.List.Elements.{All-nil, All-cons, All-weaker, Contains-get_or}
-use Rattle.disk_model.specs.Disk.{DiskState, History, IfTold, reading}
+use Rattle.disk_model.specs.Disk.{DiskState, History, Between, IfTold, reading}
 use Rattle.disk_model.specs.declared.name.FileName.{FileName}
 use Rattle.disk_model.specs.declared.name.FileName.TheVariants.{Inst}
+use Rattle.disk_model.proofs.BetweenLemmas.{between-on}
 use Rattle.disk_model.proofs.MomentLemmas.{if_told-all, if_told-map, if_told-both}
+use Rattle.mdbox_base.specs.declared.entries.InstRow.{InstRow}
 use Rattle.mdbox_base.specs.declared.ids.Hash.{Hash}
 use Rattle.mdbox_base.specs.declared.ids.InstId.{InstId}
+use Rattle.mdbox_base.specs.declared.ids.StoreId.{StoreId}
 use Rattle.model_octets.proofs.PairLemmas.{pairs_head, pairs_tail}
-use Rattle.model_octets.proofs.SearchLemmas.{among, found_none, found_one}
+use Rattle.model_octets.proofs.SearchLemmas.{among, found_none, found_one, text_is}
 use Rattle.sis_store.specs.declared.instance.KnownInstance.{KnownInstance}
-use Rattle.sis_store.specs.Instances.{IsIdBefore, IsInstanceKnown, candidate_in, instance_past, unheld_past, holders_in, instance_in, is_of_kind, is_id_past}
+use Rattle.sis_store.specs.Instances.{InstancesValue, HasDrawnNumber, IsIdBefore, IsInstanceKnown, after_placing, candidate_in, instance_past, unheld_past, holders_in, instance_in, instance_placed, is_of_kind, is_id_past, with_instance}
 use Rattle.sis_store.specs.OnDisk.{file_of, instance_file, IsUnlikeKnown}
-use Rattle.sis_store.specs.Comparing.{IsUnlikeUpTo, candidates_left}
-use Rattle.sis_store.proofs.IdLemmas.{by_octets, Rise, instance-in, not_before_itself, lt_less, less_lt}
+use Rattle.sis_store.specs.Comparing.{IsUnlikeUpTo, IsUnlikeCompared, candidates_left}
+use Rattle.sis_store.proofs.HashLemmas.{hash_made}
+use Rattle.sis_store.proofs.IdLemmas.{by_octets, Rise, all-with, instance-in, not_before_itself, lt_less, less_lt}
 
 -- the test of a candidate
 abbrev pub wanted : Hash → ℕ → Option InstId → KnownInstance → Bool
@@ -176,3 +181,66 @@ fewer hash size after id known is =
   where
     not_itself : (a b : InstId) → a ≡ b → is_id_past (Some a) b ≡ false
     not_itself a b e = elim (cases_Bool (is_lt (by_octets a.0 b.0))) [ inl is ↦ absurd (not_before_itself a.0 b.0 (ap (λ (i : InstId). i.0) e) (less_lt (by_octets a.0 b.0) is)) | inr isnt ↦ isnt ]
+
+-- ---- the row of a candidate
+
+abbrev row_made : Hash → InstId → ℕ → InstRow
+row_made hash id size = record { hash = hash; id = id; size = size }
+
+size_is : (a b : ℕ) → (a == b) ≡ true → a ≡ b
+size_is a b h = grind (arith, nat_tests, h)
+
+of_kind : (hash : Hash) (size : ℕ) (row : InstRow) (id : InstId) → row.id ≡ id → is_of_kind hash size row ≡ true → row ≡ row_made hash id size
+of_kind hash size row id is kind =
+    let p = and_both (bytes_eq row.hash.0 hash.0) (row.size == size) kind in
+    let h : row.hash ≡ hash = ap hash_made (text_is row.hash.0 hash.0 p.0) in
+    ap (λ (x : Hash). row_made x row.id row.size) h ∙ ap (λ (x : InstId). row_made hash x row.size) is ∙ ap (λ (x : ℕ). row_made hash id x) (size_is row.size size p.1)
+
+-- it is known with this hash and size
+pub candidate_row : (hash : Hash) (size : ℕ) (after : Option InstId) (id : InstId) (known : List KnownInstance) → Rise known → candidate_in hash size after known ≡ Some id → option_map (λ k. k.row) (instance_in id known) ≡ Some (record { hash = hash; id = id; size = size })
+candidate_row hash size after id known rise is =
+    let k = found_of (find (wanted hash size after) known) id is in
+    let there = found_one (wanted hash size after) known k.0 k.1 in
+    ap (option_map (λ (x : KnownInstance). x.row)) (known_by known k.0 id rise there.0 k.2)
+    ∙ ap Some (of_kind hash size k.0.row id k.2 (and_both (is_of_kind hash size k.0.row) (is_id_past after k.0.row.id) there.1).0)
+
+-- and none of them stands between
+first_on : (hash : Hash) (size : ℕ) (after : Option InstId) (id : InstId) (first k : KnownInstance) → first.row.id ≡ id → IsOrBefore (wanted hash size after) first k → is_of_kind hash size k.row ≡ true → IsIdBefore k.row.id id → is_id_past after k.row.id ≡ false
+first_on hash size after id first k is h of before = by (is_id_past after k.row.id) refl
+  where
+    by : (b : Bool) → is_id_past after k.row.id ≡ b → is_id_past after k.row.id ≡ false
+    by false e = e
+    by true e = elim (h (and_true (is_of_kind hash size k.row) (is_id_past after k.row.id) of e)) [
+      | inl same ↦ absurd (not_before_itself k.row.id.0 id.0 (ap (λ (x : KnownInstance). x.row.id.0) same ∙ ap (λ (i : InstId). i.0) is) before)
+      | inr behind ↦
+          absurd (not_before_itself k.row.id.0 k.row.id.0 refl (nat_list_cmp_total.trans k.row.id.0 id.0 k.row.id.0 before (subst (λ (i : InstId). by_octets i.0 k.row.id.0 ≡ Less) is behind)))
+    ]
+
+pub candidate_first : (hash : Hash) (size : ℕ) (after : Option InstId) (id : InstId) (known : List KnownInstance) → Rise known → candidate_in hash size after known ≡ Some id → All (λ k. is_of_kind hash size k.row ≡ true → IsIdBefore k.row.id id → is_id_past after k.row.id ≡ false) known
+candidate_first hash size after id known rise is =
+    let k = found_of (find (wanted hash size after) known) id is in
+    All-weaker (IsOrBefore (wanted hash size after) k.0) (λ (x : KnownInstance). is_of_kind hash size x.row ≡ true → IsIdBefore x.row.id id → is_id_past after x.row.id ≡ false) (λ x h. first_on hash size after id k.0 x k.2 h) known (first_least (wanted hash size after) known k.0 rise k.1)
+
+-- ---- what was compared stays so
+
+abbrev Compared : StoreId → Hash → ℕ → List ℕ → Option InstId → ℕ → DiskState → KnownInstance → Type 0
+Compared store hash size octets after drawn disk k = is_of_kind hash size k.row ≡ true → is_id_past after k.row.id ≡ false → HasDrawnNumber store drawn k.row.id → reading (disk (instance_file k.row)) ≢ Some octets
+
+abbrev ReadAlike : List KnownInstance → DiskState → DiskState → Type 0
+ReadAlike known a b = All (λ k. reading (b (instance_file k.row)) ≡ reading (a (instance_file k.row))) known
+
+compared_on : (value : InstancesValue) (new_hash hash : Hash) (new_size size : ℕ) (octets : List ℕ) (after : Option InstId) (drawn : ℕ) (a b : DiskState) → value.highest < 4294967294 → drawn ≤ value.highest → ReadAlike value.known a b → All (Compared value.store hash size octets after drawn a) value.known
+    → All (Compared value.store hash size octets after drawn b) (with_instance (instance_placed value new_hash new_size) value.known)
+compared_on value new_hash hash new_size size octets after drawn a b less few same compared =
+    all-with (Compared value.store hash size octets after drawn b) value.known (instance_placed value new_hash new_size) (λ i d lt of past has read. compared i d lt of past has (sym (same i d lt) ∙ read)) new
+  where
+    new : Compared value.store hash size octets after drawn b (instance_placed value new_hash new_size)
+    new of past has read =
+        let l : value.highest + 1 ≤ drawn = has (value.highest + 1) (omega (arith, less)) refl in
+        absurd (omega (arith, l, few))
+
+pub compared_placed : (value : InstancesValue) (new_hash hash : Hash) (new_size size : ℕ) (octets : List ℕ) (after : Option InstId) (drawn : ℕ) (before now : Option History) → value.highest < 4294967294 → drawn ≤ value.highest
+    → Between (λ a b. All (λ k. reading (b (instance_file k.row)) ≡ reading (a (instance_file k.row))) value.known) before now → IsUnlikeCompared value.store hash size octets after drawn value.known before → IsUnlikeCompared value.store hash size octets after drawn (after_placing new_hash new_size value).known now
+compared_placed value new_hash hash new_size size octets after drawn before now less few same compared =
+    between-on (ReadAlike value.known) (λ disk. All (Compared value.store hash size octets after drawn disk) value.known) (λ disk. All (Compared value.store hash size octets after drawn disk) (with_instance (instance_placed value new_hash new_size) value.known)) before now
+    (λ a b s u. compared_on value new_hash hash new_size size octets after drawn a b less few s u) same compared

@@ -68,6 +68,13 @@ impl Instances {
         let _ = &self.known;
     }
 
+    /// The greatest running number that was drawn, 0 where none was.
+    pub fn last_drawn(&self) -> u32
+        ensures { result ≡ self.now.highest }
+    {
+        self.highest
+    }
+
     /// The known instance of this hash and size with the least id greater than `after`, or with the least of all. None if and
     /// only if there is none.
     pub fn candidate(&self, hash: Hash, size: u32, after: Option<InstId>) -> Option<InstId>

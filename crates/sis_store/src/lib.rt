@@ -5,7 +5,9 @@
 pub use error::{DiskFault, PlaceFault};
 pub use instance::KnownInstance;
 pub use instances::Instances;
-pub use laws::{candidates_are_compared, next_ones_are_known};
+pub use laws::{
+    candidates_are_compared, candidates_come_first, compared_ones_stay, next_ones_are_known,
+};
 
 mod device;
 mod error;

@@ -126,7 +126,7 @@ named_by files m inst octets c there =
     All-weaker (Contains row.instances) (λ (i : InstRow). files (instance_file i) ≡ Some octets → NamesAny files m i octets) (λ i n t. record { row = row; is_record = is; is_named = n; there = t }) row.instances (All-contains_itself row.instances))
     m.records (All-contains_itself m.records))) c there
 
-parts_of : (P : InstRow → Type 0) (rows : List MapRecord) → All P (flat_map (λ row. row.instances) rows) → All (λ row. All P row.instances) rows
+pub parts_of : (P : InstRow → Type 0) (rows : List MapRecord) → All P (flat_map (λ row. row.instances) rows) → All (λ row. All P row.instances) rows
 parts_of P [] a = All-nil (λ (row : MapRecord). All P row.instances)
 parts_of P (row ∷ rows) a = All-cons (λ (r : MapRecord). All P r.instances) row rows (front row.instances a) (parts_of P rows (behind row.instances a))
   where

@@ -40,7 +40,7 @@ use Rattle.store_core.proofs.MapAppendLemmas.{leaves_places}
 -- ---- disks that have the same instances
 
 -- Instances read as before, and a crash leaves of them what it could.
-pub record KeepsInstances (a b : DiskState) : Type 0 where
+pub record SameInstances (a b : DiskState) : Type 0 where
   pub reads : (hash id : List ℕ) → reading (b (file.Inst hash id)) ≡ reading (a (file.Inst hash id))
   pub leaves : (hash id : List ℕ) (left : Option (List ℕ)) → MayLeave (b (file.Inst hash id)) left → MayLeave (a (file.Inst hash id)) left
 
@@ -48,23 +48,23 @@ pub record KeepsInstances (a b : DiskState) : Type 0 where
 abbrev pub IsNoInstance : FileName → Type 0
 IsNoInstance name = (hash id : List ℕ) → file.Inst hash id ≢ name
 
-pub instances_beside : (name : FileName) (old new : Option History) → IsNoInstance name → SameButFor name old new → Between KeepsInstances old new
+pub instances_beside : (name : FileName) (old new : Option History) → IsNoInstance name → SameButFor name old new → Between SameInstances old new
 instances_beside name old new apart same =
-    between-map (λ a b. (other : FileName) → other ≢ name → b other ≡ a other) KeepsInstances old new (λ a b s. record {
+    between-map (λ a b. (other : FileName) → other ≢ name → b other ≡ a other) SameInstances old new (λ a b s. record {
       reads = λ h i. ap reading (s (file.Inst h i) (apart h i));
       leaves = λ h i left may. subst (λ (f : FileState). MayLeave f left) (s (file.Inst h i) (apart h i)) may;
     }) same
 
-pub instances_named : (name : FileName) (old new : Option History) → IsNoInstance name → OthersAreNamed name old new → Between KeepsInstances old new
+pub instances_named : (name : FileName) (old new : Option History) → IsNoInstance name → OthersAreNamed name old new → Between SameInstances old new
 instances_named name old new apart same =
-    between-map (λ a b. (other : FileName) → other ≢ name → b other ≡ named (a other)) KeepsInstances old new (λ a b s. record {
+    between-map (λ a b. (other : FileName) → other ≢ name → b other ≡ named (a other)) SameInstances old new (λ a b s. record {
       reads = λ h i. ap reading (s (file.Inst h i) (apart h i)) ∙ named_reads (a (file.Inst h i));
       leaves = λ h i left may. named-narrows (a (file.Inst h i)) left (subst (λ (f : FileState). MayLeave f left) (s (file.Inst h i) (apart h i)) may);
     }) same
 
-pub instances_idle : (old new : Option History) → SameState old new → Between KeepsInstances old new
+pub instances_idle : (old new : Option History) → SameState old new → Between SameInstances old new
 instances_idle old new same =
-    between-map (λ a b. b ≡ a) KeepsInstances old new (λ a b e. record {
+    between-map (λ a b. b ≡ a) SameInstances old new (λ a b e. record {
       reads = λ h i. ap (λ (d : DiskState). reading (d (file.Inst h i))) e;
       leaves = λ h i left may. subst (λ (d : DiskState). MayLeave (d (file.Inst h i)) left) e may;
     }) same
@@ -92,13 +92,13 @@ IsOtherAll m disk row = All (λ own. own.origin ≡ 0 → All (λ inst. IsOtherT
 abbrev pub KeepsOther : List KnownInstance → MapMeaning → MapMeaning → DiskState → Type 0
 KeepsOther known m n disk = All (λ k. IsOtherAll m disk k.row → IsOtherAll n disk k.row) known
 
-other_on : (m : MapMeaning) (a b : DiskState) (row : InstRow) → KeepsInstances a b → IsOtherAll m a row → IsOtherAll m b row
+other_on : (m : MapMeaning) (a b : DiskState) (row : InstRow) → SameInstances a b → IsOtherAll m a row → IsOtherAll m b row
 other_on m a b row c h =
     All-weaker (λ (own : MapRecord). own.origin ≡ 0 → All (λ inst. IsOtherThan a inst row) own.instances) (λ (own : MapRecord). own.origin ≡ 0 → All (λ inst. IsOtherThan b inst row) own.instances)
     (λ own f origin. All-weaker (λ (inst : InstRow). IsOtherThan a inst row) (λ (inst : InstRow). IsOtherThan b inst row)
     (λ inst g kind before e. g kind before (sym (c.reads row.hash.0 row.id.0) ∙ e ∙ c.reads inst.hash.0 inst.id.0)) own.instances (f origin)) m.records h
 
-there_on : (known : List KnownInstance) (m n : MapMeaning) (a b : DiskState) → NamesAll m n → KeepsOther known m n a → KeepsInstances a b → AreInstancesThere known m a → AreInstancesThere known n b
+there_on : (known : List KnownInstance) (m n : MapMeaning) (a b : DiskState) → NamesAll m n → KeepsOther known m n a → SameInstances a b → AreInstancesThere known m a → AreInstancesThere known n b
 there_on known m n a b names others c t = record {
   whole = All-weaker (λ (k : KnownInstance). IsThereWhole (files_of a) k.row) (λ (k : KnownInstance). IsThereWhole (files_of b) k.row)
       (λ k w. record { octets = w.octets; there = c.reads k.row.hash.0 k.row.id.0 ∙ w.there; size = w.size }) known t.whole;
@@ -118,14 +118,14 @@ other_stays known m disk = λ i d lt h. h
 -- ---- the store
 
 -- on another disk, with other parts
-pub instances_on : {D : Type 0} → (old new : Option History) (v w : StoreValue D) → HasKnownInstances old v → Between KeepsInstances old new → w.instances ≡ v.instances → w.drawn.instance ≡ v.drawn.instance → w.map ≡ v.map → (w.stopped ≡ false → v.stopped ≡ false)
+pub instances_on : {D : Type 0} → (old new : Option History) (v w : StoreValue D) → HasKnownInstances old v → Between SameInstances old new → w.instances ≡ v.instances → w.drawn.instance ≡ v.drawn.instance → w.map ≡ v.map → (w.stopped ≡ false → v.stopped ≡ false)
     → HasKnownInstances new w
 instances_on old new v w k change instances drawn m runs = record {
   kept = subst (λ (i : InstancesValue). AreInstancesKept i w.drawn w.map) (sym instances)
       (subst (λ (n : MapMeaning). AreInstancesKept v.instances w.drawn n) (sym m) (record { store = k.kept.store; highest = k.kept.highest ∙ sym drawn; named = k.kept.named }));
   running = λ on. subst (λ (i : InstancesValue). IfTold new (AreInstancesThere i.known w.map)) (sym instances)
       (subst (λ (n : MapMeaning). IfTold new (AreInstancesThere v.instances.known n)) (sym m)
-      (between-on KeepsInstances (AreInstancesThere v.instances.known v.map) (AreInstancesThere v.instances.known v.map) old new (λ a b c t. there_on v.instances.known v.map v.map a b (λ row is. is) (other_stays v.instances.known v.map a) c t) change (k.running (runs on))));
+      (between-on SameInstances (AreInstancesThere v.instances.known v.map) (AreInstancesThere v.instances.known v.map) old new (λ a b c t. there_on v.instances.known v.map v.map a b (λ row is. is) (other_stays v.instances.known v.map a) c t) change (k.running (runs on))));
 }
 
 -- stopped after a change that failed
@@ -140,7 +140,7 @@ instances_stopped old new v w k instances drawn m stops = record {
 
 pub instances_still : {D : Type 0} → (h : Option History) (v w : StoreValue D) → HasKnownInstances h v → w.instances ≡ v.instances → w.drawn.instance ≡ v.drawn.instance → w.map ≡ v.map → (w.stopped ≡ false → v.stopped ≡ false) → HasKnownInstances h w
 instances_still h v w k instances drawn m runs =
-    instances_on h h v w k (between-begins KeepsInstances h (λ disk. record { reads = λ hash id. refl; leaves = λ hash id left may. may })) instances drawn m runs
+    instances_on h h v w k (between-begins SameInstances h (λ disk. record { reads = λ hash id. refl; leaves = λ hash id left may. may })) instances drawn m runs
 
 pub instances_placed : {D : Type 0} → (n : ℕ) (old new : Option History) (v w : StoreValue D) → HasKnownInstances old v → SameButFor (file.Mail n) old new → w.instances ≡ v.instances → w.drawn.instance ≡ v.drawn.instance → w.map ≡ v.map → (w.stopped ≡ false → v.stopped ≡ false)
     → HasKnownInstances new w
@@ -161,7 +161,7 @@ instances_boxed old new v w k b number e p known same instances drawn m =
 
 -- ---- holders
 
-row_held : (id other : InstId) (holders : ℕ) (known : List KnownInstance) → option_map (λ k. k.row) (instance_in other (with_holders id holders known)) ≡ option_map (λ k. k.row) (instance_in other known)
+pub row_held : (id other : InstId) (holders : ℕ) (known : List KnownInstance) → option_map (λ k. k.row) (instance_in other (with_holders id holders known)) ≡ option_map (λ k. k.row) (instance_in other known)
 row_held id other holders [] = refl
 row_held id other holders (k ∷ known) = by_hit (has_id id k) (has_id other k) refl (row_held id other holders known)
   where
@@ -174,7 +174,7 @@ row_held id other holders (k ∷ known) = by_hit (has_id id k) (has_id other k) 
     by_hit false false e rest = ap (λ (t : Bool). option_map (λ (k : KnownInstance). k.row) (if t then Some k else instance_in other (with_holders id holders known))) e ∙ rest
 
 -- what holds of a row holds of it with other holders
-all_held : (P : InstRow → Type 0) (id : InstId) (holders : ℕ) (known : List KnownInstance) → All (λ k. P k.row) known → All (λ k. P k.row) (with_holders id holders known)
+pub all_held : (P : InstRow → Type 0) (id : InstId) (holders : ℕ) (known : List KnownInstance) → All (λ k. P k.row) known → All (λ k. P k.row) (with_holders id holders known)
 all_held P id holders [] a = All-nil (λ (k : KnownInstance). P k.row)
 all_held P id holders (k ∷ known) a =
     All-cons (λ (j : KnownInstance). P j.row) (if has_id id k then record k { holders = holders } else k) (with_holders id holders known)
@@ -294,7 +294,7 @@ other_with known e m h first = λ i d lt others.
     (λ own f origin. let same = changed_same e own in subst (All (λ (inst : InstRow). IsOtherThan h.now inst row)) (sym same.instances) (f (sym same.origin ∙ origin))) others)
     (other_made known e h first i d lt)
 
-there_with : (known : List KnownInstance) (e : MapEntry) (m : MapMeaning) (old new : Option History) → LeavesPlaces e → NamesFirst e known old → Between KeepsInstances old new → IfTold old (AreInstancesThere known m) → IfTold new (AreInstancesThere known (map_applied e m))
+there_with : (known : List KnownInstance) (e : MapEntry) (m : MapMeaning) (old new : Option History) → LeavesPlaces e → NamesFirst e known old → Between SameInstances old new → IfTold old (AreInstancesThere known m) → IfTold new (AreInstancesThere known (map_applied e m))
 there_with known e m None new l first change t = subst (λ (h : Option History). IfTold h (AreInstancesThere known (map_applied e m))) (sym change) tt
 there_with known e m (Some old) None l first change t = absurd change
 there_with known e m (Some old) (Some new) l first change t = there_on known m (map_applied e m) old.now new.now (names_more e m l) (other_with known e m old first) change t
@@ -344,6 +344,6 @@ instances_naming name generation old new v w k is same instances drawn store rec
     named = subst (λ (rows : List MapRecord). All (IsKnownRow v.instances.known) (names_of rows)) (sym records) k.kept.named;
   });
   running = λ on. subst (λ (i : InstancesValue). IfTold new (AreInstancesThere i.known w.map)) (sym instances)
-      (between-on KeepsInstances (AreInstancesThere v.instances.known v.map) (AreInstancesThere v.instances.known w.map) old new
+      (between-on SameInstances (AreInstancesThere v.instances.known v.map) (AreInstancesThere v.instances.known w.map) old new
       (λ a b c t. there_on v.instances.known v.map w.map a b (λ row in_it. subst (λ (rows : List MapRecord). Contains (names_of rows) row) (sym records) in_it) (other_named v.instances.known v.map w.map a records) c t) (instances_beside name old new (map_is_none name generation is) same) (k.running (runs on)));
 }

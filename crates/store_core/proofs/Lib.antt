@@ -5,7 +5,9 @@ pub mod DueChangeLemmas
 pub mod DueLemmas
 pub mod EntryFileLemmas
 pub mod HighestFileLemmas
+pub mod HolderLemmas
 pub mod InstanceAppendLemmas
+pub mod InstanceKeepingLemmas
 pub mod InstanceNumberLemmas
 pub mod KeptFileLemmas
 pub mod KeptMailLemmas
@@ -14,14 +16,15 @@ pub mod LookupLemmas
 pub mod MadeCallLemmas
 pub mod MadeLogLemmas
 pub mod MadePlaceLemmas
+pub mod MailChangeLemmas
 pub mod MapAppendLemmas
 pub mod MapCrashLemmas
 pub mod MapDueLemmas
-pub mod MailChangeLemmas
 pub mod NamingCallLemmas
 pub mod NamingLemmas
 pub mod PickingLemmas
 pub mod PlacedInstanceLemmas
+pub mod PlacedKeepingLemmas
 pub mod PlacingLemmas
 pub mod RoomLemmas
 pub mod ShownLemmas

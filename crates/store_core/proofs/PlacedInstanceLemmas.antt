@@ -67,14 +67,14 @@ pub record FileMade (name : FileName) (a b : DiskState) : Type 0 where
   pub others : (other : FileName) → other ≢ name → b other ≡ named (a other)
   pub absent : reading (a name) ≡ None
 
-reads_made : (name other : FileName) (a b : DiskState) → FileMade name a b → other ≢ name → reading (b other) ≡ reading (a other)
+pub reads_made : (name other : FileName) (a b : DiskState) → FileMade name a b → other ≢ name → reading (b other) ≡ reading (a other)
 reads_made name other a b c apart = ap reading (c.others other apart) ∙ named_reads (a other)
 
 leaves_made : (name other : FileName) (a b : DiskState) (left : Option (List ℕ)) → FileMade name a b → other ≢ name → MayLeave (b other) left → MayLeave (a other) left
 leaves_made name other a b left c apart may = named-narrows (a other) left (subst (λ (f : FileState). MayLeave f left) (c.others other apart) may)
 
 -- a file that is read is another one
-apart_read : (name other : FileName) (a : DiskState) (octets : List ℕ) → reading (a name) ≡ None → reading (a other) ≡ Some octets → other ≢ name
+pub apart_read : (name other : FileName) (a : DiskState) (octets : List ℕ) → reading (a name) ≡ None → reading (a other) ≡ Some octets → other ≢ name
 apart_read name other a octets absent there e = let w : None ≡ Some octets = sym absent ∙ ap (λ (n : FileName). reading (a n)) (sym e) ∙ there in cc w
 
 -- ---- what a store reads
@@ -309,7 +309,7 @@ before_new new k = is_lt (slice_cmp nat_cmp k.row.id.0 new.row.id.0)
 abbrev behind_new : KnownInstance → KnownInstance → Bool
 behind_new new k = is_lt (slice_cmp nat_cmp new.row.id.0 k.row.id.0)
 
-still_known : (known : List KnownInstance) (new k : KnownInstance) → Contains known k → k.row.id ≢ new.row.id → Contains (with_instance new known) k
+pub still_known : (known : List KnownInstance) (new k : KnownInstance) → Contains known k → k.row.id ≢ new.row.id → Contains (with_instance new known) k
 still_known known new k c apart = by_order (slice_cmp nat_cmp k.row.id.0 new.row.id.0) refl
   where
     by_order : (o : Ordering) → slice_cmp nat_cmp k.row.id.0 new.row.id.0 ≡ o → Contains (with_instance new known) k
@@ -319,7 +319,7 @@ still_known known new k c apart = by_order (slice_cmp nat_cmp k.row.id.0 new.row
         Contains-append_right (filter (before_new new) known) (new ∷ filter (behind_new new) known) k
         (Contains-append_right (new ∷ []) (filter (behind_new new) known) k (contains_filter (behind_new new) known k c (ap is_lt (turned k.row.id.0 new.row.id.0 Greater e))))
 
-new_known : (known : List KnownInstance) (new : KnownInstance) → Contains (with_instance new known) new
+pub new_known : (known : List KnownInstance) (new : KnownInstance) → Contains (with_instance new known) new
 new_known known new = Contains-append_right (filter (before_new new) known) (new ∷ filter (behind_new new) known) new (0, omega arith, refl)
 
 all_with : (P : KnownInstance → Type 0) (known : List KnownInstance) (new : KnownInstance) → P new → All P known → All P (with_instance new known)
@@ -327,10 +327,23 @@ all_with P known new p a =
     All-append P (filter (before_new new) known) (new ∷ filter (behind_new new) known) (All-filter (before_new new) P known a) (All-cons P new (filter (behind_new new) known) p (All-filter (behind_new new) P known a))
 
 -- no known instance has the next number
-next_is_new : (value : InstancesValue) (k : KnownInstance) → AreInstances value → value.highest < 4294967294 → Contains value.known k → k.row.id ≢ next_id value
+pub next_is_new : (value : InstancesValue) (k : KnownInstance) → AreInstances value → value.highest < 4294967294 → Contains value.known k → k.row.id ≢ next_id value
 next_is_new value k are less c e =
     let d : value.highest + 1 ≤ value.highest = All-contains (λ (j : KnownInstance). HasDrawnNumber value.store value.highest j.row.id) value.known k are.drawn c (value.highest + 1) (omega (arith, less)) e in
     omega (arith, d)
+
+row_in : (o : Option KnownInstance) (row : InstRow) → option_map (λ k. k.row) o ≡ Some row → (j : KnownInstance) × (o ≡ Some j) × (j.row ≡ row)
+row_in None row e = absurd (let w : None ≡ Some row = e in cc w)
+row_in (Some j) row e = (j, refl, let w : Some j.row ≡ Some row = e in cc w)
+
+-- the row of one that was known is that of one that is known
+pub row_placed : (hash : Hash) (size : ℕ) (value : InstancesValue) (row : InstRow) → AreInstances value → value.highest < 4294967294 → AreInstances (after_placing hash size value) → IsKnownRow value.known row → IsKnownRow (after_placing hash size value).known row
+row_placed hash size value row are less later known =
+    let j = row_in (instance_in row.id value.known) row known in
+    let among = found-among row.id value.known j.0 j.1 in
+    let there : Contains (with_instance (instance_placed value hash size) value.known) j.0 = still_known value.known (instance_placed value hash size) j.0 among.0 (next_is_new value j.0 are less among.0) in
+    ap (λ (i : InstId). option_map (λ (k : KnownInstance). k.row) (instance_in i (after_placing hash size value).known)) (sym among.1)
+    ∙ ap (option_map (λ (k : KnownInstance). k.row)) (instance-in (after_placing hash size value).known j.0 later.rising there) ∙ ap Some j.2
 
 -- so its file isn't there
 pub next_absent : {D : Type 0} → (hash : Hash) (h : Option History) (v : StoreValue D) → HasKnownInstances h v → v.stopped ≡ false → AreInstances v.instances → v.instances.highest < 4294967294 → IfTold h (λ now. reading (now (next_instance_file hash v.instances)) ≡ None)
@@ -345,10 +358,10 @@ next_absent hash h v k runs are less =
         absurd (next_is_new v.instances there.0 are less there.1 (same_id there.0.row.id (next_id v.instances) same))
 
 -- no known instance of the kind of the new one has its octets
-abbrev IsUnlike : Hash → List ℕ → List KnownInstance → DiskState → Type 0
+abbrev pub IsUnlike : Hash → List ℕ → List KnownInstance → DiskState → Type 0
 IsUnlike hash octets known disk = All (λ k. is_of_kind hash (length octets) k.row ≡ true → reading (disk (instance_file k.row)) ≢ Some octets) known
 
-kind_turned : (a b : InstRow) → is_of_kind a.hash a.size b ≡ true → is_of_kind b.hash b.size a ≡ true
+pub kind_turned : (a b : InstRow) → is_of_kind a.hash a.size b ≡ true → is_of_kind b.hash b.size a ≡ true
 kind_turned a b e = by (bytes_eq b.hash.0 a.hash.0) (b.size == a.size) refl refl e
   where
     by : (p q : Bool) → bytes_eq b.hash.0 a.hash.0 ≡ p → (b.size == a.size) ≡ q → (p && q) ≡ true → is_of_kind b.hash b.size a ≡ true
@@ -420,24 +433,12 @@ placed_known hash octets old new v disk instances drawn k runs are later less un
       kept = record {
         store = k.kept.store;
         highest = ap (λ (n : ℕ). n + 1) k.kept.highest;
-        named = All-weaker (IsKnownRow v.instances.known) (IsKnownRow placed.known) (λ row known. known_row row rise known) (named_instances v.map) k.kept.named;
+        named = All-weaker (IsKnownRow v.instances.known) (IsKnownRow placed.known) (λ row known. row_placed hash (length octets) v.instances row are less rise known) (named_instances v.map) k.kept.named;
       };
       running = λ on. between-since-if (FileMade (next_instance_file hash v.instances)) (λ now. AreInstancesThere v.instances.known v.map now × IsUnlike hash octets v.instances.known now) (λ now. Keeps (now (next_instance_file hash v.instances)) octets) (AreInstancesThere placed.known v.map) old new
           (λ a b c t keep. there_placed hash octets v.instances v.map a b are less t.1 k.kept.named c keep t.0) change (told_both (AreInstancesThere v.instances.known v.map) (IsUnlike hash octets v.instances.known) old (k.running runs) unlike) keeps;
     }))
   where
-    row_in : (o : Option KnownInstance) (row : InstRow) → option_map (λ k. k.row) o ≡ Some row → (j : KnownInstance) × (o ≡ Some j) × (j.row ≡ row)
-    row_in None row e = absurd (let w : None ≡ Some row = e in cc w)
-    row_in (Some j) row e = (j, refl, let w : Some j.row ≡ Some row = e in cc w)
-
-    known_row : (row : InstRow) → AreInstances (after_placing hash (length octets) v.instances) → IsKnownRow v.instances.known row → IsKnownRow (after_placing hash (length octets) v.instances).known row
-    known_row row rise known =
-        let j = row_in (instance_in row.id v.instances.known) row known in
-        let among = found-among row.id v.instances.known j.0 j.1 in
-        let there : Contains (with_instance (instance_placed v.instances hash (length octets)) v.instances.known) j.0 = still_known v.instances.known (instance_placed v.instances hash (length octets)) j.0 among.0 (next_is_new v.instances j.0 are less among.0) in
-        ap (λ (i : InstId). option_map (λ (k : KnownInstance). k.row) (instance_in i (after_placing hash (length octets) v.instances).known)) (sym among.1)
-        ∙ ap (option_map (λ (k : KnownInstance). k.row)) (instance-in (after_placing hash (length octets) v.instances).known j.0 rise.rising there) ∙ ap Some j.2
-
     told_both : (P Q : DiskState → Type 0) (h : Option History) → IfTold h P → IfTold h Q → IfTold h (λ now. P now × Q now)
     told_both P Q None p q = tt
     told_both P Q (Some h) p q = (p, q)

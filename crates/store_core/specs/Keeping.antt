@@ -1,8 +1,16 @@
 -- What calls and events leave to tasks that have begun.
-use Rattle.std.specs.Prelude.{◌≡◌, ◌<◌, ℕ, List, Option, Some}
-use Rattle.disk_model.specs.Disk.{History, Between}
+use Rattle.std.specs.Prelude.{◌≡◌, ◌<◌, ◌≤◌, ◌+◌, ℕ, List, count_by, Option, Some}
+use Rattle.std.specs.Str.{bytes_eq}
+use Rattle.disk_model.specs.Disk.{DiskState, History, Between, reading}
 use Rattle.disk_model.specs.declared.name.FileName.TheVariants as file
+use Rattle.mdbox_base.specs.declared.entries.InstRow.{InstRow}
+use Rattle.mdbox_base.specs.declared.ids.Hash.{Hash}
+use Rattle.mdbox_base.specs.declared.ids.InstId.{InstId}
 use Rattle.model_meaning.specs.BoxMeaning.{LogRow, BoxMeaning, row_at}
+use Rattle.sis_store.specs.Comparing.{IsUnlikeCompared}
+use Rattle.sis_store.specs.Instances.{holders_in}
+use Rattle.sis_store.specs.OnDisk.{instance_file}
+use Rattle.store_core.specs.StoreInstances.{IsKnownRow, IsFirstKnown}
 use Rattle.store_core.specs.Value.{StoreValue, list_named}
 
 -- each storage file and each instance is as it was
@@ -25,3 +33,28 @@ pub record KeepsUid {D : Type 0} (name : List ℕ) (uid : ℕ) (held : ℕ) (sto
 -- Of whatever message another task copies or moves: if its mailbox lists no other message with its UID, it lists none afterwards.
 abbrev pub KeepsUids : {D : Type 0} → StoreValue D → StoreValue D → Type 0
 KeepsUids old new = (name : List ℕ) (uid held : ℕ) → KeepsUid name uid held old → KeepsUid name uid held new
+
+-- ---- instances
+
+-- What an event leaves to a task that compares instances, or has found some: each known instance is known and reads as it did, and
+-- is the first of its octets if it was; and what was compared stays compared.
+pub record KeepsInstances {D : Type 0} (old new : StoreValue D) (before after : Option History) : Type 0 where
+  pub store : new.instances.store ≡ old.instances.store
+  pub drawn : old.instances.highest ≤ new.instances.highest
+  pub known : (row : InstRow) → IsKnownRow old.instances.known row → IsKnownRow new.instances.known row
+  pub reads : Between (λ a b. (row : InstRow) → IsKnownRow old.instances.known row → reading (b (instance_file row)) ≡ reading (a (instance_file row))) before after
+  pub first : Between (λ a b. (row : InstRow) → IsKnownRow old.instances.known row → IsFirstKnown old.instances.known a row → IsFirstKnown new.instances.known b row) before after
+  pub compared : (hash : Hash) (size : ℕ) (octets : List ℕ) (last : Option InstId) (drawn : ℕ) → drawn ≤ old.instances.highest
+      → IsUnlikeCompared old.instances.store hash size octets last drawn old.instances.known before → IsUnlikeCompared old.instances.store hash size octets last drawn new.instances.known after
+
+-- each instance reads as it did
+abbrev pub ReadsInstances : DiskState → DiskState → Type 0
+ReadsInstances a b = (hash id : List ℕ) → reading (b (file.Inst hash id)) ≡ reading (a (file.Inst hash id))
+
+-- how often a task holds an instance that has found these, once for each row of its id
+abbrev pub holds_of : List InstRow → InstId → ℕ
+holds_of found id = count_by (λ row. bytes_eq row.id.0 id.0) found
+
+-- By as many as a task's own holds of an instance grow or shrink, those of all tasks do.
+abbrev pub MovesHolds : {D : Type 0} → (InstId → ℕ) → (InstId → ℕ) → StoreValue D → StoreValue D → Type 0
+MovesHolds mine mine_now old new = (id : InstId) → holders_in id new.instances.known + mine id ≡ holders_in id old.instances.known + mine_now id

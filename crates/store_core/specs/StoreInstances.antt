@@ -33,6 +33,12 @@ IsOtherThan disk inst earlier = is_of_kind inst.hash inst.size earlier ≡ true 
 abbrev pub IsFirstKnown : List KnownInstance → DiskState → InstRow → Type 0
 IsFirstKnown known disk inst = All (λ k. IsOtherThan disk inst k.row) known
 
+-- The row is that of a known instance which has these octets, and is the first that has them.
+pub record IsFirstWith (octets : List ℕ) (row : InstRow) (known : List KnownInstance) (history : Option History) : Type 0 where
+  pub is_known : IsKnownRow known row
+  pub reads : IfTold history (λ now. reading (now (instance_file row)) ≡ Some octets)
+  pub first : IfTold history (λ now. IsFirstKnown known now row)
+
 -- An instance that no record names yet may be named: a crash leaves it as the disk reads it, and no own save (a record of
 -- origin 0) names a later instance with its octets.
 pub record IsFirmInstance (m : MapMeaning) (disk : DiskState) (row : InstRow) : Type 0 where

@@ -2,7 +2,10 @@
 #![tactic(auto)]
 
 pub use error::{PlaceStop, StepError, Stopped};
-pub use laws::{counts_cover_listings, listings_are_shown};
+pub use laws::{
+    candidates_are_found, counts_cover_listings, instances_are_kept, instances_read_as_before,
+    known_rows_agree, listings_are_shown,
+};
 pub use room::StoreRoom;
 pub use store::{OpenBox, OpenLogs, Store};
 

@@ -1,14 +1,16 @@
 // The instances of a store: which are known and who holds them, what is read of them, and how one is placed.
-ghost use Rattle.std.specs.Prelude.{◌≡◌, ◌≢◌, ◌↔◌, ◌<◌, ◌≤◌, ◌+◌, ◌-◌, nat_lt, false, ℕ, length, take, drop, Some, IfOk, IfErr, OnOk, IsErr, IsErrOf, IsTrue};
+ghost use Rattle.std.specs.Prelude.{◌≡◌, ◌≢◌, ◌↔◌, ◌<◌, ◌≤◌, ◌+◌, ◌-◌, nat_lt, false, ℕ, List, ◌∷◌, length, take, drop, Some, IfOk, IfErr, OnOk, IsErr, IsErrOf, IsTrue};
 ghost use Rattle.disk_model.specs.Disk.{Grows, IfTold, IsIdle, Keeps, reading};
 ghost use Rattle.disk_model.specs.FaultCounts.{NoFault, ChangeFaultCounted, ReadFaultCounted};
+ghost use Rattle.mdbox_base.specs.declared.entries.InstRow.{InstRow};
 ghost use Rattle.model_lists.specs.Lists.{Lists};
 ghost use Rattle.model_store.specs.Settled.{IsSettledFor, Leaves};
 ghost use Rattle.sis_store.specs.Instances.{IsInstanceKnown, after_placing, candidate_in, holders_in, instance_past, next_id, with_holders};
 ghost use Rattle.sis_store.specs.OnDisk.{IsUnlikeKnown, OnlyNamesSynced, file_of, next_instance_file, octets_read};
 ghost use Rattle.store_core.specs.Dues.{KeepsStored};
+ghost use Rattle.store_core.specs.Keeping.{KeepsInstances, MovesHolds, holds_of};
 ghost use Rattle.store_core.specs.PlaceStops.{IsPlaceStop};
-ghost use Rattle.store_core.specs.StoreInstances.{with_placed};
+ghost use Rattle.store_core.specs.StoreInstances.{IsFirstWith, with_placed};
 ghost use Rattle.store_core.specs.declared.error.PlaceStop.TheVariants as place_stop;
 
 use super::Store;
@@ -18,6 +20,13 @@ use mdbox_base::{Hash, InstId};
 use sis_store::{DiskFault, PlaceFault};
 
 impl<D: Disk> Store<D> {
+    /// The greatest running number of an instance that was drawn, 0 where none was.
+    pub fn last_instance(&self) -> u32
+        ensures { result ≡ self.now.instances.highest }
+    {
+        self.instances.last_drawn()
+    }
+
     /// The known instance of this hash and size with the least id greater than `after`, or with the least of all. None if and
     /// only if there is none.
     pub fn candidate(&self, hash: Hash, size: u32, after: Option<InstId>) -> Option<InstId>
@@ -44,7 +53,9 @@ impl<D: Disk> Store<D> {
     pub fn hold(&mut self, id: InstId)
         requires known { IsInstanceKnown id self.old.instances.known }
         requires fewer { holders_in id self.old.instances.known < 4294967295 }
-        ensures { self.new ≡ record self.old { instances = record self.old.instances { known = with_holders id (holders_in id self.old.instances.known + 1) self.old.instances.known } } }
+        ensures same { self.new ≡ record self.old { instances = record self.old.instances { known = with_holders id (holders_in id self.old.instances.known + 1) self.old.instances.known } } }
+        ensures keeps { KeepsInstances self.old self.new (D.history self.old.disk) (D.history self.new.disk) }
+        ensures moves { (found : List InstRow) (row : InstRow) → row.id ≡ id → MovesHolds (holds_of found) (holds_of (row ∷ found)) self.old self.new }
     {
         self.instances.hold(id);
     }
@@ -52,7 +63,9 @@ impl<D: Disk> Store<D> {
     /// One fewer holds an instance.
     pub fn let_go(&mut self, id: InstId)
         requires { 1 ≤ holders_in id self.old.instances.known }
-        ensures { self.new ≡ record self.old { instances = record self.old.instances { known = with_holders id (holders_in id self.old.instances.known - 1) self.old.instances.known } } }
+        ensures same { self.new ≡ record self.old { instances = record self.old.instances { known = with_holders id (holders_in id self.old.instances.known - 1) self.old.instances.known } } }
+        ensures keeps { KeepsInstances self.old self.new (D.history self.old.disk) (D.history self.new.disk) }
+        ensures moves { (found : List InstRow) (row : InstRow) → row.id ≡ id → MovesHolds (holds_of (row ∷ found)) (holds_of found) self.old self.new }
     {
         self.instances.let_go(id);
     }
@@ -62,6 +75,7 @@ impl<D: Disk> Store<D> {
         requires { IsInstanceKnown id self.old.instances.known }
         ensures alike { IfOk result (λ alike. IfTold (D.history self.old.disk) (λ now. IsTrue alike ↔ (reading (now (file_of id self.old.instances.known)) ≡ Some octets.now))) }
         ensures same { self.new ≡ record self.old { disk = self.new.disk } }
+        ensures keeps { KeepsInstances self.old self.new (D.history self.old.disk) (D.history self.new.disk) }
         ensures idle { IsIdle (D.history self.old.disk) (D.history self.new.disk) }
         ensures fault { ReadFaultCounted (IsErr result) (D.faults self.old.disk) (D.faults self.new.disk) }
         ensures unfailed { OnOk result (NoFault (D.faults self.old.disk) (D.faults self.new.disk)) }
@@ -82,6 +96,7 @@ impl<D: Disk> Store<D> {
         ensures piece { IfOk result (λ n. IfTold (D.history self.old.disk) (λ now. take n into.new ≡ octets_read offset (length into.old) (reading (now (file_of id self.old.instances.known))))) }
         ensures rest { IfOk result (λ n. drop n into.new ≡ drop n into.old) }
         ensures same { self.new ≡ record self.old { disk = self.new.disk } }
+        ensures keeps { KeepsInstances self.old self.new (D.history self.old.disk) (D.history self.new.disk) }
         ensures idle { IsIdle (D.history self.old.disk) (D.history self.new.disk) }
         ensures fault { ReadFaultCounted (IsErr result) (D.faults self.old.disk) (D.faults self.new.disk) }
         ensures unfailed { OnOk result (NoFault (D.faults self.old.disk) (D.faults self.new.disk)) }
@@ -107,6 +122,12 @@ impl<D: Disk> Store<D> {
         ensures made { OnOk result (IfTold (D.history self.new.disk) (λ now. Keeps (now (next_instance_file hash self.old.instances)) octets.now)) }
         ensures others { OnOk result (OnlyNamesSynced (next_instance_file hash self.old.instances) (D.history self.old.disk) (D.history self.new.disk)) }
         ensures stored { OnOk result (KeepsStored (D.history self.old.disk) (D.history self.new.disk)) }
+
+        ensures found { IfOk result (λ id. IsFirstWith octets.now (record { hash = hash; id = id; size = length octets.now }) self.new.instances.known (D.history self.new.disk)) }
+
+        // Unless the store is stopped, what other tasks compare and have found stays. After Ok one more holds the instance.
+        ensures keeps { (IsErrOf result place_stop.Stopped → ⊥) → KeepsInstances self.old self.new (D.history self.old.disk) (D.history self.new.disk) }
+        ensures moves { IfOk result (λ id. (found : List InstRow) (row : InstRow) → row.id ≡ id → MovesHolds (holds_of found) (holds_of (row ∷ found)) self.old self.new) }
 
         ensures ok { OnOk result (self.new ≡ with_placed self.new.disk (after_placing hash (length octets.now) self.old.instances) self.old) }
         ensures refused { IfErr result (IsPlaceStop self.old self.new) }

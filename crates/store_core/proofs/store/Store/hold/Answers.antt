@@ -1,4 +1,6 @@
 use Rattle.std.proofs.Common.{refl}
+use Rattle.store_core.proofs.HolderLemmas.{holding_moves}
+use Rattle.store_core.proofs.InstanceKeepingLemmas.{kept_holding}
 use Rattle.store_core.proofs.KnownInstanceLemmas.{store_holding, instances_holding}
 use Rattle.store_core.proofs.MadeLogLemmas.{made_still}
 use Rattle.store_core.proofs.store.Store.hold.Goals as goal
@@ -11,3 +13,9 @@ invariant_of-self g c = (
   made_still _ _ _ refl refl refl refl refl c.self.invariant.3,
   instances_holding _ _ c.hold.new.self c.args.id _ c.hold.ensures c.self.invariant.4,
 )
+
+pub returns-clause-keeps : goal.returns-clause-keeps
+returns-clause-keeps g c = kept_holding g.D.Disk.history _ c.args.self.now c.hold.new.self c.args.id _ c.self.view_is c.hold.ensures
+
+pub returns-clause-moves : goal.returns-clause-moves
+returns-clause-moves g c = holding_moves _ c.args.self.now c.hold.new.self c.args.id c.self.view_is c.hold.ensures c.requires.known

@@ -7,8 +7,10 @@ use Rattle.sis_store.specs.Refusals.{IsPlaceError}
 use Rattle.sis_store.specs.declared.error.PlaceFault.{PlaceFault}
 use Rattle.store_core.specs.Dues.{KeepsStored}
 use Rattle.store_core.proofs.BoxCrashLemmas.{leaves_none}
+use Rattle.store_core.proofs.HolderLemmas.{placing_moves}
 use Rattle.store_core.proofs.MadeLogLemmas.{made_named, made_stopped}
 use Rattle.store_core.proofs.PlacedInstanceLemmas.{next_absent, file_made, placed_safe, placed_settled, placed_stored, placed_store, placed_known, stopped_store, stopped_known, room_placed, number_left, stopped_full, stopped_memory, stopped_fault}
+use Rattle.store_core.proofs.PlacedKeepingLemmas.{found_placed, is_placed, placing_kept}
 use Rattle.store_core.proofs.store.Store.place_instance.Goals as goal
 
 pub invariant_of-self : goal.invariant_of-self
@@ -82,3 +84,26 @@ returns-in-Err-NoMemory-clause-refused g c =
 pub returns-in-Err-DiskFault-clause-refused : goal.returns-in-Err-DiskFault-clause-refused
 returns-in-Err-DiskFault-clause-refused g c =
     stopped_fault _ c.args.self.now c.place_instance.new.disk c.place_instance.new.self c.self.view_is c.self.invariant.4.kept.highest (subst (λ (f : PlaceFault). IsPlaceError c.self.inside.instances c.place_instance.new.self f) c.in-Err-DiskFault.field-0-is c.in-Err-DiskFault.ensures.refused)
+
+pub returns-in-Ok-clause-found : goal.returns-in-Ok-clause-found
+returns-in-Ok-clause-found g c =
+    let runs = ap (λ v. v.stopped) c.self.view_is ∙ c.requires.running in
+    let less = number_left c.self.inside.instances.highest c.known_facts.ensures.last (λ e. absurd (cc (c.in-Ok.ensures.full e))) in
+    let change = file_made _ _ _ (next_absent c.args.hash _ _ c.self.invariant.4 runs c.known_facts.ensures less) c.in-Ok.ensures.others in
+    let unlike = subst (λ v. IsUnlikeKnown c.args.hash (length c.args.octets.now) c.args.octets.now v.instances.known (g.D.Disk.history v.disk)) (sym c.self.view_is) c.requires.new in
+    let placed = is_placed c.args.hash c.args.octets.now c.self.inside.instances _ (g.D.Disk.history c.self.inside.disk) (g.D.Disk.history c.place_instance.new.disk) (c.self.invariant.4.running runs) unlike change c.in-Ok.ensures.made in
+    found_placed c.args.hash c.args.octets.now _ _ c.self.inside.instances c.place_instance.new.self _ c.in-Ok.id c.known_facts-in-Ok.ensures c.in-Ok.ensures.ok c.in-Ok.ensures.id placed
+
+pub returns-in-Ok-clause-keeps : goal.returns-in-Ok-clause-keeps
+returns-in-Ok-clause-keeps g c = λ _.
+    let runs = ap (λ v. v.stopped) c.self.view_is ∙ c.requires.running in
+    let less = number_left c.self.inside.instances.highest c.known_facts.ensures.last (λ e. absurd (cc (c.in-Ok.ensures.full e))) in
+    let change = file_made _ _ _ (next_absent c.args.hash _ _ c.self.invariant.4 runs c.known_facts.ensures less) c.in-Ok.ensures.others in
+    let unlike = subst (λ v. IsUnlikeKnown c.args.hash (length c.args.octets.now) c.args.octets.now v.instances.known (g.D.Disk.history v.disk)) (sym c.self.view_is) c.requires.new in
+    let placed = is_placed c.args.hash c.args.octets.now c.self.inside.instances _ (g.D.Disk.history c.self.inside.disk) (g.D.Disk.history c.place_instance.new.disk) (c.self.invariant.4.running runs) unlike change c.in-Ok.ensures.made in
+    placing_kept g.D.Disk.history c.args.hash c.args.octets.now _ c.args.self.now _ c.self.view_is c.known_facts.ensures less c.known_facts-in-Ok.ensures c.in-Ok.ensures.ok placed
+
+pub returns-in-Ok-clause-moves : goal.returns-in-Ok-clause-moves
+returns-in-Ok-clause-moves g c =
+    let less = number_left c.self.inside.instances.highest c.known_facts.ensures.last (λ e. absurd (cc (c.in-Ok.ensures.full e))) in
+    placing_moves c.args.hash (length c.args.octets.now) _ c.args.self.now c.place_instance.new.self c.in-Ok.id c.self.view_is c.known_facts.ensures less c.known_facts-in-Ok.ensures c.in-Ok.ensures.ok c.in-Ok.ensures.id

@@ -1,0 +1,11 @@
+use Rattle.store_core.proofs.InstanceKeepingLemmas.{found_kept, kept_both, kept_same}
+use Rattle.store_core.proofs.laws.instances_are_kept.Goals as goal
+
+pub returns-clause-same : goal.returns-clause-same
+returns-clause-same g c = kept_same
+
+pub returns-clause-both : goal.returns-clause-both
+returns-clause-both g c = kept_both
+
+pub returns-clause-found : goal.returns-clause-found
+returns-clause-found g c = found_kept
