@@ -9,8 +9,13 @@ import store_files
 NOBODY = 65534
 
 
-def mdbox_of(folder, messages):
-    """The words that start `doveadm` on a Dovecot mdbox of these messages, which is made in the folder. None without it."""
+# Attachments of 128 KiB and more are files of their own, each content once.
+ATTACHMENTS = "mail_attachment_fs = sis posix\nmail_attachment_hash = %{sha1}\nmail_attachment_min_size = 128k\n"
+
+
+def mdbox_of(folder, messages, attachments=False):
+    """The words that start `doveadm` on a Dovecot mdbox of these messages, which is made in the folder, and which stores attachments
+    once if that is wanted. None without it."""
     if not shutil.which("doveadm"):
         print("doveadm isn't installed")
         return None
@@ -22,6 +27,8 @@ def mdbox_of(folder, messages):
             f"mail_location = mdbox:{folder}/mdbox\nmail_home = {folder}\nmail_uid = {user}\nmail_gid = {group}\n"
             f"first_valid_uid = 1\nbase_dir = {folder}/run\nstate_dir = {folder}/run\nlog_path = /dev/stderr\n"
         )
+        if attachments:
+            out.write(f"mail_attachment_dir = {folder}/attachments\n{ATTACHMENTS}")
     store_files.write_maildir(os.path.join(folder, "maildir"), messages)
     subprocess.run(["chown", "-R", f"{user}:{group}", folder], check=True)
     os.environ.update(USER="bench", HOME=folder)

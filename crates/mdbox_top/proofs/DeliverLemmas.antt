@@ -25,7 +25,7 @@ use Rattle.storage_files.specs.Files.{FilesValue}
 use Rattle.store_core.specs.Running.{IsStore}
 use Rattle.store_core.specs.Value.{StoreValue, indexes_of, list_named}
 use Rattle.mail_ops.specs.Task.{seen_of}
-use Rattle.mail_save.specs.Saved.{saved_region}
+use Rattle.mail_save.specs.Saved.{place_guid, saved_region}
 use Rattle.store_open.specs.Opened.{IsOpenedAs}
 use Rattle.store_open.specs.declared.error.OpenError.{OpenError}
 use Rattle.store_open.specs.declared.error.OpenError.TheVariants as error
@@ -41,6 +41,7 @@ use Rattle.mdbox_top.specs.ChangeEvents.{IsAlike, AreAlongSave, ShowsChanged, St
 use Rattle.mdbox_top.specs.DeliverRun.{undelivered_cause, region_length, HasRecordLeft, HasRecordMore, IsDeliverAnswer, OpensAlike, OpensSaved, IsDeliverReply, SaveOutcome, AreSaved, SaveMoments, SaveRests, unread_outcome, IsUnread, DeliverOutcome, DeliverRests, DeliverStatus}
 use Rattle.mdbox_top.specs.InputRun.{IsOneOf}
 use Rattle.mdbox_top.specs.OpeningOutcome.{opening_outcome}
+use Rattle.mdbox_top.specs.SavedMail.{LeavesMail, WroteMail}
 use Rattle.mdbox_top.proofs.AloneLemmas.{alone_faults}
 use Rattle.mdbox_top.proofs.ChangeLemmas.{opens_unchanged, moments_as}
 use Rattle.mdbox_top.proofs.CopyLemmas.{one_refusal}
@@ -225,6 +226,14 @@ opens_saved name time octets guid old mid new s t opened later runs shows uid st
   mail = wrote_message time opened.swept.0 (saved_region name time octets guid.0) s.map s.files stored.at old mid new opened.swept.1 ((opened.store.running opened.running).files_known stored.at.file.0) stored.unsealed stored.mail;
 }
 
+-- what was written since the opening
+by_guid : {D : Type 0} → (name : List ℕ) (time : ℕ) (octets : List ℕ) (guid : Guid) (mid new : Option History) (s t : StoreValue D) → (map_uid : MapUid) × StoresAlone name time octets map_uid guid s t mid new
+    → (file : ℕ) × (offset : ℕ) × (guid.0 ≡ place_guid s.map.store file offset) × WroteMail time file offset (saved_region name time octets guid.0) mid new
+by_guid name time octets guid mid new s t stored = (stored.1.at.file.0, stored.1.at.offset, sym (ap (λ (g : Guid). g.0) stored.1.guid_is) ∙ stored.1.more.place.guid_is, stored.1.mail)
+
+mail_left : {D : Type 0} → (name : List ℕ) (time : ℕ) (octets : List ℕ) (given : Reply) (mid new : Option History) (began now : Faults) (s t : StoreValue D) → SavesAlone name time octets s t mid new began now given → LeavesMail s.map.store name time octets given mid new
+mail_left name time octets given mid new began now s t saves = record { saved = λ uid guid e. by_guid name time octets guid mid new s t (saves.stored uid guid e); unsaved = saves.leaves }
+
 deliver_tells : {D : Type 0} → (name : List ℕ) (time : ℕ) (octets : List ℕ) (given : Reply) (old mid new : Option History) (began now : Faults) (s t : StoreValue D) → DeliveringKnown name time octets given old mid new began now s t → IsDeliverReply name time octets old new given
 deliver_tells name time octets given old mid new began now s t w = record {
   m = s.map;
@@ -236,6 +245,7 @@ deliver_tells name time octets given old mid new began now s t w = record {
   refused = λ why e. opens_unchanged old mid new s w.opened (w.back (w.saves.refused why (subst (λ (h : Highest). undelivered_cause (list_named s name) h ≡ Some why) (sym w.opened.drawn) e)));
   unsaved = λ why e running. opens_alike name time octets new s t w.later (deliver_runs name time octets given old mid new began now s t w (refused_runs given why e running)) w.opened.drawn (w.saves.unsaved why e running) (w.saves.left why e running);
   done = λ uid guid e. opens_saved name time octets guid old mid new s t w.opened w.later (deliver_runs name time octets given old mid new began now s t w (saved_runs given uid guid e)) (w.saves.shows uid guid e) (w.saves.stored uid guid e).0 (w.saves.stored uid guid e).1;
+  mail = (w.opened.swept.0, mid, w.opened.swept.1, mail_left name time octets given mid new began now s t w.saves);
   settled = λ running lists at. w.saves.settled (deliver_runs name time octets given old mid new began now s t w running) lists (w.opened.settled_again lists at);
 }
 

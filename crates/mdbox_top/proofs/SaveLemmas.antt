@@ -65,7 +65,7 @@ use Rattle.mail_save.specs.declared.task.SaveStage.TheVariants as stage
 use Rattle.mdbox_top.specs.Changed.{saved_lists, lists_told, MomentsAmong}
 use Rattle.mdbox_top.specs.ChangeEvents.{IsWayTo, IsAlike, ShowsChanged, AreAlongSave, StoresAlone, SavesAlone}
 use Rattle.mdbox_top.specs.DeliverRun.{region_length, IsFileFor, IsSavedAs, IsSavedPlace, IsOutOfFiles, IsDeliverAnswer, HasRecordMore, HasRecordLeft}
-use Rattle.mdbox_top.specs.SavedMail.{TookMail, WroteMail}
+use Rattle.mdbox_top.specs.SavedMail.{LeftMail, TookMail, WroteMail}
 use Rattle.mdbox_top.specs.Served.{IsJournaled, ServesRequest}
 use Rattle.mdbox_top.specs.UnderWay.{IsUnderWay}
 use Rattle.mdbox_top.proofs.ChangeLemmas.{more_done, one_done, still_among, moments_on}
@@ -490,12 +490,13 @@ free_answers : {D : Type 0} → (name : List ℕ) (size : ℕ) (first : StoreVal
 free_answers name size first given free is = subst (λ (o : Option Refusal). IsDeliverAnswer o (list_named first name) first.map.store size first.files given) (sym free) is
 
 -- refused by a check, at the first event
-early_saves : {D : Type 0} → (name : List ℕ) (time : ℕ) (octets : List ℕ) (first t : StoreValue D) (old new : Option History) (began now : Faults) (why : Refusal) → save_refusal name first ≡ Some why → t ≡ first → EndsSaving name time octets first t old new began now (reply.Refused why) → SavesAlone name time octets first t old new began now (reply.Refused why)
-early_saves name time octets first t old new began now why e same ends = record {
+early_saves : {D : Type 0} → (name : List ℕ) (time : ℕ) (octets : List ℕ) (first t : StoreValue D) (old new : Option History) (began now : Faults) (why : Refusal) → save_refusal name first ≡ Some why → t ≡ first → ((why ≡ refusal.Stopped → ⊥) → LeftMail name time octets old new) → EndsSaving name time octets first t old new began now (reply.Refused why) → SavesAlone name time octets first t old new began now (reply.Refused why)
+early_saves name time octets first t old new began now why e same mail ends = record {
   given_is = subst (λ (o : Option Refusal). IsDeliverAnswer o (list_named first name) first.map.store (region_length name time octets) first.files (reply.Refused why)) (sym e) refl;
   refused = λ other q. same;
   unsaved = λ other q runs. same_alike first t same;
   left = λ other q runs. inl (ap (λ (v : StoreValue _). v.map) same);
+  leaves = λ other q runs. mail (λ stopped. runs (sym (one_refusal why other q) ∙ stopped));
   shows = λ uid guid q. absurd (cc q);
   stored = λ uid guid q. absurd (cc q);
   calm = ends.calm;
@@ -508,33 +509,34 @@ early_saves name time octets first t old new began now why e same ends = record 
 }
 
 -- Where nothing refuses it, it is stopped; or out of memory, or of numbers of files, with the same listings, and the same map or one
--- with a record more.
-abbrev LateCause : {D : Type 0} → List ℕ → ℕ → List ℕ → StoreValue D → StoreValue D → Refusal → Type 0
-LateCause name time octets first t why =
+-- with a record more; and what is left of storage files is told.
+abbrev LateCause : {D : Type 0} → List ℕ → ℕ → List ℕ → StoreValue D → StoreValue D → Option History → Option History → Refusal → Type 0
+LateCause name time octets first t old new why =
     (why ≡ refusal.Stopped)
-    ⊎ (((why ≡ refusal.NoMemory) ⊎ ((why ≡ refusal.StoreFull 4294967294) × IsTakeFor (region_length name time octets) first.files take.Full)) × IsAlike first t × ((t.map ≡ first.map) ⊎ HasRecordLeft name time octets first.drawn.map first.map first.files t.map))
+    ⊎ (((why ≡ refusal.NoMemory) ⊎ ((why ≡ refusal.StoreFull 4294967294) × IsTakeFor (region_length name time octets) first.files take.Full)) × IsAlike first t × ((t.map ≡ first.map) ⊎ HasRecordLeft name time octets first.drawn.map first.map first.files t.map) × LeftMail name time octets old new)
 
-late_calm : {D : Type 0} → (name : List ℕ) (time : ℕ) (octets : List ℕ) (first t : StoreValue D) (why : Refusal) → LateCause name time octets first t why → is_read_fault (Some (reply.Refused why)) ≡ false
-late_calm name time octets first t why (inl e) = ap (λ (w : Refusal). is_read_fault (Some (reply.Refused w))) e
-late_calm name time octets first t why (inr (inl e, alike, left)) = ap (λ (w : Refusal). is_read_fault (Some (reply.Refused w))) e
-late_calm name time octets first t why (inr (inr e, alike, left)) = ap (λ (w : Refusal). is_read_fault (Some (reply.Refused w))) e.0
+late_calm : {D : Type 0} → (name : List ℕ) (time : ℕ) (octets : List ℕ) (first t : StoreValue D) (old new : Option History) (why : Refusal) → LateCause name time octets first t old new why → is_read_fault (Some (reply.Refused why)) ≡ false
+late_calm name time octets first t old new why (inl e) = ap (λ (w : Refusal). is_read_fault (Some (reply.Refused w))) e
+late_calm name time octets first t old new why (inr (inl e, alike, left, mail)) = ap (λ (w : Refusal). is_read_fault (Some (reply.Refused w))) e
+late_calm name time octets first t old new why (inr (inr e, alike, left, mail)) = ap (λ (w : Refusal). is_read_fault (Some (reply.Refused w))) e.0
 
-late_answers : {D : Type 0} → (name : List ℕ) (time : ℕ) (octets : List ℕ) (first t : StoreValue D) (why : Refusal) → LateCause name time octets first t why
+late_answers : {D : Type 0} → (name : List ℕ) (time : ℕ) (octets : List ℕ) (first t : StoreValue D) (old new : Option History) (why : Refusal) → LateCause name time octets first t old new why
     → IsSavedAs (list_named first name) first.map.store (region_length name time octets) first.files (reply.Refused why) ⊎ (IsOutOfFiles (region_length name time octets) first.files (reply.Refused why) ⊎ ((reply.Refused why ≡ reply.Refused refusal.NoMemory) ⊎ (reply.Refused why ≡ reply.Refused refusal.Stopped)))
-late_answers name time octets first t why (inl e) = inr (inr (inr (ap reply.Refused e)))
-late_answers name time octets first t why (inr (inl e, alike, left)) = inr (inr (inl (ap reply.Refused e)))
-late_answers name time octets first t why (inr (inr e, alike, left)) = inr (inl (ap reply.Refused e.0, e.1))
+late_answers name time octets first t old new why (inl e) = inr (inr (inr (ap reply.Refused e)))
+late_answers name time octets first t old new why (inr (inl e, alike, left, mail)) = inr (inr (inl (ap reply.Refused e)))
+late_answers name time octets first t old new why (inr (inr e, alike, left, mail)) = inr (inl (ap reply.Refused e.0, e.1))
 
-late_alike : {D : Type 0} → (name : List ℕ) (time : ℕ) (octets : List ℕ) (first t : StoreValue D) (why other : Refusal) → LateCause name time octets first t why → reply.Refused why ≡ reply.Refused other → (other ≡ refusal.Stopped → ⊥) → IsAlike first t × ((t.map ≡ first.map) ⊎ HasRecordLeft name time octets first.drawn.map first.map first.files t.map)
-late_alike name time octets first t why other (inl e) q runs = absurd (runs (sym (one_refusal why other q) ∙ e))
-late_alike name time octets first t why other (inr late) q runs = (late.1, late.2)
+late_alike : {D : Type 0} → (name : List ℕ) (time : ℕ) (octets : List ℕ) (first t : StoreValue D) (old new : Option History) (why other : Refusal) → LateCause name time octets first t old new why → reply.Refused why ≡ reply.Refused other → (other ≡ refusal.Stopped → ⊥) → IsAlike first t × ((t.map ≡ first.map) ⊎ HasRecordLeft name time octets first.drawn.map first.map first.files t.map) × LeftMail name time octets old new
+late_alike name time octets first t old new why other (inl e) q runs = absurd (runs (sym (one_refusal why other q) ∙ e))
+late_alike name time octets first t old new why other (inr late) q runs = (late.1, late.2, late.3)
 
-late_saves : {D : Type 0} → (name : List ℕ) (time : ℕ) (octets : List ℕ) (first t : StoreValue D) (old new : Option History) (began now : Faults) (why : Refusal) → save_refusal name first ≡ None → LateCause name time octets first t why → EndsSaving name time octets first t old new began now (reply.Refused why) → SavesAlone name time octets first t old new began now (reply.Refused why)
+late_saves : {D : Type 0} → (name : List ℕ) (time : ℕ) (octets : List ℕ) (first t : StoreValue D) (old new : Option History) (began now : Faults) (why : Refusal) → save_refusal name first ≡ None → LateCause name time octets first t old new why → EndsSaving name time octets first t old new began now (reply.Refused why) → SavesAlone name time octets first t old new began now (reply.Refused why)
 late_saves name time octets first t old new began now why free late ends = record {
-  given_is = free_answers name (region_length name time octets) first (reply.Refused why) free (late_answers name time octets first t why late);
+  given_is = free_answers name (region_length name time octets) first (reply.Refused why) free (late_answers name time octets first t old new why late);
   refused = λ other e. absurd (no_cause other (save_refusal name first) free e);
-  unsaved = λ other q runs. (late_alike name time octets first t why other late q runs).0;
-  left = λ other q runs. (late_alike name time octets first t why other late q runs).1;
+  unsaved = λ other q runs. (late_alike name time octets first t old new why other late q runs).0;
+  left = λ other q runs. (late_alike name time octets first t old new why other late q runs).1;
+  leaves = λ other q runs. (late_alike name time octets first t old new why other late q runs).2;
   shows = λ uid guid q. absurd (cc q);
   stored = λ uid guid q. absurd (cc q);
   calm = ends.calm;
@@ -583,6 +585,7 @@ done_saves history name time octets added uid guid first s t began now knows tim
   refused = λ other e. absurd (no_cause other (save_refusal name first) knows.free e);
   unsaved = λ other q runs. absurd (cc q);
   left = λ other q runs. absurd (cc q);
+  leaves = λ other q runs. absurd (cc q);
   shows = λ other given q. subst (λ (g : Guid). ShowsChanged (saved_lists name time octets g) first t) (one_guid uid other guid given q) (saved_shown name time octets added uid guid first s t knows.alike timed sized guided adds);
   stored = λ other given q. (
     added.map_uid,
@@ -608,34 +611,44 @@ done_saves history name time octets added uid guid first s t began now knows tim
 
 -- ---- each event that ends it
 
+refused_running : {D : Type 0} → (t : StoreValue D) (why : Refusal) → (progress.Done (reply.Refused why) ≡ stopped_reply) ↔ (t.stopped ≡ true) → (why ≡ refusal.Stopped → ⊥) → t.stopped ≡ false
+refused_running t why stopped no = not_true t.stopped (λ e. no (one_refusal why refusal.Stopped (one_done (reply.Refused why) (reply.Refused refusal.Stopped) (stopped.1 e))))
+
+-- an event that writes to no storage file, of a store that is as it was at first
+left_same : {D : Type 0} → (history : D → Option History) (name : List ℕ) (time : ℕ) (octets : List ℕ) (first s t : StoreValue D) → s ≡ first → ReadsSameMail (history s.disk) (history t.disk) → LeftMail name time octets (history first.disk) (history t.disk)
+left_same history name time octets first s t same reads = subst (λ (v : StoreValue _). LeftMail name time octets (history v.disk) (history t.disk)) same (inl reads)
+
 first_saves : {D : Type 0} → (history : D → Option History) (faults : D → Faults) (name : List ℕ) (time : ℕ) (octets : List ℕ) (first s t : StoreValue D) (prepared : _) (how : Did) (why : Refusal) → IsSavingAlone history faults name time octets first s (stage.First prepared) → SaveEvent history faults name time octets (stage.First prepared) stage.Ended s t how (progress.Done (reply.Refused why))
     → IsStore (history t.disk) t → t ≡ s → (save_refusal name s ≡ Some why) ⊎ ((save_refusal name s ≡ None) × (why ≡ refusal.NoMemory)) → SavesAlone name time octets first t (history first.disk) (history t.disk) (faults first.disk) (faults t.disk) (reply.Refused why)
 first_saves history faults name time octets first s t prepared how why so event k same (inl e) =
     early_saves name time octets first t (history first.disk) (history t.disk) (faults first.disk) (faults t.disk) why (subst (λ (v : StoreValue _). save_refusal name v ≡ Some why) so.knows e) (same ∙ so.knows)
+    (λ runs. left_same history name time octets first s t so.knows (event.mail (refused_running t why event.stopped runs)))
     (saving_ended history faults name time octets first s t (stage.First prepared) stage.Ended how (reply.Refused why) so event k (cause_calm name s why e) (refused_lists (stage.First prepared) name octets why))
 first_saves history faults name time octets first s t prepared how why so event k same (inr none) =
-    let late : LateCause name time octets first t why = inr (inl none.1, same_alike first t (same ∙ so.knows), inl (ap (λ (v : StoreValue _). v.map) (same ∙ so.knows))) in
+    let runs : why ≡ refusal.Stopped → ⊥ = λ stopped. memory_runs (sym none.1 ∙ stopped) in
+    let late : LateCause name time octets first t (history first.disk) (history t.disk) why = inr (inl none.1, same_alike first t (same ∙ so.knows), inl (ap (λ (v : StoreValue _). v.map) (same ∙ so.knows)), left_same history name time octets first s t so.knows (event.mail (refused_running t why event.stopped runs))) in
     late_saves name time octets first t (history first.disk) (history t.disk) (faults first.disk) (faults t.disk) why (subst (λ (v : StoreValue _). save_refusal name v ≡ None) so.knows none.0) late
-    (saving_ended history faults name time octets first s t (stage.First prepared) stage.Ended how (reply.Refused why) so event k (late_calm name time octets first t why late) (refused_lists (stage.First prepared) name octets why))
+    (saving_ended history faults name time octets first s t (stage.First prepared) stage.Ended how (reply.Refused why) so event k (late_calm name time octets first t (history first.disk) (history t.disk) why late) (refused_lists (stage.First prepared) name octets why))
 
 -- any other
 later_saves : {D : Type 0} → (history : D → Option History) (faults : D → Faults) (name : List ℕ) (time : ℕ) (octets : List ℕ) (first s t : StoreValue D) (now next : SaveStage) (how : Did) (why : Refusal) → IsSavingAlone history faults name time octets first s now → SaveEvent history faults name time octets now next s t how (progress.Done (reply.Refused why))
-    → IsStore (history t.disk) t → save_refusal name first ≡ None → LateCause name time octets first t why → SavesAlone name time octets first t (history first.disk) (history t.disk) (faults first.disk) (faults t.disk) (reply.Refused why)
+    → IsStore (history t.disk) t → save_refusal name first ≡ None → LateCause name time octets first t (history first.disk) (history t.disk) why → SavesAlone name time octets first t (history first.disk) (history t.disk) (faults first.disk) (faults t.disk) (reply.Refused why)
 later_saves history faults name time octets first s t now next how why so event k free late =
     late_saves name time octets first t (history first.disk) (history t.disk) (faults first.disk) (faults t.disk) why free late
-    (saving_ended history faults name time octets first s t now next how (reply.Refused why) so event k (late_calm name time octets first t why late) (refused_lists now name octets why))
+    (saving_ended history faults name time octets first s t now next how (reply.Refused why) so event k (late_calm name time octets first t (history first.disk) (history t.disk) why late) (refused_lists now name octets why))
 
-takes_late : {D : Type 0} → (name : List ℕ) (time : ℕ) (octets : List ℕ) (size : ℕ) (why : Refusal) (first s t : StoreValue D) → s ≡ first → size ≡ region_length name time octets → TakesNone size why s t → LateCause name time octets first t why
-takes_late name time octets size why first s t same n (inl none) = inr (inl none.0, same_alike first t (none.1 ∙ same), inl (ap (λ (v : StoreValue _). v.map) (none.1 ∙ same)))
-takes_late name time octets size why first s t same n (inr (inl full)) = inr (
+takes_late : {D : Type 0} → (name : List ℕ) (time : ℕ) (octets : List ℕ) (size : ℕ) (why : Refusal) (first s t : StoreValue D) (old new : Option History) → s ≡ first → size ≡ region_length name time octets → ((why ≡ refusal.Stopped → ⊥) → LeftMail name time octets old new) → TakesNone size why s t → LateCause name time octets first t old new why
+takes_late name time octets size why first s t old new same n mail (inl none) = inr (inl none.0, same_alike first t (none.1 ∙ same), inl (ap (λ (v : StoreValue _). v.map) (none.1 ∙ same)), mail (λ stopped. memory_runs (sym none.0 ∙ stopped)))
+takes_late name time octets size why first s t old new same n mail (inr (inl full)) = inr (
   inr (full.0, subst (λ (v : StoreValue _). IsTakeFor (region_length name time octets) v.files take.Full) same (subst (λ (k : ℕ). IsTakeFor k s.files take.Full) n full.1.full)),
   record {
     indexes = ap (λ (v : StoreValue _). indexes_of v.boxes) full.1.same ∙ ap (λ (v : StoreValue _). indexes_of v.boxes) same;
     mailboxes = ap (λ (v : StoreValue _). v.map.boxes) full.1.same ∙ ap (λ (v : StoreValue _). v.map.boxes) same;
   },
   inl (ap (λ (v : StoreValue _). v.map) full.1.same ∙ ap (λ (v : StoreValue _). v.map) same),
+  mail (λ stopped. let q : refusal.StoreFull 4294967294 ≡ refusal.Stopped = sym full.0 ∙ stopped in cc q),
 )
-takes_late name time octets size why first s t same n (inr (inr stopped)) = inl stopped.0
+takes_late name time octets size why first s t old new same n mail (inr (inr stopped)) = inl stopped.0
 
 given_file_back : {D : Type 0} → (at : SavedAt) (first s t : StoreValue D) (why : Refusal) → KeepsLogs first s → why ≡ refusal.NoMemory → StoresNone at why s t → IsAlike first t × (t.map ≡ first.map)
 given_file_back at first s t why k e (inl stopped) = absurd (memory_runs (sym e ∙ stopped.0))
@@ -647,23 +660,24 @@ given_file_back at first s t why k e (inr back) = (
   ap (λ (v : StoreValue _). v.map) back.1.same ∙ k.map,
 )
 
-stores_late : {D : Type 0} → (name : List ℕ) (time : ℕ) (octets : List ℕ) (at : SavedAt) (first s t : StoreValue D) (why : Refusal) → KeepsLogs first s → save_refusal name first ≡ None → (uid_refusal s.drawn.map ≡ Some why) ⊎ ((uid_refusal s.drawn.map ≡ None) × ((why ≡ refusal.Stopped) ⊎ (why ≡ refusal.NoMemory))) → StoresNone at why s t
-    → LateCause name time octets first t why
-stores_late name time octets at first s t why k free (inl used) none = absurd (no_cause why (uid_refusal s.drawn.map) (ap uid_refusal k.drawn ∙ none_second (box_refusal (list_named first name)) (uid_refusal first.drawn.map) free) used)
-stores_late name time octets at first s t why k free (inr (room, inl stopped)) none = inl stopped
-stores_late name time octets at first s t why k free (inr (room, inr memory)) none = let back = given_file_back at first s t why k memory none in inr (inl memory, back.0, inl back.1)
+stores_late : {D : Type 0} → (name : List ℕ) (time : ℕ) (octets : List ℕ) (at : SavedAt) (first s t : StoreValue D) (old new : Option History) (why : Refusal) → KeepsLogs first s → ((why ≡ refusal.Stopped → ⊥) → LeftMail name time octets old new) → save_refusal name first ≡ None → (uid_refusal s.drawn.map ≡ Some why) ⊎ ((uid_refusal s.drawn.map ≡ None) × ((why ≡ refusal.Stopped) ⊎ (why ≡ refusal.NoMemory))) → StoresNone at why s t
+    → LateCause name time octets first t old new why
+stores_late name time octets at first s t old new why k mail free (inl used) none = absurd (no_cause why (uid_refusal s.drawn.map) (ap uid_refusal k.drawn ∙ none_second (box_refusal (list_named first name)) (uid_refusal first.drawn.map) free) used)
+stores_late name time octets at first s t old new why k mail free (inr (room, inl stopped)) none = inl stopped
+stores_late name time octets at first s t old new why k mail free (inr (room, inr memory)) none = let back = given_file_back at first s t why k memory none in inr (inl memory, back.0, inl back.1, mail (λ stopped. memory_runs (sym memory ∙ stopped)))
 
-adds_late : {D : Type 0} → (name : List ℕ) (time : ℕ) (octets : List ℕ) (first s t : StoreValue D) (added : Added) (room : _) (why : Refusal) → RepliesAt (stage.Adding added room) name (progress.Done (reply.Refused why)) stage.Ended s → LateCause name time octets first t why
-adds_late name time octets first s t added room why (inl saved) = absurd (let q : reply.Refused why ≡ reply.Saved saved.1 added.guid = one_done (reply.Refused why) (reply.Saved saved.1 added.guid) saved.3 in cc q)
-adds_late name time octets first s t added room why (inr (inl stopped)) = inl (one_refusal why refusal.Stopped (one_done (reply.Refused why) (reply.Refused refusal.Stopped) stopped.3))
-adds_late name time octets first s t added room why (inr (inr back)) = absurd (more_done (reply.Refused why) (sym back.2))
+adds_late : {D : Type 0} → (name : List ℕ) (time : ℕ) (octets : List ℕ) (first s t : StoreValue D) (old new : Option History) (added : Added) (room : _) (why : Refusal) → RepliesAt (stage.Adding added room) name (progress.Done (reply.Refused why)) stage.Ended s → LateCause name time octets first t old new why
+adds_late name time octets first s t old new added room why (inl saved) = absurd (let q : reply.Refused why ≡ reply.Saved saved.1 added.guid = one_done (reply.Refused why) (reply.Saved saved.1 added.guid) saved.3 in cc q)
+adds_late name time octets first s t old new added room why (inr (inl stopped)) = inl (one_refusal why refusal.Stopped (one_done (reply.Refused why) (reply.Refused refusal.Stopped) stopped.3))
+adds_late name time octets first s t old new added room why (inr (inr back)) = absurd (more_done (reply.Refused why) (sym back.2))
 
 -- its record is given back
-gives_late : {D : Type 0} → (history : D → Option History) (name : List ℕ) (time : ℕ) (octets : List ℕ) (uid : MapUid) (guid : Guid) (given : Refusal) (first s t : StoreValue D) → RecordedAlone history name time octets first s uid guid → given ≡ refusal.NoMemory → LowersRecord uid s t → LateCause name time octets first t given
-gives_late history name time octets uid guid given first s t knows memory lowered = inr (
+gives_late : {D : Type 0} → (history : D → Option History) (name : List ℕ) (time : ℕ) (octets : List ℕ) (uid : MapUid) (guid : Guid) (given : Refusal) (first s t : StoreValue D) → RecordedAlone history name time octets first s uid guid → given ≡ refusal.NoMemory → ReadsSameMail (history s.disk) (history t.disk) → LowersRecord uid s t → LateCause name time octets first t (history first.disk) (history t.disk) given
+gives_late history name time octets uid guid given first s t knows memory same lowered = inr (
   inl memory,
   record { indexes = ap (λ (v : StoreValue _). indexes_of v.boxes) lowered.same ∙ knows.alike.indexes; mailboxes = lowered.mailboxes ∙ knows.alike.mailboxes },
   inr (record { uid = uid; at = knows.stored.at; made = s.map; more = knows.stored.more; lowered = lowered.map }),
+  inr (inr (knows.stored.at.file.0, knows.stored.at.offset, guid.0, wrote_on time knows.stored.at.file.0 knows.stored.at.offset (saved_region name time octets guid.0) (history first.disk) (history s.disk) (history t.disk) knows.stored.mail same)),
 )
 
 saved_running : {D : Type 0} → (uid : Uid) (guid : Guid) (t : StoreValue D) → (progress.Done (reply.Saved uid guid) ≡ stopped_reply) ↔ (t.stopped ≡ true) → t.stopped ≡ false
@@ -673,21 +687,25 @@ pub saves_end : {D : Type 0} → (history : D → Option History) (faults : D �
     → SaveEvent history faults name time octets now next s t how (progress.Done given) → IsStore (history t.disk) t → SavesAlone name time octets first t (history first.disk) (history t.disk) (faults first.disk) (faults t.disk) given
 saves_end history faults name time octets first s t (stage.First prepared) stage.Ended how (reply.Refused why) f so event k = first_saves history faults name time octets first s t prepared how why so event k event.effects event.replies
 saves_end history faults name time octets first s t (stage.Taking parts) stage.Ended how (reply.Refused why) f so event k =
-    later_saves history faults name time octets first s t (stage.Taking parts) stage.Ended how why so event k so.knows.1 (takes_late name time octets (length parts.region) why first s t so.knows.0 (ap length event.ready.1.region) event.effects)
+    later_saves history faults name time octets first s t (stage.Taking parts) stage.Ended how why so event k so.knows.1
+    (takes_late name time octets (length parts.region) why first s t (history first.disk) (history t.disk) so.knows.0 (ap length event.ready.1.region) (λ runs. left_same history name time octets first s t so.knows.0 (event.mail (refused_running t why event.stopped runs))) event.effects)
 saves_end history faults name time octets first s t (stage.Placing parts file) stage.Ended how (reply.Refused why) f so event k =
     later_saves history faults name time octets first s t (stage.Placing parts file) stage.Ended how why so event k so.knows.free (inl event.replies)
 saves_end history faults name time octets first s t (stage.Storing at origin rows room) stage.Ended how (reply.Refused why) f so event k =
-    later_saves history faults name time octets first s t (stage.Storing at origin rows room) stage.Ended how why so event k so.knows.free (stores_late name time octets at first s t why so.knows.logs so.knows.free event.replies event.effects)
+    later_saves history faults name time octets first s t (stage.Storing at origin rows room) stage.Ended how why so event k so.knows.free
+    (stores_late name time octets at first s t (history first.disk) (history t.disk) why so.knows.logs
+    (λ runs. inr (inr (at.file.0, at.offset, at.guid.0, wrote_on time at.file.0 at.offset (saved_region name time octets at.guid.0) (history first.disk) (history s.disk) (history t.disk) so.knows.mail (event.mail (refused_running t why event.stopped runs)))))
+    so.knows.free event.replies event.effects)
 saves_end history faults name time octets first s t (stage.Adding added room) stage.Ended how (reply.Saved uid guid) f so event k =
     done_saves history name time octets added uid guid first s t (faults first.disk) (faults t.disk) so.knows.0 so.knows.1 so.knows.2 event.effects.0 event.effects.1 (event.mail (saved_running uid guid t event.stopped))
     (saving_ended history faults name time octets first s t (stage.Adding added room) stage.Ended how (reply.Saved uid guid) so event k refl
     (λ lists. delivered_saved name time octets added lists so.knows.1 ∙ ap (λ (g : Guid). saved_lists name time octets g lists) (sym event.effects.0)))
 saves_end history faults name time octets first s t (stage.Adding added room) stage.Ended how (reply.Refused why) f so event k =
-    later_saves history faults name time octets first s t (stage.Adding added room) stage.Ended how why so event k so.knows.0.free (adds_late name time octets first s t added room why event.replies)
+    later_saves history faults name time octets first s t (stage.Adding added room) stage.Ended how why so event k so.knows.0.free (adds_late name time octets first s t (history first.disk) (history t.disk) added room why event.replies)
 saves_end history faults name time octets first s t (stage.GivingBack uid why room) stage.Ended how (reply.Refused given) f so event k =
     later_saves history faults name time octets first s t (stage.GivingBack uid why room) stage.Ended how given so event k so.knows.1.free
     (elim event.effects [
-      | inl lowered ↦ gives_late history name time octets uid so.knows.0 given first s t so.knows.1 (lowered.0 ∙ so.knows.2) lowered.1
+      | inl lowered ↦ gives_late history name time octets uid so.knows.0 given first s t so.knows.1 (lowered.0 ∙ so.knows.2) (event.mail (refused_running t given event.stopped (λ stopped. memory_runs (sym (lowered.0 ∙ so.knows.2) ∙ stopped)))) lowered.1
       | inr stopped ↦ inl stopped.0
     ])
 saves_end history faults name time octets first s t now next how given f so event k = absurd event.effects

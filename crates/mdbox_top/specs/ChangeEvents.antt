@@ -38,7 +38,7 @@ use Rattle.mdbox_top.specs.DeliverRun.{undelivered_cause, region_length, HasReco
 use Rattle.mdbox_top.specs.ExpungeRun.{lists_without}
 use Rattle.mdbox_top.specs.MakeRun.{lists_by_making}
 use Rattle.mdbox_top.specs.MoveRun.{AreAlongMove, IsMoveAnswer}
-use Rattle.mdbox_top.specs.SavedMail.{WroteMail}
+use Rattle.mdbox_top.specs.SavedMail.{LeftMail, WroteMail}
 use Rattle.mdbox_top.specs.Served.{IsJournaled, ServesRequest, missing_cause}
 use Rattle.mdbox_top.specs.UnderWay.{IsUnderWay}
 
@@ -100,6 +100,7 @@ pub record SavesAlone {D : Type 0} (name : List ℕ) (time : ℕ) (octets : List
   pub refused : (why : Refusal) → undelivered_cause (list_named store name) store.drawn ≡ Some why → later ≡ store
   pub unsaved : (why : Refusal) → given ≡ reply.Refused why → (why ≡ refusal.Stopped → ⊥) → IsAlike store later
   pub left : (why : Refusal) → given ≡ reply.Refused why → (why ≡ refusal.Stopped → ⊥) → (later.map ≡ store.map) ⊎ HasRecordLeft name time octets store.drawn.map store.map store.files later.map
+  pub leaves : (why : Refusal) → given ≡ reply.Refused why → (why ≡ refusal.Stopped → ⊥) → LeftMail name time octets old new
   pub shows : (uid : Uid) (guid : Guid) → given ≡ reply.Saved uid guid → ShowsChanged (saved_lists name time octets guid) store later
   pub stored : (uid : Uid) (guid : Guid) → given ≡ reply.Saved uid guid → (map_uid : MapUid) × StoresAlone name time octets map_uid guid store later old new
   pub calm : is_read_fault (Some given) ≡ false

@@ -34,12 +34,14 @@ use Rattle.mail_save.specs.Saved.{no_guid, place_guid, saved_region}
 use Rattle.mail_save.specs.declared.place.SavedAt.{SavedAt}
 use Rattle.store_open.specs.Opened.{IsOpenedAs}
 use Rattle.store_sweep.specs.Moments.{NoFailedChange}
+use Rattle.store_sweep.specs.Swept.{IsSwept}
 use Rattle.request_text.specs.Outcomes.{status_of}
 use Rattle.request_text.specs.declared.outcome.InputRefusal.TheVariants as input
 use Rattle.request_text.specs.declared.outcome.Outcome.{Outcome}
 use Rattle.request_text.specs.declared.outcome.Outcome.TheVariants as outcome
 use Rattle.mdbox_top.specs.Changed.{saved_lists, lists_told, OpensUnchanged}
 use Rattle.mdbox_top.specs.InputRun.{OfInput, IsOneOf}
+use Rattle.mdbox_top.specs.SavedMail.{LeavesMail}
 use Rattle.mdbox_top.specs.Served.{RequestOutcome}
 
 -- ---- what is replied
@@ -143,8 +145,9 @@ pub record OpensSaved (name : List ℕ) (time : ℕ) (octets : List ℕ) (guid :
 -- is carried over, and the disk was swept. With any other refusal they open with the same listings, unless the store is stopped.
 -- Where it is saved, their logs show the lists with the message: last in its mailbox, with its next UID, without flags, with this
 -- time and these octets, and with the GUID that is replied; its octets were added to its storage file, and what else the store
--- reads of storage files and instances is carried over. Unless the store is stopped, a disk that was settled for lists is settled
--- for those that the reply tells.
+-- reads of storage files and instances is carried over. The opening swept the disk, and behind it, unless the store is stopped, no
+-- storage file and no instance has changed but the one that was taken for the message. Unless the store is stopped, a disk that was
+-- settled for lists is settled for those that the reply tells.
 pub record IsDeliverReply (name : List ℕ) (time : ℕ) (octets : List ℕ) (old new : Option History) (given : Reply) : Type 0 where
   pub m : MapMeaning
   pub meanings : List BoxMeaning
@@ -155,6 +158,7 @@ pub record IsDeliverReply (name : List ℕ) (time : ℕ) (octets : List ℕ) (ol
   pub refused : (why : Refusal) → undelivered_cause (meaning_named name m.boxes meanings) m.highest ≡ Some why → OpensUnchanged m meanings old new
   pub unsaved : (why : Refusal) → given ≡ reply.Refused why → (why ≡ refusal.Stopped → ⊥) → OpensAlike name time octets m meanings files new
   pub done : (uid : Uid) (guid : Guid) → given ≡ reply.Saved uid guid → OpensSaved name time octets guid m meanings files old new
+  pub mail : (generation : ℕ) × (swept : Option History) × IsSwept generation m old swept × LeavesMail m.store name time octets given swept new
   pub settled : (given ≡ reply.Refused refusal.Stopped → ⊥) → (lists : Lists) → IsSettledFor lists old → IsSettledFor (lists_told (request.Deliver name time octets) given lists) new
 
 -- ---- a message that was read

@@ -217,6 +217,23 @@ fn without_a_message_or_a_time_no_call_of_the_disk_is_made(rt: HostRuntime) -> R
     Ok(())
 }
 
+/// A delivery whose clock fails if it is asked a second time, and whose input fails if it is read once more behind its end, which
+/// the second call tells.
+fn asked_once(alloc: Global) -> Result<(u8, bool), Fail> {
+    let octets = Octets::of(Vec::from_slice(alloc, b"Hello")?);
+    let mut input = MemSource::of(octets, Seq::of(vec![in alloc; 3]?));
+    let mut clock = MemClock::of(NOW, Seq::of(vec![in alloc; 2]?));
+    let disk = fresh(alloc)?;
+    let ran = run_with(alloc, disk, &DELIVER, &mut input, Seq::empty(alloc), &mut clock)?;
+    Ok((ran.status, told(&ran, FIRST.as_bytes(), "")))
+}
+
+#[test]
+fn the_clock_is_asked_once_and_the_input_read_to_its_end_once(rt: HostRuntime) -> Result<(), Fail> {
+    assert_eq!(rt; asked_once(rt.alloc())?, (0, true));
+    Ok(())
+}
+
 /// A disk with a store whose INBOX has `Hello`, or nothing.
 fn some_store(alloc: Global, empty: bool) -> Result<MemDisk, Fail> {
     if empty { fresh(alloc) } else { hello(alloc) }
