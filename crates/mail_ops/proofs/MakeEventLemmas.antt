@@ -366,18 +366,18 @@ making_done name number old new before after began then ran m = λ around behind
 -- ---- the second event removes the log
 
 -- what stays, if the log was removed
-pub removed_stays : {D : Type 0} → (number : ℕ) (old new : StoreValue D) (before after : Option History) (began then : Faults) → RemovesLog number old new after → HasChangedDisk same_lists before after began then → StaysSo (seen_of old before began) (seen_of new after then)
+pub removed_stays : {D : Type 0} → (number : ℕ) (old new : StoreValue D) (before after : Option History) (began then : Faults) → RemovesLog number old new before after → HasChangedDisk same_lists before after began then → StaysSo (seen_of old before began) (seen_of new after then)
 removed_stays number old new before after began then r d =
     stays_of old new before after began then same_lists (ap (λ (s : StoreValue _). s.map) r.same) (ap (λ (s : StoreValue _). s.drawn) r.same) (ap (λ (s : StoreValue _). s.files) r.same) (ap (λ (s : StoreValue _). s.dues) r.same) d.change
 
-pub removed_shows : {D : Type 0} → (number : ℕ) (old new : StoreValue D) (before after : Option History) (began then : Faults) (lists : Lists) → RemovesLog number old new after → ShowsSeen (seen_of old before began) lists → ShowsSeen (seen_of new after then) lists
+pub removed_shows : {D : Type 0} → (number : ℕ) (old new : StoreValue D) (before after : Option History) (began then : Faults) (lists : Lists) → RemovesLog number old new before after → ShowsSeen (seen_of old before began) lists → ShowsSeen (seen_of new after then) lists
 removed_shows number old new before after began then lists r shows = shows_of old new before after began then lists (ap (λ (s : StoreValue _). s.map) r.same) (ap (λ (s : StoreValue _). s.boxes) r.same) shows
 
-pub removed_runs : {D : Type 0} → (number : ℕ) (old new : StoreValue D) (after : Option History) → RemovesLog number old new after → old.stopped ≡ false → new.stopped ≡ false
-removed_runs number old new after r ran = ap (λ (s : StoreValue _). s.stopped) r.same ∙ ran
+pub removed_runs : {D : Type 0} → (number : ℕ) (old new : StoreValue D) (before after : Option History) → RemovesLog number old new before after → old.stopped ≡ false → new.stopped ≡ false
+removed_runs number old new before after r ran = ap (λ (s : StoreValue _). s.stopped) r.same ∙ ran
 
 -- refused by a check
-pub naming_refused : {D : Type 0} → (name : List ℕ) (number : BoxNo) (next : MakeStage) (old new : StoreValue D) (before after : Option History) (began then : Faults) (why : Refusal) → old.stopped ≡ false → naming_refusal name old ≡ Some why → RemovesLog number.0 old new after → HasChangedDisk same_lists before after began then
+pub naming_refused : {D : Type 0} → (name : List ℕ) (number : BoxNo) (next : MakeStage) (old new : StoreValue D) (before after : Option History) (began then : Faults) (why : Refusal) → old.stopped ≡ false → naming_refusal name old ≡ Some why → RemovesLog number.0 old new before after → HasChangedDisk same_lists before after began then
     → MakeClause name (stage.Naming number) next old new before after began then (did.Step half.Whole) (Some (reply.Refused why))
 naming_refused name number next old new before after began then why ran refuses r d = λ around behind run lane place said lists come shows stood.
     let seen = seen_of old before began in
@@ -386,7 +386,7 @@ naming_refused name number next old new before after began then why ran refuses 
     let part = naming_part overtaken in
     let w = step_why why (naming_steps name old why refuses) in
     let none = stood.0.unanswered in
-    let runs = removed_runs number.0 old new after r ran in
+    let runs = removed_runs number.0 old new before after r ran in
     let checks : first_refusal run lists (make_checks name part) ≡ Some why = naming_checked run name old lists overtaken shows.1 ∙ refuses in (
       (did_refused around behind run lane place said (request.Make name) part lists seen later why (Some (reply.Refused why)) (Some (reply.Refused why)) (did.Step half.Whole)
           (naming_refuses around run place said name number.0 old.map overtaken why refl stood come.come.map_is (λ e. absurd (step_memory why w.0 e))) come (removed_stays number.0 old new before after began then r d) (removed_shows number.0 old new before after began then lists r shows)
@@ -415,13 +415,13 @@ overtaken_is : (a b : ℕ) → a ≤ b → nat_le a b ≡ true
 overtaken_is a b l = grind (arith, common_steps, l)
 
 -- out of memory
-pub naming_unremembered : {D : Type 0} → (name : List ℕ) (number : BoxNo) (next : MakeStage) (old new : StoreValue D) (before after : Option History) (began then : Faults) → old.stopped ≡ false → CanBeNamed name number.0 old → RemovesLog number.0 old new after → HasChangedDisk same_lists before after began then
+pub naming_unremembered : {D : Type 0} → (name : List ℕ) (number : BoxNo) (next : MakeStage) (old new : StoreValue D) (before after : Option History) (began then : Faults) → old.stopped ≡ false → CanBeNamed name number.0 old → RemovesLog number.0 old new before after → HasChangedDisk same_lists before after began then
     → MakeClause name (stage.Naming number) next old new before after began then did.Quiet (Some (reply.Refused refusal.NoMemory))
 naming_unremembered name number next old new before after began then ran can r d = λ around behind run lane place said lists come shows stood.
     let seen = seen_of old before began in
     let later = seen_of new after then in
     let above = above_not number.0 old.map.highest.mailbox can.above in
-    let runs = removed_runs number.0 old new after r ran in (
+    let runs = removed_runs number.0 old new before after r ran in (
       (did_unstepped around behind run lane place said (request.Make name) Last lists seen later refusal.NoMemory (Some (reply.Refused refusal.NoMemory)) did.Quiet (naming_refuses around run place said name number.0 old.map false refusal.NoMemory above stood come.come.map_is (λ e. refl)) come
           (removed_stays number.0 old new before after began then r d) (removed_shows number.0 old new before after began then lists r shows) refl memory_calm (refl, runs ∙ sym ran, leads_of old new before after began then lists d)
           (memory_replied name said stood.0.unanswered) (memory_is new.stopped runs) (λ e. absurd (fall old.stopped e ran)) (λ x. absurd x)).so,
@@ -451,12 +451,12 @@ removing_fell name number next old new before after began then ran same f = λ a
 abbrev pub starting_over : ℕ → ℕ → ℕ → RunEvent
 starting_over lane place calls = event_of lane place StartsOver calls
 
-pub naming_overtaken : {D : Type 0} → (name : List ℕ) (number : BoxNo) (old new : StoreValue D) (before after : Option History) (began then : Faults) → old.stopped ≡ false → naming_refusal name old ≡ None → number.0 ≤ old.map.highest.mailbox → RemovesLog number.0 old new after → HasChangedDisk same_lists before after began then
+pub naming_overtaken : {D : Type 0} → (name : List ℕ) (number : BoxNo) (old new : StoreValue D) (before after : Option History) (began then : Faults) → old.stopped ≡ false → naming_refusal name old ≡ None → number.0 ≤ old.map.highest.mailbox → RemovesLog number.0 old new before after → HasChangedDisk same_lists before after began then
     → MakeClause name (stage.Naming number) stage.First old new before after began then did.Quiet None
 naming_overtaken name number old new before after began then ran free behind_it r d = λ around behind run lane place said lists come shows stood.
     let seen = seen_of old before began in
     let later = seen_of new after then in
-    let runs = removed_runs number.0 old new after r ran in
+    let runs = removed_runs number.0 old new before after r ran in
     let stays = removed_stays number.0 old new before after began then r d in
     let event : RunEvent = starting_over lane place (told_calls after) in
     stands_by around behind run lane place said (request.Make name) lists seen later did.Quiet None event None (IsAtMake stage.First)

@@ -12,7 +12,7 @@ ghost use Rattle.model_store.specs.Settled.{IsSettledFor, Leaves};
 ghost use Rattle.task_steps.specs.Step.{HasNotBegun, Steps, ended_by};
 ghost use Rattle.mail_ops.specs.Requests.{IsOpsRequest, Replies, AppendsNothing, lists_after, lists_by_reply};
 ghost use Rattle.store_core.specs.Dues.{due_at, KeepsStored, Moves, Spares, amounts_in};
-ghost use Rattle.store_core.specs.Keeping.{KeepsRest, KeepsUids};
+ghost use Rattle.store_core.specs.Keeping.{KeepsMail, KeepsRest, KeepsUids};
 ghost use Rattle.mail_ops.specs.Task.{IsAt, amounts_of, seen_of};
 ghost use Rattle.mail_ops.specs.declared.task.TaskStage.TheVariants as stage;
 
@@ -87,11 +87,12 @@ impl OpsTask {
 
         // What is due of each record grows or shrinks in the store by as much as in this task; and records of which something is due
         // for other tasks are kept, unless a failed change stops the store. No other message gets the UID of one that
-        // another task copies or moves, and the rest of the store stays.
+        // another task copies or moves, and the rest of the store stays; so do the files of its storage files and instances.
         ensures moves { Moves (amounts_of self.old) (amounts_of self.new) (amounts_in store.old) (amounts_in store.new) }
         ensures spares { store.new.stopped ≡ store.old.stopped → Spares (amounts_of self.old) store.old store.new (D.history store.old.disk) (D.history store.new.disk) }
         ensures keeps { KeepsUids store.old store.new }
         ensures rest { KeepsRest store.old store.new }
+        ensures mail { store.new.stopped ≡ store.old.stopped → KeepsMail (D.history store.old.disk) (D.history store.new.disk) }
         ensures replies { (reply : Reply) × (result ≡ progress.Done reply) × Replies self.old.request store.old store.new reply }
         ensures same { AppendsNothing self.old.request store.old → store.new ≡ store.old }
         ensures request { self.new.request ≡ self.old.request }
@@ -114,6 +115,7 @@ fn only_event<D: Disk>(store: &mut Store<D>, request: &Request) -> (Reply, Did)
     ensures stored { store.new.stopped ≡ store.old.stopped → KeepsStored (D.history store.old.disk) (D.history store.new.disk) }
     ensures keeps { KeepsUids store.old store.new }
     ensures rest { KeepsRest store.old store.new }
+    ensures mail { store.new.stopped ≡ store.old.stopped → KeepsMail (D.history store.old.disk) (D.history store.new.disk) }
     ensures moments { (lists : Lists) → IsSettledFor lists (D.history store.old.disk) → Leaves lists (lists_after request.now lists) (D.history store.old.disk) (D.history store.new.disk) }
     ensures settled { store.new.stopped ≡ false → (lists : Lists) → IsSettledFor lists (D.history store.old.disk) → IsSettledFor (lists_by_reply request.now result.0 lists) (D.history store.new.disk) }
     ensures stopped { (result.0 ≡ reply.Refused refusal.Stopped) ↔ (store.new.stopped ≡ true) }
