@@ -36,7 +36,7 @@ use Rattle.task_steps.specs.Step.{Seen, ShowsSeen, HasComeTo, DidEvent, HasNotBe
 use Rattle.task_steps.specs.Tells.{TellsSame}
 use Rattle.task_steps.proofs.SeenLemmas.{comes_to_on, no_guids}
 use Rattle.task_steps.proofs.OneEventLemmas.{IsPlain, refused_event, refused_leaves, unmade, next_first, refusal_last, some_given, first_reply, first_turn}
-use Rattle.mail_ops.specs.Task.{seen_of}
+use Rattle.mail_ops.specs.Task.{Others, seen_beside}
 use Rattle.mail_ops.proofs.FlagListLemmas.{is_flagged, shows_by}
 
 pub flag_is_plain : (name : List ℕ) (uid : Uid) (flags : ℕ) → IsPlain (request.Flag name uid flags)
@@ -250,8 +250,8 @@ given_still old new guid map drawn files =
     ap (λ (m : MapMeaning). may_have_given (record new { map = m }) guid) map
     ∙ (ap (λ (d : Highest). may_have_given (record new { map = old.map; drawn = d }) guid) drawn ∙ ap (λ (x : FilesValue). may_have_given (record new { map = old.map; drawn = old.drawn; files = x }) guid) files)
 
-pub tells_same : {D : Type 0} → (old new : StoreValue D) (h k : Option History) (f g : Faults) → new.map ≡ old.map → new.drawn ≡ old.drawn → new.files ≡ old.files → TellsSame (seen_of old h f) (seen_of new k g)
-tells_same old new h k f g map drawn files = record {
+pub tells_same : {D : Type 0} → (others : Others) → (old new : StoreValue D) (h k : Option History) (f g : Faults) → new.map ≡ old.map → new.drawn ≡ old.drawn → new.files ≡ old.files → TellsSame (seen_beside others old h f) (seen_beside others new k g)
+tells_same others old new h k f g map drawn files = record {
   pins = λ file. refl;
   doomed = λ file. refl;
   used = λ file. refl;

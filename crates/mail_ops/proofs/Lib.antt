@@ -12,6 +12,7 @@ pub mod ExpungeStepLemmas
 pub mod FlagEventLemmas
 pub mod FlagListLemmas
 pub mod KeepingLemmas
+pub mod KeptMailLemmas
 pub mod KeptRestLemmas
 pub mod KeptRowLemmas
 pub mod KeptUidLemmas

@@ -8,6 +8,8 @@ use Rattle.std.proofs.lemmas.List.Elements.{All-nil, All-cons}
 use Rattle.std.proofs.lemmas.Slice.Eq.{bytes_eq-Decides}
 use Rattle.disk_model.specs.Disk.{History, Faults, Grows}
 use Rattle.disk_model.specs.FaultCounts.{NoFault}
+use Rattle.disk_model.specs.declared.name.FileName.TheVariants as file
+use Rattle.gate_log.specs.Log.{NamedButFor}
 use Rattle.mdbox_base.specs.Words.{IsNumber}
 use Rattle.mdbox_base.specs.declared.replies.Refusal.{Refusal}
 use Rattle.mdbox_base.specs.declared.replies.Refusal.TheVariants as refusal
@@ -39,6 +41,7 @@ pub record CreatedLog {D : Type 0} (history : D → Option History) (faults : D 
   pub settled : (lists : Lists) → IsSettledFor lists (history old.disk) → IsSettledFor lists (history new.disk)
   pub stored : KeepsStored (history old.disk) (history new.disk)
   pub made : (other : ℕ) → has_made_log other new ≡ (has_made_log other old || number == other)
+  pub others : NamedButFor (file.Box number 1) (history old.disk) (history new.disk)
   pub runs : new.stopped ≡ false
   pub same : new ≡ record old { disk = new.disk; made = new.made; stopped = new.stopped }
   pub grows : Grows (history old.disk) (history new.disk)
@@ -61,6 +64,7 @@ log_made history faults name number old drew new ran free next is_number unmade 
         unnamed = subst (λ (m : _). IsUnnamed number m) (sym (ap (λ (s : StoreValue _). s.map) c.same)) unnamed;
         same = c.same ∙ ap (λ (b : Bool). record (with_drawn_box number old) { disk = new.disk; made = new.made; stopped = b }) (c.runs ∙ sym ran);
       };
+      others = c.others;
       disk = record {
         change = record { moments = λ lists s. c.moments lists s; grows = c.grows; reads = c.reads; changes = c.changes };
         settled = λ lists s. c.settled lists s;

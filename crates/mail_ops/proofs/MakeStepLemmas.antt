@@ -22,7 +22,7 @@ use Rattle.model_store.specs.Safe.{Safe}
 use Rattle.model_store.specs.Settled.{IsSettledFor, Leaves}
 use Rattle.list_machine.specs.Machine.{is_step}
 use Rattle.store_core.specs.Dues.{Moves, Spares, no_amounts, amounts_in, KeepsStored}
-use Rattle.store_core.specs.Keeping.{KeepsUids}
+use Rattle.store_core.specs.Keeping.{KeepsMail, KeepsUids}
 use Rattle.store_core.specs.MadeLogs.{IsUnnamed, has_made_log, without_box}
 use Rattle.store_core.specs.Running.{IsStore}
 use Rattle.store_core.specs.Value.{StoreValue, indexes_of}
@@ -31,13 +31,14 @@ use Rattle.store_core.proofs.NamingLemmas.{same_records}
 use Rattle.task_steps.specs.Step.{ended_by}
 use Rattle.task_steps.proofs.OneEventLemmas.{leaves_none}
 use Rattle.mail_ops.specs.Event.{refusal_told, told_as}
-use Rattle.mail_ops.specs.Making.{MakeValue, naming_refusal, making_refusal, IsReadyToMake, LeavesLogs, KeepsAllButLogs, make_left, make_lists, lists_by_make, with_drawn_box, NamesLog, RemovesLog, IsLogNotMade, IsStoppedSo, MakeAnswers, HasChangedDisk, FellChanging, same_lists, with_mailbox, MadeLogSo, FellIfStopped, CanBeNamed, MakesOn}
+use Rattle.mail_ops.specs.Making.{MakeValue, naming_refusal, making_refusal, IsReadyToMake, LeavesLogs, KeepsAllButLogs, NamesMail, make_left, make_lists, lists_by_make, with_drawn_box, NamesLog, RemovesLog, IsLogNotMade, IsStoppedSo, MakeAnswers, HasChangedDisk, FellChanging, same_lists, with_mailbox, MadeLogSo, FellIfStopped, CanBeNamed, MakesOn}
 use Rattle.mail_ops.specs.declared.event.NotDone.{NotDone}
 use Rattle.mail_ops.specs.declared.event.NotDone.TheVariants as not_done
 use Rattle.mail_ops.specs.declared.making.MakeStage.{MakeStage}
 use Rattle.mail_ops.specs.declared.making.MakeStage.TheVariants as stage
 use Rattle.mail_ops.proofs.EventLemmas.{fall}
 use Rattle.mail_ops.proofs.FlagEventLemmas.{due_kept}
+use Rattle.mail_ops.proofs.KeptMailLemmas.{same_mail, mail_unnamed, mail_named}
 use Rattle.mail_ops.proofs.KeptUidLemmas.{logs_keep, same_keeps}
 use Rattle.mail_ops.proofs.MakeCheckLemmas.{naming_steps, making_steps}
 use Rattle.mail_ops.proofs.MakeEventLemmas.{MakeClause, first_stopped, naming_stopped, making_refused, making_unremembered, making_fell, making_done, naming_refused, naming_unremembered, removing_fell, naming_overtaken}
@@ -58,7 +59,8 @@ pub record MakeKnown {D : Type 0} (name : List ℕ) (now next : MakeStage) (answ
   pub keeps : KeepsUids old new
   pub logs : LeavesLogs now next old new
   pub rest : KeepsAllButLogs old new
-  pub replies : MakeAnswers name now old new after next answer
+  pub mail : new.stopped ≡ old.stopped → NamesMail before after
+  pub replies : MakeAnswers name now old new before after next answer
   pub left : answer ≡ progress.More → make_left next new < make_left now old
 
 -- What is known of the store and the name as an event begins.
@@ -145,7 +147,8 @@ known_made name number old new before after began then b m = record {
   keeps = logs_keep old new (ap (λ (s : StoreValue _). s.map.boxes) m.log.same) (ap (λ (s : StoreValue _). indexes_of s.boxes) m.log.same);
   logs = logs_more number old new m.log;
   rest = rest_of m.log.same;
-  replies = (m.free, m.log);
+  mail = λ same. mail_named number.0 before after m.others;
+  replies = (m.free, m.log, m.others);
   left = λ e. one_left (nat_lt new.map.highest.mailbox number.0) (ap (λ (s : StoreValue _). nat_lt s.map.highest.mailbox number.0) m.log.same ∙ high_number old.map.highest.mailbox old.drawn.mailbox number.0 b.store_is.drawn.mailbox m.log.next);
 }
   where
@@ -171,6 +174,7 @@ known_refused name why store history faults b refuses = record {
   keeps = same_keeps store store refl;
   logs = logs_stay stage.First store store refl;
   rest = refl;
+  mail = λ same. mail_unnamed history history (same_mail history);
   replies = (not_done.Refused why, refl, (refl, refuses));
   left = λ e. absurd (done_more (reply.Refused why) e);
 }
@@ -191,6 +195,7 @@ known_unremembered name store history faults b free = record {
   keeps = logs_keep store (with_drawn_box (store.drawn.mailbox + 1) store) refl refl;
   logs = logs_stay stage.First store (with_drawn_box (store.drawn.mailbox + 1) store) refl;
   rest = refl;
+  mail = λ same. mail_unnamed history history (same_mail history);
   replies = (not_done.NoMemory, refl, (refl, free));
   left = λ e. absurd (done_more (reply.Refused refusal.NoMemory) e);
 }
@@ -211,6 +216,7 @@ known_fell name old new before after began then b n f = record {
   keeps = logs_keep old new (ap (λ (s : StoreValue _). s.map.boxes) n.0) (ap (λ (s : StoreValue _). indexes_of s.boxes) n.0);
   logs = logs_stay stage.First old new (ap (λ (s : StoreValue _). s.made) n.0);
   rest = rest_of n.0;
+  mail = λ same. absurd (fall new.stopped stops (same ∙ b.runs));
   replies = (not_done.Stopped, refl, n);
   left = λ e. absurd (done_more (reply.Refused refusal.Stopped) e);
 }
@@ -237,9 +243,9 @@ known_unmade history faults name not_done.Stopped old new b n f = known_fell nam
 named_so : {D : Type 0} → (name : List ℕ) (number : BoxNo) (store : StoreValue D) (history : Option History) → MakeBegins name (stage.Naming number) store history → CanBeNamed name number.0 store → IsNamedSo name number.0 store
 named_so name number store history b can = let m = b.made number.0 b.ready in record { can = can; is_name = b.is_name; is_number = m.0; was_drawn = m.1 }
 
-known_named : {D : Type 0} → (name : List ℕ) (number : BoxNo) (old new : StoreValue D) (before after : Option History) (began then : Faults) → MakeBegins name (stage.Naming number) old before → CanBeNamed name number.0 old → NamesLog number name old new → HasChangedDisk (with_mailbox number.0 name) before after began then
+known_named : {D : Type 0} → (name : List ℕ) (number : BoxNo) (old new : StoreValue D) (before after : Option History) (began then : Faults) → MakeBegins name (stage.Naming number) old before → CanBeNamed name number.0 old → NamesLog number name old new → KeepsMail before after → HasChangedDisk (with_mailbox number.0 name) before after began then
     → MakeKnown name (stage.Naming number) stage.First (progress.Done reply.Done) (did.Step half.Whole) old new before after began then
-known_named name number old new before after began then b can n d = record {
+known_named name number old new before after began then b can n mail d = record {
   ready = tt;
   does = naming_done name number stage.First old new before after began then b.store_is b.runs (named_so name number old before b can) n d;
   moments = λ lists s. d.change.moments lists s;
@@ -252,7 +258,8 @@ known_named name number old new before after began then b can n d = record {
   keeps = naming_keeps number name old new n;
   logs = logs_less number old new n.made;
   rest = rest_of n.same;
-  replies = (can.free, can.above, n);
+  mail = λ same. mail_unnamed before after mail;
+  replies = (can.free, can.above, n, mail);
   left = λ e. absurd (done_more reply.Done e);
 }
   where
@@ -266,15 +273,17 @@ pub record RemovedKnown {D : Type 0} (now : MakeStage) (old new : StoreValue D) 
   pub keeps : KeepsUids old new
   pub logs : LeavesLogs now stage.First old new
   pub rest : KeepsAllButLogs old new
+  pub mail : NamesMail before after
   pub runs : new.stopped ≡ old.stopped
 
-removed_known : {D : Type 0} → (number : BoxNo) (old new : StoreValue D) (before after : Option History) (began then : Faults) → RemovesLog number.0 old new after → HasChangedDisk same_lists before after began then → RemovedKnown (stage.Naming number) old new before after
+removed_known : {D : Type 0} → (number : BoxNo) (old new : StoreValue D) (before after : Option History) (began then : Faults) → RemovesLog number.0 old new before after → HasChangedDisk same_lists before after began then → RemovedKnown (stage.Naming number) old new before after
 removed_known number old new before after began then r d = record {
   moves = moves_as no_amounts (amounts_in old) (amounts_in new) (λ uid. due_kept old new uid map_is (ap (λ (s : StoreValue _). s.dues) r.same));
   spares = spares_kept no_amounts old new before after map_is d.stored;
   keeps = logs_keep old new (ap (λ (s : StoreValue _). s.map.boxes) r.same) (ap (λ (s : StoreValue _). indexes_of s.boxes) r.same);
   logs = logs_less number old new (ap (λ (s : StoreValue _). s.made) r.same);
   rest = rest_of r.same;
+  mail = mail_named number.0 before after r.others;
   runs = ap (λ (s : StoreValue _). s.stopped) r.same;
 }
   where
@@ -285,7 +294,7 @@ removed_known number old new before after began then r d = record {
     rest_of same = subst (λ (s : StoreValue _). s ≡ record old { disk = s.disk; map_log = s.map_log; map = s.map; boxes = s.boxes; made = s.made; drawn = s.drawn; stopped = s.stopped }) (sym same) refl
 
 -- and it is answered by what it was refused, or that it is out of memory
-known_removed : {D : Type 0} → (name : List ℕ) (number : BoxNo) (why : Refusal) (how : Did) (old new : StoreValue D) (before after : Option History) (began then : Faults) → MakeBegins name (stage.Naming number) old before → RemovesLog number.0 old new after → HasChangedDisk same_lists before after began then
+known_removed : {D : Type 0} → (name : List ℕ) (number : BoxNo) (why : Refusal) (how : Did) (old new : StoreValue D) (before after : Option History) (began then : Faults) → MakeBegins name (stage.Naming number) old before → RemovesLog number.0 old new before after → HasChangedDisk same_lists before after began then
     → (why ≡ refusal.Stopped → ⊥) → (naming_refusal name old ≡ Some why) ⊎ ((naming_refusal name old ≡ None) × (old.map.highest.mailbox < number.0) × (why ≡ refusal.NoMemory))
     → MakeClause name (stage.Naming number) stage.First old new before after began then how (Some (reply.Refused why)) → MakeKnown name (stage.Naming number) stage.First (progress.Done (reply.Refused why)) how old new before after began then
 known_removed name number why how old new before after began then b r d running cause does =
@@ -302,6 +311,7 @@ known_removed name number why how old new before after began then b r d running 
       keeps = k.keeps;
       logs = k.logs;
       rest = k.rest;
+      mail = λ same. k.mail;
       replies = (r, cause);
       left = λ e. absurd (done_more (reply.Refused why) e);
     }
@@ -314,7 +324,7 @@ two_left true e = absurd (let k : true ≡ false = e in cc k)
 two_left false e = omega arith
 
 -- the request begins anew
-known_overtaken : {D : Type 0} → (name : List ℕ) (number : BoxNo) (old new : StoreValue D) (before after : Option History) (began then : Faults) → MakeBegins name (stage.Naming number) old before → naming_refusal name old ≡ None → number.0 ≤ old.map.highest.mailbox → RemovesLog number.0 old new after
+known_overtaken : {D : Type 0} → (name : List ℕ) (number : BoxNo) (old new : StoreValue D) (before after : Option History) (began then : Faults) → MakeBegins name (stage.Naming number) old before → naming_refusal name old ≡ None → number.0 ≤ old.map.highest.mailbox → RemovesLog number.0 old new before after
     → HasChangedDisk same_lists before after began then → MakeKnown name (stage.Naming number) stage.First progress.More did.Quiet old new before after began then
 known_overtaken name number old new before after began then b free behind_it r d =
     let k = removed_known number old new before after began then r d in record {
@@ -330,6 +340,7 @@ known_overtaken name number old new before after began then b free behind_it r d
       keeps = k.keeps;
       logs = k.logs;
       rest = k.rest;
+      mail = λ same. k.mail;
       replies = (free, behind_it, r);
       left = λ e. two_left (nat_lt old.map.highest.mailbox number.0) (not_above old.map.highest.mailbox number.0 behind_it);
     }
@@ -351,6 +362,7 @@ known_stopped name number how old new before after began then b same moments fau
   keeps = logs_keep old new (ap (λ (s : StoreValue _). s.map.boxes) same) (ap (λ (s : StoreValue _). indexes_of s.boxes) same);
   logs = logs_stay (stage.Naming number) old new (ap (λ (s : StoreValue _). s.made) same);
   rest = rest_of same;
+  mail = λ again. absurd (fall new.stopped stops (again ∙ b.runs));
   replies = (refl, refl, same);
   left = λ e. absurd (done_more (reply.Refused refusal.Stopped) e);
 }
@@ -374,7 +386,7 @@ known_by history faults name stage.First stage.First (progress.Done (reply.Refus
     subst (λ (h : Did). KnownBy history faults name stage.First stage.First (progress.Done (reply.Refused why)) h old new) (sym on.2)
     (subst (λ (w : Refusal). KnownBy history faults name stage.First stage.First (progress.Done (reply.Refused w)) (told_as half.Whole did.Failed on.0) old new) (sym on.1) (known_unmade history faults name on.0 old new b on.3 on.4))
 known_by history faults name (stage.Naming number) stage.First (progress.Done reply.Done) how old new b on =
-    subst (λ (h : Did). KnownBy history faults name (stage.Naming number) stage.First (progress.Done reply.Done) h old new) (sym on.0) (known_named name number old new (history old.disk) (history new.disk) (faults old.disk) (faults new.disk) b on.1 on.2 on.3)
+    subst (λ (h : Did). KnownBy history faults name (stage.Naming number) stage.First (progress.Done reply.Done) h old new) (sym on.0) (known_named name number old new (history old.disk) (history new.disk) (faults old.disk) (faults new.disk) b on.1 on.2 on.3 on.4)
 known_by history faults name (stage.Naming number) stage.First progress.More how old new b on =
     subst (λ (h : Did). KnownBy history faults name (stage.Naming number) stage.First progress.More h old new) (sym on.0) (known_overtaken name number old new (history old.disk) (history new.disk) (faults old.disk) (faults new.disk) b on.1 on.2 on.3 on.4)
 known_by history faults name (stage.Naming number) stage.First (progress.Done (reply.Refused why)) how old new b on = by_cause on.2

@@ -14,7 +14,7 @@ use Rattle.model_meaning.specs.MapMeaning.{MapRecord, map_applied, record_at}
 use Rattle.model_store.specs.Settled.{IsSettledFor, Leaves}
 use Rattle.store_core.specs.Append.{Brings}
 use Rattle.store_core.specs.Dues.{due_at, IsSpared, KeepsStored}
-use Rattle.store_core.specs.Keeping.{KeepsRest}
+use Rattle.store_core.specs.Keeping.{KeepsMail, KeepsRest}
 use Rattle.store_core.specs.Value.{StoreValue, indexes_of, list_numbered}
 
 -- the entry that lowers the count of a record by one
@@ -44,6 +44,7 @@ pub record MapTook {D : Type 0} (entry : MapEntry) (old new : StoreValue D) (bef
   pub taken : new.map ≡ map_applied entry old.map
   pub due : (uid : ℕ) → due_at uid new ≡ due_by entry (λ other. due_at other old) uid
   pub spared : (uid : ℕ) (row : MapRecord) → record_at old.map uid ≡ Some row → IsSpared uid row new before after
+  pub mail : KeepsMail before after
   pub unfailed : now ≡ began
 
 -- A change of the disk failed, and the store is stopped.
@@ -86,6 +87,7 @@ pub record BoxTook {D : Type 0} (number : ℕ) (entry : BoxEntry) (old new : Sto
   pub taken : indexes_of new.boxes ≡ meanings_by number entry old.map.boxes (indexes_of old.boxes)
   pub due : (m : BoxMeaning) (uid : ℕ) → list_numbered old number ≡ Some m → due_at uid new ≡ due_by_box m entry (λ other. due_at other old) uid
   pub stored : KeepsStored before after
+  pub mail : KeepsMail before after
   pub unfailed : now ≡ began
 
 -- A change of the disk failed, and the store is stopped.

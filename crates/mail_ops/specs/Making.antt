@@ -1,7 +1,8 @@
 -- Requests that make a mailbox: what they are refused for, where they stand, and what their events do.
 use Rattle.std.specs.Prelude.{◌≡◌, ◌⊎◌, ◌≤◌, ◌<◌, ◌+◌, ◌==◌, ◌||◌, ◌++◌, ◌∷◌, [], ℕ, nat_le, nat_lt, true, false, List, length, is_some, if◌then◌else◌, Option, Some, None}
 use Rattle.std.specs.Option.{option_or}
-use Rattle.disk_model.specs.Disk.{History, Faults, Grows, IfTold, no_file}
+use Rattle.disk_model.specs.Disk.{FileState, History, Faults, Between, Grows, IfTold, named, no_file}
+use Rattle.gate_log.specs.Log.{NamedButFor}
 use Rattle.disk_model.specs.declared.name.FileName.TheVariants as file
 use Rattle.mdbox_base.specs.Streams.{Rose}
 use Rattle.mdbox_base.specs.Words.{IsNumber}
@@ -23,6 +24,7 @@ use Rattle.model_store.specs.Settled.{IsSettledFor, Leaves}
 use Rattle.list_machine.specs.Machine.{refused_where}
 use Rattle.list_machine.specs.Run.{Run}
 use Rattle.store_core.specs.Dues.{KeepsStored}
+use Rattle.store_core.specs.Keeping.{KeepsMail}
 use Rattle.store_core.specs.MadeLogs.{IsUnnamed, has_made_log, without_box}
 use Rattle.store_core.specs.Value.{StoreValue, indexes_of, list_named}
 use Rattle.mail_ops.specs.Event.{refusal_told, told_as}
@@ -79,6 +81,14 @@ pub record LeavesLogs {D : Type 0} (mine mine_now : MakeStage) (old new : StoreV
 abbrev pub KeepsAllButLogs : {D : Type 0} → StoreValue D → StoreValue D → Type 0
 KeepsAllButLogs old new = new ≡ record old { disk = new.disk; map_log = new.map_log; map = new.map; boxes = new.boxes; made = new.made; drawn = new.drawn; stopped = new.stopped }
 
+-- a file is as it was, or its name was synced
+abbrev pub IsSameOrNamed : FileState → FileState → Type 0
+IsSameOrNamed old new = (new ≡ old) ⊎ (new ≡ named old)
+
+-- each storage file and each instance is as it was, or its name was synced
+abbrev pub NamesMail : Option History → Option History → Type 0
+NamesMail = Between (λ a b. ((number : ℕ) → IsSameOrNamed (a (file.Mail number)) (b (file.Mail number))) × ((hash id : List ℕ) → IsSameOrNamed (a (file.Inst hash id)) (b (file.Inst hash id))))
+
 -- How many events are still to come at the most, as long as no other task makes a mailbox: a log whose number was overtaken is
 -- removed, and another made.
 abbrev pub make_left : {D : Type 0} → MakeStage → StoreValue D → ℕ
@@ -118,9 +128,10 @@ pub record NamesLog {D : Type 0} (number : BoxNo) (name : List ℕ) (old new : S
   pub made : new.made ≡ without_box number.0 old.made
   pub same : new ≡ record old { disk = new.disk; map_log = new.map_log; map = new.map; boxes = new.boxes; made = new.made }
 
--- The log was removed: no crash leaves it.
-pub record RemovesLog {D : Type 0} (number : ℕ) (old new : StoreValue D) (after : Option History) : Type 0 where
+-- The log was removed: no crash leaves it. Each other file is as it was, with its name synced.
+pub record RemovesLog {D : Type 0} (number : ℕ) (old new : StoreValue D) (before after : Option History) : Type 0 where
   pub gone : IfTold after (λ now. now (file.Box number 1) ≡ no_file)
+  pub others : NamedButFor (file.Box number 1) before after
   pub same : new ≡ record old { disk = new.disk; made = without_box number old.made }
 
 -- Why no log was made. Of want of memory, and where a change of the disk failed, the number is drawn still.
@@ -136,18 +147,19 @@ IsStoppedSo old new = new ≡ record old { disk = new.disk; map_log = new.map_lo
 -- What is answered. The first event is refused, or out of memory, or makes the log of the next number. The second names it, if
 -- nothing refuses it now and its number is above the highest; or it removes it, and answers by what it was refused, or that
 -- it is out of memory, or begins anew, if another mailbox has overtaken the number. A change of the disk that fails leaves the log
--- and the stage.
-abbrev pub MakeAnswers : {D : Type 0} → List ℕ → MakeStage → StoreValue D → StoreValue D → Option History → MakeStage → Progress → Type 0
-MakeAnswers name stage.First old new after (stage.Naming number) progress.More = (making_refusal name old ≡ None) × MakesLog number.0 old new
-MakeAnswers name stage.First old new after stage.First (progress.Done (reply.Refused why)) = (e : NotDone) × (why ≡ refusal_told e) × IsLogNotMade name e old new
-MakeAnswers name (stage.Naming number) old new after stage.First (progress.Done reply.Done) =
-    (naming_refusal name old ≡ None) × (old.map.highest.mailbox < number.0) × NamesLog number name old new
-MakeAnswers name (stage.Naming number) old new after stage.First progress.More = (naming_refusal name old ≡ None) × (number.0 ≤ old.map.highest.mailbox) × RemovesLog number.0 old new after
-MakeAnswers name (stage.Naming number) old new after stage.First (progress.Done (reply.Refused why)) =
-    RemovesLog number.0 old new after × ((naming_refusal name old ≡ Some why) ⊎ ((naming_refusal name old ≡ None) × (old.map.highest.mailbox < number.0) × (why ≡ refusal.NoMemory)))
-MakeAnswers name (stage.Naming number) old new after (stage.Naming still) (progress.Done (reply.Refused why)) =
+-- and the stage. A log that is made or removed leaves each other file, with its name synced; the entry that names it leaves storage
+-- files and instances.
+abbrev pub MakeAnswers : {D : Type 0} → List ℕ → MakeStage → StoreValue D → StoreValue D → Option History → Option History → MakeStage → Progress → Type 0
+MakeAnswers name stage.First old new before after (stage.Naming number) progress.More = (making_refusal name old ≡ None) × MakesLog number.0 old new × NamedButFor (file.Box number.0 1) before after
+MakeAnswers name stage.First old new before after stage.First (progress.Done (reply.Refused why)) = (e : NotDone) × (why ≡ refusal_told e) × IsLogNotMade name e old new
+MakeAnswers name (stage.Naming number) old new before after stage.First (progress.Done reply.Done) =
+    (naming_refusal name old ≡ None) × (old.map.highest.mailbox < number.0) × NamesLog number name old new × KeepsMail before after
+MakeAnswers name (stage.Naming number) old new before after stage.First progress.More = (naming_refusal name old ≡ None) × (number.0 ≤ old.map.highest.mailbox) × RemovesLog number.0 old new before after
+MakeAnswers name (stage.Naming number) old new before after stage.First (progress.Done (reply.Refused why)) =
+    RemovesLog number.0 old new before after × ((naming_refusal name old ≡ Some why) ⊎ ((naming_refusal name old ≡ None) × (old.map.highest.mailbox < number.0) × (why ≡ refusal.NoMemory)))
+MakeAnswers name (stage.Naming number) old new before after (stage.Naming still) (progress.Done (reply.Refused why)) =
     (still ≡ number) × (why ≡ refusal.Stopped) × IsStoppedSo old new
-MakeAnswers name now old new after next answer = ⊥
+MakeAnswers name now old new before after next answer = ⊥
 
 -- ---- within the crate
 
@@ -181,6 +193,7 @@ with_mailbox number name lists = lists ++ empty_mailbox number name ∷ []
 pub record MadeLogSo {D : Type 0} (name : List ℕ) (number : ℕ) (old new : StoreValue D) (before after : Option History) (began now : Faults) : Type 0 where
   pub free : making_refusal name old ≡ None
   pub log : MakesLog number old new
+  pub others : NamedButFor (file.Box number 1) before after
   pub disk : HasChangedDisk same_lists before after began now
 
 abbrev pub FellIfStopped : NotDone → Option History → Option History → Faults → Faults → Type 0
@@ -194,7 +207,7 @@ pub record CanBeNamed {D : Type 0} (name : List ℕ) (number : ℕ) (store : Sto
 
 -- The log was removed, and this is answered and told; or a change of the disk failed.
 abbrev pub RemovesOr : {D : Type 0} → BoxNo → Progress → Did → MakeStage → Progress → Did → StoreValue D → StoreValue D → Option History → Option History → Faults → Faults → Type 0
-RemovesOr number answer told stage.First given how old new before after began now = (given ≡ answer) × (how ≡ told) × RemovesLog number.0 old new after × HasChangedDisk same_lists before after began now
+RemovesOr number answer told stage.First given how old new before after began now = (given ≡ answer) × (how ≡ told) × RemovesLog number.0 old new before after × HasChangedDisk same_lists before after began now
 RemovesOr number answer told (stage.Naming still) given how old new before after began now =
     (still ≡ number) × (given ≡ progress.Done (reply.Refused refusal.Stopped)) × (how ≡ did.Failed) × IsStoppedSo old new × FellChanging same_lists before after began now
 
@@ -204,11 +217,11 @@ MakesOn name stage.First (stage.Naming number) progress.More how old new before 
 MakesOn name stage.First stage.First (progress.Done (reply.Refused why)) how old new before after began now =
     (e : NotDone) × (why ≡ refusal_told e) × (how ≡ told_as half.Whole did.Failed e) × IsLogNotMade name e old new × FellIfStopped e before after began now
 MakesOn name (stage.Naming number) stage.First (progress.Done reply.Done) how old new before after began now =
-    (how ≡ did.Step half.Whole) × CanBeNamed name number.0 old × NamesLog number name old new × HasChangedDisk (with_mailbox number.0 name) before after began now
+    (how ≡ did.Step half.Whole) × CanBeNamed name number.0 old × NamesLog number name old new × KeepsMail before after × HasChangedDisk (with_mailbox number.0 name) before after began now
 MakesOn name (stage.Naming number) stage.First progress.More how old new before after began now =
-    (how ≡ did.Quiet) × (naming_refusal name old ≡ None) × (number.0 ≤ old.map.highest.mailbox) × RemovesLog number.0 old new after × HasChangedDisk same_lists before after began now
+    (how ≡ did.Quiet) × (naming_refusal name old ≡ None) × (number.0 ≤ old.map.highest.mailbox) × RemovesLog number.0 old new before after × HasChangedDisk same_lists before after began now
 MakesOn name (stage.Naming number) stage.First (progress.Done (reply.Refused why)) how old new before after began now =
-    RemovesLog number.0 old new after × HasChangedDisk same_lists before after began now
+    RemovesLog number.0 old new before after × HasChangedDisk same_lists before after began now
     × (((how ≡ did.Step half.Whole) × (naming_refusal name old ≡ Some why)) ⊎ ((how ≡ did.Quiet) × CanBeNamed name number.0 old × (why ≡ refusal.NoMemory)))
 MakesOn name (stage.Naming number) (stage.Naming still) (progress.Done (reply.Refused why)) how old new before after began now =
     (still ≡ number) × (why ≡ refusal.Stopped) × IsStoppedSo old new

@@ -1,7 +1,8 @@
 -- What a caller sees of a task, and of the store that it works on.
-use Rattle.std.specs.Prelude.{ℕ, false, List, Option}
+use Rattle.std.specs.Prelude.{ℕ, Bool, false, List, Option}
 use Rattle.disk_model.specs.Disk.{History, Faults}
 use Rattle.list_machine.specs.Run.{Run}
+use Rattle.mdbox_base.specs.declared.entries.InstRow.{InstRow}
 use Rattle.mdbox_base.specs.declared.progress.Did.{Did}
 use Rattle.mdbox_base.specs.declared.replies.Reply.{Reply}
 use Rattle.mdbox_base.specs.declared.requests.Request.{Request}
@@ -26,10 +27,19 @@ IsAt stage.First run place said = HasNotBegun run place said
 abbrev pub amounts_of : TaskValue → Amounts
 amounts_of task = no_amounts
 
--- A store as an event sees it, with what its disk tells and the faults that it has counted. No task pins or dooms a file, or
--- places an instance, yet.
-abbrev pub seen_of : {D : Type 0} → StoreValue D → Option History → Faults → Seen
-seen_of store history faults = record {
+-- What other tasks have of a store, which no event here changes: how many pins each file has, and instances that are there.
+pub record Others : Type 0 where
+  pub pins : ℕ → ℕ
+  pub instances : InstRow → Bool
+
+-- there is no other task
+abbrev pub no_others : Others
+no_others = record { pins = λ file. 0; instances = λ instance. false }
+
+-- A store as an event sees it beside other tasks, with what its disk tells and the faults that it has counted. No task here pins or
+-- dooms a file, or places or removes an instance.
+abbrev pub seen_beside : {D : Type 0} → Others → StoreValue D → Option History → Faults → Seen
+seen_beside others store history faults = record {
   map = store.map;
   meanings = indexes_of store.boxes;
   drawn = store.drawn;
@@ -37,10 +47,14 @@ seen_of store history faults = record {
   faults = faults;
   stopped = store.stopped;
   due = λ uid. due_at uid store;
-  pins = λ file. 0;
+  pins = others.pins;
   doomed = λ file. false;
   used = λ file. false;
   gave = λ guid. may_have_given store guid;
   files = λ file. knows_file store file;
-  instances = λ instance. false;
+  instances = others.instances;
 }
+
+-- and as it sees one of which no other task has anything
+abbrev pub seen_of : {D : Type 0} → StoreValue D → Option History → Faults → Seen
+seen_of store history faults = seen_beside no_others store history faults

@@ -10,10 +10,10 @@ ghost use Rattle.mdbox_base.specs.declared.requests.Request.TheVariants as reque
 ghost use Rattle.model_lists.specs.Lists.{Lists};
 ghost use Rattle.model_store.specs.Settled.{IsSettledFor, Leaves};
 ghost use Rattle.store_core.specs.Dues.{Moves, Spares, amounts_in};
-ghost use Rattle.store_core.specs.Keeping.{KeepsRest, KeepsUids};
+ghost use Rattle.store_core.specs.Keeping.{KeepsMail, KeepsRest, KeepsUids};
 ghost use Rattle.task_steps.specs.Step.{Steps, ended_by};
 ghost use Rattle.mail_ops.specs.Copy.{IsAtCopy, copy_amounts, copy_left, copy_lists, lists_copied, IsReadyToCopy, CopyAnswers, CopiesOn};
-ghost use Rattle.mail_ops.specs.Task.{seen_of};
+ghost use Rattle.mail_ops.specs.Task.{Others, seen_beside};
 ghost use Rattle.mail_ops.specs.declared.copy.CopyStage.TheVariants as stage;
 
 use crate::copying::{add, raise};
@@ -83,8 +83,9 @@ impl CopyTask {
         requires ready { IsReadyToCopy self.old.name self.old.uid self.old.stage store.old }
         ensures ready { IsReadyToCopy self.old.name self.old.uid self.new.stage store.new }
 
-        // Of every run that has come to the store: which event it was, what it answered, and which crash images it leaves.
-        ensures does { (around after : Around) → Steps (IsAtCopy self.old.stage) (IsAtCopy self.new.stage) around after (request.Copy self.old.name self.old.uid self.old.target) (seen_of store.old (D.history store.old.disk) (D.faults store.old.disk)) (seen_of store.new (D.history store.new.disk) (D.faults store.new.disk)) self.new.did (ended_by result) }
+        // Of every run that has come to the store, whatever other tasks have pinned: which event it was, what it answered, and which
+        // crash images it leaves.
+        ensures does { (around after : Around) (others : Others) → Steps (IsAtCopy self.old.stage) (IsAtCopy self.new.stage) around after (request.Copy self.old.name self.old.uid self.old.target) (seen_beside others store.old (D.history store.old.disk) (D.faults store.old.disk)) (seen_beside others store.new (D.history store.new.disk) (D.faults store.new.disk)) self.new.did (ended_by result) }
 
         // Of a settled disk each crash image at every moment is safe for its lists, or for those that the event makes of them,
         // whatever fails. Unless the store is stopped then, the disk is settled for those that the answer tells.
@@ -100,11 +101,12 @@ impl CopyTask {
 
         // What is due of each record grows or shrinks in the store by as much as in this task; and records of which something is due
         // for other tasks are kept, unless a failed change stops the store. No other message gets the UID of one that
-        // another task copies or moves, and the rest of the store stays.
+        // another task copies or moves, and the rest of the store stays; so do the files of its storage files and instances.
         ensures moves { Moves (copy_amounts self.old.stage) (copy_amounts self.new.stage) (amounts_in store.old) (amounts_in store.new) }
         ensures spares { store.new.stopped ≡ store.old.stopped → Spares (copy_amounts self.old.stage) store.old store.new (D.history store.old.disk) (D.history store.new.disk) }
         ensures keeps { KeepsUids store.old store.new }
         ensures rest { KeepsRest store.old store.new }
+        ensures mail { store.new.stopped ≡ store.old.stopped → KeepsMail (D.history store.old.disk) (D.history store.new.disk) }
         ensures replies { store.old.stopped ≡ false → CopyAnswers self.old.name self.old.uid self.old.target self.old.stage store.old store.new self.new.stage result }
 
         // So it ends.

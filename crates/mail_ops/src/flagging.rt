@@ -10,9 +10,9 @@ ghost use Rattle.model_lists.specs.Lists.{Lists};
 ghost use Rattle.model_store.specs.Settled.{IsSettledFor, Leaves};
 ghost use Rattle.mail_ops.specs.Flagging.{flag_refusal};
 ghost use Rattle.mail_ops.specs.Requests.{lists_after, lists_by_reply};
-ghost use Rattle.mail_ops.specs.Task.{seen_of};
+ghost use Rattle.mail_ops.specs.Task.{Others, seen_beside};
 ghost use Rattle.store_core.specs.Dues.{due_at, KeepsStored};
-ghost use Rattle.store_core.specs.Keeping.{KeepsRest, KeepsUids};
+ghost use Rattle.store_core.specs.Keeping.{KeepsMail, KeepsRest, KeepsUids};
 ghost use Rattle.task_steps.specs.Step.{HasNotBegun, Steps};
 
 use crate::laws::flags_are_shown;
@@ -22,7 +22,7 @@ use store_core::{StepError, Store, listings_are_shown};
 
 /// Sets the flags of a message: the only event of its request. It takes no memory.
 pub fn flag<D: Disk>(store: &mut Store<D>, name: &Name, uid: Uid, flags: Flags) -> (Reply, Did)
-    ensures does { (around after : Around) → Steps HasNotBegun HasNotBegun around after (request.Flag name.now uid flags) (seen_of store.old (D.history store.old.disk) (D.faults store.old.disk)) (seen_of store.new (D.history store.new.disk) (D.faults store.new.disk)) result.1 (Some result.0) }
+    ensures does { (around after : Around) (others : Others) → Steps HasNotBegun HasNotBegun around after (request.Flag name.now uid flags) (seen_beside others store.old (D.history store.old.disk) (D.faults store.old.disk)) (seen_beside others store.new (D.history store.new.disk) (D.faults store.new.disk)) result.1 (Some result.0) }
     ensures refused { (why : Refusal) → flag_refusal name.now uid.0 store.old ≡ Some why → (result.0 ≡ reply.Refused why) × (store.new ≡ store.old) }
     ensures done { flag_refusal name.now uid.0 store.old ≡ None → (result.0 ≡ reply.Done) ⊎ ((result.0 ≡ reply.Refused refusal.Stopped) × (store.new.stopped ≡ true)) }
     ensures due { (uid : ℕ) → due_at uid store.new ≡ due_at uid store.old }
@@ -30,6 +30,7 @@ pub fn flag<D: Disk>(store: &mut Store<D>, name: &Name, uid: Uid, flags: Flags) 
     ensures stored { store.new.stopped ≡ store.old.stopped → KeepsStored (D.history store.old.disk) (D.history store.new.disk) }
     ensures keeps { KeepsUids store.old store.new }
     ensures rest { KeepsRest store.old store.new }
+    ensures mail { store.new.stopped ≡ store.old.stopped → KeepsMail (D.history store.old.disk) (D.history store.new.disk) }
     ensures moments { (lists : Lists) → IsSettledFor lists (D.history store.old.disk) → Leaves lists (lists_after (request.Flag name.now uid flags) lists) (D.history store.old.disk) (D.history store.new.disk) }
     ensures settled { store.new.stopped ≡ false → (lists : Lists) → IsSettledFor lists (D.history store.old.disk) → IsSettledFor (lists_by_reply (request.Flag name.now uid flags) result.0 lists) (D.history store.new.disk) }
     ensures stopped { (result.0 ≡ reply.Refused refusal.Stopped) ↔ (store.new.stopped ≡ true) }

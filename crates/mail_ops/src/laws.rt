@@ -5,6 +5,7 @@ ghost use Rattle.std.specs.Str.{bytes_eq};
 ghost use Rattle.list_machine.specs.Machine.{PartAnswers, set_flags};
 ghost use Rattle.list_machine.specs.Run.{First, RunEvent, Run};
 ghost use Rattle.mdbox_base.specs.declared.entries.BoxEntry.TheVariants.{F};
+ghost use Rattle.mdbox_base.specs.declared.entries.InstRow.{InstRow};
 ghost use Rattle.mdbox_base.specs.declared.ids.Uid.{Uid};
 ghost use Rattle.mdbox_base.specs.declared.replies.Refusal.TheVariants.{NoMailbox, NoMessage};
 ghost use Rattle.mdbox_base.specs.declared.replies.Reply.TheVariants.{Refused, Done};
@@ -21,7 +22,8 @@ ghost use Rattle.task_steps.specs.Step.{IsKept};
 ghost use Rattle.mail_ops.specs.Copy.{IsAtCopy, IsReadyToCopy, copy_amounts};
 ghost use Rattle.mail_ops.specs.Expunging.{IsAtExpunge};
 ghost use Rattle.mail_ops.specs.Keeping.{both_amounts};
-ghost use Rattle.mail_ops.specs.Making.{IsAtMake, IsReadyToMake, HaveOtherLogs, LeavesLogs};
+ghost use Rattle.mail_ops.specs.KnownInstances.{knows_instance};
+ghost use Rattle.mail_ops.specs.Making.{IsAtMake, IsReadyToMake, HaveOtherLogs, LeavesLogs, KeepsAllButLogs};
 ghost use Rattle.mail_ops.specs.Moving.{IsAtMove, IsReadyToMove, move_amounts};
 ghost use Rattle.mail_ops.specs.Owing.{AreDueIn};
 ghost use Rattle.mail_ops.specs.Task.{IsAt};
@@ -74,6 +76,13 @@ pub fn makes_stay_ready<D: Disk>()
     ensures ready { (mine mine_now other : MakeStage) (old new : StoreValue D) → LeavesLogs mine mine_now old new → HaveOtherLogs mine other → IsReadyToMake other old → IsReadyToMake other new }
     ensures apart { (mine mine_now other : MakeStage) (old new : StoreValue D) → LeavesLogs mine mine_now old new → HaveOtherLogs mine other → IsReadyToMake other old → HaveOtherLogs mine_now other }
     ensures beside { (other : MakeStage) (old new : StoreValue D) → KeepsRest old new → IsReadyToMake other old → IsReadyToMake other new }
+{}
+
+/// The store knows the same instances where the rest of it is as it was, and behind an event of a make. So they may be those that
+/// other tasks rely on.
+pub fn known_instances_stay<D: Disk>()
+    ensures rest { (old new : StoreValue D) → KeepsRest old new → (row : InstRow) → knows_instance new row ≡ knows_instance old row }
+    ensures make { (old new : StoreValue D) → KeepsAllButLogs old new → (row : InstRow) → knows_instance new row ≡ knows_instance old row }
 {}
 
 /// Where lists are shown, what the logs of the mailboxes mean is what the list machine answers a listing.

@@ -14,8 +14,8 @@ ghost use Rattle.store_core.specs.Dues.{Moves, Spares, no_amounts, amounts_in};
 ghost use Rattle.store_core.specs.Keeping.{KeepsUids};
 ghost use Rattle.store_core.specs.MadeLogs.{has_made_log};
 ghost use Rattle.task_steps.specs.Step.{Steps, ended_by};
-ghost use Rattle.mail_ops.specs.Making.{IsAtMake, naming_refusal, IsReadyToMake, LeavesLogs, KeepsAllButLogs, MakeAnswers, make_left, make_lists, lists_by_make, IsLogNotMade, MadeLogSo, FellIfStopped, MakesOn, RemovesOr};
-ghost use Rattle.mail_ops.specs.Task.{seen_of};
+ghost use Rattle.mail_ops.specs.Making.{IsAtMake, naming_refusal, IsReadyToMake, LeavesLogs, KeepsAllButLogs, NamesMail, MakeAnswers, make_left, make_lists, lists_by_make, IsLogNotMade, MadeLogSo, FellIfStopped, MakesOn, RemovesOr};
+ghost use Rattle.mail_ops.specs.Task.{Others, seen_beside};
 ghost use Rattle.mail_ops.specs.declared.making.MakeStage.TheVariants as stage;
 
 use crate::event::NotDone;
@@ -82,8 +82,9 @@ impl MakeTask {
         requires ready { IsReadyToMake self.old.stage store.old }
         ensures ready { IsReadyToMake self.new.stage store.new }
 
-        // Of every run that has come to the store: which event it was, what it answered, and which crash images it leaves.
-        ensures does { (around after : Around) → Steps (IsAtMake self.old.stage) (IsAtMake self.new.stage) around after (request.Make self.old.name) (seen_of store.old (D.history store.old.disk) (D.faults store.old.disk)) (seen_of store.new (D.history store.new.disk) (D.faults store.new.disk)) self.new.did (ended_by result) }
+        // Of every run that has come to the store, whatever other tasks have pinned: which event it was, what it answered, and which
+        // crash images it leaves.
+        ensures does { (around after : Around) (others : Others) → Steps (IsAtMake self.old.stage) (IsAtMake self.new.stage) around after (request.Make self.old.name) (seen_beside others store.old (D.history store.old.disk) (D.faults store.old.disk)) (seen_beside others store.new (D.history store.new.disk) (D.faults store.new.disk)) self.new.did (ended_by result) }
 
         // Of a settled disk each crash image at every moment is safe for its lists, or for those that the event makes of them,
         // whatever fails. Unless the store is stopped then, the disk is settled for those that the answer tells.
@@ -99,13 +100,14 @@ impl MakeTask {
 
         // What is due of each record stays, and each record is kept, unless a failed change stops the store. No other message gets
         // the UID of one that another task copies or moves, the logs that other tasks have made stay, and so does the rest of the
-        // store.
+        // store; storage files and instances stay on the disk, where names may be synced.
         ensures moves { Moves no_amounts no_amounts (amounts_in store.old) (amounts_in store.new) }
         ensures spares { store.new.stopped ≡ store.old.stopped → Spares no_amounts store.old store.new (D.history store.old.disk) (D.history store.new.disk) }
         ensures keeps { KeepsUids store.old store.new }
         ensures logs { LeavesLogs self.old.stage self.new.stage store.old store.new }
         ensures rest { KeepsAllButLogs store.old store.new }
-        ensures replies { store.old.stopped ≡ false → MakeAnswers self.old.name self.old.stage store.old store.new (D.history store.new.disk) self.new.stage result }
+        ensures mail { store.new.stopped ≡ store.old.stopped → NamesMail (D.history store.old.disk) (D.history store.new.disk) }
+        ensures replies { store.old.stopped ≡ false → MakeAnswers self.old.name self.old.stage store.old store.new (D.history store.old.disk) (D.history store.new.disk) self.new.stage result }
 
         // So it ends.
         ensures left { result ≡ progress.More → make_left self.new.stage store.new < make_left self.old.stage store.old }

@@ -12,8 +12,8 @@ ghost use Rattle.model_store.specs.Settled.{IsSettledFor, Leaves};
 ghost use Rattle.task_steps.specs.Step.{HasNotBegun, Steps, ended_by};
 ghost use Rattle.mail_ops.specs.Requests.{IsOpsRequest, Replies, AppendsNothing, lists_after, lists_by_reply};
 ghost use Rattle.store_core.specs.Dues.{due_at, KeepsStored, Moves, Spares, amounts_in};
-ghost use Rattle.store_core.specs.Keeping.{KeepsRest, KeepsUids};
-ghost use Rattle.mail_ops.specs.Task.{IsAt, amounts_of, seen_of};
+ghost use Rattle.store_core.specs.Keeping.{KeepsMail, KeepsRest, KeepsUids};
+ghost use Rattle.mail_ops.specs.Task.{IsAt, amounts_of, Others, seen_beside};
 ghost use Rattle.mail_ops.specs.declared.task.TaskStage.TheVariants as stage;
 
 use crate::flagging::flag;
@@ -71,8 +71,9 @@ impl OpsTask {
 
     /// Does the next event. Each of these requests has one, and is answered by it.
     pub fn step<D: Disk>(&mut self, store: &mut Store<D>) -> Progress
-        // Of every run that has come to the store: which event it was, what it answered, and which crash images it leaves.
-        ensures does { (around after : Around) → Steps (IsAt self.old.stage) (IsAt self.new.stage) around after self.old.request (seen_of store.old (D.history store.old.disk) (D.faults store.old.disk)) (seen_of store.new (D.history store.new.disk) (D.faults store.new.disk)) self.new.did (ended_by result) }
+        // Of every run that has come to the store, whatever other tasks have pinned: which event it was, what it answered, and which
+        // crash images it leaves.
+        ensures does { (around after : Around) (others : Others) → Steps (IsAt self.old.stage) (IsAt self.new.stage) around after self.old.request (seen_beside others store.old (D.history store.old.disk) (D.faults store.old.disk)) (seen_beside others store.new (D.history store.new.disk) (D.faults store.new.disk)) self.new.did (ended_by result) }
 
         // Of a settled disk each crash image at every moment is safe for its lists, or for those that the request makes of them,
         // whatever fails. Unless the store is stopped then, the disk is settled for the lists that the reply tells.
@@ -87,11 +88,12 @@ impl OpsTask {
 
         // What is due of each record grows or shrinks in the store by as much as in this task; and records of which something is due
         // for other tasks are kept, unless a failed change stops the store. No other message gets the UID of one that
-        // another task copies or moves, and the rest of the store stays.
+        // another task copies or moves, and the rest of the store stays; so do the files of its storage files and instances.
         ensures moves { Moves (amounts_of self.old) (amounts_of self.new) (amounts_in store.old) (amounts_in store.new) }
         ensures spares { store.new.stopped ≡ store.old.stopped → Spares (amounts_of self.old) store.old store.new (D.history store.old.disk) (D.history store.new.disk) }
         ensures keeps { KeepsUids store.old store.new }
         ensures rest { KeepsRest store.old store.new }
+        ensures mail { store.new.stopped ≡ store.old.stopped → KeepsMail (D.history store.old.disk) (D.history store.new.disk) }
         ensures replies { (reply : Reply) × (result ≡ progress.Done reply) × Replies self.old.request store.old store.new reply }
         ensures same { AppendsNothing self.old.request store.old → store.new ≡ store.old }
         ensures request { self.new.request ≡ self.old.request }
@@ -106,7 +108,7 @@ impl OpsTask {
 /// The only event of a request.
 fn only_event<D: Disk>(store: &mut Store<D>, request: &Request) -> (Reply, Did)
     requires { IsOpsRequest request.now }
-    ensures does { (around after : Around) → Steps HasNotBegun HasNotBegun around after request.now (seen_of store.old (D.history store.old.disk) (D.faults store.old.disk)) (seen_of store.new (D.history store.new.disk) (D.faults store.new.disk)) result.1 (Some result.0) }
+    ensures does { (around after : Around) (others : Others) → Steps HasNotBegun HasNotBegun around after request.now (seen_beside others store.old (D.history store.old.disk) (D.faults store.old.disk)) (seen_beside others store.new (D.history store.new.disk) (D.faults store.new.disk)) result.1 (Some result.0) }
     ensures replies { Replies request.now store.old store.new result.0 }
     ensures same { AppendsNothing request.now store.old → store.new ≡ store.old }
     ensures due { (uid : ℕ) → due_at uid store.new ≡ due_at uid store.old }
@@ -114,6 +116,7 @@ fn only_event<D: Disk>(store: &mut Store<D>, request: &Request) -> (Reply, Did)
     ensures stored { store.new.stopped ≡ store.old.stopped → KeepsStored (D.history store.old.disk) (D.history store.new.disk) }
     ensures keeps { KeepsUids store.old store.new }
     ensures rest { KeepsRest store.old store.new }
+    ensures mail { store.new.stopped ≡ store.old.stopped → KeepsMail (D.history store.old.disk) (D.history store.new.disk) }
     ensures moments { (lists : Lists) → IsSettledFor lists (D.history store.old.disk) → Leaves lists (lists_after request.now lists) (D.history store.old.disk) (D.history store.new.disk) }
     ensures settled { store.new.stopped ≡ false → (lists : Lists) → IsSettledFor lists (D.history store.old.disk) → IsSettledFor (lists_by_reply request.now result.0 lists) (D.history store.new.disk) }
     ensures stopped { (result.0 ≡ reply.Refused refusal.Stopped) ↔ (store.new.stopped ≡ true) }

@@ -44,6 +44,7 @@ use Rattle.mdbox_top.specs.ChangeEvents.{ChangesAlone, CopiesAlone, IsAsBefore}
 use Rattle.mdbox_top.specs.CopyRun.{uncopied_cause, IsCopiedAs, IsCopyAnswer, IsCopyReply, CopyRests}
 use Rattle.mdbox_top.proofs.AloneLemmas.{alone_faults}
 use Rattle.mdbox_top.proofs.ChangeLemmas.{ChangeEvent, SoFar, so_far_begins, so_far_on, IsUnrefused, so_far_ends, way_shown, opens_unchanged, changed_moments}
+use Rattle.mdbox_top.proofs.MailLemmas.{opened_mail}
 use Rattle.mdbox_top.proofs.ServedLemmas.{OpenedNow, way_opens}
 use Rattle.mdbox_top.proofs.ShownLemmas.{LogsShow, opens_again}
 use Rattle.mdbox_top.proofs.UnderWayLemmas.{before_opening}
@@ -385,6 +386,7 @@ copy_tells name uid target given old mid new began now s t w = record {
     shows = λ lists formed shows. (w.copies.changes.shows (copied_unrefused given u e) lists (before_opening (seen_of s mid began) old) (way_shown (IsAtCopy stage.First) (request.Copy name uid target) lists old mid began s w.opened (formed, shows) (refl, refl))).1;
   };
   settled = λ running lists at. w.copies.changes.settled (copy_runs name uid target given old mid new began now s t w running) lists (w.opened.settled_again lists at);
+  mail = λ running. opened_mail old mid new s w.opened (w.copies.changes.mail (copy_runs name uid target given old mid new began now s t w running));
 }
 
 by_reply : (name : List ℕ) (uid : Uid) (target : List ℕ) (given : Reply) (lists : Lists) (new : Option History) → IsSettledFor (lists_told (request.Copy name uid target) given lists) new → IsSettledFor lists new ⊎ IsSettledFor (copied_lists name uid target lists) new

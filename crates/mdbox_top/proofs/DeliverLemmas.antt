@@ -41,7 +41,7 @@ use Rattle.mdbox_top.specs.ChangeEvents.{IsAlike, AreAlongSave, ShowsChanged, St
 use Rattle.mdbox_top.specs.DeliverRun.{undelivered_cause, region_length, HasRecordLeft, HasRecordMore, IsDeliverAnswer, OpensAlike, OpensSaved, IsDeliverReply, SaveOutcome, AreSaved, SaveMoments, SaveRests, unread_outcome, IsUnread, DeliverOutcome, DeliverRests, DeliverStatus}
 use Rattle.mdbox_top.specs.InputRun.{IsOneOf}
 use Rattle.mdbox_top.specs.OpeningOutcome.{opening_outcome}
-use Rattle.mdbox_top.specs.SavedMail.{LeavesMail, WroteMail}
+use Rattle.mdbox_top.specs.SavedMail.{LeavesDelivery, WroteMail}
 use Rattle.mdbox_top.proofs.AloneLemmas.{alone_faults}
 use Rattle.mdbox_top.proofs.ChangeLemmas.{opens_unchanged, moments_as}
 use Rattle.mdbox_top.proofs.CopyLemmas.{one_refusal}
@@ -231,7 +231,7 @@ by_guid : {D : Type 0} → (name : List ℕ) (time : ℕ) (octets : List ℕ) (g
     → (file : ℕ) × (offset : ℕ) × (guid.0 ≡ place_guid s.map.store file offset) × WroteMail time file offset (saved_region name time octets guid.0) mid new
 by_guid name time octets guid mid new s t stored = (stored.1.at.file.0, stored.1.at.offset, sym (ap (λ (g : Guid). g.0) stored.1.guid_is) ∙ stored.1.more.place.guid_is, stored.1.mail)
 
-mail_left : {D : Type 0} → (name : List ℕ) (time : ℕ) (octets : List ℕ) (given : Reply) (mid new : Option History) (began now : Faults) (s t : StoreValue D) → SavesAlone name time octets s t mid new began now given → LeavesMail s.map.store name time octets given mid new
+mail_left : {D : Type 0} → (name : List ℕ) (time : ℕ) (octets : List ℕ) (given : Reply) (mid new : Option History) (began now : Faults) (s t : StoreValue D) → SavesAlone name time octets s t mid new began now given → LeavesDelivery s.map.store name time octets given mid new
 mail_left name time octets given mid new began now s t saves = record { saved = λ uid guid e. by_guid name time octets guid mid new s t (saves.stored uid guid e); unsaved = saves.leaves }
 
 deliver_tells : {D : Type 0} → (name : List ℕ) (time : ℕ) (octets : List ℕ) (given : Reply) (old mid new : Option History) (began now : Faults) (s t : StoreValue D) → DeliveringKnown name time octets given old mid new began now s t → IsDeliverReply name time octets old new given

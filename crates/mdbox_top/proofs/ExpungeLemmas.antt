@@ -36,6 +36,7 @@ use Rattle.mdbox_top.specs.ExpungeRun.{lists_without, IsExpungeReply, ExpungeRes
 use Rattle.mdbox_top.specs.Served.{missing_cause}
 use Rattle.mdbox_top.proofs.AloneLemmas.{alone_faults}
 use Rattle.mdbox_top.proofs.ChangeLemmas.{ChangeEvent, SoFar, so_far_begins, so_far_on, IsUnrefused, so_far_ends, way_shown, opens_unchanged, changed_moments}
+use Rattle.mdbox_top.proofs.MailLemmas.{opened_mail}
 use Rattle.mdbox_top.proofs.ServedLemmas.{OpenedNow, way_opens}
 use Rattle.mdbox_top.proofs.ShownLemmas.{LogsShow, opens_again}
 use Rattle.mdbox_top.proofs.UnderWayLemmas.{before_opening}
@@ -237,6 +238,7 @@ expunge_tells name uid given old mid new began now s t w = record {
     shows = λ lists formed shows. (w.removes.changes.shows (done_unrefused given e) lists (before_opening (seen_of s mid began) old) (way_shown (IsAtExpunge stage.First) (request.Expunge name uid) lists old mid began s w.opened (formed, shows) (refl, refl))).1;
   };
   settled = λ running lists at. w.removes.changes.settled (expunge_runs name uid given old mid new began now s t w running) lists (w.opened.settled_again lists at);
+  mail = λ running. opened_mail old mid new s w.opened (w.removes.changes.mail (expunge_runs name uid given old mid new began now s t w running));
 }
 
 by_reply : (name : List ℕ) (uid : Uid) (given : Reply) (lists : Lists) (new : Option History) → IsSettledFor (lists_told (request.Expunge name uid) given lists) new → IsSettledFor lists new ⊎ IsSettledFor (lists_without name uid lists) new

@@ -112,6 +112,7 @@ flag_tells name uid flags given old mid new began now s t how w = record {
       );
   done = λ e. has_flagged name uid flags given old mid new began now s t how w (unstopped name uid flags given old mid new began now s t how w (done_runs given e)) e;
   settled = λ running lists at. w.settled (unstopped name uid flags given old mid new began now s t how w running) lists (w.settled_again lists at);
+  mail = λ running. record { generation = w.swept.0; opened = mid; swept = w.swept.1; mail = w.mail (unstopped name uid flags given old mid new began now s t how w running) };
 }
 
 pub flag_leaves : {D : Type 0} → (name : List ℕ) (uid : Uid) (flags : ℕ) (given : Reply) (old mid new : Option History) (began now : Faults) (s t : StoreValue D) (how : Did) → Doing (request.Flag name uid flags) given old mid new began now s t how → FlagMoments name uid flags old new

@@ -10,6 +10,8 @@ pub mod FlagLemmas
 pub mod InitLemmas
 pub mod InputLemmas
 pub mod ListLemmas
+pub mod MailLemmas
+pub mod MakeFileLemmas
 pub mod MakeLemmas
 pub mod MoveLemmas
 pub mod RequestLemmas

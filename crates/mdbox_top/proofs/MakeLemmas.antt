@@ -3,7 +3,9 @@ use Rattle.std.specs.Prelude.{◌≡◌, ◌⊎◌, ◌≤◌, ◌+◌, ◌++◌
 use Rattle.std.specs.Option.{option_or}
 use Rattle.std.proofs.Common.{refl, sym, ◌∙◌, ap, subst, inl, inr, arith}
 use Rattle.disk_model.specs.Disk.{Files, History, Faults}
+use Rattle.disk_model.specs.declared.name.FileName.TheVariants as file
 use Rattle.disk_model.proofs.MomentLemmas.{each_image-map}
+use Rattle.gate_log.specs.Log.{NamedButFor}
 use Rattle.mdbox_base.specs.declared.entries.Highest.{Highest}
 use Rattle.mdbox_base.specs.declared.entries.MapEntry.TheVariants as entry
 use Rattle.mdbox_base.specs.declared.ids.BoxNo.{BoxNo}
@@ -25,6 +27,7 @@ use Rattle.model_store.specs.Settled.{IsSettledFor}
 use Rattle.list_machine.specs.Machine.{refused_where}
 use Rattle.journal.specs.Journal.{is_read_fault}
 use Rattle.task_steps.proofs.OneEventLemmas.{not_true}
+use Rattle.store_core.specs.MadeLogs.{IsUnnamed}
 use Rattle.store_core.specs.Running.{IsStore}
 use Rattle.store_core.specs.Value.{StoreValue, indexes_of, list_named}
 use Rattle.mail_ops.specs.Event.{refusal_told}
@@ -39,12 +42,13 @@ use Rattle.store_open.specs.declared.error.OpenError.{OpenError}
 use Rattle.store_open.specs.declared.error.OpenError.TheVariants as error
 use Rattle.mdbox_top.specs.Alone.{IsDoneAlone, IsUnopened}
 use Rattle.mdbox_top.specs.Changed.{IsChangeAnswer, AreOneOf}
-use Rattle.mdbox_top.specs.ChangeEvents.{ServesAlone, ShowsChanged, MeansAsBefore, MakesAlone}
+use Rattle.mdbox_top.specs.ChangeEvents.{ServesAlone, ShowsChanged, MeansAsBefore, MakingLeaves, MakesAlone}
 use Rattle.mdbox_top.specs.MakeRun.{next_mailbox, lists_by_making, AreMade, IsMakeReply, MakeMoments, MakeRests}
 use Rattle.mdbox_top.proofs.AloneLemmas.{alone_faults}
 use Rattle.mdbox_top.proofs.ChangeLemmas.{ChangeEvent, SoFar, so_far_begins, so_far_on, so_far_serves, opens_unchanged, moments_as}
 use Rattle.mdbox_top.proofs.CopyLemmas.{one_refusal, none_made, unremembered_runs}
 use Rattle.mdbox_top.proofs.ExpungeLemmas.{there_answers, missing_answers, done_runs}
+use Rattle.mdbox_top.proofs.MakeFileLemmas.{unmade_files, removed_files, named_files, stopped_files, reads_alike}
 use Rattle.mdbox_top.proofs.ServedLemmas.{OpenedNow, way_opens}
 use Rattle.mdbox_top.proofs.ShownLemmas.{LogsShow, opens_again}
 use Rattle.mdbox_top.proofs.UnderWayLemmas.{before_opening}
@@ -136,13 +140,19 @@ not_overtaken name number first s drawn k l =
     let is = k.number_is in
     omega (arith, highest, is, l)
 
+-- The log that was made is the only file that has changed, but that names were synced.
+abbrev pub MadeOnly : MakeStage → Option History → Option History → Type 0
+MadeOnly stage.First before now = Unit {0}
+MadeOnly (stage.Naming number) before now = NamedButFor (file.Box number.0 1) before now
+
 -- Where a make alone is, behind some of its events.
 pub record IsMakingAlone {D : Type 0} (history : D → Option History) (faults : D → Faults) (name : List ℕ) (first s : StoreValue D) (now : MakeStage) : Type 0 where
   pub so_far : SoFar history faults (IsAtMake stage.First) (IsAtMake now) (request.Make name) (AreOneOf (with_mailbox (next_of first) name)) (λ lists. lists) first s
   pub knows : MakeKnows name first s now
+  pub others : MadeOnly now (history first.disk) (history s.disk)
 
 pub making_begins : {D : Type 0} → (history : D → Option History) (faults : D → Faults) (name : List ℕ) (first : StoreValue D) → first.stopped ≡ false → IsMakingAlone history faults name first first stage.First
-making_begins history faults name first running = record { so_far = so_far_begins history faults (IsAtMake stage.First) (request.Make name) (AreOneOf (with_mailbox (next_of first) name)) first running (λ lists. inl refl); knows = refl }
+making_begins history faults name first running = record { so_far = so_far_begins history faults (IsAtMake stage.First) (request.Make name) (AreOneOf (with_mailbox (next_of first) name)) first running (λ lists. inl refl); knows = refl; others = tt }
 
 -- an event of the task
 abbrev pub MakeEvent : {D : Type 0} → (D → Option History) → (D → Faults) → List ℕ → MakeStage → MakeStage → StoreValue D → StoreValue D → Did → Progress → Type 0
@@ -156,11 +166,12 @@ made_next name number first s t same free log = record {
 }
 
 pub making_on : {D : Type 0} → (history : D → Option History) (faults : D → Faults) (name : List ℕ) (first s t : StoreValue D) (now next : MakeStage) (how : Did) → first.drawn ≡ first.map.highest → IsMakingAlone history faults name first s now → MakeEvent history faults name now next s t how progress.More
-    → MakeAnswers name now s t (history t.disk) next progress.More → IsMakingAlone history faults name first t next
+    → MakeAnswers name now s t (history s.disk) (history t.disk) next progress.More → IsMakingAlone history faults name first t next
 making_on history faults name first s t stage.First (stage.Naming number) how drawn so event answers = record {
   so_far = so_far_on history faults (IsAtMake stage.First) (IsAtMake stage.First) (IsAtMake (stage.Naming number)) (request.Make name) (AreOneOf (with_mailbox (next_of first) name)) (λ lists. lists) (λ lists. lists) (λ lists. lists) (λ lists. lists) first s t how so.so_far event
       (λ lists. inl refl) (λ lists. inl refl) (λ lists. refl) (λ run said e answer lists later a b made. none_made run (request.Make name) e said answer lists later a.0.unanswered b.0.unanswered made);
   knows = made_next name number first s t so.knows answers.0 answers.1;
+  others = subst (λ (v : StoreValue _). NamedButFor (file.Box number.0 1) (history v.disk) (history t.disk)) so.knows answers.2;
 }
 making_on history faults name first s t stage.First stage.First how drawn so event answers = absurd answers
 making_on history faults name first s t (stage.Naming number) stage.First how drawn so event answers = absurd (not_overtaken name number.0 first s drawn so.knows answers.1)
@@ -195,15 +206,23 @@ done_serves history faults name number first s t how so event k =
     so_far_serves history faults (IsAtMake stage.First) (IsAtMake (stage.Naming number)) (IsAtMake stage.First) (request.Make name) (AreOneOf (with_mailbox (next_of first) name)) (with_mailbox (next_of first) name) (λ lists. lists) (with_mailbox number.0 name) (with_mailbox number.0 name) first s t how reply.Done so.so_far event k
     (λ lists. inl refl) (λ lists. inr (ap (λ (n : ℕ). with_mailbox n name lists) so.knows.number_is)) (λ runs lists. ap (λ (n : ℕ). with_mailbox n name lists) so.knows.number_is) refl
 
+-- what is left of the files by this reply
+abbrev FilesLeft : {D : Type 0} → (D → Option History) → StoreValue D → StoreValue D → Reply → Type 0
+FilesLeft history first t given = MakingLeaves (next_of first) given (history first.disk) (history t.disk)
+
+files_by_number : {D : Type 0} → (history : D → Option History) (number : ℕ) (first t : StoreValue D) (given : Reply) → number ≡ next_of first → MakingLeaves number given (history first.disk) (history t.disk) → FilesLeft history first t given
+files_by_number history number first t given is files = subst (λ (n : ℕ). MakingLeaves n given (history first.disk) (history t.disk)) is files
+
 -- a refusal by its cause
 refused_ends : {D : Type 0} → (history : D → Option History) (faults : D → Faults) (name : List ℕ) (first t : StoreValue D) (why : Refusal) → IsChangeAnswer (making_refusal name first) (reply.Refused why) → ((why ≡ refusal.Stopped → ⊥) → (why ≡ refusal.NoMemory → ⊥) → t ≡ first) → (why ≡ refusal.NoMemory → MeansAsBefore first t)
-    → MakeServes history faults name first t (reply.Refused why) → MakeEnds history faults name first t (reply.Refused why)
-refused_ends history faults name first t why is same means serves = record {
+    → FilesLeft history first t (reply.Refused why) → MakeServes history faults name first t (reply.Refused why) → MakeEnds history faults name first t (reply.Refused why)
+refused_ends history faults name first t why is same means files serves = record {
   given_is = is;
   refused = λ other e running memory. same (λ f. running (sym (one_refusal why other e) ∙ f)) (λ f. memory (sym (one_refusal why other e) ∙ f));
   memory = λ e. means (one_refusal why refusal.NoMemory e);
   shows = λ e. absurd (cc e);
   named = λ e. absurd (cc e);
+  files = files;
   calm = make_calm name first (reply.Refused why) is;
   serves = serves;
 }
@@ -230,19 +249,20 @@ not_made name first t not_done.Stopped a = (
 )
 
 first_makes : {D : Type 0} → (history : D → Option History) (faults : D → Faults) (name : List ℕ) (first s t : StoreValue D) (how : Did) (why : Refusal) → IsMakingAlone history faults name first s stage.First → MakeEvent history faults name stage.First stage.First s t how (progress.Done (reply.Refused why)) → IsStore (history t.disk) t
-    → LogNotMade name why first t → MakeEnds history faults name first t (reply.Refused why)
-first_makes history faults name first s t how why so event k a = refused_ends history faults name first t why a.0 a.1 a.2 (first_serves history faults name first s t how why so event k (make_calm name first (reply.Refused why) a.0))
+    → LogNotMade name why first t → FilesLeft history first t (reply.Refused why) → MakeEnds history faults name first t (reply.Refused why)
+first_makes history faults name first s t how why so event k a files = refused_ends history faults name first t why a.0 a.1 a.2 files (first_serves history faults name first s t how why so event k (make_calm name first (reply.Refused why) a.0))
 
 last_makes : {D : Type 0} → (history : D → Option History) (faults : D → Faults) (name : List ℕ) (number : BoxNo) (first s t : StoreValue D) (next : MakeStage) (how : Did) (why : Refusal) → IsMakingAlone history faults name first s (stage.Naming number)
-    → MakeEvent history faults name (stage.Naming number) next s t how (progress.Done (reply.Refused why)) → IsStore (history t.disk) t → LogNotMade name why first t → MakeEnds history faults name first t (reply.Refused why)
-last_makes history faults name number first s t next how why so event k a = refused_ends history faults name first t why a.0 a.1 a.2 (last_serves history faults name number first s t next how why so event k (make_calm name first (reply.Refused why) a.0))
+    → MakeEvent history faults name (stage.Naming number) next s t how (progress.Done (reply.Refused why)) → IsStore (history t.disk) t → LogNotMade name why first t → FilesLeft history first t (reply.Refused why)
+    → MakeEnds history faults name first t (reply.Refused why)
+last_makes history faults name number first s t next how why so event k a files = refused_ends history faults name first t why a.0 a.1 a.2 files (last_serves history faults name number first s t next how why so event k (make_calm name first (reply.Refused why) a.0))
 
 -- what the second event says, alone: it is refused for want of memory, or since a change failed
 no_refusal : (o : Option Refusal) (why : Refusal) → o ≡ None → o ≡ Some why → ⊥
 no_refusal o why none some = let k : None ≡ Some why = sym none ∙ some in cc k
 
-removed_as : {D : Type 0} → (name : List ℕ) (number : ℕ) (first s t : StoreValue D) (why : Refusal) (after : Option History) → HasMadeNext name number first s → RemovesLog number s t after → why ≡ refusal.NoMemory → LogNotMade name why first t
-removed_as name number first s t why after made gone is = subst (λ (w : Refusal). LogNotMade name w first t) (sym is) (
+removed_as : {D : Type 0} → (name : List ℕ) (number : ℕ) (first s t : StoreValue D) (why : Refusal) (now after : Option History) → HasMadeNext name number first s → RemovesLog number s t now after → why ≡ refusal.NoMemory → LogNotMade name why first t
+removed_as name number first s t why now after made gone is = subst (λ (w : Refusal). LogNotMade name w first t) (sym is) (
   there_answers (making_refusal name first) (reply.Refused refusal.NoMemory) made.free (inr (inl refl)),
   λ running memory. absurd (memory refl),
   λ memory. record { map_is = ap (λ (v : StoreValue _). v.map) gone.same ∙ map_kept name number first s made; indexes = ap (λ (v : StoreValue _). indexes_of v.boxes) gone.same ∙ indexes_kept name number first s made },
@@ -266,21 +286,25 @@ done_makes history faults name number first s t how so event k named = record {
     map_is = named.map ∙ ap (map_applied (entry.B number 1 name)) (map_kept name number.0 first s so.knows) ∙ ap (λ (n : ℕ). map_applied (entry.B (record { 0 = n }) 1 name) first.map) so.knows.number_is;
     indexes = named.indexes ∙ ap (λ (ms : List BoxMeaning). ms ++ box_meaning [] ∷ []) (indexes_kept name number.0 first s so.knows);
   };
+  files = files_by_number history number.0 first t reply.Done so.knows.number_is (named_files number.0 (history first.disk) (history t.disk));
   calm = refl;
   serves = done_serves history faults name number first s t how so event k;
 }
 
 pub makes_end : {D : Type 0} → (history : D → Option History) (faults : D → Faults) (name : List ℕ) (first s t : StoreValue D) (now next : MakeStage) (how : Did) (given : Reply) → IsMakingAlone history faults name first s now → MakeEvent history faults name now next s t how (progress.Done given)
-    → MakeAnswers name now s t (history t.disk) next (progress.Done given) → IsStore (history t.disk) t → MakeEnds history faults name first t given
+    → MakeAnswers name now s t (history s.disk) (history t.disk) next (progress.Done given) → IsStore (history t.disk) t → MakeEnds history faults name first t given
 makes_end history faults name first s t stage.First stage.First how (reply.Refused why) so event a k =
-    first_makes history faults name first s t how why so event k
-    (subst (λ (w : Refusal). LogNotMade name w first t) (sym a.1) (not_made name first t a.0 (subst (λ (v : StoreValue _). IsLogNotMade name a.0 v t) so.knows a.2)))
+    let unmade = subst (λ (v : StoreValue _). IsLogNotMade name a.0 v t) so.knows a.2 in
+    first_makes history faults name first s t how why so event k (subst (λ (w : Refusal). LogNotMade name w first t) (sym a.1) (not_made name first t a.0 unmade))
+    (subst (λ (w : Refusal). FilesLeft history first t (reply.Refused w)) (sym a.1) (unmade_files history name (next_of first) first t a.0 unmade))
 makes_end history faults name first s t (stage.Naming number) stage.First how reply.Done so event a k = done_makes history faults name number first s t how so event k a.2
 makes_end history faults name first s t (stage.Naming number) stage.First how (reply.Refused why) so event a k = elim a.1 [
   | inl some ↦ absurd (no_refusal (naming_refusal name s) why (still_free name number.0 first s so.knows) some)
-  | inr memory ↦ last_makes history faults name number first s t stage.First how why so event k (removed_as name number.0 first s t why (history t.disk) so.knows a.0 memory.2)
+  | inr memory ↦ last_makes history faults name number first s t stage.First how why so event k (removed_as name number.0 first s t why (history s.disk) (history t.disk) so.knows a.0 memory.2)
+      (files_by_number history number.0 first t (reply.Refused why) so.knows.number_is (removed_files number.0 (reply.Refused why) s t (history first.disk) (history s.disk) (history t.disk) so.others a.0))
 ]
 makes_end history faults name first s t (stage.Naming number) (stage.Naming still) how (reply.Refused why) so event a k = last_makes history faults name number first s t (stage.Naming still) how why so event k (stopped_as name number.0 first s t why so.knows a.1)
+    (stopped_files (next_of first) why (history first.disk) (history t.disk) a.1)
 makes_end history faults name first s t now next how given so event a k = absurd a
 
 -- ---- from what a step says
@@ -288,7 +312,7 @@ makes_end history faults name first s t now next how given so event a k = absurd
 -- What a step of the task says, of the store as it was and as it is.
 pub record MakeSaid {D : Type 0} (history : D → Option History) (faults : D → Faults) (name : List ℕ) (now next : MakeStage) (s t : StoreValue D) (how : Did) (answer : Progress) : Type 0 where
   pub event : MakeEvent history faults name now next s t how answer
-  pub replies : s.stopped ≡ false → MakeAnswers name now s t (history t.disk) next answer
+  pub replies : s.stopped ≡ false → MakeAnswers name now s t (history s.disk) (history t.disk) next answer
 
 -- of a task that has this name
 pub make_said_of : {D : Type 0} → (history : D → Option History) (faults : D → Faults) (name other : List ℕ) (now next : MakeStage) (s t : StoreValue D) (how : Did) (answer : Progress) → other ≡ name → MakeSaid history faults other now next s t how answer → MakeSaid history faults name now next s t how answer
@@ -312,6 +336,7 @@ pub record MakingKnown {D : Type 0} (name : List ℕ) (given : Reply) (old mid n
   pub later : IsStore new t
   pub makes : MakesAlone name s t mid new began now given
   pub back : t ≡ s → new ≡ mid
+  pub fresh : IsUnnamed (next_of s) s.map
 
 make_runs : {D : Type 0} → (name : List ℕ) (given : Reply) (old mid new : Option History) (began now : Faults) (s t : StoreValue D) → MakingKnown name given old mid new began now s t → (given ≡ reply.Refused refusal.Stopped → ⊥) → t.stopped ≡ false
 make_runs name given old mid new began now s t w running = not_true t.stopped (λ e. running (w.makes.serves.halts.1 e))
@@ -346,6 +371,8 @@ make_tells name given old mid new began now s t w =
           (subst (λ (m : MapMeaning). IsOpenedAs new m (indexes_of s.boxes ++ box_meaning [] ∷ [])) more.map_is
           (subst (λ (ms : List BoxMeaning). IsOpenedAs new t.map ms) more.indexes (opens_again new t w.later (make_runs name given old mid new began now s t w (done_runs given e)))));
       settled = λ running lists at. subst (λ (n : ℕ). IsSettledFor (lists_by_making n name given lists) new) next (w.makes.serves.settled (make_runs name given old mid new began now s t w running) lists (w.opened.settled_again lists at));
+      files = λ running.
+          record { generation = w.opened.swept.0; opened = mid; swept = w.opened.swept.1; mail = w.makes.serves.mail (make_runs name given old mid new began now s t w running); undone = λ undone. reads_alike w.opened.swept.0 (next_of s) s.map old mid new w.opened.swept.1 w.fresh (w.makes.files running undone) };
     }
 
 abbrev SafeForMade : List ℕ → Option History → Lists → ℕ → Files → Type 0

@@ -41,6 +41,7 @@ use Rattle.mdbox_top.specs.MoveRun.{IsMovedAs, AreAlongMove, IsMoveAnswer, IsMov
 use Rattle.mdbox_top.proofs.AloneLemmas.{alone_faults}
 use Rattle.mdbox_top.proofs.ChangeLemmas.{ChangeEvent, SoFar, so_far_begins, so_far_on, IsUnrefused, so_far_ends, way_shown, opens_unchanged, moments_as}
 use Rattle.mdbox_top.proofs.CopyLemmas.{CauseIn, raise_cause, may_cause, one_refusal, memory_runs, step_calm, none_made, given_back, still_before, HoldsRaised, raised_first, named_kept, only_memory, opens_as_before, unremembered_runs}
+use Rattle.mdbox_top.proofs.MailLemmas.{opened_mail}
 use Rattle.mdbox_top.proofs.ServedLemmas.{OpenedNow, way_opens}
 use Rattle.mdbox_top.proofs.ShownLemmas.{LogsShow, opens_again}
 use Rattle.mdbox_top.proofs.UnderWayLemmas.{nothing_found, before_opening, way_shows}
@@ -479,6 +480,7 @@ move_tells name uid target given old mid new began now s t w show = record {
   };
   here = λ lists safe moved e. w.moves.here moved e lists (before_opening (seen_of s mid began) old) (way_opens (IsAtMove uid stage.First) (request.Move name uid target) lists old mid began s w.opened show safe (refl, refl));
   settled = λ running lists at. w.moves.changes.settled (move_runs name uid target given old mid new began now s t w running) lists (w.opened.settled_again lists at);
+  mail = λ running. opened_mail old mid new s w.opened (w.moves.changes.mail (move_runs name uid target given old mid new began now s t w running));
 }
 
 by_reply : (name : List ℕ) (uid : Uid) (target : List ℕ) (given : Reply) (lists : Lists) (new : Option History) → IsSettledFor (lists_told (request.Move name uid target) given lists) new → IsSettledFor lists new ⊎ (IsSettledFor (copied_lists name uid target lists) new ⊎ IsSettledFor (moved_lists name uid target lists) new)

@@ -1,7 +1,9 @@
 -- The events of a request alone that changes lists, one behind another.
-use Rattle.std.specs.Prelude.{◌≡◌, ◌↔◌, ◌⊎◌, ◌+◌, ◌++◌, ◌∷◌, [], ℕ, true, false, List, Option, Some}
-use Rattle.disk_model.specs.Disk.{History, Faults}
+use Rattle.std.specs.Prelude.{◌≡◌, ◌≢◌, ◌↔◌, ◌⊎◌, ◌+◌, ◌++◌, ◌∷◌, [], ℕ, true, false, List, Option, Some}
+use Rattle.disk_model.specs.Disk.{History, Faults, IfTold, Between, no_file, reading}
 use Rattle.disk_model.specs.FaultCounts.{NoFault, ChangeFaultCounted}
+use Rattle.disk_model.specs.declared.name.FileName.{FileName}
+use Rattle.disk_model.specs.declared.name.FileName.TheVariants as file
 use Rattle.mdbox_base.specs.declared.entries.MapEntry.TheVariants as map_entry
 use Rattle.mdbox_base.specs.declared.ids.Guid.{Guid}
 use Rattle.mdbox_base.specs.declared.ids.MapUid.{MapUid}
@@ -23,7 +25,7 @@ use Rattle.store_core.specs.Value.{StoreValue, indexes_of, list_named}
 use Rattle.task_steps.specs.Step.{Seen, ShowsSeen, HasNotBegun}
 use Rattle.mail_ops.specs.Copy.{IsAtCopy, copied_lists}
 use Rattle.mail_ops.specs.Expunging.{IsAtExpunge}
-use Rattle.mail_ops.specs.Making.{IsAtMake, making_refusal, with_mailbox}
+use Rattle.mail_ops.specs.Making.{IsAtMake, NamesMail, making_refusal, with_mailbox}
 use Rattle.mail_ops.specs.Moving.{IsAtMove}
 use Rattle.mail_ops.specs.Task.{seen_of}
 use Rattle.mail_ops.specs.declared.copy.CopyStage.TheVariants as copy_stage
@@ -47,22 +49,26 @@ abbrev pub IsWayTo : {D : Type 0} → (Run → ℕ → List Reply → Type 0) �
 IsWayTo Stands request lists began store history faults left = IsUnderWay Stands request lists began (seen_of store history faults) left
 
 -- Of a request that had not begun, what its events did of a store that wasn't stopped: it was served; what a crash within it leaves,
--- and for which lists the disk is settled, by those that its reply tells; and which call of the disk failed.
+-- and for which lists the disk is settled, by those that its reply tells; what it leaves of storage files and instances; and which
+-- call of the disk failed.
 pub record ServesAlone {D : Type 0} (Began : Run → ℕ → List Reply → Type 0) (request : Request) (Among : Lists → Lists → Type 0) (told : Lists → Lists) (store later : StoreValue D) (old new : Option History) (began now : Faults) (given : Reply) : Type 0 where
   pub served : (lists : Lists) (seen : Seen) → IsWayTo Began request lists seen store old began lists → ServesRequest request lists given seen.faults now seen.history new
   pub moments : MomentsAmong Among old new
   pub settled : later.stopped ≡ false → (lists : Lists) → IsSettledFor lists old → IsSettledFor (told lists) new
+  pub mail : later.stopped ≡ false → NamesMail old new
   pub halts : (given ≡ reply.Refused refusal.Stopped) ↔ (later.stopped ≡ true)
   pub fault : ChangeFaultCounted (given ≡ reply.Refused refusal.Stopped) began now
   pub unfailed : (given ≡ reply.Refused refusal.Stopped → ⊥) → NoFault began now
 
 -- Of a request that had not begun, what its events did of a store that wasn't stopped: it was served; where it is done, the
--- store shows the lists that the reply tells; what a crash within it leaves; and which call of the disk failed.
+-- store shows the lists that the reply tells; what a crash within it leaves; what it leaves of storage files and instances; and which
+-- call of the disk failed.
 pub record ChangesAlone {D : Type 0} (Began : Run → ℕ → List Reply → Type 0) (request : Request) (Among : Lists → Lists → Type 0) (change : Lists → Lists) (store later : StoreValue D) (old new : Option History) (began now : Faults) (given : Reply) : Type 0 where
   pub served : (lists : Lists) (seen : Seen) → IsWayTo Began request lists seen store old began lists → ServesRequest request lists given seen.faults now seen.history new
   pub shows : ((why : Refusal) → given ≡ reply.Refused why → ⊥) → (lists : Lists) (seen : Seen) → IsWayTo Began request lists seen store old began lists → ShowsSeen (seen_of later new now) (change lists)
   pub moments : MomentsAmong Among old new
   pub settled : later.stopped ≡ false → (lists : Lists) → IsSettledFor lists old → IsSettledFor (lists_told request given lists) new
+  pub mail : later.stopped ≡ false → NamesMail old new
   pub halts : (given ≡ reply.Refused refusal.Stopped) ↔ (later.stopped ≡ true)
   pub fault : ChangeFaultCounted (given ≡ reply.Refused refusal.Stopped) began now
   pub unfailed : (given ≡ reply.Refused refusal.Stopped → ⊥) → NoFault began now
@@ -144,6 +150,14 @@ pub record HasMailboxMore {D : Type 0} (number : ℕ) (name : List ℕ) (store l
   pub map_is : later.map ≡ map_applied (map_entry.B (record { 0 = number }) 1 name) store.map
   pub indexes : indexes_of later.boxes ≡ indexes_of store.boxes ++ box_meaning [] ∷ []
 
+-- The log with this name isn't there, and each other file reads as it did; or nothing has changed.
+abbrev pub LeavesNoLog : FileName → Option History → Option History → Type 0
+LeavesNoLog name old new = (new ≡ old) ⊎ (IfTold new (λ now. now name ≡ no_file) × Between (λ a b. (other : FileName) → other ≢ name → reading (b other) ≡ reading (a other)) old new)
+
+-- Where no mailbox of this number is made, no log of it is left, unless the store is stopped.
+abbrev pub MakingLeaves : ℕ → Reply → Option History → Option History → Type 0
+MakingLeaves number given old new = (given ≡ reply.Refused refusal.Stopped → ⊥) → (given ≡ reply.Done → ⊥) → LeavesNoLog (file.Box number 1) old new
+
 -- What the events of a make did.
 pub record MakesAlone {D : Type 0} (name : List ℕ) (store later : StoreValue D) (old new : Option History) (began now : Faults) (given : Reply) : Type 0 where
   pub given_is : IsChangeAnswer (making_refusal name store) given
@@ -151,5 +165,6 @@ pub record MakesAlone {D : Type 0} (name : List ℕ) (store later : StoreValue D
   pub memory : given ≡ reply.Refused refusal.NoMemory → MeansAsBefore store later
   pub shows : given ≡ reply.Done → ShowsChanged (with_mailbox (store.drawn.mailbox + 1) name) store later
   pub named : given ≡ reply.Done → HasMailboxMore (store.drawn.mailbox + 1) name store later
+  pub files : MakingLeaves (store.drawn.mailbox + 1) given old new
   pub calm : is_read_fault (Some given) ≡ false
   pub serves : ServesAlone (IsAtMake make_stage.First) (request.Make name) (AreOneOf (with_mailbox (store.drawn.mailbox + 1) name)) (lists_by_making (store.drawn.mailbox + 1) name given) store later old new began now given

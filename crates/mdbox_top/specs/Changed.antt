@@ -17,6 +17,7 @@ use Rattle.model_store.specs.Listing.{ShowLists}
 use Rattle.model_store.specs.Safe.{Safe}
 use Rattle.model_store.specs.Settled.{IsSettledFor, Leaves}
 use Rattle.mail_ops.specs.Copy.{copied_lists}
+use Rattle.mail_ops.specs.Making.{NamesMail}
 use Rattle.store_open.specs.Opened.{IsOpenedAs, StoreCarries}
 use Rattle.store_sweep.specs.Moments.{NoFailedChange}
 use Rattle.store_sweep.specs.Swept.{IsSwept}
@@ -64,6 +65,13 @@ pub record OpensAsBefore (m : MapMeaning) (meanings : List BoxMeaning) (new : Op
 -- The files open with the same logs, all that the store reads is carried over, and the disk was swept.
 abbrev pub OpensUnchanged : MapMeaning → List BoxMeaning → Option History → Option History → Type 0
 OpensUnchanged m meanings old new = IsOpenedAs new m meanings × StoreCarries old new × ((generation : ℕ) × IsSwept generation m old new)
+
+-- Storage files and instances are as the opening left them, which swept the disk, but that their names may be synced.
+pub record LeavesMail (m : MapMeaning) (old new : Option History) : Type 0 where
+  pub generation : ℕ
+  pub opened : Option History
+  pub swept : IsSwept generation m old opened
+  pub mail : NamesMail opened new
 
 -- A crash at any moment leaves a disk that is safe for the lists for which it was settled, or for those that the change makes
 -- of them.

@@ -18,7 +18,7 @@ use Rattle.mail_ops.specs.Copy.{copied_lists}
 use Rattle.mail_ops.specs.Copying.{room_refusal}
 use Rattle.store_open.specs.Opened.{IsOpenedAs}
 use Rattle.request_text.specs.declared.outcome.Outcome.{Outcome}
-use Rattle.mdbox_top.specs.Changed.{lists_told, OpensChanged, OpensUnchanged, OpensAsBefore, ChangeMoments, ChangeRests}
+use Rattle.mdbox_top.specs.Changed.{lists_told, OpensChanged, OpensUnchanged, OpensAsBefore, ChangeMoments, ChangeRests, LeavesMail}
 use Rattle.mdbox_top.specs.Served.{RequestOutcome}
 
 -- Why the message isn't copied, by what the logs of its mailbox, of the target and of the map mean: no mailbox has either name, no
@@ -40,7 +40,8 @@ IsCopyAnswer None to given = IsCopiedAs to given ⊎ ((given ≡ reply.Refused r
 -- The reply to the copy of this message, by what the logs mean from which the store opened. Where it is refused, the files open
 -- with the same logs, all that the store reads is carried over, and the disk was swept. Out of memory, they open with the same
 -- listings and counts, the count of the message's record maybe raised and given back. Where it is done, their logs show the
--- lists with the copy. Unless the store is stopped, a disk that was settled for lists is settled for those that the reply tells.
+-- lists with the copy. Unless the store is stopped, a disk that was settled for lists is settled for those that the reply tells,
+-- and storage files and instances are left as the opening left them.
 pub record IsCopyReply (name : List ℕ) (uid : Uid) (target : List ℕ) (old new : Option History) (given : Reply) : Type 0 where
   pub m : MapMeaning
   pub meanings : List BoxMeaning
@@ -50,6 +51,7 @@ pub record IsCopyReply (name : List ℕ) (uid : Uid) (target : List ℕ) (old ne
   pub memory : given ≡ reply.Refused refusal.NoMemory → OpensAsBefore m meanings new
   pub done : (given_uid : Uid) → given ≡ reply.Copied given_uid → OpensChanged (copied_lists name uid target) m meanings new
   pub settled : (given ≡ reply.Refused refusal.Stopped → ⊥) → (lists : Lists) → IsSettledFor lists old → IsSettledFor (lists_told (request.Copy name uid target) given lists) new
+  pub mail : (given ≡ reply.Refused refusal.Stopped → ⊥) → LeavesMail m old new
 
 -- How `copy` ends: the reply is printed, which is `OK` with the UID of the copy, or why the message isn't copied, or
 -- `NO 17 memory`, or `NO 19 stopped`; or a prefix of it; or the store was not opened.

@@ -41,7 +41,7 @@ use Rattle.request_text.specs.declared.outcome.Outcome.{Outcome}
 use Rattle.request_text.specs.declared.outcome.Outcome.TheVariants as outcome
 use Rattle.mdbox_top.specs.Changed.{saved_lists, lists_told, OpensUnchanged}
 use Rattle.mdbox_top.specs.InputRun.{OfInput, IsOneOf}
-use Rattle.mdbox_top.specs.SavedMail.{LeavesMail}
+use Rattle.mdbox_top.specs.SavedMail.{LeavesDelivery}
 use Rattle.mdbox_top.specs.Served.{RequestOutcome}
 
 -- ---- what is replied
@@ -158,7 +158,7 @@ pub record IsDeliverReply (name : List ℕ) (time : ℕ) (octets : List ℕ) (ol
   pub refused : (why : Refusal) → undelivered_cause (meaning_named name m.boxes meanings) m.highest ≡ Some why → OpensUnchanged m meanings old new
   pub unsaved : (why : Refusal) → given ≡ reply.Refused why → (why ≡ refusal.Stopped → ⊥) → OpensAlike name time octets m meanings files new
   pub done : (uid : Uid) (guid : Guid) → given ≡ reply.Saved uid guid → OpensSaved name time octets guid m meanings files old new
-  pub mail : (generation : ℕ) × (swept : Option History) × IsSwept generation m old swept × LeavesMail m.store name time octets given swept new
+  pub mail : (generation : ℕ) × (swept : Option History) × IsSwept generation m old swept × LeavesDelivery m.store name time octets given swept new
   pub settled : (given ≡ reply.Refused refusal.Stopped → ⊥) → (lists : Lists) → IsSettledFor lists old → IsSettledFor (lists_told (request.Deliver name time octets) given lists) new
 
 -- ---- a message that was read

@@ -15,7 +15,7 @@ use Rattle.model_store.specs.Listing.{meaning_named}
 use Rattle.model_store.specs.Settled.{IsSettledFor}
 use Rattle.store_open.specs.Opened.{IsOpenedAs}
 use Rattle.request_text.specs.declared.outcome.Outcome.{Outcome}
-use Rattle.mdbox_top.specs.Changed.{IsChangeAnswer, lists_told, OpensChanged, OpensUnchanged, ChangeMoments, ChangeRests}
+use Rattle.mdbox_top.specs.Changed.{IsChangeAnswer, lists_told, OpensChanged, OpensUnchanged, ChangeMoments, ChangeRests, LeavesMail}
 use Rattle.mdbox_top.specs.Served.{RequestOutcome, missing_cause}
 
 -- the lists without the message
@@ -25,7 +25,7 @@ lists_without name uid lists = expunge name uid.0 lists
 -- The reply to the expunge of this message, by what the logs mean from which the store opened. Where it is refused, or out of
 -- memory, the files open with the same logs, all that the store reads is carried over, and the disk was swept. Where it is
 -- done, their logs show the lists without the message. Unless the store is stopped, a disk that was settled for lists is settled
--- for those that the reply tells.
+-- for those that the reply tells, and storage files and instances are left as the opening left them.
 pub record IsExpungeReply (name : List ℕ) (uid : Uid) (old new : Option History) (given : Reply) : Type 0 where
   pub m : MapMeaning
   pub meanings : List BoxMeaning
@@ -34,6 +34,7 @@ pub record IsExpungeReply (name : List ℕ) (uid : Uid) (old new : Option Histor
   pub refused : (why : Refusal) → given ≡ reply.Refused why → (why ≡ refusal.Stopped → ⊥) → OpensUnchanged m meanings old new
   pub done : given ≡ reply.Done → OpensChanged (lists_without name uid) m meanings new
   pub settled : (given ≡ reply.Refused refusal.Stopped → ⊥) → (lists : Lists) → IsSettledFor lists old → IsSettledFor (lists_told (request.Expunge name uid) given lists) new
+  pub mail : (given ≡ reply.Refused refusal.Stopped → ⊥) → LeavesMail m old new
 
 -- How `expunge` ends: the reply is printed, which is `OK`, or `NO 10 no mailbox` or `NO 12 no message` if there is none, or
 -- `NO 17 memory`, or `NO 19 stopped`; or a prefix of it; or the store was not opened.

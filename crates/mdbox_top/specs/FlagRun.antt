@@ -18,6 +18,7 @@ use Rattle.store_open.specs.Opened.{IsOpenedAs, StoreCarries}
 use Rattle.store_sweep.specs.Moments.{NoFailedChange}
 use Rattle.store_sweep.specs.Swept.{IsSwept}
 use Rattle.request_text.specs.declared.outcome.Outcome.{Outcome}
+use Rattle.mdbox_top.specs.Changed.{LeavesMail}
 use Rattle.mdbox_top.specs.Served.{RequestOutcome, missing_cause}
 
 -- Why the message isn't found is replied, if it isn't. Else it is done; or a change of the disk failed, and the store is stopped.
@@ -34,7 +35,8 @@ pub record HasFlagged (name : List ℕ) (uid flags : ℕ) (m : MapMeaning) (mean
 
 -- The reply to the setting of these flags, by what the logs mean from which the store opened. Where it is refused, the files
 -- open with the same logs, all that the store reads is carried over, and the disk was swept. Where it is done, they have the
--- flags. Unless the store is stopped, a disk that was settled for lists is settled for those that the reply tells.
+-- flags. Unless the store is stopped, a disk that was settled for lists is settled for those that the reply tells, and storage
+-- files and instances are left as the opening left them.
 pub record IsFlagReply (name : List ℕ) (uid : Uid) (flags : ℕ) (old new : Option History) (given : Reply) : Type 0 where
   pub m : MapMeaning
   pub meanings : List BoxMeaning
@@ -43,6 +45,7 @@ pub record IsFlagReply (name : List ℕ) (uid : Uid) (flags : ℕ) (old new : Op
   pub refused : (why : Refusal) → missing_cause (meaning_named name m.boxes meanings) uid.0 ≡ Some why → IsOpenedAs new m meanings × StoreCarries old new × ((generation : ℕ) × IsSwept generation m old new)
   pub done : given ≡ reply.Done → HasFlagged name uid.0 flags m meanings new
   pub settled : (given ≡ reply.Refused refusal.Stopped → ⊥) → (lists : Lists) → IsSettledFor lists old → IsSettledFor (lists_by_reply (request.Flag name uid flags) given lists) new
+  pub mail : (given ≡ reply.Refused refusal.Stopped → ⊥) → LeavesMail m old new
 
 -- How `flag` ends: the reply is printed, which is `OK`, or `NO 10 no mailbox` or `NO 12 no message` if there is none, or `NO 19
 -- stopped`; or a prefix of it; or the store was not opened.

@@ -1,7 +1,8 @@
 -- How `make` ends.
 use Rattle.std.specs.Prelude.{◌≡◌, ◌⊎◌, ◌+◌, ◌++◌, ◌∷◌, [], ℕ, nat_le, List, length, is_some, Option}
 use Rattle.std.specs.Option.{option_or}
-use Rattle.disk_model.specs.Disk.{History, Faults, EachImage}
+use Rattle.disk_model.specs.Disk.{History, Faults, EachImage, Between, reading}
+use Rattle.disk_model.specs.declared.name.FileName.{FileName}
 use Rattle.mdbox_base.specs.declared.entries.MapEntry.TheVariants as map_entry
 use Rattle.mdbox_base.specs.declared.replies.Refusal.{Refusal}
 use Rattle.mdbox_base.specs.declared.replies.Refusal.TheVariants as refusal
@@ -15,9 +16,10 @@ use Rattle.model_meaning.specs.MapMeaning.{MapMeaning, map_applied}
 use Rattle.model_store.specs.Listing.{meaning_named}
 use Rattle.model_store.specs.Safe.{Safe}
 use Rattle.model_store.specs.Settled.{IsSettledFor}
-use Rattle.mail_ops.specs.Making.{with_mailbox}
+use Rattle.mail_ops.specs.Making.{NamesMail, with_mailbox}
 use Rattle.store_open.specs.Opened.{IsOpenedAs}
 use Rattle.store_sweep.specs.Moments.{NoFailedChange}
+use Rattle.store_sweep.specs.Swept.{IsSwept}
 use Rattle.request_text.specs.declared.outcome.Outcome.{Outcome}
 use Rattle.mdbox_top.specs.Changed.{IsChangeAnswer, OpensChanged, OpensUnchanged}
 use Rattle.mdbox_top.specs.Served.{RequestOutcome}
@@ -41,11 +43,24 @@ abbrev pub lists_by_making : ℕ → List ℕ → Reply → Lists → Lists
 lists_by_making number name reply.Done lists = with_mailbox number name lists
 lists_by_making number name given lists = lists
 
+-- each file reads as it did
+abbrev pub ReadAlike : Option History → Option History → Type 0
+ReadAlike = Between (λ a b. (name : FileName) → reading (b name) ≡ reading (a name))
+
+-- What is left of the files as the opening left them, which swept the disk: storage files and instances are as they were, but that names
+-- may be synced. Unless it is done, each file reads as it did: so the log that was made is removed, and no other file was made.
+pub record LeavesOpened (m : MapMeaning) (given : Reply) (old new : Option History) : Type 0 where
+  pub generation : ℕ
+  pub opened : Option History
+  pub swept : IsSwept generation m old opened
+  pub mail : NamesMail opened new
+  pub undone : (given ≡ reply.Done → ⊥) → ReadAlike opened new
+
 -- The reply to the making of a mailbox with this name, by what the logs mean from which the store opened. Where it is refused, the
 -- files open with the same logs, all that the store reads is carried over, and the disk was swept. Out of memory, they open with the
 -- same logs. Where it is done, they open with the same logs, with the entry that names the mailbox and with its log, and these show
 -- the lists with the empty mailbox last. Unless the store is stopped, a disk that was settled for lists is settled for those that the
--- reply tells.
+-- reply tells, and storage files and instances, or all files, are left as the opening left them.
 pub record IsMakeReply (name : List ℕ) (old new : Option History) (given : Reply) : Type 0 where
   pub m : MapMeaning
   pub meanings : List BoxMeaning
@@ -56,6 +71,7 @@ pub record IsMakeReply (name : List ℕ) (old new : Option History) (given : Rep
   pub done : given ≡ reply.Done → OpensChanged (with_mailbox (next_mailbox m) name) m meanings new
   pub named : given ≡ reply.Done → IsOpenedAs new (with_next_named name m) (meanings ++ box_meaning [] ∷ [])
   pub settled : (given ≡ reply.Refused refusal.Stopped → ⊥) → (lists : Lists) → IsSettledFor lists old → IsSettledFor (lists_by_making (next_mailbox m) name given lists) new
+  pub files : (given ≡ reply.Refused refusal.Stopped → ⊥) → LeavesOpened m given old new
 
 -- How `make` ends: the reply is printed, which is `OK`, or why no mailbox is made, or `NO 17 memory`, or `NO 19 stopped`; or a
 -- prefix of it; or the store was not opened.

@@ -17,7 +17,7 @@ use Rattle.mail_ops.specs.Copy.{copied_lists}
 use Rattle.store_open.specs.Opened.{IsOpenedAs}
 use Rattle.store_sweep.specs.Moments.{NoFailedChange}
 use Rattle.request_text.specs.declared.outcome.Outcome.{Outcome}
-use Rattle.mdbox_top.specs.Changed.{moved_lists, lists_behind, lists_told, OpensChanged, OpensUnchanged, OpensAsBefore}
+use Rattle.mdbox_top.specs.Changed.{moved_lists, lists_behind, lists_told, OpensChanged, OpensUnchanged, OpensAsBefore, LeavesMail}
 use Rattle.mdbox_top.specs.CopyRun.{uncopied_cause}
 use Rattle.mdbox_top.specs.Served.{AreSafeFor, RequestOutcome}
 
@@ -40,7 +40,7 @@ AreAlongMove name uid target lists some = (some ≡ lists) ⊎ ((some ≡ copied
 -- listings and counts, the count of the message's record maybe raised and given back. Where it is done, their logs show the
 -- lists with the copy and without the message, or, if the reply says that it had gone, those with the copy; of files that were
 -- safe for lists it never says so. Unless the store is stopped, a disk that was settled for lists is settled for those that the
--- reply tells.
+-- reply tells, and storage files and instances are left as the opening left them.
 pub record IsMoveReply (name : List ℕ) (uid : Uid) (target : List ℕ) (old new : Option History) (given : Reply) : Type 0 where
   pub m : MapMeaning
   pub meanings : List BoxMeaning
@@ -51,6 +51,7 @@ pub record IsMoveReply (name : List ℕ) (uid : Uid) (target : List ℕ) (old ne
   pub done : (given_uid : Uid) (gone : Bool) → given ≡ reply.Moved given_uid gone → OpensChanged (lists_behind name uid target gone) m meanings new
   pub here : (lists : Lists) → AreSafeFor lists old → (moved : Uid) → given ≡ reply.Moved moved true → ⊥
   pub settled : (given ≡ reply.Refused refusal.Stopped → ⊥) → (lists : Lists) → IsSettledFor lists old → IsSettledFor (lists_told (request.Move name uid target) given lists) new
+  pub mail : (given ≡ reply.Refused refusal.Stopped → ⊥) → LeavesMail m old new
 
 -- How `move` ends: the reply is printed, which is `OK` with the UID of the copy, and `GONE` behind it if the message had gone; or
 -- why the message isn't moved, or `NO 17 memory`, or `NO 19 stopped`; or a prefix of it; or the store was not opened.

@@ -48,6 +48,6 @@ LeftMail name time octets old new =
     ReadsSameMail old new ⊎ (((file : ℕ) × TookMail time file old new) ⊎ ((file : ℕ) × (offset : ℕ) × (guid : List ℕ) × WroteMail time file offset (saved_region name time octets guid) old new))
 
 -- By what is replied, unless the store is stopped: with `OK` the region was added at the place that the GUID names.
-pub record LeavesMail (store name : List ℕ) (time : ℕ) (octets : List ℕ) (given : Reply) (old new : Option History) : Type 0 where
+pub record LeavesDelivery (store name : List ℕ) (time : ℕ) (octets : List ℕ) (given : Reply) (old new : Option History) : Type 0 where
   pub saved : (uid : Uid) (guid : Guid) → given ≡ reply.Saved uid guid → (file : ℕ) × (offset : ℕ) × (guid.0 ≡ place_guid store file offset) × WroteMail time file offset (saved_region name time octets guid.0) old new
   pub unsaved : (why : Refusal) → given ≡ reply.Refused why → (why ≡ refusal.Stopped → ⊥) → LeftMail name time octets old new

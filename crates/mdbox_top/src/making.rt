@@ -46,6 +46,7 @@ fn make_alone<D: Disk>(alloc: Global, name: Name, disk: D) -> Result<(Reply, D),
         Ok(store) => {
             let mut store = store;
             store.facts();
+            store.known_logs();
             let reply = make_mailbox(&mut store, name);
             store.facts();
             Ok((reply, store.into_disk()))

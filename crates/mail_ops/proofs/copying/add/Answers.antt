@@ -46,6 +46,7 @@ returns-in-Ok-clause-added g c =
         taken = o.taken;
         due = o.due;
         stored = o.stored;
+        mail = o.others;
         unfailed = o.unfailed;
       });
     }

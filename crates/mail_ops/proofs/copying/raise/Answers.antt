@@ -38,6 +38,7 @@ returns-in-Ok-clause-raised g c =
         taken = rw c.in_ok-held.ensures o.taken;
         due = rw c.in_ok-held.ensures o.due;
         spared = o.spared;
+        mail = o.others;
         unfailed = o.unfailed;
       };
     }

@@ -14,6 +14,7 @@ returns-in-Ok-clause-made g c =
       settled = λ lists k. o.settled lists k;
       stored = o.stored;
       made = o.made;
+      others = o.others;
       runs = not_true _ (λ e. ok_is_none _ (o.stopped.1 e));
       same = o.same;
       grows = o.grows;

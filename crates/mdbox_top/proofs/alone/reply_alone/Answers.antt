@@ -1,4 +1,5 @@
 use Rattle.std.proofs.Common.{sym, subst}
+use Rattle.mail_ops.specs.Task.{no_others}
 use Rattle.mdbox_top.specs.Alone.{IsDoneAlone}
 use Rattle.mdbox_top.proofs.AloneLemmas.{done_alone}
 use Rattle.mdbox_top.proofs.ServedLemmas.{doing}
@@ -23,9 +24,10 @@ returns-in-Done-clause-done g c =
     })
     c.facts-in-Ok.ensures.store
     (record {
-      does = step.does;
+      does = λ around after. step.does around after no_others;
       moments = step.moments;
       settled = step.settled;
+      mail = step.mail;
       stopped = step.stopped;
       fault = step.fault;
       unfailed = step.unfailed;

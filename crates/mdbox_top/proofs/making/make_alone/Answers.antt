@@ -1,4 +1,4 @@
-use Rattle.std.proofs.Common.{sym, ap, subst}
+use Rattle.std.proofs.Common.{◌+◌, sym, ap, subst, arith}
 use Rattle.mdbox_base.specs.declared.requests.Request.TheVariants as request
 use Rattle.mdbox_top.specs.Alone.{IsDoneAlone}
 use Rattle.mdbox_top.proofs.MakeLemmas.{make_done}
@@ -26,6 +26,7 @@ returns-in-Ok-clause-done g c =
       later = c.facts-in-Ok.ensures.store;
       makes = c.make_mailbox-reply.ensures;
       back = λ same. ap (λ v. g.D.Disk.history v.disk) same;
+      fresh = (c.known_logs.ensures.fresh (c.in-Ok.store.drawn.mailbox + 1) (omega arith)).0;
     })
     c.listings_are_shown.ensures.logs in
     subst (λ d. IsDoneAlone asked given (g.D.Disk.history c.args.disk) (g.D.Disk.history d) (g.D.Disk.faults c.args.disk) (g.D.Disk.faults d)) (sym c.into_disk.ensures)

@@ -2,6 +2,7 @@ use Rattle.std.proofs.Common.{sym, ◌∙◌}
 use Rattle.task_steps.proofs.OneEventLemmas.{leaves_none}
 use Rattle.mail_ops.proofs.CopyStepLemmas.{copy_known_by, copy_ready, copy_stopped}
 use Rattle.mail_ops.proofs.KeepingLemmas.{copy_keeps}
+use Rattle.mail_ops.proofs.KeptMailLemmas.{same_mail, copy_mail}
 use Rattle.mail_ops.proofs.KeptRestLemmas.{copy_rest}
 use Rattle.mail_ops.proofs.copy.CopyTask.step.Goals as goal
 
@@ -55,3 +56,9 @@ returns-clause-keeps g c = copy_keeps _ _ _ c.replace-now.result c.next_event-ne
 
 pub returns-clause-rest : goal.returns-clause-rest
 returns-clause-rest g c = copy_rest _ _ _ c.replace-now.result c.next_event-next.result.0 c.next_event-next.result.1 c.next_event-next.result.2 c.args.store.now c.next_event-next.new.store _ _ _ _ c.next_event-next.ensures
+
+pub returns-then-stopped-clause-mail : goal.returns-then-stopped-clause-mail
+returns-then-stopped-clause-mail g c = λ same. same_mail _
+
+pub returns-clause-mail : goal.returns-clause-mail
+returns-clause-mail g c = λ same. copy_mail g.D.Disk.history _ _ _ c.replace-now.result c.next_event-next.result.0 c.next_event-next.result.1 c.next_event-next.result.2 c.args.store.now c.next_event-next.new.store _ _ (sym c.stopped.ensures ∙ c.if-stopped.false) same c.next_event-next.ensures

@@ -32,5 +32,6 @@ returns-in-Ok g c =
       taken = o.taken;
       due = o.due;
       spared = o.spared;
+      mail = o.others;
       unfailed = o.unfailed;
     })

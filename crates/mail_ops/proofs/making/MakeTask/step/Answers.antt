@@ -1,5 +1,6 @@
 use Rattle.std.proofs.Common.{sym, ◌∙◌}
 use Rattle.task_steps.proofs.OneEventLemmas.{leaves_none}
+use Rattle.mail_ops.proofs.KeptMailLemmas.{same_mail, mail_unnamed}
 use Rattle.mail_ops.proofs.MakeStepLemmas.{make_known_by, make_stopped}
 use Rattle.mail_ops.proofs.making.MakeTask.step.Goals as goal
 
@@ -53,3 +54,9 @@ returns-clause-fault g c = λ ran. (make_known_by g.D.Disk.history g.D.Disk.faul
 
 pub returns-clause-replies : goal.returns-clause-replies
 returns-clause-replies g c = λ ran. (make_known_by g.D.Disk.history g.D.Disk.faults _ _ c.next_event-next.result.0 c.next_event-next.result.1 c.next_event-next.result.2 c.args.store.now c.next_event-next.new.store c.self.view_is c.facts.ensures.store (sym c.stopped.ensures ∙ c.if-stopped.false) c.known_name.ensures c.requires.ready c.known_logs.ensures.made c.next_event-next.ensures).replies
+
+pub returns-then-stopped-clause-mail : goal.returns-then-stopped-clause-mail
+returns-then-stopped-clause-mail g c = λ same. mail_unnamed _ _ (same_mail _)
+
+pub returns-clause-mail : goal.returns-clause-mail
+returns-clause-mail g c = (make_known_by g.D.Disk.history g.D.Disk.faults _ _ c.next_event-next.result.0 c.next_event-next.result.1 c.next_event-next.result.2 c.args.store.now c.next_event-next.new.store c.self.view_is c.facts.ensures.store (sym c.stopped.ensures ∙ c.if-stopped.false) c.known_name.ensures c.requires.ready c.known_logs.ensures.made c.next_event-next.ensures).mail

@@ -2,6 +2,7 @@ use Rattle.std.proofs.Common.{sym, ◌∙◌}
 use Rattle.task_steps.proofs.OneEventLemmas.{leaves_none}
 use Rattle.mail_ops.proofs.MoveStepLemmas.{move_known_by, move_ready, move_stopped}
 use Rattle.mail_ops.proofs.KeepingLemmas.{move_keeps}
+use Rattle.mail_ops.proofs.KeptMailLemmas.{same_mail, move_mail}
 use Rattle.mail_ops.proofs.KeptRestLemmas.{move_rest}
 use Rattle.mail_ops.proofs.moving.MoveTask.step.Goals as goal
 
@@ -55,3 +56,9 @@ returns-clause-keeps g c = move_keeps _ _ _ c.replace-now.result c.next_event-ne
 
 pub returns-clause-rest : goal.returns-clause-rest
 returns-clause-rest g c = move_rest _ _ _ c.replace-now.result c.next_event-next.result.0 c.next_event-next.result.1 c.next_event-next.result.2 c.args.store.now c.next_event-next.new.store _ _ _ _ c.next_event-next.ensures
+
+pub returns-then-stopped-clause-mail : goal.returns-then-stopped-clause-mail
+returns-then-stopped-clause-mail g c = λ same. same_mail _
+
+pub returns-clause-mail : goal.returns-clause-mail
+returns-clause-mail g c = λ same. move_mail g.D.Disk.history _ _ _ c.replace-now.result c.next_event-next.result.0 c.next_event-next.result.1 c.next_event-next.result.2 c.args.store.now c.next_event-next.new.store _ _ (sym c.stopped.ensures ∙ c.if-stopped.false) same c.next_event-next.ensures
