@@ -1,0 +1,2 @@
+-- Instances that were found.
+use Rattle.std.proofs.Common.{◌≡◌}
