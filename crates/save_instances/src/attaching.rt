@@ -196,12 +196,9 @@ impl Attaching {
         };
         let hash = part.hash;
         let octets = part.octets.as_slice();
+        let size = octets.len() as u32;
         let id = store.place_instance(hash, octets)?;
-        let row = InstRow {
-            hash,
-            id,
-            size: octets.len() as u32,
-        };
+        let row = InstRow { hash, id, size };
         self.keep(row);
         Ok(row)
     }
