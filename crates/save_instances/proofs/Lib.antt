@@ -1,0 +1,4 @@
+pub mod AttachCountLemmas
+pub mod AttachingLemmas
+pub mod FoundLemmas
+pub mod LetGoLemmas

@@ -1,0 +1,36 @@
+// Laws of instances that were found.
+ghost use Rattle.std.specs.Prelude.{◌≡◌, ◌≤◌, ◌+◌, ℕ, List, All, length, map, take, Option};
+ghost use Rattle.attach_detach.specs.declared.message.Detached.{Detached};
+ghost use Rattle.disk_model.specs.Disk.{History, IfTold};
+ghost use Rattle.mdbox_base.specs.declared.entries.InstRow.{InstRow};
+ghost use Rattle.mdbox_base.specs.declared.ids.InstId.{InstId};
+ghost use Rattle.model_store.specs.Settled.{files_of};
+ghost use Rattle.model_store.specs.Stands.{HasInstances};
+ghost use Rattle.sis_store.specs.Instances.{holders_in};
+ghost use Rattle.sis_store.specs.declared.instance.KnownInstance.{KnownInstance};
+ghost use Rattle.store_core.specs.Keeping.{KeepsInstances, MovesHolds};
+ghost use Rattle.store_core.specs.StoreInstances.{IsFirstKnown, IsKnownRow};
+ghost use Rattle.store_core.specs.Value.{StoreValue};
+ghost use Rattle.save_instances.specs.Attaching.{AreHeld, AreOfParts, AttachingValue, IsAttaching, nothing_found};
+
+use disk_model::Disk;
+
+/// What was found stays so beside the events of other tasks, which leave the instances and hold what they did.
+pub fn attaching_goes_on<D: Disk>()
+    ensures begun { (parts : List Detached) (store : StoreValue D) (history : Option History) → IsAttaching (nothing_found parts) store history }
+    ensures on { (value : AttachingValue) (old new : StoreValue D) (before after : Option History) → KeepsInstances old new before after → AreHeld value.found new.instances.known → IsAttaching value old before → IsAttaching value new after }
+    ensures held { (mine mine_now other : InstId → ℕ) (old new : StoreValue D) → MovesHolds mine mine_now old new → ((id : InstId) → mine id + other id ≤ holders_in id old.instances.known) → (id : InstId) → mine_now id + other id ≤ holders_in id new.instances.known }
+{}
+
+/// So do the instances of all attachments alone.
+pub fn found_instances_are_kept<D: Disk>()
+    ensures { (rows : List InstRow) (parts : List Detached) (old new : StoreValue D) (before after : Option History) → KeepsInstances old new before after → AreOfParts rows parts old.instances.known before → AreOfParts rows parts new.instances.known after }
+{}
+
+/// An entry that stores a message may name them: they are known, the first of their octets, and the disk reads the attachments'
+/// octets as their files.
+pub fn found_instances_are_named()
+    ensures known { (rows : List InstRow) (parts : List Detached) (known : List KnownInstance) (history : Option History) → AreOfParts rows parts known history → All (IsKnownRow known) rows }
+    ensures first { (rows : List InstRow) (parts : List Detached) (known : List KnownInstance) (history : Option History) → AreOfParts rows parts known history → IfTold history (λ now. All (IsFirstKnown known now) rows) }
+    ensures there { (rows : List InstRow) (parts : List Detached) (known : List KnownInstance) (history : Option History) → AreOfParts rows parts known history → IfTold history (λ now. HasInstances (files_of now) rows (map (λ part. part.octets) (take (length rows) parts))) }
+{}
