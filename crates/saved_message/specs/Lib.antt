@@ -1,0 +1,4 @@
+pub mod Laid
+pub mod Layout
+pub mod Region
+pub mod Saved

@@ -1,0 +1,78 @@
+// A region that is laid out, in which the GUID and the ids of instances are set.
+ghost use Rattle.std.specs.Prelude.{◌≡◌, ℕ, List, All, length};
+ghost use Rattle.mdbox_base.specs.declared.ids.InstId.{InstId as InstIdValue};
+ghost use Rattle.attach_detach.specs.declared.message.Prepared.{Prepared};
+ghost use Rattle.saved_message.specs.Laid.{AreSixteen, IsLaid};
+ghost use Rattle.saved_message.specs.Saved.{ids_in};
+
+use crate::digits::{DIGITS, write_digits};
+use mdbox_base::{Guid, InstId, InstRow};
+use std::marker::Model;
+
+/// A region that is laid out, with zeros in place of what isn't known yet. Setting this takes no memory.
+#[derive(Drop)]
+pub struct Laid {
+    region: Vec<u8>,
+    guid_at: usize,
+    refs_at: usize,
+    sizes: Vec<usize>,
+}
+
+impl Model for Laid {
+    ghost use Rattle.saved_message.specs.Laid.{LaidValue};
+
+    ghost Value = { LaidValue };
+
+    ghost view = { λ s. record { region = s.region.items; guid_at = s.guid_at; refs_at = s.refs_at; sizes = s.sizes.items } };
+}
+
+impl Laid {
+    /// A region, where its GUID's digits and its references begin, and the sizes of these.
+    pub fn of(region: Vec<u8>, guid_at: usize, refs_at: usize, sizes: Vec<usize>) -> Laid
+        ensures { result ≡ record { region = region.items; guid_at = guid_at; refs_at = refs_at; sizes = sizes.items } }
+    {
+        Laid {
+            region,
+            guid_at,
+            refs_at,
+            sizes,
+        }
+    }
+
+    /// The region's octets.
+    pub fn region(&self) -> &[u8]
+        ensures { result.now ≡ self.now.region }
+    {
+        self.region.as_slice()
+    }
+
+    /// Sets the ids of the instances in the references, one behind another.
+    pub fn set_ids(&mut self, rows: &[InstRow])
+        requires laid { (name : List ℕ) × (time : ℕ) × (prepared : Prepared) × (ids : List InstIdValue) × (guid : List ℕ) × IsLaid name time prepared ids guid self.old × (length rows.now ≡ length prepared.parts) }
+        ensures set { (name : List ℕ) (time : ℕ) (prepared : Prepared) (ids : List InstIdValue) (guid : List ℕ) → IsLaid name time prepared ids guid self.old → IsLaid name time prepared (ids_in rows.now) guid self.new }
+        ensures size { length self.new.region ≡ length self.old.region }
+        ensures ids { All (λ row. AreSixteen row.id.0) rows.now }
+    {
+        let mut at = self.refs_at;
+        for (row, size) in rows.iter().zip(self.sizes.iter()) {
+            let InstId(id) = row.id;
+            let end = at + *size;
+            write_digits(&mut self.region[end - DIGITS..end], id);
+            at = end + 1;
+        }
+    }
+
+    /// Sets the GUID.
+    pub fn set_guid(&mut self, guid: Guid)
+        requires laid { (name : List ℕ) × (time : ℕ) × (prepared : Prepared) × (ids : List InstIdValue) × (old : List ℕ) × IsLaid name time prepared ids old self.old }
+        ensures set { (name : List ℕ) (time : ℕ) (prepared : Prepared) (ids : List InstIdValue) (old : List ℕ) → IsLaid name time prepared ids old self.old → IsLaid name time prepared ids guid.0 self.new }
+        ensures size { length self.new.region ≡ length self.old.region }
+        ensures guid { AreSixteen guid.0 }
+    {
+        let Guid(octets) = guid;
+        write_digits(
+            &mut self.region[self.guid_at..self.guid_at + DIGITS],
+            octets,
+        );
+    }
+}
