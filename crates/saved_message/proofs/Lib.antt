@@ -1,0 +1,4 @@
+pub mod BigPartLemmas
+pub mod DigestLemmas
+pub mod GuidLemmas
+pub mod ReferenceLemmas

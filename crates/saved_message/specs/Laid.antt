@@ -35,8 +35,8 @@ guid_place time prepared = 30 + length prepared.body + 4 + length (flat_map line
 pub record IsLaid (name : List ℕ) (time : ℕ) (prepared : Prepared) (ids : List InstId) (guid : List ℕ) (laid : LaidValue) : Type 0 where
   pub region : laid.region ≡ written_region name time prepared ids guid
   pub one_each : length ids ≡ length prepared.parts
-  pub ids : All (λ id. AreSixteen id.0) ids
-  pub guid : AreSixteen guid
-  pub guid_at : laid.guid_at ≡ guid_place time prepared
-  pub refs_at : laid.refs_at ≡ guid_place time prepared + 36 + length name
+  pub ids_fit : All (λ id. AreSixteen id.0) ids
+  pub guid_fits : AreSixteen guid
+  pub guid_begins : laid.guid_at ≡ guid_place time prepared
+  pub refs_begin : laid.refs_at ≡ guid_place time prepared + 36 + length name
   pub sizes : laid.sizes ≡ map (λ d. length (reference_text (reference_to d unknown_id))) prepared.parts

@@ -18,7 +18,7 @@ pub record CanBeWritten (name : List ℕ) (time : ℕ) (message : List ℕ) (pre
   pub named : IsName name
   pub timed : time < 2 ^ 64
   pub small : length message ≤ 67108864
-  pub prepared : IsPrepared message prepared
+  pub form : IsPrepared message prepared
 
 -- the instances of detached attachments, in order, one for each, by their hash
 abbrev pub AreInstancesOf : List Detached → List InstRow → Type 0

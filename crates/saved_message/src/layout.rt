@@ -101,10 +101,7 @@ fn names_of(alloc: Global, name: &[u8], parts: &[Detached]) -> Result<Metadata, 
 fn references_of(alloc: Global, parts: &[Detached]) -> Result<Seq<ExtRef>, NoMemory>
     ensures { IfOk result (λ refs. refs ≡ references_naming parts.now (unknown_ids parts.now)) }
 {
-    let mut refs = Vec::new(alloc);
-    for part in parts {
-        refs.push(reference_of(part))?;
-    }
+    let refs = parts.iter().map(|part| reference_of(part)).collect(alloc)?;
     Ok(Seq::of(refs))
 }
 
