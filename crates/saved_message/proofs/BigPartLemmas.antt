@@ -2,7 +2,7 @@
 use Rattle.std.proofs.Common.{refl, ◌≡◌, ◌+◌, ◌*◌, ◌≤◌, ◌⊎◌, inl, inr, ℕ, zero, suc, Bool, true, false, List, [], ◌∷◌, ◌++◌, length, arith}
 use Rattle.std.specs.Prelude.{◌&&◌, ◌||◌, filter, filter_map, flat_map, nat_le, nat_lt}
 use Rattle.std.specs.List.{list_any}
-use Rattle.std.proofs.Math.Dec.{ltb-sound}
+use Rattle.std.proofs.lemmas.Bool.{leb-true}
 use Rattle.model_mime.specs.declared.mime.Coding.{Coding}
 use Rattle.model_mime.specs.declared.mime.Kind.{Kind}
 use Rattle.model_mime.specs.declared.mime.Kind.TheVariants as kinds
@@ -33,7 +33,7 @@ all_big below each [] = tt
 all_big below each (e ∷ es) = both_big (below e) (flat_map below es) (each e) (all_big below each es)
 
 big_size : (size : ℕ) (other : Bool) → (other && nat_le 131072 size) ≡ true → 131072 ≤ size
-big_size size true h = ltb-sound 131071 size h
+big_size size true h = leb-true 131072 size h
 big_size size false h = absurd (cc h)
 
 sized_big : (size : ℕ) (coding : Coding) (other : Bool) (start end : ℕ) → IsBig (part_sized size coding other start end)

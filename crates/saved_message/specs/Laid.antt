@@ -9,7 +9,7 @@ use Rattle.model_storage.specs.StorageFile.{Line, line_text}
 use Rattle.attach_detach.specs.declared.message.Prepared.{Prepared}
 use Rattle.saved_message.specs.Region.{reference_to, size_if_other, unknown_id, written_region}
 
--- The octets, where the GUID's digits begin, where the references begin, and how many octets each of them has.
+-- The octets, where the GUID's digits begin, where the line of the references begins, and how many octets each of them has.
 pub record LaidValue : Type 0 where
   pub region : List ℕ
   pub guid_at : ℕ
@@ -38,5 +38,5 @@ pub record IsLaid (name : List ℕ) (time : ℕ) (prepared : Prepared) (ids : Li
   pub ids_fit : All (λ id. AreSixteen id.0) ids
   pub guid_fits : AreSixteen guid
   pub guid_begins : laid.guid_at ≡ guid_place time prepared
-  pub refs_begin : laid.refs_at ≡ guid_place time prepared + 36 + length name
+  pub refs_begin : laid.refs_at ≡ guid_place time prepared + 35 + length name
   pub sizes : laid.sizes ≡ map (λ d. length (reference_text (reference_to d unknown_id))) prepared.parts

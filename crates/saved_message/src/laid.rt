@@ -1,8 +1,11 @@
 // A region that is laid out, in which the GUID and the ids of instances are set.
-ghost use Rattle.std.specs.Prelude.{◌≡◌, ℕ, List, All, length};
+ghost use Rattle.std.specs.Prelude.{◌≡◌, ◌++◌, ℕ, List, All, length};
 ghost use Rattle.mdbox_base.specs.declared.ids.InstId.{InstId as InstIdValue};
+ghost use Rattle.attach_detach.specs.declared.message.Detached.{Detached as DetachedValue};
 ghost use Rattle.attach_detach.specs.declared.message.Prepared.{Prepared};
 ghost use Rattle.saved_message.specs.Laid.{AreSixteen, IsLaid};
+ghost use Rattle.saved_message.specs.References.{HasReferencesAt, marked};
+ghost use Rattle.saved_message.specs.Region.{references_naming};
 ghost use Rattle.saved_message.specs.Saved.{ids_in};
 
 use crate::digits::{DIGITS, write_digits};
@@ -27,7 +30,7 @@ impl Model for Laid {
 }
 
 impl Laid {
-    /// A region, where its GUID's digits and its references begin, and the sizes of these.
+    /// A region, where its GUID's digits and its line of references begin, and the sizes of these.
     pub fn of(region: Vec<u8>, guid_at: usize, refs_at: usize, sizes: Vec<usize>) -> Laid
         ensures { result ≡ record { region = region.items; guid_at = guid_at; refs_at = refs_at; sizes = sizes.items } }
     {
@@ -53,13 +56,8 @@ impl Laid {
         ensures size { length self.new.region ≡ length self.old.region }
         ensures ids { All (λ row. AreSixteen row.id.0) rows.now }
     {
-        let mut at = self.refs_at;
-        for (row, size) in rows.iter().zip(self.sizes.iter()) {
-            let InstId(id) = row.id;
-            let end = at + *size;
-            write_digits(&mut self.region[end - DIGITS..end], id);
-            at = end + 1;
-        }
+        let start = self.refs_at;
+        put_ids(&mut self.region, start, self.sizes.as_slice(), rows);
     }
 
     /// Sets the GUID.
@@ -74,5 +72,21 @@ impl Laid {
             &mut self.region[self.guid_at..self.guid_at + DIGITS],
             octets,
         );
+    }
+}
+
+/// Sets the ids in references of these sizes, with one octet before each, that stand here one behind another.
+fn put_ids(region: &mut [u8], start: usize, sizes: &[usize], rows: &[InstRow])
+    requires standing { (front : List ℕ) × (parts : List DetachedValue) × (ids : List InstIdValue) × (back : List ℕ) × (mark : ℕ) × HasReferencesAt front parts ids back mark start sizes.now region.old × (length rows.now ≡ length parts) }
+    ensures set { (front : List ℕ) (parts : List DetachedValue) (ids : List InstIdValue) (back : List ℕ) (mark : ℕ) → HasReferencesAt front parts ids back mark start sizes.now region.old → length rows.now ≡ length parts → region.new ≡ front ++ (marked mark (references_naming parts (ids_in rows.now)) ++ back) }
+    ensures size { length region.new ≡ length region.old }
+    ensures ids { All (λ row. AreSixteen row.id.0) rows.now }
+{
+    let mut at = start;
+    for (index, row) in rows.iter().enumerate() {
+        let InstId(id) = row.id;
+        let end = at + 1 + sizes[index];
+        write_digits(&mut region[end - DIGITS..end], id);
+        at = end;
     }
 }

@@ -36,7 +36,7 @@ pub fn lay_out(alloc: Global, name: &Name, time: u64, prepared: &Prepared) -> Re
     let mut region = Octets::empty(alloc);
     push_message(alloc, &mut region, body, lines.as_slice())?;
     let guid_at = AROUND_BODY + body.len() + before + 1;
-    let refs_at = guid_at + DIGITS + 4 + name.as_octets().len();
+    let refs_at = guid_at + DIGITS + 3 + name.as_octets().len();
     Ok(Laid::of(region.into_vec(), guid_at, refs_at, sizes))
 }
 
