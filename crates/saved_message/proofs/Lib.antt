@@ -1,4 +1,6 @@
 pub mod BigPartLemmas
 pub mod DigestLemmas
 pub mod GuidLemmas
+pub mod IdLemmas
 pub mod ReferenceLemmas
+pub mod RegionLemmas

@@ -98,7 +98,7 @@ pub parts_few : (message : List ℕ) (p : Prepared) → length message ≤ 67108
 parts_few message p small h =
     let full = big_fill 0 (length message) (detachable_in message) (detachable_in_order message) (detachable_big message) in
     let each = cut_one_each message 0 (detachable_in message) (map piece_of p.parts) p.body h.detached in
-    let same = length-map piece_of p.parts in
+    let same = length-map p.parts piece_of in
     omega (arith, small, full, each, same)
 
 pub body_short : (message : List ℕ) (p : Prepared) → IsPrepared message p → length p.body ≤ length message

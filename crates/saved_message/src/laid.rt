@@ -8,7 +8,7 @@ ghost use Rattle.saved_message.specs.References.{HasReferencesAt, marked};
 ghost use Rattle.saved_message.specs.Region.{references_naming};
 ghost use Rattle.saved_message.specs.Saved.{ids_in};
 
-use crate::digits::{DIGITS, write_digits};
+use crate::digits::{DIGITS, put_digits};
 use mdbox_base::{Guid, InstId, InstRow};
 use std::marker::Model;
 
@@ -56,8 +56,7 @@ impl Laid {
         ensures size { length self.new.region ≡ length self.old.region }
         ensures ids { All (λ row. AreSixteen row.id.0) rows.now }
     {
-        let start = self.refs_at;
-        put_ids(&mut self.region, start, self.sizes.as_slice(), rows);
+        put_ids(&mut self.region, self.refs_at, self.sizes.as_slice(), rows);
     }
 
     /// Sets the GUID.
@@ -68,10 +67,7 @@ impl Laid {
         ensures guid { AreSixteen guid.0 }
     {
         let Guid(octets) = guid;
-        write_digits(
-            &mut self.region[self.guid_at..self.guid_at + DIGITS],
-            octets,
-        );
+        put_digits(&mut self.region, self.guid_at, octets);
     }
 }
 
@@ -86,7 +82,7 @@ fn put_ids(region: &mut [u8], start: usize, sizes: &[usize], rows: &[InstRow])
     for (index, row) in rows.iter().enumerate() {
         let InstId(id) = row.id;
         let end = at + 1 + sizes[index];
-        write_digits(&mut region[end - DIGITS..end], id);
+        put_digits(region, end - DIGITS, id);
         at = end;
     }
 }
