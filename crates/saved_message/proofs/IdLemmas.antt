@@ -1,6 +1,6 @@
 -- Ids set in references one after another.
-use Rattle.std.proofs.Common.{◌≡◌, ◌<◌, ◌≤◌, ◌+◌, ◌-◌, ℕ, zero, suc, List, [], ◌∷◌, ◌++◌, refl, sym, ◌∙◌, ap, subst, append_assoc, append-nil, arith, drop, drop-cons, get_or, length, length-append, map, All, None}
-use Rattle.std.proofs.lemmas.List.{length-map, length-drop, nil_from_length, get_or-map}
+use Rattle.std.proofs.Common.{◌≡◌, ◌<◌, ◌≤◌, ◌+◌, ◌-◌, ℕ, zero, suc, List, [], ◌∷◌, ◌++◌, refl, sym, ◌∙◌, ap, subst, append_assoc, append-nil, arith, drop, drop-cons, get_or, length, length-append, map, All, None, below_more}
+use Rattle.std.proofs.lemmas.List.{length-map, length-drop, nil_from_length, get_or-map, get_or_default}
 use Rattle.hex.specs.Hex.{encode_lower}
 use Rattle.mdbox_base.specs.declared.entries.InstRow.{InstRow}
 use Rattle.mdbox_base.specs.declared.ids.InstId.{InstId}
@@ -45,7 +45,7 @@ next_around done next parts ids back k d id kp ki =
     ∙ (ap (λ (x : List InstId). done ++ (marked next (references_naming (get_or parts k d ∷ drop (k + 1) parts) x) ++ back)) (drop_next ids k id ki)
     ∙ first_around done next (get_or parts k d) (get_or ids k id) (drop (k + 1) parts) (drop (k + 1) ids) back)
 
-no_part : Detached
+pub no_part : Detached
 no_part = record { start = 0; count = 0; form = None; hash = record { 0 = [] }; octets = [] }
 
 id_at : (ids : List InstId) (k : ℕ) → All (λ (i : InstId). AreSixteen i.0) ids → k < length ids → AreSixteen (get_or ids k unknown_id).0
@@ -97,28 +97,33 @@ pub next_begins : (front : List ℕ) (parts : List Detached) (ids : List InstId)
     → IsSetTo front parts ids back mark rows k at text → 32 ≤ at + 1 + get_or sizes k 0
 next_begins front parts ids back mark start sizes old rows k at text h kp was = let place = next_place front parts ids back mark start sizes old rows k at text h kp was in omega (arith, place)
 
-row_id : (rows : List InstRow) (k : ℕ) (row : InstRow) → k < length rows → row ≡ get_or rows k row → get_or (ids_in rows) k unknown_id ≡ row.id
-row_id rows k row h is = get_or-map (λ (r : InstRow). r.id) rows k row unknown_id h ∙ ap (λ (r : InstRow). r.id) (sym is)
+row_id : (rows : List InstRow) (k : ℕ) (d : InstRow) → k < length rows → get_or (ids_in rows) k unknown_id ≡ (get_or rows k d).id
+row_id rows k d h = get_or-map (λ (r : InstRow). r.id) rows k d unknown_id h
+
+-- ids of sixteen octets, and one more
+pub ids_more : (rows : List InstRow) (k : ℕ) (e : InstRow) → k < length rows → ((j : ℕ) (d : InstRow) → j < k → AreSixteen (get_or rows j d).id.0) → AreSixteen (get_or rows k e).id.0 → (j : ℕ) (d : InstRow) → j < k + 1 → AreSixteen (get_or rows j d).id.0
+ids_more rows k e h before here j d lt =
+    below_more (λ (i : ℕ). AreSixteen (get_or rows i d).id.0) k (λ i l. before i d l) (subst (λ (r : InstRow). AreSixteen r.id.0) (get_or_default rows k e d h) here) j lt
 
 -- The next id is set.
-pub set_next : (front : List ℕ) (parts : List Detached) (ids : List InstId) (back : List ℕ) (mark start : ℕ) (sizes old : List ℕ) (rows : List InstRow) (k at : ℕ) (text new : List ℕ) (row : InstRow) (end : ℕ) → HasReferencesAt front parts ids back mark start sizes old → length rows ≡ length parts
-    → k < length rows → row ≡ get_or rows k row → IsSetTo front parts ids back mark rows k at text → end ≡ at + 1 + get_or sizes k 0 → AreSixteen row.id.0
-    → ((before digits behind : List ℕ) → text ≡ before ++ (digits ++ behind) → end - 32 ≡ length before → length digits ≡ 32 → new ≡ before ++ (encode_lower row.id.0 ++ behind))
+pub set_next : (front : List ℕ) (parts : List Detached) (ids : List InstId) (back : List ℕ) (mark start : ℕ) (sizes old : List ℕ) (rows : List InstRow) (k at : ℕ) (text new : List ℕ) (d : InstRow) (end : ℕ) → HasReferencesAt front parts ids back mark start sizes old → length rows ≡ length parts
+    → k < length rows → IsSetTo front parts ids back mark rows k at text → end ≡ at + 1 + get_or sizes k 0 → AreSixteen (get_or rows k d).id.0
+    → ((before digits behind : List ℕ) → text ≡ before ++ (digits ++ behind) → end - 32 ≡ length before → length digits ≡ 32 → new ≡ before ++ (encode_lower (get_or rows k d).id.0 ++ behind))
     → IsSetTo front parts ids back mark rows (k + 1) end new
-set_next front parts ids back mark start sizes old rows k at text new row end h many kr is was ends sixteen put =
+set_next front parts ids back mark start sizes old rows k at text new d end h many kr was ends sixteen put =
     let kp : k < length parts = omega (arith, many, kr) in
     let place = next_place front parts ids back mark start sizes old rows k at text h kp was in
     let b : List ℕ = before_next was.done was.next parts k in
-    let e : List ℕ = encode_lower row.id.0 in
+    let e : List ℕ = encode_lower (get_or rows k d).id.0 in
     let rest : List ℕ = marked 32 (references_naming (drop (k + 1) parts) (drop (k + 1) ids)) ++ back in
     let after : List ℕ = marked 32 (references_naming (drop (k + 1) parts) (drop (k + 1) (ids_in rows))) ++ back in
     let written : new ≡ b ++ (e ++ rest) = put b (encode_lower (get_or ids k unknown_id).0) rest (next_stands front parts ids back mark start sizes old rows k at text h kp was) (omega (arith, place, ends)) (next_digits front parts ids back mark start sizes old k h kp) in
-    let long = digits_long row.id.0 sixteen in
+    let long = digits_long (get_or rows k d).id.0 sixteen in
     let l = length-append b e in
     let ids_many = length-map rows (λ (r : InstRow). r.id) in
     let mine : was.done ++ (marked was.next (references_naming (drop k parts) (drop k (ids_in rows))) ++ back) ≡ b ++ (e ++ after) =
     next_around was.done was.next parts (ids_in rows) back k no_part unknown_id kp (omega (arith, ids_many, kr))
-    ∙ ap (λ (i : InstId). b ++ (encode_lower i.0 ++ after)) (row_id rows k row kr is) in
+    ∙ ap (λ (i : InstId). b ++ (encode_lower i.0 ++ after)) (row_id rows k d kr) in
     record {
       done = b ++ e;
       next = 32;
