@@ -2,5 +2,8 @@ pub mod BigPartLemmas
 pub mod DigestLemmas
 pub mod GuidLemmas
 pub mod IdLemmas
+pub mod LaidLemmas
+pub mod LayoutLemmas
 pub mod ReferenceLemmas
 pub mod RegionLemmas
+pub mod StoredLemmas

@@ -129,3 +129,12 @@ pub references_long : (parts : List Detached) (ids : List InstId) → length ids
 references_long [] ids long = refl
 references_long (d ∷ parts) [] long = absurd (omega (arith, long))
 references_long (d ∷ parts) (id ∷ ids) long = let rest = references_long parts ids (omega (arith, long)) in omega (arith, rest)
+
+-- ---- before their ids are known
+
+pub unknown_named : (parts : List Detached) → map (λ d. reference_to d unknown_id) parts ≡ references_naming parts (unknown_ids parts)
+unknown_named [] = refl
+unknown_named (d ∷ parts) = ap (λ (x : List ExtRef). reference_to d unknown_id ∷ x) (unknown_named parts)
+
+pub unknown_one_each : (parts : List Detached) → length (unknown_ids parts) ≡ length parts
+unknown_one_each parts = length-map parts (λ (d : Detached). unknown_id)

@@ -23,7 +23,7 @@ use Rattle.saved_message.specs.Region.{reference_to, references_naming, size_if_
 
 -- ---- the metadata
 
-other_small : (same : Bool) (n : ℕ) → n < 2 ^ 64 → IfSome (if same then None else Some n) (λ k. k < 2 ^ 64)
+pub other_small : (same : Bool) (n : ℕ) → n < 2 ^ 64 → IfSome (if same then None else Some n) (λ k. k < 2 ^ 64)
 other_small true n h = tt
 other_small false n h = h
 

@@ -1,5 +1,5 @@
 // A region that is laid out, in which the GUID and the ids of instances are set.
-ghost use Rattle.std.specs.Prelude.{◌≡◌, ◌++◌, ℕ, List, All, length};
+ghost use Rattle.std.specs.Prelude.{◌≡◌, ◌≤◌, ◌+◌, ◌++◌, ℕ, List, All, length};
 ghost use Rattle.mdbox_base.specs.declared.ids.InstId.{InstId as InstIdValue};
 ghost use Rattle.attach_detach.specs.declared.message.Detached.{Detached as DetachedValue};
 ghost use Rattle.attach_detach.specs.declared.message.Prepared.{Prepared};
@@ -11,6 +11,9 @@ ghost use Rattle.saved_message.specs.Saved.{ids_in};
 use crate::digits::{DIGITS, put_digits};
 use mdbox_base::{Guid, InstId, InstRow};
 use std::marker::Model;
+
+/// How many octets stand before the body, and between body and metadata lines.
+const AROUND_BODY: usize = 34;
 
 /// A region that is laid out, with zeros in place of what isn't known yet. Setting this takes no memory.
 #[derive(Drop)]
@@ -30,10 +33,14 @@ impl Model for Laid {
 }
 
 impl Laid {
-    /// A region, where its GUID's digits and its line of references begin, and the sizes of these.
-    pub fn of(region: Vec<u8>, guid_at: usize, refs_at: usize, sizes: Vec<usize>) -> Laid
-        ensures { result ≡ record { region = region.items; guid_at = guid_at; refs_at = refs_at; sizes = sizes.items } }
+    /// The region of a message, by how many octets its body, the lines before the GUID's and the mailbox's name have, and
+    /// by the sizes of its references.
+    pub fn of(region: Vec<u8>, body: usize, before: usize, name: usize, sizes: Vec<usize>) -> Laid
+        requires { body + before + name ≤ 4294967295 }
+        ensures { result ≡ record { region = region.items; guid_at = 34 + body + before + 1; refs_at = 34 + body + before + 1 + 32 + 3 + name; sizes = sizes.items } }
     {
+        let guid_at = AROUND_BODY + body + before + 1;
+        let refs_at = guid_at + DIGITS + 3 + name;
         Laid {
             region,
             guid_at,

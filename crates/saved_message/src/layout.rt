@@ -6,11 +6,11 @@ ghost use Rattle.mdbox_base.specs.declared.metadata.ExtRef.{ExtRef as Reference}
 ghost use Rattle.model_storage.specs.Metadata.{metadata_text};
 ghost use Rattle.model_storage.specs.References.{reference_text, ReferenceFits};
 ghost use Rattle.model_storage.specs.StorageFile.{line_text};
+ghost use Rattle.dbox_metadata.specs.MadeMetadata.{IsMadeMetadata};
 ghost use Rattle.saved_message.specs.Laid.{IsLaid, lines_of_numbers};
 ghost use Rattle.saved_message.specs.Layout.{FitsLayout, metadata_of_numbers, metadata_of_names};
 ghost use Rattle.saved_message.specs.Region.{reference_to, references_naming, unknown_guid, unknown_id, unknown_ids, written_metadata};
 
-use crate::digits::DIGITS;
 use crate::laid::Laid;
 use attach_detach::{Detached, Prepared};
 use dbox_file::push_message;
@@ -18,9 +18,6 @@ use dbox_metadata::{made_metadata_is_said, made_metadata_is_short, push_metadata
 use mdbox_base::{ExtRef, Guid, InstId, Name, NoMemory, Octets, Seq, name_of};
 use model_storage::Metadata;
 use std::alloc::Global;
-
-/// How many octets stand before the body, and between body and metadata lines.
-const AROUND_BODY: usize = 34;
 
 /// Lays out the region of a message, received at this time (Unix seconds), before its GUID and the ids of its attachments'
 /// instances are known: their digits are zeros. The body is copied once.
@@ -30,14 +27,13 @@ pub fn lay_out(alloc: Global, name: &Name, time: u64, prepared: &Prepared) -> Re
 {
     made_metadata_is_said();
     made_metadata_is_short();
+    let name_size = name.as_octets().len();
     let (lines, before) = push_lines(alloc, name, time, prepared)?;
     let sizes = sizes_of(alloc, prepared.parts.as_slice())?;
     let body = prepared.body.as_slice();
     let mut region = Octets::empty(alloc);
     push_message(alloc, &mut region, body, lines.as_slice())?;
-    let guid_at = AROUND_BODY + body.len() + before + 1;
-    let refs_at = guid_at + DIGITS + 3 + name.as_octets().len();
-    Ok(Laid::of(region.into_vec(), guid_at, refs_at, sizes))
+    Ok(Laid::of(region.into_vec(), body.len(), before, name_size, sizes))
 }
 
 /// The metadata lines of a message, and how many octets those before the GUID's have.
@@ -63,7 +59,8 @@ fn push_lines(
 
 /// The metadata of the lines before the GUID's.
 fn numbers_of(alloc: Global, time: u64, prepared: &Prepared) -> Metadata
-    ensures { result ≡ metadata_of_numbers time prepared.now }
+    ensures is { result ≡ metadata_of_numbers time prepared.now }
+    ensures made { IsMadeMetadata result }
 {
     let whole = u64::from(prepared.whole);
     let stored = prepared.body.length() as u64;
@@ -101,7 +98,10 @@ fn names_of(alloc: Global, name: &[u8], parts: &[Detached]) -> Result<Metadata, 
 fn references_of(alloc: Global, parts: &[Detached]) -> Result<Seq<ExtRef>, NoMemory>
     ensures { IfOk result (λ refs. refs ≡ references_naming parts.now (unknown_ids parts.now)) }
 {
-    let refs = parts.iter().map(|part| reference_of(part)).collect(alloc)?;
+    let mut refs = Vec::new(alloc);
+    for part in parts {
+        refs.push(reference_of(part))?;
+    }
     Ok(Seq::of(refs))
 }
 
