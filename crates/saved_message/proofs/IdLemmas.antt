@@ -1,5 +1,5 @@
 -- Ids set in references one after another.
-use Rattle.std.proofs.Common.{◌≡◌, ◌<◌, ◌≤◌, ◌+◌, ◌-◌, ℕ, zero, suc, List, [], ◌∷◌, ◌++◌, refl, sym, ◌∙◌, ap, subst, append_assoc, append-nil, arith, drop, drop-cons, get_or, length, length-append, map, All, None, below_more}
+use Rattle.std.proofs.Common.{◌≡◌, ◌<◌, ◌≤◌, ◌+◌, ◌-◌, ℕ, suc, List, [], ◌∷◌, ◌++◌, refl, sym, ◌∙◌, ap, subst, append_assoc, arith, drop, drop-cons, get_or, length, length-append, map, All, None, below_more}
 use Rattle.std.proofs.lemmas.List.{length-map, length-drop, nil_from_length, get_or-map, get_or_default}
 use Rattle.hex.specs.Hex.{encode_lower}
 use Rattle.mdbox_base.specs.declared.entries.InstRow.{InstRow}

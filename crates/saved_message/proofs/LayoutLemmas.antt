@@ -1,6 +1,6 @@
 -- Metadata lines laid out in two parts, and the region of them.
-use Rattle.std.proofs.Common.{◌≡◌, ◌==◌, ◌≤◌, ◌<◌, ◌+◌, ◌^◌, ℕ, Bool, true, false, List, [], ◌∷◌, ◌++◌, refl, sym, ◌∙◌, ap, subst, append_assoc, append-nil, arith, length, length-append, map, All, Option, Some, None}
-use Rattle.std.specs.Prelude.{flat_map, IfSome, if◌then◌else◌}
+use Rattle.std.proofs.Common.{◌≡◌, ◌==◌, ◌≤◌, ◌<◌, ◌+◌, ◌^◌, ℕ, List, [], ◌++◌, refl, sym, ◌∙◌, ap, subst, append_assoc, append-nil, arith, length, length-append, map}
+use Rattle.std.specs.Prelude.{flat_map}
 use Rattle.std.specs.List.{AllByRecursion}
 use Rattle.mdbox_base.specs.Words.{IsName}
 use Rattle.mdbox_base.specs.declared.ids.InstId.{InstId}
@@ -13,13 +13,13 @@ use Rattle.dbox_metadata.specs.MadeMetadata.{IsMadeMetadata}
 use Rattle.attach_detach.specs.Prepared.{IsPrepared}
 use Rattle.attach_detach.specs.declared.message.Detached.{Detached}
 use Rattle.attach_detach.specs.declared.message.Prepared.{Prepared}
-use Rattle.saved_message.specs.Laid.{AreSixteen, IsLaid, lines_of_numbers}
-use Rattle.saved_message.specs.Layout.{FitsLayout, metadata_of_names, metadata_of_numbers}
-use Rattle.saved_message.specs.Region.{reference_to, references_naming, size_if_other, unknown_guid, unknown_id, unknown_ids, written_metadata, written_region}
+use Rattle.saved_message.specs.Laid.{IsLaid}
+use Rattle.saved_message.specs.Layout.{metadata_of_names, metadata_of_numbers}
+use Rattle.saved_message.specs.Region.{reference_to, references_naming, unknown_guid, unknown_id, unknown_ids, written_metadata}
 use Rattle.saved_message.proofs.ReferenceLemmas.{unknown_are_ids, unknown_one_each, zeros_are_sixteen}
 use Rattle.saved_message.proofs.StoredLemmas.{can_be_made, lines_short}
 use Rattle.saved_message.specs.Saved.{CanBeWritten}
-use Rattle.saved_message.proofs.RegionLemmas.{names_lines, numbers_text, other_small, texts_apart, written_as, written_is_made}
+use Rattle.saved_message.proofs.RegionLemmas.{names_lines, numbers_text, other_small, texts_apart, written_as}
 
 -- the law of made metadata
 abbrev pub MadeIsSaid : Type 0

@@ -4,6 +4,7 @@ pub mod GuidLemmas
 pub mod IdLemmas
 pub mod LaidLemmas
 pub mod LayoutLemmas
+pub mod PreparedLemmas
 pub mod ReferenceLemmas
 pub mod RegionLemmas
 pub mod StoredLemmas

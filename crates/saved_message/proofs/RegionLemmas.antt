@@ -1,6 +1,6 @@
 -- The region of a saved message, around its GUID and around its references.
-use Rattle.std.proofs.Common.{◌≡◌, ◌==◌, ◌<◌, ◌+◌, ◌-◌, ◌^◌, ℕ, Bool, true, false, List, [], ◌∷◌, ◌++◌, refl, sym, ◌∙◌, ap, subst, append_assoc, append-nil, arith, drop, take, length, length-append}
-use Rattle.std.specs.Prelude.{flat_map, replicate, codes, Option, Some, None, IfSome, if◌then◌else◌}
+use Rattle.std.proofs.Common.{◌≡◌, ◌==◌, ◌<◌, ◌+◌, ◌^◌, ℕ, Bool, true, false, List, [], ◌∷◌, ◌++◌, refl, sym, ◌∙◌, ap, append_assoc, append-nil, arith, drop, take, length, length-append}
+use Rattle.std.specs.Prelude.{flat_map, replicate, Some, None, IfSome, if◌then◌else◌}
 use Rattle.std.specs.List.{AllByRecursion}
 use Rattle.std.proofs.lemmas.Grind.{flat_map-append}
 use Rattle.hex.specs.Hex.{encode_lower, lower_digits}
@@ -19,7 +19,7 @@ use Rattle.attach_detach.specs.declared.message.Prepared.{Prepared}
 use Rattle.dbox_metadata.proofs.RefLemmas.{others_text}
 use Rattle.saved_message.specs.Laid.{AreSixteen, guid_place, lines_of_numbers}
 use Rattle.saved_message.specs.References.{marked}
-use Rattle.saved_message.specs.Region.{reference_to, references_naming, size_if_other, unknown_id, written_metadata, written_region}
+use Rattle.saved_message.specs.Region.{reference_to, references_naming, size_if_other, written_metadata, written_region}
 
 -- ---- the metadata
 

@@ -1,8 +1,7 @@
 -- A saved region stores its message, in its detached form.
-use Rattle.std.proofs.Common.{◌≡◌, ◌≤◌, ◌<◌, ◌+◌, ◌*◌, ◌^◌, ◌==◌, ◌&&◌, ◌⊎◌, inl, inr, ℕ, zero, suc, Bool, true, false, cond, not, List, [], ◌∷◌, ◌++◌, refl, sym, ◌∙◌, ap, subst, append-nil, arith, length, length-append, map, take, drop, get_or, All, Option, Some, None, eqb-true}
-use Rattle.std.specs.Prelude.{flat_map, filter, if◌then◌else◌}
+use Rattle.std.proofs.Common.{◌≡◌, ◌≤◌, ◌+◌, ◌==◌, ◌&&◌, ℕ, Bool, true, false, cond, not, List, [], ◌∷◌, ◌++◌, refl, sym, ◌∙◌, ap, subst, append-nil, arith, length, length-append, map, take, drop, All, Option, Some, None, eqb-true}
+use Rattle.std.specs.Prelude.{flat_map, if◌then◌else◌}
 use Rattle.std.specs.Option.{option_map_or}
-use Rattle.std.proofs.lemmas.List.{length-map}
 use Rattle.std.proofs.lemmas.List.Elements.{All-head, All-map, All-nil, All-cons, All-tail}
 use Rattle.sha1.specs.Sha1.{sha1}
 use Rattle.disk_model.specs.Disk.{Files}
@@ -13,7 +12,7 @@ use Rattle.mdbox_base.specs.declared.ids.InstId.{InstId}
 use Rattle.mdbox_base.specs.declared.metadata.ExtRef.{ExtRef}
 use Rattle.model_attach.proofs.DetachedLemmas.{whole_of_detached}
 use Rattle.model_attach.specs.Detached.{AreDetached}
-use Rattle.model_attach.specs.VirtualSize.{bare_breaks, virtual_size}
+use Rattle.model_attach.specs.VirtualSize.{bare_breaks}
 use Rattle.model_meaning.specs.MapMeaning.{MapRecord}
 use Rattle.model_storage.proofs.MetadataLemmas.{metadata_same}
 use Rattle.model_storage.proofs.WrittenFileLemmas.{written_message_spells}
@@ -23,16 +22,16 @@ use Rattle.model_storage.specs.WrittenFile.{written_message}
 use Rattle.model_storage.specs.declared.metadata_value.Metadata.{Metadata}
 use Rattle.model_storage.proofs.FileLemmas.{message_same}
 use Rattle.model_store.proofs.StandsLemmas.{instances_same, kept_same}
-use Rattle.model_store.specs.Stands.{StoresMessage, NameInstances, HasInstances, whole_size}
+use Rattle.model_store.specs.Stands.{StoresMessage, NameInstances, HasInstances}
 use Rattle.dbox_metadata.proofs.MadeLemmas.{made_is_said}
 use Rattle.dbox_metadata.proofs.ShortLemmas.{made_short}
 use Rattle.dbox_metadata.specs.MadeMetadata.{IsMadeMetadata}
 use Rattle.attach_detach.proofs.NamingLemmas.{are_detached}
-use Rattle.attach_detach.specs.Prepared.{HasHash, IsPrepared}
+use Rattle.attach_detach.specs.Prepared.{HasHash}
 use Rattle.attach_detach.specs.declared.message.Detached.{Detached}
 use Rattle.attach_detach.specs.declared.message.Prepared.{Prepared}
 use Rattle.saved_message.specs.Laid.{AreSixteen, IsLaid, LaidValue}
-use Rattle.saved_message.specs.Region.{references_naming, size_if_other, written_metadata, written_region}
+use Rattle.saved_message.specs.Region.{references_naming, written_metadata, written_region}
 use Rattle.saved_message.specs.Saved.{AreInstancesOf, CanBeWritten, HasWritten, ids_in}
 use Rattle.saved_message.proofs.ReferenceLemmas.{AreIds, body_short, names_parts, parts_few, prepared_fit, references_long}
 use Rattle.saved_message.proofs.RegionLemmas.{header_front, written_as, written_is_made}

@@ -3,8 +3,8 @@
 
 pub use laid::Laid;
 pub use laws::{
-    attachments_are_few, laid_regions_are_short, written_attachments_have_hashes,
-    written_messages_are_detached, written_messages_are_stored,
+    attachments_are_few, laid_regions_are_short, plain_messages_are_prepared, prepared_form_is_one,
+    written_attachments_have_hashes, written_messages_are_detached, written_messages_are_stored,
 };
 pub use layout::lay_out;
 pub use place::guid_at;

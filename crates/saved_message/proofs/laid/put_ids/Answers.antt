@@ -1,4 +1,4 @@
-use Rattle.std.proofs.Common.{rules, arith, refl, ℕ, List, ◌≤◌, ◌<◌, ◌+◌, get_or, length}
+use Rattle.std.proofs.Common.{rules, arith, refl, ℕ, List, ◌<◌, ◌+◌, get_or, length}
 use Rattle.mdbox_base.specs.declared.entries.InstRow.{InstRow}
 use Rattle.saved_message.proofs.IdLemmas.{ids_more, next_begins, next_ends, set_next}
 use Rattle.saved_message.proofs.laid.put_ids.Goals as goal

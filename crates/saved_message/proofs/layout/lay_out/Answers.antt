@@ -1,5 +1,4 @@
-use Rattle.std.proofs.Common.{◌++◌, ◌+◌, map, ◌≡◌, ◌≤◌, ◌<◌, ◌^◌, ◌∙◌, List, ℕ, ap, sym, subst, arith, length}
-use Rattle.mdbox_base.specs.Words.{IsName}
+use Rattle.std.proofs.Common.{◌++◌, ◌+◌, map, ◌≡◌, ◌<◌, ◌^◌, ◌∙◌, List, ℕ, ap, sym, subst, arith, length}
 use Rattle.model_storage.specs.References.{reference_text}
 use Rattle.model_storage.specs.WrittenFile.{written_message}
 use Rattle.attach_detach.specs.declared.message.Detached.{Detached}

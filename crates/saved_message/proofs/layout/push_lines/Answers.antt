@@ -1,13 +1,10 @@
-use Rattle.std.proofs.Common.{refl, subst, sym, ◌∙◌, ap, arith, length, List, ℕ, ◌++◌, ◌≡◌, []}
+use Rattle.std.proofs.Common.{subst, sym, ◌∙◌, ap, length, List}
 use Rattle.std.specs.List.{AllByRecursion}
-use Rattle.mdbox_base.specs.Words.{IsName}
 use Rattle.dbox_metadata.specs.MadeMetadata.{IsMadeMetadata}
-use Rattle.model_storage.specs.Metadata.{IsMetadataText, metadata_text}
+use Rattle.model_storage.specs.Metadata.{metadata_text}
 use Rattle.model_storage.specs.References.{ReferenceFits}
-use Rattle.model_storage.specs.declared.metadata_value.Metadata.{Metadata}
 use Rattle.attach_detach.specs.declared.message.Detached.{Detached}
-use Rattle.saved_message.specs.Layout.{metadata_of_names, metadata_of_numbers}
-use Rattle.saved_message.specs.Region.{references_naming, unknown_guid, unknown_ids}
+use Rattle.saved_message.specs.Region.{references_naming, unknown_ids}
 use Rattle.saved_message.proofs.LayoutLemmas.{first_pushed, lines_pushed, names_made, numbers_written}
 use Rattle.saved_message.proofs.layout.push_lines.Goals as goal
 

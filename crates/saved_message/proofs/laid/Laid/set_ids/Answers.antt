@@ -1,4 +1,4 @@
-use Rattle.std.proofs.Common.{ap, length, subst, sym, ◌∙◌, ℕ, List}
+use Rattle.std.proofs.Common.{subst, sym, ◌∙◌, ℕ, List}
 use Rattle.std.proofs.lemmas.List.{with_items_is}
 use Rattle.saved_message.specs.Laid.{IsLaid, LaidValue}
 use Rattle.saved_message.specs.Saved.{ids_in}
