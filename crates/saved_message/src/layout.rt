@@ -2,9 +2,8 @@
 ghost use Rattle.std.specs.Prelude.{◌≡◌, ◌≤◌, ℕ, List, length, map, flat_map, IfOk};
 ghost use Rattle.attach_detach.specs.Prepared.{IsPrepared};
 ghost use Rattle.mdbox_base.specs.Words.{IsName};
-ghost use Rattle.mdbox_base.specs.declared.metadata.ExtRef.{ExtRef as Reference};
 ghost use Rattle.model_storage.specs.Metadata.{metadata_text};
-ghost use Rattle.model_storage.specs.References.{reference_text, ReferenceFits};
+ghost use Rattle.model_storage.specs.References.{reference_text};
 ghost use Rattle.model_storage.specs.StorageFile.{line_text};
 ghost use Rattle.dbox_metadata.specs.MadeMetadata.{IsMadeMetadata};
 ghost use Rattle.saved_message.specs.Laid.{IsLaid, lines_of_numbers};
@@ -14,7 +13,7 @@ ghost use Rattle.saved_message.specs.Region.{reference_to, references_naming, un
 use crate::laid::Laid;
 use attach_detach::{Detached, Prepared};
 use dbox_file::push_message;
-use dbox_metadata::{made_metadata_is_said, made_metadata_is_short, push_metadata, push_refs};
+use dbox_metadata::{made_metadata_is_said, push_metadata, push_refs};
 use mdbox_base::{ExtRef, Guid, InstId, Name, NoMemory, Octets, Seq, name_of};
 use model_storage::Metadata;
 use std::alloc::Global;
@@ -26,7 +25,6 @@ pub fn lay_out(alloc: Global, name: &Name, time: u64, prepared: &Prepared) -> Re
     ensures { IfOk result (λ laid. IsLaid name.now time prepared.now (unknown_ids prepared.now.parts) unknown_guid laid) }
 {
     made_metadata_is_said();
-    made_metadata_is_short();
     let name_size = name.as_octets().len();
     let (lines, before) = push_lines(alloc, name, time, prepared)?;
     let sizes = sizes_of(alloc, prepared.parts.as_slice())?;

@@ -11,7 +11,7 @@ const FORM: LineForm = LineForm {
 };
 
 /// A message of two parts; the second is an attachment in base64, whose text begins at 225.
-pub fn with_attachment(alloc: Global, text: &[u8]) -> Result<Octets, NoMemory> {
+fn with_attachment(alloc: Global, text: &[u8]) -> Result<Octets, NoMemory> {
     let mut message = Octets::empty(alloc);
     message.push_all(b"From: a@example.org\r\nMIME-Version: 1.0\r\n")?;
     message.push_all(b"Content-Type: multipart/mixed; boundary=\"b1\"\r\n\r\n")?;
@@ -24,7 +24,7 @@ pub fn with_attachment(alloc: Global, text: &[u8]) -> Result<Octets, NoMemory> {
 }
 
 /// The base64 text of 180,000 octets of which the octet at i is i modulo 251.
-pub fn attachment(alloc: Global) -> Result<Octets, NoMemory> {
+fn attachment(alloc: Global) -> Result<Octets, NoMemory> {
     let mut octets = Vec::new(alloc);
     for i in 0..180_000u32 {
         octets.push((i % 251) as u8)?;
@@ -33,7 +33,7 @@ pub fn attachment(alloc: Global) -> Result<Octets, NoMemory> {
 }
 
 /// The same characters, but the second line and the last one have 72.
-pub fn uneven(alloc: Global, text: &[u8]) -> Result<Vec<u8>, Fail> {
+fn uneven(alloc: Global, text: &[u8]) -> Result<Vec<u8>, Fail> {
     let mut characters = Vec::new(alloc);
     for octet in text {
         if *octet > b'\n' && *octet != b'\r' {

@@ -16,8 +16,6 @@ mod number_text;
 #[cfg(test)]
 mod parts;
 #[cfg(test)]
-mod saved;
-#[cfg(test)]
 mod storage;
 #[cfg(test)]
 mod streams;

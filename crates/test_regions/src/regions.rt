@@ -1,11 +1,9 @@
 // What is written of a message with an attachment.
-ghost use Rattle.std.specs.Prelude.{◌≤◌, length};
-
-use crate::attachments::{attachment, uneven, with_attachment};
+use crate::messages::{FORM, attachment, uneven, with_attachment};
 use attach_detach::prepare;
 use dbox_file::message_at;
 use dbox_metadata::read_metadata;
-use mdbox_base::{ExtRef, FileNo, Hash, InstId, InstRow, LineForm, Octets, StoreId, name_of};
+use mdbox_base::{ExtRef, FileNo, Hash, InstId, InstRow, Octets, StoreId, name_of};
 use saved_message::{guid_at, lay_out};
 use std::alloc::Global;
 use std::test::Fail;
@@ -64,14 +62,10 @@ fn lines_of(region: &[u8]) -> Option<&[u8]> {
 /// The attachment is referred to, the whole size is written beside that of the body, and all is read back.
 #[test]
 fn a_reference_stands_in_the_region(rt: HostRuntime) -> Result<(), Fail> {
-    let form = LineForm {
-        length: 76,
-        crlf: true,
-    };
     let canonical = attachment(rt.alloc())?;
     let other = uneven(rt.alloc(), canonical.as_slice())?;
     for (text, expected, form, hash) in [
-        (canonical.as_slice(), EVEN_LINES, Some(form), DECODED),
+        (canonical.as_slice(), EVEN_LINES, Some(FORM), DECODED),
         (other.as_slice(), UNEVEN_LINES, None, UNEVEN),
     ] {
         let message = with_attachment(rt.alloc(), text)?;
