@@ -1,0 +1,10 @@
+pub mod BigPartLemmas
+pub mod DigestLemmas
+pub mod GuidLemmas
+pub mod IdLemmas
+pub mod LaidLemmas
+pub mod LayoutLemmas
+pub mod PreparedLemmas
+pub mod ReferenceLemmas
+pub mod RegionLemmas
+pub mod StoredLemmas
