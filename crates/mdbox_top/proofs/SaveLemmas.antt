@@ -592,7 +592,7 @@ done_saves history name time octets added uid guid first s t began now knows tim
     subst (λ (g : Guid). StoresAlone name time octets added.map_uid g first t (history first.disk) (history t.disk)) (sym guided ∙ one_guid uid other guid given q) (record {
       at = at;
       guid_is = knows.stored.guid_is;
-      more = subst (λ (m : MapMeaning). HasRecordMore name time octets first.drawn.map first.map first.files added.map_uid at m) (sym adds.map) knows.stored.more;
+      more = subst (λ (m : MapMeaning). HasRecordMore name time octets first.drawn.map first.map first.files added.map_uid at m) (ap (λ (v : StoreValue _). v.map) (sym adds.same)) knows.stored.more;
       unsealed = knows.stored.unsealed;
       mail = wrote_on time at.file.0 at.offset (saved_region name time octets added.guid.0) (history first.disk) (history s.disk) (history t.disk) knows.stored.mail same;
     }),
@@ -612,7 +612,7 @@ done_saves history name time octets added uid guid first s t began now knows tim
 -- ---- each event that ends it
 
 refused_running : {D : Type 0} → (t : StoreValue D) (why : Refusal) → (progress.Done (reply.Refused why) ≡ stopped_reply) ↔ (t.stopped ≡ true) → (why ≡ refusal.Stopped → ⊥) → t.stopped ≡ false
-refused_running t why stopped no = not_true t.stopped (λ e. no (one_refusal why refusal.Stopped (one_done (reply.Refused why) (reply.Refused refusal.Stopped) (stopped.1 e))))
+refused_running t why stopped other = not_true t.stopped (λ e. other (one_refusal why refusal.Stopped (one_done (reply.Refused why) (reply.Refused refusal.Stopped) (stopped.1 e))))
 
 -- an event that writes to no storage file, of a store that is as it was at first
 left_same : {D : Type 0} → (history : D → Option History) (name : List ℕ) (time : ℕ) (octets : List ℕ) (first s t : StoreValue D) → s ≡ first → ReadsSameMail (history s.disk) (history t.disk) → LeftMail name time octets (history first.disk) (history t.disk)
