@@ -589,7 +589,7 @@ done_saves history name time octets added uid guid first s t began now knows tim
     subst (λ (g : Guid). StoresAlone name time octets added.map_uid g first t (history first.disk) (history t.disk)) (sym guided ∙ one_guid uid other guid given q) (record {
       at = at;
       guid_is = knows.stored.guid_is;
-      more = subst (λ (m : MapMeaning). HasRecordMore name time octets first.drawn.map first.map first.files added.map_uid at m) (sym adds.map) knows.stored.more;
+      more = subst (λ (m : MapMeaning). HasRecordMore name time octets first.drawn.map first.map first.files added.map_uid at m) (ap (λ (v : StoreValue _). v.map) (sym adds.same)) knows.stored.more;
       unsealed = knows.stored.unsealed;
       mail = wrote_on time at.file.0 at.offset (saved_region name time octets added.guid.0) (history first.disk) (history s.disk) (history t.disk) knows.stored.mail same;
     }),
