@@ -13,6 +13,7 @@ pub mod SaveDoesLemmas
 pub mod SavedRegionLemmas
 pub mod SaveEventLemmas
 pub mod SaveFrontLemmas
+pub mod SaveInstanceLemmas
 pub mod SaveKeptLemmas
 pub mod SaveLastLemmas
 pub mod SaveListLemmas

@@ -19,7 +19,7 @@ use disk_model::Disk;
 use mdbox_base::{Hash, InstId, InstRow, MapEntry, MapUid, NoMemory, Refusal, Seq};
 use std::alloc::Global;
 use std::marker::Model;
-use store_core::{StepError, Stopped, Store};
+use store_core::{StepError, Stopped, Store, known_rows_agree};
 
 /// The greatest number of a record.
 const LAST_UID: u64 = 4_294_967_294;
@@ -107,6 +107,7 @@ pub fn store_record<D: Disk>(
 {
     store.facts();
     known_rows(rows.as_slice());
+    known_rows_agree::<D>();
     let Some(uid) = store.next_map_uid() else {
         store.release(at.file);
         return Err(Refusal::StoreFull(LAST_UID));

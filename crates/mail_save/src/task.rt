@@ -11,7 +11,7 @@ ghost use Rattle.mdbox_base.specs.declared.requests.Request.TheVariants as reque
 ghost use Rattle.model_lists.specs.Lists.{Lists};
 ghost use Rattle.model_store.specs.Settled.{IsSettledFor, Leaves};
 ghost use Rattle.store_core.specs.Dues.{due_at};
-ghost use Rattle.store_core.specs.Keeping.{KeepsUids};
+ghost use Rattle.store_core.specs.Keeping.{KeepsInstances, KeepsUids};
 ghost use Rattle.task_steps.specs.Step.{Steps, ended_by};
 ghost use Rattle.mail_save.specs.Events.{has_detachable};
 ghost use Rattle.mail_save.specs.Left.{HoldsFile, HoldsInstances};
@@ -136,6 +136,9 @@ impl SaveTask {
 
         // A message that another task copies or moves stays the only one with its UID.
         ensures keeps { KeepsUids store.old store.new }
+
+        // What another task has compared or found of the instances stays so, unless the store is stopped then.
+        ensures instances { store.new.stopped ≡ false → KeepsInstances store.old store.new (D.history store.old.disk) (D.history store.new.disk) }
 
         ensures stopped { store.old.stopped ≡ true → (result ≡ stopped_reply) × (store.new ≡ store.old) × (self.new.stage ≡ self.old.stage) × (self.new.did ≡ did.Quiet) }
         ensures request { (self.new.name ≡ self.old.name) × (self.new.time ≡ self.old.time) × (self.new.size ≡ self.old.size) }

@@ -4,7 +4,6 @@ use Rattle.mdbox_base.specs.declared.entries.InstRow.{InstRow}
 use Rattle.model_logs.specs.Entries.{RowInRange}
 use Rattle.model_meaning.specs.MapMeaning.{MapRecord, record_at}
 use Rattle.model_store.specs.Settled.{IsSettledFor, Leaves}
-use Rattle.mail_save.proofs.HeldInstanceLemmas.{rows_agree}
 use Rattle.mail_save.proofs.PlaceLemmas.{unchanged_leaves}
 use Rattle.mail_save.proofs.RecordLemmas.{rows_in_range, file_drawn, guid_drawn, record_fits, record_below, record_lies, ready_as}
 use Rattle.mail_save.proofs.SaveEventLemmas.{uids_full, uids_left}
@@ -19,7 +18,7 @@ returns-in_default-clause-any_moment g c = λ lists ready s. unchanged_leaves g.
 
 pub append_map-requires-clause-fits : goal.append_map-requires-clause-fits
 append_map-requires-clause-fits g c =
-    record_fits c.args.origin c.in-Some.uid c.args.at c.args.rows c.args.store.now _ (rows_agree c.args.rows c.args.store.now _ c.facts.ensures.instances c.requires.instances.known) c.facts.ensures.store c.facts.ensures.files c.requires.placed c.requires.origin c.requires.size c.in-Some.ensures.some.0 c.in-Some.ensures.some.1
+    record_fits c.args.origin c.in-Some.uid c.args.at c.args.rows c.args.store.now _ (c.known_rows_agree.ensures _ c.args.store.now c.args.rows c.facts.ensures.instances c.requires.instances.known) c.facts.ensures.store c.facts.ensures.files c.requires.placed c.requires.origin c.requires.size c.in-Some.ensures.some.0 c.in-Some.ensures.some.1
 
 pub append_map-requires-clause-drawn : goal.append_map-requires-clause-drawn
 append_map-requires-clause-drawn g c =

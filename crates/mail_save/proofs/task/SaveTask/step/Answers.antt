@@ -2,6 +2,7 @@ use Rattle.std.proofs.Common.{rules, ◌<◌, ◌^◌, refl, sym, ◌∙◌}
 use Rattle.store_core.proofs.BoxCrashLemmas.{leaves_none}
 use Rattle.mail_save.proofs.SaveDoesLemmas.{seen_does, seen_stopped}
 use Rattle.mail_save.proofs.SaveEventLemmas.{seen_saves, unfallen}
+use Rattle.mail_save.proofs.SaveInstanceLemmas.{instances_kept}
 use Rattle.mail_save.proofs.SaveMomentLemmas.{save_moments, save_rests}
 use Rattle.mail_save.proofs.SaveUidLemmas.{store_stays, uids_stay}
 use Rattle.mail_save.proofs.task.SaveTask.step.Goals as goal
@@ -42,3 +43,11 @@ pub returns-clause-keeps : goal.returns-clause-keeps
 returns-clause-keeps g c =
     let s = seen_saves _ c.args.self.now c.replace-now.result _ _ _ _ _ _ _ _ _ c.self.view_is c.replace-now.ensures.value c.next_event-next.ensures in
     uids_stay c.args.self.now.stage _ _ _ _ _ c.args.store.now _ s.effects
+
+pub returns-then-stopped-clause-instances : goal.returns-then-stopped-clause-instances
+returns-then-stopped-clause-instances g c = λ ran. absurd (unfallen c.args.store.now.stopped (sym c.stopped.ensures ∙ c.if-stopped.true) ran)
+
+pub returns-clause-instances : goal.returns-clause-instances
+returns-clause-instances g c = λ ran.
+    let s = seen_saves _ c.args.self.now c.replace-now.result _ _ _ _ _ _ _ _ _ c.self.view_is c.replace-now.ensures.value c.next_event-next.ensures in
+    instances_kept c.args.self.now.stage _ _ _ _ _ _ c.args.store.now _ _ _ _ _ c.requires.left s ran
