@@ -1,5 +1,5 @@
 // The instances of a message's attachments, found one after another.
-ghost use Rattle.std.specs.Prelude.{◌≡◌, ◌≢◌, ◌↔◌, ◌==◌, ◌<◌, ◌≤◌, if◌then◌else◌, false, ℕ, length, All, Some, None, IfOk, IfErr, OnOk, OnErr, IsSome, IsErr, IsErrOf, IsTrue};
+ghost use Rattle.std.specs.Prelude.{◌≡◌, ◌≢◌, ◌↔◌, ◌==◌, ◌<◌, ◌≤◌, if◌then◌else◌, is_none, false, ℕ, length, All, Some, None, IfOk, IfErr, OnOk, OnErr, IsSome, IsErr, IsErrOf, IsTrue};
 ghost use Rattle.attach_detach.specs.declared.message.Detached.{Detached};
 ghost use Rattle.disk_model.specs.Disk.{Grows, IfTold, IsIdle, Keeps, reading};
 ghost use Rattle.disk_model.specs.FaultCounts.{NoFault, ChangeFaultCounted, ReadFaultCounted};
@@ -77,7 +77,8 @@ impl Attaching {
 
     /// Whether the instance of each attachment was found.
     pub fn is_whole(&self) -> bool
-        ensures { result ≡ (length self.now.found == length self.now.parts) }
+        ensures whole { result ≡ (length self.now.found == length self.now.parts) }
+        ensures next { result ≡ is_none (next_part self.now) }
     {
         self.found.len() == self.parts.length()
     }
