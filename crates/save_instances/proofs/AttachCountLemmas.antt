@@ -15,7 +15,7 @@ use Rattle.sis_store.specs.Comparing.{candidates_left}
 use Rattle.sis_store.specs.Instances.{InstancesValue, has_id, is_id_past, is_of_kind, with_holders, with_instance}
 use Rattle.sis_store.specs.declared.instance.KnownInstance.{KnownInstance}
 use Rattle.sis_store.proofs.IdLemmas.{by_octets, is_within, less_lt, turned}
-use Rattle.save_instances.specs.Attaching.{AttachingValue, attach_events_left, candidates_of, compared_to, next_part, parts_left, with_found}
+use Rattle.save_instances.specs.Attaching.{AttachingValue, attach_events_left, candidates_of, compared_to, next_attachment, parts_left, with_found}
 
 -- ---- candidates are known instances
 
@@ -40,7 +40,7 @@ less_left c k n m r s is few within =
     last : (x y z : ℕ) → x ≤ y → z ≡ y + (n + r + 1) → k + x < c + z
     last x y z le sum = omega (arith, le, sum, few, within, is)
 
-one_fewer : (value : AttachingValue) (row : InstRow) (part : Detached) → next_part value ≡ Some part → parts_left value ≡ suc (parts_left (with_found row value))
+one_fewer : (value : AttachingValue) (row : InstRow) (part : Detached) → next_attachment value ≡ Some part → parts_left value ≡ suc (parts_left (with_found row value))
 one_fewer value row part next =
     let within : length value.found < length value.parts = is_within value.parts (length value.found) part next in
     let more : length (value.found ++ row ∷ []) ≡ length value.found + 1 = length-append value.found (row ∷ []) in
@@ -49,11 +49,11 @@ one_fewer value row part next =
     counts : (all some next : ℕ) → some < all → next ≡ some + 1 → all - some ≡ suc (all - next)
     counts all some next lt is = omega (arith, lt, is)
 
-pub found_fewer : (value now : AttachingValue) (row : InstRow) (part : Detached) (instances later : InstancesValue) → next_part value ≡ Some part → now ≡ with_found row value → length later.known ≤ length instances.known + 1 → attach_events_left now later < attach_events_left value instances
+pub found_fewer : (value now : AttachingValue) (row : InstRow) (part : Detached) (instances later : InstancesValue) → next_attachment value ≡ Some part → now ≡ with_found row value → length later.known ≤ length instances.known + 1 → attach_events_left now later < attach_events_left value instances
 found_fewer value now row part instances later next is few =
     subst (λ (v : AttachingValue). attach_events_left v later < attach_events_left value instances) (sym is)
     (less_left (candidates_of value instances) (candidates_of (with_found row value) later) (length instances.known) (length later.known) (parts_left value) (parts_left (with_found row value)) (one_fewer value row part next) few
-    (few_candidates (next_part (with_found row value)) (compared_to (with_found row value) later) later.known))
+    (few_candidates (next_attachment (with_found row value)) (compared_to (with_found row value) later) later.known))
 
 -- ---- how many are known
 

@@ -20,7 +20,7 @@ use Rattle.sis_store.proofs.CandidateLemmas.{all_compared, none_yet, one_more}
 use Rattle.store_core.specs.Keeping.{KeepsInstances, MovesHolds, holds_of}
 use Rattle.store_core.specs.Value.{StoreValue}
 use Rattle.store_core.proofs.InstanceKeepingLemmas.{candidate_found}
-use Rattle.save_instances.specs.Attaching.{AreHeld, AttachingValue, IsAttaching, IsOfPart, candidate_for, compared_to, next_candidate, next_part, row_of, with_found}
+use Rattle.save_instances.specs.Attaching.{AreHeld, AttachingValue, IsAttaching, IsOfPart, candidate_for, compared_to, next_candidate, next_attachment, part_row, with_found}
 use Rattle.save_instances.proofs.FoundLemmas.{holds_push, of_parts_kept, of_parts_more}
 
 -- ---- beside other events
@@ -42,7 +42,7 @@ goes_on_same value old new before after keeps same is = goes_on value old new be
 held_more : (now before mine more : ℕ) → mine ≤ before → now + mine ≡ before + more → more ≤ now
 held_more now before mine more le sum = omega (arith, le, sum)
 
-pub found_on : {D : Type 0} → (value : AttachingValue) (row : InstRow) (part : Detached) (old new : StoreValue D) (before after : Option History) → next_part value ≡ Some part → KeepsInstances old new before after → MovesHolds (holds_of value.found) (holds_of (row ∷ value.found)) old new
+pub found_on : {D : Type 0} → (value : AttachingValue) (row : InstRow) (part : Detached) (old new : StoreValue D) (before after : Option History) → next_attachment value ≡ Some part → KeepsInstances old new before after → MovesHolds (holds_of value.found) (holds_of (row ∷ value.found)) old new
     → IsOfPart row part new.instances.known after → IsAttaching value old before → IsAttaching (with_found row value) new after
 found_on value row part old new before after next keeps moves of_part is = record {
   found = of_parts_more value.found value.parts row part new.instances.known after next of_part (of_parts_kept value.found value.parts old new before after keeps is.found);
@@ -61,24 +61,24 @@ found_moves value now row old mid new is same moves =
 -- ---- the candidate
 
 -- it is one of the next attachment
-pub candidate_is : (value : AttachingValue) (instances : InstancesValue) (part : Detached) (candidate : InstRow) → next_part value ≡ Some part → next_candidate value instances ≡ Some candidate
-    → (candidate_in part.hash (length part.octets) (compared_to value instances) instances.known ≡ Some candidate.id) × (row_of part candidate.id ≡ candidate)
+pub candidate_is : (value : AttachingValue) (instances : InstancesValue) (part : Detached) (candidate : InstRow) → next_attachment value ≡ Some part → next_candidate value instances ≡ Some candidate
+    → (candidate_in part.hash (length part.octets) (compared_to value instances) instances.known ≡ Some candidate.id) × (part_row part candidate.id ≡ candidate)
 candidate_is value instances part candidate next is =
     by (candidate_in part.hash (length part.octets) (compared_to value instances) instances.known) refl (ap (λ (o : Option Detached). candidate_for o (compared_to value instances) instances.known) (sym next) ∙ is)
   where
-    by : (o : Option InstId) → candidate_in part.hash (length part.octets) (compared_to value instances) instances.known ≡ o → option_map (row_of part) o ≡ Some candidate
-        → (candidate_in part.hash (length part.octets) (compared_to value instances) instances.known ≡ Some candidate.id) × (row_of part candidate.id ≡ candidate)
+    by : (o : Option InstId) → candidate_in part.hash (length part.octets) (compared_to value instances) instances.known ≡ o → option_map (part_row part) o ≡ Some candidate
+        → (candidate_in part.hash (length part.octets) (compared_to value instances) instances.known ≡ Some candidate.id) × (part_row part candidate.id ≡ candidate)
     by None e found = absurd (let w : None ≡ Some candidate = found in cc w)
     by (Some id) e found =
-        let same : row_of part id ≡ candidate = same_Some _ _ found in
+        let same : part_row part id ≡ candidate = same_Some _ _ found in
         let ids : id ≡ candidate.id = ap (λ (r : InstRow). r.id) same in
-        (e ∙ ap Some ids, ap (row_of part) (sym ids) ∙ same)
+        (e ∙ ap Some ids, ap (part_row part) (sym ids) ∙ same)
 
-none_of : (part : Detached) (o : Option InstId) → option_map (row_of part) o ≡ None → o ≡ None
+none_of : (part : Detached) (o : Option InstId) → option_map (part_row part) o ≡ None → o ≡ None
 none_of part None e = refl
-none_of part (Some id) e = absurd (let w : Some (row_of part id) ≡ None = e in cc w)
+none_of part (Some id) e = absurd (let w : Some (part_row part id) ≡ None = e in cc w)
 
-pub candidate_none : (value : AttachingValue) (instances : InstancesValue) (part : Detached) → next_part value ≡ Some part → next_candidate value instances ≡ None → candidate_in part.hash (length part.octets) (compared_to value instances) instances.known ≡ None
+pub candidate_none : (value : AttachingValue) (instances : InstancesValue) (part : Detached) → next_attachment value ≡ Some part → next_candidate value instances ≡ None → candidate_in part.hash (length part.octets) (compared_to value instances) instances.known ≡ None
 candidate_none value instances part next is =
     none_of part (candidate_in part.hash (length part.octets) (compared_to value instances) instances.known) (ap (λ (o : Option Detached). candidate_for o (compared_to value instances) instances.known) (sym next) ∙ is)
 
@@ -92,7 +92,7 @@ drawn_all instances hash size octets after history are unlike =
     if_told-map (λ disk. All (λ k. is_of_kind hash size k.row ≡ true → is_id_past after k.row.id ≡ false → HasDrawnNumber instances.store instances.highest k.row.id → reading (disk (instance_file k.row)) ≢ Some octets) instances.known)
     (λ disk. All (λ k. is_of_kind hash size k.row ≡ true → is_id_past after k.row.id ≡ false → reading (disk (instance_file k.row)) ≢ Some octets) instances.known) history (λ disk u i d lt of past. u i d lt of past (are.drawn i d lt)) unlike
 
-pub unlike_up_to : {D : Type 0} → (value : AttachingValue) (store : StoreValue D) (part : Detached) (history : Option History) → AreInstances store.instances → next_part value ≡ Some part → IsAttaching value store history
+pub unlike_up_to : {D : Type 0} → (value : AttachingValue) (store : StoreValue D) (part : Detached) (history : Option History) → AreInstances store.instances → next_attachment value ≡ Some part → IsAttaching value store history
     → IsUnlikeUpTo part.hash (length part.octets) part.octets (compared_to value store.instances) store.instances.known history
 unlike_up_to value store part history are next is = elim (cases_Bool (value.drawn == store.instances.highest)) [
   | inl same ↦
@@ -105,7 +105,7 @@ unlike_up_to value store part history are next is = elim (cases_Bool (value.draw
 ]
 
 -- where all were compared it may be placed
-pub unlike_all : {D : Type 0} → (value : AttachingValue) (store : StoreValue D) (part : Detached) (octets : List ℕ) (history : Option History) → AreInstances store.instances → next_part value ≡ Some part → octets ≡ part.octets → next_candidate value store.instances ≡ None → IsAttaching value store history
+pub unlike_all : {D : Type 0} → (value : AttachingValue) (store : StoreValue D) (part : Detached) (octets : List ℕ) (history : Option History) → AreInstances store.instances → next_attachment value ≡ Some part → octets ≡ part.octets → next_candidate value store.instances ≡ None → IsAttaching value store history
     → IsUnlikeKnown part.hash (length octets) octets store.instances.known history
 unlike_all value store part octets history are next same none is =
     subst (λ (os : List ℕ). IsUnlikeKnown part.hash (length os) os store.instances.known history) (sym same)
@@ -117,7 +117,7 @@ unlike_all value store part octets history are next same none is =
 abbrev pub SaysAlike : InstId → List KnownInstance → List ℕ → Bool → DiskState → Type 0
 SaysAlike id known octets alike disk = IsTrue alike ↔ (reading (disk (file_of id known)) ≡ Some octets)
 
-pub of_candidate : {D : Type 0} → (value : AttachingValue) (store : StoreValue D) (part : Detached) (candidate : InstRow) (octets : List ℕ) (alike : Bool) (history : Option History) → AreInstances store.instances → next_part value ≡ Some part → octets ≡ part.octets → next_candidate value store.instances ≡ Some candidate
+pub of_candidate : {D : Type 0} → (value : AttachingValue) (store : StoreValue D) (part : Detached) (candidate : InstRow) (octets : List ℕ) (alike : Bool) (history : Option History) → AreInstances store.instances → next_attachment value ≡ Some part → octets ≡ part.octets → next_candidate value store.instances ≡ Some candidate
     → alike ≡ true → IfTold history (SaysAlike candidate.id store.instances.known octets alike) → IsAttaching value store history → IsOfPart candidate part store.instances.known history
 of_candidate value store part candidate octets alike history are next same is alike_is says attaching =
     let c = candidate_is value store.instances part candidate next is in
@@ -135,7 +135,7 @@ noted instances hash size octets after history unlike =
     (λ disk. All (λ k. is_of_kind hash size k.row ≡ true → is_id_past after k.row.id ≡ false → HasDrawnNumber instances.store instances.highest k.row.id → reading (disk (instance_file k.row)) ≢ Some octets) instances.known) history (λ disk u i d lt of past has. u i d lt of past) unlike
 
 -- one that has other octets
-pub compared_on : {D : Type 0} → (value : AttachingValue) (store : StoreValue D) (part : Detached) (candidate : InstRow) (octets : List ℕ) (alike : Bool) (history : Option History) → AreInstances store.instances → next_part value ≡ Some part → octets ≡ part.octets → next_candidate value store.instances ≡ Some candidate
+pub compared_on : {D : Type 0} → (value : AttachingValue) (store : StoreValue D) (part : Detached) (candidate : InstRow) (octets : List ℕ) (alike : Bool) (history : Option History) → AreInstances store.instances → next_attachment value ≡ Some part → octets ≡ part.octets → next_candidate value store.instances ≡ Some candidate
     → alike ≡ false → IfTold history (SaysAlike candidate.id store.instances.known octets alike) → IsAttaching value store history
     → IsAttaching (record { parts = value.parts; found = value.found; after = Some candidate.id; drawn = store.instances.highest }) store history
 compared_on value store part candidate octets alike history are next same is unlike_is says attaching =

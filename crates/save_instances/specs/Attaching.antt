@@ -27,8 +27,8 @@ nothing_found parts = record { parts = parts; found = []; after = None; drawn = 
 -- ---- what comes next
 
 -- the attachment whose instance is found next
-abbrev pub next_part : AttachingValue → Option Detached
-next_part value = slice_get value.parts (length value.found)
+abbrev pub next_attachment : AttachingValue → Option Detached
+next_attachment value = slice_get value.parts (length value.found)
 
 -- Up to this id none needs to be compared again. Where a number was drawn since, an instance may have been placed before it: then
 -- all are compared anew.
@@ -36,16 +36,16 @@ abbrev pub compared_to : AttachingValue → InstancesValue → Option InstId
 compared_to value instances = if value.drawn == instances.highest then value.after else None
 
 -- an instance of the attachment with this id
-abbrev pub row_of : Detached → InstId → InstRow
-row_of part id = record { hash = part.hash; id = id; size = length part.octets }
+abbrev pub part_row : Detached → InstId → InstRow
+part_row part id = record { hash = part.hash; id = id; size = length part.octets }
 
 abbrev pub candidate_for : Option Detached → Option InstId → List KnownInstance → Option InstRow
 candidate_for None after known = None
-candidate_for (Some part) after known = option_map (row_of part) (candidate_in part.hash (length part.octets) after known)
+candidate_for (Some part) after known = option_map (part_row part) (candidate_in part.hash (length part.octets) after known)
 
 -- the known instance that the next attachment is compared with
 abbrev pub next_candidate : AttachingValue → InstancesValue → Option InstRow
-next_candidate value instances = candidate_for (next_part value) (compared_to value instances) instances.known
+next_candidate value instances = candidate_for (next_attachment value) (compared_to value instances) instances.known
 
 -- ---- what an event makes of it
 
@@ -62,7 +62,7 @@ abbrev pub parts_left : AttachingValue → ℕ
 parts_left value = length value.parts - length value.found
 
 abbrev pub candidates_of : AttachingValue → InstancesValue → ℕ
-candidates_of value instances = option_map_or (λ part. candidates_left part.hash (length part.octets) (compared_to value instances) instances.known) (next_part value) 0
+candidates_of value instances = option_map_or (λ part. candidates_left part.hash (length part.octets) (compared_to value instances) instances.known) (next_attachment value) 0
 
 -- How many events are still to come at the most, if no other task places an instance. Each attachment but the next one may have to
 -- be compared with all instances, those that are placed by then too.
@@ -92,4 +92,4 @@ pub record IsAttaching {D : Type 0} (value : AttachingValue) (store : StoreValue
   pub found : AreOfParts value.found value.parts store.instances.known history
   pub held : AreHeld value.found store.instances.known
   pub drawn : value.drawn ≤ store.instances.highest
-  pub unlike : (part : Detached) → next_part value ≡ Some part → IsUnlikeCompared store.instances.store part.hash (length part.octets) part.octets value.after value.drawn store.instances.known history
+  pub unlike : (part : Detached) → next_attachment value ≡ Some part → IsUnlikeCompared store.instances.store part.hash (length part.octets) part.octets value.after value.drawn store.instances.known history

@@ -1,5 +1,5 @@
 // The instances of a message's attachments, found one after another.
-ghost use Rattle.std.specs.Prelude.{◌≡◌, ◌≢◌, ◌↔◌, ◌==◌, ◌<◌, ◌≤◌, if◌then◌else◌, false, ℕ, length, All, Some, None, IfOk, IfErr, OnOk, OnErr, IsSome, IsErr, IsErrOf, IsTrue};
+ghost use Rattle.std.specs.Prelude.{◌≡◌, ◌≢◌, ◌↔◌, ◌==◌, ◌<◌, ◌≤◌, if◌then◌else◌, is_none, false, ℕ, length, All, Some, None, IfOk, IfErr, OnOk, OnErr, IsSome, IsErr, IsErrOf, IsTrue};
 ghost use Rattle.attach_detach.specs.declared.message.Detached.{Detached};
 ghost use Rattle.disk_model.specs.Disk.{Grows, IfTold, IsIdle, Keeps, reading};
 ghost use Rattle.disk_model.specs.FaultCounts.{NoFault, ChangeFaultCounted, ReadFaultCounted};
@@ -13,7 +13,7 @@ ghost use Rattle.store_core.specs.Keeping.{KeepsInstances, MovesHolds, holds_of}
 ghost use Rattle.store_core.specs.PlaceStops.{IsPlaceStop};
 ghost use Rattle.store_core.specs.StoreInstances.{with_placed};
 ghost use Rattle.store_core.specs.declared.error.PlaceStop.TheVariants as place_stop;
-ghost use Rattle.save_instances.specs.Attaching.{IsAttaching, compared_to, nothing_found, next_part, next_candidate, row_of, with_compared, with_found, attach_events_left};
+ghost use Rattle.save_instances.specs.Attaching.{IsAttaching, compared_to, nothing_found, next_attachment, next_candidate, part_row, with_compared, with_found, attach_events_left};
 
 use attach_detach::Detached;
 use disk_model::Disk;
@@ -77,7 +77,8 @@ impl Attaching {
 
     /// Whether the instance of each attachment was found.
     pub fn is_whole(&self) -> bool
-        ensures { result ≡ (length self.now.found == length self.now.parts) }
+        ensures whole { result ≡ (length self.now.found == length self.now.parts) }
+        ensures next { result ≡ is_none (next_attachment self.now) }
     {
         self.found.len() == self.parts.length()
     }
@@ -119,7 +120,7 @@ impl Attaching {
         requires attaching { IsAttaching self.old store.old (D.history store.old.disk) }
         requires room { holders_in candidate.id store.old.instances.known < 4294967295 }
 
-        ensures alike { IfOk result (λ alike. (part : Detached) → next_part self.old ≡ Some part → IfTold (D.history store.old.disk) (λ now. IsTrue alike ↔ (reading (now (instance_file candidate)) ≡ Some part.octets))) }
+        ensures alike { IfOk result (λ alike. (part : Detached) → next_attachment self.old ≡ Some part → IfTold (D.history store.old.disk) (λ now. IsTrue alike ↔ (reading (now (instance_file candidate)) ≡ Some part.octets))) }
         ensures ok { IfOk result (λ alike. self.new ≡ (if alike then with_found candidate self.old else with_compared candidate store.old.instances.highest self.old)) }
         ensures err { OnErr result (self.new ≡ self.old) }
         ensures fewer { OnOk result (attach_events_left self.new store.new.instances < attach_events_left self.old store.old.instances) }
@@ -157,7 +158,7 @@ impl Attaching {
     /// change of the disk that fails stops the store; after an error no instance more was found.
     pub fn place<D: Disk>(&mut self, store: &mut Store<D>) -> Result<InstRow, PlaceStop>
         requires running { store.old.stopped ≡ false }
-        requires part { IsSome (next_part self.old) }
+        requires part { IsSome (next_attachment self.old) }
         requires compared { next_candidate self.old store.old.instances ≡ None }
         requires attaching { IsAttaching self.old store.old (D.history store.old.disk) }
 
@@ -167,10 +168,10 @@ impl Attaching {
         ensures settled { OnOk result ((lists : Lists) → IsSettledFor lists (D.history store.old.disk) → IsSettledFor lists (D.history store.new.disk)) }
 
         // After Ok the octets are a file, and a crash leaves it so. No other file has changed, and their names are synced.
-        ensures ok { IfOk result (λ row. (part : Detached) → next_part self.old ≡ Some part → (row ≡ row_of part (next_id store.old.instances)) × (store.new ≡ with_placed store.new.disk (after_placing part.hash (length part.octets) store.old.instances) store.old)) }
+        ensures ok { IfOk result (λ row. (part : Detached) → next_attachment self.old ≡ Some part → (row ≡ part_row part (next_id store.old.instances)) × (store.new ≡ with_placed store.new.disk (after_placing part.hash (length part.octets) store.old.instances) store.old)) }
         ensures found { IfOk result (λ row. self.new ≡ with_found row self.old) }
-        ensures made { OnOk result ((part : Detached) → next_part self.old ≡ Some part → IfTold (D.history store.new.disk) (λ now. Keeps (now (next_instance_file part.hash store.old.instances)) part.octets)) }
-        ensures others { OnOk result ((part : Detached) → next_part self.old ≡ Some part → OnlyNamesSynced (next_instance_file part.hash store.old.instances) (D.history store.old.disk) (D.history store.new.disk)) }
+        ensures made { OnOk result ((part : Detached) → next_attachment self.old ≡ Some part → IfTold (D.history store.new.disk) (λ now. Keeps (now (next_instance_file part.hash store.old.instances)) part.octets)) }
+        ensures others { OnOk result ((part : Detached) → next_attachment self.old ≡ Some part → OnlyNamesSynced (next_instance_file part.hash store.old.instances) (D.history store.old.disk) (D.history store.new.disk)) }
         ensures stored { OnOk result (KeepsStored (D.history store.old.disk) (D.history store.new.disk)) }
         ensures fewer { OnOk result (attach_events_left self.new store.new.instances < attach_events_left self.old store.old.instances) }
 

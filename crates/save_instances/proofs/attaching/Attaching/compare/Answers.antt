@@ -3,7 +3,7 @@ use Rattle.std.proofs.Common.{◌≡◌, ◌<◌, ◌≤◌, ◌+◌, ℕ, lengt
 use Rattle.attach_detach.specs.declared.message.Detached.{Detached}
 use Rattle.sis_store.specs.Instances.{InstancesValue}
 use Rattle.store_core.specs.Value.{StoreValue}
-use Rattle.save_instances.specs.Attaching.{AttachingValue, IsAttaching, attach_events_left, next_part}
+use Rattle.save_instances.specs.Attaching.{AttachingValue, IsAttaching, attach_events_left, next_attachment}
 use Rattle.save_instances.proofs.AttachCountLemmas.{found_fewer, held_many}
 use Rattle.save_instances.proofs.AttachingLemmas.{compared_on, found_moves, found_on, goes_on_same, of_candidate}
 use Rattle.save_instances.proofs.FoundLemmas.{of_part_kept}
@@ -16,7 +16,7 @@ returns-in_err-alike-clause-attaching g c =
 pub returns-then-alike-clause-fewer : goal.returns-then-alike-clause-fewer
 returns-then-alike-clause-fewer g c =
     let value : AttachingValue = c.args.self.now in
-    let next : next_part value ≡ Some c.in-Some.part.now = subst (λ (v : AttachingValue). next_part v ≡ Some c.in-Some.part.now) c.self.view_is (ap (slice_get c.self.inside.parts) (sym (c.len.ensures ∙ c.self.inside.found.ok.0)) ∙ c.in-Some.ensures.some) in
+    let next : next_attachment value ≡ Some c.in-Some.part.now = subst (λ (v : AttachingValue). next_attachment v ≡ Some c.in-Some.part.now) c.self.view_is (ap (slice_get c.self.inside.parts) (sym (c.len.ensures ∙ c.self.inside.found.ok.0)) ∙ c.in-Some.ensures.some) in
     let known = ap (λ (s : StoreValue _). s.instances) c.hold.ensures.same in
     let same = ap (λ (s : StoreValue _). s.instances) c.same_octets.ensures.same in
     subst (λ (i : InstancesValue). attach_events_left c.keep.new.self c.hold.new.self.instances < attach_events_left value i) same
@@ -26,7 +26,7 @@ returns-then-alike-clause-fewer g c =
 pub returns-then-alike-clause-attaching : goal.returns-then-alike-clause-attaching
 returns-then-alike-clause-attaching g c =
     let value : AttachingValue = c.args.self.now in
-    let next : next_part value ≡ Some c.in-Some.part.now = subst (λ (v : AttachingValue). next_part v ≡ Some c.in-Some.part.now) c.self.view_is (ap (slice_get c.self.inside.parts) (sym (c.len.ensures ∙ c.self.inside.found.ok.0)) ∙ c.in-Some.ensures.some) in
+    let next : next_attachment value ≡ Some c.in-Some.part.now = subst (λ (v : AttachingValue). next_attachment v ≡ Some c.in-Some.part.now) c.self.view_is (ap (slice_get c.self.inside.parts) (sym (c.len.ensures ∙ c.self.inside.found.ok.0)) ∙ c.in-Some.ensures.some) in
     let H = g.D.Disk.history in
     let same = ap (λ (s : StoreValue _). s.instances) c.same_octets.ensures.same in
     let of_part = of_candidate value c.args.store.now c.in-Some.part.now c.args.candidate c.as_slice.result.now c.in_ok-alike.alike (H c.args.store.now.disk) c.facts.ensures.ids next c.as_slice.ensures c.requires.candidate c.if-alike.true c.in_ok-alike.ensures.alike c.requires.attaching in
@@ -43,7 +43,7 @@ returns-then-alike-clause-moves g c =
 pub returns-else-alike-clause-attaching : goal.returns-else-alike-clause-attaching
 returns-else-alike-clause-attaching g c =
     let value : AttachingValue = c.args.self.now in
-    let next : next_part value ≡ Some c.in-Some.part.now = subst (λ (v : AttachingValue). next_part v ≡ Some c.in-Some.part.now) c.self.view_is (ap (slice_get c.self.inside.parts) (sym (c.len.ensures ∙ c.self.inside.found.ok.0)) ∙ c.in-Some.ensures.some) in
+    let next : next_attachment value ≡ Some c.in-Some.part.now = subst (λ (v : AttachingValue). next_attachment v ≡ Some c.in-Some.part.now) c.self.view_is (ap (slice_get c.self.inside.parts) (sym (c.len.ensures ∙ c.self.inside.found.ok.0)) ∙ c.in-Some.ensures.some) in
     let H = g.D.Disk.history in
     let same = ap (λ (s : StoreValue _). s.instances) c.same_octets.ensures.same in
     let unlike = compared_on value c.args.store.now c.in-Some.part.now c.args.candidate c.as_slice.result.now c.in_ok-alike.alike (H c.args.store.now.disk) c.facts.ensures.ids next c.as_slice.ensures c.requires.candidate c.if-alike.false c.in_ok-alike.ensures.alike c.requires.attaching in

@@ -3,7 +3,7 @@ use Rattle.std.proofs.Common.{◌≡◌, ◌<◌, ◌≤◌, ◌+◌, ℕ, List,
 use Rattle.attach_detach.specs.declared.message.Detached.{Detached}
 use Rattle.sis_store.specs.Instances.{InstancesValue}
 use Rattle.store_core.specs.Value.{StoreValue}
-use Rattle.save_instances.specs.Attaching.{AttachingValue, IsAttaching, attach_events_left, next_part}
+use Rattle.save_instances.specs.Attaching.{AttachingValue, IsAttaching, attach_events_left, next_attachment}
 use Rattle.mdbox_base.specs.declared.entries.InstRow.{InstRow}
 use Rattle.store_core.specs.StoreInstances.{IsFirstWith}
 use Rattle.save_instances.specs.Attaching.{IsOfPart}
@@ -14,13 +14,13 @@ use Rattle.save_instances.proofs.attaching.Attaching.place.Goals as goal
 pub place_instance-requires-clause-new : goal.place_instance-requires-clause-new
 place_instance-requires-clause-new g c =
     let value : AttachingValue = c.args.self.now in
-    let next : next_part value ≡ Some c.in-Some.part.now = subst (λ (v : AttachingValue). next_part v ≡ Some c.in-Some.part.now) c.self.view_is (ap (slice_get c.self.inside.parts) (sym (c.len.ensures ∙ c.self.inside.found.ok.0)) ∙ c.in-Some.ensures.some) in
+    let next : next_attachment value ≡ Some c.in-Some.part.now = subst (λ (v : AttachingValue). next_attachment v ≡ Some c.in-Some.part.now) c.self.view_is (ap (slice_get c.self.inside.parts) (sym (c.len.ensures ∙ c.self.inside.found.ok.0)) ∙ c.in-Some.ensures.some) in
     unlike_all value c.args.store.now c.in-Some.part.now c.as_slice-octets.result.now (g.D.Disk.history c.args.store.now.disk) c.facts.ensures.ids next c.as_slice-octets.ensures c.requires.compared c.requires.attaching
 
 pub returns-clause-fewer : goal.returns-clause-fewer
 returns-clause-fewer g c =
     let value : AttachingValue = c.args.self.now in
-    let next : next_part value ≡ Some c.in-Some.part.now = subst (λ (v : AttachingValue). next_part v ≡ Some c.in-Some.part.now) c.self.view_is (ap (slice_get c.self.inside.parts) (sym (c.len.ensures ∙ c.self.inside.found.ok.0)) ∙ c.in-Some.ensures.some) in
+    let next : next_attachment value ≡ Some c.in-Some.part.now = subst (λ (v : AttachingValue). next_attachment v ≡ Some c.in-Some.part.now) c.self.view_is (ap (slice_get c.self.inside.parts) (sym (c.len.ensures ∙ c.self.inside.found.ok.0)) ∙ c.in-Some.ensures.some) in
     let known = ap (λ (s : StoreValue _). s.instances) c.in_ok-id.ensures.ok in
     found_fewer value c.keep.new.self _ c.in-Some.part.now c.args.store.now.instances c.place_instance.new.self.instances next c.keep.ensures
     (subst (λ (i : InstancesValue). length i.known ≤ length c.args.store.now.instances.known + 1) (sym known) (placed_many _ c.args.store.now.instances.known))
@@ -28,7 +28,7 @@ returns-clause-fewer g c =
 pub returns-clause-attaching : goal.returns-clause-attaching
 returns-clause-attaching g c = λ going.
     let value : AttachingValue = c.args.self.now in
-    let next : next_part value ≡ Some c.in-Some.part.now = subst (λ (v : AttachingValue). next_part v ≡ Some c.in-Some.part.now) c.self.view_is (ap (slice_get c.self.inside.parts) (sym (c.len.ensures ∙ c.self.inside.found.ok.0)) ∙ c.in-Some.ensures.some) in
+    let next : next_attachment value ≡ Some c.in-Some.part.now = subst (λ (v : AttachingValue). next_attachment v ≡ Some c.in-Some.part.now) c.self.view_is (ap (slice_get c.self.inside.parts) (sym (c.len.ensures ∙ c.self.inside.found.ok.0)) ∙ c.in-Some.ensures.some) in
     let H = g.D.Disk.history in
     let row : InstRow = record { hash = c.in-Some.part.now.hash; id = c.in_ok-id.id; size = length c.as_slice-octets.result.now } in
     let of_part : IsOfPart row c.in-Some.part.now c.place_instance.new.self.instances.known (H c.place_instance.new.self.disk) = record {
