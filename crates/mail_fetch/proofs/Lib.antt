@@ -1,11 +1,1 @@
-pub mod BodyLemmas
-pub mod FetchEventLemmas
-pub mod FetchPartLemmas
-pub mod FirstEventLemmas
-pub mod LastPieceLemmas
-pub mod OwnPinLemmas
-pub mod PieceLemmas
-pub mod RecordLemmas
-pub mod StepLemmas
-pub mod StepViewLemmas
-pub mod StoredRegionLemmas
+
