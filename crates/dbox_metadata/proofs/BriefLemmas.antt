@@ -14,7 +14,7 @@ use Rattle.mdbox_base.specs.declared.ids.Guid.{Guid}
 use Rattle.mdbox_base.specs.declared.metadata.ExtRef.{ExtRef}
 use Rattle.model_storage.specs.declared.metadata_value.Metadata.{Metadata}
 use Rattle.model_storage.specs.StorageFile.{Line, IsLine, line_text, values_of}
-use Rattle.model_storage.specs.Metadata.{IsNumberText, IsGuidText, IsOriginText, HasAtMostOne, HasAtMostOneReadable, HasReferences, IsFirstBadLine, MayFollow, FollowOneAnother, is_known_key, is_number_key, is_unknown}
+use Rattle.model_storage.specs.Metadata.{IsNumberText, IsGuidText, IsOriginText, HasAtMostOne, HasAtMostOneReadable, HasReferences, IsFirstBadLine, IsMetadataText, MayFollow, FollowOneAnother, is_known_key, is_number_key, is_unknown}
 use Rattle.model_storage.specs.References.{AreReferences}
 use Rattle.model_storage.proofs.MetadataLemmas.{follow_are_lines, no_bad_line, cut_lines}
 use Rattle.dbox_metadata.specs.BriefRead.{HasOneOrNone, HasTakenBriefly, IsBriefOf, TakesBriefly}
@@ -321,8 +321,8 @@ bad_next room text rest reader t some bad = record {
   bad = bad;
 }
 
-pub no_line_briefly : (room : ℕ) (text rest : List ℕ) (reader : BriefReader) → TakenInBrief room text rest reader → rest ≢ [] → ((line : Line) (behind : List ℕ) → IsLine line → rest ≢ line_text line ++ behind) → (brief : Brief) → IsBriefOf text brief → length brief.refs.items ≤ room → ⊥
-no_line_briefly room text rest reader t some none brief b few = no_bad_line text b.meta _ b.says (bad_next room text rest reader t some (λ line behind e may. none line behind may.spelled e))
+pub no_line_briefly : (room : ℕ) (text rest : List ℕ) (reader : BriefReader) → TakenInBrief room text rest reader → rest ≢ [] → ((line : Line) (behind : List ℕ) → IsLine line → rest ≢ line_text line ++ behind) → (meta : Metadata) → IsMetadataText text meta → length meta.refs ≤ room → ⊥
+no_line_briefly room text rest reader t some none meta says few = no_bad_line text meta _ says (bad_next room text rest reader t some (λ line behind e may. none line behind may.spelled e))
 
 are_behind : (a b : List Line) → AllByRecursion IsLine (a ++ b) → AllByRecursion IsLine b
 are_behind [] b h = h
@@ -355,26 +355,25 @@ no_number : (key : ℕ) → key ≡ 88 → IsTrue (is_number_key key) → ⊥
 no_number key e h = let k : IsTrue (is_number_key 88) = subst (λ (n : ℕ). IsTrue (is_number_key n)) e h in cc k
 
 -- The next line is refused: no metadata goes on with it but some with more references than there is room for.
-pub refused_briefly : (room : ℕ) (text rest behind : List ℕ) (line : Line) (old new : BriefReader) (answer : Bool) → TakenInBrief room text rest old → rest ≢ [] → IsNextLine rest line behind → TakesBriefly old line new answer → answer ≡ false → (brief : Brief) → IsBriefOf text brief → length brief.refs.items ≤ room → ⊥
-refused_briefly room text rest behind line old new true t some next takes denied brief b few = absurd (cc denied)
-refused_briefly room text rest behind line old new false t some next takes denied brief b few = by_key (cases_eq line.key 88)
+pub refused_briefly : (room : ℕ) (text rest behind : List ℕ) (line : Line) (old new : BriefReader) (answer : Bool) → TakenInBrief room text rest old → rest ≢ [] → IsNextLine rest line behind → TakesBriefly old line new answer → answer ≡ false → (meta : Metadata) → IsMetadataText text meta → length meta.refs ≤ room → ⊥
+refused_briefly room text rest behind line old new true t some next takes denied meta says few = absurd (cc denied)
+refused_briefly room text rest behind line old new false t some next takes denied meta says few = by_key (cases_eq line.key 88)
   where
     by_key : (line.key ≡ 88) ⊎ (line.key ≡ 88 → ⊥) → ⊥
-    by_key (inr other) = no_bad_line text b.meta _ b.says (bad_next room text rest old t some (λ found more e may.
+    by_key (inr other) = no_bad_line text meta _ says (bad_next room text rest old t some (λ found more e may.
         other (takes t.good t.taken (subst (λ (o : Line). MayFollow t.good o) (line_same found line more behind may.spelled next.fits (sym e ∙ next.spelled)) may)).0))
     by_key (inl references) =
-        let cut = cut_lines b.says.lines t.good rest b.says.are.each (follow_are_lines [] t.good t.follow) (sym b.says.are.spelled ∙ t.parts) in
+        let cut = cut_lines says.lines t.good rest says.are.each (follow_are_lines [] t.good t.follow) (sym says.are.spelled ∙ t.parts) in
         by_more cut.0 cut.1 cut.2
       where
-        by_more : (more : List Line) → b.says.lines ≡ t.good ++ more → rest ≡ flat_map line_text more → ⊥
+        by_more : (more : List Line) → says.lines ≡ t.good ++ more → rest ≡ flat_map line_text more → ⊥
         by_more [] e s = some s
         by_more (found ∷ more) e s =
-            let each : AllByRecursion IsLine (t.good ++ found ∷ more) = subst (λ (ls : List Line). AllByRecursion IsLine ls) e b.says.are.each in
+            let each : AllByRecursion IsLine (t.good ++ found ∷ more) = subst (λ (ls : List Line). AllByRecursion IsLine ls) e says.are.each in
             let same : found ≡ line = line_same found line (flat_map line_text more) behind (are_behind t.good (found ∷ more) each).0 next.fits (sym s ∙ next.spelled) in
-            let refs : HasReferences (t.good ++ line ∷ more) b.meta.refs = subst (λ (l : Line). HasReferences (t.good ++ l ∷ more) b.meta.refs) same (subst (λ (ls : List Line). HasReferences ls b.meta.refs) e b.says.say.refs) in
-            let one = the_references t.good more line b.meta.refs references refs in
-            let may : MayFollow t.good line = record { spelled = next.fits; once = λ known. subst (λ (n : ℕ). values_of n t.good ≡ []) (sym references) one.0; number = λ h. absurd (no_number line.key references h); references = λ k. (b.meta.refs, one.1) } in
-            let over = (takes t.good t.taken may).1 b.meta.refs one.1 in
+            let refs : HasReferences (t.good ++ line ∷ more) meta.refs = subst (λ (l : Line). HasReferences (t.good ++ l ∷ more) meta.refs) same (subst (λ (ls : List Line). HasReferences ls meta.refs) e says.say.refs) in
+            let one = the_references t.good more line meta.refs references refs in
+            let may : MayFollow t.good line = record { spelled = next.fits; once = λ known. subst (λ (n : ℕ). values_of n t.good ≡ []) (sym references) one.0; number = λ h. absurd (no_number line.key references h); references = λ k. (meta.refs, one.1) } in
+            let over = (takes t.good t.taken may).1 meta.refs one.1 in
             let roomy = t.roomy in
-            let same_many : length brief.refs.items ≡ length b.meta.refs = ap (λ (rs : List ExtRef). length rs) b.refs in
-            omega (arith, over, roomy, few, same_many)
+            omega (arith, over, roomy, few)

@@ -1,9 +1,10 @@
 // What metadata lines tell of where a message is kept, read without memory.
 ghost use Rattle.std.specs.Prelude.{◌≡◌, ◌≤◌, [], length, not, true, vec_capacity, IfSome, IfNone};
 ghost use Rattle.model_storage.specs.StorageFile.{IsLine};
+ghost use Rattle.model_storage.specs.Metadata.{IsMetadataText};
+ghost use Rattle.model_storage.specs.declared.metadata_value.Metadata.{Metadata};
 ghost use Rattle.dbox_metadata.specs.BriefRead.{HasTakenBriefly, TakesBriefly, IsBriefOf};
 ghost use Rattle.dbox_metadata.specs.SoFar.{meta_line};
-ghost use Rattle.dbox_metadata.specs.declared.brief.Brief.{Brief as BriefValue};
 
 use crate::key::Key;
 use crate::metadata_read::next_line;
@@ -37,7 +38,7 @@ struct BriefReader {
 pub fn read_brief(lines: &[u8], refs: Vec<ExtRef>) -> Option<Brief>
     requires empty { refs.items ≡ [] }
     ensures some { IfSome result (IsBriefOf lines.now) }
-    ensures none { IfNone result ((brief : BriefValue) → IsBriefOf lines.now brief → length brief.refs.items ≤ vec_capacity refs → ⊥) }
+    ensures none { IfNone result ((meta : Metadata) → IsMetadataText lines.now meta → length meta.refs ≤ vec_capacity refs → ⊥) }
 {
     let mut reader = BriefReader::new(refs);
     let mut rest = lines;

@@ -1,5 +1,5 @@
 -- What a fetch reads of a message: its region of a storage file, and each instance that its record names.
-use Rattle.std.specs.Prelude.{◌+◌, ◌-◌, ◌/◌, min, nat_lt, ℕ, Bool, List, [], ◌∷◌, map, filter, flat_map, sum_by, if◌then◌else◌}
+use Rattle.std.specs.Prelude.{◌≤◌, ◌+◌, ◌-◌, ◌/◌, min, nat_lt, ℕ, Bool, List, [], ◌∷◌, map, filter, flat_map, sum_by, if◌then◌else◌}
 use Rattle.disk_model.specs.Disk.{Files}
 use Rattle.disk_model.specs.declared.name.FileName.{FileName}
 use Rattle.disk_model.specs.declared.name.FileName.TheVariants.{Mail, Inst}
@@ -26,6 +26,9 @@ instance_part row = record { source = source.Instance row; offset = 0; size = ro
 
 abbrev pub has_octets : Part → Bool
 has_octets part = nat_lt 0 part.size
+
+abbrev pub HasOctets : Part → Type 0
+HasOctets part = 1 ≤ part.size
 
 -- First the region, then each instance, in order. An instance without octets isn't read.
 abbrev pub parts_of : StoredAt → List Part

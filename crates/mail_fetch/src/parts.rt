@@ -47,32 +47,34 @@ pub struct Part {
 
 /// The parts of a message: its region, and each instance. One without octets is left out.
 pub fn parts_of(alloc: Global, from: &StoredAt) -> Result<Vec<Part>, NoMemory>
-    ensures { IfOk result (λ parts. parts.items ≡ parts_of from.now) }
+    ensures parts { IfOk result (λ parts. parts.items ≡ parts_of from.now) }
+    ensures range { IfOk result (λ parts. All IsPart parts.items) }
 {
     let mut parts = Vec::new(alloc);
-    let region = Part {
-        source: Source::Mail(from.file),
-        offset: u64::from(from.offset),
-        size: from.size,
-    };
-    push_part(&mut parts, region)?;
+    push_part(&mut parts, Source::Mail(from.file), from.offset, from.size)?;
     for row in from.instances.as_slice() {
-        let instance = Part {
-            source: Source::Instance(*row),
-            offset: 0,
-            size: row.size,
-        };
-        push_part(&mut parts, instance)?;
+        push_part(&mut parts, Source::Instance(*row), 0, row.size)?;
     }
     Ok(parts)
 }
 
 /// Adds a part, if it has octets.
-fn push_part(parts: &mut Vec<Part>, part: Part) -> Result<(), NoMemory>
-    ensures { OnOk result (parts.new.items ≡ parts.old.items ++ filter has_octets (part ∷ [])) }
+fn push_part(
+    parts: &mut Vec<Part>,
+    source: Source,
+    offset: u32,
+    size: u32,
+) -> Result<(), NoMemory>
+    ensures part { OnOk result (parts.new.items ≡ parts.old.items ++ filter has_octets (record { source = source; offset = offset; size = size } ∷ [])) }
+    ensures range { OnOk result (All IsPart parts.old.items → All IsPart parts.new.items) }
 {
-    if part.size > 0 {
-        parts.push(part)?;
+    if size > 0 {
+        let offset = u64::from(offset);
+        parts.push(Part {
+            source,
+            offset,
+            size,
+        })?;
     }
     Ok(())
 }

@@ -11,7 +11,7 @@ ghost use Rattle.task_steps.specs.Step.{ended_by};
 ghost use Rattle.mail_fetch.specs.Clause.{StepsOnSafe};
 ghost use Rattle.mail_fetch.specs.Failed.{HasFailedRead};
 ghost use Rattle.mail_fetch.specs.Events.{FetchesNext, IsBegun, IsPieceRead, NoChangeFault};
-ghost use Rattle.mail_fetch.specs.Parts.{KnowsSource, pieces_left};
+ghost use Rattle.mail_fetch.specs.Parts.{KnowsSource};
 ghost use Rattle.mail_fetch.specs.Stages.{IsAtFetch};
 ghost use Rattle.mail_fetch.specs.Task.{HasPieceLeft, KnowsPinned, events_left, fetch_did, seen_with_pins};
 ghost use Rattle.mail_fetch.specs.declared.task.FetchStage.TheVariants as stage;
@@ -160,7 +160,7 @@ fn did_begin(answer: &Progress) -> Did
 
 /// Reads the next piece of a message, and answers which event is next.
 fn read_piece<D: Disk>(store: &mut Store<D>, region: Region) -> FetchStage
-    requires left { 0 < pieces_left region.left }
+    requires left { HasPieceLeft (stage.Reading region) }
     requires known { All (λ part. KnowsSource store.old.instances.known part.source) region.left }
     ensures read { IsPieceRead region result (D.history store.old.disk) (D.faults store.old.disk) (D.faults store.new.disk) }
     ensures left { HasPieceLeft result }
