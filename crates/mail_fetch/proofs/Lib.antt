@@ -1,1 +1,4 @@
-
+pub mod BodyLemmas
+pub mod MessageLemmas
+pub mod PartLemmas
+pub mod PieceLemmas

@@ -147,6 +147,17 @@ read_all parts left next len e each same = (
     by_place (inr le) empty = le
     by_place (inl lt) empty = absurd (let h = length-drop next parts in let k = ap (λ (ps : List Part). length ps) empty in omega (arith, h, k, lt, e))
 
+-- The parts behind the first piece, as they stand in a vector that was changed through its slice.
+pub passed : (old new there left : List Part) (len next after : ℕ) → len ≡ length old → there ≡ old → length new ≡ length there → drop after new ≡ left_after (drop next there) → drop next old ≡ left → drop after (take len (new ++ drop (length new) old)) ≡ left_after left
+passed old new there left len next after e same long goes at =
+    ap (drop after) whole ∙ (goes ∙ (ap (λ (ps : List Part). left_after (drop next ps)) same ∙ ap left_after at))
+  where
+    whole : take len (new ++ drop (length new) old) ≡ new
+    whole =
+        let many : length there ≡ length old = ap (λ (ps : List Part). length ps) same in
+        ap (λ (ps : List Part). take len (new ++ ps)) (drop_past (length new) old (omega (arith, long, many)))
+        ∙ (ap (take len) (append-nil new) ∙ take_all len new (omega (arith, e, long, many)))
+
 -- ---- all parts of a message
 
 filter_one : (size : ℕ) (p : Part) (ps : List Part) → p.size ≡ size → (filter has_octets (p ∷ ps) ≡ p ∷ filter has_octets ps) ⊎ ((size ≡ 0) × (filter has_octets (p ∷ ps) ≡ filter has_octets ps))
@@ -179,16 +190,16 @@ total_of_parts from = sum_of_parts size_of_part (λ p e. e) from
 pub pieces_of_parts : (from : StoredAt) → pieces_left (parts_of from) ≡ pieces_in from.size + sum_by (λ row. pieces_in row.size) from.instances
 pieces_of_parts from = sum_of_parts (λ p. pieces_in p.size) (λ p e. ap pieces_in e) from
 
-pub octets_of_parts : (from : StoredAt) → All HasOctets (parts_of from)
-octets_of_parts from = kept (region_part from ∷ map instance_part from.instances)
+octets_kept : (ps : List Part) → All HasOctets (filter has_octets ps)
+octets_kept [] = All-nil HasOctets
+octets_kept (p ∷ ps) = by_size (cases_lt 0 p.size) (octets_kept ps)
   where
-    kept : (ps : List Part) → All HasOctets (filter has_octets ps)
-    kept [] = All-nil HasOctets
-    kept (p ∷ ps) = by_size (cases_lt 0 p.size)
-      where
-        by_size : (0 < p.size) ⊎ (p.size ≤ 0) → All HasOctets (filter has_octets (p ∷ ps))
-        by_size (inl some) = subst (All HasOctets) (sym (ap (λ (b : Bool). cond b (p ∷ filter has_octets ps) (filter has_octets ps)) (less 0 p.size some))) (All-cons HasOctets p (filter has_octets ps) (omega (arith, some)) (kept ps))
-        by_size (inr none) = subst (All HasOctets) (sym (ap (λ (b : Bool). cond b (p ∷ filter has_octets ps) (filter has_octets ps)) (not_less 0 p.size none))) (kept ps)
+    by_size : (0 < p.size) ⊎ (p.size ≤ 0) → All HasOctets (filter has_octets ps) → All HasOctets (filter has_octets (p ∷ ps))
+    by_size (inl some) rest = subst (All HasOctets) (sym (ap (λ (b : Bool). cond b (p ∷ filter has_octets ps) (filter has_octets ps)) (less 0 p.size some))) (All-cons HasOctets p (filter has_octets ps) (omega (arith, some)) rest)
+    by_size (inr none) rest = subst (All HasOctets) (sym (ap (λ (b : Bool). cond b (p ∷ filter has_octets ps) (filter has_octets ps)) (not_less 0 p.size none))) rest
+
+pub octets_of_parts : (from : StoredAt) → All HasOctets (parts_of from)
+octets_of_parts from = octets_kept (region_part from ∷ map instance_part from.instances)
 
 -- ---- what files have of them
 
