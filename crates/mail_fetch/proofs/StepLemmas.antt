@@ -1,0 +1,443 @@
+-- The clause of a fetch's step, event by event.
+use Rattle.std.proofs.Common.{◌≡◌, ◌≤◌, ◌<◌, ◌+◌, ◌*◌, ◌/◌, ℕ, Bool, true, false, cond, List, [], ◌∷◌, ◌++◌, length, Option, Some, None, refl, sym, ◌∙◌, ap, subst, arith, inl, inr, length-append}
+use Rattle.std.specs.Prelude.{All, ◌⊎◌, is_some, sum_by, if◌then◌else◌}
+use Rattle.std.specs.List.{list_any}
+use Rattle.std.specs.Option.{option_map_or, option_or}
+use Rattle.std.proofs.lemmas.List.Elements.{All-nil, All-push}
+use Rattle.std.proofs.lemmas.Bool.{eq-eqb, ne_eqb, cases_lt}
+use Rattle.std.proofs.lemmas.Nat.{div-add-mod'}
+use Rattle.disk_model.specs.Disk.{DiskState, History, Faults, Files, IfTold, IsIdle, told_calls}
+use Rattle.disk_model.proofs.IdleLemmas.{idle-begins}
+use Rattle.mdbox_base.specs.Streams.{Rose}
+use Rattle.mdbox_base.specs.declared.entries.InstRow.{InstRow}
+use Rattle.mdbox_base.specs.declared.entries.MapEntry.{MapEntry}
+use Rattle.mdbox_base.specs.declared.ids.Uid.{Uid}
+use Rattle.mdbox_base.specs.declared.progress.Did.{Did}
+use Rattle.mdbox_base.specs.declared.progress.Did.TheVariants as did
+use Rattle.mdbox_base.specs.declared.progress.Progress.{Progress}
+use Rattle.mdbox_base.specs.declared.progress.Progress.TheVariants as progress
+use Rattle.mdbox_base.specs.declared.replies.ListRow.{ListRow}
+use Rattle.mdbox_base.specs.declared.replies.Refusal.{Refusal}
+use Rattle.mdbox_base.specs.declared.replies.Refusal.TheVariants as refusal
+use Rattle.mdbox_base.specs.declared.replies.Reply.{Reply}
+use Rattle.mdbox_base.specs.declared.replies.Reply.TheVariants as reply
+use Rattle.mdbox_base.specs.declared.requests.Request.TheVariants as request
+use Rattle.mdbox_base.specs.declared.script.Half.TheVariants as half
+use Rattle.model_lists.specs.Lists.{Lists}
+use Rattle.model_meaning.specs.BoxMeaning.{LogRow, BoxMeaning, row_at}
+use Rattle.model_meaning.specs.MapMeaning.{MapRecord, MapMeaning, map_meaning, named_instances, record_of}
+use Rattle.model_meaning.specs.Sound.{IsSoundMap}
+use Rattle.model_meaning.proofs.MapSoundLemmas.{map_sound}
+use Rattle.model_store.specs.Listing.{ShowLists}
+use Rattle.model_store.specs.Safe.{IsThereWhole}
+use Rattle.model_store.specs.Settled.{files_of}
+use Rattle.model_store.specs.Stands.{AreMailboxes}
+use Rattle.model_store.proofs.StandsLemmas.{map_same}
+use Rattle.list_machine.specs.Run.{First, ReadsPiece, Unpins, RemovesFile, Pin, RunEvent, Run, and_then, own_events, is_unpinning, has_unpinned}
+use Rattle.list_machine.specs.Machine.{PartAnswers, is_step}
+use Rattle.journal.specs.Journal.{refusal_in, IsReplyOf}
+use Rattle.journal.specs.Events.{Around, behind_event, piece_left, leaves_doomed, last_refusal, pieces_to_read}
+use Rattle.journal.proofs.OwnEventLemmas.{own_more, own_other}
+use Rattle.store_core.specs.Running.{IsStore}
+use Rattle.store_core.specs.Value.{StoreValue, indexes_of, list_named}
+use Rattle.task_steps.specs.Step.{Seen, ShowsSeen, HasComeTo, IsKept, ended_by}
+use Rattle.task_steps.proofs.SeenLemmas.{pins_still, doomed_still, not_begun_stays}
+use Rattle.task_steps.proofs.OneEventLemmas.{when_stopped, memory_is, not_reading, not_reading_memory, some_given, never_more}
+use Rattle.mail_fetch.specs.Clause.{ReadsSafe, StepsOnSafe}
+use Rattle.mail_fetch.specs.Events.{fetch_refusal, IsBegun, IsStoredBy, IsPinned, IsPieceRead, next_piece, with_piece, NoChangeFault}
+use Rattle.mail_fetch.specs.Parts.{HasOctets, left_after, parts_of, pieces_left}
+use Rattle.mail_fetch.specs.Region.{stored_at, RegionValue, unread, IsReplyFor, damage_at}
+use Rattle.mail_fetch.specs.Stages.{ReadPiece, HasPinned, HasReadAllBut, IsPieceRefusal, UnpinsNext, IsFrontOfStored, Reading, IsTrueReply, IsAtFetch}
+use Rattle.mail_fetch.specs.Task.{HasPieceLeft, fetch_did, refusing_did, one_pin, seen_with_pins}
+use Rattle.mail_fetch.specs.declared.parts.StoredAt.{StoredAt}
+use Rattle.mail_fetch.specs.declared.task.FetchStage.{FetchStage}
+use Rattle.mail_fetch.specs.declared.task.FetchStage.TheVariants as stage
+use Rattle.mail_fetch.proofs.InstanceLemmas.{named_each, pieces_told}
+use Rattle.mail_fetch.proofs.OwnPinLemmas.{pins_begin, pins_end}
+use Rattle.mail_fetch.proofs.PartLemmas.{octets_after, pieces_after}
+use Rattle.mail_fetch.proofs.FetchPartLemmas.{last_with, next_reads, next_unpins, unpins_by, holds_pin, none_doomed}
+use Rattle.mail_fetch.proofs.FetchEventLemmas.{behind_reading, DidSo, stands_so, did_refuse, did_nothing, pin_event, did_pin, fetch_event, IsLateRefusal, piece_is_late, unpin_is_late, did_late}
+use Rattle.mail_fetch.proofs.RecordLemmas.{shown_by, no_mailbox, no_message, is_fetched, by_guid, stored_by}
+use Rattle.mail_fetch.proofs.StoredRegionLemmas.{front_more, true_reply}
+
+fall : (b : Bool) → b ≡ true → b ≡ false → ⊥
+fall b t f = let k : true ≡ false = sym t ∙ f in cc k
+
+-- ---- what is known of an open store
+
+-- the map of an open store is sound
+pub store_is_sound : {D : Type 0} → (history : Option History) (store : StoreValue D) → IsStore history store → IsSoundMap store.map
+store_is_sound history store s = subst IsSoundMap (sym s.map_is) (map_sound store.map.store s.entries s.good.map_entries.1 s.good.map_entries.0)
+
+-- the files stand for the lists with this map, and have each instance that it names
+pub record HaveMessages (m : MapMeaning) (lists : Lists) (files : Files) : Type 0 where
+  pub boxes : AreMailboxes files m m.boxes lists
+  pub instances : All (IsThereWhole files) (named_instances m)
+
+-- so do the files of a store that runs, with its map
+pub boxes_safe : {D : Type 0} → (history : Option History) (store : StoreValue D) (lists : Lists) → IsStore history store → store.stopped ≡ false → ReadsSafe lists history → Reading (HaveMessages store.map lists) history
+boxes_safe None store lists s runs safe = safe
+boxes_safe (Some h) store lists s runs safe =
+    let running = s.running runs in
+    let opens = running.opens in
+    let same = map_same (files_of h.now) safe.store store.map.store safe.entries s.entries safe.by.stands.map_log opens.passed.map_log in
+    let here : HaveMessages (map_meaning safe.store safe.entries) lists (files_of h.now) = record { boxes = safe.by.stands.mailboxes; instances = safe.by.has_all.instances } in
+    let there : HaveMessages (map_meaning store.map.store s.entries) lists (files_of h.now) =
+    subst (λ (id : List ℕ). HaveMessages (map_meaning id s.entries) lists (files_of h.now)) same.0
+    (subst (λ (es : List MapEntry). HaveMessages (map_meaning safe.store es) lists (files_of h.now)) same.1 here) in
+    subst (λ (m : MapMeaning). HaveMessages m lists (files_of h.now)) (sym s.map_is) there
+
+-- ---- a store that is stopped
+
+stopped_reply : (said : List Reply) (name : List ℕ) (uid : Uid) (given : Reply) → Some (reply.Refused refusal.Stopped) ≡ Some given → IsReplyOf (request.Fetch name uid) said given
+stopped_reply said name uid given e = subst (λ (r : Reply). IsReplyOf (request.Fetch name uid) said r) (let same : reply.Refused refusal.Stopped ≡ given = cc e in same) tt
+
+pub stopped_steps : {D : Type 0} → (around after : Around) (others : ℕ → ℕ) (name : List ℕ) (uid : Uid) (now : FetchStage) (store : StoreValue D) (history : Option History) (faults : Faults) → HasPieceLeft now → store.stopped ≡ true
+    → StepsOnSafe (IsAtFetch now (seen_with_pins others now store history faults)) (IsAtFetch now (seen_with_pins others now store history faults)) around after (request.Fetch name uid) (seen_with_pins others now store history faults) (seen_with_pins others now store history faults) did.Quiet (Some (reply.Refused refusal.Stopped))
+stopped_steps around after others name uid stage.First store history faults left stopped = λ run lane place said lists come shows safe stood. (
+  did_nothing around after run lane place said name uid lists (seen_with_pins others stage.First store history faults) refusal.Stopped come shows stood refl tt not_reading (when_stopped store.stopped stopped),
+  λ e. absurd (never_more _ e),
+)
+stopped_steps around after others name uid (stage.Reading region) store history faults left stopped = λ run lane place said lists come shows safe stood.
+    let seen = seen_with_pins others (stage.Reading region) store history faults in (
+      (did_late around after run lane place said name uid lists seen history faults seen.pins ReadsPiece (Some refusal.Stopped) (Some (reply.Refused refusal.Stopped)) (piece_is_late name uid) come shows (idle-begins history) (record { reads = omega arith; changes = refl })
+          (next_reads around name uid run place (pieces_left region.left) region.from stood.0 left.0) (refl, λ e. absurd (let k : refusal.Stopped ≡ refusal.NoMemory = e in cc k))
+          (record { 0 = λ e. refl; 1 = λ e f. some_given (reply.Refused refusal.Stopped) f })
+          (last_with (own_events place run) (fetch_event ReadsPiece lane place (Some refusal.Stopped) (Some (reply.Refused refusal.Stopped)) (told_calls history)))
+          (stopped_reply said name uid) (when_stopped store.stopped stopped) (λ e. refl) (λ e. absurd (let k : refusal.Stopped ≡ refusal.ReadFault = cc e in cc k))
+          (λ file. pins_still run (fetch_event ReadsPiece lane place (Some refusal.Stopped) (Some (reply.Refused refusal.Stopped)) (told_calls history)) file refl refl ∙ come.pins file)).so,
+      λ e. absurd (never_more _ e),
+    )
+stopped_steps around after others name uid (stage.Unpinning from given) store history faults left stopped = λ run lane place said lists come shows safe stood. absurd (fall store.stopped stopped stood.2)
+
+-- ---- the first event
+
+-- the clause for the first event, of a store that stays as it is
+abbrev FirstClause : {D : Type 0} → Around → Around → (ℕ → ℕ) → List ℕ → Uid → StoreValue D → Option History → Faults → FetchStage → Progress → Did → Type 0
+FirstClause around after others name uid store history faults next answer how =
+    StepsOnSafe (IsAtFetch stage.First (seen_with_pins others stage.First store history faults)) (IsAtFetch next (seen_with_pins others next store history faults)) around after (request.Fetch name uid) (seen_with_pins others stage.First store history faults)
+    (seen_with_pins others next store history faults) how (ended_by answer)
+
+first_as : {D : Type 0} → (around after : Around) (others : ℕ → ℕ) (name : List ℕ) (uid : Uid) (store : StoreValue D) (history : Option History) (faults : Faults) (a b : FetchStage) (p q : Progress) (c d : Did) → b ≡ a → q ≡ p → d ≡ c
+    → FirstClause around after others name uid store history faults a p c → FirstClause around after others name uid store history faults b q d
+first_as around after others name uid store history faults a b p q c d stages answers hows h =
+    subst (λ (n : FetchStage). FirstClause around after others name uid store history faults n q d) (sym stages)
+    (subst (λ (n : Progress). FirstClause around after others name uid store history faults a n d) (sym answers) (subst (λ (n : Did). FirstClause around after others name uid store history faults a p n) (sym hows) h))
+
+first_refused : {D : Type 0} → (around after : Around) (others : ℕ → ℕ) (name : List ℕ) (uid : Uid) (store : StoreValue D) (history : Option History) (faults : Faults) (why : Refusal) → is_step why ≡ true → IsReplyOf (request.Fetch name uid) (reply.Refused why ∷ []) (reply.Refused why) → store.stopped ≡ false
+    → ((run : Run) (event : RunEvent) (lists : Lists) → ShowLists store.map.boxes (indexes_of store.boxes) lists → PartAnswers run event lists (request.Fetch name uid) First (reply.Refused why) lists)
+    → FirstClause around after others name uid store history faults stage.First (progress.Done (reply.Refused why)) (did.Step half.Whole)
+first_refused around after others name uid store history faults why step is runs answers = λ run lane place said lists come shows safe stood. (
+  did_refuse around after run lane place said name uid lists (seen_with_pins others stage.First store history faults) why come shows stood step is runs (λ event. answers run event lists shows.1),
+  λ e. absurd (never_more _ e),
+)
+
+-- no memory
+first_memory : {D : Type 0} → (around after : Around) (others : ℕ → ℕ) (name : List ℕ) (uid : Uid) (store : StoreValue D) (history : Option History) (faults : Faults) → store.stopped ≡ false → FirstClause around after others name uid store history faults stage.First (progress.Done (reply.Refused refusal.NoMemory)) did.Quiet
+first_memory around after others name uid store history faults runs = λ run lane place said lists come shows safe stood. (
+  did_nothing around after run lane place said name uid lists (seen_with_pins others stage.First store history faults) refusal.NoMemory come shows stood refl refl not_reading_memory (memory_is store.stopped runs),
+  λ e. absurd (never_more _ e),
+)
+
+-- pinned
+abbrev one_pinned_for : ℕ → ℕ → List Pin
+one_pinned_for file pieces = record { file = file; pieces = pieces } ∷ []
+
+none_read : (n : ℕ) → length {A = RunEvent} [] + n ≡ n
+none_read n = omega arith
+
+reading_as : (P Q : Files → Type 0) (h : Option History) → ((files : Files) → P files → Q files) → Reading P h → Reading Q h
+reading_as P Q None f p = absurd p
+reading_as P Q (Some h) f p = f (files_of h.now) p
+
+first_pinned : {D : Type 0} → (around after : Around) (others : ℕ → ℕ) (name : List ℕ) (uid : Uid) (store : StoreValue D) (history : Option History) (faults : Faults) (row : LogRow) (entry : MapRecord) → IsStore history store → store.stopped ≡ false → IsStoredBy name uid.0 store row entry
+    → FirstClause around after others name uid store history faults (stage.Reading (unread (stored_at row entry))) progress.More (did.Step half.Whole)
+first_pinned around after others name uid store history faults row entry is runs stored = λ run lane place said lists come shows safe stood.
+    let seen = seen_with_pins others stage.First store history faults in
+    let shown = shown_by store.map.boxes (indexes_of store.boxes) lists name uid.0 stored.mailbox row shows.1 stored.named stored.listed in
+    let guid : row.guid ≡ shown.message.guid = ap (λ (r : ListRow). r.guid.0) shown.same in
+    let found : record_of store.map shown.message.guid ≡ Some entry = by_guid store.map row.map_uid entry shown.message.guid (store_is_sound history store is) stored.stored (stored.same ∙ guid) in
+    let event = pin_event lane place entry.file (pieces_to_read entry) (told_calls history) in
+    let unpinned : has_unpinned place run ≡ false = ap (λ (es : List RunEvent). list_any is_unpinning es) stood.0 in
+    stands_so around after run lane place said (request.Fetch name uid) lists seen (seen_with_pins others (stage.Reading (unread (stored_at row entry))) store history faults) (did.Step half.Whole) None event (Some (reply.Fetched shown.message.octets))
+    (IsAtFetch (stage.Reading (unread (stored_at row entry))) (seen_with_pins others (stage.Reading (unread (stored_at row entry))) store history faults))
+    (did_pin around after run lane place said name uid lists seen history faults (λ file. others file + one_pin entry.file file) entry shown.message.octets come shows stood runs (idle-begins history) (record { reads = omega arith; changes = refl })
+    (shown.message, shown.there, ap (λ (m : MapMeaning). record_of m shown.message.guid) come.come.map_is ∙ found)
+    (λ e. is_fetched run e store.map.boxes (indexes_of store.boxes) lists name uid stored.mailbox row shows.1 stored.named shown)
+    (λ file. let a = pins_begin run event entry.file (pieces_to_read entry) file refl unpinned refl in let b = come.pins file in omega (arith, a, b)))
+    (λ goes_on. (
+      (
+        [],
+        record {
+          pin = event;
+          own_are = own_more place run event (eq-eqb place place refl) ∙ ap (λ (es : List RunEvent). es ++ event ∷ []) stood.0;
+          part = refl;
+          unrefused = refl;
+          pins = ap (λ (n : ℕ). one_pinned_for entry.file n) (sym (pieces_told row entry));
+        },
+        All-nil (ReadPiece None),
+        none_read (pieces_left (parts_of (stored_at row entry))),
+      ),
+      (
+        shown.message.octets,
+        ap (λ (s : List Reply). s ++ reply.Fetched shown.message.octets ∷ []) stood.1,
+        λ runs_now. reading_as (HaveMessages store.map lists) (IsFrontOfStored (unread (stored_at row entry)) shown.message.octets) history (λ files there. record {
+          row = row;
+          entry = entry;
+          from = refl;
+          listed = sym (ap (λ (r : ListRow). r.size) shown.same);
+          stores = stored_by files store.map store.map.boxes lists name uid.0 shown.message entry (store_is_sound history store is) there.boxes shown.there found;
+          sizes = named_each (IsThereWhole files) store.map row.map_uid entry stored.stored there.instances;
+          front = refl;
+        }) (boxes_safe history store lists is runs (safe runs)),
+      ),
+    ))
+
+-- The first event of a store that isn't stopped.
+pub begin_steps : {D : Type 0} → (around after : Around) (others : ℕ → ℕ) (name : List ℕ) (uid : Uid) (store : StoreValue D) (history : Option History) (faults : Faults) (next : FetchStage) (answer : Progress) (how : Did) → IsStore history store → store.stopped ≡ false → IsBegun name uid.0 store next answer → how ≡ fetch_did stage.First answer
+    → FirstClause around after others name uid store history faults next answer how
+begin_steps around after others name uid store history faults next answer how is runs b hows = by_box (list_named store name) refl
+  where
+    done : (why : Refusal) → (answer ≡ progress.Done (reply.Refused why)) × (next ≡ stage.First) → FirstClause around after others name uid store history faults stage.First (progress.Done (reply.Refused why)) (refusing_did why) → FirstClause around after others name uid store history faults next answer how
+    done why e h = first_as around after others name uid store history faults stage.First next (progress.Done (reply.Refused why)) answer (refusing_did why) how e.1 e.0 (hows ∙ ap (fetch_did stage.First) e.0) h
+
+    refusal_is : (o : Option BoxMeaning) → list_named store name ≡ o → fetch_refusal name uid.0 store ≡ option_map_or (λ m. if is_some (row_at m uid.0) then None else Some refusal.NoMessage) o (Some refusal.NoMailbox)
+    refusal_is o e = ap (λ (t : Bool). cond t (Some refusal.Stopped) (option_map_or (λ (m : BoxMeaning). if is_some (row_at m uid.0) then None else Some refusal.NoMessage) (list_named store name) (Some refusal.NoMailbox))) runs
+        ∙ ap (λ (p : Option BoxMeaning). option_map_or (λ (m : BoxMeaning). if is_some (row_at m uid.0) then None else Some refusal.NoMessage) p (Some refusal.NoMailbox)) e
+
+    by_row : (m : BoxMeaning) → list_named store name ≡ Some m → (r : Option LogRow) → row_at m uid.0 ≡ r → FirstClause around after others name uid store history faults next answer how
+    by_row m e None none =
+        done refusal.NoMessage (b.refused refusal.NoMessage (refusal_is (Some m) e ∙ ap (λ (r : Option LogRow). if is_some r then None else Some refusal.NoMessage) none))
+        (first_refused around after others name uid store history faults refusal.NoMessage refl refl runs (λ run event lists shows. no_message run event store.map.boxes (indexes_of store.boxes) lists name uid m shows e none))
+    by_row m e (Some row) found = by_case (b.begun (refusal_is (Some m) e ∙ ap (λ (r : Option LogRow). if is_some r then None else Some refusal.NoMessage) found))
+      where
+        by_case : ((answer ≡ progress.More) × ((region : RegionValue) × IsPinned name uid.0 store region × (next ≡ stage.Reading region))) ⊎ ((answer ≡ progress.Done (reply.Refused refusal.NoMemory)) × (next ≡ stage.First)) → FirstClause around after others name uid store history faults next answer how
+        by_case (inl (more, (region, (listed, entry, stored, region_is), next_is))) =
+            first_as around after others name uid store history faults (stage.Reading (unread (stored_at listed entry))) next progress.More answer (did.Step half.Whole) how (next_is ∙ ap stage.Reading region_is) more (hows ∙ ap (fetch_did stage.First) more)
+            (first_pinned around after others name uid store history faults listed entry is runs stored)
+        by_case (inr none) = done refusal.NoMemory none (first_memory around after others name uid store history faults runs)
+
+    by_box : (o : Option BoxMeaning) → list_named store name ≡ o → FirstClause around after others name uid store history faults next answer how
+    by_box None e =
+        done refusal.NoMailbox (b.refused refusal.NoMailbox (refusal_is None e))
+        (first_refused around after others name uid store history faults refusal.NoMailbox refl refl runs (λ run event lists shows. no_mailbox run event store.map.boxes (indexes_of store.boxes) lists name uid shows e))
+    by_box (Some m) e = by_row m e (row_at m uid.0) refl
+
+-- ---- a piece
+
+never_none : (b : Bool) → (if b then Some ReadsPiece else Some Unpins) ≡ None → ⊥
+never_none true e = cc e
+never_none false e = cc e
+
+no_reply : (r : Reply) → None ≡ Some r → ⊥
+no_reply r e = cc e
+
+-- an event that reads isn't refused, or by what the request goes on behind
+abbrev IsPieceRefused : Option Refusal → Type 0
+IsPieceRefused None = Unit {0}
+IsPieceRefused (Some why) = IsPieceRefusal why
+
+piece_late : (refused : Option Refusal) → IsPieceRefused refused → IsLateRefusal refused
+piece_late None h = tt
+piece_late (Some refusal.ReadFault) h = (refl, λ e. let k : refusal.ReadFault ≡ refusal.NoMemory = e in cc k)
+piece_late (Some (refusal.Damaged file offset)) h = (refl, λ e. let k : refusal.Damaged file offset ≡ refusal.NoMemory = e in cc k)
+piece_late (Some refusal.NoMailbox) h = absurd h
+piece_late (Some refusal.Exists) h = absurd h
+piece_late (Some refusal.NoMessage) h = absurd h
+piece_late (Some (refusal.TooManyCopies n)) h = absurd h
+piece_late (Some (refusal.MailboxFull n)) h = absurd h
+piece_late (Some (refusal.TooManyMailboxes n)) h = absurd h
+piece_late (Some (refusal.StoreFull n)) h = absurd h
+piece_late (Some refusal.NoMemory) h = absurd h
+piece_late (Some refusal.Stopped) h = absurd h
+
+goes_on_behind : (after : Around) (run : Run) (name : List ℕ) (uid : Uid) (lane place : ℕ) (refused : Option Refusal) (calls : ℕ) → IsPieceRefused refused
+    → behind_event after (and_then run (fetch_event ReadsPiece lane place refused None calls)) (request.Fetch name uid) (fetch_event ReadsPiece lane place refused None calls) refused ≡ None → ⊥
+goes_on_behind after run name uid lane place None calls h e = never_none (piece_left place (and_then run (fetch_event ReadsPiece lane place None None calls))) e
+goes_on_behind after run name uid lane place (Some refusal.ReadFault) calls h e = let k : Some Unpins ≡ None = e in cc k
+goes_on_behind after run name uid lane place (Some (refusal.Damaged file offset)) calls h e = let k : Some Unpins ≡ None = e in cc k
+goes_on_behind after run name uid lane place (Some refusal.NoMailbox) calls h e = absurd h
+goes_on_behind after run name uid lane place (Some refusal.Exists) calls h e = absurd h
+goes_on_behind after run name uid lane place (Some refusal.NoMessage) calls h e = absurd h
+goes_on_behind after run name uid lane place (Some (refusal.TooManyCopies n)) calls h e = absurd h
+goes_on_behind after run name uid lane place (Some (refusal.MailboxFull n)) calls h e = absurd h
+goes_on_behind after run name uid lane place (Some (refusal.TooManyMailboxes n)) calls h e = absurd h
+goes_on_behind after run name uid lane place (Some (refusal.StoreFull n)) calls h e = absurd h
+goes_on_behind after run name uid lane place (Some refusal.NoMemory) calls h e = absurd h
+goes_on_behind after run name uid lane place (Some refusal.Stopped) calls h e = absurd h
+
+read_did : (around after : Around) (run : Run) (lane place : ℕ) (said : List Reply) (name : List ℕ) (uid : Uid) (lists : Lists) (old : Seen) (history : Option History) (faults : Faults) (region : RegionValue) (refused : Option Refusal) → HasComeTo run old → ShowsSeen old lists → IsIdle old.history history
+    → NoChangeFault old.faults faults → old.stopped ≡ false → HasReadAllBut region.from (pieces_left region.left) (own_events place run) → 0 < pieces_left region.left → IsPieceRefused refused → (refused ≡ Some refusal.ReadFault → Rose old.faults.reads faults.reads)
+    → DidSo around after run lane place said (request.Fetch name uid) lists old (behind_reading old history faults old.pins) did.Quiet None (fetch_event ReadsPiece lane place refused None (told_calls history)) None
+read_did around after run lane place said name uid lists old history faults region refused come shows idle none runs read left may rose =
+    did_late around after run lane place said name uid lists old history faults old.pins ReadsPiece refused None (piece_is_late name uid) come shows idle none (next_reads around name uid run place (pieces_left region.left) region.from read left) (piece_late refused may)
+    (record { 0 = λ h. absurd (h refl); 1 = λ e. absurd (goes_on_behind after run name uid lane place refused (told_calls history) may e) }) tt (λ given e. absurd (no_reply given e))
+    (record { 0 = λ e. absurd (no_reply (reply.Refused refusal.Stopped) e); 1 = λ e. absurd (fall old.stopped e runs) }) (λ e. absurd (fall old.stopped e runs)) rose
+    (λ file. pins_still run (fetch_event ReadsPiece lane place refused None (told_calls history)) file refl refl ∙ come.pins file)
+
+-- its own events with one more
+one_piece_more : (from : StoredAt) (own behind : List RunEvent) (event : RunEvent) (more : List RunEvent) → HasPinned from own behind → more ≡ own ++ event ∷ [] → HasPinned from more (behind ++ event ∷ [])
+one_piece_more from own behind event more h e = record { pin = h.pin; own_are = e ∙ ap (λ (es : List RunEvent). es ++ event ∷ []) h.own_are; part = h.part; unrefused = h.unrefused; pins = h.pins }
+
+-- one piece more is read, and one less is left
+count_more : (xs : List RunEvent) (x : RunEvent) (left after all : ℕ) → length xs + left ≡ all → after + 1 ≡ left → length (xs ++ x ∷ []) + after ≡ all
+count_more xs x left after all e less = let h = length-append xs (x ∷ []) in omega (arith, h, e, less)
+
+-- what was read with one piece more, on a disk that has not changed
+front_on : (region : RegionValue) (octets piece : List ℕ) (old new : Option History) → IsIdle old new → IfTold old (λ disk. piece ≡ next_piece region disk) → Reading (IsFrontOfStored region octets) old → Reading (IsFrontOfStored (with_piece region piece) octets) new
+front_on region octets piece None new idle told f = absurd f
+front_on region octets piece (Some old) None idle told f = absurd idle.same
+front_on region octets piece (Some old) (Some new) idle told f = subst (λ (d : DiskState). IsFrontOfStored (with_piece region piece) octets (files_of d)) (sym idle.same) (front_more region octets piece old.now f told)
+
+true_on : (region : RegionValue) (octets : List ℕ) (history : Option History) (given : Reply) → Reading (IsFrontOfStored region octets) history → pieces_left region.left ≡ 0 → IsReplyFor region.from region.octets given → IsTrueReply octets given
+true_on region octets None given f none is = absurd f
+true_on region octets (Some h) given f none is = true_reply region octets (files_of h.now) given f none is
+
+abbrev PieceClause : {D : Type 0} → Around → Around → (ℕ → ℕ) → List ℕ → Uid → RegionValue → StoreValue D → Option History → Faults → StoreValue D → Option History → Faults → FetchStage → Type 0
+PieceClause around after others name uid region store history faults new then_history then_faults next =
+    StepsOnSafe (IsAtFetch (stage.Reading region) (seen_with_pins others (stage.Reading region) store history faults)) (IsAtFetch next (seen_with_pins others next new then_history then_faults)) around after (request.Fetch name uid) (seen_with_pins others (stage.Reading region) store history faults)
+    (seen_with_pins others next new then_history then_faults) did.Quiet None
+
+-- a piece behind which others are read
+piece_more : {D : Type 0} → (around after : Around) (others : ℕ → ℕ) (name : List ℕ) (uid : Uid) (region : RegionValue) (store : StoreValue D) (disk : D) (history then_history : Option History) (faults then_faults : Faults) (piece : List ℕ) → HasPieceLeft (stage.Reading region) → store.stopped ≡ false → IsIdle history then_history
+    → NoChangeFault faults then_faults → IfTold history (λ d. piece ≡ next_piece region d) → PieceClause around after others name uid region store history faults (record store { disk = disk }) then_history then_faults (stage.Reading (with_piece region piece))
+piece_more around after others name uid region store disk history then_history faults then_faults piece left runs idle none told = λ run lane place said lists come shows safe stood.
+    let seen = seen_with_pins others (stage.Reading region) store history faults in
+    let new = seen_with_pins others (stage.Reading (with_piece region piece)) (record store { disk = disk }) then_history then_faults in
+    let event = fetch_event ReadsPiece lane place None None (told_calls then_history) in
+    stands_so around after run lane place said (request.Fetch name uid) lists seen new did.Quiet None event None (IsAtFetch (stage.Reading (with_piece region piece)) new)
+    (read_did around after run lane place said name uid lists seen then_history then_faults region None come shows idle none runs stood.0 left.0 tt (λ e. absurd (let k : None ≡ Some refusal.ReadFault = e in cc k)))
+    (λ goes_on. (
+      (
+        stood.0.0 ++ event ∷ [],
+        one_piece_more region.from (own_events place run) stood.0.0 event (own_events place (and_then run event)) stood.0.1 (own_more place run event (eq-eqb place place refl)),
+        All-push (ReadPiece None) stood.0.0 event stood.0.2 (record { part = refl; pinned = refl; refused_is = refl }),
+        count_more stood.0.0 event (pieces_left region.left) (pieces_left (left_after region.left)) (pieces_left (parts_of region.from)) stood.0.3 (pieces_after region.left left.1 left.0),
+      ),
+      (stood.1.0, stood.1.1, λ runs_now. front_on region stood.1.0 piece history then_history idle told (stood.1.2 runs)),
+    ))
+
+-- the last piece, or one that failed: by this it will reply
+piece_last : {D : Type 0} → (around after : Around) (others : ℕ → ℕ) (name : List ℕ) (uid : Uid) (region : RegionValue) (store : StoreValue D) (disk : D) (history then_history : Option History) (faults then_faults : Faults) (given : Reply) (why : Refusal) → HasPieceLeft (stage.Reading region) → store.stopped ≡ false → IsIdle history then_history
+    → NoChangeFault faults then_faults → refusal_in given ≡ Some why → IsPieceRefusal why → (why ≡ refusal.ReadFault → Rose faults.reads then_faults.reads) → ((octets : List ℕ) → Reading (IsFrontOfStored region octets) history → IsTrueReply octets given)
+    → PieceClause around after others name uid region store history faults (record store { disk = disk }) then_history then_faults (stage.Unpinning region.from given)
+piece_last around after others name uid region store disk history then_history faults then_faults given why left runs idle none refused may rose true_is = λ run lane place said lists come shows safe stood.
+    let seen = seen_with_pins others (stage.Reading region) store history faults in
+    let new = seen_with_pins others (stage.Unpinning region.from given) (record store { disk = disk }) then_history then_faults in
+    let event = fetch_event ReadsPiece lane place (Some why) None (told_calls then_history) in
+    stands_so around after run lane place said (request.Fetch name uid) lists seen new did.Quiet None event None (IsAtFetch (stage.Unpinning region.from given) new)
+    (read_did around after run lane place said name uid lists seen then_history then_faults region (Some why) come shows idle none runs stood.0 left.0 may (λ e. rose (let k : why ≡ refusal.ReadFault = cc e in k)))
+    (λ goes_on. (
+      inr (
+        why,
+        stood.0.0,
+        event,
+        refused,
+        may,
+        one_piece_more region.from (own_events place run) stood.0.0 event (own_events place (and_then run event)) stood.0.1 (own_more place run event (eq-eqb place place refl)),
+        stood.0.2,
+        record { part = refl; pinned = refl; refused_is = refl },
+      ),
+      (stood.1.0, stood.1.1, true_is stood.1.0 (stood.1.2 runs)),
+      runs,
+    ))
+
+-- the last piece of the message that is stored there
+piece_whole : {D : Type 0} → (around after : Around) (others : ℕ → ℕ) (name : List ℕ) (uid : Uid) (region : RegionValue) (store : StoreValue D) (disk : D) (history then_history : Option History) (faults then_faults : Faults) (given : Reply) → HasPieceLeft (stage.Reading region) → store.stopped ≡ false → IsIdle history then_history
+    → NoChangeFault faults then_faults → refusal_in given ≡ None → pieces_left (left_after region.left) ≡ 0 → ((octets : List ℕ) → Reading (IsFrontOfStored region octets) history → IsTrueReply octets given)
+    → PieceClause around after others name uid region store history faults (record store { disk = disk }) then_history then_faults (stage.Unpinning region.from given)
+piece_whole around after others name uid region store disk history then_history faults then_faults given left runs idle none fetched last true_is = λ run lane place said lists come shows safe stood.
+    let seen = seen_with_pins others (stage.Reading region) store history faults in
+    let new = seen_with_pins others (stage.Unpinning region.from given) (record store { disk = disk }) then_history then_faults in
+    let event = fetch_event ReadsPiece lane place None None (told_calls then_history) in
+    stands_so around after run lane place said (request.Fetch name uid) lists seen new did.Quiet None event None (IsAtFetch (stage.Unpinning region.from given) new)
+    (read_did around after run lane place said name uid lists seen then_history then_faults region None come shows idle none runs stood.0 left.0 tt (λ e. absurd (let k : None ≡ Some refusal.ReadFault = e in cc k)))
+    (λ goes_on. (
+      inl (
+        fetched,
+        (
+          stood.0.0 ++ event ∷ [],
+          one_piece_more region.from (own_events place run) stood.0.0 event (own_events place (and_then run event)) stood.0.1 (own_more place run event (eq-eqb place place refl)),
+          All-push (ReadPiece None) stood.0.0 event stood.0.2 (record { part = refl; pinned = refl; refused_is = refl }),
+          count_more stood.0.0 event (pieces_left region.left) 0 (pieces_left (parts_of region.from)) stood.0.3 (let one = pieces_after region.left left.1 left.0 in omega (arith, one, last)),
+        ),
+      ),
+      (stood.1.0, stood.1.1, true_is stood.1.0 (stood.1.2 runs)),
+      runs,
+    ))
+
+piece_to : {D : Type 0} → (around after : Around) (others : ℕ → ℕ) (name : List ℕ) (uid : Uid) (region : RegionValue) (store new : StoreValue D) (history then_history : Option History) (faults then_faults : Faults) (a b : FetchStage) → new ≡ record store { disk = new.disk } → b ≡ a
+    → PieceClause around after others name uid region store history faults (record store { disk = new.disk }) then_history then_faults a → PieceClause around after others name uid region store history faults new then_history then_faults b
+piece_to {D = D} around after others name uid region store new history then_history faults then_faults a b same stages h =
+    subst (λ (n : FetchStage). PieceClause around after others name uid region store history faults new then_history then_faults n) (sym stages)
+    (subst (λ (s : StoreValue D). PieceClause around after others name uid region store history faults s then_history then_faults a) (sym same) h)
+
+-- An event that reads a piece, of a store that isn't stopped.
+pub read_steps : {D : Type 0} → (around after : Around) (others : ℕ → ℕ) (name : List ℕ) (uid : Uid) (region : RegionValue) (store new : StoreValue D) (history then_history : Option History) (faults then_faults : Faults) (next : FetchStage) → HasPieceLeft (stage.Reading region) → store.stopped ≡ false → new ≡ record store { disk = new.disk }
+    → IsIdle history then_history → NoChangeFault faults then_faults → IsPieceRead region next history faults then_faults → PieceClause around after others name uid region store history faults new then_history then_faults next
+read_steps around after others name uid region store new history then_history faults then_faults next left runs same idle none (inr (rose, e)) =
+    piece_to around after others name uid region store new history then_history faults then_faults (stage.Unpinning region.from (reply.Refused refusal.ReadFault)) next same e
+    (piece_last around after others name uid region store new.disk history then_history faults then_faults (reply.Refused refusal.ReadFault) refusal.ReadFault left runs idle none refl tt (λ k. rose) (λ octets f. inr refl))
+read_steps around after others name uid region store new history then_history faults then_faults next left runs same idle none (inl (piece, told, goes)) = by_size (cases_lt 0 (pieces_left (left_after region.left)))
+  where
+    now : (octets : List ℕ) → Reading (IsFrontOfStored region octets) history → Reading (IsFrontOfStored (with_piece region piece) octets) then_history
+    now octets f = front_on region octets piece history then_history idle told f
+
+    by_reply : (last : pieces_left (left_after region.left) ≡ 0) (given : Reply) → next ≡ stage.Unpinning region.from given → IsReplyFor region.from (region.octets ++ piece) given → PieceClause around after others name uid region store history faults new then_history then_faults next
+    by_reply last given e (inl (octets, holds, is)) =
+        piece_to around after others name uid region store new history then_history faults then_faults (stage.Unpinning region.from given) next same e
+        (piece_whole around after others name uid region store new.disk history then_history faults then_faults given left runs idle none (ap refusal_in is) last
+        (λ text f. true_on (with_piece region piece) text then_history given (now text f) last (inl (octets, holds, is))))
+    by_reply last given e (inr (none_held, is)) =
+        piece_to around after others name uid region store new history then_history faults then_faults (stage.Unpinning region.from given) next same e
+        (piece_last around after others name uid region store new.disk history then_history faults then_faults given (refusal.Damaged region.from.file region.from.offset) left runs idle none (ap refusal_in is) tt (λ k. absurd (let f : refusal.Damaged region.from.file region.from.offset ≡ refusal.ReadFault = k in cc f))
+        (λ text f. true_on (with_piece region piece) text then_history given (now text f) last (inr (none_held, is))))
+
+    by_size : (0 < pieces_left (left_after region.left)) ⊎ (pieces_left (left_after region.left) ≤ 0) → PieceClause around after others name uid region store history faults new then_history then_faults next
+    by_size (inl more) =
+        piece_to around after others name uid region store new history then_history faults then_faults (stage.Reading (with_piece region piece)) next same (goes.more more)
+        (piece_more around after others name uid region store new.disk history then_history faults then_faults piece left runs idle none told)
+    by_size (inr last) = let none_left : pieces_left (left_after region.left) ≡ 0 = omega (arith, last) in let r = goes.last none_left in by_reply none_left r.0 r.1 r.2
+
+-- ---- the last event
+
+ends_here : (b : Bool) → b ≡ false → (if b then Some RemovesFile else None) ≡ None
+ends_here b e = ap (λ (t : Bool). if t then Some RemovesFile else None) e
+
+true_reply_of : (name : List ℕ) (uid : Uid) (octets : List ℕ) (given : Reply) (said : List Reply) → said ≡ reply.Fetched octets ∷ [] → IsTrueReply octets given → IsReplyOf (request.Fetch name uid) said given
+true_reply_of name uid octets given said e (inl is) = subst (λ (r : Reply). IsReplyOf (request.Fetch name uid) said r) (sym is) e
+true_reply_of name uid octets given said e (inr is) = subst (λ (r : Reply). IsReplyOf (request.Fetch name uid) said r) (sym is) tt
+
+not_stopped : (octets : List ℕ) (given : Reply) → IsTrueReply octets given → Some given ≡ Some (reply.Refused refusal.Stopped) → ⊥
+not_stopped octets given (inl is) e = let k : reply.Fetched octets ≡ reply.Refused refusal.Stopped = sym is ∙ (let w : given ≡ reply.Refused refusal.Stopped = cc e in w) in cc k
+not_stopped octets given (inr is) e = let k : reply.Refused refusal.ReadFault ≡ reply.Refused refusal.Stopped = sym is ∙ (let w : given ≡ reply.Refused refusal.Stopped = cc e in w) in let w : refusal.ReadFault ≡ refusal.Stopped = cc k in cc w
+
+pub unpin_steps : {D : Type 0} → (around after : Around) (others : ℕ → ℕ) (name : List ℕ) (uid : Uid) (from : StoredAt) (given : Reply) (store : StoreValue D) (history : Option History) (faults : Faults) → store.stopped ≡ false
+    → StepsOnSafe (IsAtFetch (stage.Unpinning from given) (seen_with_pins others (stage.Unpinning from given) store history faults)) (IsAtFetch stage.First (seen_with_pins others stage.First store history faults)) around after (request.Fetch name uid)
+    (seen_with_pins others (stage.Unpinning from given) store history faults) (seen_with_pins others stage.First store history faults) did.Quiet (Some given)
+unpin_steps around after others name uid from given store history faults runs = λ run lane place said lists come shows safe stood.
+    let seen = seen_with_pins others (stage.Unpinning from given) store history faults in
+    let event = fetch_event Unpins lane place None (Some given) (told_calls history) in
+    let pin = holds_pin from given place run stood.0 in (
+      (did_late around after run lane place said name uid lists seen history faults (λ file. others file + 0) Unpins None (Some given) (unpin_is_late name uid) come shows (idle-begins history) (record { reads = omega arith; changes = refl }) (next_unpins around name uid run place from given stood.0) tt
+          (record { 0 = λ h. ends_here (leaves_doomed place (and_then run event)) (none_doomed place (and_then run event) (λ file. doomed_still run event file refl refl ∙ come.doomed file)); 1 = λ e f. some_given given f })
+          (last_with (own_events place run) event ∙ (none_or (last_refusal (own_events place run)) ∙ unpins_by from given (own_events place run) stood.0))
+          (λ r e. subst (λ (x : Reply). IsReplyOf (request.Fetch name uid) said x) (let k : given ≡ r = cc e in k) (true_reply_of name uid stood.1.0 given said stood.1.1 stood.1.2))
+          (record { 0 = λ e. absurd (not_stopped stood.1.0 given stood.1.2 e); 1 = λ e. absurd (fall store.stopped e runs) }) (λ e. absurd (fall store.stopped e runs)) (λ e. absurd (let k : None ≡ Some refusal.ReadFault = e in cc k))
+          (λ file. let a = pins_end run event file (one_pin from.file.0 file) refl pin.none (pin.one file) in let b = come.pins file in omega (arith, a, b))).so,
+      λ e. absurd (never_more _ e),
+    )
+  where
+    none_or : (r : Option Refusal) → option_or None r ≡ r
+    none_or r = refl
+
+-- ---- the stages stay
+
+pub fetch_stays : (now : FetchStage) (seen : Seen) → IsKept (IsAtFetch now seen)
+fetch_stays stage.First seen = not_begun_stays
+fetch_stays (stage.Reading region) seen = λ run place said event other gives stood.
+    let same = own_other place run event (ne_eqb event.request place other) in
+    (subst (HasReadAllBut region.from (pieces_left region.left)) (sym same) stood.0, stood.1)
+fetch_stays (stage.Unpinning from given) seen = λ run place said event other gives stood.
+    let same = own_other place run event (ne_eqb event.request place other) in
+    (subst (UnpinsNext from given) (sym same) stood.0, stood.1, stood.2)
