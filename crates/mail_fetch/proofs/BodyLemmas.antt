@@ -1,6 +1,6 @@
 -- The parts of the one message that octets are.
 use Rattle.std.proofs.Common.{◌≡◌, ◌≤◌, ◌+◌, ◌-◌, ℕ, suc, List, [], ◌∷◌, ◌++◌, length, take, drop, refl, sym, ◌∙◌, ap, subst, arith, append_assoc, append-nil, length-append}
-use Rattle.std.specs.Prelude.{flat_map, ◌↔◌, Bool, true, false, IsTrue, Option, Some, None, IfNone, Result, Ok, Err}
+use Rattle.std.specs.Prelude.{flat_map, Option, Some, None, IfNone, Result, Ok, Err}
 use Rattle.std.specs.Result.{result_ok}
 use Rattle.std.specs.Option.{option_map_or}
 use Rattle.std.proofs.Math.Seq.{drop-append_seam, take-append_seam}

@@ -1,12 +1,9 @@
 -- The message that the first event pins.
-use Rattle.std.proofs.Common.{◌≡◌, ◌≤◌, ◌<◌, ◌+◌, ◌==◌, ℕ, Bool, false, cond, List, [], ◌∷◌, length, nat_lt, Option, Some, None, refl, sym, ◌∙◌, ap, subst, arith}
-use Rattle.std.proofs.lemmas.Grind.{common_steps}
+use Rattle.std.proofs.Common.{◌≡◌, ◌≤◌, ◌<◌, ◌==◌, ℕ, Bool, false, cond, List, Option, Some, None, sym, ◌∙◌, ap, subst, arith}
 use Rattle.std.specs.Prelude.{if◌then◌else◌, is_some, Result, Ok, Err, IfOk, IsErrAnd, MatchResult}
 use Rattle.std.specs.Option.{option_map, option_map_or}
 use Rattle.std.proofs.lemmas.List.Elements.{All-contains}
-use Rattle.std.proofs.lemmas.Nat.{div-add-mod'}
 use Rattle.disk_model.specs.Disk.{History}
-use Rattle.mdbox_base.specs.declared.entries.InstRow.{InstRow}
 use Rattle.mdbox_base.specs.declared.replies.Refusal.TheVariants as refusal
 use Rattle.model_meaning.specs.BoxMeaning.{LogRow, BoxMeaning, row_at}
 use Rattle.model_meaning.specs.MapMeaning.{MapRecord, MapMeaning, map_meaning, record_at}
@@ -18,7 +15,6 @@ use Rattle.store_core.specs.Running.{IsStore}
 use Rattle.store_core.specs.StoreInstances.{HasKnownInstances, IsKnownRow}
 use Rattle.store_core.specs.Value.{StoreValue, list_named}
 use Rattle.mail_fetch.specs.Events.{fetch_refusal, IsPinned}
-use Rattle.mail_fetch.specs.Parts.{pieces_left, parts_of}
 use Rattle.mail_fetch.specs.Region.{RegionValue, stored_at, unread}
 use Rattle.mail_fetch.specs.Task.{HasPieceLeft, KnowsPinned, events_left}
 use Rattle.mail_fetch.specs.declared.task.FetchStage.TheVariants as stage

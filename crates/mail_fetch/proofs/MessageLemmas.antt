@@ -2,7 +2,7 @@
 use Rattle.std.proofs.Common.{◌≡◌, ◌≤◌, ◌+◌, ◌-◌, ℕ, List, [], ◌∷◌, length, take, drop, Some, None, refl, sym, ◌∙◌, ap, subst, arith, All}
 use Rattle.std.specs.Prelude.{Option, IfNone, IfSome}
 use Rattle.std.specs.List.{AllByRecursion}
-use Rattle.std.proofs.lemmas.List.{drop-take, length-take, take_all, take-take}
+use Rattle.std.proofs.lemmas.List.{drop-take, length-take, take-take}
 use Rattle.std.proofs.lemmas.List.Elements.{All-cons, All-nil}
 use Rattle.attach_join.specs.Behind.{octets_in}
 use Rattle.mdbox_base.specs.declared.entries.InstRow.{InstRow}
@@ -15,7 +15,7 @@ use Rattle.model_attach.specs.Rejoined.{IsWhole}
 use Rattle.model_base64.specs.Base64Text.{IsForm}
 use Rattle.model_storage.specs.References.{FormFits, ReferenceFits}
 use Rattle.model_storage.specs.Metadata.{HasReferences, IsMetadata}
-use Rattle.model_storage.specs.StorageFile.{Line, Message, IsMessage}
+use Rattle.model_storage.specs.StorageFile.{Line, Message}
 use Rattle.model_storage.specs.declared.metadata_value.Metadata.{Metadata}
 use Rattle.model_storage.proofs.FileLemmas.{message_same}
 use Rattle.model_storage.proofs.MetadataLemmas.{metadata_same}

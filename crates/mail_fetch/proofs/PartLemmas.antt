@@ -1,11 +1,11 @@
 -- Parts that are read piece by piece.
-use Rattle.std.proofs.Common.{◌≡◌, ◌≤◌, ◌<◌, ◌+◌, ◌-◌, ◌*◌, ◌/◌, ◌^◌, ℕ, suc, Bool, true, false, cond, List, [], ◌∷◌, ◌++◌, length, take, drop, map, refl, sym, ◌∙◌, ap, subst, arith, All, add-one, append_assoc, append-nil, length-append, drop-cons}
-use Rattle.std.specs.Prelude.{Option, Some, None, IsTrue, ◌⊎◌, filter, flat_map, min, nat_lt, slice_index_or, sum_by, if◌then◌else◌}
-use Rattle.std.proofs.Common.{inl, inr, zero, get_or}
+use Rattle.std.proofs.Common.{◌≡◌, ◌≤◌, ◌<◌, ◌+◌, ◌-◌, ℕ, suc, Bool, true, false, cond, List, [], ◌∷◌, ◌++◌, length, take, drop, map, refl, sym, ◌∙◌, ap, subst, arith, All, add-one, append_assoc, append-nil, drop-cons}
+use Rattle.std.specs.Prelude.{Option, Some, None, ◌⊎◌, filter, min, nat_lt, slice_index_or, sum_by, if◌then◌else◌}
+use Rattle.std.proofs.Common.{inl, inr}
 use Rattle.std.proofs.Math.Seq.{take-add}
 use Rattle.std.proofs.lemmas.Bool.{cases_lt}
 use Rattle.std.proofs.lemmas.Grind.{common_steps}
-use Rattle.std.proofs.lemmas.List.{drop-drop, take_all, length-drop, length-take}
+use Rattle.std.proofs.lemmas.List.{drop-drop, take_all, length-drop}
 use Rattle.std.proofs.lemmas.List.Elements.{All-cons, All-nil, All-head, All-tail}
 use Rattle.std.proofs.lemmas.List.Sums.{sum_by-cons}
 use Rattle.std.proofs.lemmas.Nat.{div-add-mod'}

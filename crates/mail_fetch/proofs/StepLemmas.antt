@@ -1,15 +1,13 @@
 -- The clause of a fetch's step, event by event.
-use Rattle.std.proofs.Common.{◌≡◌, ◌≤◌, ◌<◌, ◌+◌, ◌*◌, ◌/◌, ℕ, Bool, true, false, cond, List, [], ◌∷◌, ◌++◌, length, Option, Some, None, refl, sym, ◌∙◌, ap, subst, arith, inl, inr, length-append}
-use Rattle.std.specs.Prelude.{All, ◌⊎◌, is_some, sum_by, if◌then◌else◌}
+use Rattle.std.proofs.Common.{◌≡◌, ◌≤◌, ◌<◌, ◌+◌, ℕ, Bool, true, false, cond, List, [], ◌∷◌, ◌++◌, length, Option, Some, None, refl, sym, ◌∙◌, ap, subst, arith, inl, inr, length-append}
+use Rattle.std.specs.Prelude.{All, ◌⊎◌, is_some, if◌then◌else◌}
 use Rattle.std.specs.List.{list_any}
 use Rattle.std.specs.Option.{option_map_or, option_or}
 use Rattle.std.proofs.lemmas.List.Elements.{All-nil, All-push}
 use Rattle.std.proofs.lemmas.Bool.{eq-eqb, ne_eqb, cases_lt}
-use Rattle.std.proofs.lemmas.Nat.{div-add-mod'}
 use Rattle.disk_model.specs.Disk.{DiskState, History, Faults, Files, IfTold, IsIdle, told_calls}
 use Rattle.disk_model.proofs.IdleLemmas.{idle-begins}
 use Rattle.mdbox_base.specs.Streams.{Rose}
-use Rattle.mdbox_base.specs.declared.entries.InstRow.{InstRow}
 use Rattle.mdbox_base.specs.declared.entries.MapEntry.{MapEntry}
 use Rattle.mdbox_base.specs.declared.ids.Uid.{Uid}
 use Rattle.mdbox_base.specs.declared.progress.Did.{Did}
@@ -45,8 +43,8 @@ use Rattle.task_steps.proofs.SeenLemmas.{pins_still, doomed_still, not_begun_sta
 use Rattle.task_steps.proofs.OneEventLemmas.{when_stopped, memory_is, not_reading, not_reading_memory, some_given, never_more}
 use Rattle.mail_fetch.specs.Clause.{ReadsSafe, StepsOnSafe}
 use Rattle.mail_fetch.specs.Events.{fetch_refusal, IsBegun, IsStoredBy, IsPinned, IsPieceRead, next_piece, with_piece, NoChangeFault}
-use Rattle.mail_fetch.specs.Parts.{HasOctets, left_after, parts_of, pieces_left}
-use Rattle.mail_fetch.specs.Region.{stored_at, RegionValue, unread, IsReplyFor, damage_at}
+use Rattle.mail_fetch.specs.Parts.{left_after, parts_of, pieces_left}
+use Rattle.mail_fetch.specs.Region.{stored_at, RegionValue, unread, IsReplyFor}
 use Rattle.mail_fetch.specs.Stages.{ReadPiece, HasPinned, HasReadAllBut, IsPieceRefusal, UnpinsNext, IsFrontOfStored, Reading, IsTrueReply, IsAtFetch}
 use Rattle.mail_fetch.specs.Task.{HasPieceLeft, fetch_did, refusing_did, one_pin, seen_with_pins}
 use Rattle.mail_fetch.specs.declared.parts.StoredAt.{StoredAt}
@@ -54,7 +52,7 @@ use Rattle.mail_fetch.specs.declared.task.FetchStage.{FetchStage}
 use Rattle.mail_fetch.specs.declared.task.FetchStage.TheVariants as stage
 use Rattle.mail_fetch.proofs.InstanceLemmas.{named_each, pieces_told}
 use Rattle.mail_fetch.proofs.OwnPinLemmas.{pins_begin, pins_end}
-use Rattle.mail_fetch.proofs.PartLemmas.{octets_after, pieces_after}
+use Rattle.mail_fetch.proofs.PartLemmas.{pieces_after}
 use Rattle.mail_fetch.proofs.FetchPartLemmas.{last_with, next_reads, next_unpins, unpins_by, holds_pin, none_doomed}
 use Rattle.mail_fetch.proofs.FetchEventLemmas.{behind_reading, DidSo, stands_so, did_refuse, did_nothing, pin_event, did_pin, fetch_event, IsLateRefusal, piece_is_late, unpin_is_late, did_late}
 use Rattle.mail_fetch.proofs.RecordLemmas.{shown_by, no_mailbox, no_message, is_fetched, by_guid, stored_by}

@@ -1,6 +1,6 @@
 -- A message that is read piece by piece, as the disk stores it.
-use Rattle.std.proofs.Common.{◌≡◌, ◌≤◌, ◌+◌, ℕ, List, [], ◌∷◌, ◌++◌, length, take, drop, map, Some, refl, sym, ◌∙◌, ap, subst, arith, inl, inr, All, append_assoc, append-nil, length-append}
-use Rattle.std.specs.Prelude.{◌⊎◌, Option, flat_map, sum_by}
+use Rattle.std.proofs.Common.{◌≡◌, ◌+◌, ℕ, List, [], ◌∷◌, ◌++◌, length, take, drop, map, Some, refl, sym, ◌∙◌, ap, subst, arith, inl, inr, All, append_assoc, append-nil, length-append}
+use Rattle.std.specs.Prelude.{sum_by}
 use Rattle.std.proofs.Math.Seq.{take-append_seam, drop-append_seam}
 use Rattle.std.proofs.lemmas.List.{take_all, length-take, length-drop}
 use Rattle.std.proofs.lemmas.List.Elements.{All-head, All-tail}
@@ -9,7 +9,6 @@ use Rattle.attach_join.specs.Behind.{octets_in}
 use Rattle.disk_model.specs.Disk.{Files, DiskState}
 use Rattle.disk_model.specs.declared.name.FileName.TheVariants.{Inst}
 use Rattle.mdbox_base.specs.declared.entries.InstRow.{InstRow}
-use Rattle.mdbox_base.specs.declared.ids.Guid.{Guid}
 use Rattle.mdbox_base.specs.declared.metadata.ExtRef.{ExtRef}
 use Rattle.mdbox_base.specs.declared.replies.Reply.{Reply}
 use Rattle.mdbox_base.specs.declared.replies.Reply.TheVariants as reply
@@ -17,20 +16,17 @@ use Rattle.model_attach.specs.Rejoined.{IsWhole, IsWholeFrom, part_text}
 use Rattle.model_meaning.specs.BoxMeaning.{LogRow}
 use Rattle.model_meaning.specs.MapMeaning.{MapRecord}
 use Rattle.model_storage.specs.StorageFile.{Message, IsMessage}
-use Rattle.model_storage.specs.Metadata.{IsMetadata}
 use Rattle.model_storage.specs.declared.metadata_value.Metadata.{Metadata}
-use Rattle.model_storage.proofs.FileLemmas.{message_same}
-use Rattle.model_storage.proofs.MetadataLemmas.{metadata_same}
 use Rattle.model_store.specs.Safe.{IsThereWhole}
 use Rattle.model_store.specs.Settled.{files_of}
-use Rattle.model_store.specs.Stands.{StoresMessage, HasInstances, NameInstances, whole_size}
+use Rattle.model_store.specs.Stands.{StoresMessage, HasInstances}
 use Rattle.storage_files.specs.OnDisk.{piece_read}
 use Rattle.mail_fetch.specs.Events.{next_piece, with_piece}
 use Rattle.mail_fetch.specs.Parts.{instance_part, left_after, octets_to_read, part_read, parts_of, parts_read, pieces_left, region_part}
 use Rattle.mail_fetch.specs.Region.{RegionValue, HoldsWhole, IsReplyFor, IsStoredMessage, stored_at}
 use Rattle.mail_fetch.specs.Stages.{IsFrontOfStored, IsTrueReply}
 use Rattle.mail_fetch.specs.declared.parts.StoredAt.{StoredAt}
-use Rattle.mail_fetch.proofs.MessageLemmas.{SameStored, same_stored}
+use Rattle.mail_fetch.proofs.MessageLemmas.{same_stored}
 use Rattle.mail_fetch.proofs.PartLemmas.{reads_after, reads_none, reads_of_parts}
 
 -- ---- the first octets of what is stored

@@ -94,11 +94,7 @@ fn rejoined(
 }
 
 /// How many octets the body of the one message has that a region is, and its references, where it is the one that is stored there.
-fn stored_message(
-    from: &StoredAt,
-    region: &[u8],
-    refs: Vec<ExtRef>,
-) -> Option<(usize, Vec<ExtRef>)>
+fn stored_message(from: &StoredAt, region: &[u8], refs: Vec<ExtRef>) -> Option<(usize, Vec<ExtRef>)>
     requires size { length region.now ≡ from.now.size }
     requires empty { refs.items ≡ [] }
     requires room { length from.now.instances ≤ vec_capacity refs }

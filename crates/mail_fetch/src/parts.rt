@@ -59,12 +59,7 @@ pub fn parts_of(alloc: Global, from: &StoredAt) -> Result<Vec<Part>, NoMemory>
 }
 
 /// Adds a part, if it has octets.
-fn push_part(
-    parts: &mut Vec<Part>,
-    source: Source,
-    offset: u32,
-    size: u32,
-) -> Result<(), NoMemory>
+fn push_part(parts: &mut Vec<Part>, source: Source, offset: u32, size: u32) -> Result<(), NoMemory>
     ensures part { OnOk result (parts.new.items ≡ parts.old.items ++ filter has_octets (record { source = source; offset = offset; size = size } ∷ [])) }
     ensures range { OnOk result (All IsPart parts.old.items → All IsPart parts.new.items) }
 {
@@ -84,8 +79,8 @@ pub fn octets_to_read(from: &StoredAt) -> Option<usize>
     ensures { IfSome result (λ total. total ≡ octets_to_read from.now) }
 {
     let mut total = from.size as usize;
-    for row in from.instances.as_slice() {
-        total = total.checked_add(row.size as usize)?;
+    for instance in from.instances.as_slice() {
+        total = total.checked_add(instance.size as usize)?;
     }
     Some(total)
 }

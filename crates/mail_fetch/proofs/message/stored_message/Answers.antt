@@ -1,5 +1,5 @@
 use Rattle.std.proofs.Common.{◌-◌, length, sym, ◌∙◌, vec_capacity}
-use Rattle.mail_fetch.proofs.BodyLemmas.{no_place, some_place, if_none, none_stands, one_message, end_of_stored, lines_within, lines_are_read, told_of_stored, stored_of_told, before_end}
+use Rattle.mail_fetch.proofs.BodyLemmas.{no_place, some_place, if_none, none_stands, end_of_stored, lines_are_read, told_of_stored, stored_of_told, before_end}
 use Rattle.mail_fetch.proofs.message.stored_message.Goals as goal
 
 pub returns-in_err-place-clause-none : goal.returns-in_err-place-clause-none

@@ -1,8 +1,8 @@
-use Rattle.std.proofs.Common.{◌≡◌, ◌<◌, ◌+◌, inl, refl, sym, ap, subst}
+use Rattle.std.proofs.Common.{inl, sym, subst}
 use Rattle.std.specs.Prelude.{All}
 use Rattle.store_core.specs.Value.{StoreValue}
 use Rattle.mail_fetch.specs.Events.{with_piece}
-use Rattle.mail_fetch.specs.Parts.{KnowsSource, pieces_left}
+use Rattle.mail_fetch.specs.Parts.{KnowsSource}
 use Rattle.mail_fetch.specs.declared.parts.Part.{Part}
 use Rattle.mail_fetch.proofs.LastPieceLemmas.{last_piece, goes_on_reading, left_on, known_on, fewer_on}
 use Rattle.mail_fetch.proofs.task.read_piece.Goals as goal

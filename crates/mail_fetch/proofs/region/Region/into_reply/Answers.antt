@@ -1,4 +1,4 @@
-use Rattle.std.proofs.Common.{inl, inr, refl, sym, ◌∙◌, ap, subst}
+use Rattle.std.proofs.Common.{inl, inr, sym, ◌∙◌, ap, subst}
 use Rattle.mdbox_base.specs.declared.replies.Reply.TheVariants as reply
 use Rattle.mail_fetch.specs.Region.{RegionValue, HoldsWhole}
 use Rattle.mail_fetch.proofs.MessageLemmas.{damaged}
@@ -10,7 +10,7 @@ returns-clause-reply c =
     elim c.match-message_of.branch [
       | in-Some w ↦ inl (w.in-Some.octets.items, subst (λ (v : RegionValue). HoldsWhole v.from v.octets w.in-Some.octets.items) c.self.view_is w.in-Some.ensures.some, w.reply-is ∙ ap reply.Fetched w.of.ensures)
       | in-None w ↦ inr (
-          λ octets h. w.in-None.ensures.none octets (subst (λ (v : RegionValue). HoldsWhole v.from v.octets octets) (sym c.self.view_is) h),
-          w.reply-is ∙ damaged c.args.self.from c.self.inside.from.file w.from.result (ap (λ (v : RegionValue). v.from.file) c.self.view_is) (w.from.ensures ∙ ap (λ (v : RegionValue). v.from.offset) c.self.view_is),
-        )
+        λ octets h. w.in-None.ensures.none octets (subst (λ (v : RegionValue). HoldsWhole v.from v.octets octets) (sym c.self.view_is) h),
+        w.reply-is ∙ damaged c.args.self.from c.self.inside.from.file w.from.result (ap (λ (v : RegionValue). v.from.file) c.self.view_is) (w.from.ensures ∙ ap (λ (v : RegionValue). v.from.offset) c.self.view_is),
+      )
     ]

@@ -26,14 +26,14 @@ invariant_of-self g c =
     let joined = piece_joins octets _ c.deref_mut.result.now c.read_front.new.into _ _ c.truncate.new.self.items c.len-start.result c.min-size.result c.in-Ok-read_front.count c.resize.new.self.len start now c.in-Ok-read_front.ensures.count into c.in-Ok.ensures.len c.truncate.ensures.items in
     let goes = passed parts c.pass_piece-self-inside.new.parts c.deref_mut-in-Ok-read_front.result.now (drop c.self.inside.next parts) c.self.inside.parts.len c.self.inside.next c.pass_piece-self-inside.result c.self.inside.parts.ok.0 c.deref_mut-in-Ok-read_front.ensures.value c.pass_piece-self-inside.auto.parts c.pass_piece-self-inside.ensures.left refl in
     let few : length piece ≤ first_size (drop c.self.inside.next parts) =
-        let many = length-take c.in-Ok-read_front.count c.read_front.new.into in
-        let size = c.min-size.ensures in
-        subst (λ ps. length piece ≤ first_size ps) (sym at) (omega (arith, many, into, size)) in
+    let many = length-take c.in-Ok-read_front.count c.read_front.new.into in
+    let size = c.min-size.ensures in
+    subst (λ ps. length piece ≤ first_size ps) (sym at) (omega (arith, many, into, size)) in
     let kept : c.self.inside.total ≤ vec_capacity c.truncate.new.self =
-        let a = c.in-Ok.ensures.capacity in
-        let b = c.truncate.ensures.capacity in
-        let r = c.self.invariant.0.room in
-        omega (arith, a, b, r) in
+    let a = c.in-Ok.ensures.capacity in
+    let b = c.truncate.ensures.capacity in
+    let r = c.self.invariant.0.room in
+    omega (arith, a, b, r) in
     (room_on c.self.inside.from c.self.inside.total c.self.inside.octets c.truncate.new.self (drop c.self.inside.next parts) _ piece c.self.invariant.0 kept joined few goes, c.self.invariant.1)
 
 pub returns-in-Ok-read_front-clause-piece : goal.returns-in-Ok-read_front-clause-piece
