@@ -18,7 +18,7 @@ use Rattle.dbox_metadata.specs.declared.brief.Brief.{Brief}
 use Rattle.mdbox_base.specs.declared.entries.InstRow.{InstRow}
 use Rattle.mdbox_base.specs.declared.metadata.ExtRef.{ExtRef}
 use Rattle.model_store.specs.Stands.{NameInstances}
-use Rattle.mail_fetch.specs.Region.{IsStoredMessage, IsTold}
+use Rattle.mail_fetch.specs.Region.{IsStoredMessage, IsToldByLines}
 use Rattle.mail_fetch.specs.declared.parts.StoredAt.{StoredAt}
 
 no_more : (xs ys : List ℕ) (n : ℕ) → length xs ≡ n → length (xs ++ ys) ≡ n → ys ≡ []
@@ -127,7 +127,7 @@ lines_are_read from region place end room at f few none h =
     none h.meta (says_of_stored from region place end at f h) (let e = names_many h.meta.refs from.instances h.names in omega (arith, e, few))
 
 -- What is kept of the message is what its lines tell.
-pub told_of_stored : (from : StoredAt) (region : List ℕ) (place : MessageAt) (end : ℕ) (brief : Brief) → StandsAt region 0 place → end + 1 ≡ length region → IsBriefOf (take (end - place.lines) (drop place.lines region)) brief → IsStoredMessage from region → IsTold brief from place.size
+pub told_of_stored : (from : StoredAt) (region : List ℕ) (place : MessageAt) (end : ℕ) (brief : Brief) → StandsAt region 0 place → end + 1 ≡ length region → IsBriefOf (take (end - place.lines) (drop place.lines region)) brief → IsStoredMessage from region → IsToldByLines brief from place.size
 told_of_stored from region place end brief at f b h =
     let meta : b.meta ≡ h.meta = metadata_text_same (take (end - place.lines) (drop place.lines region)) b.meta h.meta b.says (says_of_stored from region place end at f h) in
     let size : place.size ≡ length h.message.body = ap (λ (p : MessageAt). p.size) (place_of_stored from region place at h) in
@@ -145,7 +145,7 @@ pub record FoundStored (from : StoredAt) (region : List ℕ) (size : ℕ) (refs 
   pub size_is : size ≡ length stored.message.body
   pub refs_are : refs ≡ stored.meta.refs
 
-pub stored_of_told : (from : StoredAt) (region : List ℕ) (place : MessageAt) (end : ℕ) (brief : Brief) → StandsAt region 0 place → place.end ≡ length region → end + 1 ≡ length region → IsBriefOf (take (end - place.lines) (drop place.lines region)) brief → IsTold brief from place.size → FoundStored from region place.size brief.refs.items
+pub stored_of_told : (from : StoredAt) (region : List ℕ) (place : MessageAt) (end : ℕ) (brief : Brief) → StandsAt region 0 place → place.end ≡ length region → end + 1 ≡ length region → IsBriefOf (take (end - place.lines) (drop place.lines region)) brief → IsToldByLines brief from place.size → FoundStored from region place.size brief.refs.items
 stored_of_told from region place end brief at ends f b told =
     let one = one_message region place at ends in
     let within = lines_within region place one in

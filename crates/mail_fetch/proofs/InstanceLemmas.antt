@@ -9,7 +9,7 @@ use Rattle.model_meaning.specs.MapMeaning.{MapRecord, MapMeaning, named_instance
 use Rattle.journal.specs.Events.{pieces_to_read}
 use Rattle.sis_store.specs.declared.instance.KnownInstance.{KnownInstance}
 use Rattle.store_core.specs.StoreInstances.{IsKnownRow}
-use Rattle.mail_fetch.specs.Parts.{KnowsSource, has_octets, instance_part, parts_of, pieces_left, region_part}
+use Rattle.mail_fetch.specs.Parts.{KnowsSource, has_octets, instance_part, parts_to_read, pieces_left, region_part}
 use Rattle.mail_fetch.specs.Region.{stored_at}
 use Rattle.mail_fetch.specs.Task.{all_pieces}
 use Rattle.mail_fetch.specs.declared.parts.Part.{Part}
@@ -46,10 +46,10 @@ pieces_among uid (r ∷ rs) entry e = by_test (r.uid == uid) e (λ k. pieces_amo
     by_test false k rest = let h = rest k in let s = sum_by-cons pieces_to_read r rs in omega (arith, h, s)
 
 -- as many pieces as the journal tells
-pub pieces_told : (row : LogRow) (entry : MapRecord) → pieces_left (parts_of (stored_at row entry)) ≡ pieces_to_read entry
+pub pieces_told : (row : LogRow) (entry : MapRecord) → pieces_left (parts_to_read (stored_at row entry)) ≡ pieces_to_read entry
 pieces_told row entry = pieces_of_parts (stored_at row entry)
 
-pub pieces_most : (m : MapMeaning) (uid : ℕ) (row : LogRow) (entry : MapRecord) → record_at m uid ≡ Some entry → pieces_left (parts_of (stored_at row entry)) ≤ all_pieces m
+pub pieces_most : (m : MapMeaning) (uid : ℕ) (row : LogRow) (entry : MapRecord) → record_at m uid ≡ Some entry → pieces_left (parts_to_read (stored_at row entry)) ≤ all_pieces m
 pieces_most m uid row entry found = let h = pieces_among uid m.records entry found in let e = pieces_told row entry in omega (arith, h, e)
 
 kept_known : (known : List KnownInstance) (ps : List Part) → All (λ p. KnowsSource known p.source) ps → All (λ p. KnowsSource known p.source) (filter has_octets ps)
@@ -65,5 +65,5 @@ rows_known known [] h = All-nil (λ (p : Part). KnowsSource known p.source)
 rows_known known (row ∷ rows) h = All-cons (λ (p : Part). KnowsSource known p.source) (instance_part row) (map instance_part rows) (All-head (IsKnownRow known) row rows h) (rows_known known rows (All-tail (IsKnownRow known) row rows h))
 
 -- Its parts are of a storage file, or of instances that are known.
-pub parts_known : (known : List KnownInstance) (row : LogRow) (entry : MapRecord) → All (IsKnownRow known) entry.instances → All (λ p. KnowsSource known p.source) (parts_of (stored_at row entry))
+pub parts_known : (known : List KnownInstance) (row : LogRow) (entry : MapRecord) → All (IsKnownRow known) entry.instances → All (λ p. KnowsSource known p.source) (parts_to_read (stored_at row entry))
 parts_known known row entry h = kept_known known (region_part (stored_at row entry) ∷ map instance_part entry.instances) (All-cons (λ (p : Part). KnowsSource known p.source) (region_part (stored_at row entry)) (map instance_part entry.instances) tt (rows_known known entry.instances h))

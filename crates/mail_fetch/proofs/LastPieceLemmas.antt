@@ -3,7 +3,7 @@ use Rattle.std.proofs.Common.{◌≡◌, ◌<◌, ◌+◌, ℕ, zero, suc, List,
 use Rattle.mdbox_base.specs.declared.replies.Reply.{Reply}
 use Rattle.sis_store.specs.declared.instance.KnownInstance.{KnownInstance}
 use Rattle.mail_fetch.specs.Events.{GoesOnWith, with_piece}
-use Rattle.mail_fetch.specs.Parts.{HasOctets, KnowsSource, pieces_left}
+use Rattle.mail_fetch.specs.Parts.{HasSomeOctets, KnowsSource, pieces_left}
 use Rattle.mail_fetch.specs.Region.{RegionValue, IsReplyFor}
 use Rattle.mail_fetch.specs.Task.{HasPieceLeft}
 use Rattle.mail_fetch.specs.declared.parts.Part.{Part}
@@ -33,7 +33,7 @@ some_left (suc n) some = omega arith
 
 pub left_on : (region read : RegionValue) (piece : List ℕ) → HasPieceLeft (stage.Reading region) → read ≡ with_piece region piece → (pieces_left read.left ≡ 0 → ⊥) → HasPieceLeft (stage.Reading read)
 left_on region read piece left same some =
-    (some_left (pieces_left read.left) some, subst (λ (r : RegionValue). All HasOctets r.left) (sym same) (octets_after region.left left.1))
+    (some_left (pieces_left read.left) some, subst (λ (r : RegionValue). All HasSomeOctets r.left) (sym same) (octets_after region.left left.1))
 
 pub known_on : (known : List KnownInstance) (region read : RegionValue) (piece : List ℕ) → All (λ part. KnowsSource known part.source) region.left → read ≡ with_piece region piece → All (λ part. KnowsSource known part.source) read.left
 known_on known region read piece knows same = subst (λ (r : RegionValue). All (λ (part : Part). KnowsSource known part.source) r.left) (sym same) (known_after known region.left knows)

@@ -13,7 +13,7 @@ use Rattle.disk_model.specs.Disk.{Files}
 use Rattle.mdbox_base.specs.declared.entries.InstRow.{InstRow}
 use Rattle.sis_store.specs.declared.instance.KnownInstance.{KnownInstance}
 use Rattle.storage_files.specs.OnDisk.{piece_read}
-use Rattle.mail_fetch.specs.Parts.{HasOctets, KnowsSource, first_read, has_octets, instance_part, left_after, octets_to_read, part_read, parts_of, parts_read, pieces_in, pieces_left, region_part, source_file}
+use Rattle.mail_fetch.specs.Parts.{HasSomeOctets, KnowsSource, first_read, has_octets, instance_part, left_after, octets_to_read, part_read, parts_to_read, parts_read, pieces_in, pieces_left, region_part, source_file}
 use Rattle.mail_fetch.specs.Room.{IsPart}
 use Rattle.mail_fetch.specs.declared.parts.Part.{Part}
 use Rattle.mail_fetch.specs.declared.parts.StoredAt.{StoredAt}
@@ -29,9 +29,9 @@ not_less a b l = grind (arith, common_steps, l)
 abbrev size_of_part : Part → ℕ
 size_of_part part = part.size
 
-pub range_octets : (parts : List Part) → All IsPart parts → All HasOctets parts
-range_octets [] h = All-nil HasOctets
-range_octets (p ∷ ps) h = All-cons HasOctets p ps (All-head IsPart p ps h).some (range_octets ps (All-tail IsPart p ps h))
+pub range_octets : (parts : List Part) → All IsPart parts → All HasSomeOctets parts
+range_octets [] h = All-nil HasSomeOctets
+range_octets (p ∷ ps) h = All-cons HasSomeOctets p ps (All-head IsPart p ps h).some (range_octets ps (All-tail IsPart p ps h))
 
 pub some_piece : (size : ℕ) → 1 ≤ size → 0 < pieces_in size
 some_piece size h = let e = div-add-mod' (size + 65535) 65536 in omega (arith, h, e)
@@ -46,7 +46,7 @@ last_piece_of : (size : ℕ) → 1 ≤ size → size ≤ 65536 → pieces_in siz
 last_piece_of size some h = let e = div-add-mod' (size + 65535) 65536 in omega (arith, some, h, e)
 
 -- with the first piece read there is one less
-pub pieces_after : (parts : List Part) → All HasOctets parts → 0 < pieces_left parts → pieces_left (left_after parts) + 1 ≡ pieces_left parts
+pub pieces_after : (parts : List Part) → All HasSomeOctets parts → 0 < pieces_left parts → pieces_left (left_after parts) + 1 ≡ pieces_left parts
 pieces_after [] each some = absurd (omega (arith, some))
 pieces_after (p ∷ ps) each some = by_size (cases_lt 65536 p.size)
   where
@@ -64,7 +64,7 @@ pieces_after (p ∷ ps) each some = by_size (cases_lt 65536 p.size)
         let now : left_after (p ∷ ps) ≡ ps = ap (λ (b : Bool). if b then record p { offset = p.offset + 65536; size = p.size - 65536 } ∷ ps else ps) (not_less 65536 p.size last) in
         let sum : pieces_left (left_after (p ∷ ps)) ≡ pieces_left ps = ap pieces_left now in
         let all : pieces_left (p ∷ ps) ≡ pieces_in p.size + pieces_left ps = sum_by-cons (λ (q : Part). pieces_in q.size) p ps in
-        let one = last_piece_of p.size (All-head HasOctets p ps each) last in
+        let one = last_piece_of p.size (All-head HasSomeOctets p ps each) last in
         omega (arith, sum, all, one)
 
 -- what holds of the rest of a part
@@ -77,8 +77,8 @@ each_after P (p ∷ ps) on each = by_size (cases_lt 65536 p.size)
         (All-cons P (record p { offset = p.offset + 65536; size = p.size - 65536 }) ps (on p more (All-head P p ps each)) (All-tail P p ps each))
     by_size (inr last) = subst (All P) (sym (ap (λ (b : Bool). if b then record p { offset = p.offset + 65536; size = p.size - 65536 } ∷ ps else ps) (not_less 65536 p.size last))) (All-tail P p ps each)
 
-pub octets_after : (parts : List Part) → All HasOctets parts → All HasOctets (left_after parts)
-octets_after parts each = each_after HasOctets parts (λ p more h. omega (arith, more)) each
+pub octets_after : (parts : List Part) → All HasSomeOctets parts → All HasSomeOctets (left_after parts)
+octets_after parts each = each_after HasSomeOctets parts (λ p more h. omega (arith, more)) each
 
 pub range_after : (parts : List Part) → All IsPart parts → All IsPart (left_after parts)
 range_after parts each = each_after IsPart parts (λ p more h. let ends = h.ends in record { some = omega (arith, more); ends = omega (arith, more, ends) }) each
@@ -107,11 +107,11 @@ sizes_after (p ∷ ps) = by_size (cases_lt 65536 p.size)
         let all : sum_by size_of_part (p ∷ ps) ≡ p.size + sum_by size_of_part ps = sum_by-cons size_of_part p ps in
         omega (arith, sum, all, last)
 
-pub none_left : (parts : List Part) → All HasOctets parts → pieces_left parts ≡ 0 → parts ≡ []
+pub none_left : (parts : List Part) → All HasSomeOctets parts → pieces_left parts ≡ 0 → parts ≡ []
 none_left [] each none = refl
 none_left (p ∷ ps) each none =
     let all : pieces_left (p ∷ ps) ≡ pieces_in p.size + pieces_left ps = sum_by-cons (λ (q : Part). pieces_in q.size) p ps in
-    let one = some_piece p.size (All-head HasOctets p ps each) in
+    let one = some_piece p.size (All-head HasSomeOctets p ps each) in
     absurd (omega (arith, all, one, none))
 
 -- ---- parts in a vector
@@ -179,26 +179,26 @@ sum_of_rows : (f : Part → ℕ) (rows : List InstRow) → sum_by f (map instanc
 sum_of_rows f [] = refl
 sum_of_rows f (row ∷ rows) = sum_by-cons f (instance_part row) (map instance_part rows) ∙ (ap (λ (n : ℕ). f (instance_part row) + n) (sum_of_rows f rows) ∙ sym (sum_by-cons (λ (r : InstRow). f (instance_part r)) row rows))
 
-sum_of_parts : (f : Part → ℕ) → ((p : Part) → p.size ≡ 0 → f p ≡ 0) → (from : StoredAt) → sum_by f (parts_of from) ≡ f (region_part from) + sum_by (λ row. f (instance_part row)) from.instances
+sum_of_parts : (f : Part → ℕ) → ((p : Part) → p.size ≡ 0 → f p ≡ 0) → (from : StoredAt) → sum_by f (parts_to_read from) ≡ f (region_part from) + sum_by (λ row. f (instance_part row)) from.instances
 sum_of_parts f none from =
     sum_kept f none (region_part from ∷ map instance_part from.instances)
     ∙ (sum_by-cons f (region_part from) (map instance_part from.instances) ∙ ap (λ (n : ℕ). f (region_part from) + n) (sum_of_rows f from.instances))
 
-pub total_of_parts : (from : StoredAt) → sum_by (λ part. part.size) (parts_of from) ≡ octets_to_read from
+pub total_of_parts : (from : StoredAt) → sum_by (λ part. part.size) (parts_to_read from) ≡ octets_to_read from
 total_of_parts from = sum_of_parts size_of_part (λ p e. e) from
 
-pub pieces_of_parts : (from : StoredAt) → pieces_left (parts_of from) ≡ pieces_in from.size + sum_by (λ row. pieces_in row.size) from.instances
+pub pieces_of_parts : (from : StoredAt) → pieces_left (parts_to_read from) ≡ pieces_in from.size + sum_by (λ row. pieces_in row.size) from.instances
 pieces_of_parts from = sum_of_parts (λ p. pieces_in p.size) (λ p e. ap pieces_in e) from
 
-octets_kept : (ps : List Part) → All HasOctets (filter has_octets ps)
-octets_kept [] = All-nil HasOctets
+octets_kept : (ps : List Part) → All HasSomeOctets (filter has_octets ps)
+octets_kept [] = All-nil HasSomeOctets
 octets_kept (p ∷ ps) = by_size (cases_lt 0 p.size) (octets_kept ps)
   where
-    by_size : (0 < p.size) ⊎ (p.size ≤ 0) → All HasOctets (filter has_octets ps) → All HasOctets (filter has_octets (p ∷ ps))
-    by_size (inl some) rest = subst (All HasOctets) (sym (ap (λ (b : Bool). cond b (p ∷ filter has_octets ps) (filter has_octets ps)) (less 0 p.size some))) (All-cons HasOctets p (filter has_octets ps) (omega (arith, some)) rest)
-    by_size (inr none) rest = subst (All HasOctets) (sym (ap (λ (b : Bool). cond b (p ∷ filter has_octets ps) (filter has_octets ps)) (not_less 0 p.size none))) rest
+    by_size : (0 < p.size) ⊎ (p.size ≤ 0) → All HasSomeOctets (filter has_octets ps) → All HasSomeOctets (filter has_octets (p ∷ ps))
+    by_size (inl some) rest = subst (All HasSomeOctets) (sym (ap (λ (b : Bool). cond b (p ∷ filter has_octets ps) (filter has_octets ps)) (less 0 p.size some))) (All-cons HasSomeOctets p (filter has_octets ps) (omega (arith, some)) rest)
+    by_size (inr none) rest = subst (All HasSomeOctets) (sym (ap (λ (b : Bool). cond b (p ∷ filter has_octets ps) (filter has_octets ps)) (not_less 0 p.size none))) rest
 
-pub octets_of_parts : (from : StoredAt) → All HasOctets (parts_of from)
+pub octets_of_parts : (from : StoredAt) → All HasSomeOctets (parts_to_read from)
 octets_of_parts from = octets_kept (region_part from ∷ map instance_part from.instances)
 
 -- ---- what files have of them
@@ -215,7 +215,7 @@ reads_kept files (p ∷ ps) = elim (filter_one p.size p ps refl) [
   | inr e ↦ ap (parts_read files) e.1 ∙ (reads_kept files ps ∙ ap (λ (xs : List ℕ). xs ++ parts_read files ps) (sym (read_none (files (source_file p.source)) p.offset p.size e.0)))
 ]
 
-pub reads_of_parts : (files : Files) (from : StoredAt) → parts_read files (parts_of from) ≡ part_read files (region_part from) ++ parts_read files (map instance_part from.instances)
+pub reads_of_parts : (files : Files) (from : StoredAt) → parts_read files (parts_to_read from) ≡ part_read files (region_part from) ++ parts_read files (map instance_part from.instances)
 reads_of_parts files from = reads_kept files (region_part from ∷ map instance_part from.instances)
 
 -- the first piece of what a file has, and what is left of it

@@ -43,7 +43,7 @@ use Rattle.task_steps.proofs.SeenLemmas.{pins_still, doomed_still, not_begun_sta
 use Rattle.task_steps.proofs.OneEventLemmas.{when_stopped, memory_is, not_reading, not_reading_memory, some_given, never_more}
 use Rattle.mail_fetch.specs.Clause.{ReadsSafe, StepsOnSafe}
 use Rattle.mail_fetch.specs.Events.{fetch_refusal, IsBegun, IsStoredBy, IsPinned, IsPieceRead, next_piece, with_piece, NoChangeFault}
-use Rattle.mail_fetch.specs.Parts.{left_after, parts_of, pieces_left}
+use Rattle.mail_fetch.specs.Parts.{left_after, parts_to_read, pieces_left}
 use Rattle.mail_fetch.specs.Region.{stored_at, RegionValue, unread, IsReplyFor}
 use Rattle.mail_fetch.specs.Stages.{ReadPiece, HasPinned, HasReadAllBut, IsPieceRefusal, UnpinsNext, IsFrontOfStored, Reading, IsTrueReply, IsAtFetch}
 use Rattle.mail_fetch.specs.Task.{HasPieceLeft, fetch_did, refusing_did, one_pin, seen_with_pins}
@@ -174,7 +174,7 @@ first_pinned around after others name uid store history faults row entry is runs
           pins = ap (λ (n : ℕ). one_pinned_for entry.file n) (sym (pieces_told row entry));
         },
         All-nil (ReadPiece None),
-        none_read (pieces_left (parts_of (stored_at row entry))),
+        none_read (pieces_left (parts_to_read (stored_at row entry))),
       ),
       (
         shown.message.octets,
@@ -310,7 +310,7 @@ piece_more around after others name uid region store disk history then_history f
         stood.0.0 ++ event ∷ [],
         one_piece_more region.from (own_events place run) stood.0.0 event (own_events place (and_then run event)) stood.0.1 (own_more place run event (eq-eqb place place refl)),
         All-push (ReadPiece None) stood.0.0 event stood.0.2 (record { part = refl; pinned = refl; refused_is = refl }),
-        count_more stood.0.0 event (pieces_left region.left) (pieces_left (left_after region.left)) (pieces_left (parts_of region.from)) stood.0.3 (pieces_after region.left left.1 left.0),
+        count_more stood.0.0 event (pieces_left region.left) (pieces_left (left_after region.left)) (pieces_left (parts_to_read region.from)) stood.0.3 (pieces_after region.left left.1 left.0),
       ),
       (stood.1.0, stood.1.1, λ runs_now. front_on region stood.1.0 piece history then_history idle told (stood.1.2 runs)),
     ))
@@ -357,7 +357,7 @@ piece_whole around after others name uid region store disk history then_history 
           stood.0.0 ++ event ∷ [],
           one_piece_more region.from (own_events place run) stood.0.0 event (own_events place (and_then run event)) stood.0.1 (own_more place run event (eq-eqb place place refl)),
           All-push (ReadPiece None) stood.0.0 event stood.0.2 (record { part = refl; pinned = refl; refused_is = refl }),
-          count_more stood.0.0 event (pieces_left region.left) 0 (pieces_left (parts_of region.from)) stood.0.3 (let one = pieces_after region.left left.1 left.0 in omega (arith, one, last)),
+          count_more stood.0.0 event (pieces_left region.left) 0 (pieces_left (parts_to_read region.from)) stood.0.3 (let one = pieces_after region.left left.1 left.0 in omega (arith, one, last)),
         ),
       ),
       (stood.1.0, stood.1.1, true_is stood.1.0 (stood.1.2 runs)),

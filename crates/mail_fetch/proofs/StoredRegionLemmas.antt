@@ -22,7 +22,7 @@ use Rattle.model_store.specs.Settled.{files_of}
 use Rattle.model_store.specs.Stands.{StoresMessage, HasInstances}
 use Rattle.storage_files.specs.OnDisk.{piece_read}
 use Rattle.mail_fetch.specs.Events.{next_piece, with_piece}
-use Rattle.mail_fetch.specs.Parts.{instance_part, left_after, octets_to_read, part_read, parts_of, parts_read, pieces_left, region_part}
+use Rattle.mail_fetch.specs.Parts.{instance_part, left_after, octets_to_read, part_read, parts_to_read, parts_read, pieces_left, region_part}
 use Rattle.mail_fetch.specs.Region.{RegionValue, HoldsWhole, IsReplyFor, IsStoredMessage, stored_at}
 use Rattle.mail_fetch.specs.Stages.{IsFrontOfStored, IsTrueReply}
 use Rattle.mail_fetch.specs.declared.parts.StoredAt.{StoredAt}
@@ -47,11 +47,11 @@ front_more region octets piece disk f is = record {
 }
 
 -- Once all is read, it is all that the files have.
-pub front_whole : (region : RegionValue) (octets : List ℕ) (files : Files) → (f : IsFrontOfStored region octets files) → pieces_left region.left ≡ 0 → region.octets ≡ parts_read files (parts_of (stored_at f.row f.entry))
+pub front_whole : (region : RegionValue) (octets : List ℕ) (files : Files) → (f : IsFrontOfStored region octets files) → pieces_left region.left ≡ 0 → region.octets ≡ parts_read files (parts_to_read (stored_at f.row f.entry))
 front_whole region octets files f none =
     sym (append-nil region.octets)
     ∙ (ap (λ (xs : List ℕ). region.octets ++ xs) (sym (reads_none files region.left none))
-    ∙ (f.front ∙ ap (λ (from : StoredAt). parts_read files (parts_of from)) f.from))
+    ∙ (f.front ∙ ap (λ (from : StoredAt). parts_read files (parts_to_read from)) f.from))
 
 -- ---- the instances
 
@@ -84,9 +84,9 @@ all_read files (row ∷ rows) (octets ∷ rest) has whole =
 
 -- What the files have of a stored message: its region, and behind it its instances.
 record ReadsStored (files : Files) (row : LogRow) (entry : MapRecord) (octets : List ℕ) (stores : StoresMessage files entry octets) : Type 0 where
-  long : length (parts_read files (parts_of (stored_at row entry))) ≡ octets_to_read (stored_at row entry)
-  region : take entry.size (parts_read files (parts_of (stored_at row entry))) ≡ take entry.size (drop entry.offset stores.stored.octets_there)
-  instances : octets_in entry.instances (drop entry.size (parts_read files (parts_of (stored_at row entry)))) ≡ stores.instances
+  long : length (parts_read files (parts_to_read (stored_at row entry))) ≡ octets_to_read (stored_at row entry)
+  region : take entry.size (parts_read files (parts_to_read (stored_at row entry))) ≡ take entry.size (drop entry.offset stores.stored.octets_there)
+  instances : octets_in entry.instances (drop entry.size (parts_read files (parts_to_read (stored_at row entry)))) ≡ stores.instances
 
 reads_stored : (files : Files) (row : LogRow) (entry : MapRecord) (octets : List ℕ) → (stores : StoresMessage files entry octets) → All (IsThereWhole files) entry.instances → ReadsStored files row entry octets stores
 reads_stored files row entry octets stores sizes =
@@ -95,7 +95,7 @@ reads_stored files row entry octets stores sizes =
     let behind = parts_read files (map instance_part entry.instances) in
     let all = all_read files entry.instances stores.instances stores.found sizes in
     let here : part_read files (region_part (stored_at row entry)) ≡ text = ap (piece_read entry.offset entry.size) stored.there in
-    let joined : parts_read files (parts_of (stored_at row entry)) ≡ text ++ behind = reads_of_parts files (stored_at row entry) ∙ ap (λ (xs : List ℕ). xs ++ behind) here in
+    let joined : parts_read files (parts_to_read (stored_at row entry)) ≡ text ++ behind = reads_of_parts files (stored_at row entry) ∙ ap (λ (xs : List ℕ). xs ++ behind) here in
     let size : length text ≡ entry.size = (let a = length-take entry.size (drop entry.offset stored.octets_there) in let b = length-drop entry.offset stored.octets_there in let i = stored.inside in omega (arith, a, b, i)) in
     record {
       long = ap (λ (xs : List ℕ). length xs) joined ∙ (let a = length-append text behind in let b = all.1 in let w : length (text ++ behind) ≡ octets_to_read (stored_at row entry) = omega (arith, a, b, size) in w);
@@ -115,7 +115,7 @@ message_there files row entry octets region stores listed is = record {
   size = sym stores.size ∙ listed;
 }
 
-pub stored_fetched : (files : Files) (row : LogRow) (entry : MapRecord) (octets : List ℕ) → StoresMessage files entry octets → All (IsThereWhole files) entry.instances → length octets ≡ row.size → HoldsWhole (stored_at row entry) (parts_read files (parts_of (stored_at row entry))) octets
+pub stored_fetched : (files : Files) (row : LogRow) (entry : MapRecord) (octets : List ℕ) → StoresMessage files entry octets → All (IsThereWhole files) entry.instances → length octets ≡ row.size → HoldsWhole (stored_at row entry) (parts_read files (parts_to_read (stored_at row entry))) octets
 unfolding message_there
 stored_fetched files row entry octets stores sizes listed =
     let r = reads_stored files row entry octets stores sizes in

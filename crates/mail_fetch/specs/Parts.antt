@@ -27,12 +27,12 @@ instance_part row = record { source = source.Instance row; offset = 0; size = ro
 abbrev pub has_octets : Part → Bool
 has_octets part = nat_lt 0 part.size
 
-abbrev pub HasOctets : Part → Type 0
-HasOctets part = 1 ≤ part.size
+abbrev pub HasSomeOctets : Part → Type 0
+HasSomeOctets part = 1 ≤ part.size
 
 -- First the region, then each instance, in order. An instance without octets isn't read.
-abbrev pub parts_of : StoredAt → List Part
-parts_of from = filter has_octets (region_part from ∷ map instance_part from.instances)
+abbrev pub parts_to_read : StoredAt → List Part
+parts_to_read from = filter has_octets (region_part from ∷ map instance_part from.instances)
 
 -- how many octets region and instances have
 abbrev pub octets_to_read : StoredAt → ℕ

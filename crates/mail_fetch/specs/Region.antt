@@ -13,7 +13,7 @@ use Rattle.model_storage.specs.StorageFile.{Message, IsMessage}
 use Rattle.model_storage.specs.Metadata.{IsMetadata}
 use Rattle.model_storage.specs.declared.metadata_value.Metadata.{Metadata}
 use Rattle.model_store.specs.Stands.{NameInstances, whole_size}
-use Rattle.mail_fetch.specs.Parts.{octets_to_read, parts_of}
+use Rattle.mail_fetch.specs.Parts.{octets_to_read, parts_to_read}
 use Rattle.mail_fetch.specs.declared.parts.Part.{Part}
 use Rattle.mail_fetch.specs.declared.parts.StoredAt.{StoredAt}
 
@@ -35,7 +35,7 @@ pub record RegionValue : Type 0 where
   pub left : List Part
 
 abbrev pub unread : StoredAt → RegionValue
-unread from = record { from = from; octets = []; left = parts_of from }
+unread from = record { from = from; octets = []; left = parts_to_read from }
 
 -- These octets are one message with the record's GUID, whose references name the record's instances, of the size that the
 -- mailbox tells.
@@ -49,7 +49,7 @@ pub record IsStoredMessage (from : StoredAt) (region : List ℕ) : Type 0 where
   pub size : whole_size meta message.body ≡ from.listed
 
 -- Lines that tell this of a message, whose stored body has so many octets, tell what is kept of it.
-pub record IsTold (brief : Brief) (from : StoredAt) (stored : ℕ) : Type 0 where
+pub record IsToldByLines (brief : Brief) (from : StoredAt) (stored : ℕ) : Type 0 where
   pub guid : brief.guid ≡ Some from.guid
   pub size : option_map_or (λ whole. whole) brief.physical stored ≡ from.listed
   pub names : NameInstances brief.refs.items from.instances

@@ -13,7 +13,7 @@ use Rattle.model_store.specs.Stands.{StoresMessage}
 use Rattle.list_machine.specs.Run.{First, ReadsPiece, RunEvent, Run, own_events}
 use Rattle.journal.specs.Journal.{refusal_in}
 use Rattle.task_steps.specs.Step.{Seen, HasNotBegun}
-use Rattle.mail_fetch.specs.Parts.{parts_of, parts_read, pieces_left}
+use Rattle.mail_fetch.specs.Parts.{parts_to_read, parts_read, pieces_left}
 use Rattle.mail_fetch.specs.Region.{RegionValue, stored_at}
 use Rattle.mail_fetch.specs.declared.parts.StoredAt.{StoredAt}
 use Rattle.mail_fetch.specs.declared.task.FetchStage.{FetchStage}
@@ -33,11 +33,11 @@ pub record HasPinned (from : StoredAt) (own behind : List RunEvent) : Type 0 whe
   pub own_are : own ≡ pin ∷ behind
   pub part : pin.part ≡ First
   pub unrefused : pin.refused ≡ None
-  pub pins : pin.pins ≡ record { file = from.file.0; pieces = pieces_left (parts_of from) } ∷ []
+  pub pins : pin.pins ≡ record { file = from.file.0; pieces = pieces_left (parts_to_read from) } ∷ []
 
 -- it has read all pieces but so many
 abbrev pub HasReadAllBut : StoredAt → ℕ → List RunEvent → Type 0
-HasReadAllBut from left own = (behind : List RunEvent) × HasPinned from own behind × All (ReadPiece None) behind × (length behind + left ≡ pieces_left (parts_of from))
+HasReadAllBut from left own = (behind : List RunEvent) × HasPinned from own behind × All (ReadPiece None) behind × (length behind + left ≡ pieces_left (parts_to_read from))
 
 -- what a piece was refused by, behind which the request goes on
 abbrev pub IsPieceRefusal : Refusal → Type 0
@@ -61,7 +61,7 @@ pub record IsFrontOfStored (region : RegionValue) (octets : List ℕ) (files : F
   pub listed : length octets ≡ row.size
   pub stores : StoresMessage files entry octets
   pub sizes : All (IsThereWhole files) entry.instances
-  pub front : region.octets ++ parts_read files region.left ≡ parts_read files (parts_of region.from)
+  pub front : region.octets ++ parts_read files region.left ≡ parts_read files (parts_to_read region.from)
 
 -- the disk is modelled, and its files as they read are so
 abbrev pub Reading : (Files → Type 0) → Option History → Type 0

@@ -16,7 +16,7 @@ use Rattle.store_core.specs.Dues.{due_at}
 use Rattle.store_core.specs.Knows.{knows_file, may_have_given}
 use Rattle.store_core.specs.Value.{StoreValue, indexes_of}
 use Rattle.task_steps.specs.Step.{Seen}
-use Rattle.mail_fetch.specs.Parts.{HasOctets, KnowsSource, pieces_left}
+use Rattle.mail_fetch.specs.Parts.{HasSomeOctets, KnowsSource, pieces_left}
 use Rattle.mail_fetch.specs.declared.task.FetchStage.{FetchStage}
 use Rattle.mail_fetch.specs.declared.task.FetchStage.TheVariants as stage
 
@@ -48,7 +48,7 @@ events_left m (stage.Unpinning from given) = 1
 
 -- a task that reads has a piece left to read, and each part that is left has octets
 abbrev pub HasPieceLeft : FetchStage → Type 0
-HasPieceLeft (stage.Reading region) = (0 < pieces_left region.left) × All HasOctets region.left
+HasPieceLeft (stage.Reading region) = (0 < pieces_left region.left) × All HasSomeOctets region.left
 HasPieceLeft other = Unit {0}
 
 -- the store knows each instance that is left to read

@@ -6,7 +6,7 @@ ghost use Rattle.model_meaning.specs.MapMeaning.{MapRecord};
 ghost use Rattle.model_store.specs.Safe.{IsThereWhole};
 ghost use Rattle.model_store.specs.Stands.{StoresMessage};
 ghost use Rattle.task_steps.specs.Step.{Seen, IsKept};
-ghost use Rattle.mail_fetch.specs.Parts.{parts_of, parts_read};
+ghost use Rattle.mail_fetch.specs.Parts.{parts_to_read, parts_read};
 ghost use Rattle.mail_fetch.specs.Region.{stored_at, HoldsWhole};
 ghost use Rattle.mail_fetch.specs.Stages.{IsAtFetch};
 ghost use Rattle.mail_fetch.specs.declared.task.FetchStage.{FetchStage};
@@ -19,5 +19,5 @@ pub fn fetch_stages_are_kept()
 /// Where files store a message of the size that its mailbox tells, and have its instances with their sizes, what they have at the
 /// record's region and as its instances holds it whole. So it is fetched, and no damage is replied.
 pub fn stored_messages_are_fetched()
-    ensures { (files : Files) (row : LogRow) (entry : MapRecord) (octets : List ℕ) → StoresMessage files entry octets → All (IsThereWhole files) entry.instances → length octets ≡ row.size → HoldsWhole (stored_at row entry) (parts_read files (parts_of (stored_at row entry))) octets }
+    ensures { (files : Files) (row : LogRow) (entry : MapRecord) (octets : List ℕ) → StoresMessage files entry octets → All (IsThereWhole files) entry.instances → length octets ≡ row.size → HoldsWhole (stored_at row entry) (parts_read files (parts_to_read (stored_at row entry))) octets }
 {}

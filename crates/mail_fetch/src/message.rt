@@ -6,7 +6,7 @@ ghost use Rattle.model_attach.specs.Rejoined.{IsWhole};
 ghost use Rattle.model_base64.specs.Base64Text.{IsForm};
 ghost use Rattle.model_store.specs.Stands.{NameInstances};
 ghost use Rattle.mail_fetch.specs.Parts.{octets_to_read};
-ghost use Rattle.mail_fetch.specs.Region.{HoldsWhole, IsStoredMessage, IsTold};
+ghost use Rattle.mail_fetch.specs.Region.{HoldsWhole, IsStoredMessage, IsToldByLines};
 ghost use Rattle.mail_fetch.specs.Room.{HasJoinRoom};
 
 use crate::parts::StoredAt;
@@ -114,7 +114,7 @@ fn stored_message(from: &StoredAt, region: &[u8], refs: Vec<ExtRef>) -> Option<(
 
 /// Whether the lines of a message, whose body has so many octets, tell what is kept of it.
 fn is_told(brief: &Brief, from: &StoredAt, size: u64) -> bool
-    ensures { IsTrue result ↔ IsTold brief.now from.now size }
+    ensures { IsTrue result ↔ IsToldByLines brief.now from.now size }
 {
     has_guid(brief, from.guid)
         && has_size(brief, size, u64::from(from.listed))

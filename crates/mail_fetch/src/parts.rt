@@ -3,7 +3,7 @@ ghost use Rattle.std.specs.Prelude.{◌≡◌, ◌≤◌, ◌<◌, ◌++◌, ◌
 ghost use Rattle.disk_model.specs.Disk.{IfTold, IsIdle};
 ghost use Rattle.disk_model.specs.FaultCounts.{NoFault, ReadFaultCounted};
 ghost use Rattle.model_store.specs.Settled.{files_of};
-ghost use Rattle.mail_fetch.specs.Parts.{KnowsSource, has_octets, left_after, octets_to_read, part_read, parts_of};
+ghost use Rattle.mail_fetch.specs.Parts.{KnowsSource, has_octets, left_after, octets_to_read, part_read, parts_to_read};
 ghost use Rattle.mail_fetch.specs.Room.{IsPart};
 
 use disk_model::Disk;
@@ -46,8 +46,8 @@ pub struct Part {
 }
 
 /// The parts of a message: its region, and each instance. One without octets is left out.
-pub fn parts_of(alloc: Global, from: &StoredAt) -> Result<Vec<Part>, NoMemory>
-    ensures parts { IfOk result (λ parts. parts.items ≡ parts_of from.now) }
+pub fn parts_to_read(alloc: Global, from: &StoredAt) -> Result<Vec<Part>, NoMemory>
+    ensures parts { IfOk result (λ parts. parts.items ≡ parts_to_read from.now) }
     ensures range { IfOk result (λ parts. All IsPart parts.items) }
 {
     let mut parts = Vec::new(alloc);

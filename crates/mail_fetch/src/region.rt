@@ -7,7 +7,7 @@ ghost use Rattle.mail_fetch.specs.Parts.{KnowsSource, pieces_left};
 ghost use Rattle.mail_fetch.specs.Region.{unread, IsReplyFor};
 
 use crate::message::message_of;
-use crate::parts::{PIECE, Part, StoredAt, octets_to_read, parts_of, pass_piece, read_front};
+use crate::parts::{PIECE, Part, StoredAt, octets_to_read, parts_to_read, pass_piece, read_front};
 use disk_model::Disk;
 use mdbox_base::{ExtRef, NoMemory, Octets, Refusal, Reply};
 use std::alloc::Global;
@@ -50,7 +50,7 @@ impl Region {
         ensures { IfOk result (λ region. region ≡ unread from) }
     {
         let total = octets_to_read(&from).ok_or(NoMemory)?;
-        let parts = parts_of(alloc, &from)?;
+        let parts = parts_to_read(alloc, &from)?;
         let instances = from.instances.length();
         let whole = if instances > 0 { from.listed } else { 0 };
         Ok(Region {

@@ -38,7 +38,7 @@ use Rattle.task_steps.specs.Step.{Seen, ended_by}
 use Rattle.mail_fetch.specs.Clause.{ReadsSafe, StepsOnSafe}
 use Rattle.mail_fetch.specs.Events.{fetch_refusal, IsStoredBy, IsBegun, next_piece, with_piece, IsPieceRead, FetchesNext, NoChangeFault}
 use Rattle.mail_fetch.specs.Failed.{HasFailedRead}
-use Rattle.mail_fetch.specs.Parts.{instance_part, left_after, parts_of, parts_read, pieces_left}
+use Rattle.mail_fetch.specs.Parts.{instance_part, left_after, parts_to_read, parts_read, pieces_left}
 use Rattle.mail_fetch.specs.Region.{stored_at, RegionValue, unread, IsReplyFor, damage_at}
 use Rattle.mail_fetch.specs.Stages.{IsAtFetch, IsTrueReply, UnpinsNext}
 use Rattle.mail_fetch.specs.Task.{FetchValue, seen_with_pins}
@@ -59,7 +59,7 @@ rows_read : (disk : DiskState) (rows : List InstRow) → parts_read (files_of di
 rows_read disk [] = refl
 rows_read disk (row ∷ rows) = ap (λ (xs : List ℕ). piece_read 0 row.size (reading (disk (Inst row.hash.0 row.id.0))) ++ xs) (rows_read disk rows)
 
-all_read : (row : LogRow) (entry : MapRecord) (disk : DiskState) → parts_read (files_of disk) (parts_of (stored_at row entry)) ≡ message_read entry disk
+all_read : (row : LogRow) (entry : MapRecord) (disk : DiskState) → parts_read (files_of disk) (parts_to_read (stored_at row entry)) ≡ message_read entry disk
 all_read row entry disk =
     reads_of_parts (files_of disk) (stored_at row entry)
     ∙ ap (λ (xs : List ℕ). piece_read entry.offset entry.size (reading (disk (Mail entry.file))) ++ xs) (rows_read disk entry.instances)

@@ -127,7 +127,7 @@ fn take(store: &mut Store<MemDisk>, task: FetchTask) -> (Reply, u64)
 {
     let mut task = task;
     let mut events: u64 = 0;
-    loop {
+    'events: loop {
         events = events.saturating_add(1);
         if let Progress::Done(reply) = task.step(store) {
             return (reply, events);
