@@ -30,7 +30,7 @@ kept_readable Reads key lines line None h (inl e) = inl (values_stay key lines l
 kept_readable Reads key lines line None h (inr e) = inr (e.0, values_stay key lines line h ∙ e.1, e.2)
 kept_readable Reads key lines line (Some x) h e = (e.0, values_stay key lines line h ∙ e.1, e.2)
 
-kept_refs : (lines : List Line) (line : Line) (refs : List ExtRef) → (line.key == 88) ≡ false → HasReferences lines refs → HasReferences (lines ++ line ∷ []) refs
+pub kept_refs : (lines : List Line) (line : Line) (refs : List ExtRef) → (line.key == 88) ≡ false → HasReferences lines refs → HasReferences (lines ++ line ∷ []) refs
 kept_refs lines line [] h e = values_stay 88 lines line h ∙ e
 kept_refs lines line (r ∷ refs) h e = (e.0, values_stay 88 lines line h ∙ e.1, e.2)
 

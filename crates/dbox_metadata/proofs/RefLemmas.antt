@@ -126,3 +126,13 @@ are_read value rest behind refs r f e fits is empty =
       fit = fit_more refs r f fits;
       spelled = e ∙ rw last (whole_text refs r);
     }
+
+-- a text spells more references than were read before its end
+pub more_than : (refs all : List ExtRef) (rest : List ℕ) → AllByRecursion ReferenceFits refs → AllByRecursion ReferenceFits all → 1 ≤ length all → references_text all ≡ spaced refs ++ rest → length refs < length all
+more_than refs [] rest f g some e = absurd (omega (arith, some))
+more_than [] (a ∷ all) rest f g some e = omega arith
+more_than (q ∷ refs) (a ∷ []) rest f g some e = absurd (let h : [] ≡ 32 ∷ (spaced refs ++ rest) = behind_first refs [] rest a q g.0 f.0 e in cc h)
+more_than (q ∷ refs) (a ∷ b ∷ all) rest f g some e =
+    let t : reference_text b ++ others_text all ≡ spaced refs ++ rest = ap tail_of (behind_first refs (b ∷ all) rest a q g.0 f.0 e) in
+    let h = more_than refs (b ∷ all) rest f.1 g.1 (omega arith) t in
+    omega (arith, h)

@@ -1,6 +1,6 @@
 -- The parts of the one message that octets are.
-use Rattle.std.proofs.Common.{◌≡◌, ◌≤◌, ◌+◌, ◌-◌, ℕ, List, [], ◌∷◌, ◌++◌, length, take, drop, refl, sym, ◌∙◌, ap, subst, arith, append_assoc, append-nil, length-append}
-use Rattle.std.specs.Prelude.{flat_map, ◌↔◌, Bool, true, false, IsTrue, Option, Some, None, IfNone, Result, Ok, Err}
+use Rattle.std.proofs.Common.{◌≡◌, ◌≤◌, ◌+◌, ◌-◌, ℕ, suc, List, [], ◌∷◌, ◌++◌, length, take, drop, refl, sym, ◌∙◌, ap, subst, arith, append_assoc, append-nil, length-append}
+use Rattle.std.specs.Prelude.{flat_map, Option, Some, None, IfNone, Result, Ok, Err}
 use Rattle.std.specs.Result.{result_ok}
 use Rattle.std.specs.Option.{option_map_or}
 use Rattle.std.proofs.Math.Seq.{drop-append_seam, take-append_seam}
@@ -8,18 +8,18 @@ use Rattle.model_storage.specs.declared.places.MessageAt.{MessageAt}
 use Rattle.model_storage.specs.declared.places.PlaceError.{PlaceError}
 use Rattle.model_storage.specs.declared.places.PlaceError.TheVariants as place_error
 use Rattle.model_storage.specs.StorageFile.{Line, AreLines, Message, IsMessageHeader, IsMessage, StandsAt, StandsNone, PlaceGives, line_text, place_at}
-use Rattle.model_storage.specs.Metadata.{IsMetadata}
+use Rattle.model_storage.specs.Metadata.{IsMetadata, IsMetadataText}
 use Rattle.model_storage.specs.declared.metadata_value.Metadata.{Metadata}
 use Rattle.model_storage.proofs.FileLemmas.{message_same}
 use Rattle.model_storage.proofs.MetadataLemmas.{lines_same, metadata_text_same}
 use Rattle.model_storage.proofs.ScanLemmas.{message_length}
 use Rattle.dbox_metadata.specs.BriefRead.{IsBriefOf}
 use Rattle.dbox_metadata.specs.declared.brief.Brief.{Brief}
-use Rattle.mdbox_base.specs.declared.ids.FileNo.{FileNo}
-use Rattle.mdbox_base.specs.declared.replies.Refusal.TheVariants as refusal
-use Rattle.mdbox_base.specs.declared.replies.Reply.TheVariants as reply
-use Rattle.mail_fetch.specs.Region.{HoldsWhole, damage_at}
-use Rattle.mail_fetch.specs.declared.region.StoredAt.{StoredAt}
+use Rattle.mdbox_base.specs.declared.entries.InstRow.{InstRow}
+use Rattle.mdbox_base.specs.declared.metadata.ExtRef.{ExtRef}
+use Rattle.model_store.specs.Stands.{NameInstances}
+use Rattle.mail_fetch.specs.Region.{IsStoredMessage, IsToldByLines}
+use Rattle.mail_fetch.specs.declared.parts.StoredAt.{StoredAt}
 
 no_more : (xs ys : List ℕ) (n : ℕ) → length xs ≡ n → length (xs ++ ys) ≡ n → ys ≡ []
 no_more xs [] n a b = refl
@@ -83,24 +83,21 @@ lines_there region m at end p e f =
         let c = length-append (flat_map line_text m.lines) (10 ∷ []) in
         omega (arith, a, b, c, front_size, e, f)
 
--- ---- the message that a region holds whole
+-- ---- the message that is stored there
 
-pub place_of_whole : (from : StoredAt) (region octets : List ℕ) (place : MessageAt) → StandsAt region 0 place → (h : HoldsWhole from region octets) → place ≡ place_at 0 h.message
-place_of_whole from region octets place (first, behind, m, e, spelled, is) h =
+pub place_of_stored : (from : StoredAt) (region : List ℕ) (place : MessageAt) → StandsAt region 0 place → (h : IsStoredMessage from region) → place ≡ place_at 0 h.message
+place_of_stored from region place (first, behind, m, e, spelled, is) h =
     let same = message_same first region behind [] m h.message spelled h.spelled (sym e ∙ sym (append-nil region)) in
     is ∙ ap (place_at 0) same.1
 
-pub none_stands : (from : StoredAt) (region octets : List ℕ) → StandsNone region 0 → HoldsWhole from region octets → ⊥
-none_stands from region octets none h = none (region, [], h.message, sym (append-nil region), h.spelled)
+pub none_stands : (from : StoredAt) (region : List ℕ) → StandsNone region 0 → IsStoredMessage from region → ⊥
+none_stands from region none h = none (region, [], h.message, sym (append-nil region), h.spelled)
 
-pub end_of_whole : (from : StoredAt) (region octets : List ℕ) (place : MessageAt) → StandsAt region 0 place → HoldsWhole from region octets → place.end ≡ length region
-end_of_whole from region octets place at h =
+pub end_of_stored : (from : StoredAt) (region : List ℕ) (place : MessageAt) → StandsAt region 0 place → IsStoredMessage from region → place.end ≡ length region
+end_of_stored from region place at h =
     let size = message_length region h.message 0 h.spelled in
-    let ends = ap (λ (p : MessageAt). p.end) (place_of_whole from region octets place at h) in
+    let ends = ap (λ (p : MessageAt). p.end) (place_of_stored from region place at h) in
     omega (arith, size, ends)
-
-pub size_of_whole : (from : StoredAt) (region octets : List ℕ) (place : MessageAt) → StandsAt region 0 place → HoldsWhole from region octets → place.size ≡ from.listed
-size_of_whole from region octets place at h = ap (λ (p : MessageAt). p.size) (place_of_whole from region octets place at h) ∙ h.listed
 
 -- where its metadata lines stand
 pub lines_within : (region : List ℕ) (place : MessageAt) → IsOne region place → (place.lines + 1 ≤ length region) × (place.end ≡ length region) × (30 + place.size ≤ length region)
@@ -114,48 +111,61 @@ lines_within region place one =
 text_of_lines : (region : List ℕ) (m : Message) (at end : ℕ) → (p : IsMessage region m) → at ≡ 30 + length m.body + 4 → end + 1 ≡ length region → AreLines (take (end - at) (drop at region)) m.lines
 text_of_lines region m at end p e f = record { each = p.ends.each; spelled = lines_there region m at end p e f }
 
--- what its lines tell in brief
-pub brief_of_whole : (from : StoredAt) (region octets : List ℕ) (place : MessageAt) (end : ℕ) → StandsAt region 0 place → end + 1 ≡ length region → (h : HoldsWhole from region octets) → IsBriefOf (take (end - place.lines) (drop place.lines region)) (record { guid = h.meta.guid; physical = h.meta.physical })
-brief_of_whole from region octets place end at f h = record {
-  meta = h.meta;
-  says = record { lines = h.message.lines; are = text_of_lines region h.message place.lines end h.spelled (ap (λ (p : MessageAt). p.lines) (place_of_whole from region octets place at h)) f; say = h.says };
-  no_references = h.no_references;
-  guid = refl;
-  physical = refl;
-}
+-- what its lines say
+says_of_stored : (from : StoredAt) (region : List ℕ) (place : MessageAt) (end : ℕ) → StandsAt region 0 place → end + 1 ≡ length region → (h : IsStoredMessage from region) → IsMetadataText (take (end - place.lines) (drop place.lines region)) h.meta
+says_of_stored from region place end at f h = record { lines = h.message.lines; are = text_of_lines region h.message place.lines end h.spelled (ap (λ (p : MessageAt). p.lines) (place_of_stored from region place at h)) f; say = h.says }
 
--- The brief tells the GUID and the size, where the region holds the message whole.
-pub told_of_whole : (from : StoredAt) (region octets : List ℕ) (place : MessageAt) (end : ℕ) (brief : Brief) → StandsAt region 0 place → end + 1 ≡ length region → IsBriefOf (take (end - place.lines) (drop place.lines region)) brief → HoldsWhole from region octets
-    → (brief.guid ≡ Some from.guid) × (option_map_or (λ whole. whole) brief.physical place.size ≡ place.size)
-unfolding brief_of_whole
-told_of_whole from region octets place end brief at f b h =
-    let other = brief_of_whole from region octets place end at f h in
-    let meta : b.meta ≡ h.meta = metadata_text_same (take (end - place.lines) (drop place.lines region)) b.meta h.meta b.says other.says in
-    let size : place.size ≡ length h.message.body = ap (λ (p : MessageAt). p.size) (place_of_whole from region octets place at h) in (
-      b.guid ∙ (ap (λ (m : Metadata). m.guid) meta ∙ h.guid),
-      ap (λ (o : Option ℕ). option_map_or (λ whole. whole) o place.size) (b.physical ∙ ap (λ (m : Metadata). m.physical) meta) ∙ (ap (λ (n : ℕ). option_map_or (λ whole. whole) h.meta.physical n) size ∙ (h.size ∙ sym size)),
-    )
+names_many : (refs : List ExtRef) (rows : List InstRow) → NameInstances refs rows → length refs ≡ length rows
+names_many [] [] h = refl
+names_many [] (row ∷ rows) h = absurd h
+names_many (r ∷ refs) [] h = absurd h
+names_many (r ∷ refs) (row ∷ rows) h = ap suc (names_many refs rows h.2)
 
--- A region whose one message has this GUID and these sizes holds it whole.
-pub held_whole : (from : StoredAt) (region : List ℕ) (place : MessageAt) (end : ℕ) (brief : Brief) → from.has_attachments ≡ false → length region ≡ from.size → StandsAt region 0 place → place.end ≡ length region → place.size ≡ from.listed → end + 1 ≡ length region
-    → IsBriefOf (take (end - place.lines) (drop place.lines region)) brief → brief.guid ≡ Some from.guid → option_map_or (λ whole. whole) brief.physical place.size ≡ place.size → HoldsWhole from region (take place.size (drop 30 region))
-held_whole from region place end brief plain long at ends listed f b guid whole =
+-- They are read, if there is room for as many references as instances.
+pub lines_are_read : (from : StoredAt) (region : List ℕ) (place : MessageAt) (end room : ℕ) → StandsAt region 0 place → end + 1 ≡ length region → length from.instances ≤ room → ((meta : Metadata) → IsMetadataText (take (end - place.lines) (drop place.lines region)) meta → length meta.refs ≤ room → ⊥) → IsStoredMessage from region → ⊥
+lines_are_read from region place end room at f few none h =
+    none h.meta (says_of_stored from region place end at f h) (let e = names_many h.meta.refs from.instances h.names in omega (arith, e, few))
+
+-- What is kept of the message is what its lines tell.
+pub told_of_stored : (from : StoredAt) (region : List ℕ) (place : MessageAt) (end : ℕ) (brief : Brief) → StandsAt region 0 place → end + 1 ≡ length region → IsBriefOf (take (end - place.lines) (drop place.lines region)) brief → IsStoredMessage from region → IsToldByLines brief from place.size
+told_of_stored from region place end brief at f b h =
+    let meta : b.meta ≡ h.meta = metadata_text_same (take (end - place.lines) (drop place.lines region)) b.meta h.meta b.says (says_of_stored from region place end at f h) in
+    let size : place.size ≡ length h.message.body = ap (λ (p : MessageAt). p.size) (place_of_stored from region place at h) in
+    record {
+      guid = b.guid ∙ (ap (λ (m : Metadata). m.guid) meta ∙ h.guid);
+      size = ap (λ (o : Option ℕ). option_map_or (λ whole. whole) o place.size) (b.physical ∙ ap (λ (m : Metadata). m.physical) meta) ∙ (ap (λ (n : ℕ). option_map_or (λ whole. whole) h.meta.physical n) size ∙ h.size);
+      names = subst (λ (rs : List ExtRef). NameInstances rs from.instances) (sym (b.refs ∙ ap (λ (m : Metadata). m.refs) meta)) h.names;
+    }
+
+-- A region whose one message tells this is the message that is stored there.
+pub record FoundStored (from : StoredAt) (region : List ℕ) (size : ℕ) (refs : List ExtRef) : Type 0 where
+  pub within : 30 + size ≤ length region
+  pub stored : IsStoredMessage from region
+  pub body : take size (drop 30 region) ≡ stored.message.body
+  pub size_is : size ≡ length stored.message.body
+  pub refs_are : refs ≡ stored.meta.refs
+
+pub stored_of_told : (from : StoredAt) (region : List ℕ) (place : MessageAt) (end : ℕ) (brief : Brief) → StandsAt region 0 place → place.end ≡ length region → end + 1 ≡ length region → IsBriefOf (take (end - place.lines) (drop place.lines region)) brief → IsToldByLines brief from place.size → FoundStored from region place.size brief.refs.items
+stored_of_told from region place end brief at ends f b told =
     let one = one_message region place at ends in
+    let within = lines_within region place one in
     let size : place.size ≡ length one.message.body = ap (λ (p : MessageAt). p.size) one.place_is in
     let lines = text_of_lines region one.message place.lines end one.spelled (ap (λ (p : MessageAt). p.lines) one.place_is) f in
     let same : b.says.lines ≡ one.message.lines = lines_same (take (end - place.lines) (drop place.lines region)) b.says.lines one.message.lines b.says.are lines in
     record {
-      message = one.message;
-      meta = b.meta;
-      unattached = plain;
-      long = long;
-      spelled = one.spelled;
-      says = subst (λ (ls : List Line). IsMetadata ls b.meta) same b.says.say;
-      guid = sym b.guid ∙ guid;
-      no_references = b.no_references;
-      size = ap (λ (o : Option ℕ). option_map_or (λ n. n) o (length one.message.body)) (sym b.physical) ∙ (ap (λ (n : ℕ). option_map_or (λ k. k) brief.physical n) (sym size) ∙ (whole ∙ size));
-      listed = sym size ∙ listed;
+      within = within.2;
+      stored = record {
+        message = one.message;
+        meta = b.meta;
+        spelled = one.spelled;
+        says = subst (λ (ls : List Line). IsMetadata ls b.meta) same b.says.say;
+        guid = sym b.guid ∙ told.guid;
+        names = subst (λ (rs : List ExtRef). NameInstances rs from.instances) b.refs told.names;
+        size = ap (λ (o : Option ℕ). option_map_or (λ n. n) o (length one.message.body)) (sym b.physical) ∙ (ap (λ (n : ℕ). option_map_or (λ k. k) brief.physical n) (sym size) ∙ told.size);
+      };
       body = ap (λ (n : ℕ). take n (drop 30 region)) size ∙ body_there region one.message one.spelled;
+      size_is = size;
+      refs_are = b.refs;
     }
 
 -- ---- how a place was looked for
@@ -176,10 +186,3 @@ if_none (Some x) P p = tt
 -- the place before the empty line
 pub before_end : (region : List ℕ) (place : MessageAt) → StandsAt region 0 place → place.end ≡ length region → length region - 1 + 1 ≡ length region
 before_end region place at ends = let w = lines_within region place (one_message region place at ends) in let first = w.0 in omega (arith, first)
-
-pub untrue : (b : Bool) {P : Type 0} → b ≡ false → IsTrue b ↔ P → P → ⊥
-untrue b e h p = let k : true ≡ false = sym (h.1 p) ∙ e in cc k
-
--- that a region is damaged, by its place
-pub damaged : (from : StoredAt) (file : FileNo) (offset : ℕ) → file ≡ from.file → offset ≡ from.offset → reply.Refused (refusal.Damaged file offset) ≡ damage_at from
-damaged from file offset e f = ap (λ (n : FileNo). reply.Refused (refusal.Damaged n offset)) e ∙ ap (λ (n : ℕ). reply.Refused (refusal.Damaged from.file n)) f

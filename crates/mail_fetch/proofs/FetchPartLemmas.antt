@@ -17,10 +17,10 @@ use Rattle.list_machine.specs.Run.{EventPart, First, ReadsPiece, Unpins, RunEven
 use Rattle.journal.specs.Journal.{refusal_in}
 use Rattle.journal.specs.Events.{Around, next_part, behind_event, behind_fetch, behind_refused, is_piece, piece_left, leaves_doomed, last_refusal}
 use Rattle.mail_fetch.proofs.OwnPinLemmas.{pins_at_all, own_pins}
-use Rattle.mail_fetch.specs.Region.{pieces_in}
+use Rattle.mail_fetch.specs.Parts.{parts_to_read, pieces_left}
 use Rattle.mail_fetch.specs.Task.{one_pin}
-use Rattle.mail_fetch.specs.Stages.{ReadPiece, HasPinned, HasReadPieces, IsPieceRefusal, UnpinsNext}
-use Rattle.mail_fetch.specs.declared.region.StoredAt.{StoredAt}
+use Rattle.mail_fetch.specs.Stages.{ReadPiece, HasPinned, HasReadAllBut, IsPieceRefusal, UnpinsNext}
+use Rattle.mail_fetch.specs.declared.parts.StoredAt.{StoredAt}
 
 -- ---- the last of some events
 
@@ -93,7 +93,7 @@ no_pieces (e ∷ es) h =
     omega (arith, a, here, rest)
 
 -- whether a piece is left, of a request that read so many
-left_by_counts : (from : StoredAt) (own behind : List RunEvent) (place : ℕ) (run : Run) (h : HasPinned from own behind) → All (ReadPiece None) behind → own_events place run ≡ own → piece_left place run ≡ nat_lt (length behind) h.pieces
+left_by_counts : (from : StoredAt) (own behind : List RunEvent) (place : ℕ) (run : Run) (h : HasPinned from own behind) → All (ReadPiece None) behind → own_events place run ≡ own → piece_left place run ≡ nat_lt (length behind) (pieces_left (parts_to_read from))
 left_by_counts from own behind place run h read is =
     ap (λ (es : List RunEvent). nat_lt (count_by (λ (e : RunEvent). is_piece e.part) es) (sum_by (λ (e : RunEvent). sum_by (λ (p : Pin). p.pieces) e.pins) es)) (is ∙ h.own_are)
     ∙ (ap (λ (n : ℕ). nat_lt n (sum_by pieces_pinned (h.pin ∷ behind))) many ∙ ap (λ (n : ℕ). nat_lt (length behind) n) pinned)
@@ -105,10 +105,10 @@ left_by_counts from own behind place run h read is =
         let rest = pieces_counted behind read in
         omega (arith, a, here, rest)
 
-    pinned : sum_by pieces_pinned (h.pin ∷ behind) ≡ h.pieces
+    pinned : sum_by pieces_pinned (h.pin ∷ behind) ≡ pieces_left (parts_to_read from)
     pinned =
         let a = sum_by-cons pieces_pinned h.pin behind in
-        let here : pieces_pinned h.pin ≡ h.pieces = ap (λ (ps : List Pin). sum_by (λ (p : Pin). p.pieces) ps) h.pins ∙ (let k = sum_by-cons (λ (p : Pin). p.pieces) (record { file = from.file.0; pieces = h.pieces }) [] in omega (arith, k)) in
+        let here : pieces_pinned h.pin ≡ pieces_left (parts_to_read from) = ap (λ (ps : List Pin). sum_by (λ (p : Pin). p.pieces) ps) h.pins ∙ (let k = sum_by-cons (λ (p : Pin). p.pieces) (record { file = from.file.0; pieces = pieces_left (parts_to_read from) }) [] in omega (arith, k)) in
         let rest = no_pieces behind (none_pinned None behind read) in
         omega (arith, a, here, rest)
 
@@ -147,22 +147,22 @@ less a b l = grind (arith, common_steps, l)
 not_less : (a b : ℕ) → b ≤ a → nat_lt a b ≡ false
 not_less a b l = grind (arith, common_steps, l)
 
--- A piece is read next, while one of the region is left.
-pub next_reads : (around : Around) (name : List ℕ) (uid : Uid) (run : Run) (place pieces : ℕ) (from : StoredAt) → HasReadPieces from pieces (own_events place run) → pieces < pieces_in from.size → next_part around run (request.Fetch name uid) (own_events place run) ≡ Some ReadsPiece
-next_reads around name uid run place pieces from (behind, h, read, many) l =
+-- A piece is read next, while one is left.
+pub next_reads : (around : Around) (name : List ℕ) (uid : Uid) (run : Run) (place left : ℕ) (from : StoredAt) → HasReadAllBut from left (own_events place run) → 0 < left → next_part around run (request.Fetch name uid) (own_events place run) ≡ Some ReadsPiece
+next_reads around name uid run place left from (behind, h, read, many) l =
     let r = last_one h.pin behind h.part h.unrefused read in
     let own = h.own_are ∙ r.2.0 in
     (ap (next_part around run (request.Fetch name uid)) own ∙ (next_behind around run (request.Fetch name uid) r.0 r.1 ∙ behind_read around name uid run place r.0 r.1 own r.2.1 r.2.2))
-    ∙ ap (λ (b : Bool). if b then Some ReadsPiece else Some Unpins) (left_by_counts from (own_events place run) behind place run h read refl ∙ less (length behind) h.pieces (let region = h.region in omega (arith, l, many, region)))
+    ∙ ap (λ (b : Bool). if b then Some ReadsPiece else Some Unpins) (left_by_counts from (own_events place run) behind place run h read refl ∙ less (length behind) (pieces_left (parts_to_read from)) (omega (arith, l, many)))
 
 -- ---- it unpins next
 
 pub next_unpins : (around : Around) (name : List ℕ) (uid : Uid) (run : Run) (place : ℕ) (from : StoredAt) (given : Reply) → UnpinsNext from given (own_events place run) → next_part around run (request.Fetch name uid) (own_events place run) ≡ Some Unpins
-next_unpins around name uid run place from given (inl (fetched, plain, (behind, h, read, many))) =
+next_unpins around name uid run place from given (inl (fetched, (behind, h, read, many))) =
     let r = last_one h.pin behind h.part h.unrefused read in
     let own = h.own_are ∙ r.2.0 in
     (ap (next_part around run (request.Fetch name uid)) own ∙ (next_behind around run (request.Fetch name uid) r.0 r.1 ∙ behind_read around name uid run place r.0 r.1 own r.2.1 r.2.2))
-    ∙ ap (λ (b : Bool). if b then Some ReadsPiece else Some Unpins) (left_by_counts from (own_events place run) behind place run h read refl ∙ not_less (length behind) h.pieces (let attached = h.attached plain in omega (arith, many, attached)))
+    ∙ ap (λ (b : Bool). if b then Some ReadsPiece else Some Unpins) (left_by_counts from (own_events place run) behind place run h read refl ∙ not_less (length behind) (pieces_left (parts_to_read from)) (omega (arith, many)))
 next_unpins around name uid run place from given (inr (why, front, last, given_is, may, h, read, refused)) =
     ap (next_part around run (request.Fetch name uid)) h.own_are
     ∙ (next_behind around run (request.Fetch name uid) (h.pin ∷ front) last ∙ (ap (λ (r : Option Refusal). behind_event around run (request.Fetch name uid) last r) refused.refused_is ∙ by_refusal why may))
@@ -182,7 +182,7 @@ next_unpins around name uid run place from given (inr (why, front, last, given_i
 
 -- by the last refusal of its events it replies
 pub unpins_by : (from : StoredAt) (given : Reply) (own : List RunEvent) → UnpinsNext from given own → last_refusal own ≡ refusal_in given
-unpins_by from given own (inl (fetched, plain, (behind, h, read, many))) =
+unpins_by from given own (inl (fetched, (behind, h, read, many))) =
     ap last_refusal h.own_are ∙ (ap (λ (r : Option Refusal). option_or r h.pin.refused) (none_refused behind read) ∙ (h.unrefused ∙ sym fetched))
 unpins_by from given own (inr (why, front, last, given_is, may, h, read, refused)) =
     ap last_refusal h.own_are
@@ -208,7 +208,7 @@ none_unpinned from own behind place run h keep is =
     ap (λ (es : List RunEvent). list_any is_unpinning es) (is ∙ h.own_are) ∙ no_unpin (h.pin ∷ behind) (All-cons (λ (x : RunEvent). is_unpinning x ≡ false) h.pin behind (part_keeps h.pin First h.part refl) keep)
 
 pub one_pinned : (from : StoredAt) (own behind : List RunEvent) (other : ℕ) → (h : HasPinned from own behind) → All (λ e. e.pins ≡ []) behind → sum_by (pins_at_all other) own ≡ one_pin from.file.0 other
-one_pinned from own behind other h none = ap (sum_by (pins_at_all other)) h.own_are ∙ own_pins from.file.0 h.pieces other h.pin behind h.pins none
+one_pinned from own behind other h none = ap (sum_by (pins_at_all other)) h.own_are ∙ own_pins from.file.0 (pieces_left (parts_to_read from)) other h.pin behind h.pins none
 
 -- what is known of the pins as it unpins
 pub record HoldsPin (from : StoredAt) (place : ℕ) (run : Run) : Type 0 where
@@ -216,7 +216,7 @@ pub record HoldsPin (from : StoredAt) (place : ℕ) (run : Run) : Type 0 where
   pub one : (other : ℕ) → sum_by (pins_at_all other) (own_events place run) ≡ one_pin from.file.0 other
 
 pub holds_pin : (from : StoredAt) (given : Reply) (place : ℕ) (run : Run) → UnpinsNext from given (own_events place run) → HoldsPin from place run
-holds_pin from given place run (inl (fetched, plain, (behind, h, read, many))) = record {
+holds_pin from given place run (inl (fetched, (behind, h, read, many))) = record {
   none = none_unpinned from (own_events place run) behind place run h (piece_keeps None behind read) refl;
   one = λ other. one_pinned from (own_events place run) behind other h (none_pinned None behind read);
 }

@@ -1,12 +1,9 @@
--- The region that the first event pins.
-use Rattle.std.proofs.Common.{◌≡◌, ◌≤◌, ◌<◌, ◌+◌, ◌==◌, ℕ, Bool, false, cond, List, [], ◌∷◌, length, nat_lt, Option, Some, None, refl, sym, ◌∙◌, ap, subst, arith}
-use Rattle.std.proofs.lemmas.Grind.{common_steps}
+-- The message that the first event pins.
+use Rattle.std.proofs.Common.{◌≡◌, ◌≤◌, ◌<◌, ◌==◌, ℕ, Bool, false, cond, List, Option, Some, None, sym, ◌∙◌, ap, subst, arith}
 use Rattle.std.specs.Prelude.{if◌then◌else◌, is_some, Result, Ok, Err, IfOk, IsErrAnd, MatchResult}
 use Rattle.std.specs.Option.{option_map, option_map_or}
 use Rattle.std.proofs.lemmas.List.Elements.{All-contains}
-use Rattle.std.proofs.lemmas.Nat.{div-add-mod'}
 use Rattle.disk_model.specs.Disk.{History}
-use Rattle.mdbox_base.specs.declared.entries.InstRow.{InstRow}
 use Rattle.mdbox_base.specs.declared.replies.Refusal.TheVariants as refusal
 use Rattle.model_meaning.specs.BoxMeaning.{LogRow, BoxMeaning, row_at}
 use Rattle.model_meaning.specs.MapMeaning.{MapRecord, MapMeaning, map_meaning, record_at}
@@ -15,10 +12,15 @@ use Rattle.model_octets.proofs.SearchLemmas.{found_one}
 use Rattle.model_store.specs.Listing.{meaning_named}
 use Rattle.model_store.specs.Opening.{HasItsRecord}
 use Rattle.store_core.specs.Running.{IsStore}
+use Rattle.store_core.specs.StoreInstances.{HasKnownInstances, IsKnownRow}
 use Rattle.store_core.specs.Value.{StoreValue, list_named}
 use Rattle.mail_fetch.specs.Events.{fetch_refusal, IsPinned}
-use Rattle.mail_fetch.specs.Region.{RegionValue, stored_at, names_some, pieces_in, unread}
-use Rattle.mail_fetch.specs.declared.region.StoredAt.{StoredAt}
+use Rattle.mail_fetch.specs.Region.{RegionValue, stored_at, unread}
+use Rattle.mail_fetch.specs.Task.{HasPieceLeft, KnowsPinned, events_left}
+use Rattle.mail_fetch.specs.declared.task.FetchStage.TheVariants as stage
+use Rattle.mail_fetch.specs.declared.parts.StoredAt.{StoredAt}
+use Rattle.mail_fetch.proofs.InstanceLemmas.{named_each, parts_known, pieces_most}
+use Rattle.mail_fetch.proofs.PartLemmas.{octets_of_parts, pieces_of_parts, some_piece}
 use Rattle.mail_fetch.proofs.RecordLemmas.{row_has_record}
 use Rattle.mail_fetch.proofs.StepLemmas.{store_is_sound}
 
@@ -28,14 +30,24 @@ has_record history store name uid m row s named found =
     subst (λ (map_is : MapMeaning). HasItsRecord map_is row) (sym s.map_is)
     (row_has_record (map_meaning store.map.store s.entries) name uid store.map.boxes s.logs m row s.good.records (sym (ap (λ (ms : List BoxMeaning). meaning_named name store.map.boxes ms) s.boxes_are) ∙ named) found)
 
-some_piece : (size : ℕ) → 1 ≤ size → 0 < pieces_in size
-some_piece size h = let e = div-add-mod' (size + 65535) 65536 in omega (arith, h, e)
-
--- A region has a piece at least, since a record has an octet at least.
-pub pinned_left : {D : Type 0} → (history : Option History) (store : StoreValue D) (name : List ℕ) (uid : ℕ) (region : RegionValue) → IsStore history store → IsPinned name uid store region → region.pieces < pieces_in region.from.size
+-- A message has a piece at least, since a record has an octet at least.
+pub pinned_left : {D : Type 0} → (history : Option History) (store : StoreValue D) (name : List ℕ) (uid : ℕ) (region : RegionValue) → IsStore history store → IsPinned name uid store region → HasPieceLeft (stage.Reading region)
 pinned_left history store name uid region s (row, entry, stored, is) =
     let size : 1 ≤ entry.size = (All-contains (IsSoundRecord store.map.highest.map) store.map.records entry (store_is_sound history store s).records (found_one (λ (r : MapRecord). r.uid == row.map_uid) store.map.records entry stored.stored).0).size in
-    subst (λ (r : RegionValue). r.pieces < pieces_in r.from.size) (sym is) (some_piece entry.size size)
+    let one = some_piece entry.size size in
+    let many = pieces_of_parts (stored_at row entry) in
+    subst (λ (r : RegionValue). HasPieceLeft (stage.Reading r)) (sym is) (omega (arith, one, many), octets_of_parts (stored_at row entry))
+
+-- The store knows its instances.
+pub pinned_known : {D : Type 0} → (history : Option History) (store : StoreValue D) (name : List ℕ) (uid : ℕ) (region : RegionValue) → HasKnownInstances history store → IsPinned name uid store region → KnowsPinned (stage.Reading region) store
+pinned_known history store name uid region k (row, entry, stored, is) =
+    subst (λ (r : RegionValue). KnowsPinned (stage.Reading r) store) (sym is) (parts_known store.instances.known row entry (named_each (IsKnownRow store.instances.known) store.map row.map_uid entry stored.stored k.kept.named))
+
+-- Fewer events are left.
+pub pinned_fewer : {D : Type 0} → (store : StoreValue D) (name : List ℕ) (uid : ℕ) (region : RegionValue) → IsPinned name uid store region → events_left store.map (stage.Reading region) < events_left store.map stage.First
+pinned_fewer store name uid region (row, entry, stored, is) =
+    let most = pieces_most store.map row.map_uid row entry stored.stored in
+    subst (λ (r : RegionValue). events_left store.map (stage.Reading r) < events_left store.map stage.First) (sym is) (omega (arith, most))
 
 -- ---- what the map tells of a record
 
@@ -46,15 +58,8 @@ none_told m map_is uid f entry told same there is none = let k : None ≡ Some (
 pub told_is : {X : Type 0} → (m map_is : MapMeaning) (uid : ℕ) (f : MapRecord → X) (entry : MapRecord) (told : Option X) (x : X) → m ≡ map_is → record_at map_is uid ≡ Some entry → told ≡ option_map f (record_at m uid) → told ≡ Some x → x ≡ f entry
 told_is m map_is uid f entry told x same there is some = let k : Some x ≡ Some (f entry) = sym some ∙ (is ∙ (ap (λ (k : MapMeaning). option_map f (record_at k uid)) same ∙ ap (option_map f) there)) in cc k
 
-pub some_named : (count : ℕ) (rows of : List InstRow) → count ≡ length rows → rows ≡ of → nat_lt 0 count ≡ names_some of
-some_named count rows of e same = ap (nat_lt 0) (e ∙ ap (λ (rs : List InstRow). length rs) same) ∙ by_rows of
-  where
-    by_rows : (rs : List InstRow) → nat_lt 0 (length rs) ≡ names_some rs
-    by_rows [] = refl
-    by_rows (r ∷ rs) = let l : 0 < length (r ∷ rs) = omega arith in grind (arith, common_steps, l)
-
-pub stored_same : {X : Type 0} → (x told : X) (has : Bool) (row : LogRow) (entry : MapRecord) (make : X → Bool → StoredAt) → x ≡ told → has ≡ names_some entry.instances → make told (names_some entry.instances) ≡ stored_at row entry → make x has ≡ stored_at row entry
-stored_same x told has row entry make e h is = ap (λ y. make y has) e ∙ (ap (make told) h ∙ is)
+pub stored_same : {X Y : Type 0} → (x told : X) (y given : Y) (row : LogRow) (entry : MapRecord) (make : X → Y → StoredAt) → x ≡ told → y ≡ given → make told given ≡ stored_at row entry → make x y ≡ stored_at row entry
+stored_same x told y given row entry make e h is = ap (λ z. make z y) e ∙ (ap (make told) h ∙ is)
 
 -- ---- the first event
 

@@ -2,8 +2,11 @@ pub mod BodyLemmas
 pub mod FetchEventLemmas
 pub mod FetchPartLemmas
 pub mod FirstEventLemmas
+pub mod InstanceLemmas
 pub mod LastPieceLemmas
+pub mod MessageLemmas
 pub mod OwnPinLemmas
+pub mod PartLemmas
 pub mod PieceLemmas
 pub mod RecordLemmas
 pub mod StepLemmas

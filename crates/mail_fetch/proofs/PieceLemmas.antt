@@ -1,14 +1,19 @@
--- A piece that is read behind the octets of a region.
-use Rattle.std.proofs.Common.{◌≡◌, ◌≤◌, ◌+◌, ◌-◌, ◌*◌, ℕ, List, ◌++◌, length, take, drop, Option, ◌∙◌, ap, subst, arith, length-append}
-use Rattle.std.specs.Prelude.{min}
+-- A piece that is read behind those before it.
+use Rattle.std.proofs.Common.{◌≡◌, ◌≤◌, ◌+◌, ◌-◌, ℕ, List, ◌∷◌, ◌++◌, length, take, drop, Option, sym, ◌∙◌, ap, subst, arith, length-append}
+use Rattle.std.specs.Prelude.{All, min, sum_by, vec_capacity}
 use Rattle.std.proofs.Math.Nat.{min_comm}
 use Rattle.std.proofs.Math.Seq.{take-append_seam, take-append-add}
 use Rattle.std.proofs.lemmas.List.{length-drop, length-take-le, take-take, take_all, take-append-le}
-use Rattle.disk_model.specs.Disk.{DiskState, History, IfTold, reading}
-use Rattle.disk_model.specs.declared.name.FileName.TheVariants.{Mail}
-use Rattle.storage_files.specs.OnDisk.{piece_read}
-use Rattle.mail_fetch.specs.Events.{next_size, next_piece, with_piece}
+use Rattle.std.specs.Global.{Vec}
+use Rattle.disk_model.specs.Disk.{DiskState, History, IfTold}
+use Rattle.model_store.specs.Settled.{files_of}
+use Rattle.mail_fetch.specs.Events.{next_piece, with_piece}
+use Rattle.mail_fetch.specs.Parts.{first_read, left_after, part_read}
 use Rattle.mail_fetch.specs.Region.{RegionValue}
+use Rattle.mail_fetch.specs.Room.{HasReadRoom, IsPart}
+use Rattle.mail_fetch.specs.declared.parts.Part.{Part}
+use Rattle.mail_fetch.specs.declared.parts.StoredAt.{StoredAt}
+use Rattle.mail_fetch.proofs.PartLemmas.{first_size, range_after, sizes_after}
 
 -- octets that were filled up with zeros
 filled : (octets zeros now : List ℕ) (start size : ℕ) → start ≡ length octets → now ≡ take (start + size) octets ++ zeros → now ≡ octets ++ zeros
@@ -37,19 +42,33 @@ piece_joins octets zeros now into post rest joined start size count len s e c i 
     front : take start now ≡ octets
     front = ap (λ (n : ℕ). take n now) s ∙ (ap (λ (xs : List ℕ). take (length octets) xs) (filled octets zeros now start size s e) ∙ take-append_seam octets zeros)
 
--- what a disk told of the file is the next piece of the region
-pub next_told : (history : Option History) (region : RegionValue) (piece : List ℕ) (offset size : ℕ) → offset ≡ region.from.offset + region.pieces * 65536 → size ≡ min (region.from.size - region.pieces * 65536) 65536
-    → IfTold history (λ now. piece ≡ piece_read offset size (reading (now (Mail region.from.file.0)))) → IfTold history (λ disk. piece ≡ next_piece region disk)
-next_told history region piece offset size o s h =
-    subst (λ (n : ℕ). IfTold history (λ (now : DiskState). piece ≡ piece_read n (next_size region) (reading (now (Mail region.from.file.0))))) (let e : offset ≡ region.from.offset + 65536 * region.pieces = omega (arith, o) in e)
-    (subst (λ (n : ℕ). IfTold history (λ (now : DiskState). piece ≡ piece_read offset n (reading (now (Mail region.from.file.0))))) (s ∙ (min_comm (region.from.size - region.pieces * 65536) 65536 ∙ ap (λ (n : ℕ). min 65536 (region.from.size - n)) (let e : region.pieces * 65536 ≡ 65536 * region.pieces = omega arith in e))) h)
+-- what a disk told of the first part is the next piece
+pub next_told : (history : Option History) (left rest : List Part) (part : Part) (piece : List ℕ) (size : ℕ) → left ≡ part ∷ rest → size ≡ min part.size 65536
+    → IfTold history (λ now. piece ≡ part_read (files_of now) (record part { size = size })) → IfTold history (λ now. piece ≡ first_read (files_of now) left)
+next_told history left rest part piece size at s h =
+    subst (λ (ps : List Part). IfTold history (λ (now : DiskState). piece ≡ first_read (files_of now) ps)) (sym at)
+    (subst (λ (n : ℕ). IfTold history (λ (now : DiskState). piece ≡ part_read (files_of now) (record part { size = n }))) (s ∙ min_comm part.size 65536) h)
 
--- The region with the piece behind it, as it is seen.
-pub piece_seen : (history : Option History) (region seen : RegionValue) (joined piece : List ℕ) → region ≡ seen → joined ≡ region.octets ++ piece → IfTold history (λ disk. piece ≡ next_piece region disk)
-    → (read : List ℕ) × IfTold history (λ disk. read ≡ next_piece seen disk) × (record { from = region.from; octets = joined; pieces = region.pieces + 1 } ≡ with_piece seen read)
-piece_seen history region seen joined piece same joins told =
-    subst (λ (r : RegionValue). (read : List ℕ) × IfTold history (λ (disk : DiskState). read ≡ next_piece r disk) × (record { from = region.from; octets = joined; pieces = region.pieces + 1 } ≡ with_piece r read)) same
-    (piece, told, ap (with_octets region) joins)
+-- The message with the piece behind it, as it is seen.
+pub piece_seen : (history : Option History) (region seen : RegionValue) (joined piece : List ℕ) (after : List Part) → region ≡ seen → joined ≡ region.octets ++ piece → after ≡ left_after region.left → IfTold history (λ now. piece ≡ first_read (files_of now) region.left)
+    → (read : List ℕ) × IfTold history (λ disk. read ≡ next_piece seen disk) × (record { from = region.from; octets = joined; left = after } ≡ with_piece seen read)
+piece_seen history region seen joined piece after same joins goes told =
+    subst (λ (r : RegionValue). (read : List ℕ) × IfTold history (λ (disk : DiskState). read ≡ next_piece r disk) × (record { from = region.from; octets = joined; left = after } ≡ with_piece r read)) same
+    (piece, told, ap (λ (xs : List ℕ). as_read xs after) joins ∙ ap (as_read (region.octets ++ piece)) goes)
   where
-    with_octets : RegionValue → List ℕ → RegionValue
-    with_octets r xs = record { from = r.from; octets = xs; pieces = r.pieces + 1 }
+    as_read : List ℕ → List Part → RegionValue
+    as_read xs ps = record { from = region.from; octets = xs; left = ps }
+
+-- There is still room.
+pub room_on : (from : StoredAt) (total : ℕ) (old new : Vec ℕ) (left after : List Part) (piece : List ℕ) → HasReadRoom from total old left → total ≤ vec_capacity new → new.items ≡ old.items ++ piece → length piece ≤ first_size left → after ≡ left_after left → HasReadRoom from total new after
+room_on from total old new left after piece h room items some goes = record {
+  total_is = h.total_is;
+  room = room;
+  fits =
+      let fits = h.fits in
+      let long : length new.items ≡ length old.items + length piece = ap (λ (xs : List ℕ). length xs) items ∙ length-append old.items piece in
+      let sizes = sizes_after left in
+      let now : sum_by (λ (part : Part). part.size) after ≡ sum_by (λ (part : Part). part.size) (left_after left) = ap (sum_by (λ (part : Part). part.size)) goes in
+      omega (arith, fits, long, sizes, now, some);
+  each = subst (All IsPart) (sym goes) (range_after left h.each);
+}

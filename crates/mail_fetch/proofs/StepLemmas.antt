@@ -1,15 +1,13 @@
 -- The clause of a fetch's step, event by event.
-use Rattle.std.proofs.Common.{◌≡◌, ◌≤◌, ◌<◌, ◌+◌, ◌*◌, ◌/◌, ℕ, Bool, true, false, cond, List, [], ◌∷◌, ◌++◌, length, Option, Some, None, refl, sym, ◌∙◌, ap, subst, arith, inl, inr, length-append}
-use Rattle.std.specs.Prelude.{◌⊎◌, is_some, sum_by, if◌then◌else◌}
+use Rattle.std.proofs.Common.{◌≡◌, ◌≤◌, ◌<◌, ◌+◌, ℕ, Bool, true, false, cond, List, [], ◌∷◌, ◌++◌, length, Option, Some, None, refl, sym, ◌∙◌, ap, subst, arith, inl, inr, length-append}
+use Rattle.std.specs.Prelude.{All, ◌⊎◌, is_some, if◌then◌else◌}
 use Rattle.std.specs.List.{list_any}
 use Rattle.std.specs.Option.{option_map_or, option_or}
 use Rattle.std.proofs.lemmas.List.Elements.{All-nil, All-push}
 use Rattle.std.proofs.lemmas.Bool.{eq-eqb, ne_eqb, cases_lt}
-use Rattle.std.proofs.lemmas.Nat.{div-add-mod'}
 use Rattle.disk_model.specs.Disk.{DiskState, History, Faults, Files, IfTold, IsIdle, told_calls}
 use Rattle.disk_model.proofs.IdleLemmas.{idle-begins}
 use Rattle.mdbox_base.specs.Streams.{Rose}
-use Rattle.mdbox_base.specs.declared.entries.InstRow.{InstRow}
 use Rattle.mdbox_base.specs.declared.entries.MapEntry.{MapEntry}
 use Rattle.mdbox_base.specs.declared.ids.Uid.{Uid}
 use Rattle.mdbox_base.specs.declared.progress.Did.{Did}
@@ -25,14 +23,15 @@ use Rattle.mdbox_base.specs.declared.requests.Request.TheVariants as request
 use Rattle.mdbox_base.specs.declared.script.Half.TheVariants as half
 use Rattle.model_lists.specs.Lists.{Lists}
 use Rattle.model_meaning.specs.BoxMeaning.{LogRow, BoxMeaning, row_at}
-use Rattle.model_meaning.specs.MapMeaning.{MapRecord, MapMeaning, map_meaning, record_of}
+use Rattle.model_meaning.specs.MapMeaning.{MapRecord, MapMeaning, map_meaning, named_instances, record_of}
 use Rattle.model_meaning.specs.Sound.{IsSoundMap}
 use Rattle.model_meaning.proofs.MapSoundLemmas.{map_sound}
 use Rattle.model_store.specs.Listing.{ShowLists}
+use Rattle.model_store.specs.Safe.{IsThereWhole}
 use Rattle.model_store.specs.Settled.{files_of}
 use Rattle.model_store.specs.Stands.{AreMailboxes}
 use Rattle.model_store.proofs.StandsLemmas.{map_same}
-use Rattle.list_machine.specs.Run.{First, ReadsPiece, Unpins, RemovesFile, RunEvent, Run, and_then, own_events, is_unpinning, has_unpinned}
+use Rattle.list_machine.specs.Run.{First, ReadsPiece, Unpins, RemovesFile, Pin, RunEvent, Run, and_then, own_events, is_unpinning, has_unpinned}
 use Rattle.list_machine.specs.Machine.{PartAnswers, is_step}
 use Rattle.journal.specs.Journal.{refusal_in, IsReplyOf}
 use Rattle.journal.specs.Events.{Around, behind_event, piece_left, leaves_doomed, last_refusal, pieces_to_read}
@@ -44,13 +43,16 @@ use Rattle.task_steps.proofs.SeenLemmas.{pins_still, doomed_still, not_begun_sta
 use Rattle.task_steps.proofs.OneEventLemmas.{when_stopped, memory_is, not_reading, not_reading_memory, some_given, never_more}
 use Rattle.mail_fetch.specs.Clause.{ReadsSafe, StepsOnSafe}
 use Rattle.mail_fetch.specs.Events.{fetch_refusal, IsBegun, IsStoredBy, IsPinned, IsPieceRead, next_piece, with_piece, NoChangeFault}
-use Rattle.mail_fetch.specs.Region.{stored_at, names_some, pieces_in, RegionValue, unread, IsReplyFor, damage_at}
-use Rattle.mail_fetch.specs.Stages.{ReadPiece, HasPinned, HasReadPieces, IsPieceRefusal, UnpinsNext, IsFrontOfStored, Reading, IsTrueReply, IsAtFetch}
+use Rattle.mail_fetch.specs.Parts.{left_after, parts_to_read, pieces_left}
+use Rattle.mail_fetch.specs.Region.{stored_at, RegionValue, unread, IsReplyFor}
+use Rattle.mail_fetch.specs.Stages.{ReadPiece, HasPinned, HasReadAllBut, IsPieceRefusal, UnpinsNext, IsFrontOfStored, Reading, IsTrueReply, IsAtFetch}
 use Rattle.mail_fetch.specs.Task.{HasPieceLeft, fetch_did, refusing_did, one_pin, seen_with_pins}
-use Rattle.mail_fetch.specs.declared.region.StoredAt.{StoredAt}
+use Rattle.mail_fetch.specs.declared.parts.StoredAt.{StoredAt}
 use Rattle.mail_fetch.specs.declared.task.FetchStage.{FetchStage}
 use Rattle.mail_fetch.specs.declared.task.FetchStage.TheVariants as stage
+use Rattle.mail_fetch.proofs.InstanceLemmas.{named_each, pieces_told}
 use Rattle.mail_fetch.proofs.OwnPinLemmas.{pins_begin, pins_end}
+use Rattle.mail_fetch.proofs.PartLemmas.{pieces_after}
 use Rattle.mail_fetch.proofs.FetchPartLemmas.{last_with, next_reads, next_unpins, unpins_by, holds_pin, none_doomed}
 use Rattle.mail_fetch.proofs.FetchEventLemmas.{behind_reading, DidSo, stands_so, did_refuse, did_nothing, pin_event, did_pin, fetch_event, IsLateRefusal, piece_is_late, unpin_is_late, did_late}
 use Rattle.mail_fetch.proofs.RecordLemmas.{shown_by, no_mailbox, no_message, is_fetched, by_guid, stored_by}
@@ -65,17 +67,23 @@ fall b t f = let k : true ≡ false = sym t ∙ f in cc k
 pub store_is_sound : {D : Type 0} → (history : Option History) (store : StoreValue D) → IsStore history store → IsSoundMap store.map
 store_is_sound history store s = subst IsSoundMap (sym s.map_is) (map_sound store.map.store s.entries s.good.map_entries.1 s.good.map_entries.0)
 
--- the files of a store that runs have its map, and stand for the lists with it
-pub boxes_safe : {D : Type 0} → (history : Option History) (store : StoreValue D) (lists : Lists) → IsStore history store → store.stopped ≡ false → ReadsSafe lists history → Reading (λ files. AreMailboxes files store.map store.map.boxes lists) history
+-- the files stand for the lists with this map, and have each instance that it names
+pub record HaveMessages (m : MapMeaning) (lists : Lists) (files : Files) : Type 0 where
+  pub boxes : AreMailboxes files m m.boxes lists
+  pub instances : All (IsThereWhole files) (named_instances m)
+
+-- so do the files of a store that runs, with its map
+pub boxes_safe : {D : Type 0} → (history : Option History) (store : StoreValue D) (lists : Lists) → IsStore history store → store.stopped ≡ false → ReadsSafe lists history → Reading (HaveMessages store.map lists) history
 boxes_safe None store lists s runs safe = safe
 boxes_safe (Some h) store lists s runs safe =
     let running = s.running runs in
     let opens = running.opens in
     let same = map_same (files_of h.now) safe.store store.map.store safe.entries s.entries safe.by.stands.map_log opens.passed.map_log in
-    let there : AreMailboxes (files_of h.now) (map_meaning store.map.store s.entries) (map_meaning store.map.store s.entries).boxes lists =
-    subst (λ (id : List ℕ). AreMailboxes (files_of h.now) (map_meaning id s.entries) (map_meaning id s.entries).boxes lists) same.0
-    (subst (λ (es : List MapEntry). AreMailboxes (files_of h.now) (map_meaning safe.store es) (map_meaning safe.store es).boxes lists) same.1 safe.by.stands.mailboxes) in
-    subst (λ (m : MapMeaning). AreMailboxes (files_of h.now) m m.boxes lists) (sym s.map_is) there
+    let here : HaveMessages (map_meaning safe.store safe.entries) lists (files_of h.now) = record { boxes = safe.by.stands.mailboxes; instances = safe.by.has_all.instances } in
+    let there : HaveMessages (map_meaning store.map.store s.entries) lists (files_of h.now) =
+    subst (λ (id : List ℕ). HaveMessages (map_meaning id s.entries) lists (files_of h.now)) same.0
+    (subst (λ (es : List MapEntry). HaveMessages (map_meaning safe.store es) lists (files_of h.now)) same.1 here) in
+    subst (λ (m : MapMeaning). HaveMessages m lists (files_of h.now)) (sym s.map_is) there
 
 -- ---- a store that is stopped
 
@@ -91,7 +99,7 @@ stopped_steps around after others name uid stage.First store history faults left
 stopped_steps around after others name uid (stage.Reading region) store history faults left stopped = λ run lane place said lists come shows safe stood.
     let seen = seen_with_pins others (stage.Reading region) store history faults in (
       (did_late around after run lane place said name uid lists seen history faults seen.pins ReadsPiece (Some refusal.Stopped) (Some (reply.Refused refusal.Stopped)) (piece_is_late name uid) come shows (idle-begins history) (record { reads = omega arith; changes = refl })
-          (next_reads around name uid run place region.pieces region.from stood.0 left) (refl, λ e. absurd (let k : refusal.Stopped ≡ refusal.NoMemory = e in cc k))
+          (next_reads around name uid run place (pieces_left region.left) region.from stood.0 left.0) (refl, λ e. absurd (let k : refusal.Stopped ≡ refusal.NoMemory = e in cc k))
           (record { 0 = λ e. refl; 1 = λ e f. some_given (reply.Refused refusal.Stopped) f })
           (last_with (own_events place run) (fetch_event ReadsPiece lane place (Some refusal.Stopped) (Some (reply.Refused refusal.Stopped)) (told_calls history)))
           (stopped_reply said name uid) (when_stopped store.stopped stopped) (λ e. refl) (λ e. absurd (let k : refusal.Stopped ≡ refusal.ReadFault = cc e in cc k))
@@ -130,15 +138,11 @@ first_memory around after others name uid store history faults runs = λ run lan
 )
 
 -- pinned
-no_instances : (rows : List InstRow) → names_some rows ≡ false → rows ≡ []
-no_instances [] e = refl
-no_instances (row ∷ rows) e = absurd (cc e)
+abbrev one_pinned_for : ℕ → ℕ → List Pin
+one_pinned_for file pieces = record { file = file; pieces = pieces } ∷ []
 
-pieces_alone : (size : ℕ) (rows : List InstRow) → names_some rows ≡ false → (size + 65535) / 65536 + sum_by (λ i. (i.size + 65535) / 65536) rows ≡ pieces_in size
-pieces_alone size rows e = ap (λ (rs : List InstRow). (size + 65535) / 65536 + sum_by (λ (i : InstRow). (i.size + 65535) / 65536) rs) (no_instances rows e) ∙ add_none ((size + 65535) / 65536)
-  where
-    add_none : (n : ℕ) → n + 0 ≡ n
-    add_none n = omega arith
+none_read : (n : ℕ) → length {A = RunEvent} [] + n ≡ n
+none_read n = omega arith
 
 reading_as : (P Q : Files → Type 0) (h : Option History) → ((files : Files) → P files → Q files) → Reading P h → Reading Q h
 reading_as P Q None f p = absurd p
@@ -164,29 +168,24 @@ first_pinned around after others name uid store history faults row entry is runs
         [],
         record {
           pin = event;
-          pieces = pieces_to_read entry;
           own_are = own_more place run event (eq-eqb place place refl) ∙ ap (λ (es : List RunEvent). es ++ event ∷ []) stood.0;
           part = refl;
           unrefused = refl;
-          pins = refl;
-          region = omega arith;
-          attached = λ plain. pieces_alone entry.size entry.instances plain;
+          pins = ap (λ (n : ℕ). one_pinned_for entry.file n) (sym (pieces_told row entry));
         },
         All-nil (ReadPiece None),
-        refl,
+        none_read (pieces_left (parts_to_read (stored_at row entry))),
       ),
       (
         shown.message.octets,
         ap (λ (s : List Reply). s ++ reply.Fetched shown.message.octets ∷ []) stood.1,
-        λ runs_now. reading_as (λ files. AreMailboxes files store.map store.map.boxes lists) (IsFrontOfStored (unread (stored_at row entry)) shown.message.octets) history (λ files there. record {
+        λ runs_now. reading_as (HaveMessages store.map lists) (IsFrontOfStored (unread (stored_at row entry)) shown.message.octets) history (λ files there. record {
+          row = row;
           entry = entry;
-          file = refl;
-          offset = refl;
-          size = refl;
-          guid = refl;
-          attached = λ plain. no_instances entry.instances plain;
+          from = refl;
           listed = sym (ap (λ (r : ListRow). r.size) shown.same);
-          stores = stored_by files store.map store.map.boxes lists name uid.0 shown.message entry (store_is_sound history store is) there shown.there found;
+          stores = stored_by files store.map store.map.boxes lists name uid.0 shown.message entry (store_is_sound history store is) there.boxes shown.there found;
+          sizes = named_each (IsThereWhole files) store.map row.map_uid entry stored.stored there.instances;
           front = refl;
         }) (boxes_safe history store lists is runs (safe runs)),
       ),
@@ -266,36 +265,31 @@ goes_on_behind after run name uid lane place (Some refusal.NoMemory) calls h e =
 goes_on_behind after run name uid lane place (Some refusal.Stopped) calls h e = absurd h
 
 read_did : (around after : Around) (run : Run) (lane place : ℕ) (said : List Reply) (name : List ℕ) (uid : Uid) (lists : Lists) (old : Seen) (history : Option History) (faults : Faults) (region : RegionValue) (refused : Option Refusal) → HasComeTo run old → ShowsSeen old lists → IsIdle old.history history
-    → NoChangeFault old.faults faults → old.stopped ≡ false → HasReadPieces region.from region.pieces (own_events place run) → region.pieces < pieces_in region.from.size → IsPieceRefused refused → (refused ≡ Some refusal.ReadFault → Rose old.faults.reads faults.reads)
+    → NoChangeFault old.faults faults → old.stopped ≡ false → HasReadAllBut region.from (pieces_left region.left) (own_events place run) → 0 < pieces_left region.left → IsPieceRefused refused → (refused ≡ Some refusal.ReadFault → Rose old.faults.reads faults.reads)
     → DidSo around after run lane place said (request.Fetch name uid) lists old (behind_reading old history faults old.pins) did.Quiet None (fetch_event ReadsPiece lane place refused None (told_calls history)) None
 read_did around after run lane place said name uid lists old history faults region refused come shows idle none runs read left may rose =
-    did_late around after run lane place said name uid lists old history faults old.pins ReadsPiece refused None (piece_is_late name uid) come shows idle none (next_reads around name uid run place region.pieces region.from read left) (piece_late refused may)
+    did_late around after run lane place said name uid lists old history faults old.pins ReadsPiece refused None (piece_is_late name uid) come shows idle none (next_reads around name uid run place (pieces_left region.left) region.from read left) (piece_late refused may)
     (record { 0 = λ h. absurd (h refl); 1 = λ e. absurd (goes_on_behind after run name uid lane place refused (told_calls history) may e) }) tt (λ given e. absurd (no_reply given e))
     (record { 0 = λ e. absurd (no_reply (reply.Refused refusal.Stopped) e); 1 = λ e. absurd (fall old.stopped e runs) }) (λ e. absurd (fall old.stopped e runs)) rose
     (λ file. pins_still run (fetch_event ReadsPiece lane place refused None (told_calls history)) file refl refl ∙ come.pins file)
 
 -- its own events with one more
 one_piece_more : (from : StoredAt) (own behind : List RunEvent) (event : RunEvent) (more : List RunEvent) → HasPinned from own behind → more ≡ own ++ event ∷ [] → HasPinned from more (behind ++ event ∷ [])
-one_piece_more from own behind event more h e = record { pin = h.pin; pieces = h.pieces; own_are = e ∙ ap (λ (es : List RunEvent). es ++ event ∷ []) h.own_are; part = h.part; unrefused = h.unrefused; pins = h.pins; region = h.region; attached = h.attached }
+one_piece_more from own behind event more h e = record { pin = h.pin; own_are = e ∙ ap (λ (es : List RunEvent). es ++ event ∷ []) h.own_are; part = h.part; unrefused = h.unrefused; pins = h.pins }
 
-length_more : (xs : List RunEvent) (x : RunEvent) (n : ℕ) → length xs ≡ n → length (xs ++ x ∷ []) ≡ n + 1
-length_more xs x n e = let h = length-append xs (x ∷ []) in omega (arith, h, e)
+-- one piece more is read, and one less is left
+count_more : (xs : List RunEvent) (x : RunEvent) (left after all : ℕ) → length xs + left ≡ all → after + 1 ≡ left → length (xs ++ x ∷ []) + after ≡ all
+count_more xs x left after all e less = let h = length-append xs (x ∷ []) in omega (arith, h, e, less)
 
--- the region with one piece more, on a disk that has not changed
-front_on : (region : RegionValue) (octets piece : List ℕ) (old new : Option History) → IsIdle old new → IfTold old (λ disk. piece ≡ next_piece region disk) → 65536 * region.pieces ≤ region.from.size → Reading (IsFrontOfStored region octets) old → Reading (IsFrontOfStored (with_piece region piece) octets) new
-front_on region octets piece None new idle told le f = absurd f
-front_on region octets piece (Some old) None idle told le f = absurd idle.same
-front_on region octets piece (Some old) (Some new) idle told le f = subst (λ (d : DiskState). IsFrontOfStored (with_piece region piece) octets (files_of d)) (sym idle.same) (front_more region octets piece old.now f told le)
+-- what was read with one piece more, on a disk that has not changed
+front_on : (region : RegionValue) (octets piece : List ℕ) (old new : Option History) → IsIdle old new → IfTold old (λ disk. piece ≡ next_piece region disk) → Reading (IsFrontOfStored region octets) old → Reading (IsFrontOfStored (with_piece region piece) octets) new
+front_on region octets piece None new idle told f = absurd f
+front_on region octets piece (Some old) None idle told f = absurd idle.same
+front_on region octets piece (Some old) (Some new) idle told f = subst (λ (d : DiskState). IsFrontOfStored (with_piece region piece) octets (files_of d)) (sym idle.same) (front_more region octets piece old.now f told)
 
-true_on : (region : RegionValue) (octets : List ℕ) (history : Option History) (given : Reply) → Reading (IsFrontOfStored region octets) history → region.from.size ≤ 65536 * region.pieces → IsReplyFor region.from region.octets given → IsTrueReply region.from octets given
-true_on region octets None given f le is = absurd f
-true_on region octets (Some h) given f le is = true_reply region octets (files_of h.now) given f le is
-
-pieces_below : (size pieces : ℕ) → pieces < pieces_in size → 65536 * pieces ≤ size
-pieces_below size pieces l = let e = div-add-mod' (size + 65535) 65536 in omega (arith, l, e)
-
-pieces_over : (size pieces : ℕ) → pieces_in size ≤ pieces → size ≤ 65536 * pieces
-pieces_over size pieces l = let e = div-add-mod' (size + 65535) 65536 in omega (arith, l, e)
+true_on : (region : RegionValue) (octets : List ℕ) (history : Option History) (given : Reply) → Reading (IsFrontOfStored region octets) history → pieces_left region.left ≡ 0 → IsReplyFor region.from region.octets given → IsTrueReply octets given
+true_on region octets None given f none is = absurd f
+true_on region octets (Some h) given f none is = true_reply region octets (files_of h.now) given f none is
 
 abbrev PieceClause : {D : Type 0} → Around → Around → (ℕ → ℕ) → List ℕ → Uid → RegionValue → StoreValue D → Option History → Faults → StoreValue D → Option History → Faults → FetchStage → Type 0
 PieceClause around after others name uid region store history faults new then_history then_faults next =
@@ -303,34 +297,34 @@ PieceClause around after others name uid region store history faults new then_hi
     (seen_with_pins others next new then_history then_faults) did.Quiet None
 
 -- a piece behind which others are read
-piece_more : {D : Type 0} → (around after : Around) (others : ℕ → ℕ) (name : List ℕ) (uid : Uid) (region : RegionValue) (store : StoreValue D) (disk : D) (history then_history : Option History) (faults then_faults : Faults) (piece : List ℕ) → region.pieces < pieces_in region.from.size → store.stopped ≡ false → IsIdle history then_history
+piece_more : {D : Type 0} → (around after : Around) (others : ℕ → ℕ) (name : List ℕ) (uid : Uid) (region : RegionValue) (store : StoreValue D) (disk : D) (history then_history : Option History) (faults then_faults : Faults) (piece : List ℕ) → HasPieceLeft (stage.Reading region) → store.stopped ≡ false → IsIdle history then_history
     → NoChangeFault faults then_faults → IfTold history (λ d. piece ≡ next_piece region d) → PieceClause around after others name uid region store history faults (record store { disk = disk }) then_history then_faults (stage.Reading (with_piece region piece))
 piece_more around after others name uid region store disk history then_history faults then_faults piece left runs idle none told = λ run lane place said lists come shows safe stood.
     let seen = seen_with_pins others (stage.Reading region) store history faults in
     let new = seen_with_pins others (stage.Reading (with_piece region piece)) (record store { disk = disk }) then_history then_faults in
     let event = fetch_event ReadsPiece lane place None None (told_calls then_history) in
     stands_so around after run lane place said (request.Fetch name uid) lists seen new did.Quiet None event None (IsAtFetch (stage.Reading (with_piece region piece)) new)
-    (read_did around after run lane place said name uid lists seen then_history then_faults region None come shows idle none runs stood.0 left tt (λ e. absurd (let k : None ≡ Some refusal.ReadFault = e in cc k)))
+    (read_did around after run lane place said name uid lists seen then_history then_faults region None come shows idle none runs stood.0 left.0 tt (λ e. absurd (let k : None ≡ Some refusal.ReadFault = e in cc k)))
     (λ goes_on. (
       (
         stood.0.0 ++ event ∷ [],
         one_piece_more region.from (own_events place run) stood.0.0 event (own_events place (and_then run event)) stood.0.1 (own_more place run event (eq-eqb place place refl)),
         All-push (ReadPiece None) stood.0.0 event stood.0.2 (record { part = refl; pinned = refl; refused_is = refl }),
-        length_more stood.0.0 event region.pieces stood.0.3,
+        count_more stood.0.0 event (pieces_left region.left) (pieces_left (left_after region.left)) (pieces_left (parts_to_read region.from)) stood.0.3 (pieces_after region.left left.1 left.0),
       ),
-      (stood.1.0, stood.1.1, λ runs_now. front_on region stood.1.0 piece history then_history idle told (pieces_below region.from.size region.pieces left) (stood.1.2 runs)),
+      (stood.1.0, stood.1.1, λ runs_now. front_on region stood.1.0 piece history then_history idle told (stood.1.2 runs)),
     ))
 
 -- the last piece, or one that failed: by this it will reply
-piece_last : {D : Type 0} → (around after : Around) (others : ℕ → ℕ) (name : List ℕ) (uid : Uid) (region : RegionValue) (store : StoreValue D) (disk : D) (history then_history : Option History) (faults then_faults : Faults) (given : Reply) (why : Refusal) → region.pieces < pieces_in region.from.size → store.stopped ≡ false → IsIdle history then_history
-    → NoChangeFault faults then_faults → refusal_in given ≡ Some why → IsPieceRefusal why → (why ≡ refusal.ReadFault → Rose faults.reads then_faults.reads) → ((octets : List ℕ) → Reading (IsFrontOfStored region octets) history → IsTrueReply region.from octets given)
+piece_last : {D : Type 0} → (around after : Around) (others : ℕ → ℕ) (name : List ℕ) (uid : Uid) (region : RegionValue) (store : StoreValue D) (disk : D) (history then_history : Option History) (faults then_faults : Faults) (given : Reply) (why : Refusal) → HasPieceLeft (stage.Reading region) → store.stopped ≡ false → IsIdle history then_history
+    → NoChangeFault faults then_faults → refusal_in given ≡ Some why → IsPieceRefusal why → (why ≡ refusal.ReadFault → Rose faults.reads then_faults.reads) → ((octets : List ℕ) → Reading (IsFrontOfStored region octets) history → IsTrueReply octets given)
     → PieceClause around after others name uid region store history faults (record store { disk = disk }) then_history then_faults (stage.Unpinning region.from given)
 piece_last around after others name uid region store disk history then_history faults then_faults given why left runs idle none refused may rose true_is = λ run lane place said lists come shows safe stood.
     let seen = seen_with_pins others (stage.Reading region) store history faults in
     let new = seen_with_pins others (stage.Unpinning region.from given) (record store { disk = disk }) then_history then_faults in
     let event = fetch_event ReadsPiece lane place (Some why) None (told_calls then_history) in
     stands_so around after run lane place said (request.Fetch name uid) lists seen new did.Quiet None event None (IsAtFetch (stage.Unpinning region.from given) new)
-    (read_did around after run lane place said name uid lists seen then_history then_faults region (Some why) come shows idle none runs stood.0 left may (λ e. rose (let k : why ≡ refusal.ReadFault = cc e in k)))
+    (read_did around after run lane place said name uid lists seen then_history then_faults region (Some why) come shows idle none runs stood.0 left.0 may (λ e. rose (let k : why ≡ refusal.ReadFault = cc e in k)))
     (λ goes_on. (
       inr (
         why,
@@ -346,25 +340,24 @@ piece_last around after others name uid region store disk history then_history f
       runs,
     ))
 
--- the last piece of a region that holds its message
-piece_whole : {D : Type 0} → (around after : Around) (others : ℕ → ℕ) (name : List ℕ) (uid : Uid) (region : RegionValue) (store : StoreValue D) (disk : D) (history then_history : Option History) (faults then_faults : Faults) (given : Reply) → region.pieces < pieces_in region.from.size → store.stopped ≡ false → IsIdle history then_history
-    → NoChangeFault faults then_faults → refusal_in given ≡ None → region.from.has_attachments ≡ false → region.pieces + 1 ≡ pieces_in region.from.size → ((octets : List ℕ) → Reading (IsFrontOfStored region octets) history → IsTrueReply region.from octets given)
+-- the last piece of the message that is stored there
+piece_whole : {D : Type 0} → (around after : Around) (others : ℕ → ℕ) (name : List ℕ) (uid : Uid) (region : RegionValue) (store : StoreValue D) (disk : D) (history then_history : Option History) (faults then_faults : Faults) (given : Reply) → HasPieceLeft (stage.Reading region) → store.stopped ≡ false → IsIdle history then_history
+    → NoChangeFault faults then_faults → refusal_in given ≡ None → pieces_left (left_after region.left) ≡ 0 → ((octets : List ℕ) → Reading (IsFrontOfStored region octets) history → IsTrueReply octets given)
     → PieceClause around after others name uid region store history faults (record store { disk = disk }) then_history then_faults (stage.Unpinning region.from given)
-piece_whole around after others name uid region store disk history then_history faults then_faults given left runs idle none fetched plain last true_is = λ run lane place said lists come shows safe stood.
+piece_whole around after others name uid region store disk history then_history faults then_faults given left runs idle none fetched last true_is = λ run lane place said lists come shows safe stood.
     let seen = seen_with_pins others (stage.Reading region) store history faults in
     let new = seen_with_pins others (stage.Unpinning region.from given) (record store { disk = disk }) then_history then_faults in
     let event = fetch_event ReadsPiece lane place None None (told_calls then_history) in
     stands_so around after run lane place said (request.Fetch name uid) lists seen new did.Quiet None event None (IsAtFetch (stage.Unpinning region.from given) new)
-    (read_did around after run lane place said name uid lists seen then_history then_faults region None come shows idle none runs stood.0 left tt (λ e. absurd (let k : None ≡ Some refusal.ReadFault = e in cc k)))
+    (read_did around after run lane place said name uid lists seen then_history then_faults region None come shows idle none runs stood.0 left.0 tt (λ e. absurd (let k : None ≡ Some refusal.ReadFault = e in cc k)))
     (λ goes_on. (
       inl (
         fetched,
-        plain,
         (
           stood.0.0 ++ event ∷ [],
           one_piece_more region.from (own_events place run) stood.0.0 event (own_events place (and_then run event)) stood.0.1 (own_more place run event (eq-eqb place place refl)),
           All-push (ReadPiece None) stood.0.0 event stood.0.2 (record { part = refl; pinned = refl; refused_is = refl }),
-          length_more stood.0.0 event region.pieces stood.0.3 ∙ last,
+          count_more stood.0.0 event (pieces_left region.left) 0 (pieces_left (parts_to_read region.from)) stood.0.3 (let one = pieces_after region.left left.1 left.0 in omega (arith, one, last)),
         ),
       ),
       (stood.1.0, stood.1.1, true_is stood.1.0 (stood.1.2 runs)),
@@ -378,46 +371,44 @@ piece_to {D = D} around after others name uid region store new history then_hist
     (subst (λ (s : StoreValue D). PieceClause around after others name uid region store history faults s then_history then_faults a) (sym same) h)
 
 -- An event that reads a piece, of a store that isn't stopped.
-pub read_steps : {D : Type 0} → (around after : Around) (others : ℕ → ℕ) (name : List ℕ) (uid : Uid) (region : RegionValue) (store new : StoreValue D) (history then_history : Option History) (faults then_faults : Faults) (next : FetchStage) → region.pieces < pieces_in region.from.size → store.stopped ≡ false → new ≡ record store { disk = new.disk }
+pub read_steps : {D : Type 0} → (around after : Around) (others : ℕ → ℕ) (name : List ℕ) (uid : Uid) (region : RegionValue) (store new : StoreValue D) (history then_history : Option History) (faults then_faults : Faults) (next : FetchStage) → HasPieceLeft (stage.Reading region) → store.stopped ≡ false → new ≡ record store { disk = new.disk }
     → IsIdle history then_history → NoChangeFault faults then_faults → IsPieceRead region next history faults then_faults → PieceClause around after others name uid region store history faults new then_history then_faults next
 read_steps around after others name uid region store new history then_history faults then_faults next left runs same idle none (inr (rose, e)) =
     piece_to around after others name uid region store new history then_history faults then_faults (stage.Unpinning region.from (reply.Refused refusal.ReadFault)) next same e
-    (piece_last around after others name uid region store new.disk history then_history faults then_faults (reply.Refused refusal.ReadFault) refusal.ReadFault left runs idle none refl tt (λ k. rose) (λ octets f. inr (inl refl)))
-read_steps around after others name uid region store new history then_history faults then_faults next left runs same idle none (inl (piece, told, goes)) = by_size (cases_lt (region.pieces + 1) (pieces_in region.from.size))
+    (piece_last around after others name uid region store new.disk history then_history faults then_faults (reply.Refused refusal.ReadFault) refusal.ReadFault left runs idle none refl tt (λ k. rose) (λ octets f. inr refl))
+read_steps around after others name uid region store new history then_history faults then_faults next left runs same idle none (inl (piece, told, goes)) = by_size (cases_lt 0 (pieces_left (left_after region.left)))
   where
     now : (octets : List ℕ) → Reading (IsFrontOfStored region octets) history → Reading (IsFrontOfStored (with_piece region piece) octets) then_history
-    now octets f = front_on region octets piece history then_history idle told (pieces_below region.from.size region.pieces left) f
+    now octets f = front_on region octets piece history then_history idle told f
 
-    by_reply : (last : pieces_in region.from.size ≤ region.pieces + 1) (given : Reply) → next ≡ stage.Unpinning region.from given → IsReplyFor region.from (region.octets ++ piece) given → PieceClause around after others name uid region store history faults new then_history then_faults next
+    by_reply : (last : pieces_left (left_after region.left) ≡ 0) (given : Reply) → next ≡ stage.Unpinning region.from given → IsReplyFor region.from (region.octets ++ piece) given → PieceClause around after others name uid region store history faults new then_history then_faults next
     by_reply last given e (inl (octets, holds, is)) =
         piece_to around after others name uid region store new history then_history faults then_faults (stage.Unpinning region.from given) next same e
-        (piece_whole around after others name uid region store new.disk history then_history faults then_faults given left runs idle none (ap refusal_in is) holds.unattached (omega (arith, left, last))
-        (λ text f. true_on (with_piece region piece) text then_history given (now text f) (pieces_over region.from.size (region.pieces + 1) last) (inl (octets, holds, is))))
+        (piece_whole around after others name uid region store new.disk history then_history faults then_faults given left runs idle none (ap refusal_in is) last
+        (λ text f. true_on (with_piece region piece) text then_history given (now text f) last (inl (octets, holds, is))))
     by_reply last given e (inr (none_held, is)) =
         piece_to around after others name uid region store new history then_history faults then_faults (stage.Unpinning region.from given) next same e
         (piece_last around after others name uid region store new.disk history then_history faults then_faults given (refusal.Damaged region.from.file region.from.offset) left runs idle none (ap refusal_in is) tt (λ k. absurd (let f : refusal.Damaged region.from.file region.from.offset ≡ refusal.ReadFault = k in cc f))
-        (λ text f. true_on (with_piece region piece) text then_history given (now text f) (pieces_over region.from.size (region.pieces + 1) last) (inr (none_held, is))))
+        (λ text f. true_on (with_piece region piece) text then_history given (now text f) last (inr (none_held, is))))
 
-    by_size : (region.pieces + 1 < pieces_in region.from.size) ⊎ (pieces_in region.from.size ≤ region.pieces + 1) → PieceClause around after others name uid region store history faults new then_history then_faults next
+    by_size : (0 < pieces_left (left_after region.left)) ⊎ (pieces_left (left_after region.left) ≤ 0) → PieceClause around after others name uid region store history faults new then_history then_faults next
     by_size (inl more) =
         piece_to around after others name uid region store new history then_history faults then_faults (stage.Reading (with_piece region piece)) next same (goes.more more)
         (piece_more around after others name uid region store new.disk history then_history faults then_faults piece left runs idle none told)
-    by_size (inr last) = let r = goes.last last in by_reply last r.0 r.1 r.2
+    by_size (inr last) = let none_left : pieces_left (left_after region.left) ≡ 0 = omega (arith, last) in let r = goes.last none_left in by_reply none_left r.0 r.1 r.2
 
 -- ---- the last event
 
 ends_here : (b : Bool) → b ≡ false → (if b then Some RemovesFile else None) ≡ None
 ends_here b e = ap (λ (t : Bool). if t then Some RemovesFile else None) e
 
-true_reply_of : (name : List ℕ) (uid : Uid) (from : StoredAt) (octets : List ℕ) (given : Reply) (said : List Reply) → said ≡ reply.Fetched octets ∷ [] → IsTrueReply from octets given → IsReplyOf (request.Fetch name uid) said given
-true_reply_of name uid from octets given said e (inl is) = subst (λ (r : Reply). IsReplyOf (request.Fetch name uid) said r) (sym is) e
-true_reply_of name uid from octets given said e (inr (inl is)) = subst (λ (r : Reply). IsReplyOf (request.Fetch name uid) said r) (sym is) tt
-true_reply_of name uid from octets given said e (inr (inr (attached, is))) = subst (λ (r : Reply). IsReplyOf (request.Fetch name uid) said r) (sym is) (octets, e)
+true_reply_of : (name : List ℕ) (uid : Uid) (octets : List ℕ) (given : Reply) (said : List Reply) → said ≡ reply.Fetched octets ∷ [] → IsTrueReply octets given → IsReplyOf (request.Fetch name uid) said given
+true_reply_of name uid octets given said e (inl is) = subst (λ (r : Reply). IsReplyOf (request.Fetch name uid) said r) (sym is) e
+true_reply_of name uid octets given said e (inr is) = subst (λ (r : Reply). IsReplyOf (request.Fetch name uid) said r) (sym is) tt
 
-not_stopped : (from : StoredAt) (octets : List ℕ) (given : Reply) → IsTrueReply from octets given → Some given ≡ Some (reply.Refused refusal.Stopped) → ⊥
-not_stopped from octets given (inl is) e = let k : reply.Fetched octets ≡ reply.Refused refusal.Stopped = sym is ∙ (let w : given ≡ reply.Refused refusal.Stopped = cc e in w) in cc k
-not_stopped from octets given (inr (inl is)) e = let k : reply.Refused refusal.ReadFault ≡ reply.Refused refusal.Stopped = sym is ∙ (let w : given ≡ reply.Refused refusal.Stopped = cc e in w) in let w : refusal.ReadFault ≡ refusal.Stopped = cc k in cc w
-not_stopped from octets given (inr (inr (attached, is))) e = let k : damage_at from ≡ reply.Refused refusal.Stopped = sym is ∙ (let w : given ≡ reply.Refused refusal.Stopped = cc e in w) in let w : refusal.Damaged from.file from.offset ≡ refusal.Stopped = cc k in cc w
+not_stopped : (octets : List ℕ) (given : Reply) → IsTrueReply octets given → Some given ≡ Some (reply.Refused refusal.Stopped) → ⊥
+not_stopped octets given (inl is) e = let k : reply.Fetched octets ≡ reply.Refused refusal.Stopped = sym is ∙ (let w : given ≡ reply.Refused refusal.Stopped = cc e in w) in cc k
+not_stopped octets given (inr is) e = let k : reply.Refused refusal.ReadFault ≡ reply.Refused refusal.Stopped = sym is ∙ (let w : given ≡ reply.Refused refusal.Stopped = cc e in w) in let w : refusal.ReadFault ≡ refusal.Stopped = cc k in cc w
 
 pub unpin_steps : {D : Type 0} → (around after : Around) (others : ℕ → ℕ) (name : List ℕ) (uid : Uid) (from : StoredAt) (given : Reply) (store : StoreValue D) (history : Option History) (faults : Faults) → store.stopped ≡ false
     → StepsOnSafe (IsAtFetch (stage.Unpinning from given) (seen_with_pins others (stage.Unpinning from given) store history faults)) (IsAtFetch stage.First (seen_with_pins others stage.First store history faults)) around after (request.Fetch name uid)
@@ -429,8 +420,8 @@ unpin_steps around after others name uid from given store history faults runs = 
       (did_late around after run lane place said name uid lists seen history faults (λ file. others file + 0) Unpins None (Some given) (unpin_is_late name uid) come shows (idle-begins history) (record { reads = omega arith; changes = refl }) (next_unpins around name uid run place from given stood.0) tt
           (record { 0 = λ h. ends_here (leaves_doomed place (and_then run event)) (none_doomed place (and_then run event) (λ file. doomed_still run event file refl refl ∙ come.doomed file)); 1 = λ e f. some_given given f })
           (last_with (own_events place run) event ∙ (none_or (last_refusal (own_events place run)) ∙ unpins_by from given (own_events place run) stood.0))
-          (λ r e. subst (λ (x : Reply). IsReplyOf (request.Fetch name uid) said x) (let k : given ≡ r = cc e in k) (true_reply_of name uid from stood.1.0 given said stood.1.1 stood.1.2))
-          (record { 0 = λ e. absurd (not_stopped from stood.1.0 given stood.1.2 e); 1 = λ e. absurd (fall store.stopped e runs) }) (λ e. absurd (fall store.stopped e runs)) (λ e. absurd (let k : None ≡ Some refusal.ReadFault = e in cc k))
+          (λ r e. subst (λ (x : Reply). IsReplyOf (request.Fetch name uid) said x) (let k : given ≡ r = cc e in k) (true_reply_of name uid stood.1.0 given said stood.1.1 stood.1.2))
+          (record { 0 = λ e. absurd (not_stopped stood.1.0 given stood.1.2 e); 1 = λ e. absurd (fall store.stopped e runs) }) (λ e. absurd (fall store.stopped e runs)) (λ e. absurd (let k : None ≡ Some refusal.ReadFault = e in cc k))
           (λ file. let a = pins_end run event file (one_pin from.file.0 file) refl pin.none (pin.one file) in let b = come.pins file in omega (arith, a, b))).so,
       λ e. absurd (never_more _ e),
     )
@@ -444,7 +435,7 @@ pub fetch_stays : (now : FetchStage) (seen : Seen) → IsKept (IsAtFetch now see
 fetch_stays stage.First seen = not_begun_stays
 fetch_stays (stage.Reading region) seen = λ run place said event other gives stood.
     let same = own_other place run event (ne_eqb event.request place other) in
-    (subst (HasReadPieces region.from region.pieces) (sym same) stood.0, stood.1)
+    (subst (HasReadAllBut region.from (pieces_left region.left)) (sym same) stood.0, stood.1)
 fetch_stays (stage.Unpinning from given) seen = λ run place said event other gives stood.
     let same = own_other place run event (ne_eqb event.request place other) in
     (subst (UnpinsNext from given) (sym same) stood.0, stood.1, stood.2)

@@ -1,183 +1,166 @@
--- A region that is read piece by piece, as the disk stores it.
-use Rattle.std.proofs.Common.{◌≡◌, ◌≤◌, ◌<◌, ◌+◌, ◌-◌, ◌*◌, ℕ, Bool, true, false, List, [], ◌∷◌, ◌++◌, length, take, drop, Some, refl, sym, ◌∙◌, ap, subst, arith, inl, inr}
-use Rattle.std.specs.Prelude.{◌⊎◌, min}
-use Rattle.std.proofs.Math.Seq.{take-add, take-append_seam}
-use Rattle.std.proofs.lemmas.List.{drop-take, drop-drop, take_all, length-take, length-drop}
-use Rattle.std.proofs.lemmas.Bool.{cases_lt}
-use Rattle.std.proofs.lemmas.Nat.{div-add-mod'}
-use Rattle.disk_model.specs.Disk.{Files, DiskState, reading}
-use Rattle.disk_model.specs.declared.name.FileName.TheVariants.{Mail}
+-- A message that is read piece by piece, as the disk stores it.
+use Rattle.std.proofs.Common.{◌≡◌, ◌+◌, ℕ, List, [], ◌∷◌, ◌++◌, length, take, drop, map, Some, refl, sym, ◌∙◌, ap, subst, arith, inl, inr, All, append_assoc, append-nil, length-append}
+use Rattle.std.specs.Prelude.{sum_by}
+use Rattle.std.proofs.Math.Seq.{take-append_seam, drop-append_seam}
+use Rattle.std.proofs.lemmas.List.{take_all, length-take, length-drop}
+use Rattle.std.proofs.lemmas.List.Elements.{All-head, All-tail}
+use Rattle.std.proofs.lemmas.List.Sums.{sum_by-cons}
+use Rattle.attach_join.specs.Behind.{octets_in}
+use Rattle.disk_model.specs.Disk.{Files, DiskState}
+use Rattle.disk_model.specs.declared.name.FileName.TheVariants.{Inst}
 use Rattle.mdbox_base.specs.declared.entries.InstRow.{InstRow}
-use Rattle.mdbox_base.specs.declared.ids.Guid.{Guid}
 use Rattle.mdbox_base.specs.declared.metadata.ExtRef.{ExtRef}
 use Rattle.mdbox_base.specs.declared.replies.Reply.{Reply}
 use Rattle.mdbox_base.specs.declared.replies.Reply.TheVariants as reply
-use Rattle.model_attach.specs.Rejoined.{IsWhole}
+use Rattle.model_attach.specs.Rejoined.{IsWhole, IsWholeFrom, part_text}
 use Rattle.model_meaning.specs.BoxMeaning.{LogRow}
 use Rattle.model_meaning.specs.MapMeaning.{MapRecord}
 use Rattle.model_storage.specs.StorageFile.{Message, IsMessage}
-use Rattle.model_storage.specs.Metadata.{IsMetadata}
 use Rattle.model_storage.specs.declared.metadata_value.Metadata.{Metadata}
-use Rattle.model_storage.proofs.FileLemmas.{message_same}
-use Rattle.model_storage.proofs.MetadataLemmas.{metadata_same}
+use Rattle.model_store.specs.Safe.{IsThereWhole}
 use Rattle.model_store.specs.Settled.{files_of}
-use Rattle.model_store.specs.Stands.{StoresMessage, NameInstances}
+use Rattle.model_store.specs.Stands.{StoresMessage, HasInstances}
 use Rattle.storage_files.specs.OnDisk.{piece_read}
-use Rattle.mail_fetch.specs.Events.{next_size, next_piece, with_piece}
-use Rattle.mail_fetch.specs.Region.{RegionValue, HoldsWhole, IsReplyFor, names_some, pieces_in, stored_at}
+use Rattle.mail_fetch.specs.Events.{next_piece, with_piece}
+use Rattle.mail_fetch.specs.Parts.{instance_part, left_after, octets_to_read, part_read, parts_to_read, parts_read, pieces_left, region_part}
+use Rattle.mail_fetch.specs.Region.{RegionValue, HoldsWhole, IsReplyFor, IsStoredMessage, stored_at}
 use Rattle.mail_fetch.specs.Stages.{IsFrontOfStored, IsTrueReply}
+use Rattle.mail_fetch.specs.declared.parts.StoredAt.{StoredAt}
+use Rattle.mail_fetch.proofs.MessageLemmas.{same_stored}
+use Rattle.mail_fetch.proofs.PartLemmas.{reads_after, reads_none, reads_of_parts}
 
--- ---- pieces of a text
-
--- so many octets of what is taken of a text, from a place in it
-drop_of_take : (a n : ℕ) (xs : List ℕ) → a ≤ n → drop a (take n xs) ≡ take (n - a) (drop a xs)
-drop_of_take a n xs le = ap (λ (k : ℕ). drop a (take k xs)) (let e : n ≡ a + (n - a) = omega (arith, le) in e) ∙ drop-take a (n - a) xs
-
-take_of_take : (a b : ℕ) (xs : List ℕ) → a ≤ b → take a (take b xs) ≡ take a xs
-take_of_take a b xs le =
-    let whole : take b xs ≡ take a xs ++ take (b - a) (drop a xs) = ap (λ (k : ℕ). take k xs) (let e : b ≡ a + (b - a) = omega (arith, le) in e) ∙ take-add a (b - a) xs in
-    by_length (cases_lt (length xs) a) whole
-  where
-    by_length : (length xs < a) ⊎ (a ≤ length xs) → take b xs ≡ take a xs ++ take (b - a) (drop a xs) → take a (take b xs) ≡ take a xs
-    by_length (inl short) whole = ap (take a) (take_all b xs (omega (arith, short, le)))
-    by_length (inr long) whole =
-        let size = length-take a xs in
-        ap (take a) whole ∙ front (take a xs) (take (b - a) (drop a xs)) (omega (arith, size, long))
-      where
-        front : (ys zs : List ℕ) → length ys ≡ a → take a (ys ++ zs) ≡ ys
-        front ys zs e = subst (λ (k : ℕ). take k (ys ++ zs) ≡ ys) e (take-append_seam ys zs)
-
--- The next piece of a text of so many octets, read where it lies in a file.
-pub piece_of : (file : List ℕ) (offset size at step : ℕ) → at ≤ size → take (min step (size - at)) (drop (offset + at) file) ≡ take step (drop at (take size (drop offset file)))
-piece_of file offset size at step le =
-    ap (λ (xs : List ℕ). take (min step (size - at)) xs) (sym (drop-drop at offset file))
-    ∙ (by_step (cases_lt (size - at) step) ∙ ap (take step) (sym (drop_of_take at size (drop offset file) le)))
-  where
-    by_step : (size - at < step) ⊎ (step ≤ size - at) → take (min step (size - at)) (drop at (drop offset file)) ≡ take step (take (size - at) (drop at (drop offset file)))
-    by_step (inl less) =
-        ap (λ (k : ℕ). take k (drop at (drop offset file))) (let e : min step (size - at) ≡ size - at = omega (arith, less) in e)
-        ∙ sym (take_all step (take (size - at) (drop at (drop offset file))) (let h = length-take (size - at) (drop at (drop offset file)) in omega (arith, h, less)))
-    by_step (inr more) = ap (λ (k : ℕ). take k (drop at (drop offset file))) (let e : min step (size - at) ≡ step = omega (arith, more) in e) ∙ sym (take_of_take step (size - at) (drop at (drop offset file)) more)
-
--- ---- the front of a region
-
-pub record HasFile (region : RegionValue) (entry : MapRecord) : Type 0 where
-  pub file : entry.file ≡ region.from.file.0
-  pub offset : entry.offset ≡ region.from.offset
-  pub size : entry.size ≡ region.from.size
-
-read_here : (region : RegionValue) (entry : MapRecord) (disk : DiskState) (there : List ℕ) → HasFile region entry → files_of disk (Mail entry.file) ≡ Some there → next_piece region disk ≡ take (next_size region) (drop (region.from.offset + 65536 * region.pieces) there)
-read_here region entry disk there h e =
-    ap (piece_read (region.from.offset + 65536 * region.pieces) (next_size region)) (ap (λ (n : ℕ). reading (disk (Mail n))) (sym h.file) ∙ e)
+-- ---- the first octets of what is stored
 
 -- one piece more
-pub front_more : (region : RegionValue) (octets piece : List ℕ) (disk : DiskState) → IsFrontOfStored region octets (files_of disk) → piece ≡ next_piece region disk → 65536 * region.pieces ≤ region.from.size → IsFrontOfStored (with_piece region piece) octets (files_of disk)
-front_more region octets piece disk f is le = record {
+pub front_more : (region : RegionValue) (octets piece : List ℕ) (disk : DiskState) → IsFrontOfStored region octets (files_of disk) → piece ≡ next_piece region disk → IsFrontOfStored (with_piece region piece) octets (files_of disk)
+front_more region octets piece disk f is = record {
+  row = f.row;
   entry = f.entry;
-  file = f.file;
-  offset = f.offset;
-  size = f.size;
-  guid = f.guid;
-  attached = f.attached;
+  from = f.from;
   listed = f.listed;
   stores = f.stores;
-  front = more;
+  sizes = f.sizes;
+  front =
+      append_assoc region.octets piece (parts_read (files_of disk) (left_after region.left))
+      ∙ (ap (λ (xs : List ℕ). region.octets ++ xs) (ap (λ (xs : List ℕ). xs ++ parts_read (files_of disk) (left_after region.left)) is ∙ reads_after (files_of disk) region.left)
+      ∙ f.front);
 }
-  where
-    there : List ℕ
-    there = f.stores.stored.octets_there
 
-    at : ℕ
-    at = 65536 * region.pieces
+-- Once all is read, it is all that the files have.
+pub front_whole : (region : RegionValue) (octets : List ℕ) (files : Files) → (f : IsFrontOfStored region octets files) → pieces_left region.left ≡ 0 → region.octets ≡ parts_read files (parts_to_read (stored_at f.row f.entry))
+front_whole region octets files f none =
+    sym (append-nil region.octets)
+    ∙ (ap (λ (xs : List ℕ). region.octets ++ xs) (sym (reads_none files region.left none))
+    ∙ (f.front ∙ ap (λ (from : StoredAt). parts_read files (parts_to_read from)) f.from))
 
-    text : List ℕ
-    text = take f.entry.size (drop f.entry.offset there)
+-- ---- the instances
 
-    within : at ≤ f.entry.size
-    within = let s = f.size in omega (arith, le, s)
+-- what a file has of an instance that is there with its size
+instance_read : (files : Files) (row : InstRow) (octets : List ℕ) → files (Inst row.hash.0 row.id.0) ≡ Some octets → IsThereWhole files row → (part_read files (instance_part row) ≡ octets) × (length octets ≡ row.size)
+instance_read files row octets there whole =
+    let same : whole.octets ≡ octets = (let k : Some whole.octets ≡ Some octets = sym whole.there ∙ there in cc k) in
+    let size : length octets ≡ row.size = ap (λ (xs : List ℕ). length xs) (sym same) ∙ whole.size in
+    (ap (piece_read 0 row.size) there ∙ take_all row.size octets (omega (arith, size)), size)
 
-    piece_is : piece ≡ take 65536 (drop at text)
-    piece_is =
-        is ∙ read_here region f.entry disk there (record { file = f.file; offset = f.offset; size = f.size }) f.stores.stored.there
-        ∙ (ap (λ (n : ℕ). take (min 65536 (n - at)) (drop (region.from.offset + at) there)) (sym f.size) ∙ ap (λ (n : ℕ). take (min 65536 (f.entry.size - at)) (drop (n + at) there)) (sym f.offset))
-        ∙ piece_of there f.entry.offset f.entry.size at 65536 within
+-- all of them, one behind another
+all_read : (files : Files) (rows : List InstRow) (instances : List (List ℕ)) → HasInstances files rows instances → All (IsThereWhole files) rows → (octets_in rows (parts_read files (map instance_part rows)) ≡ instances) × (length (parts_read files (map instance_part rows)) ≡ sum_by (λ row. row.size) rows)
+all_read files [] [] has whole = (refl, refl)
+all_read files [] (octets ∷ rest) has whole = absurd has
+all_read files (row ∷ rows) [] has whole = absurd has
+all_read files (row ∷ rows) (octets ∷ rest) has whole =
+    let one = instance_read files row octets has.0 (All-head (IsThereWhole files) row rows whole) in
+    let more = all_read files rows rest has.1 (All-tail (IsThereWhole files) row rows whole) in
+    let behind = parts_read files (map instance_part rows) in
+    let joined : parts_read files (map instance_part (row ∷ rows)) ≡ octets ++ behind = ap (λ (xs : List ℕ). xs ++ behind) one.0 in
+    let first : take row.size (octets ++ behind) ≡ octets = subst (λ (n : ℕ). take n (octets ++ behind) ≡ octets) one.1 (take-append_seam octets behind) in
+    let others : drop row.size (octets ++ behind) ≡ behind = subst (λ (n : ℕ). drop n (octets ++ behind) ≡ behind) one.1 (drop-append_seam octets behind) in (
+      ap (λ (xs : List ℕ). octets_in (row ∷ rows) xs) joined
+          ∙ (ap (λ (xs : List ℕ). xs ∷ octets_in rows (drop row.size (octets ++ behind))) first ∙ ap (λ (xs : List (List ℕ)). octets ∷ xs) (ap (octets_in rows) others ∙ more.0)),
+      ap (λ (xs : List ℕ). length xs) joined
+          ∙ (let a = length-append octets behind in let b = more.1 in let c = one.1 in let d = sum_by-cons (λ (r : InstRow). r.size) row rows in let w : length (octets ++ behind) ≡ sum_by (λ (r : InstRow). r.size) (row ∷ rows) = omega (arith, a, b, c, d) in w),
+    )
 
-    more : region.octets ++ piece ≡ take (65536 * (region.pieces + 1)) text
-    more =
-        ap (λ (xs : List ℕ). xs ++ piece) f.front ∙ ap (λ (xs : List ℕ). take at text ++ xs) piece_is
-        ∙ sym (take-add at 65536 text) ∙ ap (λ (n : ℕ). take n text) (let e : at + 65536 ≡ 65536 * (region.pieces + 1) = omega arith in e)
+-- ---- what is stored is held
 
--- Once all is read, it is the whole region.
-pub front_whole : (region : RegionValue) (octets : List ℕ) (files : Files) → (f : IsFrontOfStored region octets files) → region.from.size ≤ 65536 * region.pieces → region.octets ≡ take f.entry.size (drop f.entry.offset f.stores.stored.octets_there)
-front_whole region octets files f le =
-    f.front ∙ take_all (65536 * region.pieces) (take f.entry.size (drop f.entry.offset f.stores.stored.octets_there))
-    (let h = length-take f.entry.size (drop f.entry.offset f.stores.stored.octets_there) in let s = f.size in omega (arith, h, s, le))
+-- What the files have of a stored message: its region, and behind it its instances.
+record ReadsStored (files : Files) (row : LogRow) (entry : MapRecord) (octets : List ℕ) (stores : StoresMessage files entry octets) : Type 0 where
+  long : length (parts_read files (parts_to_read (stored_at row entry))) ≡ octets_to_read (stored_at row entry)
+  region : take entry.size (parts_read files (parts_to_read (stored_at row entry))) ≡ take entry.size (drop entry.offset stores.stored.octets_there)
+  instances : octets_in entry.instances (drop entry.size (parts_read files (parts_to_read (stored_at row entry)))) ≡ stores.instances
 
--- ---- what is replied
-
-no_refs : (refs : List ExtRef) (rows : List InstRow) → NameInstances refs rows → rows ≡ [] → refs ≡ []
-no_refs [] rows h e = refl
-no_refs (r ∷ refs) [] h e = absurd h
-no_refs (r ∷ refs) (row ∷ rows) h e = absurd (cc e)
-
-whole_alone : (octets body : List ℕ) (refs : List ExtRef) (instances : List (List ℕ)) → refs ≡ [] → IsWhole octets body refs instances → octets ≡ body
-whole_alone octets body [] [] e h = h
-whole_alone octets body [] (i ∷ is) e h = absurd h
-whole_alone octets body (r ∷ refs) instances e h = absurd (cc e)
-
--- A stored message without attachments is held by its whole region; what a region holds is the stored message.
-pub holds_stored : (region : RegionValue) (octets : List ℕ) (files : Files) → IsFrontOfStored region octets files → region.from.size ≤ 65536 * region.pieces → region.from.has_attachments ≡ false → HoldsWhole region.from region.octets octets
-holds_stored region octets files f le plain =
-    let stored = f.stores.stored in
-    let refs : stored.meta.refs ≡ [] = no_refs stored.meta.refs f.entry.instances f.stores.names (f.attached plain) in
-    let body : octets ≡ stored.message.body = whole_alone octets stored.message.body stored.meta.refs f.stores.instances refs f.stores.whole in
-    let whole = front_whole region octets files f le in
+reads_stored : (files : Files) (row : LogRow) (entry : MapRecord) (octets : List ℕ) → (stores : StoresMessage files entry octets) → All (IsThereWhole files) entry.instances → ReadsStored files row entry octets stores
+reads_stored files row entry octets stores sizes =
+    let stored = stores.stored in
+    let text = take entry.size (drop entry.offset stored.octets_there) in
+    let behind = parts_read files (map instance_part entry.instances) in
+    let all = all_read files entry.instances stores.instances stores.found sizes in
+    let here : part_read files (region_part (stored_at row entry)) ≡ text = ap (piece_read entry.offset entry.size) stored.there in
+    let joined : parts_read files (parts_to_read (stored_at row entry)) ≡ text ++ behind = reads_of_parts files (stored_at row entry) ∙ ap (λ (xs : List ℕ). xs ++ behind) here in
+    let size : length text ≡ entry.size = (let a = length-take entry.size (drop entry.offset stored.octets_there) in let b = length-drop entry.offset stored.octets_there in let i = stored.inside in omega (arith, a, b, i)) in
     record {
-      message = stored.message;
-      meta = stored.meta;
-      unattached = plain;
-      long = ap length whole ∙ (let h = length-take f.entry.size (drop f.entry.offset stored.octets_there) in let d = length-drop f.entry.offset stored.octets_there in let s = f.size in let i = stored.inside in omega (arith, h, d, s, i));
-      spelled = subst (λ (xs : List ℕ). IsMessage xs stored.message) (sym whole) stored.region;
-      says = stored.says;
-      guid = stored.guid ∙ ap (λ (g : List ℕ). let u : Guid = record { 0 = g } in Some u) f.guid;
-      no_references = refs;
-      size = sym f.stores.size ∙ ap length body;
-      listed = ap length (sym body) ∙ f.listed;
-      body = body;
+      long = ap (λ (xs : List ℕ). length xs) joined ∙ (let a = length-append text behind in let b = all.1 in let w : length (text ++ behind) ≡ octets_to_read (stored_at row entry) = omega (arith, a, b, size) in w);
+      region = ap (take entry.size) joined ∙ subst (λ (n : ℕ). take n (text ++ behind) ≡ text) size (take-append_seam text behind);
+      instances = ap (λ (xs : List ℕ). octets_in entry.instances (drop entry.size xs)) joined ∙ (ap (octets_in entry.instances) (subst (λ (n : ℕ). drop n (text ++ behind) ≡ behind) size (drop-append_seam text behind)) ∙ all.0);
     }
 
-pub stored_is_held : (region : RegionValue) (octets held : List ℕ) (files : Files) → IsFrontOfStored region octets files → region.from.size ≤ 65536 * region.pieces → HoldsWhole region.from region.octets held → held ≡ octets
-stored_is_held region octets held files f le h =
-    let stored = f.stores.stored in
-    let whole = front_whole region octets files f le in
-    let spelled : IsMessage (take f.entry.size (drop f.entry.offset stored.octets_there)) h.message = subst (λ (xs : List ℕ). IsMessage xs h.message) whole h.spelled in
-    let same : h.message ≡ stored.message = (message_same _ _ [] [] h.message stored.message spelled stored.region refl).1 in
-    let meta : h.meta ≡ stored.meta = metadata_same stored.message.lines h.meta stored.meta (subst (λ (m : Message). IsMetadata m.lines h.meta) same h.says) stored.says in
-    let refs : stored.meta.refs ≡ [] = ap (λ (m : Metadata). m.refs) (sym meta) ∙ h.no_references in
-    (h.body ∙ ap (λ (m : Message). m.body) same) ∙ sym (whole_alone octets stored.message.body stored.meta.refs f.stores.instances refs f.stores.whole)
+-- the message that is stored there
+message_there : (files : Files) (row : LogRow) (entry : MapRecord) (octets region : List ℕ) → (stores : StoresMessage files entry octets) → length octets ≡ row.size → region ≡ take entry.size (drop entry.offset stores.stored.octets_there) → IsStoredMessage (stored_at row entry) region
+message_there files row entry octets region stores listed is = record {
+  message = stores.stored.message;
+  meta = stores.stored.meta;
+  spelled = subst (λ (xs : List ℕ). IsMessage xs stores.stored.message) (sym is) stores.stored.region;
+  says = stores.stored.says;
+  guid = stores.stored.guid;
+  names = stores.names;
+  size = sym stores.size ∙ listed;
+}
+
+pub stored_fetched : (files : Files) (row : LogRow) (entry : MapRecord) (octets : List ℕ) → StoresMessage files entry octets → All (IsThereWhole files) entry.instances → length octets ≡ row.size → HoldsWhole (stored_at row entry) (parts_read files (parts_to_read (stored_at row entry))) octets
+unfolding message_there
+stored_fetched files row entry octets stores sizes listed =
+    let r = reads_stored files row entry octets stores sizes in
+    record {
+      long = r.long;
+      stored = message_there files row entry octets _ stores listed r.region;
+      whole = subst (λ (xs : List (List ℕ)). IsWhole octets stores.stored.message.body stores.stored.meta.refs xs) (sym r.instances) stores.whole;
+      size = listed;
+    }
+
+-- ---- one whole
+
+split_at : (front front' rest rest' : List ℕ) → length front ≡ length front' → front ++ rest ≡ front' ++ rest' → (front ≡ front') × (rest ≡ rest')
+split_at front front' rest rest' long e = (
+  sym (take-append_seam front rest) ∙ (ap (take (length front)) e ∙ subst (λ (n : ℕ). take n (front' ++ rest') ≡ front') (sym long) (take-append_seam front' rest')),
+  sym (drop-append_seam front rest) ∙ (ap (drop (length front)) e ∙ subst (λ (n : ℕ). drop n (front' ++ rest') ≡ rest') (sym long) (drop-append_seam front' rest')),
+)
+
+-- a body, references and instances have one whole
+one_whole : (place : ℕ) (a b body : List ℕ) (refs : List ExtRef) (instances : List (List ℕ)) → IsWholeFrom place a body refs instances → IsWholeFrom place b body refs instances → a ≡ b
+one_whole place a b body [] [] h k = h ∙ sym k
+one_whole place a b body [] (octets ∷ instances) h k = absurd h
+one_whole place a b body (ref ∷ refs) [] h k = absurd h
+one_whole place a b body (ref ∷ refs) (octets ∷ instances) (front, rest, behind, whole, body_is, at, size, more) (front', rest', behind', whole', body_is', at', size', more') =
+    let parts = split_at front front' behind behind' (omega (arith, at, at')) (sym body_is ∙ body_is') in
+    let same = one_whole (ref.start + ref.count) rest rest' behind refs instances more (subst (λ (xs : List ℕ). IsWholeFrom (ref.start + ref.count) rest' xs refs instances) (sym parts.1) more') in
+    whole ∙ (ap (λ (xs : List ℕ). xs ++ (part_text ref.form octets ++ rest)) parts.0 ∙ (ap (λ (xs : List ℕ). front' ++ (part_text ref.form octets ++ xs)) same ∙ sym whole'))
+
+-- what is held of the same octets is the same
+held_once : (from : StoredAt) (read a b : List ℕ) → HoldsWhole from read a → HoldsWhole from read b → a ≡ b
+held_once from read a b h k =
+    let same = same_stored from (take from.size read) k.stored h.stored in
+    one_whole 0 a b h.stored.message.body h.stored.meta.refs (octets_in from.instances (drop from.size read)) h.whole
+    (subst (λ (body : List ℕ). IsWhole b body h.stored.meta.refs (octets_in from.instances (drop from.size read))) (ap (λ (m : Message). m.body) same.message)
+    (subst (λ (refs : List ExtRef). IsWhole b k.stored.message.body refs (octets_in from.instances (drop from.size read))) (ap (λ (m : Metadata). m.refs) same.meta) k.whole))
 
 -- So the reply is true.
-pub true_reply : (region : RegionValue) (octets : List ℕ) (files : Files) (given : Reply) → IsFrontOfStored region octets files → region.from.size ≤ 65536 * region.pieces → IsReplyFor region.from region.octets given → IsTrueReply region.from octets given
-true_reply region octets files given f le (inl (held, h, e)) = inl (e ∙ ap reply.Fetched (stored_is_held region octets held files f le h))
-true_reply region octets files given f le (inr (none, e)) = by_attached region.from.has_attachments refl
+pub true_reply : (region : RegionValue) (octets : List ℕ) (files : Files) (given : Reply) → IsFrontOfStored region octets files → pieces_left region.left ≡ 0 → IsReplyFor region.from region.octets given → IsTrueReply octets given
+true_reply region octets files given f none is = by_reply is
   where
-    by_attached : (b : Bool) → region.from.has_attachments ≡ b → IsTrueReply region.from octets given
-    by_attached true is = inr (inr (is, e))
-    by_attached false is = absurd (none octets (holds_stored region octets files f le is))
+    held : HoldsWhole region.from region.octets octets
+    held =
+        subst (λ (from : StoredAt). HoldsWhole from region.octets octets) (sym f.from)
+        (subst (λ (xs : List ℕ). HoldsWhole (stored_at f.row f.entry) xs octets) (sym (front_whole region octets files f none)) (stored_fetched files f.row f.entry octets f.stores f.sizes f.listed))
 
--- A stored message without attachments is held whole by its region.
-pub stored_fetched : (files : Files) (row : LogRow) (entry : MapRecord) (octets : List ℕ) → (stores : StoresMessage files entry octets) → entry.instances ≡ [] → length octets ≡ row.size → HoldsWhole (stored_at row entry) (take entry.size (drop entry.offset stores.stored.octets_there)) octets
-stored_fetched files row entry octets stores alone size =
-    holds_stored region octets files (record { entry = entry; file = refl; offset = refl; size = refl; guid = refl; attached = λ plain. alone; listed = size; stores = stores; front = whole }) all (ap names_some alone)
-  where
-    text : List ℕ
-    text = take entry.size (drop entry.offset stores.stored.octets_there)
-
-    region : RegionValue
-    region = record { from = stored_at row entry; octets = text; pieces = pieces_in entry.size }
-
-    all : entry.size ≤ 65536 * pieces_in entry.size
-    all = let e = div-add-mod' (entry.size + 65535) 65536 in omega (arith, e)
-
-    whole : text ≡ take (65536 * pieces_in entry.size) text
-    whole = sym (take_all (65536 * pieces_in entry.size) text (let h = length-take entry.size (drop entry.offset stores.stored.octets_there) in omega (arith, h, all)))
+    by_reply : IsReplyFor region.from region.octets given → IsTrueReply octets given
+    by_reply (inl (text, h, e)) = inl (e ∙ ap reply.Fetched (held_once region.from region.octets text octets h held))
+    by_reply (inr (unheld, e)) = absurd (unheld octets held)

@@ -1,8 +1,7 @@
 -- What the events of a fetch answer.
-use Rattle.std.specs.Prelude.{◌≡◌, ◌+◌, ◌-◌, ◌*◌, ◌<◌, ◌≤◌, ◌⊎◌, ◌++◌, min, ℕ, true, false, is_some, List, if◌then◌else◌, Option, Some, None}
+use Rattle.std.specs.Prelude.{◌≡◌, ◌<◌, ◌≤◌, ◌⊎◌, ◌++◌, ℕ, true, false, is_some, List, if◌then◌else◌, Option, Some, None}
 use Rattle.std.specs.Option.{option_map_or}
-use Rattle.disk_model.specs.Disk.{DiskState, History, Faults, IfTold, reading}
-use Rattle.disk_model.specs.declared.name.FileName.TheVariants.{Mail}
+use Rattle.disk_model.specs.Disk.{DiskState, History, Faults, IfTold}
 use Rattle.mdbox_base.specs.Streams.{Rose}
 use Rattle.mdbox_base.specs.declared.progress.Progress.{Progress}
 use Rattle.mdbox_base.specs.declared.progress.Progress.TheVariants as progress
@@ -12,9 +11,10 @@ use Rattle.mdbox_base.specs.declared.replies.Reply.{Reply}
 use Rattle.mdbox_base.specs.declared.replies.Reply.TheVariants as reply
 use Rattle.model_meaning.specs.BoxMeaning.{LogRow, BoxMeaning, row_at}
 use Rattle.model_meaning.specs.MapMeaning.{MapRecord, record_at}
-use Rattle.storage_files.specs.OnDisk.{piece_read}
+use Rattle.model_store.specs.Settled.{files_of}
 use Rattle.store_core.specs.Value.{StoreValue, list_named}
-use Rattle.mail_fetch.specs.Region.{stored_at, pieces_in, RegionValue, unread, IsReplyFor}
+use Rattle.mail_fetch.specs.Parts.{first_read, left_after, pieces_left}
+use Rattle.mail_fetch.specs.Region.{stored_at, RegionValue, unread, IsReplyFor}
 use Rattle.mail_fetch.specs.declared.task.FetchStage.{FetchStage}
 use Rattle.mail_fetch.specs.declared.task.FetchStage.TheVariants as stage
 
@@ -33,11 +33,11 @@ pub record IsStoredBy {D : Type 0} (name : List ℕ) (uid : ℕ) (store : StoreV
   pub stored : record_at store.map row.map_uid ≡ Some entry
   pub same : entry.guid ≡ row.guid
 
--- the region of the message with this UID is pinned, and nothing of it is read
+-- the message with this UID is pinned, and nothing of it is read
 abbrev pub IsPinned : {D : Type 0} → List ℕ → ℕ → StoreValue D → RegionValue → Type 0
 IsPinned name uid store region = (row : LogRow) × (entry : MapRecord) × IsStoredBy name uid store row entry × (region ≡ unread (stored_at row entry))
 
--- The first event is refused, or it pins the region and the request goes on, or there is no memory for the octets.
+-- The first event is refused, or it pins the message and the request goes on, or there is no memory for the octets.
 pub record IsBegun {D : Type 0} (name : List ℕ) (uid : ℕ) (store : StoreValue D) (next : FetchStage) (answer : Progress) : Type 0 where
   pub refused : (why : Refusal) → fetch_refusal name uid store ≡ Some why → (answer ≡ progress.Done (reply.Refused why)) × (next ≡ stage.First)
   pub begun : fetch_refusal name uid store ≡ None
@@ -45,20 +45,17 @@ pub record IsBegun {D : Type 0} (name : List ℕ) (uid : ℕ) (store : StoreValu
 
 -- ---- the pieces
 
--- how many octets the next piece has at the most, and those that a disk reads
-abbrev pub next_size : RegionValue → ℕ
-next_size region = min 65536 (region.from.size - 65536 * region.pieces)
-
+-- what a disk reads as the next piece
 abbrev pub next_piece : RegionValue → DiskState → List ℕ
-next_piece region disk = piece_read (region.from.offset + 65536 * region.pieces) (next_size region) (reading (disk (Mail region.from.file.0)))
+next_piece region disk = first_read (files_of disk) region.left
 
 abbrev pub with_piece : RegionValue → List ℕ → RegionValue
-with_piece region piece = record { from = region.from; octets = region.octets ++ piece; pieces = region.pieces + 1 }
+with_piece region piece = record { from = region.from; octets = region.octets ++ piece; left = left_after region.left }
 
 -- Behind this piece others are to be read, or it was the last, and it is known what will be replied.
 pub record GoesOnWith (region : RegionValue) (next : FetchStage) : Type 0 where
-  pub more : region.pieces < pieces_in region.from.size → next ≡ stage.Reading region
-  pub last : pieces_in region.from.size ≤ region.pieces → (given : Reply) × (next ≡ stage.Unpinning region.from given) × IsReplyFor region.from region.octets given
+  pub more : 0 < pieces_left region.left → next ≡ stage.Reading region
+  pub last : pieces_left region.left ≡ 0 → (given : Reply) × (next ≡ stage.Unpinning region.from given) × IsReplyFor region.from region.octets given
 
 -- The next piece is what the disk reads there, or a read failed. Either way the request goes on.
 abbrev pub IsPieceRead : RegionValue → FetchStage → Option History → Faults → Faults → Type 0

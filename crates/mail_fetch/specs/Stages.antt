@@ -1,18 +1,21 @@
 -- Where a fetch stands in a run.
-use Rattle.std.specs.Prelude.{◌≡◌, ◌≤◌, ◌⊎◌, ◌*◌, ℕ, true, false, List, [], ◌∷◌, ◌++◌, length, take, drop, Option, Some, None, All}
+use Rattle.std.specs.Prelude.{◌≡◌, ◌+◌, ◌⊎◌, ℕ, false, List, [], ◌∷◌, ◌++◌, length, Option, Some, None, All}
 use Rattle.disk_model.specs.Disk.{Files, History}
 use Rattle.mdbox_base.specs.declared.replies.Refusal.{Refusal}
 use Rattle.mdbox_base.specs.declared.replies.Refusal.TheVariants as refusal
 use Rattle.mdbox_base.specs.declared.replies.Reply.{Reply}
 use Rattle.mdbox_base.specs.declared.replies.Reply.TheVariants as reply
+use Rattle.model_meaning.specs.BoxMeaning.{LogRow}
 use Rattle.model_meaning.specs.MapMeaning.{MapRecord}
+use Rattle.model_store.specs.Safe.{IsThereWhole}
 use Rattle.model_store.specs.Settled.{files_of}
 use Rattle.model_store.specs.Stands.{StoresMessage}
 use Rattle.list_machine.specs.Run.{First, ReadsPiece, RunEvent, Run, own_events}
 use Rattle.journal.specs.Journal.{refusal_in}
 use Rattle.task_steps.specs.Step.{Seen, HasNotBegun}
-use Rattle.mail_fetch.specs.Region.{RegionValue, pieces_in, damage_at}
-use Rattle.mail_fetch.specs.declared.region.StoredAt.{StoredAt}
+use Rattle.mail_fetch.specs.Parts.{parts_to_read, parts_read, pieces_left}
+use Rattle.mail_fetch.specs.Region.{RegionValue, stored_at}
+use Rattle.mail_fetch.specs.declared.parts.StoredAt.{StoredAt}
 use Rattle.mail_fetch.specs.declared.task.FetchStage.{FetchStage}
 use Rattle.mail_fetch.specs.declared.task.FetchStage.TheVariants as stage
 
@@ -24,21 +27,17 @@ pub record ReadPiece (refused : Option Refusal) (event : RunEvent) : Type 0 wher
   pub pinned : event.pins ≡ []
   pub refused_is : event.refused ≡ refused
 
--- The first of its own events pinned the file, for so many pieces as the region and the attachments have. These are those
--- behind it.
+-- The first of its own events pinned the file, for as many pieces as the region and the instances have. These are those behind it.
 pub record HasPinned (from : StoredAt) (own behind : List RunEvent) : Type 0 where
   pub pin : RunEvent
-  pub pieces : ℕ
   pub own_are : own ≡ pin ∷ behind
   pub part : pin.part ≡ First
   pub unrefused : pin.refused ≡ None
-  pub pins : pin.pins ≡ record { file = from.file.0; pieces = pieces } ∷ []
-  pub region : pieces_in from.size ≤ pieces
-  pub attached : from.has_attachments ≡ false → pieces ≡ pieces_in from.size
+  pub pins : pin.pins ≡ record { file = from.file.0; pieces = pieces_left (parts_to_read from) } ∷ []
 
--- it has read so many pieces
-abbrev pub HasReadPieces : StoredAt → ℕ → List RunEvent → Type 0
-HasReadPieces from pieces own = (behind : List RunEvent) × HasPinned from own behind × All (ReadPiece None) behind × (length behind ≡ pieces)
+-- it has read all pieces but so many
+abbrev pub HasReadAllBut : StoredAt → ℕ → List RunEvent → Type 0
+HasReadAllBut from left own = (behind : List RunEvent) × HasPinned from own behind × All (ReadPiece None) behind × (length behind + left ≡ pieces_left (parts_to_read from))
 
 -- what a piece was refused by, behind which the request goes on
 abbrev pub IsPieceRefusal : Refusal → Type 0
@@ -49,32 +48,29 @@ IsPieceRefusal other = ⊥
 -- It unpins next: all pieces are read, or the last event was refused. By this it will reply.
 abbrev pub UnpinsNext : StoredAt → Reply → List RunEvent → Type 0
 UnpinsNext from given own =
-    ((refusal_in given ≡ None) × (from.has_attachments ≡ false) × HasReadPieces from (pieces_in from.size) own)
+    ((refusal_in given ≡ None) × HasReadAllBut from 0 own)
     ⊎ ((why : Refusal) × (front : List RunEvent) × (last : RunEvent) × (refusal_in given ≡ Some why) × IsPieceRefusal why × HasPinned from own (front ++ last ∷ []) × All (ReadPiece None) front × ReadPiece (Some why) last)
 
 -- ---- what the disk reads
 
--- The files store this text at a region, without attachments or with some, and the octets that were read are the front of the
--- region.
+-- The files store this text where the fetch reads, and the octets that were read are the first of those that they have there.
 pub record IsFrontOfStored (region : RegionValue) (octets : List ℕ) (files : Files) : Type 0 where
+  pub row : LogRow
   pub entry : MapRecord
-  pub file : entry.file ≡ region.from.file.0
-  pub offset : entry.offset ≡ region.from.offset
-  pub size : entry.size ≡ region.from.size
-  pub guid : entry.guid ≡ region.from.guid.0
-  pub attached : region.from.has_attachments ≡ false → entry.instances ≡ []
-  pub listed : length octets ≡ region.from.listed
+  pub from : region.from ≡ stored_at row entry
+  pub listed : length octets ≡ row.size
   pub stores : StoresMessage files entry octets
-  pub front : region.octets ≡ take (65536 * region.pieces) (take entry.size (drop entry.offset stores.stored.octets_there))
+  pub sizes : All (IsThereWhole files) entry.instances
+  pub front : region.octets ++ parts_read files region.left ≡ parts_read files (parts_to_read region.from)
 
 -- the disk is modelled, and its files as they read are so
 abbrev pub Reading : (Files → Type 0) → Option History → Type 0
 Reading P None = ⊥
 Reading P (Some history) = P (files_of history.now)
 
--- A message that is stored is replied, unless a read failed or the message has attachments.
-abbrev pub IsTrueReply : StoredAt → List ℕ → Reply → Type 0
-IsTrueReply from octets given = (given ≡ reply.Fetched octets) ⊎ ((given ≡ reply.Refused refusal.ReadFault) ⊎ ((from.has_attachments ≡ true) × (given ≡ damage_at from)))
+-- A message that is stored is replied, unless a read failed.
+abbrev pub IsTrueReply : List ℕ → Reply → Type 0
+IsTrueReply octets given = (given ≡ reply.Fetched octets) ⊎ (given ≡ reply.Refused refusal.ReadFault)
 
 -- ---- the stages
 
@@ -84,6 +80,6 @@ IsTrueReply from octets given = (given ≡ reply.Fetched octets) ⊎ ((given ≡
 abbrev pub IsAtFetch : FetchStage → Seen → Run → ℕ → List Reply → Type 0
 IsAtFetch stage.First seen run place said = HasNotBegun run place said
 IsAtFetch (stage.Reading region) seen run place said =
-    HasReadPieces region.from region.pieces (own_events place run) × ((octets : List ℕ) × (said ≡ reply.Fetched octets ∷ []) × (seen.stopped ≡ false → Reading (IsFrontOfStored region octets) seen.history))
+    HasReadAllBut region.from (pieces_left region.left) (own_events place run) × ((octets : List ℕ) × (said ≡ reply.Fetched octets ∷ []) × (seen.stopped ≡ false → Reading (IsFrontOfStored region octets) seen.history))
 IsAtFetch (stage.Unpinning from given) seen run place said =
-    UnpinsNext from given (own_events place run) × ((octets : List ℕ) × (said ≡ reply.Fetched octets ∷ []) × IsTrueReply from octets given) × (seen.stopped ≡ false)
+    UnpinsNext from given (own_events place run) × ((octets : List ℕ) × (said ≡ reply.Fetched octets ∷ []) × IsTrueReply octets given) × (seen.stopped ≡ false)

@@ -1,5 +1,5 @@
 -- What a caller sees of a fetch, and of the store that it works on.
-use Rattle.std.specs.Prelude.{◌+◌, ◌-◌, ◌<◌, ◌==◌, ℕ, false, List, Option, if◌then◌else◌}
+use Rattle.std.specs.Prelude.{◌+◌, ◌<◌, ◌==◌, ℕ, false, List, All, Option, sum_by, if◌then◌else◌}
 use Rattle.disk_model.specs.Disk.{History, Faults}
 use Rattle.mdbox_base.specs.declared.ids.Uid.{Uid}
 use Rattle.mdbox_base.specs.declared.progress.Did.{Did}
@@ -9,12 +9,14 @@ use Rattle.mdbox_base.specs.declared.progress.Progress.TheVariants as progress
 use Rattle.mdbox_base.specs.declared.replies.Refusal.{Refusal}
 use Rattle.mdbox_base.specs.declared.replies.Reply.TheVariants as reply
 use Rattle.mdbox_base.specs.declared.script.Half.TheVariants as half
+use Rattle.model_meaning.specs.MapMeaning.{MapMeaning}
 use Rattle.list_machine.specs.Machine.{is_step}
+use Rattle.journal.specs.Events.{pieces_to_read}
 use Rattle.store_core.specs.Dues.{due_at}
 use Rattle.store_core.specs.Knows.{knows_file, may_have_given}
 use Rattle.store_core.specs.Value.{StoreValue, indexes_of}
 use Rattle.task_steps.specs.Step.{Seen}
-use Rattle.mail_fetch.specs.Region.{pieces_in}
+use Rattle.mail_fetch.specs.Parts.{HasSomeOctets, KnowsSource, pieces_left}
 use Rattle.mail_fetch.specs.declared.task.FetchStage.{FetchStage}
 use Rattle.mail_fetch.specs.declared.task.FetchStage.TheVariants as stage
 
@@ -35,16 +37,24 @@ fetch_did stage.First progress.More = did.Step half.Whole
 fetch_did stage.First (progress.Done (reply.Refused why)) = refusing_did why
 fetch_did now answer = did.Quiet
 
--- How many events are still to come at the most. A region has at most 65,536 pieces.
-abbrev pub events_left : FetchStage → ℕ
-events_left stage.First = 65538
-events_left (stage.Reading region) = pieces_in region.from.size - region.pieces + 1
-events_left (stage.Unpinning from given) = 1
+-- How many events are still to come at the most: before the first, two and as many as the messages of all records have pieces.
+abbrev pub all_pieces : MapMeaning → ℕ
+all_pieces m = sum_by pieces_to_read m.records
 
--- a task that reads has a piece left to read
+abbrev pub events_left : MapMeaning → FetchStage → ℕ
+events_left m stage.First = all_pieces m + 2
+events_left m (stage.Reading region) = pieces_left region.left + 1
+events_left m (stage.Unpinning from given) = 1
+
+-- a task that reads has a piece left to read, and each part that is left has octets
 abbrev pub HasPieceLeft : FetchStage → Type 0
-HasPieceLeft (stage.Reading region) = region.pieces < pieces_in region.from.size
+HasPieceLeft (stage.Reading region) = (0 < pieces_left region.left) × All HasSomeOctets region.left
 HasPieceLeft other = Unit {0}
+
+-- the store knows each instance that is left to read
+abbrev pub KnowsPinned : {D : Type 0} → FetchStage → StoreValue D → Type 0
+KnowsPinned (stage.Reading region) store = All (λ part. KnowsSource store.instances.known part.source) region.left
+KnowsPinned other store = Unit {0}
 
 -- how many pins of a file are the task's own
 abbrev pub one_pin : ℕ → ℕ → ℕ

@@ -3,12 +3,14 @@ ghost use Rattle.std.specs.Prelude.{◌≡◌, ◌⊎◌, Some, None, IfOk, IfEr
 ghost use Rattle.mdbox_base.specs.declared.replies.Refusal.TheVariants as refusal;
 ghost use Rattle.mail_fetch.specs.Events.{fetch_refusal, IsPinned};
 
-use crate::region::{Region, StoredAt};
+use crate::parts::StoredAt;
+use crate::region::Region;
 use disk_model::Disk;
-use mdbox_base::{Name, Refusal, Uid};
+use mdbox_base::{InstRow, Name, NoMemory, Refusal, Seq, Uid};
+use std::alloc::Global;
 use store_core::Store;
 
-/// Finds where the message is stored, and takes the memory for the octets of its region. Nothing is read yet.
+/// Finds where the message is stored, and takes the memory for its octets. Nothing is read yet.
 pub fn pin<D: Disk>(store: &Store<D>, name: &Name, uid: Uid) -> Result<Region, Refusal>
     ensures pinned { IfOk result (λ region. (fetch_refusal name.now uid.0 store.now ≡ None) × IsPinned name.now uid.0 store.now region) }
     ensures refused { IfErr result (λ why. (fetch_refusal name.now uid.0 store.now ≡ Some why) ⊎ ((fetch_refusal name.now uid.0 store.now ≡ None) × (why ≡ refusal.NoMemory))) }
@@ -23,13 +25,23 @@ pub fn pin<D: Disk>(store: &Store<D>, name: &Name, uid: Uid) -> Result<Region, R
     let (Some(entry), Some(instances)) = (map.row(row.map_uid), map.instances(row.map_uid)) else {
         unreachable!()
     };
+    let Ok(instances) = copied(store.alloc(), instances) else {
+        return Err(Refusal::NoMemory);
+    };
     let from = StoredAt {
         file: entry.file,
         offset: entry.offset,
         size: entry.size,
         guid: entry.guid,
         listed: row.size,
-        has_attachments: instances.length() > 0,
+        instances,
     };
     Region::of(store.alloc(), from).map_err(|_| Refusal::NoMemory)
+}
+
+/// The same instances once more.
+fn copied(alloc: Global, instances: &Seq<InstRow>) -> Result<Seq<InstRow>, NoMemory>
+    ensures { IfOk result (λ copy. copy ≡ instances.now) }
+{
+    Ok(Seq::of(Vec::from_slice(alloc, instances.as_slice())?))
 }

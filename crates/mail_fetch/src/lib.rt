@@ -2,10 +2,13 @@
 #![tactic(auto)]
 
 pub use laws::{fetch_stages_are_kept, stored_messages_are_fetched};
-pub use region::{Region, StoredAt};
+pub use parts::{Part, Source, StoredAt};
+pub use region::Region;
 pub use task::{FetchStage, FetchTask};
 
 mod first;
 mod laws;
+mod message;
+mod parts;
 mod region;
 mod task;

@@ -1,5 +1,5 @@
 // The task of a fetch.
-ghost use Rattle.std.specs.Prelude.{◌≡◌, ◌<◌, false, ℕ};
+ghost use Rattle.std.specs.Prelude.{◌≡◌, ◌<◌, false, ℕ, All};
 ghost use Rattle.disk_model.specs.Disk.{IsIdle};
 ghost use Rattle.disk_model.specs.FaultCounts.{NoFault};
 ghost use Rattle.journal.specs.Events.{Around};
@@ -11,13 +11,14 @@ ghost use Rattle.task_steps.specs.Step.{ended_by};
 ghost use Rattle.mail_fetch.specs.Clause.{StepsOnSafe};
 ghost use Rattle.mail_fetch.specs.Failed.{HasFailedRead};
 ghost use Rattle.mail_fetch.specs.Events.{FetchesNext, IsBegun, IsPieceRead, NoChangeFault};
-ghost use Rattle.mail_fetch.specs.Region.{pieces_in};
+ghost use Rattle.mail_fetch.specs.Parts.{KnowsSource};
 ghost use Rattle.mail_fetch.specs.Stages.{IsAtFetch};
-ghost use Rattle.mail_fetch.specs.Task.{HasPieceLeft, events_left, fetch_did, seen_with_pins};
+ghost use Rattle.mail_fetch.specs.Task.{HasPieceLeft, KnowsPinned, events_left, fetch_did, seen_with_pins};
 ghost use Rattle.mail_fetch.specs.declared.task.FetchStage.TheVariants as stage;
 
 use crate::first::pin;
-use crate::region::{Region, StoredAt};
+use crate::parts::StoredAt;
+use crate::region::Region;
 use disk_model::Disk;
 use mdbox_base::{Did, Half, Name, Progress, Refusal, Reply, Uid};
 use std::marker::Model;
@@ -29,7 +30,7 @@ use store_core::Store;
 pub enum FetchStage {
     /// The first, which pins. So it is too behind the last.
     First,
-    /// One that reads a piece of the region.
+    /// One that reads a piece of the region, or of an instance.
     Reading(Region),
     /// The last, which unpins and gives this reply.
     Unpinning { from: StoredAt, reply: Reply },
@@ -75,8 +76,10 @@ impl FetchTask {
     }
 
     /// Does the next event: the first one finds the message and takes the memory for it, each one behind it reads a piece, and
-    /// the last one gives the reply. A task that has given its reply begins anew; one that was stopped stays where it was.
+    /// the last one gives the reply. A task that has given its reply begins anew; one that was stopped stays where it was. Between
+    /// its events the store has to keep the instances that are left to read.
     pub fn step<D: Disk>(&mut self, store: &mut Store<D>) -> Progress
+        requires known { KnowsPinned self.old.stage store.old }
         // Of every run that has come to the store, and of lists for which its files are safe: which event it was, what it
         // answered, and what a crash may leave. Other tasks have any pins.
         ensures does { (around after : Around) (others : ℕ → ℕ) → StepsOnSafe (IsAtFetch self.old.stage (seen_with_pins others self.old.stage store.old (D.history store.old.disk) (D.faults store.old.disk))) (IsAtFetch self.new.stage (seen_with_pins others self.new.stage store.new (D.history store.new.disk) (D.faults store.new.disk))) around after (request.Fetch self.old.name self.old.uid) (seen_with_pins others self.old.stage store.old (D.history store.old.disk) (D.faults store.old.disk)) (seen_with_pins others self.new.stage store.new (D.history store.new.disk) (D.faults store.new.disk)) self.new.did (ended_by result) }
@@ -92,10 +95,12 @@ impl FetchTask {
         ensures fault { NoChangeFault (D.faults store.old.disk) (D.faults store.new.disk) }
         ensures unfailed { (HasFailedRead self.new.stage → ⊥) → NoFault (D.faults store.old.disk) (D.faults store.new.disk) }
 
+        // The store knows what is left to read.
+        ensures known { KnowsPinned self.new.stage store.new }
         ensures did { self.new.did ≡ fetch_did self.old.stage result }
 
         // So it ends.
-        ensures left { result ≡ progress.More → events_left self.new.stage < events_left self.old.stage }
+        ensures left { result ≡ progress.More → events_left store.old.map self.new.stage < events_left store.old.map self.old.stage }
         ensures request { (self.new.name ≡ self.old.name) × (self.new.uid ≡ self.old.uid) }
     {
         store.facts();
@@ -128,6 +133,8 @@ fn begin<D: Disk>(store: &Store<D>, name: &Name, uid: Uid) -> (FetchStage, Progr
     requires { store.now.stopped ≡ false }
     ensures begun { IsBegun name.now uid.0 store.now result.0 result.1 }
     ensures left { HasPieceLeft result.0 }
+    ensures known { KnowsPinned result.0 store.now }
+    ensures fewer { result.1 ≡ progress.More → events_left store.now.map result.0 < events_left store.now.map stage.First }
 {
     store.facts();
     match pin(store, name, uid) {
@@ -151,26 +158,28 @@ fn did_begin(answer: &Progress) -> Did
     }
 }
 
-/// Reads the next piece of a region, and answers which event is next.
+/// Reads the next piece of a message, and answers which event is next.
 fn read_piece<D: Disk>(store: &mut Store<D>, region: Region) -> FetchStage
-    requires { region.pieces < pieces_in region.from.size }
+    requires left { HasPieceLeft (stage.Reading region) }
+    requires known { All (λ part. KnowsSource store.old.instances.known part.source) region.left }
     ensures read { IsPieceRead region result (D.history store.old.disk) (D.faults store.old.disk) (D.faults store.new.disk) }
     ensures left { HasPieceLeft result }
+    ensures knows { KnowsPinned result store.new }
+    ensures fewer { events_left store.old.map result < events_left store.old.map (stage.Reading region) }
     ensures same { store.new ≡ record store.old { disk = store.new.disk } }
     ensures idle { IsIdle (D.history store.old.disk) (D.history store.new.disk) }
     ensures fault { NoChangeFault (D.faults store.old.disk) (D.faults store.new.disk) }
     ensures unfailed { (HasFailedRead result → ⊥) → NoFault (D.faults store.old.disk) (D.faults store.new.disk) }
 {
     let mut region = region;
-    let from = region.from();
     match region.read_next(store) {
-        Ok(()) if region.is_read() => FetchStage::Unpinning {
-            from,
-            reply: region.into_reply(),
-        },
+        Ok(()) if region.is_read() => {
+            let (from, reply) = region.into_reply();
+            FetchStage::Unpinning { from, reply }
+        }
         Ok(()) => FetchStage::Reading(region),
         Err(_fault) => FetchStage::Unpinning {
-            from,
+            from: region.into_from(),
             reply: Reply::Refused(Refusal::ReadFault),
         },
     }

@@ -1,18 +1,16 @@
 -- What the events of a fetch alone say together.
-use Rattle.std.specs.Prelude.{zero, suc, ◌≡◌, ◌⊎◌, ◌≤◌, ◌<◌, ◌+◌, ◌-◌, ◌*◌, ◌==◌, min, ℕ, Bool, true, false, cond, not, is_some, if◌then◌else◌, List, [], ◌∷◌, ◌++◌, length, take, drop, map, filter, count_by, slice_get, Option, Some, None}
-use Rattle.std.proofs.Common.{refl, sym, ◌∙◌, ap, subst, inl, inr, append-nil, arith, length-take}
-use Rattle.std.proofs.Math.Seq.{take-add}
+use Rattle.std.specs.Prelude.{zero, suc, ◌≡◌, ◌⊎◌, ◌≤◌, ◌<◌, ◌+◌, ◌==◌, ℕ, Bool, true, false, cond, not, is_some, if◌then◌else◌, List, [], ◌∷◌, ◌++◌, map, filter, flat_map, count_by, slice_get, Option, Some, None}
+use Rattle.std.proofs.Common.{refl, sym, ◌∙◌, ap, subst, inl, inr, append_assoc, append-nil, arith}
 use Rattle.std.proofs.lemmas.Bool.{cases_lt}
-use Rattle.std.proofs.lemmas.List.{take_all}
 use Rattle.std.proofs.lemmas.List.Filters.{sum_by-filter_both}
 use Rattle.std.proofs.lemmas.List.Sums.{sum_by-append, sum_by_push}
-use Rattle.std.proofs.lemmas.Nat.{div-add-mod'}
 use Rattle.disk_model.specs.Disk.{DiskState, History, Faults, IfTold, IsIdle, reading}
 use Rattle.disk_model.specs.FaultCounts.{NoFault}
-use Rattle.disk_model.specs.declared.name.FileName.TheVariants.{Mail}
+use Rattle.disk_model.specs.declared.name.FileName.TheVariants.{Mail, Inst}
 use Rattle.disk_model.proofs.IdleLemmas.{idle-begins, idle-then, idle-on}
 use Rattle.disk_model.proofs.MomentLemmas.{if_told-all, if_told-map, if_told-both}
 use Rattle.mdbox_base.specs.Streams.{Rose}
+use Rattle.mdbox_base.specs.declared.entries.InstRow.{InstRow}
 use Rattle.mdbox_base.specs.declared.ids.Uid.{Uid}
 use Rattle.mdbox_base.specs.declared.progress.Did.{Did}
 use Rattle.mdbox_base.specs.declared.progress.Progress.{Progress}
@@ -40,61 +38,43 @@ use Rattle.task_steps.specs.Step.{Seen, ended_by}
 use Rattle.mail_fetch.specs.Clause.{ReadsSafe, StepsOnSafe}
 use Rattle.mail_fetch.specs.Events.{fetch_refusal, IsStoredBy, IsBegun, next_piece, with_piece, IsPieceRead, FetchesNext, NoChangeFault}
 use Rattle.mail_fetch.specs.Failed.{HasFailedRead}
-use Rattle.mail_fetch.specs.Region.{stored_at, pieces_in, RegionValue, unread, IsReplyFor, damage_at}
+use Rattle.mail_fetch.specs.Parts.{instance_part, left_after, parts_to_read, parts_read, pieces_left}
+use Rattle.mail_fetch.specs.Region.{stored_at, RegionValue, unread, IsReplyFor, damage_at}
 use Rattle.mail_fetch.specs.Stages.{IsAtFetch, IsTrueReply, UnpinsNext}
 use Rattle.mail_fetch.specs.Task.{FetchValue, seen_with_pins}
-use Rattle.mail_fetch.specs.declared.region.StoredAt.{StoredAt}
+use Rattle.mail_fetch.specs.declared.parts.StoredAt.{StoredAt}
 use Rattle.mail_fetch.specs.declared.task.FetchStage.{FetchStage}
 use Rattle.mail_fetch.specs.declared.task.FetchStage.TheVariants as stage
 use Rattle.mail_fetch.proofs.StepViewLemmas.{StageClause}
-use Rattle.mail_fetch.proofs.StoredRegionLemmas.{piece_of}
+use Rattle.mail_fetch.proofs.PartLemmas.{reads_after, reads_none, reads_of_parts}
 use Rattle.mdbox_top.specs.FetchEvents.{seen_alone, FetchIsAt, TakesMessage, TakesServed}
-use Rattle.mdbox_top.specs.FetchRun.{region_read, IsFetchAnswer}
+use Rattle.mdbox_top.specs.FetchRun.{message_read, IsFetchAnswer}
 use Rattle.mdbox_top.specs.Served.{FaultsByReply, missing_cause}
 use Rattle.mdbox_top.specs.UnderWay.{alone, IsUnderWay}
 use Rattle.mdbox_top.proofs.UnderWayLemmas.{nothing_found, way_shows, way_goes_on, way_ends}
 
--- ---- a region, piece by piece
+-- ---- a message, piece by piece
 
-past_end : (xs : List ℕ) (n : ℕ) → length xs ≤ n → take n xs ++ [] ≡ take (n + 65536) xs
-past_end xs n le = append-nil (take n xs) ∙ (take_all n xs le ∙ sym (take_all (n + 65536) xs (omega (arith, le))))
+rows_read : (disk : DiskState) (rows : List InstRow) → parts_read (files_of disk) (map instance_part rows) ≡ flat_map (λ row. piece_read 0 row.size (reading (disk (Inst row.hash.0 row.id.0)))) rows
+rows_read disk [] = refl
+rows_read disk (row ∷ rows) = ap (λ (xs : List ℕ). piece_read 0 row.size (reading (disk (Inst row.hash.0 row.id.0))) ++ xs) (rows_read disk rows)
 
-one_piece : (xs : List ℕ) (offset size n : ℕ) → (size < 65536 * n) ⊎ (65536 * n ≤ size) → take (65536 * n) (take size (drop offset xs)) ++ take (min 65536 (size - 65536 * n)) (drop (offset + 65536 * n) xs) ≡ take (65536 * n + 65536) (take size (drop offset xs))
-one_piece xs offset size n (inr le) =
-    ap (λ (p : List ℕ). take (65536 * n) (take size (drop offset xs)) ++ p) (piece_of xs offset size (65536 * n) 65536 le) ∙ sym (take-add (65536 * n) 65536 (take size (drop offset xs)))
-one_piece xs offset size n (inl lt) =
-    let none : min 65536 (size - 65536 * n) ≡ 0 = omega (arith, lt) in
-    ap (λ (k : ℕ). take (65536 * n) (take size (drop offset xs)) ++ take k (drop (offset + 65536 * n) xs)) none
-    ∙ past_end (take size (drop offset xs)) (65536 * n) (let h = length-take size (drop offset xs) in omega (arith, h, lt))
+all_read : (row : LogRow) (entry : MapRecord) (disk : DiskState) → parts_read (files_of disk) (parts_to_read (stored_at row entry)) ≡ message_read entry disk
+all_read row entry disk =
+    reads_of_parts (files_of disk) (stored_at row entry)
+    ∙ ap (λ (xs : List ℕ). piece_read entry.offset entry.size (reading (disk (Mail entry.file))) ++ xs) (rows_read disk entry.instances)
 
--- the pieces that were read, and the next one
-pieces_join : (found : Option (List ℕ)) (offset size n : ℕ) → take (65536 * n) (piece_read offset size found) ++ piece_read (offset + 65536 * n) (min 65536 (size - 65536 * n)) found ≡ take (65536 * (n + 1)) (piece_read offset size found)
-pieces_join None offset size n = past_end [] (65536 * n) (omega arith) ∙ ap (λ (k : ℕ). take k []) (let e : 65536 * n + 65536 ≡ 65536 * (n + 1) = omega arith in e)
-pieces_join (Some xs) offset size n = one_piece xs offset size n (cases_lt size (65536 * n)) ∙ ap (λ (k : ℕ). take k (take size (drop offset xs))) (let e : 65536 * n + 65536 ≡ 65536 * (n + 1) = omega arith in e)
-
-read_length : (found : Option (List ℕ)) (offset size : ℕ) → length (piece_read offset size found) ≤ size
-read_length None offset size = omega arith
-read_length (Some xs) offset size = let h = length-take size (drop offset xs) in omega (arith, h)
-
--- a region whose pieces are all read
-whole_read : (found : Option (List ℕ)) (offset size n : ℕ) → pieces_in size ≤ n → take (65536 * n) (piece_read offset size found) ≡ piece_read offset size found
-whole_read found offset size n le =
-    let e = div-add-mod' (size + 65535) 65536 in
-    let h = read_length found offset size in
-    take_all (65536 * n) (piece_read offset size found) (omega (arith, le, e, h))
-
--- the octets that were read so far of a record's region
+-- the octets that were read so far are the first of those that the disk reads
 abbrev HasRead : MapRecord → RegionValue → DiskState → Type 0
-HasRead entry region disk = region.octets ≡ take (65536 * region.pieces) (region_read entry disk)
+HasRead entry region disk = region.octets ++ parts_read (files_of disk) region.left ≡ message_read entry disk
 
-region_more : (row : LogRow) (entry : MapRecord) (region : RegionValue) (piece : List ℕ) (disk : DiskState) → region.from ≡ stored_at row entry → HasRead entry region disk → piece ≡ next_piece region disk → HasRead entry (with_piece region piece) disk
-region_more row entry region piece disk from read is =
-    ap (λ (xs : List ℕ). xs ++ piece) read
-    ∙ (ap (λ (xs : List ℕ). take (65536 * region.pieces) (region_read entry disk) ++ xs) (is ∙ ap (λ (a : StoredAt). piece_read (a.offset + 65536 * region.pieces) (min 65536 (a.size - 65536 * region.pieces)) (reading (disk (Mail a.file.0)))) from)
-    ∙ pieces_join (reading (disk (Mail entry.file))) entry.offset entry.size region.pieces)
+region_more : (entry : MapRecord) (region : RegionValue) (piece : List ℕ) (disk : DiskState) → HasRead entry region disk → piece ≡ next_piece region disk → HasRead entry (with_piece region piece) disk
+region_more entry region piece disk read is =
+    append_assoc region.octets piece (parts_read (files_of disk) (left_after region.left))
+    ∙ (ap (λ (xs : List ℕ). region.octets ++ xs) (ap (λ (xs : List ℕ). xs ++ parts_read (files_of disk) (left_after region.left)) is ∙ reads_after (files_of disk) region.left) ∙ read)
 
-region_whole : (entry : MapRecord) (region : RegionValue) (disk : DiskState) → pieces_in entry.size ≤ region.pieces → HasRead entry region disk → region.octets ≡ region_read entry disk
-region_whole entry region disk le read = read ∙ whole_read (reading (disk (Mail entry.file))) entry.offset entry.size region.pieces le
+region_whole : (entry : MapRecord) (region : RegionValue) (disk : DiskState) → pieces_left region.left ≡ 0 → HasRead entry region disk → region.octets ≡ message_read entry disk
+region_whole entry region disk none read = sym (append-nil region.octets) ∙ (ap (λ (xs : List ℕ). region.octets ++ xs) (sym (reads_none (files_of disk) region.left none)) ∙ read)
 
 -- ---- counts
 
@@ -208,7 +188,7 @@ stored_first name uid first d row entry k = record { mailbox = k.mailbox; named 
 
 answer_on : (row : LogRow) (entry : MapRecord) (old new : Option History) (given : Reply) → IsIdle old new → IsFetchAnswer row entry old given → IsFetchAnswer row entry new given
 answer_on row entry old new given idle (inl e) = inl e
-answer_on row entry old new given idle (inr (region, told, is)) = inr (region, idle-on (λ disk. region ≡ region_read entry disk) old new idle told, is)
+answer_on row entry old new given idle (inr (region, told, is)) = inr (region, idle-on (λ disk. region ≡ message_read entry disk) old new idle told, is)
 
 -- behind the first event
 begun_knows : {D : Type 0} → (name : List ℕ) (uid : ℕ) (first : StoreValue D) (d : D) (new : Option History) (next : FetchStage) (cause : Option Refusal) → fetch_refusal name uid first ≡ cause → IsBegun name uid (at_disk first d) next progress.More → StageKnows name uid first new next
@@ -220,7 +200,7 @@ begun_knows name uid first d new next None e b = elim (b.begun e) [
       let is = pin.1 in
       subst (λ (s : FetchStage). StageKnows name uid first new s) (sym pin.2)
       (subst (λ (r : RegionValue). StageKnows name uid first new (stage.Reading r)) (sym is.3)
-      (is.0, is.1, e, stored_first name uid first d is.0 is.1 is.2, refl, if_told-all (HasRead is.1 (unread (stored_at is.0 is.1))) new (λ disk. refl)))
+      (is.0, is.1, e, stored_first name uid first d is.0 is.1 is.2, refl, if_told-all (HasRead is.1 (unread (stored_at is.0 is.1))) new (λ disk. all_read is.0 is.1 disk)))
   | inr p ↦ absurd (more_done (reply.Refused refusal.NoMemory) p.0)
 ]
 
@@ -228,18 +208,18 @@ begun_knows name uid first d new next None e b = elim (b.begun e) [
 piece_knows : {D : Type 0} → (name : List ℕ) (uid : ℕ) (first : StoreValue D) (old new : Option History) (f g : Faults) (region : RegionValue) (next : FetchStage) → IsIdle old new → StageKnows name uid first old (stage.Reading region) → IsPieceRead region next old f g → StageKnows name uid first new next
 piece_knows name uid first old new f g region next idle (row, entry, none, stored, from, read) (inr (rose, is)) =
     subst (λ (s : FetchStage). StageKnows name uid first new s) (sym is) (row, entry, none, stored, from, inl refl)
-piece_knows name uid first old new f g region next idle (row, entry, none, stored, from, read) (inl (piece, told, goes)) = by_size (cases_lt (region.pieces + 1) (pieces_in region.from.size))
+piece_knows name uid first old new f g region next idle (row, entry, none, stored, from, read) (inl (piece, told, goes)) = by_size (cases_lt 0 (pieces_left (left_after region.left)))
   where
     read_now : IfTold new (HasRead entry (with_piece region piece))
-    read_now = idle-on (HasRead entry (with_piece region piece)) old new idle (if_told-both (HasRead entry region) (λ disk. piece ≡ next_piece region disk) (HasRead entry (with_piece region piece)) old (λ disk r p. region_more row entry region piece disk from r p) read told)
+    read_now = idle-on (HasRead entry (with_piece region piece)) old new idle (if_told-both (HasRead entry region) (λ disk. piece ≡ next_piece region disk) (HasRead entry (with_piece region piece)) old (λ disk r p. region_more entry region piece disk r p) read told)
 
-    by_size : (region.pieces + 1 < pieces_in region.from.size) ⊎ (pieces_in region.from.size ≤ region.pieces + 1) → StageKnows name uid first new next
+    by_size : (0 < pieces_left (left_after region.left)) ⊎ (pieces_left (left_after region.left) ≤ 0) → StageKnows name uid first new next
     by_size (inl more) = subst (λ (s : FetchStage). StageKnows name uid first new s) (sym (goes.more more)) (row, entry, none, stored, from, read_now)
     by_size (inr last) =
-        let l = goes.last last in
-        let size : pieces_in entry.size ≤ region.pieces + 1 = subst (λ (a : StoredAt). pieces_in a.size ≤ region.pieces + 1) from last in
+        let none_left : pieces_left (left_after region.left) ≡ 0 = omega (arith, last) in
+        let l = goes.last none_left in
         subst (λ (s : FetchStage). StageKnows name uid first new s) (sym l.1)
-        (row, entry, none, stored, from, inr (region.octets ++ piece, if_told-map (HasRead entry (with_piece region piece)) (λ disk. region.octets ++ piece ≡ region_read entry disk) new (λ disk r. region_whole entry (with_piece region piece) disk size r) read_now, subst (λ (a : StoredAt). IsReplyFor a (region.octets ++ piece) l.0) from l.2))
+        (row, entry, none, stored, from, inr (region.octets ++ piece, if_told-map (HasRead entry (with_piece region piece)) (λ disk. region.octets ++ piece ≡ message_read entry disk) new (λ disk r. region_whole entry (with_piece region piece) disk none_left r) read_now, subst (λ (a : StoredAt). IsReplyFor a (region.octets ++ piece) l.0) from l.2))
 
 -- behind any event that goes on
 knows_on : {D : Type 0} → (history : D → Option History) (faults : D → Faults) (name : List ℕ) (uid : Uid) (first : StoreValue D) (d e : D) (now next : FetchStage) → first.stopped ≡ false → IsIdle (history d) (history e) → StageKnows name uid.0 first (history d) now
@@ -279,12 +259,12 @@ fails_now name uid (stage.Reading region) next store old f g running r h = by_re
   where
     by_read : IsPieceRead region next old f g → Rose f.reads g.reads
     by_read (inr (rose, is)) = rose
-    by_read (inl (piece, told, goes)) = by_size (cases_lt (region.pieces + 1) (pieces_in region.from.size))
+    by_read (inl (piece, told, goes)) = by_size (cases_lt 0 (pieces_left (left_after region.left)))
       where
-        by_size : (region.pieces + 1 < pieces_in region.from.size) ⊎ (pieces_in region.from.size ≤ region.pieces + 1) → Rose f.reads g.reads
+        by_size : (0 < pieces_left (left_after region.left)) ⊎ (pieces_left (left_after region.left) ≤ 0) → Rose f.reads g.reads
         by_size (inl more) = absurd (subst HasFailedRead (goes.more more) h)
         by_size (inr last) =
-            let l = goes.last last in absurd ((region_calm region.from (region.octets ++ piece) l.0 l.2).0 (failed_is region.from l.0 (subst HasFailedRead l.1 h)))
+            let l = goes.last (let none_left : pieces_left (left_after region.left) ≡ 0 = omega (arith, last) in none_left) in absurd ((region_calm region.from (region.octets ++ piece) l.0 l.2).0 (failed_is region.from l.0 (subst HasFailedRead l.1 h)))
 fails_now name uid (stage.Unpinning from given) next store old f g running r h = absurd (more_done given (r.1 running).0)
 
 faults_on : {D : Type 0} → (name : List ℕ) (uid : ℕ) (now next : FetchStage) (store : StoreValue D) (old : Option History) (began f g : Faults) → store.stopped ≡ false → FaultsSoFar now began f → FetchesNext name uid now next progress.More store old f g → NoChangeFault f g
@@ -432,7 +412,7 @@ taken_ends history faults name uid first d e (stage.Unpinning from other) next g
           let m = step_text name uid u.run lists s.0 u.journal u.goes.serves.legal.steps (u.said_is ∙ s.1) in (
             m.0,
             m.1,
-            subst (λ (g : Reply). IsTrueReply (stored_at k.0 k.1) m.0.octets g) same (subst (λ (a : StoredAt). IsTrueReply a m.0.octets other) k.4 (subst (λ (t : List ℕ). IsTrueReply from t other) m.2 s.2)),
+            subst (λ (g : Reply). IsTrueReply m.0.octets g) same (subst (λ (t : List ℕ). IsTrueReply t other) m.2 s.2),
           );
     })
 

@@ -33,7 +33,7 @@ pub record TakesMessage {D : Type 0} (name : List ℕ) (uid : Uid) (store : Stor
   pub entry : MapRecord
   pub record_is : IsStoredBy name uid.0 store row entry
   pub given_is : IsFetchAnswer row entry new given
-  pub text : (lists : Lists) (seen : Seen) → FetchIsAt stage.First name uid lists seen store old began → ReadsSafe lists old → IsTextOf name uid.0 lists row entry given
+  pub text : (lists : Lists) (seen : Seen) → FetchIsAt stage.First name uid lists seen store old began → ReadsSafe lists old → IsTextOf name uid.0 lists given
 
 -- Of files that are safe for lists, a fetch that had not begun was served.
 abbrev pub TakesServed : {D : Type 0} → List ℕ → Uid → StoreValue D → Option History → Option History → Faults → Faults → Reply → Type 0

@@ -1,7 +1,7 @@
 -- How `fetch` ends.
-use Rattle.std.specs.Prelude.{◌≡◌, ◌⊎◌, ℕ, List, Option, Some, None}
+use Rattle.std.specs.Prelude.{◌≡◌, ◌⊎◌, ◌++◌, ℕ, List, flat_map, Option, Some, None}
 use Rattle.disk_model.specs.Disk.{DiskState, History, Faults, IfTold, IsIdle, reading}
-use Rattle.disk_model.specs.declared.name.FileName.TheVariants.{Mail}
+use Rattle.disk_model.specs.declared.name.FileName.TheVariants.{Mail, Inst}
 use Rattle.mdbox_base.specs.declared.ids.Uid.{Uid}
 use Rattle.mdbox_base.specs.declared.replies.Refusal.{Refusal}
 use Rattle.mdbox_base.specs.declared.replies.Refusal.TheVariants as refusal
@@ -30,20 +30,19 @@ pub record IsRecordOf (name : List ℕ) (uid : ℕ) (m : MapMeaning) (meanings :
   pub stored : record_at m row.map_uid ≡ Some entry
   pub same : entry.guid ≡ row.guid
 
--- the octets that a disk reads at a record's region
-abbrev pub region_read : MapRecord → DiskState → List ℕ
-region_read entry disk = piece_read entry.offset entry.size (reading (disk (Mail entry.file)))
+-- the octets that a disk reads at a record's region, and behind them those of each instance that it names
+abbrev pub message_read : MapRecord → DiskState → List ℕ
+message_read entry disk = piece_read entry.offset entry.size (reading (disk (Mail entry.file))) ++ flat_map (λ row. piece_read 0 row.size (reading (disk (Inst row.hash.0 row.id.0)))) entry.instances
 
--- A read failed, and that is replied; or what the disk reads at the record's region is replied: the octets of the one message
--- that it is, or that it is damaged if and only if it is none.
+-- A read failed, and that is replied; or what the disk reads there is replied: the octets of the message that it is, or that it is
+-- damaged if and only if it is none.
 abbrev pub IsFetchAnswer : LogRow → MapRecord → Option History → Reply → Type 0
 IsFetchAnswer row entry history given =
-    (given ≡ reply.Refused refusal.ReadFault) ⊎ ((region : List ℕ) × IfTold history (λ disk. region ≡ region_read entry disk) × IsReplyFor (stored_at row entry) region given)
+    (given ≡ reply.Refused refusal.ReadFault) ⊎ ((read : List ℕ) × IfTold history (λ disk. read ≡ message_read entry disk) × IsReplyFor (stored_at row entry) read given)
 
--- The lists have the message with this UID, and its octets were replied; or that a read failed; or, of a message with
--- attachments, that its region is damaged.
-abbrev pub IsTextOf : List ℕ → ℕ → Lists → LogRow → MapRecord → Reply → Type 0
-IsTextOf name uid lists row entry given = (message : ListedMessage) × (message_at name uid lists ≡ Some message) × IsTrueReply (stored_at row entry) message.octets given
+-- The lists have the message with this UID, and its octets were replied, or that a read failed.
+abbrev pub IsTextOf : List ℕ → ℕ → Lists → Reply → Type 0
+IsTextOf name uid lists given = (message : ListedMessage) × (message_at name uid lists ≡ Some message) × IsTrueReply message.octets given
 
 -- The message was read, or a read failed, and this was replied.
 pub record IsFetched (name : List ℕ) (uid : ℕ) (m : MapMeaning) (meanings : List BoxMeaning) (old new : Option History) (given : Reply) : Type 0 where
@@ -51,7 +50,7 @@ pub record IsFetched (name : List ℕ) (uid : ℕ) (m : MapMeaning) (meanings : 
   pub entry : MapRecord
   pub record_is : IsRecordOf name uid m meanings row entry
   pub given_is : IsFetchAnswer row entry new given
-  pub text : (lists : Lists) → AreSafeFor lists old → IsTextOf name uid lists row entry given
+  pub text : (lists : Lists) → AreSafeFor lists old → IsTextOf name uid lists given
 
 -- The reply to the fetch of this message, by what the logs mean from which the store opened, and opens again. It is refused if
 -- and only if they have no such mailbox or message. Else it is by what the disk reads, or there was no memory; and where the

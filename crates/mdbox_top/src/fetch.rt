@@ -72,8 +72,8 @@ fn fetch_alone<D: Disk>(
     }
 }
 
-/// Does the events of a fetch, one behind another, and answers its reply. There are at most as many as the region has pieces, and
-/// two more.
+/// Does the events of a fetch, one behind another, and answers its reply. There are at most as many as the region and the
+/// instances have pieces, and two more.
 fn take_message<D: Disk>(store: &mut Store<D>, name: Name, uid: Uid) -> Reply
     requires running { store.old.stopped ≡ false }
     ensures refused { (why : Refusal) → fetch_refusal name uid.0 store.old ≡ Some why → result ≡ reply.Refused why }

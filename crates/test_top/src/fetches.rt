@@ -21,6 +21,22 @@ const LONG: [&[u8]; 2] = [
     b"A\0\0\0\x01\0\0\0\0\0\x65\0\0\0\0\x02\0\x01\0\0\0\x01\0\x11\x22\x33\x44\x55\x66\x77\0\0\0\x01\0\0\0\x10",
 ];
 
+/// The same of a region of 182 octets, with an instance of 6, and of a message of 10.
+const ATTACHED: [&[u8]; 2] = [
+    b"S\0\0\x01\0\0\0\x01\0\0\0\x01\0\0\0\x10\0\0\0\xb6\0\x11\x22\x33\x44\x55\x66\x77\0\0\0\x01\0\0\0\x10\0\x01\x01\x01\x01\x01\x01\x01\x01\x01\x01\x01\x01\x01\x01\x01\x01\x01\x01\x01\x01\x01\0\x11\x22\x33\x44\x55\x66\x77\xff\xff\xff\xff\0\0\0\x01\0\0\0\x06",
+    b"A\0\0\0\x01\0\0\0\0\0\x65\0\0\0\0\0\0\x0a\0\0\0\x01\0\x11\x22\x33\x44\x55\x66\x77\0\0\0\x01\0\0\0\x10",
+];
+
+/// The instance.
+const INSTANCE: FileName = FileName::Inst(
+    [1; 20],
+    *b"\0\x11\x22\x33\x44\x55\x66\x77\xff\xff\xff\xff\0\0\0\x01",
+);
+
+/// Its size in the message's lines, and the lines that tell the whole size and the reference.
+const REFERS: &[u8] =
+    b"a\nZa\nX1 8 B8 01/01/0101010101010101010101010101010101010101-0011223344556677ffffffff00000001";
+
 /// What stands in the storage file around the first octet of its message, the size, the body and the size again.
 const AROUND: [&[u8]; 4] = [
     b"2 M1e C65000000\n",
@@ -71,6 +87,16 @@ fn disk_of(alloc: Global, entries: [&[u8]; 2], texts: [&[u8]; 4]) -> Result<MemD
 /// A disk with a store whose INBOX has `Hello`.
 pub(crate) fn hello(alloc: Global) -> Result<MemDisk, Fail> {
     disk_of(alloc, HELLO, [b"\x01", b"0000000000000005", b"5", b"Hello"])
+}
+
+/// A disk with a store whose INBOX has a message of which `foobar` was taken out, in base64, and with these octets as the
+/// instance.
+fn attached(alloc: Global, instance: &[u8]) -> Result<MemDisk, Fail> {
+    let texts: [&[u8]; 4] = [b"\x01", b"0000000000000002", REFERS, b"ab"];
+    let mut disk = disk_of(alloc, ATTACHED, texts)?;
+    put_file(&mut disk, INSTANCE, instance)?;
+    disk.sync_names()?;
+    Ok(disk)
 }
 
 fn long(alloc: Global, body: &[u8]) -> Result<MemDisk, Fail> {
@@ -190,6 +216,31 @@ fn a_damaged_region_is_told(rt: HostRuntime) -> Result<(), Fail> {
     let texts: [&[u8]; 4] = [b"\0", b"0000000000000005", b"5", b"Hello"];
     let disk = disk_of(rt.alloc(), HELLO, texts)?;
     let wrong = first_wrong(rt.alloc(), disk, b"", &DAMAGED)?;
+    assert_eq!(rt; wrong, None);
+    Ok(())
+}
+
+/// Runs on a store whose INBOX has a message with an attachment.
+const PUTS_BACK: [Row<'static>; 2] = [
+    (&FETCH, 0, "aZm9vYmFyb", ""),
+    (&["counts"], 0, "OK 1 1 1 1\n", ""),
+];
+
+/// The same where the instance is shorter than its record says.
+const SHORT: [Row<'static>; 1] = [(
+    &FETCH,
+    3,
+    "",
+    "mdbox: damaged attachments/01/01/0101010101010101010101010101010101010101-0011223344556677ffffffff00000001 0\n",
+)];
+
+#[test]
+fn an_attachment_is_put_back(rt: HostRuntime) -> Result<(), Fail> {
+    let disk = attached(rt.alloc(), b"foobar")?;
+    let wrong = first_wrong(rt.alloc(), disk, b"", &PUTS_BACK)?;
+    assert_eq!(rt; wrong, None);
+    let disk = attached(rt.alloc(), b"fooba")?;
+    let wrong = first_wrong(rt.alloc(), disk, b"", &SHORT)?;
     assert_eq!(rt; wrong, None);
     Ok(())
 }

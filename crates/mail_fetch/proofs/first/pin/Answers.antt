@@ -1,7 +1,7 @@
 use Rattle.std.proofs.Common.{refl, sym, ◌∙◌, ap}
 use Rattle.std.specs.Prelude.{option_copied}
 use Rattle.model_meaning.specs.BoxMeaning.{LogRow}
-use Rattle.mail_fetch.proofs.FirstEventLemmas.{has_record, none_told, told_is, some_named, stored_same, pinned_by, ok_mapped}
+use Rattle.mail_fetch.proofs.FirstEventLemmas.{has_record, none_told, told_is, stored_same, pinned_by, ok_mapped}
 use Rattle.mail_fetch.proofs.first.pin.Goals.{in_default-via-in-Some+in_default, in_default-via-in_default}
 use Rattle.mail_fetch.proofs.first.pin.Goals as goal
 
@@ -25,4 +25,4 @@ returns-clause-pinned g c =
     let row : LogRow = record { uid = c.in_ok-row.row.uid.0; flags = c.in_ok-row.row.flags; time = c.in_ok-row.row.time; size = c.in_ok-row.row.size; map_uid = c.in_ok-row.row.map_uid.0; guid = c.in_ok-row.row.guid.0 } in
     ok_mapped _ _ _ _ _ c.map_err.ensures.cases c.of.ensures (λ region is.
     pinned_by c.args.store.now c.args.name.now c.args.uid.0 _ row has.0 _ region (sym c.stopped.ensures ∙ c.if-stopped.false) named listed has.1 has.2
-    (stored_same c.in-Some-Some.entry _ _ row has.0 (λ e b. record { file = e.file; offset = e.offset; size = e.size; guid = e.guid; listed = c.in_ok-row.row.size; has_attachments = b }) entry (some_named c.length.result c.in-Some-Some.instances.now has.0.instances c.length.ensures instances) refl) is)
+    (stored_same c.in-Some-Some.entry _ c.in-Ok.instances _ row has.0 (λ e rows. record { file = e.file; offset = e.offset; size = e.size; guid = e.guid; listed = c.in_ok-row.row.size; instances = rows }) entry (c.in-Ok.ensures ∙ instances) refl) is)

@@ -1,6 +1,7 @@
-use Rattle.std.proofs.Common.{refl, sym, ◌∙◌, ap, subst}
+use Rattle.std.proofs.Common.{◌<◌, refl, sym, ◌∙◌, ap, subst}
 use Rattle.mdbox_top.proofs.FetchLemmas.{IsFetching, FetchEvent, fetching_begins, fetching_on, event_of, still_first, said_at_end}
 use Rattle.store_core.specs.Running.{IsStore}
+use Rattle.mail_fetch.specs.Task.{KnowsPinned, events_left}
 use Rattle.mdbox_top.proofs.fetch.take_message.Goals as goal
 
 pub loop-reply-init : goal.loop-reply-init
@@ -8,6 +9,7 @@ loop-reply-init g c = record {
   name_is = ap (λ t. t.name) c.of-task.ensures;
   uid_is = ap (λ t. t.uid) c.of-task.ensures;
   same = refl;
+  known = subst (λ s. KnowsPinned s c.args.store.now) (sym (ap (λ t. t.stage) c.of-task.ensures)) tt;
   so_far = subst (λ s. IsFetching g.D.Disk.history g.D.Disk.faults c.args.name c.args.uid c.args.store.now c.args.store.now.disk s) (sym (ap (λ t. t.stage) c.of-task.ensures)) (fetching_begins g.D.Disk.history g.D.Disk.faults c.args.name c.args.uid c.args.store.now);
 }
 
@@ -21,6 +23,7 @@ loop-reply-preserved g c =
       name_is = step.request.0 ∙ now.name_is;
       uid_is = step.request.1 ∙ now.uid_is;
       same = still_first c.args.store.now c.loop-reply.store c.step.new.store now.same step.same;
+      known = step.known;
       so_far = fetching_on g.D.Disk.history g.D.Disk.faults c.args.name c.args.uid c.args.store.now c.loop-reply.store.disk c.step.new.store.disk c.loop-reply.task.stage c.step.new.self.stage c.step.new.self.did c.requires.running now.so_far
           (subst (λ a. FetchEvent g.D.Disk.history g.D.Disk.faults c.args.name c.args.uid c.args.store.now c.loop-reply.store.disk c.step.new.store.disk c.loop-reply.task.stage c.step.new.self.stage c.step.new.self.did a) c.in_default.is event);
     }
@@ -82,3 +85,6 @@ returns-in-Done-clause-faults g c =
 
 pub returns-in-Done-clause-same : goal.returns-in-Done-clause-same
 returns-in-Done-clause-same g c = still_first c.args.store.now c.loop-reply.store c.step.new.store c.loop-reply.invariant.same c.step.ensures.same
+
+pub loop-reply-smaller : goal.loop-reply-smaller
+loop-reply-smaller g c = subst (λ m. events_left m c.step.new.self.stage < events_left c.loop-reply.store.map c.loop-reply.task.stage) (sym (ap (λ s. s.map) c.step.ensures.same)) (c.step.ensures.left c.in_default.is)

@@ -1,10 +1,16 @@
-use Rattle.std.proofs.Common.{ℕ, List, inr, sym, ◌∙◌, ap, subst}
+use Rattle.std.proofs.Common.{inl, inr, sym, ◌∙◌, ap, subst}
+use Rattle.mdbox_base.specs.declared.replies.Reply.TheVariants as reply
 use Rattle.mail_fetch.specs.Region.{RegionValue, HoldsWhole}
-use Rattle.mail_fetch.proofs.BodyLemmas.{damaged}
+use Rattle.mail_fetch.proofs.MessageLemmas.{damaged}
+use Rattle.mail_fetch.proofs.region.Region.into_reply.Goals.{in-Some, in-None}
 use Rattle.mail_fetch.proofs.region.Region.into_reply.Goals as goal
 
-pub returns-in_default : goal.returns-in_default
-returns-in_default c = inr (
-  λ octets h. c.in_default.ensures.none octets (subst (λ (xs : List ℕ). HoldsWhole c.self.inside.from xs octets) (sym c.deref.ensures.value) (subst (λ (v : RegionValue). HoldsWhole v.from v.octets octets) (sym c.self.view_is) h)),
-  damaged c.args.self.from c.self.inside.from.file c.from.result (ap (λ (v : RegionValue). v.from.file) c.self.view_is) (c.from.ensures ∙ ap (λ (v : RegionValue). v.from.offset) c.self.view_is),
-)
+pub returns-clause-reply : goal.returns-clause-reply
+returns-clause-reply c =
+    elim c.match-message_of.branch [
+      | in-Some w ↦ inl (w.in-Some.octets.items, subst (λ (v : RegionValue). HoldsWhole v.from v.octets w.in-Some.octets.items) c.self.view_is w.in-Some.ensures.some, w.reply-is ∙ ap reply.Fetched w.of.ensures)
+      | in-None w ↦ inr (
+        λ octets h. w.in-None.ensures.none octets (subst (λ (v : RegionValue). HoldsWhole v.from v.octets octets) (sym c.self.view_is) h),
+        w.reply-is ∙ damaged c.args.self.from c.self.inside.from.file w.from.result (ap (λ (v : RegionValue). v.from.file) c.self.view_is) (w.from.ensures ∙ ap (λ (v : RegionValue). v.from.offset) c.self.view_is),
+      )
+    ]

@@ -46,12 +46,12 @@ returns-in-Reading-clause-does g c = λ around after others.
 pub returns-in-Reading-clause-spares : goal.returns-in-Reading-clause-spares
 returns-in-Reading-clause-spares g c = spares_kept _ _ _ _ _ (ap (λ v. v.map) c.read_piece.ensures.same) (idle-between _ _ _ c.read_piece.ensures.idle (λ disk row octets s. s))
 
-pub returns-in-Unpinning-clause-does : goal.returns-in-Unpinning-clause-does
-returns-in-Unpinning-clause-does g c = λ around after others.
+pub returns-clause-does : goal.returns-clause-does
+returns-clause-does g c = λ around after others.
     let history = g.D.Disk.history c.args.store.now.disk in
     let faults = g.D.Disk.faults c.args.store.now.disk in
     step_seen around after others _ c.args.self.now (stage.Unpinning c.in-Unpinning.from c.in-Unpinning.reply) stage.First c.replace.new.dest c.args.store.now c.args.store.now history history faults faults did.Quiet (Some c.in-Unpinning.reply) c.self.view_is (sym c.replace.ensures.value ∙ c.in-Unpinning.is) c.replace.ensures.after
     (unpin_steps around after others c.self.inside.name c.self.inside.uid c.in-Unpinning.from c.in-Unpinning.reply c.args.store.now history faults (sym c.stopped.ensures ∙ c.if-stopped.false))
 
-pub returns-in-Unpinning-clause-idle : goal.returns-in-Unpinning-clause-idle
-returns-in-Unpinning-clause-idle g c = idle-begins _
+pub returns-clause-idle : goal.returns-clause-idle
+returns-clause-idle g c = idle-begins _

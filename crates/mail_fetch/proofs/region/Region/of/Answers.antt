@@ -1,0 +1,29 @@
+use Rattle.std.proofs.Common.{◌≡◌, length, ◌∙◌, ap, arith}
+use Rattle.std.specs.Prelude.{sum_by}
+use Rattle.std.proofs.lemmas.List.{nil_from_length}
+use Rattle.mail_fetch.specs.declared.parts.Part.{Part}
+use Rattle.mail_fetch.specs.Parts.{octets_to_read}
+use Rattle.mail_fetch.proofs.PartLemmas.{total_of_parts}
+use Rattle.mail_fetch.proofs.region.Region.of.Goals.{then-instances-gt0, else-instances-gt0}
+use Rattle.mail_fetch.proofs.region.Region.of.Goals as goal
+
+pub invariant_of-result : goal.invariant_of-result
+invariant_of-result c =
+    let total : c.in_ok-total.total ≡ octets_to_read c.args.from = rw c.in_ok-total.ensures.ok_part at c.octets_to_read.ensures in
+    let parts = ap (sum_by (λ (part : Part). part.size)) c.in_ok-parts.ensures.parts ∙ total_of_parts c.args.from in
+    let none = ap (λ xs. length xs) c.in_ok-with_capacity.ensures.items in
+    let exact = c.in_ok-with_capacity.ensures.exact in
+    let many = c.length-instances.ensures in
+    let exact2 = c.in_ok-with_capacity-2.ensures.exact in
+    let exact3 = c.in_ok-with_capacity-3.ensures.exact in (
+      record { total_is = total; room = omega (arith, exact); fits = omega (arith, none, parts, total); each = c.in_ok-parts.ensures.range },
+      record {
+        no_refs = c.in_ok-with_capacity-2.ensures.items;
+        refs_room = omega (arith, many, exact2);
+        no_octets = c.in_ok-with_capacity-3.ensures.items;
+        whole_room = λ some. elim c.if-instances-gt0.branch [
+          | then-instances-gt0 w ↦ let is = w.whole-is in omega (arith, is, exact3)
+          | else-instances-gt0 w ↦ let no = w.if-instances-gt0.false in absurd (some (nil_from_length c.args.from.instances (omega (arith, no, many))))
+        ];
+      },
+    )
