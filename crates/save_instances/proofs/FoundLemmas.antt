@@ -1,19 +1,20 @@
 -- Instances that were found of a message's attachments.
-use Rattle.std.proofs.Common.{◌≡◌, ◌≤◌, ◌+◌, ℕ, cond, List, [], ◌∷◌, ◌++◌, length, map, take, Option, Some, None, All, refl, sym, ◌∙◌, ap, subst, arith}
+use Rattle.std.proofs.Common.{◌≡◌, ◌≤◌, ◌+◌, ℕ, cond, List, [], ◌∷◌, ◌++◌, length, map, take, Option, Some, None, All, refl, subst, arith}
 use Rattle.std.specs.Prelude.{slice_get}
 use Rattle.std.specs.Str.{bytes_eq}
 use Rattle.std.proofs.lemmas.List.Elements.{All-nil, All-cons}
-use Rattle.std.proofs.lemmas.List.Sums.{sum_by-append, sum_by-cons}
+use Rattle.std.proofs.lemmas.List.Sums.{count_by-le-length, sum_by-append, sum_by-cons}
 use Rattle.attach_detach.specs.declared.message.Detached.{Detached}
-use Rattle.disk_model.specs.Disk.{DiskState, History, IfTold}
+use Rattle.disk_model.specs.Disk.{History, IfTold}
 use Rattle.disk_model.proofs.MomentLemmas.{if_told-all, if_told-both}
 use Rattle.mdbox_base.specs.declared.entries.InstRow.{InstRow}
 use Rattle.mdbox_base.specs.declared.ids.InstId.{InstId}
 use Rattle.model_store.specs.Settled.{files_of}
 use Rattle.model_store.specs.Stands.{HasInstances}
+use Rattle.sis_store.specs.Instances.{holders_in}
 use Rattle.sis_store.specs.OnDisk.{instance_file}
 use Rattle.sis_store.specs.declared.instance.KnownInstance.{KnownInstance}
-use Rattle.store_core.specs.Keeping.{KeepsInstances, holds_of}
+use Rattle.store_core.specs.Keeping.{KeepsInstances, MovesHolds, holds_of}
 use Rattle.store_core.specs.StoreInstances.{IsFirstKnown, IsKnownRow}
 use Rattle.store_core.specs.Value.{StoreValue}
 use Rattle.store_core.proofs.InstanceKeepingLemmas.{found_kept}
@@ -76,3 +77,12 @@ holds_push found row id =
   where
     sums : (all mine last one with none : ℕ) → all ≡ mine + last → last ≡ one + none → with ≡ one + mine → none ≡ 0 → all ≡ with
     sums all mine last one with none a b c z = omega (arith, a, b, c, z)
+
+pub holds_few : (rows : List InstRow) (id : InstId) → holds_of rows id ≤ length rows
+holds_few rows id = count_by-le-length (λ (row : InstRow). bytes_eq row.id.0 id.0) rows
+
+own : (now before mine mine_now : ℕ) → now + mine ≡ before + mine_now → before ≡ mine → now ≡ mine_now
+own now before mine mine_now sum is = omega (arith, sum, is)
+
+pub holds_alone : {D : Type 0} → (mine mine_now : InstId → ℕ) (old new : StoreValue D) → MovesHolds mine mine_now old new → ((id : InstId) → holders_in id old.instances.known ≡ mine id) → (id : InstId) → holders_in id new.instances.known ≡ mine_now id
+holds_alone mine mine_now old new moves alone id = own (holders_in id new.instances.known) (holders_in id old.instances.known) (mine id) (mine_now id) (moves id) (alone id)

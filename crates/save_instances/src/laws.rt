@@ -8,7 +8,7 @@ ghost use Rattle.model_store.specs.Settled.{files_of};
 ghost use Rattle.model_store.specs.Stands.{HasInstances};
 ghost use Rattle.sis_store.specs.Instances.{holders_in};
 ghost use Rattle.sis_store.specs.declared.instance.KnownInstance.{KnownInstance};
-ghost use Rattle.store_core.specs.Keeping.{KeepsInstances, MovesHolds};
+ghost use Rattle.store_core.specs.Keeping.{KeepsInstances, MovesHolds, holds_of};
 ghost use Rattle.store_core.specs.StoreInstances.{IsFirstKnown, IsKnownRow};
 ghost use Rattle.store_core.specs.Value.{StoreValue};
 ghost use Rattle.save_instances.specs.Attaching.{AreHeld, AreOfParts, AttachingValue, IsAttaching, nothing_found};
@@ -22,7 +22,14 @@ pub fn attaching_goes_on<D: Disk>()
     ensures held { (mine mine_now other : InstId → ℕ) (old new : StoreValue D) → MovesHolds mine mine_now old new → ((id : InstId) → mine id + other id ≤ holders_in id old.instances.known) → (id : InstId) → mine_now id + other id ≤ holders_in id new.instances.known }
 {}
 
-/// So do the instances of all attachments alone.
+/// Where one task alone holds instances, all holders are its own; and it holds none more often than it has found instances. So it
+/// may compare one more.
+pub fn own_holds_are_few<D: Disk>()
+    ensures alone { (mine mine_now : InstId → ℕ) (old new : StoreValue D) → MovesHolds mine mine_now old new → ((id : InstId) → holders_in id old.instances.known ≡ mine id) → (id : InstId) → holders_in id new.instances.known ≡ mine_now id }
+    ensures few { (rows : List InstRow) (id : InstId) → holds_of rows id ≤ length rows }
+{}
+
+/// The instances of all attachments stay found too.
 pub fn found_instances_are_kept<D: Disk>()
     ensures { (rows : List InstRow) (parts : List Detached) (old new : StoreValue D) (before after : Option History) → KeepsInstances old new before after → AreOfParts rows parts old.instances.known before → AreOfParts rows parts new.instances.known after }
 {}

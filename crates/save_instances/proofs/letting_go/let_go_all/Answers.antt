@@ -1,4 +1,4 @@
-use Rattle.std.proofs.Common.{◌≡◌, ◌≤◌, ◌+◌, [], length, drop, get_or, refl, arith}
+use Rattle.std.proofs.Common.{◌≤◌, ◌+◌, [], length, drop, get_or, refl, arith}
 use Rattle.disk_model.proofs.BetweenLemmas.{between-begins}
 use Rattle.mdbox_base.specs.declared.entries.InstRow.{InstRow}
 use Rattle.store_core.specs.Keeping.{ReadsInstances}

@@ -1,6 +1,5 @@
 use Rattle.std.specs.Prelude.{slice_get}
 use Rattle.std.proofs.Common.{◌≡◌, ◌<◌, ◌≤◌, ◌+◌, ℕ, length, Some, sym, ◌∙◌, ap, subst, refl}
-use Rattle.attach_detach.specs.declared.message.Detached.{Detached}
 use Rattle.sis_store.specs.Instances.{InstancesValue}
 use Rattle.store_core.specs.Value.{StoreValue}
 use Rattle.save_instances.specs.Attaching.{AttachingValue, IsAttaching, attach_events_left, next_attachment}

@@ -1,9 +1,8 @@
 use Rattle.std.specs.Prelude.{slice_get}
-use Rattle.std.proofs.Common.{◌≡◌, ◌<◌, ◌≤◌, ◌+◌, ℕ, List, length, Some, sym, ◌∙◌, ap, subst, refl}
-use Rattle.attach_detach.specs.declared.message.Detached.{Detached}
+use Rattle.std.proofs.Common.{◌≡◌, ◌≤◌, ◌+◌, ℕ, List, length, Some, sym, ◌∙◌, ap, subst, refl}
 use Rattle.sis_store.specs.Instances.{InstancesValue}
 use Rattle.store_core.specs.Value.{StoreValue}
-use Rattle.save_instances.specs.Attaching.{AttachingValue, IsAttaching, attach_events_left, next_attachment}
+use Rattle.save_instances.specs.Attaching.{AttachingValue, IsAttaching, next_attachment}
 use Rattle.mdbox_base.specs.declared.entries.InstRow.{InstRow}
 use Rattle.store_core.specs.StoreInstances.{IsFirstWith}
 use Rattle.save_instances.specs.Attaching.{IsOfPart}
