@@ -83,7 +83,7 @@ AreOfParts [] parts known history = Unit {0}
 AreOfParts (row ∷ rows) [] known history = ⊥
 AreOfParts (row ∷ rows) (part ∷ parts) known history = IsOfPart row part known history × AreOfParts rows parts known history
 
--- each is held as often as it was found
+-- each is held at least as often as it was found
 abbrev pub AreHeld : List InstRow → List KnownInstance → Type 0
 AreHeld rows known = (id : InstId) → holds_of rows id ≤ holders_in id known
 
