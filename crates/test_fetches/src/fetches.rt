@@ -84,7 +84,7 @@ const CASES: [Case; 19] = [
         ONE_WHOLE,
         Answer::Unopened,
     ),
-    // It has another size than its reference counts.
+    // It is shorter, with a text of as many characters as its reference counts; and its text has fewer.
     (
         Stored {
             rows: &[(1, 5)],

@@ -73,7 +73,8 @@ fn record_of(alloc: Global, stored: &Stored<'_>, size: u32) -> Result<Vec<u8>, F
     let mut entry = b"S\0\0\x01\0\0\0\x01\0\0\0\x01\0\0\0\x10".to_vec(alloc)?;
     entry.extend_from_slice(&size.to_be_bytes())?;
     entry.extend_from_slice(&GUID)?;
-    entry.extend_from_slice(&(stored.rows.len() as u16).to_be_bytes())?;
+    let rows = stored.rows.len().min(65_535) as u16;
+    entry.extend_from_slice(&rows.to_be_bytes())?;
     for (number, size) in stored.rows {
         entry.extend_from_slice(&[*number; 20])?;
         entry.extend_from_slice(&id_of(*number))?;
@@ -93,7 +94,7 @@ fn listing_of(alloc: Global, listed: u32) -> Result<Vec<u8>, Fail> {
 
 fn files_of(alloc: Global, stored: &Stored<'_>) -> Result<StoreFiles, Fail> {
     let mail = mail_of(alloc, stored)?;
-    let size = mail.len().saturating_sub(16) as u32;
+    let size = mail.len().saturating_sub(16).min(1_000_000) as u32;
     let record = record_of(alloc, stored, size)?;
     let listing = listing_of(alloc, stored.listed)?;
     let mut files = StoreFiles::with(alloc, &[MAKES_INBOX, &record], &[&listing], 0)?;

@@ -22,20 +22,21 @@ fn octets(alloc: Global) -> Result<Vec<u8>, Fail> {
 
 /// Text in lines of 76 characters, but for the second, which has so many, and the last.
 fn lines_of(alloc: Global, text: &[u8], second: usize) -> Result<Vec<u8>, Fail> {
-    let mut lines = Vec::new(alloc);
-    let mut rest = text;
-    let mut size = 76;
-    while let Some((line, behind)) = rest.split_at_checked(size) {
-        if behind.is_empty() {
-            break;
-        }
-        lines.extend_from_slice(line)?;
-        lines.extend_from_slice(b"\r\n")?;
-        rest = behind;
-        size = if lines.len() < 100 { second } else { 76 };
+    let (line, behind) = text.split_at(text.len().min(76));
+    let mut lines = line.to_vec(alloc)?;
+    let (line, rest) = behind.split_at(behind.len().min(second));
+    push_line(&mut lines, line)?;
+    for line in rest.chunks(76) {
+        push_line(&mut lines, line)?;
     }
-    lines.extend_from_slice(rest)?;
     Ok(lines)
+}
+
+/// Adds a line to those before it.
+fn push_line(lines: &mut Vec<u8>, line: &[u8]) -> Result<(), Fail> {
+    lines.extend_from_slice(b"\r\n")?;
+    lines.extend_from_slice(line)?;
+    Ok(())
 }
 
 /// What stands around the attachment, with these octets in its place.
@@ -87,7 +88,7 @@ fn fetched(
         body: &body,
         lines: sample.lines,
         listed: 246_549,
-        rows: &[(1, sample.instance.len() as u32)],
+        rows: &[(1, sample.instance.len().min(1_000_000) as u32)],
         files: &[(1, &sample.instance)],
     };
     let disk = disk_of(alloc, &stored)?;
