@@ -33,6 +33,7 @@ bench: all
 	bench/open
 	bench/fetch
 	bench/deliver
+	bench/attach
 	bench/ops
 	cd crates/log_bench && rt run -- 1
 	bench/sync
