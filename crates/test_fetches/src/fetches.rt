@@ -79,11 +79,7 @@ const CASES: [Case; 19] = [
         ONE_WHOLE,
         Answer::Unopened,
     ),
-    (
-        Stored { files: &[], ..ONE },
-        ONE_WHOLE,
-        Answer::Unopened,
-    ),
+    (Stored { files: &[], ..ONE }, ONE_WHOLE, Answer::Unopened),
     // It is shorter, with a text of as many characters as its reference counts; and its text has fewer.
     (
         Stored {
@@ -175,14 +171,7 @@ const CASES: [Case; 19] = [
         ONE_WHOLE,
         Answer::Damaged,
     ),
-    (
-        Stored {
-            listed: 11,
-            ..ONE
-        },
-        ONE_WHOLE,
-        Answer::Damaged,
-    ),
+    (Stored { listed: 11, ..ONE }, ONE_WHOLE, Answer::Damaged),
 ];
 
 /// What a fetch of a case answers.

@@ -141,10 +141,12 @@ fn answer_of(reply: &Reply, whole: &[u8]) -> Answer {
     match reply {
         Reply::Fetched(octets) if octets.as_slice() == whole => Answer::Whole,
         Reply::Fetched(_) => Answer::Other,
-        Reply::Refused(Refusal::Damaged {
-            file: FileNo(1),
-            offset: 16,
-        }) => Answer::Damaged,
+        Reply::Refused(
+            Refusal::Damaged {
+                file: FileNo(1),
+                offset: 16,
+            },
+        ) => Answer::Damaged,
         Reply::Refused(Refusal::ReadFault) => Answer::ReadFault,
         _ => Answer::Refused,
     }

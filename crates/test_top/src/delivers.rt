@@ -224,7 +224,14 @@ fn asked_once(alloc: Global) -> Result<(u8, bool), Fail> {
     let mut input = MemSource::of(octets, Seq::of(vec![in alloc; 3]?));
     let mut clock = MemClock::of(NOW, Seq::of(vec![in alloc; 2]?));
     let disk = fresh(alloc)?;
-    let ran = run_with(alloc, disk, &DELIVER, &mut input, Seq::empty(alloc), &mut clock)?;
+    let ran = run_with(
+        alloc,
+        disk,
+        &DELIVER,
+        &mut input,
+        Seq::empty(alloc),
+        &mut clock,
+    )?;
     Ok((ran.status, told(&ran, FIRST.as_bytes(), "")))
 }
 
