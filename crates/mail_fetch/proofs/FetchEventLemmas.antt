@@ -28,7 +28,7 @@ use Rattle.journal.specs.Events.{Around, DidPart, IsRecord, next_part, behind_ev
 use Rattle.journal.specs.Makes.{HasCome, Makes}
 use Rattle.journal.proofs.RunLemmas.{comes_on}
 use Rattle.task_steps.specs.Step.{Seen, ShowsSeen, HasComeTo, Leads, IsFault, DidEvent, HasNotBegun, pins_of, and_told}
-use Rattle.task_steps.proofs.SeenLemmas.{comes_to_still, no_guids, doomed_still, used_still, given_still, file_still_known, instance_still_known}
+use Rattle.task_steps.proofs.SeenLemmas.{comes_to_still, no_guids, doomed_still, used_still, given_still, gone_still, file_still_known, instance_still_known}
 use Rattle.task_steps.proofs.OneEventLemmas.{next_first, refusal_last, some_refusal, one_refusal, some_given, no_step, nothing, first_reply, still_faults}
 use Rattle.mail_fetch.specs.Events.{NoChangeFault}
 
@@ -80,6 +80,7 @@ comes_with_pins run event old history faults pins h come due doomed removed give
   doomed = λ file. doomed_still run event file doomed removed ∙ h.doomed file;
   used = λ file e. h.used file (sym (used_still run event file doomed removed) ∙ e);
   gave = λ guid e. h.gave guid (sym (given_still run event guid given) ∙ e);
+  gone = λ instance e. h.gone instance (sym (gone_still run event instance gone) ∙ e);
   files = λ file e. file_still_known run event file removed (h.files file e);
   instances = λ instance e. instance_still_known run event instance gone (h.instances instance e);
 }

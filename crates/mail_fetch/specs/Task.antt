@@ -13,7 +13,7 @@ use Rattle.model_meaning.specs.MapMeaning.{MapMeaning}
 use Rattle.list_machine.specs.Machine.{is_step}
 use Rattle.journal.specs.Events.{pieces_to_read}
 use Rattle.store_core.specs.Dues.{due_at}
-use Rattle.store_core.specs.Knows.{knows_file, may_have_given}
+use Rattle.store_core.specs.Knows.{knows_file, may_be_gone, may_have_given}
 use Rattle.store_core.specs.Value.{StoreValue, indexes_of}
 use Rattle.task_steps.specs.Step.{Seen}
 use Rattle.mail_fetch.specs.Parts.{HasSomeOctets, KnowsSource, pieces_left}
@@ -80,6 +80,7 @@ seen_with_pins others now store history faults = record {
   doomed = λ file. false;
   used = λ file. false;
   gave = λ guid. may_have_given store guid;
+  gone = λ instance. may_be_gone store instance;
   files = λ file. knows_file store file;
   instances = λ instance. false;
 }

@@ -1,11 +1,12 @@
 -- A flag as an event, which appends one entry.
 use Rattle.std.proofs.Common.{◌≡◌, ◌≤◌, ◌<◌, ℕ, Bool, true, false, List, [], Option, Some, None, refl, sym, ◌∙◌, ap, subst, arith}
 use Rattle.std.specs.Option.{option_map, option_or}
-use Rattle.std.specs.Prelude.{find, is_some, is_none}
+use Rattle.std.specs.Prelude.{find, is_some, is_none, nat_le}
 use Rattle.std.specs.Str.{bytes_eq}
 use Rattle.disk_model.specs.Disk.{History, Faults, told_calls, Grows}
 use Rattle.mdbox_base.specs.declared.entries.BoxEntry.TheVariants as entry
 use Rattle.mdbox_base.specs.declared.entries.Highest.{Highest}
+use Rattle.mdbox_base.specs.declared.entries.InstRow.{InstRow}
 use Rattle.mdbox_base.specs.declared.ids.Uid.{Uid}
 use Rattle.mdbox_base.specs.declared.progress.Did.TheVariants as did
 use Rattle.mdbox_base.specs.declared.replies.Refusal.{Refusal}
@@ -17,7 +18,7 @@ use Rattle.mdbox_base.specs.declared.script.Half.TheVariants as half
 use Rattle.mdbox_base.specs.Streams.{Rose}
 use Rattle.model_lists.specs.Lists.{Mailbox, Lists, AreWellFormed}
 use Rattle.model_meaning.specs.BoxMeaning.{LogRow, BoxMeaning, row_at}
-use Rattle.model_meaning.specs.MapMeaning.{MapBox, MapMeaning}
+use Rattle.model_meaning.specs.MapMeaning.{MapBox, MapMeaning, instance_number}
 use Rattle.model_appends.specs.Appending.{lists_by, meanings_by}
 use Rattle.model_store.specs.Listing.{ShowLists, meaning_named}
 use Rattle.model_store.specs.Settled.{IsSettledFor, Leaves}
@@ -30,7 +31,7 @@ use Rattle.journal.proofs.RunLemmas.{comes_on}
 use Rattle.store_core.specs.Append.{Brings}
 use Rattle.storage_files.specs.Files.{FilesValue, end_in}
 use Rattle.store_core.specs.Dues.{number_beside, due_at}
-use Rattle.store_core.specs.Knows.{may_have_given}
+use Rattle.store_core.specs.Knows.{may_be_gone, may_have_given}
 use Rattle.store_core.specs.Value.{StoreValue}
 use Rattle.task_steps.specs.Step.{Seen, ShowsSeen, HasComeTo, DidEvent, HasNotBegun}
 use Rattle.task_steps.specs.Tells.{TellsSame}
@@ -250,12 +251,17 @@ given_still old new guid map drawn files =
     ap (λ (m : MapMeaning). may_have_given (record new { map = m }) guid) map
     ∙ (ap (λ (d : Highest). may_have_given (record new { map = old.map; drawn = d }) guid) drawn ∙ ap (λ (x : FilesValue). may_have_given (record new { map = old.map; drawn = old.drawn; files = x }) guid) files)
 
+-- nor may an instance be gone now that couldn't before
+pub gone_still : {D : Type 0} → (old new : StoreValue D) (row : InstRow) → new.map.store ≡ old.map.store → new.drawn.instance ≡ old.drawn.instance → may_be_gone new row ≡ may_be_gone old row
+gone_still old new row id drawn = ap (λ (s : List ℕ). nat_le (instance_number s row.id.0) new.drawn.instance) id ∙ ap (λ (n : ℕ). nat_le (instance_number old.map.store row.id.0) n) drawn
+
 pub tells_same : {D : Type 0} → (others : Others) → (old new : StoreValue D) (h k : Option History) (f g : Faults) → new.map ≡ old.map → new.drawn ≡ old.drawn → new.files ≡ old.files → TellsSame (seen_beside others old h f) (seen_beside others new k g)
 tells_same others old new h k f g map drawn files = record {
   pins = λ file. refl;
   doomed = λ file. refl;
   used = λ file. refl;
   gave = λ guid. given_still old new guid map drawn files;
+  gone = λ instance. gone_still old new instance (ap (λ (m : MapMeaning). m.store) map) (ap (λ (d : Highest). d.instance) drawn);
   files = λ file. ap (λ (x : FilesValue). is_some (end_in file x.files)) files;
   instances = λ instance. refl;
 }

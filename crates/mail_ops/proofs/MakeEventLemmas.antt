@@ -38,7 +38,7 @@ use Rattle.mail_ops.specs.Task.{Others, seen_beside}
 use Rattle.mail_ops.specs.declared.making.MakeStage.{MakeStage}
 use Rattle.mail_ops.specs.declared.making.MakeStage.TheVariants as stage
 use Rattle.mail_ops.proofs.EventLemmas.{DidBy, stands_by, fall, no_refusal, no_reply, some_reply, one_reply, last_with, StaysSo, comes_along, memory_calm, CanRefuse, did_refused, did_unstepped, did_stop, did_fall, did_check, did_part, ends_well}
-use Rattle.mail_ops.proofs.FlagEventLemmas.{due_kept, shown_on}
+use Rattle.mail_ops.proofs.FlagEventLemmas.{due_kept, gone_still, shown_on}
 use Rattle.mail_ops.proofs.MakeCheckLemmas.{naming_checked, making_checked, naming_steps, making_steps}
 use Rattle.mail_ops.proofs.MakeStageLemmas.{first_next, naming_part, naming_next, makes_log_then, starts_over_then}
 use Rattle.mail_ops.proofs.RemovalLemmas.{store_tells}
@@ -275,6 +275,7 @@ draws_of others old new before after began then map drawn files dues grows reads
     doomed = λ file. refl;
     used = λ file. refl;
     gave = λ guid. given_drawing old new guid (ap (λ (m : MapMeaning). m.store) map) (ap (λ (d : Highest). d.file) drawn) files;
+    gone = λ instance. gone_still old new instance (ap (λ (m : MapMeaning). m.store) map) (ap (λ (d : Highest). d.instance) drawn);
     files = λ file. ap (λ (f : FilesValue). is_some (end_in file f.files)) files;
     instances = λ instance. refl;
   };

@@ -32,7 +32,7 @@ use Rattle.mail_ops.specs.Appends.{BoxAppends, BoxFell, MapTook, MapFell}
 use Rattle.mail_ops.specs.Messages.{IsRowOf}
 use Rattle.mail_ops.specs.Task.{Others, seen_beside}
 use Rattle.mail_ops.proofs.EventLemmas.{StaysSo}
-use Rattle.mail_ops.proofs.FlagEventLemmas.{due_kept}
+use Rattle.mail_ops.proofs.FlagEventLemmas.{due_kept, gone_still}
 use Rattle.mail_ops.proofs.MessageLemmas.{ShownRow, shown_row, shown_guid, RecordOfRow, record_of_row}
 use Rattle.mail_ops.proofs.SettledFlagLemmas.{LogsShowLists, well_settled, shown_settled}
 use Rattle.mail_ops.proofs.ShownEntryLemmas.{shown_entry}
@@ -55,6 +55,7 @@ store_tells others old new before after began now id drawn files = record {
   doomed = λ file. refl;
   used = λ file. refl;
   gave = λ guid. given_as old new guid id drawn files;
+  gone = λ instance. gone_still old new instance id (ap (λ (d : Highest). d.instance) drawn);
   files = λ file. ap (λ (f : FilesValue). is_some (end_in file f.files)) files;
   instances = λ instance. refl;
 }

@@ -8,13 +8,13 @@ use Rattle.list_machine.specs.Run.{RunEvent, Run, map_of, is_doomed}
 use Rattle.journal.specs.Found.{is_known_file}
 use Rattle.journal.specs.Makes.{HasCome}
 use Rattle.store_core.specs.Dues.{number_beside, due_at}
-use Rattle.store_core.specs.Knows.{knows_file, may_have_given, is_told_of}
+use Rattle.store_core.specs.Knows.{knows_file, may_be_gone, may_have_given, is_told_of}
 use Rattle.store_core.specs.Value.{StoreValue, none_due}
 use Rattle.journal.specs.Events.{Around, begun_in, ended_in}
 use Rattle.mdbox_base.specs.declared.progress.Did.{Did}
 use Rattle.mdbox_base.specs.declared.replies.Reply.{Reply}
 use Rattle.mdbox_base.specs.declared.requests.Request.{Request}
-use Rattle.task_steps.specs.Step.{Seen, was_given, pins_of, was_used, HasComeTo, HasNotBegun, IsKept, Steps}
+use Rattle.task_steps.specs.Step.{Seen, was_given, pins_of, was_used, was_gone, HasComeTo, HasNotBegun, IsKept, Steps}
 use Rattle.task_steps.proofs.SeenLemmas.{not_begun_stays}
 use Rattle.task_steps.proofs.OneEventLemmas.{never_more}
 use Rattle.mail_ops.specs.Task.{IsAt, seen_of}
@@ -53,6 +53,7 @@ comes_at_first run store history faults none free told come = record {
   doomed = λ file. subst (λ (es : List RunEvent). is_doomed (record run { events = es }) file ≡ false) (sym none) refl;
   used = λ file. subst (λ (es : List RunEvent). was_used (record run { events = es }) file ≡ true → false ≡ true) (sym none) (λ e. e);
   gave = λ guid. subst (λ (es : List RunEvent). was_given (record run { events = es }) guid ≡ true → may_have_given store guid ≡ true) (sym none) (λ e. absurd (cc e));
+  gone = λ instance. subst (λ (es : List RunEvent). was_gone (record run { events = es }) instance ≡ true → may_be_gone store instance ≡ true) (sym none) (λ e. absurd (cc e));
   files = λ file e. known_first run store.map file none come.map_is (told file e);
   instances = λ instance e. absurd (cc e);
 }

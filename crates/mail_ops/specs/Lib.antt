@@ -7,7 +7,6 @@ pub mod Event
 pub mod Expunging
 pub mod Flagging
 pub mod Keeping
-pub mod KnownInstances
 pub mod Listing
 pub mod MakeStages
 pub mod Making

@@ -7,7 +7,7 @@ use Rattle.mdbox_base.specs.declared.progress.Did.{Did}
 use Rattle.mdbox_base.specs.declared.replies.Reply.{Reply}
 use Rattle.mdbox_base.specs.declared.requests.Request.{Request}
 use Rattle.store_core.specs.Dues.{Amounts, no_amounts, due_at}
-use Rattle.store_core.specs.Knows.{knows_file, may_have_given}
+use Rattle.store_core.specs.Knows.{knows_file, may_be_gone, may_have_given}
 use Rattle.store_core.specs.Value.{StoreValue, indexes_of}
 use Rattle.task_steps.specs.Step.{Seen, HasNotBegun}
 use Rattle.mail_ops.specs.declared.task.TaskStage.{TaskStage}
@@ -51,6 +51,7 @@ seen_beside others store history faults = record {
   doomed = λ file. false;
   used = λ file. false;
   gave = λ guid. may_have_given store guid;
+  gone = λ instance. may_be_gone store instance;
   files = λ file. knows_file store file;
   instances = others.instances;
 }

@@ -22,7 +22,7 @@ ghost use Rattle.task_steps.specs.Step.{IsKept};
 ghost use Rattle.mail_ops.specs.Copy.{IsAtCopy, IsReadyToCopy, copy_amounts};
 ghost use Rattle.mail_ops.specs.Expunging.{IsAtExpunge};
 ghost use Rattle.mail_ops.specs.Keeping.{both_amounts};
-ghost use Rattle.mail_ops.specs.KnownInstances.{knows_instance};
+ghost use Rattle.store_core.specs.Knows.{knows_instance};
 ghost use Rattle.mail_ops.specs.Making.{IsAtMake, IsReadyToMake, HaveOtherLogs, LeavesLogs, KeepsAllButLogs};
 ghost use Rattle.mail_ops.specs.Moving.{IsAtMove, IsReadyToMove, move_amounts};
 ghost use Rattle.mail_ops.specs.Owing.{AreDueIn};

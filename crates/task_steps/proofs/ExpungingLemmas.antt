@@ -71,7 +71,7 @@ removing around after run lane place said name uid lists old meanings history fa
         shown = shows;
         makes = k.0;
         found = tt;
-        come = comes_to_on run event old (behind_box old meanings row.uid history faults) come k.0.come (λ uid. box_due row.uid uid (old.due uid)) (record { pins = refl; unpins = refl; doomed = refl; removed = refl; given = refl; gone = refl }) (record { pins = λ file. refl; doomed = λ file. refl; used = λ file. refl; gave = λ guid. refl; files = λ file. refl; instances = λ instance. refl });
+        come = comes_to_on run event old (behind_box old meanings row.uid history faults) come k.0.come (λ uid. box_due row.uid uid (old.due uid)) (record { pins = refl; unpins = refl; doomed = refl; removed = refl; given = refl; gone = refl }) (record { pins = λ file. refl; doomed = λ file. refl; used = λ file. refl; gave = λ guid. refl; gone = λ instance. refl; files = λ file. refl; instances = λ instance. refl });
         gives = no_guids run event refl;
         went = (refl, refl, runs, leads);
         grows = grows;
@@ -99,7 +99,7 @@ lowering_ends around after run lane place said name uid lists old owed due histo
   found = tt;
   come = comes_to_on run (lowering lane place owed (told_calls history)) old (behind_lowering old owed due history faults) come
       (comes_on_with run (lowering lane place owed (told_calls history)) (entry.D (record { 0 = owed } ∷ [])) old.map old.drawn (told_calls old.history) come.come grows refl)
-      (λ uid. lowering_due owed uid (due uid) (old.due uid) (owes uid)) (record { pins = refl; unpins = refl; doomed = refl; removed = refl; given = refl; gone = refl }) (record { pins = λ file. refl; doomed = λ file. refl; used = λ file. refl; gave = λ guid. refl; files = λ file. refl; instances = λ instance. refl });
+      (λ uid. lowering_due owed uid (due uid) (old.due uid) (owes uid)) (record { pins = refl; unpins = refl; doomed = refl; removed = refl; given = refl; gone = refl }) (record { pins = λ file. refl; doomed = λ file. refl; used = λ file. refl; gave = λ guid. refl; gone = λ instance. refl; files = λ file. refl; instances = λ instance. refl });
   gives = no_guids run (lowering lane place owed (told_calls history)) refl;
   went = (refl, refl, leads);
   grows = grows;

@@ -1,6 +1,6 @@
 -- What a store tells, as a run goes on with one event more.
 use Rattle.std.proofs.Common.{◌≡◌, ◌<◌, ◌+◌, ◌==◌, ◌&&◌, ◌||◌, ℕ, zero, suc, Bool, true, false, not, List, [], ◌∷◌, ◌++◌, refl, sym, ◌∙◌, ap, subst, arith, All}
-use Rattle.std.specs.Prelude.{◌≢◌, flat_map, sum_by, count_by, nat_lt, filter, cond, is_none, if◌then◌else◌}
+use Rattle.std.specs.Prelude.{◌≢◌, flat_map, sum_by, count_by, nat_lt, filter, cond, if◌then◌else◌}
 use Rattle.std.proofs.lemmas.Grind.{common_steps}
 use Rattle.std.specs.List.{list_any}
 use Rattle.std.specs.Str.{bytes_eq}
@@ -21,7 +21,7 @@ use Rattle.journal.proofs.RunLemmas.{entries_more}
 use Rattle.journal.specs.Events.{begun_in, ended_in, due_of, number_drawn, number_of, until_doomed, was_pinned}
 use Rattle.journal.specs.Makes.{HasCome}
 use Rattle.journal.proofs.OwnEventLemmas.{own_more, own_other}
-use Rattle.task_steps.specs.Step.{Seen, was_given, pins_of, was_used, HasComeTo, GivesNew, IsKept, HasNotBegun}
+use Rattle.task_steps.specs.Step.{Seen, was_given, pins_of, was_used, was_gone, HasComeTo, GivesNew, IsKept, HasNotBegun}
 use Rattle.task_steps.specs.Tells.{LeavesFiles, TellsSame}
 
 or_none : (b : Bool) → (b || false) ≡ b
@@ -148,6 +148,9 @@ instance_still_known run event instance none e =
     (list_any (is_same_instance instance) (named_instances (map_of (before 0 run)))) false (list_any (λ e. list_any (is_same_instance instance) e.placed) (run.events ++ event ∷ [])) (list_any (λ e. list_any (is_same_instance instance) e.gone) (run.events ++ event ∷ []))
     refl (λ k. k) (any_more (λ (e : RunEvent). list_any (is_same_instance instance) e.placed) run.events event) (any_still (λ (e : RunEvent). list_any (is_same_instance instance) e.gone) run.events event (ap (λ (is : List InstRow). list_any (is_same_instance instance) is) none)) e
 
+pub gone_still : (run : Run) (event : RunEvent) (instance : InstRow) → event.gone ≡ [] → was_gone (and_then run event) instance ≡ was_gone run instance
+gone_still run event instance none = any_still (λ (e : RunEvent). list_any (is_same_instance instance) e.gone) run.events event (ap (λ (is : List InstRow). list_any (is_same_instance instance) is) none)
+
 -- an event that took a file makes it known, unless one removed it
 pub file_now_known : (run : Run) (event : RunEvent) (file : ℕ) → event.removed ≡ [] → took_file file event ≡ true → list_any (λ e. is_one_of e.removed file) run.events ≡ false → is_known_file (and_then run event) file ≡ true
 file_now_known run event file none took stays =
@@ -163,6 +166,21 @@ file_now_known run event file none took stays =
     by_tests true sealed took gone t g = ap (λ (b : Bool). not b) g
     by_tests false true took gone t g = ap (λ (b : Bool). not b) g
     by_tests false false took gone t g = ap (λ (b : Bool). b && not gone) t ∙ ap (λ (b : Bool). not b) g
+
+-- an event that placed an instance makes it known, unless one removed it
+pub instance_now_known : (run : Run) (event : RunEvent) (instance : InstRow) → event.gone ≡ [] → list_any (is_same_instance instance) event.placed ≡ true → was_gone run instance ≡ false → is_known_instance (and_then run event) instance ≡ true
+instance_now_known run event instance none put stays =
+    by_tests (list_any (is_same_instance instance) (named_instances (map_of (before 0 run)))) (list_any (λ (e : RunEvent). list_any (is_same_instance instance) e.placed) (run.events ++ event ∷ [])) (list_any (λ (e : RunEvent). list_any (is_same_instance instance) e.gone) (run.events ++ event ∷ []))
+    (any_push (λ (e : RunEvent). list_any (is_same_instance instance) e.placed) run.events event ∙ (ap (λ (b : Bool). list_any (λ (e : RunEvent). list_any (is_same_instance instance) e.placed) run.events || b) put ∙ or_true (list_any (λ (e : RunEvent). list_any (is_same_instance instance) e.placed) run.events)))
+    (gone_still run event instance none ∙ stays)
+  where
+    or_true : (b : Bool) → (b || true) ≡ true
+    or_true true = refl
+    or_true false = refl
+
+    by_tests : (first placed gone : Bool) → placed ≡ true → gone ≡ false → ((first || placed) && not gone) ≡ true
+    by_tests true placed gone p g = ap (λ (b : Bool). not b) g
+    by_tests false placed gone p g = ap (λ (b : Bool). b && not gone) p ∙ ap (λ (b : Bool). not b) g
 
 -- ---- the store
 
@@ -181,13 +199,14 @@ comes_to_on run event old new h come due leaves same = record {
   doomed = λ file. doomed_still run event file leaves.doomed leaves.removed ∙ (h.doomed file ∙ sym (same.doomed file));
   used = λ file e. same.used file ∙ h.used file (sym (used_still run event file leaves.doomed leaves.removed) ∙ e);
   gave = λ guid e. same.gave guid ∙ h.gave guid (sym (given_still run event guid leaves.given) ∙ e);
+  gone = λ instance e. same.gone instance ∙ h.gone instance (sym (gone_still run event instance leaves.gone) ∙ e);
   files = λ file e. file_still_known run event file leaves.removed (h.files file (sym (same.files file) ∙ e));
   instances = λ instance e. instance_still_known run event instance leaves.gone (h.instances instance (sym (same.instances instance) ∙ e));
 }
 
 -- a store tells the same as itself
 pub tells_itself : (seen : Seen) → TellsSame seen seen
-tells_itself seen = record { pins = λ file. refl; doomed = λ file. refl; used = λ file. refl; gave = λ guid. refl; files = λ file. refl; instances = λ instance. refl }
+tells_itself seen = record { pins = λ file. refl; doomed = λ file. refl; used = λ file. refl; gave = λ guid. refl; gone = λ instance. refl; files = λ file. refl; instances = λ instance. refl }
 
 -- It does so with an event that leaves all.
 pub comes_to_still : (run : Run) (event : RunEvent) (seen : Seen) → HasComeTo run seen → HasCome (and_then run event) seen.map seen.drawn (told_calls seen.history) → ((uid : ℕ) → begun_in uid event ≡ ended_in uid event) → LeavesFiles event
@@ -210,6 +229,13 @@ is_new run seen guid h none = neither (was_given run guid) (seen.gave guid) (h.g
 
 pub never_used : (run : Run) (seen : Seen) (file : ℕ) → HasComeTo run seen → seen.used file ≡ false → was_used run file ≡ false
 never_used run seen file h none = neither (was_used run file) (seen.used file) (h.used file) none
+
+pub never_gone : (run : Run) (seen : Seen) (instance : InstRow) → HasComeTo run seen → seen.gone instance ≡ false → was_gone run instance ≡ false
+never_gone run seen instance h none = neither (was_gone run instance) (seen.gone instance) (h.gone instance) none
+
+-- an event places an instance that the store can't have removed
+pub places_new : (run : Run) (event : RunEvent) (seen : Seen) (instance : InstRow) → HasComeTo run seen → seen.gone instance ≡ false → event.gone ≡ [] → list_any (is_same_instance instance) event.placed ≡ true → is_known_instance (and_then run event) instance ≡ true
+places_new run event seen instance h free none put = instance_now_known run event instance none put (never_gone run seen instance h free)
 
 pub pinned_as : (run : Run) (seen : Seen) (file : ℕ) → HasComeTo run seen → is_pinned run file ≡ nat_lt 0 (seen.pins file)
 pinned_as run seen file h = pinned_is run file ∙ ap (λ (n : ℕ). nat_lt 0 n) (h.pins file)

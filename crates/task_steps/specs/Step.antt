@@ -17,7 +17,7 @@ use Rattle.model_store.specs.Listing.{ShowLists}
 use Rattle.list_machine.specs.Run.{RunEvent, Run, and_then, own_events, is_one_of, has_unpinned, is_doomed}
 use Rattle.journal.specs.Journal.{half_of, halves_of, IsReplyOf}
 use Rattle.journal.specs.Events.{Around, begun_in, ended_in}
-use Rattle.journal.specs.Found.{AgreesWithRun, is_known_file, is_known_instance}
+use Rattle.journal.specs.Found.{AgreesWithRun, is_known_file, is_same_instance, is_known_instance}
 use Rattle.journal.specs.Makes.{HasCome, WouldMake, Makes}
 use Rattle.disk_model.specs.Disk.{told_calls, Grows}
 use Rattle.model_store.specs.Settled.{Leaves}
@@ -32,7 +32,7 @@ use Rattle.mdbox_base.specs.declared.progress.Progress.TheVariants as progress
 -- What is seen of a store: what its map and the logs of its mailboxes mean, the numbers drawn, what its disk tells, the
 -- faults counted, and whether it is stopped. Then what it keeps of its tasks: how much is due of each record, how many pins
 -- each file has, which files are doomed, and which are no new ones, that it may have doomed or removed; the GUIDs that it may
--- have given; and the files and instances that it knows to be there.
+-- have given; the instances that it may have removed; and the files and instances that it knows to be there.
 pub record Seen : Type 0 where
   pub map : MapMeaning
   pub meanings : List BoxMeaning
@@ -45,6 +45,7 @@ pub record Seen : Type 0 where
   pub doomed : ℕ → Bool
   pub used : ℕ → Bool
   pub gave : List ℕ → Bool
+  pub gone : InstRow → Bool
   pub files : ℕ → Bool
   pub instances : InstRow → Bool
 
@@ -64,9 +65,13 @@ pins_of run file = sum_by (λ e. if has_unpinned e.request run then 0 else count
 abbrev pub was_used : Run → ℕ → Bool
 was_used run file = list_any (λ e. is_one_of e.doomed file || is_one_of e.removed file) run.events
 
+-- an event of the run removed this instance
+abbrev pub was_gone : Run → InstRow → Bool
+was_gone run instance = list_any (λ e. list_any (is_same_instance instance) e.gone) run.events
+
 -- The run has come to where the store stands. Its entries, numbers and moments are the store's; of each record as much began
--- as ended and is due; its files are pinned and doomed as the store has them; events used files and gave GUIDs only if the
--- store may have; and the files and instances that the store knows are there as far as the run tells.
+-- as ended and is due; its files are pinned and doomed as the store has them; events used files, gave GUIDs and removed
+-- instances only if the store may have; and the files and instances that the store knows are there as far as the run tells.
 pub record HasComeTo (run : Run) (seen : Seen) : Type 0 where
   pub come : HasCome run seen.map seen.drawn (told_calls seen.history)
   pub due : (uid : ℕ) → sum_by (begun_in uid) run.events ≡ seen.due uid + sum_by (ended_in uid) run.events
@@ -74,6 +79,7 @@ pub record HasComeTo (run : Run) (seen : Seen) : Type 0 where
   pub doomed : (file : ℕ) → is_doomed run file ≡ seen.doomed file
   pub used : (file : ℕ) → was_used run file ≡ true → seen.used file ≡ true
   pub gave : (guid : List ℕ) → was_given run guid ≡ true → seen.gave guid ≡ true
+  pub gone : (instance : InstRow) → was_gone run instance ≡ true → seen.gone instance ≡ true
   pub files : (file : ℕ) → seen.files file ≡ true → is_known_file run file ≡ true
   pub instances : (instance : InstRow) → seen.instances instance ≡ true → is_known_instance run instance ≡ true
 

@@ -19,5 +19,6 @@ pub record TellsSame (old new : Seen) : Type 0 where
   pub doomed : (file : ℕ) → new.doomed file ≡ old.doomed file
   pub used : (file : ℕ) → new.used file ≡ old.used file
   pub gave : (guid : List ℕ) → new.gave guid ≡ old.gave guid
+  pub gone : (instance : InstRow) → new.gone instance ≡ old.gone instance
   pub files : (file : ℕ) → new.files file ≡ old.files file
   pub instances : (instance : InstRow) → new.instances instance ≡ old.instances instance

@@ -1,12 +1,14 @@
 // Events of tasks compose.
 ghost use Rattle.std.specs.Prelude.{◌≡◌, ◌≢◌, true, false, ◌≤◌, ◌<◌, ◌+◌, nat_lt, All, length, ◌++◌, ◌∷◌, [], ℕ, List, Option, Some, None, is_some, map, count_by, slice_get};
 ghost use Rattle.std.specs.List.{list_any};
+ghost use Rattle.mdbox_base.specs.declared.entries.InstRow.{InstRow};
 ghost use Rattle.mdbox_base.specs.declared.requests.Request.{Request};
 ghost use Rattle.mdbox_base.specs.declared.replies.Reply.{Reply};
 ghost use Rattle.model_lists.specs.Lists.{Mailbox, Lists};
 ghost use Rattle.list_machine.specs.Run.{First, RunEvent, Run, and_then, own_events, reply_of, given_by_others, is_one_of, is_pinned, is_doomed};
 ghost use Rattle.journal.specs.Journal.{Requests, JournalStep, left_by, Broken, no_broken, HasReply, is_read_fault, steps_of};
 ghost use Rattle.journal.specs.Events.{Around, IsRecord, makes_step, is_faulted, begun_in, ended_in, due_of, number_of, was_pinned};
+ghost use Rattle.journal.specs.Found.{is_same_instance, is_known_instance};
 ghost use Rattle.journal.specs.Makes.{HasCome, WouldDo, steps_made, AreReplies, AreTold};
 ghost use Rattle.journal.specs.GoesOn.{RepliesAlso};
 ghost use Rattle.disk_model.specs.Disk.{History, Faults, told_calls, Grows};
@@ -78,6 +80,9 @@ pub fn stores_tell()
     ensures unused { (run : Run) (seen : Seen) (file : ℕ) → HasComeTo run seen → seen.used file ≡ false → was_used run file ≡ false }
     // A new file is doomed: it was pinned then as it is now.
     ensures dooms { (run : Run) (event : RunEvent) (file : ℕ) → was_used run file ≡ false → is_one_of event.doomed file ≡ true → event.removed ≡ [] → (was_pinned (and_then run event) file ≡ is_pinned (and_then run event) file) × (is_doomed (and_then run event) file ≡ true) }
+    // An event places an instance that none can have removed: it is there, and so it stays with every event that removes none.
+    ensures placed { (run : Run) (event : RunEvent) (seen : Seen) (instance : InstRow) → HasComeTo run seen → seen.gone instance ≡ false → event.gone ≡ [] → list_any (is_same_instance instance) event.placed ≡ true → is_known_instance (and_then run event) instance ≡ true }
+    ensures known { (run : Run) (event : RunEvent) (instance : InstRow) → event.gone ≡ [] → is_known_instance run instance ≡ true → is_known_instance (and_then run event) instance ≡ true }
     // The run comes on with an event that leaves files and GUIDs.
     ensures on { (run : Run) (event : RunEvent) (old new : Seen) → HasComeTo run old → HasCome (and_then run event) new.map new.drawn (told_calls new.history) → ((uid : ℕ) → new.due uid + ended_in uid event ≡ old.due uid + begun_in uid event)
         → LeavesFiles event → TellsSame old new → HasComeTo (and_then run event) new }

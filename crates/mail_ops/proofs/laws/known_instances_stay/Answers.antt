@@ -1,6 +1,6 @@
 use Rattle.std.proofs.Common.{ap}
 use Rattle.store_core.specs.Value.{StoreValue}
-use Rattle.mail_ops.specs.KnownInstances.{knows_instance}
+use Rattle.store_core.specs.Knows.{knows_instance}
 use Rattle.mail_ops.proofs.laws.known_instances_stay.Goals as goal
 
 pub returns-clause-rest : goal.returns-clause-rest

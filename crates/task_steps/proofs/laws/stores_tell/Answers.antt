@@ -1,4 +1,4 @@
-use Rattle.task_steps.proofs.SeenLemmas.{due_is, is_new, pinned_as, never_used, first_doomed, comes_to_on}
+use Rattle.task_steps.proofs.SeenLemmas.{due_is, is_new, pinned_as, never_used, first_doomed, instance_still_known, places_new, comes_to_on}
 use Rattle.task_steps.proofs.laws.stores_tell.Goals as goal
 
 pub returns-clause-due : goal.returns-clause-due
@@ -15,6 +15,12 @@ returns-clause-unused c = never_used
 
 pub returns-clause-dooms : goal.returns-clause-dooms
 returns-clause-dooms c = first_doomed
+
+pub returns-clause-placed : goal.returns-clause-placed
+returns-clause-placed c = places_new
+
+pub returns-clause-known : goal.returns-clause-known
+returns-clause-known c = instance_still_known
 
 pub returns-clause-on : goal.returns-clause-on
 returns-clause-on c = comes_to_on
