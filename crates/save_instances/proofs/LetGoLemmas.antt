@@ -1,16 +1,16 @@
 -- Instances that are let go, one after another.
 use Rattle.std.specs.Str.{bytes_eq}
-use Rattle.std.proofs.Common.{◌≡◌, ◌<◌, ◌≤◌, ◌+◌, ℕ, Bool, cond, List, ◌∷◌, length, drop, get_or, refl, sym, ◌∙◌, ap, subst, arith}
+use Rattle.std.proofs.Common.{◌≡◌, ◌<◌, ◌≤◌, ◌+◌, ◌-◌, ℕ, Bool, cond, List, ◌∷◌, length, drop, get_or, refl, sym, ◌∙◌, ap, subst, arith}
 use Rattle.std.proofs.Math.ListN.{drop_of_length-le}
 use Rattle.std.proofs.lemmas.List.{drop_more}
 use Rattle.std.proofs.lemmas.List.Sums.{sum_by-cons}
 use Rattle.mdbox_base.specs.declared.entries.InstRow.{InstRow}
 use Rattle.model_octets.proofs.SearchLemmas.{text_yes}
-use Rattle.sis_store.specs.Instances.{holders_in}
+use Rattle.sis_store.specs.Instances.{holders_in, with_holders}
 use Rattle.sis_store.specs.declared.instance.KnownInstance.{KnownInstance}
 use Rattle.store_core.specs.Keeping.{MovesHolds, holds_of}
 use Rattle.store_core.specs.Value.{StoreValue}
-use Rattle.save_instances.specs.Attaching.{AreHeld}
+use Rattle.save_instances.specs.Attaching.{AreHeld, found_let_go}
 
 -- the first of them is held
 held_once : (row : InstRow) (rows : List InstRow) → 1 ≤ holds_of (row ∷ rows) row.id
@@ -50,3 +50,19 @@ pub same_more : {D : Type 0} → (old store new : StoreValue D) (known : List Kn
 same_more old store new known first second =
     let e : new ≡ record old { instances = record old.instances { known = known } } = second ∙ ap (λ (s : StoreValue _). record s { instances = record s.instances { known = known } }) first in
     e ∙ ap (λ (ks : List KnownInstance). record old { instances = record old.instances { known = ks } }) (sym (ap (λ (s : StoreValue _). s.instances.known) e))
+
+-- what is known with one more let go, and where no row is left
+abbrev pub let_go_one : InstRow → List KnownInstance → List KnownInstance
+let_go_one row known = with_holders row.id (holders_in row.id known - 1) known
+
+pub known_more : {D : Type 0} → (found : List InstRow) (i : ℕ) (d : InstRow) (store new : StoreValue D) (all : List KnownInstance) → i < length found → found_let_go (drop i found) store.instances.known ≡ all
+    → new ≡ record store { instances = record store.instances { known = let_go_one (get_or found i d) store.instances.known } } → found_let_go (drop (i + 1) found) new.instances.known ≡ all
+known_more found i d store new all lt left same =
+    ap (λ (s : StoreValue _). found_let_go (drop (i + 1) found) s.instances.known) same
+    ∙ sym (ap (λ (rows : List InstRow). found_let_go rows store.instances.known) (drop_more found i d lt)) ∙ left
+
+pub known_all : {D : Type 0} → (found : List InstRow) (i : ℕ) (old store : StoreValue D) → length found ≤ i → found_let_go (drop i found) store.instances.known ≡ found_let_go found old.instances.known
+    → store ≡ record old { instances = record old.instances { known = store.instances.known } } → store ≡ record old { instances = record old.instances { known = found_let_go found old.instances.known } }
+known_all found i old store past left same =
+    let known : store.instances.known ≡ found_let_go found old.instances.known = sym (ap (λ (rows : List InstRow). found_let_go rows store.instances.known) (drop_of_length-le found past)) ∙ left in
+    same ∙ ap (λ (ks : List KnownInstance). record old { instances = record old.instances { known = ks } }) known

@@ -6,7 +6,7 @@ use Rattle.disk_model.specs.Disk.{History}
 use Rattle.mdbox_base.specs.declared.entries.InstRow.{InstRow}
 use Rattle.mdbox_base.specs.declared.ids.InstId.{InstId}
 use Rattle.sis_store.specs.Comparing.{IsUnlikeCompared, candidates_left}
-use Rattle.sis_store.specs.Instances.{InstancesValue, candidate_in, holders_in}
+use Rattle.sis_store.specs.Instances.{InstancesValue, candidate_in, holders_in, with_holders}
 use Rattle.sis_store.specs.declared.instance.KnownInstance.{KnownInstance}
 use Rattle.store_core.specs.Keeping.{holds_of}
 use Rattle.store_core.specs.StoreInstances.{IsFirstWith}
@@ -56,6 +56,15 @@ with_found row value = record value { found = value.found ++ row ∷ []; after =
 -- a candidate was compared, which has other octets
 abbrev pub with_compared : InstRow → ℕ → AttachingValue → AttachingValue
 with_compared candidate drawn value = record value { after = Some candidate.id; drawn = drawn }
+
+-- what is known after a candidate was found, which is held once more
+abbrev pub candidate_held : InstRow → List KnownInstance → List KnownInstance
+candidate_held row known = with_holders row.id (holders_in row.id known + 1) known
+
+-- what is known after instances were let go, once for each of these rows
+abbrev pub found_let_go : List InstRow → List KnownInstance → List KnownInstance
+found_let_go [] known = known
+found_let_go (row ∷ rows) known = found_let_go rows (with_holders row.id (holders_in row.id known - 1) known)
 
 -- how many attachments are left, and how many candidates of the next one
 abbrev pub parts_left : AttachingValue → ℕ

@@ -13,7 +13,7 @@ ghost use Rattle.store_core.specs.Keeping.{KeepsInstances, MovesHolds, holds_of}
 ghost use Rattle.store_core.specs.PlaceStops.{IsPlaceStop};
 ghost use Rattle.store_core.specs.StoreInstances.{with_placed};
 ghost use Rattle.store_core.specs.declared.error.PlaceStop.TheVariants as place_stop;
-ghost use Rattle.save_instances.specs.Attaching.{IsAttaching, compared_to, nothing_found, next_attachment, next_candidate, part_row, with_compared, with_found, attach_events_left};
+ghost use Rattle.save_instances.specs.Attaching.{IsAttaching, candidate_held, compared_to, nothing_found, next_attachment, next_candidate, part_row, with_compared, with_found, attach_events_left};
 
 use attach_detach::Detached;
 use disk_model::Disk;
@@ -123,6 +123,8 @@ impl Attaching {
         ensures alike { IfOk result (λ alike. (part : Detached) → next_attachment self.old ≡ Some part → IfTold (D.history store.old.disk) (λ now. IsTrue alike ↔ (reading (now (instance_file candidate)) ≡ Some part.octets))) }
         ensures ok { IfOk result (λ alike. self.new ≡ (if alike then with_found candidate self.old else with_compared candidate store.old.instances.highest self.old)) }
         ensures err { OnErr result (self.new ≡ self.old) }
+        ensures held { IfOk result (λ alike. store.new.instances.known ≡ (if alike then candidate_held candidate store.old.instances.known else store.old.instances.known)) }
+        ensures unheld { IsErr result → store.new ≡ record store.old { disk = store.new.disk } }
         ensures fewer { OnOk result (attach_events_left self.new store.new.instances < attach_events_left self.old store.old.instances) }
 
         // What was found stays found, also for other tasks, and is held; whatever is answered.
