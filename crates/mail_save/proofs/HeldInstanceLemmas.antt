@@ -1,28 +1,29 @@
--- The instances that a delivery will name stay so, as storage files change.
-use Rattle.std.proofs.Common.{◌≡◌, ℕ, List, [], ◌∷◌, All, Option, sym, subst, arith}
-use Rattle.std.proofs.lemmas.List.Elements.{All-nil, All-cons, All-head, All-tail, All-weaker}
+-- The instances that a delivery has found stay so, as other files change, and its record may name them.
+use Rattle.std.proofs.Common.{◌≡◌, ◌≤◌, ℕ, List, [], ◌∷◌, All, Option, length, sym, subst, arith}
+use Rattle.std.proofs.lemmas.List.Elements.{All-cons, All-head, All-nil, All-tail, All-weaker}
 use Rattle.disk_model.specs.Disk.{History, Between}
 use Rattle.disk_model.proofs.BetweenLemmas.{between-map, between-on}
-use Rattle.disk_model.proofs.MomentLemmas.{if_told-all}
 use Rattle.mdbox_base.specs.declared.entries.InstRow.{InstRow}
+use Rattle.save_instances.proofs.FoundLemmas.{of_parts_kept, rows_first, rows_known}
+use Rattle.save_instances.specs.Attaching.{AreHeld}
+use Rattle.saved_message.proofs.ReferenceLemmas.{parts_few}
+use Rattle.sis_store.specs.Instances.{InstancesValue}
 use Rattle.store_core.proofs.InstanceKeepingLemmas.{kept_same}
 use Rattle.store_core.specs.Keeping.{KeepsInstances, ReadsInstances}
 use Rattle.store_core.specs.StoreInstances.{IsFirstKnown, IsKnownRow}
 use Rattle.store_core.specs.Value.{StoreValue}
 use Rattle.mail_save.specs.Left.{HoldsInstances}
-use Rattle.mail_save.specs.MailFiles.{HasAppended, ReadsOtherMail, TakesWithHeader}
+use Rattle.mail_save.specs.MailFiles.{HasAppended, ReadsOtherMail, ReadsSameMail, TakesWithHeader}
+use Rattle.mail_save.specs.Parts.{AreAttached}
+use Rattle.mail_save.specs.Task.{IsAttached}
+use Rattle.mail_save.specs.declared.first.SavedParts.{SavedParts}
 
-pub holds_none : {D : Type 0} → (rows : List InstRow) (store : StoreValue D) (history : Option History) → rows ≡ [] → HoldsInstances rows store history
-holds_none rows store history none = subst (λ (is : List InstRow). HoldsInstances is store history) (sym none) (record {
-  known = All-nil (IsKnownRow store.instances.known);
-  first = if_told-all (λ now. All (IsFirstKnown store.instances.known now) []) history (λ now. All-nil (IsFirstKnown store.instances.known now));
-  few = omega arith;
-})
+-- ---- what leaves the instances leaves those that are held
 
--- what leaves the instances leaves those that are held
-pub holds_on : {D : Type 0} → (rows : List InstRow) (old new : StoreValue D) (before after : Option History) → KeepsInstances old new before after → HoldsInstances rows old before → HoldsInstances rows new after
-holds_on rows old new before after keeps h = record {
+pub holds_on : {D : Type 0} → (rows : List InstRow) (old new : StoreValue D) (before after : Option History) → KeepsInstances old new before after → AreHeld rows new.instances.known → HoldsInstances rows old before → HoldsInstances rows new after
+holds_on rows old new before after keeps held h = record {
   known = All-weaker (IsKnownRow old.instances.known) (IsKnownRow new.instances.known) (λ row k. keeps.known row k) rows h.known;
+  held = held;
   first = between-on (λ a b. (row : InstRow) → IsKnownRow old.instances.known row → IsFirstKnown old.instances.known a row → IsFirstKnown new.instances.known b row) (λ now. All (IsFirstKnown old.instances.known now) rows) (λ now. All (IsFirstKnown new.instances.known now) rows) before after
       (λ a b kept all. both (IsFirstKnown old.instances.known a) (IsFirstKnown new.instances.known b) kept rows h.known all) keeps.first h.first;
   few = h.few;
@@ -32,12 +33,38 @@ holds_on rows old new before after keeps h = record {
     both P Q each [] known all = All-nil Q
     both P Q each (row ∷ is) known all = All-cons Q row is (each row (All-head (IsKnownRow old.instances.known) row is known) (All-head P row is all)) (both P Q each is (All-tail (IsKnownRow old.instances.known) row is known) (All-tail P row is all))
 
+pub held_same : {D : Type 0} → (rows : List InstRow) (old new : StoreValue D) → new.instances ≡ old.instances → AreHeld rows old.instances.known → AreHeld rows new.instances.known
+held_same rows old new same held = subst (λ (i : InstancesValue). AreHeld rows i.known) (sym same) held
+
+pub attached_on : {D : Type 0} → (name : List ℕ) (time : ℕ) (octets : List ℕ) (parts : SavedParts) (old new : StoreValue D) (before after : Option History) → KeepsInstances old new before after → AreAttached name time octets parts old before → AreAttached name time octets parts new after
+attached_on name time octets parts old new before after keeps a = record { prepared = a.prepared; form = a.form; laid = a.laid; found = of_parts_kept parts.rows a.prepared.parts old new before after keeps a.found; one_each = a.one_each }
+
+-- of a store whose instances are the same
+pub is_attached_on : {D : Type 0} → (name : List ℕ) (time : ℕ) (parts : SavedParts) (old new : StoreValue D) (before after : Option History) → KeepsInstances old new before after → new.instances ≡ old.instances → IsAttached name time parts old before → IsAttached name time parts new after
+is_attached_on name time parts old new before after keeps same a = ((a.0.0, a.0.1, attached_on name time a.0.0 parts old new before after keeps a.0.2), held_same parts.rows old new same a.1)
+
+-- ---- as storage files change
+
 read_other : (file : ℕ) (before after : Option History) → ReadsOtherMail file before after → Between ReadsInstances before after
 read_other file before after same = between-map _ ReadsInstances before after (λ a b both. both.1) same
 
--- a storage file was taken, or a region placed
-pub taken_holds : {D : Type 0} → (rows : List InstRow) (header : List ℕ) (file : ℕ) (old new : StoreValue D) (before after : Option History) → new.instances ≡ old.instances → TakesWithHeader header file old before after → HoldsInstances rows old before → HoldsInstances rows new after
-taken_holds rows header file old new before after same t h = holds_on rows old new before after (kept_same old new before after same (read_other file before after t.others)) h
+read_same : (before after : Option History) → ReadsSameMail before after → Between ReadsInstances before after
+read_same before after same = between-map _ ReadsInstances before after (λ a b both. both.1) same
 
-pub placed_holds : {D : Type 0} → (rows : List InstRow) (name : List ℕ) (time : ℕ) (octets guid : List ℕ) (file : ℕ) (old new : StoreValue D) (before after : Option History) → new.instances ≡ old.instances → HasAppended name time octets guid file before after → HoldsInstances rows old before → HoldsInstances rows new after
-placed_holds rows name time octets guid file old new before after same a h = holds_on rows old new before after (kept_same old new before after same (read_other file before after a.others)) h
+-- a storage file was taken, a region placed, or nothing written to the storage files and instances
+pub taken_keeps : {D : Type 0} → (header : List ℕ) (file : ℕ) (old new : StoreValue D) (before after : Option History) → new.instances ≡ old.instances → TakesWithHeader header file old before after → KeepsInstances old new before after
+taken_keeps header file old new before after same t = kept_same old new before after same (read_other file before after t.others)
+
+pub placed_keeps : {D : Type 0} → (region : List ℕ) (file : ℕ) (old new : StoreValue D) (before after : Option History) → new.instances ≡ old.instances → HasAppended region file before after → KeepsInstances old new before after
+placed_keeps region file old new before after same a = kept_same old new before after same (read_other file before after a.others)
+
+pub same_keeps : {D : Type 0} → (old new : StoreValue D) (before after : Option History) → new.instances ≡ old.instances → ReadsSameMail before after → KeepsInstances old new before after
+same_keeps old new before after same reads = kept_same old new before after same (read_same before after reads)
+
+-- ---- its record may name them
+
+pub holds_attached : {D : Type 0} → (name : List ℕ) (time : ℕ) (parts : SavedParts) (store : StoreValue D) (history : Option History) → IsAttached name time parts store history → HoldsInstances parts.rows store history
+holds_attached name time parts store history a =
+    let at : AreAttached name time a.0.0 parts store history = a.0.2 in
+    let few : length at.prepared.parts ≤ 512 = parts_few a.0.0 at.prepared a.0.1 at.form in
+    record { known = rows_known parts.rows at.prepared.parts store.instances.known history at.found; held = a.1; first = rows_first parts.rows at.prepared.parts store.instances.known history at.found; few = (let one = at.one_each in omega (arith, few, one)) }

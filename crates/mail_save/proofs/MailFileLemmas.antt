@@ -12,7 +12,6 @@ use Rattle.store_core.specs.Keeping.{KeepsMail}
 use Rattle.store_core.specs.Value.{StoreValue}
 use Rattle.mail_save.specs.MailFiles.{HasAppended, TakesWithHeader, ReadsOtherMail, ReadsSameMail}
 use Rattle.mail_save.specs.SaveEffects.{StoresNone, TakesNone}
-use Rattle.mail_save.specs.Saved.{saved_region}
 use Rattle.mail_save.specs.declared.place.SavedAt.{SavedAt}
 
 -- ---- nothing is written to them
@@ -72,11 +71,8 @@ took_new header file old before after none others keeps = record {
 
 -- ---- the message is placed
 
-pub appended : (name : List ℕ) (time : ℕ) (octets guid region : List ℕ) (file : ℕ) (before after : Option History) → region ≡ saved_region name time octets guid → SameButFor (Mail file) before after → Between (λ a b. IsAddedTo region (a (Mail file)) (b (Mail file))) before after → HasAppended name time octets guid file before after
-appended name time octets guid region file before after is others added = record {
-  others = others_same file before after others;
-  added = subst (λ (text : List ℕ). Between (λ a b. IsAddedTo text (a (Mail file)) (b (Mail file))) before after) is added;
-}
+pub appended : (region : List ℕ) (file : ℕ) (before after : Option History) → SameButFor (Mail file) before after → Between (λ a b. IsAddedTo region (a (Mail file)) (b (Mail file))) before after → HasAppended region file before after
+appended region file before after others added = record { others = others_same file before after others; added = added }
 
 -- ---- an event that was refused
 

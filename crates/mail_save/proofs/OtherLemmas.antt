@@ -108,28 +108,28 @@ untaken_keeps parts size why old new (inr (inr k)) =
     (λ number taken other. let apart = apart_of old k.1.file number k.1.free taken in (k.1.others number apart, k.1.ends number))
     (λ at h other. same_map at old new (ap (λ v. v.map) k.1.same) h)
 
-pub placing_keeps : {D : Type 0} → (parts : SavedParts) (file : FileNo) (at : SavedAt) (origin : ℕ) (rows : List InstRow) (old new : StoreValue D) → PlacesParts parts file at origin rows old new → KeepsOthers (stage.Placing parts file) old new
-placing_keeps parts file at origin rows old new p =
+pub placing_keeps : {D : Type 0} → (parts : SavedParts) (file : FileNo) (at : SavedAt) (rows : List InstRow) (old new : StoreValue D) → PlacesParts parts file at rows old new → KeepsOthers (stage.Placing parts file) old new
+placing_keeps parts file at rows old new p =
     keeps_by (stage.Placing parts file) old new (λ number taken other. (p.taken number, p.others number other)) (λ place h other. same_map place old new (ap (λ v. v.map) p.same) h)
 
 -- another message has another GUID, since it has another file
 other_message : {D : Type 0} → (at place : SavedAt) (store : StoreValue D) → HoldsRegion at store → HoldsRegion place store → (place.file.0 ≡ at.file.0 → ⊥) → at.guid.0 ≢ place.guid.0
 other_message at place store h other apart is = apart (sym other.guid_file ∙ (sym (ap (number_at 8) is) ∙ h.guid_file))
 
-pub storing_keeps : {D : Type 0} → (at : SavedAt) (origin : ℕ) (rows : List InstRow) (time size : ℕ) (room : Unit {0}) (added : Added) (old new : StoreValue D) → HoldsRegion at old → StoresPlaced at origin rows time size added old new → KeepsOthers (stage.Storing at origin rows room) old new
-storing_keeps at origin rows time size room added old new mine s =
-    keeps_by (stage.Storing at origin rows room) old new (λ number taken other. (s.others number other, s.ends number)) (λ place h other.
+pub storing_keeps : {D : Type 0} → (at : SavedAt) (rows : List InstRow) (time size : ℕ) (room : Unit {0}) (added : Added) (old new : StoreValue D) → HoldsRegion at old → StoresPlaced at rows time size added old new → KeepsOthers (stage.Storing at rows room) old new
+storing_keeps at rows time size room added old new mine s =
+    keeps_by (stage.Storing at rows room) old new (λ number taken other. (s.others number other, s.ends number)) (λ place h other.
     subst (λ (m : MapMeaning). IsFree m place.file.0 place.offset place.size × All (λ row. row.guid ≢ place.guid.0) m.records) (sym s.map) (
-      free_by old.map (entry_stored origin rows added.map_uid at) place.file.0 place.offset place.size (λ row. counted_as false 0 row)
-          (All-cons (λ (row : MapRecord). row.file ≡ place.file.0 → ⊥) (saved_row origin rows added.map_uid at) [] (λ is. other (sym is)) (All-nil (λ (row : MapRecord). row.file ≡ place.file.0 → ⊥))) h.free,
-      new_by old.map (entry_stored origin rows added.map_uid at) place.guid.0 (λ row. counted_as false 0 row)
-          (All-cons (λ (row : MapRecord). row.guid ≢ place.guid.0) (saved_row origin rows added.map_uid at) [] (other_message at place old mine h other) (All-nil (λ (row : MapRecord). row.guid ≢ place.guid.0))) h.guid_new,
+      free_by old.map (entry_stored rows added.map_uid at) place.file.0 place.offset place.size (λ row. counted_as false 0 row)
+          (All-cons (λ (row : MapRecord). row.file ≡ place.file.0 → ⊥) (saved_row rows added.map_uid at) [] (λ is. other (sym is)) (All-nil (λ (row : MapRecord). row.file ≡ place.file.0 → ⊥))) h.free,
+      new_by old.map (entry_stored rows added.map_uid at) place.guid.0 (λ row. counted_as false 0 row)
+          (All-cons (λ (row : MapRecord). row.guid ≢ place.guid.0) (saved_row rows added.map_uid at) [] (other_message at place old mine h other) (All-nil (λ (row : MapRecord). row.guid ≢ place.guid.0))) h.guid_new,
     ))
 
-pub unstored_keeps : {D : Type 0} → (at : SavedAt) (origin : ℕ) (rows : List InstRow) (room : Unit {0}) (why : Refusal) (old new : StoreValue D) → StoresNone at why old new → KeepsOthers (stage.Storing at origin rows room) old new
-unstored_keeps at origin rows room why old new (inl k) = alone_keeps (stage.Storing at origin rows room) old new k.1
-unstored_keeps at origin rows room why old new (inr k) =
-    keeps_by (stage.Storing at origin rows room) old new (λ number taken other. (k.1.others number other, k.1.ends number)) (λ place h other. same_map place old new (ap (λ v. v.map) k.1.same) h)
+pub unstored_keeps : {D : Type 0} → (at : SavedAt) (rows : List InstRow) (room : Unit {0}) (why : Refusal) (old new : StoreValue D) → StoresNone at why old new → KeepsOthers (stage.Storing at rows room) old new
+unstored_keeps at rows room why old new (inl k) = alone_keeps (stage.Storing at rows room) old new k.1
+unstored_keeps at rows room why old new (inr k) =
+    keeps_by (stage.Storing at rows room) old new (λ number taken other. (k.1.others number other, k.1.ends number)) (λ place h other. same_map place old new (ap (λ v. v.map) k.1.same) h)
 
 pub lowering_keeps : {D : Type 0} → (uid : MapUid) (why : Refusal) (room : Unit {0}) (old new : StoreValue D) → LowersRecord uid old new → KeepsOthers (stage.GivingBack uid why room) old new
 lowering_keeps uid why room old new l =

@@ -13,12 +13,12 @@ use Rattle.model_meaning.specs.MapFits.{IsFree}
 use Rattle.model_store.specs.Settled.{IsSettledFor, Leaves}
 use Rattle.store_core.proofs.BoxCrashLemmas.{leaves_none}
 use Rattle.model_meaning.specs.MapMeaning.{MapMeaning, is_own, number_at}
+use Rattle.saved_message.specs.Region.{guid_of_place}
 use Rattle.storage_files.specs.Files.{end_in, is_taken_in}
 use Rattle.store_core.specs.Files.{IsNewPlace}
 use Rattle.store_core.specs.Value.{StoreValue, indexes_of}
 use Rattle.mail_save.specs.Left.{HoldsFile, HoldsRegion}
 use Rattle.mail_save.specs.SaveEffects.{IsLeftAlone}
-use Rattle.mail_save.specs.Saved.{place_guid}
 use Rattle.mail_save.specs.declared.place.SavedAt.{SavedAt}
 
 seam_take : (a b : List ℕ) (n : ℕ) → length a ≡ n → take n (a ++ b) ≡ a
@@ -33,15 +33,15 @@ four_long n = refl
 bytes_same : (a : List ℕ) → bytes_eq a a ≡ true
 bytes_same a = (bytes_eq-Decides a a).1 refl
 
-pub own_place : (store : List ℕ) (file offset : ℕ) → length store ≡ 8 → is_own store (place_guid store file offset) ≡ true
+pub own_place : (store : List ℕ) (file offset : ℕ) → length store ≡ 8 → is_own store (guid_of_place store file offset) ≡ true
 own_place store file offset long = ap (λ (x : List ℕ). bytes_eq x store) (seam_take store (to_be_bytes w32 file ++ to_be_bytes w32 offset) 8 long) ∙ bytes_same store
 
-pub file_of_place : (store : List ℕ) (file offset : ℕ) → length store ≡ 8 → file < 2 ^ 32 → number_at 8 (place_guid store file offset) ≡ file
+pub file_of_place : (store : List ℕ) (file offset : ℕ) → length store ≡ 8 → file < 2 ^ 32 → number_at 8 (guid_of_place store file offset) ≡ file
 file_of_place store file offset long small =
     ap (λ (x : List ℕ). from_be_bytes w32 (take 4 x)) (seam_drop store (to_be_bytes w32 file ++ to_be_bytes w32 offset) 8 long)
     ∙ (ap (from_be_bytes w32) (seam_take (to_be_bytes w32 file) (to_be_bytes w32 offset) 4 (four_long file)) ∙ from_be_bytes-to_be_bytes_4 file small)
 
-pub offset_of_place : (store : List ℕ) (file offset : ℕ) → length store ≡ 8 → offset < 2 ^ 32 → number_at 12 (place_guid store file offset) ≡ offset
+pub offset_of_place : (store : List ℕ) (file offset : ℕ) → length store ≡ 8 → offset < 2 ^ 32 → number_at 12 (guid_of_place store file offset) ≡ offset
 offset_of_place store file offset long small =
     let f : List ℕ = to_be_bytes w32 file in
     let o : List ℕ = to_be_bytes w32 offset in
@@ -50,7 +50,7 @@ offset_of_place store file offset long small =
     ap (λ (x : List ℕ). from_be_bytes w32 (take 4 x)) (whole ∙ sym (append-nil o)) ∙ (ap (from_be_bytes w32) (seam_take o [] 4 (four_long offset)) ∙ from_be_bytes-to_be_bytes_4 offset small)
 
 -- a GUID that names a new place is new
-pub guid_is_new : (m : MapMeaning) (file offset : ℕ) → length m.store ≡ 8 → file < 2 ^ 32 → offset < 2 ^ 32 → IsNewPlace m file offset → All (λ row. row.guid ≢ place_guid m.store file offset) m.records
+pub guid_is_new : (m : MapMeaning) (file offset : ℕ) → length m.store ≡ 8 → file < 2 ^ 32 → offset < 2 ^ 32 → IsNewPlace m file offset → All (λ row. row.guid ≢ guid_of_place m.store file offset) m.records
 guid_is_new m file offset long f o new = λ k d lt e.
     new k d lt (ap (is_own m.store) e ∙ own_place m.store file offset long) (ap (number_at 8) e ∙ file_of_place m.store file offset long f) (ap (number_at 12) e ∙ offset_of_place m.store file offset long o)
 
@@ -68,7 +68,7 @@ some_end a b e = cc e
 
 pub region_placed : {D : Type 0} (old new : StoreValue D) (at : SavedAt) (size : ℕ) → new.map ≡ old.map → length old.map.store ≡ 8 → at.file.0 < 2 ^ 32 → HoldsFile at.file.0 size old → at.size ≡ size
     → is_taken_in at.file.0 new.files.files ≡ is_taken_in at.file.0 old.files.files → end_in at.file.0 old.files.files ≡ Some at.offset → end_in at.file.0 new.files.files ≡ Some (at.offset + at.size)
-    → IsFree old.map at.file.0 at.offset at.size → IsNewPlace old.map at.file.0 at.offset → at.guid.0 ≡ place_guid old.map.store at.file.0 at.offset → HoldsRegion at new
+    → IsFree old.map at.file.0 at.offset at.size → IsNewPlace old.map at.file.0 at.offset → at.guid.0 ≡ guid_of_place old.map.store at.file.0 at.offset → HoldsRegion at new
 region_placed old new at size map_is long file_small held same_size taken began ends free new_place guid =
     let offset_is : held.end ≡ at.offset = some_end held.end at.offset (sym held.ends ∙ began) in
     let fits = held.fits in
@@ -87,9 +87,9 @@ region_placed old new at size map_is long file_small held same_size taken began 
     }
 
 -- the GUID that was made of the end that was read
-pub place_named : (store id : List ℕ) (file end offset : ℕ) {read : Option ℕ} → id ≡ store → read ≡ Some end → read ≡ Some offset → place_guid id file end ≡ place_guid store file offset
+pub place_named : (store id : List ℕ) (file end offset : ℕ) {read : Option ℕ} → id ≡ store → read ≡ Some end → read ≡ Some offset → guid_of_place id file end ≡ guid_of_place store file offset
 place_named store id file end offset {read} same there began =
-    ap (λ (s : List ℕ). place_guid s file end) same ∙ ap (place_guid store file) (some_end end offset (sym there ∙ began))
+    ap (λ (s : List ℕ). guid_of_place s file end) same ∙ ap (guid_of_place store file) (some_end end offset (sym there ∙ began))
 
 -- ---- a disk that was not changed
 

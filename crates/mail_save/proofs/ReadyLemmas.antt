@@ -1,11 +1,11 @@
 -- What events of a delivery leave ready for the next one.
-use Rattle.std.proofs.Common.{◌≡◌, ◌==◌, ◌≢◌, ◌||◌, ◌∷◌, ◌++◌, ℕ, Bool, true, false, List, [], map, Option, All, refl, sym, ◌∙◌, ap, subst, arith, take, drop, length, inl, inr}
-use Rattle.std.specs.Prelude.{cond, count_by, filter, if◌then◌else◌}
-use Rattle.std.specs.List.{AllByRecursion, list_any}
+use Rattle.std.proofs.Common.{◌≡◌, ◌==◌, ◌≢◌, ◌∷◌, ◌++◌, ℕ, Bool, false, List, [], map, Option, All, refl, sym, ◌∙◌, ap, subst, arith, take, drop, length, inl, inr}
+use Rattle.std.specs.Prelude.{cond, count_by}
+use Rattle.std.specs.List.{AllByRecursion}
 use Rattle.std.specs.Str.{bytes_eq}
-use Rattle.std.proofs.lemmas.Bool.{cases_Bool, false≢true}
+use Rattle.std.proofs.lemmas.Bool.{cases_Bool}
 use Rattle.std.proofs.lemmas.List.{length-append}
-use Rattle.std.proofs.lemmas.List.Elements.{All-nil, All-contains, All-head, All-tail}
+use Rattle.std.proofs.lemmas.List.Elements.{All-nil, All-cons, All-contains, All-head, All-tail}
 use Rattle.std.proofs.lemmas.List.Sums.{sum_by-cons}
 use Rattle.std.proofs.lemmas.Slice.Eq.{bytes_eq-Decides}
 use Rattle.std.proofs.Math.Seq.{drop-append_seam, take-length}
@@ -13,38 +13,39 @@ use Rattle.disk_model.specs.Disk.{DiskState, History, IfTold, reading}
 use Rattle.disk_model.specs.declared.name.FileName.TheVariants as file
 use Rattle.disk_model.proofs.BetweenLemmas.{between-on}
 use Rattle.disk_model.proofs.MomentLemmas.{if_told-map, if_told-both}
-use Rattle.mdbox_base.specs.Words.{IsOctets}
 use Rattle.mdbox_base.specs.declared.entries.BoxEntry.{BoxEntry}
 use Rattle.mdbox_base.specs.declared.entries.InstRow.{InstRow}
-use Rattle.mdbox_base.specs.declared.ids.Guid.{Guid}
 use Rattle.mdbox_base.specs.declared.ids.MapUid.{MapUid}
 use Rattle.model_appends.specs.Appending.{LeavesAsRead, message_made}
 use Rattle.model_lists.specs.Lists.{Lists}
 use Rattle.model_meaning.specs.BoxMeaning.{LogRow, BoxMeaning, box_meaning, rows_after, row_made}
 use Rattle.model_meaning.specs.MapMeaning.{MapRecord, MapMeaning, map_meaning}
-use Rattle.model_mime.specs.Parts.{parts_in}
-use Rattle.model_mime.specs.declared.mime.Part.{Part}
 use Rattle.model_octets.proofs.SearchLemmas.{found_one}
 use Rattle.model_store.specs.Listing.{refs_in}
 use Rattle.model_store.specs.Opening.{HasItsRecord}
 use Rattle.model_store.specs.Settled.{IsSettledFor, files_of}
 use Rattle.model_store.specs.Stands.{AreListed, StoresMessage}
+use Rattle.attach_detach.specs.declared.message.Detached.{Detached}
+use Rattle.attach_detach.specs.declared.message.Prepared.{Prepared}
+use Rattle.mdbox_base.specs.declared.ids.InstId.{InstId}
+use Rattle.model_store.specs.Stands.{HasInstances}
+use Rattle.save_instances.proofs.FoundLemmas.{rows_there}
+use Rattle.save_instances.specs.Attaching.{AreOfParts}
+use Rattle.saved_message.proofs.StoredLemmas.{hashes_own, written_detached, written_stores}
+use Rattle.saved_message.specs.Laid.{AreSixteen, IsLaid, LaidValue}
+use Rattle.saved_message.specs.Saved.{AreInstancesOf, CanBeWritten, HasWritten, ids_in}
+use Rattle.sis_store.specs.declared.instance.KnownInstance.{KnownInstance}
 use Rattle.store_core.specs.Dues.{KeepsStored}
 use Rattle.store_core.specs.Files.{EndsWith}
-use Rattle.store_core.specs.MapAppend.{IsSyncedRegion, HasItsHash, IsOwnSave}
+use Rattle.store_core.specs.MapAppend.{IsSyncedRegion, IsOwnSave}
 use Rattle.store_core.specs.Running.{IsStore}
 use Rattle.store_core.specs.Value.{StoreValue, indexes_of, references_to}
 use Rattle.mail_save.specs.Added.{entry_added}
-use Rattle.mail_save.specs.Events.{has_detachable}
 use Rattle.mail_save.specs.MailFiles.{ReadsSameMail}
-use Rattle.mail_save.specs.Parts.{origin_of}
 use Rattle.mail_save.specs.Ready.{IsRecordReady, IsRegionReady}
-use Rattle.mail_save.specs.SaveEffects.{StoresPlaced, saved_row}
-use Rattle.mail_save.specs.Saved.{saved_region}
-use Rattle.mail_save.specs.Stored.{CanBeSaved, HasRegionOctets}
+use Rattle.mail_save.specs.SaveEffects.{LetsGo, StoresPlaced, saved_row}
 use Rattle.mail_save.specs.declared.add.Added.{Added}
 use Rattle.mail_save.specs.declared.place.SavedAt.{SavedAt}
-use Rattle.mail_save.proofs.StoredMessageLemmas.{region_stores, region_detached}
 
 -- ---- the region that was placed
 
@@ -53,60 +54,71 @@ seam_part before region offset size long whole =
     ap (take size) (subst (λ (n : ℕ). drop n (before ++ region) ≡ region) long (drop-append_seam before region))
     ∙ subst (λ (n : ℕ). take n region ≡ region) whole (take-length region)
 
-region_there : (at : SavedAt) (origin : ℕ) (rows : List InstRow) (uid : MapUid) (region : List ℕ) (now : DiskState) → length region ≡ at.size → EndsWith at.offset region (now (file.Mail at.file.0)) → HasRegionOctets (files_of now) (saved_row origin rows uid at) region
-region_there at origin rows uid region now long e = record {
-  there = e.before ++ region;
+row_ids : (rows : List InstRow) → All (λ id. AreSixteen id.0) (ids_in rows) → All (λ inst. AreSixteen inst.id.0) rows
+row_ids [] are = All-nil (λ (inst : InstRow). AreSixteen inst.id.0)
+row_ids (row ∷ rows) are =
+    All-cons (λ (inst : InstRow). AreSixteen inst.id.0) row rows (All-head (λ (id : InstId). AreSixteen id.0) row.id (ids_in rows) are) (row_ids rows (All-tail (λ (id : InstId). AreSixteen id.0) row.id (ids_in rows) are))
+
+-- it has what is written of the message
+region_there : (at : SavedAt) (rows : List InstRow) (uid : MapUid) (name : List ℕ) (time : ℕ) (prepared : Prepared) (laid : LaidValue) (now : DiskState) → IsLaid name time prepared (ids_in rows) at.guid.0 laid → length laid.region ≡ at.size → AreInstancesOf prepared.parts rows
+    → EndsWith at.offset laid.region (now (file.Mail at.file.0)) → HasInstances (files_of now) rows (map (λ d. d.octets) prepared.parts) → HasWritten (files_of now) (saved_row rows uid at) name time prepared
+region_there at rows uid name time prepared laid now is long are e octets = record {
+  there = e.before ++ laid.region;
   in_file = e.reads;
-  inside = let both = length-append e.before region in let front = e.long in omega (arith, both, front, long);
-  region = seam_part e.before region at.offset at.size e.long long;
+  inside = let both = length-append e.before laid.region in let front = e.long in omega (arith, both, front, long);
+  region = seam_part e.before laid.region at.offset at.size e.long long ∙ is.region;
+  guid = is.guid_fits;
+  ids = row_ids rows is.ids_fit;
+  instances = are;
+  octets = octets;
 }
 
 -- a crash leaves it as it reads
-region_synced : (at : SavedAt) (origin : ℕ) (rows : List InstRow) (uid : MapUid) (region : List ℕ) (now : DiskState) → length region ≡ at.size → EndsWith at.offset region (now (file.Mail at.file.0)) → LeavesAsRead (file.Mail at.file.0) now → IsSyncedRegion now (saved_row origin rows uid at)
-region_synced at origin rows uid region now long e leaves = λ image is.
-    let h = region_there at origin rows uid region now long e in
-    record {
-      first = h.there;
-      second = h.there;
-      in_first = h.in_file;
-      in_second = leaves (image (file.Mail at.file.0)) (is (file.Mail at.file.0)) ∙ h.in_file;
-      first_holds = h.inside;
-      second_holds = h.inside;
-      same = refl;
-    }
+region_synced : (at : SavedAt) (rows : List InstRow) (uid : MapUid) (region : List ℕ) (now : DiskState) → length region ≡ at.size → EndsWith at.offset region (now (file.Mail at.file.0)) → LeavesAsRead (file.Mail at.file.0) now → IsSyncedRegion now (saved_row rows uid at)
+region_synced at rows uid region now long e leaves = λ image is. record {
+  first = e.before ++ region;
+  second = e.before ++ region;
+  in_first = e.reads;
+  in_second = leaves (image (file.Mail at.file.0)) (is (file.Mail at.file.0)) ∙ e.reads;
+  first_holds = let both = length-append e.before region in let front = e.long in omega (arith, both, front, long);
+  second_holds = let both = length-append e.before region in let front = e.long in omega (arith, both, front, long);
+  same = refl;
+}
 
-none_filtered : {A : Type 0} → (test : A → Bool) (xs : List A) → list_any test xs ≡ false → filter test xs ≡ []
-none_filtered test [] is = refl
-none_filtered test (x ∷ xs) is = by_test (test x) is (λ none. none_filtered test xs none)
-  where
-    by_test : (t : Bool) → (t || list_any test xs) ≡ false → (list_any test xs ≡ false → filter test xs ≡ []) → cond t (x ∷ filter test xs) (filter test xs) ≡ []
-    by_test true e rest = absurd (false≢true (sym e))
-    by_test false e rest = rest e
-
-own_is_whole : (octets : List ℕ) → origin_of octets ≡ 0 → filter (λ part. part.detachable) (parts_in octets) ≡ []
-own_is_whole octets own = none_filtered (λ (part : Part). part.detachable) (parts_in octets) (by_test (has_detachable octets) own)
-  where
-    by_test : (t : Bool) → ◌≡◌ {A = ℕ} (if t then 1 else 0) 0 → t ≡ false
-    by_test true e = absurd (omega (arith, e))
-    by_test false e = refl
-
-pub region_ready : (at : SavedAt) (origin : ℕ) (rows : List InstRow) (time : ℕ) (name octets : List ℕ) (after : Option History) → rows ≡ [] → origin ≡ origin_of octets → CanBeSaved name time octets → length at.guid.0 ≡ 16 → IsOctets at.guid.0 → length (saved_region name time octets at.guid.0) ≡ at.size
-    → IfTold after (λ now. EndsWith at.offset (saved_region name time octets at.guid.0) (now (file.Mail at.file.0))) → ((lists : Lists) → IsSettledFor lists after → IfTold after (LeavesAsRead (file.Mail at.file.0))) → IsRegionReady at origin rows name time octets after
-region_ready at origin rows time name octets after none is can sixteen each long placed held = record {
-  origin_is = is;
-  rows_are = none;
-  written = λ uid. if_told-map _ _ after (λ now e. region_there at origin rows uid (saved_region name time octets at.guid.0) now long e) placed;
-  stores = λ uid. if_told-map _ _ after (λ now e. stored uid now e) placed;
+pub region_ready : (at : SavedAt) (rows : List InstRow) (name : List ℕ) (time : ℕ) (octets : List ℕ) (prepared : Prepared) (laid : LaidValue) (after : Option History) → CanBeWritten name time octets prepared → IsLaid name time prepared (ids_in rows) at.guid.0 laid → length laid.region ≡ at.size
+    → AreInstancesOf prepared.parts rows → IfTold after (λ now. EndsWith at.offset laid.region (now (file.Mail at.file.0))) → IfTold after (λ now. HasInstances (files_of now) rows (map (λ d. d.octets) prepared.parts))
+    → ((lists : Lists) → IsSettledFor lists after → IfTold after (LeavesAsRead (file.Mail at.file.0))) → IsRegionReady at rows name time octets after
+region_ready at rows name time octets prepared laid after can is long are placed there held = record {
+  prepared = prepared;
+  form = can.form;
+  written = has;
+  stores = λ uid. if_told-map _ _ after (λ now h. (written_stores (files_of now) (saved_row rows uid at) name time octets prepared can h).0) (has uid);
   ready = λ uid lists s.
-      if_told-both _ _ (λ now. IsSyncedRegion now (saved_row origin rows uid at) × (origin ≡ 0 → IsOwnSave (files_of now) (saved_row origin rows uid at))) after
-      (λ now e leaves. (
-        region_synced at origin rows uid (saved_region name time octets at.guid.0) now long e leaves,
-        λ own. (λ other kept. region_detached (files_of now) (saved_row origin rows uid at) octets other (stored uid now e) none (own_is_whole octets (sym is ∙ own)) kept, subst (λ (rs : List InstRow). All (HasItsHash (files_of now)) rs) (sym none) (All-nil (HasItsHash (files_of now)))),
-      )) placed (held lists s);
+      if_told-both (λ now. HasWritten (files_of now) (saved_row rows uid at) name time prepared) (λ now. IsSyncedRegion now (saved_row rows uid at)) (λ now. IsSyncedRegion now (saved_row rows uid at) × (0 ≡ 0 → IsOwnSave (files_of now) (saved_row rows uid at))) after
+      (λ now h synced. (synced, λ own. (written_detached (files_of now) (saved_row rows uid at) name time octets prepared can h, hashes_own (files_of now) prepared.parts rows are can.form.hashes h.octets))) (has uid)
+      (if_told-both _ _ (λ now. IsSyncedRegion now (saved_row rows uid at)) after (λ now e leaves. region_synced at rows uid laid.region now long e leaves) placed (held lists s));
 }
   where
-    stored : (uid : MapUid) (now : DiskState) → EndsWith at.offset (saved_region name time octets at.guid.0) (now (file.Mail at.file.0)) → StoresMessage (files_of now) (saved_row origin rows uid at) octets
-    stored uid now e = region_stores (files_of now) (saved_row origin rows uid at) name time octets can (record { long = sixteen; each = each }) none (region_there at origin rows uid (saved_region name time octets at.guid.0) now long e)
+    has : (uid : MapUid) → IfTold after (λ now. HasWritten (files_of now) (saved_row rows uid at) name time prepared)
+    has uid = if_told-both _ _ (λ now. HasWritten (files_of now) (saved_row rows uid at) name time prepared) after (λ now e octets. region_there at rows uid name time prepared laid now is long are e octets) placed there
+
+-- ---- the instances of its attachments
+
+pub instances_are : (rows : List InstRow) (parts : List Detached) (known : List KnownInstance) (history : Option History) → AreOfParts rows parts known history → length rows ≡ length parts → AreInstancesOf parts rows
+instances_are [] [] known history are long = tt
+instances_are [] (part ∷ parts) known history are long = absurd (omega (arith, long))
+instances_are (row ∷ rows) [] known history are long = absurd are
+instances_are (row ∷ rows) (part ∷ parts) known history are long = (are.0.hash, instances_are rows parts known history are.1 (omega (arith, long)))
+
+pub instances_there : (rows : List InstRow) (parts : List Detached) (known : List KnownInstance) (history : Option History) → AreOfParts rows parts known history → length rows ≡ length parts → IfTold history (λ now. HasInstances (files_of now) rows (map (λ d. d.octets) parts))
+instances_there rows parts known history are long =
+    subst (λ (ps : List Detached). IfTold history (λ now. HasInstances (files_of now) rows (map (λ (d : Detached). d.octets) ps))) (ap (λ (n : ℕ). take n parts) long ∙ take-length parts) (rows_there rows parts known history are)
+
+same_instances : (a b : DiskState) (rows : List InstRow) (octets : List (List ℕ)) → ((hash id : List ℕ) → reading (b (file.Inst hash id)) ≡ reading (a (file.Inst hash id))) → HasInstances (files_of a) rows octets → HasInstances (files_of b) rows octets
+same_instances a b [] [] same h = tt
+same_instances a b [] (text ∷ rest) same h = absurd h
+same_instances a b (row ∷ rows) [] same h = absurd h
+same_instances a b (row ∷ rows) (text ∷ rest) same h = (same row.hash.0 row.id.0 ∙ h.0, same_instances a b rows rest same h.1)
 
 -- ---- no mailbox lists a message with a new GUID
 
@@ -140,21 +152,33 @@ unlisted store guid history s new =
 -- ---- the record that was stored
 
 -- a region that reads as it did
-region_reads : (row : MapRecord) (octets : List ℕ) (before after : Option History) → ReadsSameMail before after → IfTold before (λ now. HasRegionOctets (files_of now) row octets) → IfTold after (λ now. HasRegionOctets (files_of now) row octets)
-region_reads row octets before after same there =
-    between-on (λ a b. ((number : ℕ) → reading (b (file.Mail number)) ≡ reading (a (file.Mail number))) × ((hash id : List ℕ) → reading (b (file.Inst hash id)) ≡ reading (a (file.Inst hash id)))) (λ now. HasRegionOctets (files_of now) row octets) (λ now. HasRegionOctets (files_of now) row octets) before after
-    (λ a b kept h. record { there = h.there; in_file = kept.0 row.file ∙ h.in_file; inside = h.inside; region = h.region }) same there
+written_reads : (row : MapRecord) (name : List ℕ) (time : ℕ) (prepared : Prepared) (before after : Option History) → ReadsSameMail before after → IfTold before (λ now. HasWritten (files_of now) row name time prepared) → IfTold after (λ now. HasWritten (files_of now) row name time prepared)
+written_reads row name time prepared before after same there =
+    between-on (λ a b. ((number : ℕ) → reading (b (file.Mail number)) ≡ reading (a (file.Mail number))) × ((hash id : List ℕ) → reading (b (file.Inst hash id)) ≡ reading (a (file.Inst hash id)))) (λ now. HasWritten (files_of now) row name time prepared) (λ now. HasWritten (files_of now) row name time prepared) before after
+    (λ a b kept h. record {
+      there = h.there;
+      in_file = kept.0 row.file ∙ h.in_file;
+      inside = h.inside;
+      region = h.region;
+      guid = h.guid;
+      ids = h.ids;
+      instances = h.instances;
+      octets = same_instances a b row.instances (map (λ d. d.octets) prepared.parts) kept.1 h.octets;
+    }) same there
 
-pub record_ready : {D : Type 0} → (at : SavedAt) (origin : ℕ) (rows : List InstRow) (name : List ℕ) (time size : ℕ) (octets : List ℕ) (added : Added) (old new : StoreValue D) (before after : Option History) → IsStore before old → All (λ r. r.guid ≢ at.guid.0) old.map.records → StoresPlaced at origin rows time size added old new → size ≡ length octets
-    → IsRegionReady at origin rows name time octets before → KeepsStored before after → ReadsSameMail before after → IsRecordReady added name time octets new after
-record_ready at origin rows name time size octets added old new before after s guid_new made long region keeps same = record {
+pub record_ready : {D : Type 0} → (at : SavedAt) (rows : List InstRow) (name : List ℕ) (time size : ℕ) (octets : List ℕ) (added : Added) (old new : StoreValue D) (before after : Option History) → IsStore before old → All (λ r. r.guid ≢ at.guid.0) old.map.records → StoresPlaced at rows time size added old new → size ≡ length octets
+    → IsRegionReady at rows name time octets before → KeepsStored before after → ReadsSameMail before after → IsRecordReady added name time octets new after
+record_ready at rows name time size octets added old new before after s guid_new made long region keeps same = record {
   time_is = made.time_is;
   size_is = made.size_is ∙ long;
-  row = saved_row origin rows added.map_uid at;
+  prepared = region.prepared;
+  form = region.form;
+  row = saved_row rows added.map_uid at;
   there = made.there;
-  written = subst (λ (g : Guid). IfTold after (λ now. HasRegionOctets (files_of now) (saved_row origin rows added.map_uid at) (saved_region name time octets g.0))) (sym made.guid_is) (region_reads (saved_row origin rows added.map_uid at) (saved_region name time octets at.guid.0) before after same (region.written added.map_uid));
+  guid_is = sym (ap (λ g. g.0) made.guid_is);
+  written = written_reads (saved_row rows added.map_uid at) name time region.prepared before after same (region.written added.map_uid);
   brings = λ uid.
-      between-on _ (λ disk. StoresMessage (files_of disk) (saved_row origin rows added.map_uid at) octets) (λ now. AreListed (files_of now) new.map (row_made (entry_added uid added)) (message_made octets (entry_added uid added))) before after
+      between-on _ (λ disk. StoresMessage (files_of disk) (saved_row rows added.map_uid at) octets) (λ now. AreListed (files_of now) new.map (row_made (entry_added uid added)) (message_made octets (entry_added uid added))) before after
       (λ a b kept stores. (
         record {
           uid = refl;
@@ -162,12 +186,27 @@ record_ready at origin rows name time size octets added old new before after s g
           time = refl;
           guid = refl;
           size = sym (made.size_is ∙ long);
-          entry = saved_row origin rows added.map_uid at;
+          entry = saved_row rows added.map_uid at;
           found = made.there;
           same = ap (λ g. g.0) (sym made.guid_is);
-          octets = kept (saved_row origin rows added.map_uid at) octets stores;
+          octets = kept (saved_row rows added.map_uid at) octets stores;
         },
         tt,
       )) keeps (region.stores added.map_uid);
   unlisted = ap (λ (g : List ℕ). references_to new g) (ap (λ g. g.0) made.guid_is) ∙ (ap (λ v. refs_in (indexes_of v.boxes) at.guid.0) made.same ∙ unlisted old at.guid.0 before s guid_new);
 }
+
+-- the instances are let go behind it
+pub record_let_go : {D : Type 0} → (rows : List InstRow) (added : Added) (name : List ℕ) (time : ℕ) (octets : List ℕ) (left new : StoreValue D) (history : Option History) → LetsGo rows left new → IsRecordReady added name time octets left history → IsRecordReady added name time octets new history
+record_let_go rows added name time octets left new history same r = subst (λ (v : StoreValue _). IsRecordReady added name time octets v history) (sym same) (record {
+  time_is = r.time_is;
+  size_is = r.size_is;
+  prepared = r.prepared;
+  form = r.form;
+  row = r.row;
+  there = r.there;
+  guid_is = r.guid_is;
+  written = r.written;
+  brings = r.brings;
+  unlisted = r.unlisted;
+})

@@ -58,16 +58,16 @@ guid_drawn at store history is order held =
 
 -- ---- it fits
 
-pub record_fits : {D : Type 0} (origin : ℕ) (uid : MapUid) (at : SavedAt) (instances : List InstRow) (store : StoreValue D) (history : Option History) → AllPairs AgreesOn instances × All (λ other. All (λ row. All (AgreesOn row) other.instances) instances) store.map.records → IsStore history store → AreFilesInOrder store.files → HoldsRegion at store
-    → origin ≤ 1 → 1 ≤ at.size → uid.0 ≡ store.drawn.map + 1 → IsNumber uid.0 → FitsStored store.map origin uid.0 at.file.0 at.offset at.size at.guid.0 instances
-record_fits origin uid at instances store history agree is order held known some drawn number =
+pub record_fits : {D : Type 0} (uid : MapUid) (at : SavedAt) (instances : List InstRow) (store : StoreValue D) (history : Option History) → AllPairs AgreesOn instances × All (λ other. All (λ row. All (AgreesOn row) other.instances) instances) store.map.records → IsStore history store → AreFilesInOrder store.files → HoldsRegion at store
+    → 1 ≤ at.size → uid.0 ≡ store.drawn.map + 1 → IsNumber uid.0 → FitsStored store.map 0 uid.0 at.file.0 at.offset at.size at.guid.0 instances
+record_fits uid at instances store history agree is order held some drawn number =
     let up = is.drawn.map in
     let inside = held.inside in
     let small = held.small in
     let low = file_below at.file.0 store.files.highest held.end store.files.files order.below held.ends in
     let last = order.last in
     record {
-      known_origin = known;
+      known_origin = omega arith;
       uid_number = number;
       uid_new = omega (arith, up, drawn);
       region = record {
@@ -86,12 +86,12 @@ record_fits origin uid at instances store history agree is order held known some
 ends_behind : (number place end : ℕ) (files : List MailFile) → end_in number files ≡ Some end → place ≤ end → EndsBehind number place files
 ends_behind number place end files ends low = λ f found grows. (end, sym (ap (option_and_then (λ f. f.end)) found) ∙ ends, low)
 
-pub record_below : {D : Type 0} (origin : ℕ) (uid : MapUid) (at : SavedAt) (instances : List InstRow) (store : StoreValue D) → HoldsRegion at store → 1 ≤ at.size
-    → All (LiesBelowEnd store.map.store store.files.files) (stored_row origin 1 uid at.file at.offset at.size at.guid instances ∷ [])
-record_below origin uid at instances store held some =
+pub record_below : {D : Type 0} (uid : MapUid) (at : SavedAt) (instances : List InstRow) (store : StoreValue D) → HoldsRegion at store → 1 ≤ at.size
+    → All (LiesBelowEnd store.map.store store.files.files) (stored_row 0 1 uid at.file at.offset at.size at.guid instances ∷ [])
+record_below uid at instances store held some =
     let inside = held.inside in
     let offset = held.guid_offset in
-    All-cons (LiesBelowEnd store.map.store store.files.files) (stored_row origin 1 uid at.file at.offset at.size at.guid instances) [] (record {
+    All-cons (LiesBelowEnd store.map.store store.files.files) (stored_row 0 1 uid at.file at.offset at.size at.guid instances) [] (record {
       region = ends_behind at.file.0 (at.offset + at.size) held.end store.files.files held.ends inside;
       guid = λ own. subst (λ (n : ℕ). EndsBehind n (number_at 12 at.guid.0 + 1) store.files.files) (sym held.guid_file) (ends_behind at.file.0 (number_at 12 at.guid.0 + 1) held.end store.files.files held.ends (omega (arith, inside, offset, some)));
     }) (All-nil (LiesBelowEnd store.map.store store.files.files))
@@ -111,16 +111,16 @@ region_lies files row end is inside =
     let long = w.2 in
     record { octets = w.0; there = w.1; inside = omega (arith, inside, long) }
 
-pub record_lies : {D : Type 0} (origin : ℕ) (uid : MapUid) (at : SavedAt) (instances : List InstRow) (store : StoreValue D) (history : Option History) → HoldsRegion at store → IsAsKnown store.files.files at.file.0 history
-    → IfTold history (λ now. LiesInFile (files_of now) (stored_row origin 1 uid at.file at.offset at.size at.guid instances))
-record_lies origin uid at instances store history held known =
-    if_told-map (λ disk. option_map length (files_of disk (file.Mail at.file.0)) ≡ end_in at.file.0 store.files.files) (λ now. LiesInFile (files_of now) (stored_row origin 1 uid at.file at.offset at.size at.guid instances)) history
-    (λ disk is. region_lies (files_of disk) (stored_row origin 1 uid at.file at.offset at.size at.guid instances) held.end (is ∙ held.ends) held.inside) known
+pub record_lies : {D : Type 0} (uid : MapUid) (at : SavedAt) (instances : List InstRow) (store : StoreValue D) (history : Option History) → HoldsRegion at store → IsAsKnown store.files.files at.file.0 history
+    → IfTold history (λ now. LiesInFile (files_of now) (stored_row 0 1 uid at.file at.offset at.size at.guid instances))
+record_lies uid at instances store history held known =
+    if_told-map (λ disk. option_map length (files_of disk (file.Mail at.file.0)) ≡ end_in at.file.0 store.files.files) (λ now. LiesInFile (files_of now) (stored_row 0 1 uid at.file at.offset at.size at.guid instances)) history
+    (λ disk is. region_lies (files_of disk) (stored_row 0 1 uid at.file at.offset at.size at.guid instances) held.end (is ∙ held.ends) held.inside) known
 
 -- ---- ready
 
-pub ready_as : (origin : ℕ) (rows : List InstRow) (uid : MapUid) (at : SavedAt) (next : ℕ) (history : Option History) → uid.0 ≡ next → IsReadyToStore (entry_stored origin rows (record { 0 = next }) at) history → IsReadyToStore (entry_stored origin rows uid at) history
-ready_as origin rows uid at next history is ready = subst (λ (u : MapUid). IsReadyToStore (entry_stored origin rows u at) history) (ap (λ (n : ℕ). record { 0 = n }) (sym is)) ready
+pub ready_as : (rows : List InstRow) (uid : MapUid) (at : SavedAt) (next : ℕ) (history : Option History) → uid.0 ≡ next → IsReadyToStore (entry_stored rows (record { 0 = next }) at) history → IsReadyToStore (entry_stored rows uid at) history
+ready_as rows uid at next history is ready = subst (λ (u : MapUid). IsReadyToStore (entry_stored rows u at) history) (ap (λ (n : ℕ). record { 0 = n }) (sym is)) ready
 
 pub rows_in_range : (rows : List InstRow) → All RowInRange rows → AllByRecursion RowInRange rows
 rows_in_range rows h = recursion_from_All RowInRange rows h

@@ -28,11 +28,11 @@ use Rattle.list_machine.specs.Run.{EventPart, RunEvent, event_of, Run, and_then,
 use Rattle.list_machine.specs.Machine.{is_step, first_refusal, part_checks, checks_of}
 use Rattle.journal.specs.Journal.{half_of, halves_of, refusal_in, IsReplyOf}
 use Rattle.journal.specs.Events.{Around, Finds, DidPart, draws, has_memory, next_part, behind_event, behind_refused, makes_step, last_refusal, IsRepliedBy, begun_in, ended_in}
-use Rattle.journal.specs.Found.{AgreesWithRun, took_file, is_known_file}
+use Rattle.journal.specs.Found.{AgreesWithRun, took_file, is_known_file, is_known_instance, is_same_instance}
 use Rattle.journal.specs.Makes.{HasCome, StepOf}
 use Rattle.journal.proofs.RunLemmas.{entries_more, drawn_more, drawn_none, comes_on_with}
 use Rattle.task_steps.specs.Step.{Seen, ShowsSeen, was_given, was_used, HasComeTo, Went, Leads, IsFault, and_told, EndsRequest, GivesNew, DidEvent}
-use Rattle.task_steps.proofs.SeenLemmas.{no_guids, pins_still, used_still, doomed_still, file_still_known, file_now_known, instance_still_known}
+use Rattle.task_steps.proofs.SeenLemmas.{no_guids, pins_still, used_still, doomed_still, file_still_known, file_now_known, instance_still_known, gone_still, places_new}
 use Rattle.task_steps.proofs.OneEventLemmas.{one_refusal, some_refusal, nothing}
 
 -- ---- small facts
@@ -92,8 +92,9 @@ pub record LeavesPinned (event : RunEvent) : Type 0 where
   pub removed : event.removed ≡ []
   pub gone : event.gone ≡ []
 
--- What a store tells of its tasks, beside what is due: no file is used, pins, dooms and instances stay, GUIDs that may have been given stay so, and those of the
--- event are; the files that it knows are those that it knew, and those that the event took.
+-- What a store tells of its tasks, beside what is due: no file is used, pins and dooms stay, GUIDs that may have been given and
+-- instances that may be gone stay so, and the event's GUIDs were given; the files that it knows are those that it knew, and those
+-- that the event took; the instances those that it knew, and those that the event placed, which weren't gone.
 pub record TellsMore (event : RunEvent) (old new : Seen) : Type 0 where
   pub pins : (file : ℕ) → new.pins file ≡ old.pins file
   pub doomed : (file : ℕ) → new.doomed file ≡ old.doomed file
@@ -101,8 +102,9 @@ pub record TellsMore (event : RunEvent) (old new : Seen) : Type 0 where
   pub unused : (file : ℕ) → old.used file ≡ false
   pub gave : (guid : List ℕ) → old.gave guid ≡ true → new.gave guid ≡ true
   pub given : (guid : List ℕ) → list_any (bytes_eq guid) event.given ≡ true → new.gave guid ≡ true
+  pub gone : (instance : InstRow) → old.gone instance ≡ true → new.gone instance ≡ true
   pub files : (file : ℕ) → new.files file ≡ true → (old.files file ≡ true) ⊎ (took_file file event ≡ true)
-  pub instances : (instance : InstRow) → new.instances instance ≡ old.instances instance
+  pub instances : (instance : InstRow) → new.instances instance ≡ true → (old.instances instance ≡ true) ⊎ ((list_any (is_same_instance instance) event.placed ≡ true) × (old.gone instance ≡ false))
 
 not_so : (b : Bool) → (b ≡ true → ⊥) → b ≡ false
 not_so true f = absurd (f refl)
@@ -123,9 +125,14 @@ comes_to_more run event old new h come due leaves tells = record {
   used = λ file e. tells.used file ∙ h.used file (sym (used_still run event file leaves.doomed leaves.removed) ∙ e);
   gave = λ guid e. by_giver guid (either (was_given run guid) (list_any (bytes_eq guid) event.given) (sym (given_more run event guid) ∙ e));
   files = λ file e. by_taker file (tells.files file e);
-  instances = λ instance e. instance_still_known run event instance leaves.gone (h.instances instance (sym (tells.instances instance) ∙ e));
+  gone = λ instance e. tells.gone instance (h.gone instance (sym (gone_still run event instance leaves.gone) ∙ e));
+  instances = λ instance e. by_placer instance (tells.instances instance e);
 }
   where
+    by_placer : (instance : InstRow) → (old.instances instance ≡ true) ⊎ ((list_any (is_same_instance instance) event.placed ≡ true) × (old.gone instance ≡ false)) → is_known_instance (and_then run event) instance ≡ true
+    by_placer instance (inl e) = instance_still_known run event instance leaves.gone (h.instances instance e)
+    by_placer instance (inr e) = places_new run event old instance h e.1 leaves.gone e.0
+
     by_giver : (guid : List ℕ) → (was_given run guid ≡ true) ⊎ (list_any (bytes_eq guid) event.given ≡ true) → new.gave guid ≡ true
     by_giver guid (inl e) = tells.gave guid (h.gave guid e)
     by_giver guid (inr e) = tells.given guid e
@@ -306,7 +313,7 @@ did_unstepped around after run lane place said q part lists old new why ended ho
       faults = record { reads = reads; changes = changes; rose = rose };
     })
 
-step_calm : (why : Refusal) → is_step why ≡ true → why ≡ refusal.ReadFault → ⊥
+pub step_calm : (why : Refusal) → is_step why ≡ true → why ≡ refusal.ReadFault → ⊥
 step_calm why s e = let k : true ≡ false = sym s ∙ ap is_step e in cc k
 
 pub step_runs : (why : Refusal) → is_step why ≡ true → why ≡ refusal.Stopped → ⊥
@@ -333,15 +340,16 @@ did_check around after run lane place said q part lists old new why ended half c
 
 -- ---- a store before and after an event
 
--- It tells the same of its tasks, or more GUIDs that may have been given, or fewer files.
+-- It tells the same of its tasks, or more GUIDs that may have been given and instances that may be gone, or fewer files and instances.
 pub record KeepsTelling (old new : Seen) : Type 0 where
   pub pins : (file : ℕ) → new.pins file ≡ old.pins file
   pub doomed : (file : ℕ) → new.doomed file ≡ old.doomed file
   pub used : (file : ℕ) → new.used file ≡ old.used file
   pub unused : (file : ℕ) → old.used file ≡ false
   pub gave : (guid : List ℕ) → old.gave guid ≡ true → new.gave guid ≡ true
+  pub gone : (instance : InstRow) → old.gone instance ≡ true → new.gone instance ≡ true
   pub files : (file : ℕ) → new.files file ≡ true → old.files file ≡ true
-  pub instances : (instance : InstRow) → new.instances instance ≡ old.instances instance
+  pub instances : (instance : InstRow) → new.instances instance ≡ true → old.instances instance ≡ true
 
 none_of_none : (guid : List ℕ) (given : List (List ℕ)) → given ≡ [] → list_any (bytes_eq guid) given ≡ true → ⊥
 none_of_none guid given none some = let k : false ≡ true = sym (ap (list_any (bytes_eq guid)) none) ∙ some in cc k
@@ -354,8 +362,9 @@ tells_on event old new none k = record {
   unused = k.unused;
   gave = k.gave;
   given = λ guid some. absurd (none_of_none guid event.given none some);
+  gone = k.gone;
   files = λ file e. inl (k.files file e);
-  instances = k.instances;
+  instances = λ instance e. inl (k.instances instance e);
 }
 
 -- It goes on, with what it shows, and a settled disk.
@@ -411,7 +420,7 @@ stays_itself seen unused = record {
   map = refl;
   drawn = sym (drawn_none seen.drawn);
   due = λ uid. refl;
-  tells = record { pins = λ file. refl; doomed = λ file. refl; used = λ file. refl; unused = unused; gave = λ guid e. e; files = λ file e. e; instances = λ instance. refl };
+  tells = record { pins = λ file. refl; doomed = λ file. refl; used = λ file. refl; unused = unused; gave = λ guid e. e; gone = λ instance e. e; files = λ file e. e; instances = λ instance e. e };
   shown = λ lists shows. shows;
   grows = omega arith;
   reads = omega arith;
@@ -446,6 +455,24 @@ pub forgets : (around after : Around) (run : Run) (lane place : ℕ) (said : Lis
 forgets around after run lane place said q part lists old new ended can unpins come shows h s replied other =
     did_unstepped around after run lane place said q part lists old new refusal.NoMemory ended did.Quiet no_numbers can (refused_comes run lane place part refusal.NoMemory ended no_numbers old new unpins come s) (s.shown lists shows) s.grows refl memory_calm (refl, h.runs ∙ sym h.ran, h.leads lists) replied
     (memory_halts new.stopped h.runs ended other) (λ e. absurd (fall old.stopped e h.ran)) s.reads s.changes (λ x. absurd x)
+
+read_runs : Some (reply.Refused refusal.ReadFault) ≡ Some (reply.Refused refusal.Stopped) → ⊥
+read_runs e = let k : refusal.ReadFault ≡ refusal.Stopped = one_why refusal.ReadFault refusal.Stopped (one_reply (reply.Refused refusal.ReadFault) (reply.Refused refusal.Stopped) e) in cc k
+
+-- A read failed, and the request ends with that.
+pub misreads : (around after : Around) (run : Run) (lane place : ℕ) (said : List Reply) (q : Request) (part : EventPart) (lists : Lists) (old new : Seen) → CanRefuse around run place q part refusal.ReadFault (Some (reply.Refused refusal.ReadFault)) no_numbers → is_unpinning (event_of lane place part 0) ≡ false
+    → HasComeTo run old → ShowsSeen old lists → old.stopped ≡ false → new.stopped ≡ false → ((lists : Lists) → Leads lists lists old new) → StaysSo no_numbers old new → Rose old.faults.reads new.faults.reads → IsReplyOf q said (reply.Refused refusal.ReadFault)
+    → DidBy around after run lane place said q lists old new did.Quiet (Some (reply.Refused refusal.ReadFault)) (refusal_event lane place part refusal.ReadFault (Some (reply.Refused refusal.ReadFault)) no_numbers (told_calls new.history)) None
+misreads around after run lane place said q part lists old new can unpins come shows ran runs leads s rose is =
+    did_refused around after run lane place said q part lists old new refusal.ReadFault (Some (reply.Refused refusal.ReadFault)) None did.Quiet no_numbers can (refused_comes run lane place part refusal.ReadFault (Some (reply.Refused refusal.ReadFault)) no_numbers old new unpins come s) (s.shown lists shows) s.grows
+    (λ e. absurd (unstepped e)) refl refl (refl, runs ∙ sym ran, leads lists) (record {
+      in_turn = λ some. absurd (unstepped some);
+      replied = λ given e. subst (λ (r : Reply). IsReplyOf q said r) (one_reply (reply.Refused refusal.ReadFault) given e) is;
+      halts = record { 0 = λ e. absurd (read_runs e); 1 = λ e. absurd (fall new.stopped e runs) };
+      still = λ e. absurd (fall old.stopped e ran);
+      reads = λ e. rose;
+      faults = record { reads = s.reads; changes = s.changes; rose = λ x. absurd x };
+    })
 
 abbrev pub stopped_answer : Option Reply
 stopped_answer = Some (reply.Refused refusal.Stopped)

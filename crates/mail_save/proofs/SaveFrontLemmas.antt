@@ -1,11 +1,11 @@
 -- The events of a delivery up to that which stores the message, by the clause of a step.
-use Rattle.std.proofs.Common.{◌≡◌, ◌≤◌, ◌<◌, ◌+◌, ◌==◌, ◌||◌, ℕ, Bool, true, false, not, cond, List, [], ◌∷◌, ◌++◌, Option, Some, None, refl, sym, ◌∙◌, ap, subst, append_assoc, arith, inl}
+use Rattle.std.proofs.Common.{◌≡◌, ◌≤◌, ◌<◌, ◌+◌, ◌==◌, ◌||◌, ℕ, Bool, true, false, not, cond, List, [], ◌∷◌, ◌++◌, Option, Some, None, refl, sym, ◌∙◌, ap, subst, append_assoc, arith, inl, inr}
 use Rattle.std.specs.Prelude.{◌≢◌, nat_lt, nat_le, is_none, is_some, length, filter, flat_map, All, if◌then◌else◌}
-use Rattle.std.specs.List.{list_any}
+use Rattle.std.specs.List.{AllByRecursion, list_any}
 use Rattle.std.specs.Option.{IfSome, option_map_or, option_or}
 use Rattle.std.specs.Str.{bytes_eq}
 use Rattle.std.proofs.lemmas.Bool.{eq-eqb}
-use Rattle.std.proofs.lemmas.Grind.{common_steps}
+use Rattle.std.proofs.lemmas.Grind.{common_steps, flat_map-append}
 use Rattle.std.proofs.lemmas.List.{append-nil}
 use Rattle.std.proofs.lemmas.List.Elements.{All-nil, All-cons, All-append, filter-append}
 use Rattle.std.proofs.lemmas.List.Folds.{list_any-append}
@@ -19,39 +19,39 @@ use Rattle.mdbox_base.specs.declared.progress.Did.TheVariants as did
 use Rattle.mdbox_base.specs.declared.replies.Refusal.TheVariants as refusal
 use Rattle.mdbox_base.specs.declared.requests.Request.TheVariants as request
 use Rattle.model_lists.specs.Lists.{Lists}
-use Rattle.model_meaning.specs.MapMeaning.{MapMeaning, map_applied, no_numbers, guid_file, number_at, is_sealed}
+use Rattle.model_meaning.specs.MapMeaning.{MapMeaning, map_applied, no_numbers, guid_file, instance_number, number_at, is_sealed}
 use Rattle.model_mime.specs.Parts.{parts_in}
 use Rattle.list_machine.specs.Run.{First, Compares, PlacesInstance, TakesFile, PlacesMessage, StoresRecord, Last, RunEvent, event_of, Run, and_then, own_events, given_by_others, drawn_of, drawn_also}
 use Rattle.list_machine.specs.Machine.{first_refusal, refused_where, part_checks}
-use Rattle.journal.specs.Events.{Around, next_part, behind_event, instances_found}
+use Rattle.journal.specs.Events.{Around, next_part, instances_found}
 use Rattle.journal.specs.Found.{FindsPlace, IsFreeFile, is_known_instance, took_file}
 use Rattle.journal.proofs.OwnEventLemmas.{own_more}
 use Rattle.task_steps.specs.ExpungeStages.{one_due}
 use Rattle.task_steps.specs.Step.{Seen, ShowsSeen, was_given, HasComeTo, HasNotBegun, Steps}
 use Rattle.task_steps.proofs.SeenLemmas.{no_guids, is_new}
 use Rattle.journal.proofs.RunLemmas.{drawn_none}
-use Rattle.mail_save.specs.SaveStages.{IsTakingFile, IsPlacingMessage, IsStoringMessage, IsAddingMessage}
-use Rattle.mail_save.proofs.SaveRunLemmas.{takes_next, places_next, stores_next, taken_file, given_guid, found_rows}
+use Rattle.mail_save.specs.SaveStages.{AreAttachedSoFar, HasAttached, IsTakingFile, IsPlacingMessage, IsStoringMessage, IsAddingMessage}
+use Rattle.mail_save.proofs.SaveRunLemmas.{attaches_next, found_in, part_after, takes_next, places_next, stores_next, taken_file, given_guid, found_rows}
 use Rattle.mail_save.proofs.SaveDidLemmas.{some_part, given_more, HasRun, KeepsTelling, TellsMore, comes_drawn, comes_stored, comes_to_more, tells_on, quiet_on}
 
 -- ---- what an event finds
 
--- No part of the message is to be detached, and a file that has room may be taken.
+-- It knows how many parts of the message are to be detached; a candidate is known, and a file that has room may be taken.
 pub record SeesAround (octets : List ℕ) (around : Around) (seen : Seen) : Type 0 where
   pub parts : around.parts ≡ length (filter (λ part. part.detachable) (parts_in octets))
-  pub whole : around.parts ≡ 0
-  pub candidate : around.candidate ≡ None
+  pub candidate : (instance : InstRow) → around.candidate ≡ Some instance → seen.instances instance ≡ true
   pub some : (file : ℕ) → around.room ≡ Some file → 1 ≤ file
   pub known : (file : ℕ) → around.room ≡ Some file → seen.files file ≡ true
   pub unsealed : (file : ℕ) → around.room ≡ Some file → is_sealed seen.map file ≡ false
   pub undoomed : (file : ℕ) → around.room ≡ Some file → seen.doomed file ≡ false
 
 pub finds_place : (octets : List ℕ) (around : Around) (run : Run) (seen : Seen) → SeesAround octets around seen → HasComeTo run seen → FindsPlace run around
-finds_place octets around run seen s come = record {
-  candidate = subst (λ (o : Option InstRow). IfSome o (λ instance. is_known_instance run instance ≡ true)) (sym s.candidate) tt;
-  room = by_room around.room refl;
-}
+finds_place octets around run seen s come = record { candidate = by_candidate around.candidate refl; room = by_room around.room refl }
   where
+    by_candidate : (o : Option InstRow) → around.candidate ≡ o → IfSome o (λ instance. is_known_instance run instance ≡ true)
+    by_candidate None e = tt
+    by_candidate (Some instance) e = come.instances instance (s.candidate instance e)
+
     by_room : (o : Option ℕ) → around.room ≡ o → IfSome o (IsFreeFile run)
     by_room None e = tt
     by_room (Some file) e = record { some = s.some file e; known = come.files file (s.known file e); unsealed = ap (λ (m : MapMeaning). is_sealed m file) come.come.map_is ∙ s.unsealed file e; undoomed = come.doomed file ∙ s.undoomed file e }
@@ -66,6 +66,15 @@ pub record KeepsMap (old new : Seen) : Type 0 where
   pub run : HasRun old new
   pub map : new.map ≡ old.map
   pub due : (uid : ℕ) → new.due uid ≡ old.due uid
+
+-- behind an event that finds no file there is one
+by_tests : (b c d : Bool) → (if b then (if c then Some Compares else Some PlacesInstance) else Some (TakesFile d)) ≡ None → ⊥
+by_tests true true d e = some_part Compares e
+by_tests true false d e = some_part PlacesInstance e
+by_tests false c d e = some_part (TakesFile d) e
+
+never_last : (around : Around) (run : Run) (place : ℕ) → part_after around run place ≡ None → ⊥
+never_last around run place e = by_tests (nat_lt (length (instances_found place run)) around.parts) (is_some around.candidate) (is_none around.room) e
 
 pub begins_save : (around after : Around) (name : List ℕ) (time : ℕ) (octets : List ℕ) (old new : Seen) → SeesAround octets around old → KeepsMap old new → new.drawn ≡ old.drawn → KeepsTelling old new
     → ((run : Run) (lists : Lists) (event : RunEvent) → HasComeTo run old → ShowsSeen old lists → first_refusal run lists (part_checks run event (request.Deliver name time octets) First) ≡ None)
@@ -85,21 +94,99 @@ begins_save around after name time octets old new sees keeps drawn tells allowed
       part_is = ap (λ (es : List RunEvent). next_part around run q es) stood.0;
       allowed = allowed run lists event come shows;
       did = refl;
-      ends = record { 0 = λ h. absurd (h refl); 1 = λ h. absurd (never_ends after (and_then run event) lane place (told_calls new.history) h) };
+      ends = record { 0 = λ h. absurd (h refl); 1 = λ h. absurd (never_last after (and_then run event) place h) };
       replied = tt;
     })
     refl keeps.run
     (comes_to_more run event old new come (comes_drawn run event old new come keeps.map (drawn ∙ sym (drawn_none old.drawn)) keeps.run.grows refl refl) (λ uid. let e = keeps.due uid in omega (arith, e)) (record { pins = refl; unpins = refl; doomed = refl; removed = refl; gone = refl }) (tells_on event old new refl tells))
     (no_guids run event refl) shows
     (record { first = event; more = []; own_are = own_first place run event [] refl stood.0; laid = record { part = refl; did = refl }; attached = tt; found = refl }, stood.1)
-  where
-    by_tests : (b : Bool) (c : Bool) (d : Bool) → (if b then (if c then Some Compares else Some PlacesInstance) else Some (TakesFile d)) ≡ None → ⊥
-    by_tests true true d e = some_part Compares e
-    by_tests true false d e = some_part PlacesInstance e
-    by_tests false c d e = some_part (TakesFile d) e
 
-    never_ends : (around : Around) (run : Run) (lane place calls : ℕ) → behind_event around run (request.Deliver name time octets) (event_of lane place First calls) None ≡ None → ⊥
-    never_ends around run lane place calls e = by_tests (nat_lt (length (instances_found place run)) around.parts) (is_some around.candidate) (is_none around.room) e
+-- ---- an attachment is compared, or placed
+
+all_push : (P : RunEvent → Type 0) (events : List RunEvent) (event : RunEvent) → AllByRecursion P events → P event → AllByRecursion P (events ++ event ∷ [])
+all_push P [] event all one = (one, tt)
+all_push P (e ∷ es) event all one = (all.0, all_push P es event all.1 one)
+
+-- one more found an instance, or has compared one
+attached_more : (rows found : List InstRow) (place : ℕ) (run : Run) (event : RunEvent) → event.request ≡ place → HasAttached event → found_in event ≡ found → AreAttachedSoFar rows (own_events place run) → AreAttachedSoFar (rows ++ found) (own_events place (and_then run event))
+attached_more rows found place run event own attached is s = record {
+  first = s.first;
+  more = s.more ++ event ∷ [];
+  own_are = own_first place run event (s.first ∷ s.more) own s.own_are;
+  laid = s.laid;
+  attached = all_push HasAttached s.more event s.attached attached;
+  found = flat_map-append found_in s.more (event ∷ []) ∙ (ap (λ (is : List InstRow). is ++ (found_in event ++ [])) s.found ∙ ap (λ (is : List InstRow). rows ++ is) (append-nil (found_in event) ∙ is));
+}
+
+-- what was found with a candidate that is alike, or not
+abbrev pub found_with : Bool → InstRow → List InstRow → List InstRow
+found_with alike candidate rows = if alike then rows ++ candidate ∷ [] else rows
+
+found_more : (alike : Bool) (candidate : InstRow) (rows : List InstRow) → rows ++ (if alike then candidate ∷ [] else []) ≡ found_with alike candidate rows
+found_more true candidate rows = refl
+found_more false candidate rows = append-nil rows
+
+pub compares_part : (around after : Around) (name : List ℕ) (time : ℕ) (octets : List ℕ) (rows : List InstRow) (candidate : InstRow) (alike : Bool) (old new : Seen) → SeesAround octets around old → around.candidate ≡ Some candidate → length rows < around.parts → KeepsMap old new → new.drawn ≡ old.drawn → KeepsTelling old new
+    → Steps (IsTakingFile rows) (IsTakingFile (found_with alike candidate rows)) around after (request.Deliver name time octets) old new did.Quiet None
+compares_part around after name time octets rows candidate alike old new sees next left keeps drawn tells = λ run lane place said lists come shows stood.
+    let q = request.Deliver name time octets in
+    let event : RunEvent = record (event_of lane place Compares (told_calls new.history)) { compared = candidate ∷ []; equal = if alike then candidate ∷ [] else [] } in
+    let s = stood.0 in
+    quiet_on around after run lane place said q lists old new event (IsTakingFile (found_with alike candidate rows))
+    (record {
+      lane_is = refl;
+      request_is = refl;
+      moment_is = refl;
+      ended_is = refl;
+      unrefused = refl;
+      finds = sees.parts;
+      found = finds_place octets around run old sees come;
+      part_is = attaches_next around run name time octets rows place left s ∙ ap (λ (o : Option InstRow). if is_some o then Some Compares else Some PlacesInstance) next;
+      allowed = refl;
+      did = (candidate, alike, next, refl);
+      ends = record { 0 = λ h. absurd (h refl); 1 = λ h. absurd (never_last after (and_then run event) place h) };
+      replied = tt;
+    })
+    refl keeps.run
+    (comes_to_more run event old new come (comes_drawn run event old new come keeps.map (drawn ∙ sym (drawn_none old.drawn)) keeps.run.grows refl refl) (λ uid. let e = keeps.due uid in omega (arith, e)) (record { pins = refl; unpins = refl; doomed = refl; removed = refl; gone = refl }) (tells_on event old new refl tells))
+    (no_guids run event refl) shows (
+      subst (λ (is : List InstRow). AreAttachedSoFar is (own_events place (and_then run event))) (found_more alike candidate rows)
+          (attached_more rows (if alike then candidate ∷ [] else []) place run event refl (record { part = inl refl; did = refl }) (append-nil (if alike then candidate ∷ [] else [])) s),
+      stood.1,
+    )
+
+-- the next running number
+few_left : (drawn : ℕ) → drawn < 4294967294 → nat_le 4294967294 drawn ≡ false
+few_left drawn l = grind (arith, common_steps, l)
+
+pub places_part : (around after : Around) (name : List ℕ) (time : ℕ) (octets : List ℕ) (rows : List InstRow) (row : InstRow) (old new : Seen) → SeesAround octets around old → around.candidate ≡ None → length rows < around.parts → instance_number old.map.store row.id.0 ≡ old.drawn.instance + 1 → old.drawn.instance < 4294967294
+    → KeepsMap old new → new.drawn ≡ drawn_also old.drawn (record no_numbers { instance = 1 }) → ((event : RunEvent) → event.given ≡ [] → event.placed ≡ row ∷ [] → TellsMore event old new)
+    → Steps (IsTakingFile rows) (IsTakingFile (rows ++ row ∷ [])) around after (request.Deliver name time octets) old new did.Quiet None
+places_part around after name time octets rows row old new sees none left number few keeps drawn tells = λ run lane place said lists come shows stood.
+    let q = request.Deliver name time octets in
+    let event : RunEvent = record (event_of lane place PlacesInstance (told_calls new.history)) { placed = row ∷ []; drew = record no_numbers { instance = 1 } } in
+    let s = stood.0 in
+    let id : run.store ≡ old.map.store = ap (λ (m : MapMeaning). m.store) come.come.map_is in
+    let same : (drawn_of run).instance ≡ old.drawn.instance = ap (λ (d : Highest). d.instance) come.come.drawn_is in
+    quiet_on around after run lane place said q lists old new event (IsTakingFile (rows ++ row ∷ []))
+    (record {
+      lane_is = refl;
+      request_is = refl;
+      moment_is = refl;
+      ended_is = refl;
+      unrefused = refl;
+      finds = sees.parts;
+      found = finds_place octets around run old sees come;
+      part_is = attaches_next around run name time octets rows place left s ∙ ap (λ (o : Option InstRow). if is_some o then Some Compares else Some PlacesInstance) none;
+      allowed = ap (λ (b : Bool). option_or (refused_where b (refusal.StoreFull 4294967294)) None) (few_left (drawn_of run).instance (omega (arith, same, few)));
+      did = (row, ap (λ (k : List ℕ). instance_number k row.id.0) id ∙ (number ∙ ap (λ (n : ℕ). n + 1) (sym same)), refl);
+      ends = record { 0 = λ h. absurd (h refl); 1 = λ h. absurd (never_last after (and_then run event) place h) };
+      replied = tt;
+    })
+    refl keeps.run
+    (comes_to_more run event old new come (comes_drawn run event old new come keeps.map drawn keeps.run.grows refl refl) (λ uid. let e = keeps.due uid in omega (arith, e)) (record { pins = refl; unpins = refl; doomed = refl; removed = refl; gone = refl }) (tells event refl refl))
+    (no_guids run event refl) shows (attached_more rows (row ∷ []) place run event refl (record { part = inr refl; did = refl }) refl s, stood.1)
 
 -- ---- a file is taken
 
@@ -107,9 +194,9 @@ took_itself : (lane place : ℕ) (new : Bool) (drew : Highest) (file other calls
 took_itself lane place new drew file other calls e = ap (λ (b : Bool). (b || (0 == other)) || false) (eq-eqb file other e)
 
 -- one that is there and has room
-pub takes_known : (around after : Around) (name : List ℕ) (time : ℕ) (octets : List ℕ) (rows : List InstRow) (file : ℕ) (old new : Seen) → SeesAround octets around old → around.room ≡ Some file → KeepsMap old new → new.drawn ≡ old.drawn → KeepsTelling old new
+pub takes_known : (around after : Around) (name : List ℕ) (time : ℕ) (octets : List ℕ) (rows : List InstRow) (file : ℕ) (old new : Seen) → SeesAround octets around old → length rows ≡ around.parts → around.room ≡ Some file → KeepsMap old new → new.drawn ≡ old.drawn → KeepsTelling old new
     → Steps (IsTakingFile rows) (IsPlacingMessage rows file) around after (request.Deliver name time octets) old new did.Quiet None
-takes_known around after name time octets rows file old new sees room keeps drawn tells = λ run lane place said lists come shows stood.
+takes_known around after name time octets rows file old new sees all room keeps drawn tells = λ run lane place said lists come shows stood.
     let q = request.Deliver name time octets in
     let event : RunEvent = record (event_of lane place (TakesFile false) (told_calls new.history)) { files = record { file = file; target = 0 } ∷ [] } in
     let s = stood.0 in
@@ -122,7 +209,7 @@ takes_known around after name time octets rows file old new sees room keeps draw
       unrefused = refl;
       finds = sees.parts;
       found = finds_place octets around run old sees come;
-      part_is = takes_next around run name time octets rows place sees.whole s ∙ ap (λ (r : Option ℕ). Some (TakesFile (is_none r))) room;
+      part_is = takes_next around run name time octets rows place all s ∙ ap (λ (r : Option ℕ). Some (TakesFile (is_none r))) room;
       allowed = refl;
       did = ap (λ (r : Option ℕ). record (event_of lane place (TakesFile false) (told_calls new.history)) { files = record { file = option_map_or (λ f. f) r ((drawn_of run).file + 1); target = 0 } ∷ [] }) (sym room);
       ends = record { 0 = λ h. absurd (h refl); 1 = λ h. absurd (some_part PlacesMessage h) };
@@ -137,10 +224,10 @@ takes_known around after name time octets rows file old new sees room keeps draw
 next_fits : (drawn : ℕ) → drawn < 4294967294 → nat_lt 4294967294 (drawn + 1) ≡ false
 next_fits drawn l = grind (arith, common_steps, l)
 
-pub takes_new : (around after : Around) (name : List ℕ) (time : ℕ) (octets : List ℕ) (rows : List InstRow) (file : ℕ) (old new : Seen) → SeesAround octets around old → around.room ≡ None → file ≡ old.drawn.file + 1 → old.drawn.file < 4294967294 → KeepsMap old new → new.drawn ≡ drawn_also old.drawn (record no_numbers { file = 1 })
+pub takes_new : (around after : Around) (name : List ℕ) (time : ℕ) (octets : List ℕ) (rows : List InstRow) (file : ℕ) (old new : Seen) → SeesAround octets around old → length rows ≡ around.parts → around.room ≡ None → file ≡ old.drawn.file + 1 → old.drawn.file < 4294967294 → KeepsMap old new → new.drawn ≡ drawn_also old.drawn (record no_numbers { file = 1 })
     → ((event : RunEvent) → event.given ≡ [] → ((other : ℕ) → file ≡ other → took_file other event ≡ true) → TellsMore event old new)
     → Steps (IsTakingFile rows) (IsPlacingMessage rows file) around after (request.Deliver name time octets) old new did.Quiet None
-takes_new around after name time octets rows file old new sees room next few keeps drawn tells = λ run lane place said lists come shows stood.
+takes_new around after name time octets rows file old new sees all room next few keeps drawn tells = λ run lane place said lists come shows stood.
     let q = request.Deliver name time octets in
     let event : RunEvent = record (event_of lane place (TakesFile true) (told_calls new.history)) { files = record { file = file; target = 0 } ∷ []; drew = record no_numbers { file = 1 } } in
     let s = stood.0 in
@@ -155,7 +242,7 @@ takes_new around after name time octets rows file old new sees room next few kee
       unrefused = refl;
       finds = sees.parts;
       found = finds_place octets around run old sees come;
-      part_is = takes_next around run name time octets rows place sees.whole s ∙ ap (λ (r : Option ℕ). Some (TakesFile (is_none r))) room;
+      part_is = takes_next around run name time octets rows place all s ∙ ap (λ (r : Option ℕ). Some (TakesFile (is_none r))) room;
       allowed = ap (λ (b : Bool). option_or (refused_where b (refusal.StoreFull 4294967294)) None) (next_fits (drawn_of run).file (omega (arith, same, few)));
       did = ap (λ (n : ℕ). record (event_of lane place (TakesFile true) (told_calls new.history)) { files = record { file = n; target = 0 } ∷ []; drew = record no_numbers { file = 1 } }) number
           ∙ ap (λ (r : Option ℕ). record (event_of lane place (TakesFile true) (told_calls new.history)) { files = record { file = option_map_or (λ f. f) r ((drawn_of run).file + 1); target = 0 } ∷ []; drew = record no_numbers { file = 1 } }) (sym room);
@@ -235,7 +322,7 @@ places_message around after name time octets rows file guid old new sees long ea
     })
     refl keeps.run
     (comes_to_more run event old new come (comes_drawn run event old new come keeps.map (drawn ∙ sym (drawn_none old.drawn)) keeps.run.grows refl refl) (λ uid. let e = keeps.due uid in omega (arith, e)) (record { pins = refl; unpins = refl; doomed = refl; removed = refl; gone = refl })
-    (record { pins = tells.pins; doomed = tells.doomed; used = tells.used; unused = tells.unused; gave = tells.gave; given = λ g some. by_guid g some; files = λ f e. inl (tells.files f e); instances = tells.instances }))
+    (record { pins = tells.pins; doomed = tells.doomed; used = tells.used; unused = tells.unused; gave = tells.gave; given = λ g some. by_guid g some; gone = tells.gone; files = λ f e. inl (tells.files f e); instances = λ i e. inl (tells.instances i e) }))
     (All-cons (λ (g : List ℕ). was_given run g ≡ false) guid [] unknown (All-nil (λ (g : List ℕ). was_given run g ≡ false))) shows (
       record { front = s.front; second = s.second; third = event; own_are = own_first place run event (s.front ++ s.second ∷ []) refl s.own_are ∙ append_assoc s.front (s.second ∷ []) (event ∷ []); attached = s.attached; took = s.took; placed = record { part = refl; did = refl } },
       own,

@@ -91,9 +91,10 @@ lowering_stays uid why run place said event other new stood =
 
 pub save_kept : (now : SaveStage) → IsKept (IsAtSave now)
 save_kept (stage.First prepared) = not_begun_stays
+save_kept (stage.Attaching parts attaching) = taking_stays attaching.found
 save_kept (stage.Taking parts) = taking_stays parts.rows
 save_kept (stage.Placing parts file) = placing_stays parts.rows file.0
-save_kept (stage.Storing at origin rows room) = storing_stays rows at.file.0 at.guid.0
+save_kept (stage.Storing at rows room) = storing_stays rows at.file.0 at.guid.0
 save_kept (stage.Adding added room) = adding_stays added.guid.0 added.map_uid.0
 save_kept (stage.GivingBack uid why room) = lowering_stays uid.0 why
 save_kept stage.Ended = λ run place said event other new stood. absurd stood

@@ -44,9 +44,10 @@ adding_moments added room name time size next answer how old new before after be
 pub save_moments : {D : Type 0} → (now next : SaveStage) (name : List ℕ) (time size : ℕ) (answer : Progress) (how : Did) (old new : StoreValue D) (before after : Option History) (began ended : Faults) → LogsShowLists → IsStore before old → old.stopped ≡ false
     → Saves now next name time size answer how old new before after began ended → (octets : List ℕ) → IsReadyToSave now name time size octets old before → (lists : Lists) → IsSettledFor lists before → Leaves lists (save_lists now name octets lists) before after
 save_moments (stage.First prepared) next name time size answer how old new before after began ended show is runs s octets ready lists at = s.moments lists at
+save_moments (stage.Attaching parts attaching) next name time size answer how old new before after began ended show is runs s octets ready lists at = s.moments lists at
 save_moments (stage.Taking parts) next name time size answer how old new before after began ended show is runs s octets ready lists at = s.moments lists at
 save_moments (stage.Placing parts file) next name time size answer how old new before after began ended show is runs s octets ready lists at = s.moments lists at
-save_moments (stage.Storing place origin rows room) next name time size answer how old new before after began ended show is runs s octets ready lists at = s.moments lists (ready.1.ready (record { 0 = old.drawn.map + 1 }) lists at) at
+save_moments (stage.Storing place rows room) next name time size answer how old new before after began ended show is runs s octets ready lists at = s.moments lists (ready.1.ready (record { 0 = old.drawn.map + 1 }) lists at) at
 save_moments (stage.Adding added room) next name time size answer how old new before after began ended show is runs s octets ready lists at = adding_moments added room name time size next answer how old new before after began ended show is runs s octets ready.1 lists at
 save_moments (stage.GivingBack uid why room) next name time size answer how old new before after began ended show is runs s octets ready lists at = s.moments lists at
 save_moments stage.Ended next name time size answer how old new before after began ended show is runs s octets ready lists at = s.moments lists at
@@ -71,9 +72,10 @@ adding_rests added room name time size next answer how old new before after bega
 pub save_rests : {D : Type 0} → (now next : SaveStage) (name : List ℕ) (time size : ℕ) (answer : Progress) (how : Did) (old new : StoreValue D) (before after : Option History) (began ended : Faults) → LogsShowLists → IsStore before old → old.stopped ≡ false
     → Saves now next name time size answer how old new before after began ended → new.stopped ≡ false → (octets : List ℕ) → IsReadyToSave now name time size octets old before → (lists : Lists) → IsSettledFor lists before → IsSettledFor (lists_delivered now name octets answer lists) after
 save_rests (stage.First prepared) next name time size answer how old new before after began ended show is runs s ran octets ready lists at = s.rests ran lists at
+save_rests (stage.Attaching parts attaching) next name time size answer how old new before after began ended show is runs s ran octets ready lists at = s.rests ran lists at
 save_rests (stage.Taking parts) next name time size answer how old new before after began ended show is runs s ran octets ready lists at = s.rests ran lists at
 save_rests (stage.Placing parts file) next name time size answer how old new before after began ended show is runs s ran octets ready lists at = s.rests ran lists at
-save_rests (stage.Storing place origin rows room) next name time size answer how old new before after began ended show is runs s ran octets ready lists at = s.rests ran lists (ready.1.ready (record { 0 = old.drawn.map + 1 }) lists at) at
+save_rests (stage.Storing place rows room) next name time size answer how old new before after began ended show is runs s ran octets ready lists at = s.rests ran lists (ready.1.ready (record { 0 = old.drawn.map + 1 }) lists at) at
 save_rests (stage.Adding added room) next name time size answer how old new before after began ended show is runs s ran octets ready lists at = adding_rests added room name time size next answer how old new before after began ended show is runs s ran octets ready.1 lists at
 save_rests (stage.GivingBack uid why room) next name time size answer how old new before after began ended show is runs s ran octets ready lists at = s.rests ran lists at
 save_rests stage.Ended next name time size answer how old new before after began ended show is runs s ran octets ready lists at = s.rests ran lists at

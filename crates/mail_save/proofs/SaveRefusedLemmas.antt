@@ -1,6 +1,6 @@
 -- Events of a delivery that were refused, by the clause of a step.
-use Rattle.std.proofs.Common.{◌≡◌, ◌+◌, ℕ, Bool, true, false, List, [], ◌∷◌, ◌++◌, ◌⊎◌, Option, Some, None, refl, sym, ◌∙◌, ap, subst, inl, inr}
-use Rattle.std.specs.Prelude.{nat_lt, nat_le, is_none, length, slice_get}
+use Rattle.std.proofs.Common.{◌≡◌, ◌<◌, ◌+◌, ℕ, Bool, true, false, List, [], ◌∷◌, ◌++◌, ◌⊎◌, Option, Some, None, refl, sym, ◌∙◌, ap, subst, inl, inr}
+use Rattle.std.specs.Prelude.{nat_lt, nat_le, is_none, is_some, length, slice_get, if◌then◌else◌}
 use Rattle.std.specs.Option.{option_or}
 use Rattle.mdbox_base.specs.Streams.{Rose}
 use Rattle.mdbox_base.specs.declared.entries.Highest.{Highest}
@@ -15,15 +15,15 @@ use Rattle.mdbox_base.specs.declared.requests.Request.TheVariants as request
 use Rattle.mdbox_base.specs.declared.script.Half.TheVariants as half
 use Rattle.model_lists.specs.Lists.{Lists}
 use Rattle.model_meaning.specs.MapMeaning.{no_numbers}
-use Rattle.list_machine.specs.Run.{EventPart, First, TakesFile, PlacesMessage, StoresRecord, GivesBack, RunEvent, event_of, Run, own_events, is_unpinning, drawn_of}
+use Rattle.list_machine.specs.Run.{EventPart, First, Compares, PlacesInstance, TakesFile, PlacesMessage, StoresRecord, GivesBack, RunEvent, event_of, Run, own_events, is_unpinning, drawn_of}
 use Rattle.list_machine.specs.Machine.{first_refusal, refused_where, part_checks, is_step}
 use Rattle.journal.specs.Journal.{refusal_in, IsReplyOf}
 use Rattle.journal.specs.Events.{Around, next_part, behind_refused, has_memory, draws}
-use Rattle.task_steps.specs.Step.{Seen, ShowsSeen, HasComeTo, HasNotBegun, Steps, Stops}
+use Rattle.task_steps.specs.Step.{Seen, ShowsSeen, HasComeTo, HasNotBegun, Leads, Steps, Stops}
 use Rattle.task_steps.proofs.OneEventLemmas.{never_more}
 use Rattle.mail_save.specs.SaveStages.{IsTakingFile, IsPlacingMessage, IsStoringMessage, IsLoweringCount}
-use Rattle.mail_save.proofs.SaveRunLemmas.{takes_next, places_next, stores_next, gives_back_next}
-use Rattle.mail_save.proofs.SaveDidLemmas.{some_reply, one_reply, step_runs, CanRefuse, HasRun, StaysSo, refused_comes, did_check, forgets, stopped_answer, stops_before, falls}
+use Rattle.mail_save.proofs.SaveRunLemmas.{attaches_next, takes_next, places_next, stores_next, gives_back_next}
+use Rattle.mail_save.proofs.SaveDidLemmas.{some_reply, one_reply, step_runs, CanRefuse, HasRun, StaysSo, refused_comes, did_check, forgets, misreads, stopped_answer, stops_before, falls}
 use Rattle.mail_save.proofs.SaveFrontLemmas.{SeesAround, finds_place}
 
 abbrev pub deliver : List ℕ → ℕ → List ℕ → Request
@@ -41,6 +41,12 @@ ends_first name time octets = record { ends = λ why. refl; pinless = λ lane pl
 
 pub ends_taking : (name : List ℕ) (time : ℕ) (octets : List ℕ) (new : Bool) → EndsRefused name time octets (TakesFile new)
 ends_taking name time octets new = record { ends = λ why. refl; pinless = λ lane place. refl }
+
+pub ends_comparing : (name : List ℕ) (time : ℕ) (octets : List ℕ) → EndsRefused name time octets Compares
+ends_comparing name time octets = record { ends = λ why. refl; pinless = λ lane place. refl }
+
+pub ends_placing_instance : (name : List ℕ) (time : ℕ) (octets : List ℕ) → EndsRefused name time octets PlacesInstance
+ends_placing_instance name time octets = record { ends = λ why. refl; pinless = λ lane place. refl }
 
 pub ends_placing : (name : List ℕ) (time : ℕ) (octets : List ℕ) → EndsRefused name time octets PlacesMessage
 ends_placing name time octets = record { ends = λ why. refl; pinless = λ lane place. refl }
@@ -118,6 +124,19 @@ forgotten_save around after name time octets part Stood Stands old new sees ends
   λ e. absurd (never_more _ e),
 )
 
+unread_memory : refusal.ReadFault ≡ refusal.NoMemory → ⊥
+unread_memory e = cc e
+
+-- a read failed
+pub unread_save : (around after : Around) (name : List ℕ) (time : ℕ) (octets : List ℕ) (part : EventPart) (Stood Stands : Run → ℕ → List Reply → Type 0) (old new : Seen) → SeesAround octets around old → EndsRefused name time octets part → IsNextAt Stood around (deliver name time octets) part
+    → old.stopped ≡ false → new.stopped ≡ false → ((lists : Lists) → Leads lists lists old new) → StaysSo no_numbers old new → Rose old.faults.reads new.faults.reads
+    → Steps Stood Stands around after (deliver name time octets) old new did.Quiet (Some (reply.Refused refusal.ReadFault))
+unread_save around after name time octets part Stood Stands old new sees ends at ran runs leads stays rose = λ run lane place said lists come shows stood. (
+  (misreads around after run lane place said (deliver name time octets) part lists old new
+      (refuses_part around run place name time octets part refusal.ReadFault no_numbers old sees come ends (at.next run place said stood) (λ e. absurd (unread_memory e)) (nothing_drawn run (deliver name time octets) part) (λ s. refl)) (ends.pinless lane place) come shows ran runs leads stays rose tt).so,
+  λ e. absurd (never_more _ e),
+)
+
 pub step_replied : (name : List ℕ) (time : ℕ) (octets : List ℕ) (why : Refusal) → is_step why ≡ true → IsReplyOf (deliver name time octets) (reply.Refused why ∷ []) (reply.Refused why)
 step_replied name time octets refusal.NoMailbox s = refl
 step_replied name time octets refusal.Exists s = refl
@@ -152,8 +171,14 @@ checked_save around after name time octets part Stood Stands why old new sees en
 pub first_at : (around : Around) (q : Request) → IsNextAt HasNotBegun around q First
 first_at around q = record { next = λ run place said stood. ap (λ (es : List RunEvent). next_part around run q es) stood.0 }
 
-pub taking_at : (around : Around) (name : List ℕ) (time : ℕ) (octets : List ℕ) (rows : List InstRow) → around.parts ≡ 0 → IsNextAt (IsTakingFile rows) around (deliver name time octets) (TakesFile (is_none around.room))
-taking_at around name time octets rows none = record { next = λ run place said stood. takes_next around run name time octets rows place none stood.0 }
+pub taking_at : (around : Around) (name : List ℕ) (time : ℕ) (octets : List ℕ) (rows : List InstRow) → length rows ≡ around.parts → IsNextAt (IsTakingFile rows) around (deliver name time octets) (TakesFile (is_none around.room))
+taking_at around name time octets rows all = record { next = λ run place said stood. takes_next around run name time octets rows place all stood.0 }
+
+pub comparing_at : (around : Around) (name : List ℕ) (time : ℕ) (octets : List ℕ) (rows : List InstRow) (candidate : InstRow) → length rows < around.parts → around.candidate ≡ Some candidate → IsNextAt (IsTakingFile rows) around (deliver name time octets) Compares
+comparing_at around name time octets rows candidate left is = record { next = λ run place said stood. attaches_next around run name time octets rows place left stood.0 ∙ ap (λ (o : Option InstRow). if is_some o then Some Compares else Some PlacesInstance) is }
+
+pub placing_instance_at : (around : Around) (name : List ℕ) (time : ℕ) (octets : List ℕ) (rows : List InstRow) → length rows < around.parts → around.candidate ≡ None → IsNextAt (IsTakingFile rows) around (deliver name time octets) PlacesInstance
+placing_instance_at around name time octets rows left is = record { next = λ run place said stood. attaches_next around run name time octets rows place left stood.0 ∙ ap (λ (o : Option InstRow). if is_some o then Some Compares else Some PlacesInstance) is }
 
 pub placing_at : (around : Around) (name : List ℕ) (time : ℕ) (octets : List ℕ) (rows : List InstRow) (file : ℕ) → IsNextAt (IsPlacingMessage rows file) around (deliver name time octets) PlacesMessage
 placing_at around name time octets rows file = record { next = λ run place said stood. places_next around run name time octets rows file (own_events place run) stood.0 }
@@ -185,3 +210,9 @@ pub full_uids : (name : List ℕ) (time : ℕ) (octets : List ℕ) (seen : Seen)
     → (run : Run) (lists : Lists) (event : RunEvent) → HasComeTo run seen → ShowsSeen seen lists → first_refusal run lists (part_checks run event (deliver name time octets) StoresRecord) ≡ Some (refusal.StoreFull 4294967294)
 full_uids name time octets seen full run lists event come shows =
     ap (λ (b : Bool). option_or (refused_where b (refusal.StoreFull 4294967294)) None) (ap (λ (d : Highest). nat_le 4294967294 d.map) come.come.drawn_is ∙ full)
+
+-- the running numbers of instances are used up
+pub full_instances : (name : List ℕ) (time : ℕ) (octets : List ℕ) (seen : Seen) → nat_le 4294967294 seen.drawn.instance ≡ true
+    → (run : Run) (lists : Lists) (event : RunEvent) → HasComeTo run seen → ShowsSeen seen lists → first_refusal run lists (part_checks run event (deliver name time octets) PlacesInstance) ≡ Some (refusal.StoreFull 4294967294)
+full_instances name time octets seen full run lists event come shows =
+    ap (λ (b : Bool). option_or (refused_where b (refusal.StoreFull 4294967294)) None) (ap (λ (d : Highest). nat_le 4294967294 d.instance) come.come.drawn_is ∙ full)

@@ -1,7 +1,6 @@
 -- Which storage file has room for a message, and what a store tells of it.
-use Rattle.std.proofs.Common.{◌≡◌, ◌≤◌, ◌<◌, ◌+◌, ◌==◌, ◌&&◌, ◌||◌, ℕ, Bool, true, false, not, cond, List, [], ◌∷◌, ◌⊎◌, length, Option, Some, None, refl, ◌∙◌, ap, subst, arith, inl, inr}
-use Rattle.std.specs.Prelude.{nat_le, nat_lt, filter, All, AllPairs, Contains, if◌then◌else◌}
-use Rattle.std.specs.List.{list_any}
+use Rattle.std.proofs.Common.{◌≡◌, ◌≤◌, ◌<◌, ◌+◌, ◌==◌, ◌&&◌, ◌||◌, ℕ, Bool, true, false, not, List, [], ◌∷◌, ◌⊎◌, Option, Some, None, refl, ◌∙◌, ap, subst, arith, inl, inr}
+use Rattle.std.specs.Prelude.{nat_le, nat_lt, All, AllPairs, Contains, if◌then◌else◌}
 use Rattle.std.specs.Option.{option_map_or, option_or}
 use Rattle.std.proofs.lemmas.Bool.{eq-eqb, ne_eqb, cond-false, cond-true}
 use Rattle.std.proofs.lemmas.Grind.{common_steps}
@@ -116,13 +115,3 @@ room_is size n (g ∷ gs) order e = by_rest (room_among size gs) (has_room_for s
         let same : g.file.0 ≡ n = some_number g.file.0 n k in
         record { f = g; found = cond-true (g.file.0 == n) (Some g) (file_in n gs) (eq-eqb g.file.0 n same); has = room_taken size g q; above = λ j all. let a = All-head (λ (x : MailFile). j < x.file.0) g gs all in omega (arith, a, same) }
     by_rest None false p q k rest = absurd (let z : None ≡ Some n = k in cc z)
-
--- ---- no part can be detached
-
-pub none_counted : {X : Type 0} → (p : X → Bool) (xs : List X) → list_any p xs ≡ false → length (filter p xs) ≡ 0
-none_counted p [] e = refl
-none_counted p (x ∷ xs) e = by_test (p x) e (λ k. none_counted p xs k)
-  where
-    by_test : (b : Bool) → (b || list_any p xs) ≡ false → (list_any p xs ≡ false → length (filter p xs) ≡ 0) → length (cond b (x ∷ filter p xs) (filter p xs)) ≡ 0
-    by_test true k rest = absurd (let z : true ≡ false = k in cc z)
-    by_test false k rest = rest k

@@ -1,5 +1,5 @@
 -- The events of a delivery in a run: which part comes next, and what is read of those that were.
-use Rattle.std.proofs.Common.{◌≡◌, ◌⊎◌, ◌==◌, ℕ, Bool, true, false, cond, List, [], ◌∷◌, ◌++◌, Option, Some, None, inl, inr, refl, sym, ◌∙◌, ap, subst, append_assoc, append-nil, arith}
+use Rattle.std.proofs.Common.{◌≡◌, ◌⊎◌, ◌<◌, ◌==◌, ℕ, Bool, true, false, cond, List, [], ◌∷◌, ◌++◌, Option, Some, None, inl, inr, refl, sym, ◌∙◌, ap, subst, append_assoc, append-nil, arith}
 use Rattle.std.specs.Prelude.{nat_lt, is_none, is_some, length, filter, flat_map, if◌then◌else◌}
 use Rattle.std.specs.List.{AllByRecursion}
 use Rattle.std.specs.Option.{option_or}
@@ -16,8 +16,11 @@ use Rattle.mail_save.specs.SaveStages.{HasAttached, AreAttachedSoFar, AreTakenSo
 
 -- ---- the next part
 
-none_below : (n : ℕ) → nat_lt n 0 ≡ false
-none_below n = grind (arith, common_steps)
+not_below : (n : ℕ) → nat_lt n n ≡ false
+not_below n = grind (arith, common_steps)
+
+below : (a b : ℕ) → a < b → nat_lt a b ≡ true
+below a b l = grind (arith, common_steps, l)
 
 -- what comes behind an event that finds no file: the next part of the message, or a storage file
 abbrev pub part_by : Around → Bool → Option EventPart
@@ -71,11 +74,6 @@ finds_next around run name time octets rows place h =
     let all = subst (λ (es : List RunEvent). AllByRecursion (IsOf place) es) h.own_are (own_kept place run.events) in
     ap (λ (es : List RunEvent). next_part around run (request.Deliver name time octets) es) h.own_are
     ∙ next_attached around run name time octets place h.first h.more (record { part = inl h.laid.part; refused = ap (λ (e : RunEvent). e.refused) h.laid.did }) all.0 h.attached all.1
-
-pub takes_next : (around : Around) (run : Run) (name : List ℕ) (time : ℕ) (octets : List ℕ) (rows : List InstRow) (place : ℕ) → around.parts ≡ 0 → AreAttachedSoFar rows (own_events place run) → next_part around run (request.Deliver name time octets) (own_events place run) ≡ Some (TakesFile (is_none around.room))
-takes_next around run name time octets rows place none h =
-    finds_next around run name time octets rows place h
-    ∙ ap (part_by around) (ap (nat_lt (length (instances_found place run))) none ∙ none_below (length (instances_found place run)))
 
 pub places_next : (around : Around) (run : Run) (name : List ℕ) (time : ℕ) (octets : List ℕ) (rows : List InstRow) (file : ℕ) (own : List RunEvent) → AreTakenSoFar rows file own → next_part around run (request.Deliver name time octets) own ≡ Some PlacesMessage
 places_next around run name time octets rows file own h =
@@ -175,6 +173,20 @@ none_more rows xs a b x y z = rw (y, z) (append-nil xs ∙ x)
 
 pub attached_rows : (place : ℕ) (run : Run) (rows : List InstRow) → AreAttachedSoFar rows (own_events place run) → instances_found place run ≡ rows
 attached_rows place run rows h = front_found rows (own_events place run) h
+
+-- behind the events that found these instances a file is taken, if each part has its instance
+pub takes_next : (around : Around) (run : Run) (name : List ℕ) (time : ℕ) (octets : List ℕ) (rows : List InstRow) (place : ℕ) → length rows ≡ around.parts → AreAttachedSoFar rows (own_events place run)
+    → next_part around run (request.Deliver name time octets) (own_events place run) ≡ Some (TakesFile (is_none around.room))
+takes_next around run name time octets rows place all h =
+    finds_next around run name time octets rows place h
+    ∙ ap (part_by around) (ap (λ (is : List InstRow). nat_lt (length is) around.parts) (attached_rows place run rows h) ∙ (ap (λ (n : ℕ). nat_lt n around.parts) all ∙ not_below around.parts))
+
+-- the next part is compared with its candidate, or placed
+pub attaches_next : (around : Around) (run : Run) (name : List ℕ) (time : ℕ) (octets : List ℕ) (rows : List InstRow) (place : ℕ) → length rows < around.parts → AreAttachedSoFar rows (own_events place run)
+    → next_part around run (request.Deliver name time octets) (own_events place run) ≡ (if is_some around.candidate then Some Compares else Some PlacesInstance)
+attaches_next around run name time octets rows place left h =
+    finds_next around run name time octets rows place h
+    ∙ ap (part_by around) (ap (λ (is : List InstRow). nat_lt (length is) around.parts) (attached_rows place run rows h) ∙ below (length rows) around.parts left)
 
 pub found_rows : (place : ℕ) (run : Run) (rows : List InstRow) (file : ℕ) (guid : List ℕ) → ArePlacedSoFar rows file guid (own_events place run) → instances_found place run ≡ rows
 found_rows place run rows file guid h =

@@ -7,6 +7,7 @@ use Rattle.std.specs.Str.{bytes_eq}
 use Rattle.std.proofs.lemmas.Bool.{cases_eq}
 use Rattle.attach_detach.specs.declared.message.Prepared.{Prepared}
 use Rattle.disk_model.specs.Disk.{History, Faults, Grows}
+use Rattle.disk_model.specs.FaultCounts.{ChangeFaultCounted}
 use Rattle.mdbox_base.specs.Words.{IsOctets}
 use Rattle.mdbox_base.specs.declared.entries.BoxEntry.{BoxEntry}
 use Rattle.mdbox_base.specs.declared.entries.BoxEntry.TheVariants as box_entry
@@ -19,7 +20,6 @@ use Rattle.mdbox_base.specs.declared.ids.MapUid.{MapUid}
 use Rattle.mdbox_base.specs.declared.ids.Uid.{Uid}
 use Rattle.mdbox_base.specs.declared.progress.Did.{Did}
 use Rattle.mdbox_base.specs.declared.progress.Did.TheVariants as did
-use Rattle.mdbox_base.specs.declared.progress.Progress.{Progress}
 use Rattle.mdbox_base.specs.declared.progress.Progress.TheVariants as progress
 use Rattle.mdbox_base.specs.declared.replies.Refusal.{Refusal}
 use Rattle.mdbox_base.specs.declared.replies.Refusal.TheVariants as refusal
@@ -29,85 +29,66 @@ use Rattle.mdbox_base.specs.declared.script.Half.TheVariants as half
 use Rattle.model_appends.specs.Appending.{lists_by, meanings_by}
 use Rattle.model_lists.specs.Lists.{Lists}
 use Rattle.model_meaning.specs.BoxMeaning.{BoxMeaning}
-use Rattle.model_meaning.specs.MapMeaning.{MapMeaning, map_applied, no_numbers, guid_file}
+use Rattle.model_meaning.specs.MapMeaning.{MapMeaning, no_numbers, guid_file}
 use Rattle.model_store.specs.Settled.{IsSettledFor, Leaves}
 use Rattle.list_machine.specs.Run.{First, TakesFile, PlacesMessage, StoresRecord, GivesBack, RunEvent, Run, drawn_of}
 use Rattle.list_machine.specs.Machine.{NextMapUid, first_refusal, refused_where, part_checks, is_step, is_used_up}
 use Rattle.journal.specs.Events.{Around, draws}
 use Rattle.journal.proofs.RunLemmas.{drawn_none}
 use Rattle.model_store.specs.Listing.{ShowLists}
-use Rattle.storage_files.specs.Files.{AreFilesInOrder, IsTakeFor, MayBeTakenFor, end_in}
+use Rattle.save_instances.specs.Attaching.{AttachingValue, nothing_found}
+use Rattle.sis_store.specs.Instances.{InstancesValue}
+use Rattle.storage_files.specs.Files.{IsTakeFor, MayBeTakenFor, end_in}
 use Rattle.storage_files.specs.declared.file.Take.{Take}
 use Rattle.storage_files.specs.declared.file.Take.TheVariants.{Known, New, Full}
-use Rattle.store_core.specs.Running.{IsStore}
 use Rattle.store_core.specs.Dues.{due_at}
 use Rattle.store_core.specs.Knows.{may_have_given}
 use Rattle.store_core.specs.Value.{StoreValue, indexes_of, list_named, references_to}
 use Rattle.store_core.proofs.BoxCrashLemmas.{leaves_none}
 use Rattle.store_core.proofs.ShownLemmas.{refs_shown}
-use Rattle.task_steps.specs.Step.{HasComeTo, HasNotBegun, Steps, ended_by}
+use Rattle.task_steps.specs.Step.{HasComeTo, HasNotBegun, Steps}
 use Rattle.mail_save.specs.Added.{HasRoomUnder, entry_added}
-use Rattle.mail_save.specs.Events.{box_refusal, save_refusal, uid_refusal, has_detachable}
-use Rattle.mail_save.specs.Parts.{origin_of}
-use Rattle.mail_save.specs.Ready.{IsReadyToSave}
-use Rattle.mail_save.specs.Record.{entry_stored}
-use Rattle.mail_save.specs.SaveEffects.{IsLeftAlone, TookAs, TakesNone, GivesFileBack, StoresNone, LowersRecord}
+use Rattle.mail_save.specs.Events.{box_refusal, save_refusal, uid_refusal}
+use Rattle.mail_save.specs.SaveEffects.{AddsStored, LaysOut, IsLeftAlone, PlacesParts, StoresPlaced, TakesFileFor, TookAs, TakesNone, GivesFileBack, StoresNone, LowersRecord}
 use Rattle.mail_save.specs.SaveSeen.{seen_saving, around_saving, IsAtSave, room_among}
 use Rattle.mail_save.specs.SaveStages.{IsTakingFile, IsPlacingMessage, IsStoringMessage, IsAddingMessage, IsLoweringCount}
-use Rattle.mail_save.specs.Task.{HasLeft, RepliesAt, Saves, stopped_reply, failing_did, refused_did, giving_did}
+use Rattle.mail_save.specs.Task.{FaultsAt, RepliesAt, stopped_reply, failing_did, refused_did, giving_did}
 use Rattle.mail_save.specs.declared.add.Added.{Added}
 use Rattle.mail_save.specs.declared.first.SavedParts.{SavedParts}
 use Rattle.mail_save.specs.declared.place.SavedAt.{SavedAt}
 use Rattle.mail_save.specs.declared.record.LowerRoom.{LowerRoom}
 use Rattle.mail_save.specs.declared.task.SaveStage.{SaveStage}
 use Rattle.mail_save.specs.declared.task.SaveStage.TheVariants as stage
-use Rattle.mail_save.proofs.RegionSizeLemmas.{region_some}
-use Rattle.mail_save.proofs.SaveDidLemmas.{step_runs, HasRun, StaysSo}
+use Rattle.mail_save.proofs.SaveClauseLemmas.{EventOf, DeliveryClause, with_did}
+use Rattle.mail_save.proofs.SaveDidLemmas.{step_calm, step_runs, HasRun, StaysSo}
 use Rattle.mail_save.proofs.SaveFrontLemmas.{SeesAround, KeepsMap, begins_save, takes_known, takes_new, places_message, stores_message}
 use Rattle.mail_save.proofs.SaveLastLemmas.{FindsBox, saved_message, broken_save, refused_message, forgotten_message, lowers_count}
 use Rattle.mail_save.proofs.SaveListLemmas.{box_checked, made_of}
 use Rattle.mail_save.proofs.SaveRefusedLemmas.{ends_first, ends_taking, ends_placing, ends_storing, ends_giving, first_at, taking_at, placing_at, storing_at, lowering_at, fallen_save, forgotten_save, checked_save, full_files, full_uids}
 use Rattle.mail_save.proofs.SaveRoomLemmas.{known_room, no_room, lt_true, true_lt}
 use Rattle.mail_save.proofs.SaveStoreLemmas.{sees_around, same_ends, gave_on, tells_store, has_run, due_stays, stays_so, drawn_file, drawn_map, less_due, place_long, place_octets, place_file, place_new, place_given, file_below, is_before}
+use Rattle.mail_save.proofs.SeenInstanceLemmas.{gone_on, knows_in, knows_same}
 
--- ---- an event
+-- ---- answers
 
--- What is known as a step of a delivery ends, of a store that wasn't stopped.
-pub record EventOf {D : Type 0} (now next : SaveStage) (name : List ℕ) (time size : ℕ) (octets : List ℕ) (answer : Progress) (how : Did) (old new : StoreValue D) (before after : Option History) (began faulted : Faults) : Type 0 where
-  pub is : IsStore before old
-  pub order : AreFilesInOrder old.files
-  pub ran : old.stopped ≡ false
-  pub left : HasLeft now name time old before
-  pub ready : IsReadyToSave now name time size octets old before
-  pub whole : has_detachable octets ≡ false
-  pub timed : time < 2 ^ 64
-  pub id_long : length old.map.store ≡ 8
-  pub id_octets : IsOctets old.map.store
-  pub idle : new.disk ≡ old.disk → (after ≡ before) × (faulted ≡ began)
-  pub saves : Saves now next name time size answer how old new before after began faulted
-
-abbrev pub DeliveryClause : {D : Type 0} → List ℕ → SaveStage → SaveStage → List ℕ → ℕ → Progress → Did → StoreValue D → StoreValue D → Option History → Option History → Faults → Faults → Type 0
-DeliveryClause octets now next name time answer how old new before after began faulted =
-    (behind : Around) → Steps (IsAtSave now) (IsAtSave next) (around_saving octets now old) behind (request.Deliver name time octets) (seen_saving old before began) (seen_saving new after faulted) how (ended_by answer)
-
-more_differs : progress.More ≡ stopped_reply → ⊥
+pub more_differs : progress.More ≡ stopped_reply → ⊥
 more_differs e = cc e
 
-refused_differs : (why : Refusal) → (why ≡ refusal.Stopped → ⊥) → progress.Done (reply.Refused why) ≡ stopped_reply → ⊥
+pub refused_differs : (why : Refusal) → (why ≡ refusal.Stopped → ⊥) → progress.Done (reply.Refused why) ≡ stopped_reply → ⊥
 refused_differs why other e = let k : reply.Refused why ≡ reply.Refused refusal.Stopped = cc e in other (let j : why ≡ refusal.Stopped = cc k in j)
 
 saved_differs : (uid : Uid) (guid : Guid) → progress.Done (reply.Saved uid guid) ≡ stopped_reply → ⊥
 saved_differs uid guid e = let k : reply.Saved uid guid ≡ reply.Refused refusal.Stopped = cc e in cc k
 
-not_stopped : (b : Bool) (X : Type 0) → (X ↔ (b ≡ true)) → (X → ⊥) → b ≡ false
+pub not_stopped : (b : Bool) (X : Type 0) → (X ↔ (b ≡ true)) → (X → ⊥) → b ≡ false
 not_stopped true X both none = absurd (none (both.1 refl))
 not_stopped false X both none = refl
 
-memory_runs : refusal.NoMemory ≡ refusal.Stopped → ⊥
+pub memory_runs : refusal.NoMemory ≡ refusal.Stopped → ⊥
 memory_runs e = cc e
 
 -- what a refusal did
-step_did : (why : Refusal) → is_step why ≡ true → failing_did why ≡ did.Step half.Whole
+pub step_did : (why : Refusal) → is_step why ≡ true → failing_did why ≡ did.Step half.Whole
 step_did refusal.NoMailbox s = refl
 step_did refusal.Exists s = refl
 step_did refusal.NoMessage s = refl
@@ -120,18 +101,35 @@ step_did refusal.ReadFault s = absurd (cc s)
 step_did refusal.Stopped s = absurd (cc s)
 step_did (refusal.Damaged file offset) s = absurd (cc s)
 
-with_did : {D : Type 0} → (octets : List ℕ) (now next : SaveStage) (name : List ℕ) (time : ℕ) (answer : Progress) (how known : Did) (old new : StoreValue D) (before after : Option History) (began faulted : Faults) → how ≡ known
-    → DeliveryClause octets now next name time answer known old new before after began faulted → DeliveryClause octets now next name time answer how old new before after began faulted
-with_did octets now next name time answer how known old new before after began faulted same = subst (λ (h : Did). DeliveryClause octets now next name time answer h old new before after began faulted) (sym same)
-
 -- the faults and the time of one that goes on, or that failed
-same_reads : (began faulted : Faults) → faulted ≡ began → began.reads ≤ faulted.reads
+pub same_reads : (began faulted : Faults) → faulted ≡ began → began.reads ≤ faulted.reads
 same_reads began faulted same = let e = ap (λ (f : Faults). f.reads) same in omega (arith, e)
 
-same_changes : (began faulted : Faults) → faulted ≡ began → began.changes ≤ faulted.changes
+pub same_changes : (began faulted : Faults) → faulted ≡ began → began.changes ≤ faulted.changes
 same_changes began faulted same = let e = ap (λ (f : Faults). f.changes) same in omega (arith, e)
 
-equal_reads : (began faulted : Faults) → faulted.reads ≡ began.reads → began.reads ≤ faulted.reads
+-- a refusal for which no call failed
+pub untold_faults : (why : Refusal) (began faulted : Faults) → (why ≡ refusal.Stopped → ⊥) → (why ≡ refusal.ReadFault → ⊥) → FaultsAt (progress.Done (reply.Refused why)) began faulted → faulted ≡ began
+untold_faults refusal.NoMailbox began faulted other unread f = f
+untold_faults refusal.Exists began faulted other unread f = f
+untold_faults refusal.NoMessage began faulted other unread f = f
+untold_faults (refusal.TooManyCopies n) began faulted other unread f = f
+untold_faults (refusal.MailboxFull n) began faulted other unread f = f
+untold_faults (refusal.TooManyMailboxes n) began faulted other unread f = f
+untold_faults (refusal.StoreFull n) began faulted other unread f = f
+untold_faults refusal.NoMemory began faulted other unread f = f
+untold_faults refusal.ReadFault began faulted other unread f = absurd (unread refl)
+untold_faults refusal.Stopped began faulted other unread f = absurd (other refl)
+untold_faults (refusal.Damaged file offset) began faulted other unread f = f
+
+-- one that stopped the store
+pub fell_by : (why : Refusal) (began faulted : Faults) → why ≡ refusal.Stopped → FaultsAt (progress.Done (reply.Refused why)) began faulted → ChangeFaultCounted (Unit {0}) began faulted
+fell_by why began faulted is f = subst (λ (w : Refusal). FaultsAt (progress.Done (reply.Refused w)) began faulted) is f
+
+pub memory_unread : (why : Refusal) → why ≡ refusal.NoMemory → why ≡ refusal.ReadFault → ⊥
+memory_unread why m e = let k : refusal.NoMemory ≡ refusal.ReadFault = sym m ∙ e in cc k
+
+pub equal_reads : (began faulted : Faults) → faulted.reads ≡ began.reads → began.reads ≤ faulted.reads
 equal_reads began faulted e = omega (arith, e)
 
 -- ---- the first event
@@ -146,29 +144,42 @@ first_checked run name time octets store history faults lists event come h =
     box_checked run name store.map.boxes (indexes_of store.boxes) lists (NextMapUid ∷ []) h
     ∙ ap (λ (r : Option Refusal). option_or (box_refusal (list_named store name)) r) (checked_uid (is_used_up (drawn_of run).map) ∙ ap (λ (d : Highest). uid_refusal d.map) come.come.drawn_is)
 
-pub first_more : {D : Type 0} → (prepared : Prepared) (parts : SavedParts) (name : List ℕ) (time size : ℕ) (octets : List ℕ) (how : Did) (old new : StoreValue D) (before after : Option History) (began faulted : Faults) → EventOf (stage.First prepared) (stage.Taking parts) name time size octets progress.More how old new before after began faulted
-    → DeliveryClause octets (stage.First prepared) (stage.Taking parts) name time progress.More how old new before after began faulted
-first_more prepared parts name time size octets how old new before after began faulted e = λ behind.
-    let s = e.saves in
-    let same = s.effects.0 in
-    let runs = not_stopped new.stopped (progress.More ≡ stopped_reply) s.stopped more_differs in
-    let drawn = ap (λ (v : StoreValue _). v.drawn) same in
-    with_did octets (stage.First prepared) (stage.Taking parts) name time progress.More how did.Quiet old new before after began faulted s.did_is
-    (λ after_it. subst (λ (rows : List InstRow). Steps HasNotBegun (IsTakingFile rows) (around_saving octets (stage.First prepared) old) after_it (request.Deliver name time octets) (seen_saving old before began) (seen_saving new after faulted) did.Quiet None) (sym (s.effects.2 octets e.ready.1).rows)
-    (begins_save (around_saving octets (stage.First prepared) old) after_it name time octets (seen_saving old before began) (seen_saving new after faulted) (sees_around octets (stage.First prepared) old before began e.is e.order e.whole)
+first_goes : {D : Type 0} → (prepared : Prepared) (parts : SavedParts) (next : SaveStage) (name : List ℕ) (time size : ℕ) (octets : List ℕ) (how : Did) (old new : StoreValue D) (before after : Option History) (began faulted : Faults) → EventOf (stage.First prepared) next name time size octets progress.More how old new before after began faulted
+    → new ≡ old → LaysOut name time prepared parts old
+    → (behind : Around) → Steps HasNotBegun (IsTakingFile []) (around_saving octets (stage.First prepared) old) behind (request.Deliver name time octets) (seen_saving old before began) (seen_saving new after faulted) did.Quiet None
+first_goes prepared parts next name time size octets how old new before after began faulted e same begins = λ behind.
+    let runs = not_stopped new.stopped (progress.More ≡ stopped_reply) e.stopped more_differs in
+    begins_save (around_saving octets (stage.First prepared) old) behind name time octets (seen_saving old before began) (seen_saving new after faulted) (sees_around octets (stage.First prepared) old before began e.is e.order e.ids)
     (record {
-      run = has_run old new before after began faulted e.ran runs (ap (λ (v : StoreValue _). v.map.boxes) same) (ap (λ (v : StoreValue _). indexes_of v.boxes) same) s.moments (s.rests runs) s.grows (s.unfailed more_differs);
+      run = has_run old new before after began faulted e.ran runs (ap (λ (v : StoreValue _). v.map.boxes) same) (ap (λ (v : StoreValue _). indexes_of v.boxes) same) e.moments (e.rests runs) e.grows e.faults;
       map = ap (λ (v : StoreValue _). v.map) same;
       due = λ uid. ap (λ (v : StoreValue _). due_at uid v) same;
-    }) drawn (tells_store old new before after began faulted (ap (λ (v : StoreValue _). v.map.store) same) (let d = ap (λ (v : StoreValue _). v.drawn.file) same in omega (arith, d)) (same_ends old new (λ n. ap (λ (v : StoreValue _). end_in n v.files.files) same)))
-    (λ run lists event come shows. first_checked run name time octets old before began lists event come shows.1 ∙ s.effects.1)))
-    behind
+    })
+    (ap (λ (v : StoreValue _). v.drawn) same)
+    (tells_store old new before after began faulted (ap (λ (v : StoreValue _). v.map.store) same) (let d = ap (λ (v : StoreValue _). v.drawn.file) same in omega (arith, d)) (same_ends old new (λ n. ap (λ (v : StoreValue _). end_in n v.files.files) same))
+    (knows_same old new (ap (λ (v : StoreValue _). v.instances) same) (ap (λ (v : StoreValue _). v.drawn.instance) same)))
+    (λ run lists event come shows. first_checked run name time octets old before began lists event come shows.1 ∙ begins.allowed)
+
+pub first_taking : {D : Type 0} → (prepared : Prepared) (parts : SavedParts) (name : List ℕ) (time size : ℕ) (octets : List ℕ) (how : Did) (old new : StoreValue D) (before after : Option History) (began faulted : Faults) → EventOf (stage.First prepared) (stage.Taking parts) name time size octets progress.More how old new before after began faulted
+    → new ≡ old → LaysOut name time prepared parts old → DeliveryClause octets (stage.First prepared) (stage.Taking parts) name time progress.More how old new before after began faulted
+first_taking prepared parts name time size octets how old new before after began faulted e same begins =
+    with_did octets (stage.First prepared) (stage.Taking parts) name time progress.More how did.Quiet old new before after began faulted e.did_is
+    (λ behind. subst (λ (rows : List InstRow). Steps HasNotBegun (IsTakingFile rows) (around_saving octets (stage.First prepared) old) behind (request.Deliver name time octets) (seen_saving old before began) (seen_saving new after faulted) did.Quiet None) (sym begins.rows)
+    (first_goes prepared parts (stage.Taking parts) name time size octets how old new before after began faulted e same begins behind))
+
+pub first_attaching : {D : Type 0} → (prepared : Prepared) (parts : SavedParts) (attaching : AttachingValue) (name : List ℕ) (time size : ℕ) (octets : List ℕ) (how : Did) (old new : StoreValue D) (before after : Option History) (began faulted : Faults)
+    → EventOf (stage.First prepared) (stage.Attaching parts attaching) name time size octets progress.More how old new before after began faulted
+    → new ≡ old → attaching ≡ nothing_found prepared.parts → LaysOut name time prepared parts old → DeliveryClause octets (stage.First prepared) (stage.Attaching parts attaching) name time progress.More how old new before after began faulted
+first_attaching prepared parts attaching name time size octets how old new before after began faulted e same none begins =
+    with_did octets (stage.First prepared) (stage.Attaching parts attaching) name time progress.More how did.Quiet old new before after began faulted e.did_is
+    (λ behind. subst (λ (rows : List InstRow). Steps HasNotBegun (IsTakingFile rows) (around_saving octets (stage.First prepared) old) behind (request.Deliver name time octets) (seen_saving old before began) (seen_saving new after faulted) did.Quiet None) (sym (ap (λ (a : AttachingValue). a.found) none))
+    (first_goes prepared parts (stage.Attaching parts attaching) name time size octets how old new before after began faulted e same begins behind))
 
 -- a store that was left as it was
 stays_same : {D : Type 0} → (old new : StoreValue D) (before after : Option History) (began faulted : Faults) → new ≡ old → Grows before after → began.reads ≤ faulted.reads → began.changes ≤ faulted.changes → StaysSo no_numbers (seen_saving old before began) (seen_saving new after faulted)
 stays_same old new before after began faulted same grows reads changes =
     stays_so no_numbers old new before after began faulted (ap (λ (v : StoreValue _). v.map) same) (ap (λ (v : StoreValue _). v.drawn) same ∙ sym (drawn_none old.drawn)) (ap (λ (v : StoreValue _). v.dues) same) (ap (λ (v : StoreValue _). indexes_of v.boxes) same)
-    (let d = ap (λ (v : StoreValue _). v.drawn.file) same in omega (arith, d)) (same_ends old new (λ n. ap (λ (v : StoreValue _). end_in n v.files.files) same)) grows reads changes
+    (let d = ap (λ (v : StoreValue _). v.drawn.file) same in omega (arith, d)) (same_ends old new (λ n. ap (λ (v : StoreValue _). end_in n v.files.files) same)) (knows_same old new (ap (λ (v : StoreValue _). v.instances) same) (ap (λ (v : StoreValue _). v.drawn.instance) same)) grows reads changes
 
 box_steps : (o : Option BoxMeaning) (why : Refusal) → box_refusal o ≡ Some why → is_step why ≡ true
 box_steps None why e = let k : refusal.NoMailbox ≡ why = cc e in ap is_step (sym k)
@@ -179,7 +190,7 @@ box_steps (Some m) why e = by_tests (nat_le 1000000 (length m.rows)) (nat_le 429
     by_tests false true k = let f : Some (refusal.StoreFull 4294967294) ≡ Some why = k in let g : refusal.StoreFull 4294967294 ≡ why = cc f in ap is_step (sym g)
     by_tests false false k = absurd (let f : None ≡ Some why = k in cc f)
 
-uid_full : (b : Bool) (why : Refusal) → (if b then Some (refusal.StoreFull 4294967294) else None) ≡ Some why → (b ≡ true) × (why ≡ refusal.StoreFull 4294967294)
+pub uid_full : (b : Bool) (why : Refusal) → (if b then Some (refusal.StoreFull 4294967294) else None) ≡ Some why → (b ≡ true) × (why ≡ refusal.StoreFull 4294967294)
 uid_full true why k = (refl, let f : Some (refusal.StoreFull 4294967294) ≡ Some why = k in let g : refusal.StoreFull 4294967294 ≡ why = cc f in sym g)
 uid_full false why k = absurd (let f : None ≡ Some why = k in cc f)
 
@@ -191,74 +202,74 @@ save_steps name store why e = by_box (box_refusal (list_named store name)) refl 
     by_box None is k = ap is_step (uid_full (nat_le 4294967294 store.drawn.map) why k).1
 
 pub first_refused : {D : Type 0} → (prepared : Prepared) (why : Refusal) (name : List ℕ) (time size : ℕ) (octets : List ℕ) (how : Did) (old new : StoreValue D) (before after : Option History) (began faulted : Faults) → EventOf (stage.First prepared) stage.Ended name time size octets (progress.Done (reply.Refused why)) how old new before after began faulted
-    → DeliveryClause octets (stage.First prepared) stage.Ended name time (progress.Done (reply.Refused why)) how old new before after began faulted
-first_refused prepared why name time size octets how old new before after began faulted e = by_cause e.saves.replies
+    → new ≡ old → DeliveryClause octets (stage.First prepared) stage.Ended name time (progress.Done (reply.Refused why)) how old new before after began faulted
+first_refused prepared why name time size octets how old new before after began faulted e same = by_cause e.replies
   where
-    goes : (why ≡ refusal.Stopped → ⊥) → HasRun (seen_saving old before began) (seen_saving new after faulted)
-    goes other =
-        let s = e.saves in
+    goes : (why ≡ refusal.Stopped → ⊥) → (why ≡ refusal.ReadFault → ⊥) → HasRun (seen_saving old before began) (seen_saving new after faulted)
+    goes other unread =
+        let s = e in
         let runs = not_stopped new.stopped (progress.Done (reply.Refused why) ≡ stopped_reply) s.stopped (refused_differs why other) in
-        has_run old new before after began faulted e.ran runs (ap (λ (v : StoreValue _). v.map.boxes) s.effects) (ap (λ (v : StoreValue _). indexes_of v.boxes) s.effects) s.moments (s.rests runs) s.grows (s.unfailed (refused_differs why other))
+        has_run old new before after began faulted e.ran runs (ap (λ (v : StoreValue _). v.map.boxes) same) (ap (λ (v : StoreValue _). indexes_of v.boxes) same) s.moments (s.rests runs) s.grows (untold_faults why began faulted other unread s.faults)
 
-    stays : (why ≡ refusal.Stopped → ⊥) → StaysSo no_numbers (seen_saving old before began) (seen_saving new after faulted)
-    stays other =
-        let s = e.saves in
-        let same = s.unfailed (refused_differs why other) in
-        stays_same old new before after began faulted s.effects s.grows (same_reads began faulted same) (same_changes began faulted same)
+    stays : (why ≡ refusal.Stopped → ⊥) → (why ≡ refusal.ReadFault → ⊥) → StaysSo no_numbers (seen_saving old before began) (seen_saving new after faulted)
+    stays other unread =
+        let s = e in
+        let calm = untold_faults why began faulted other unread s.faults in
+        stays_same old new before after began faulted same s.grows (same_reads began faulted calm) (same_changes began faulted calm)
 
     sees : SeesAround octets (around_saving octets (stage.First prepared) old) (seen_saving old before began)
-    sees = sees_around octets (stage.First prepared) old before began e.is e.order e.whole
+    sees = sees_around octets (stage.First prepared) old before began e.is e.order e.ids
 
     by_cause : (save_refusal name old ≡ Some why) ⊎ ((save_refusal name old ≡ None) × (why ≡ refusal.NoMemory)) → DeliveryClause octets (stage.First prepared) stage.Ended name time (progress.Done (reply.Refused why)) how old new before after began faulted
     by_cause (inl refuses) =
         let step = save_steps name old why refuses in
-        with_did octets (stage.First prepared) stage.Ended name time (progress.Done (reply.Refused why)) how (did.Step half.Whole) old new before after began faulted (e.saves.did_is ∙ step_did why step)
+        with_did octets (stage.First prepared) stage.Ended name time (progress.Done (reply.Refused why)) how (did.Step half.Whole) old new before after began faulted (e.did_is ∙ step_did why step)
         (λ behind. checked_save (around_saving octets (stage.First prepared) old) behind name time octets First (IsAtSave (stage.First prepared)) (IsAtSave stage.Ended) why (seen_saving old before began) (seen_saving new after faulted) sees (ends_first name time octets) (first_at (around_saving octets (stage.First prepared) old) (request.Deliver name time octets))
-        (λ run place said stood. stood.1) step (λ run lists event come shows. first_checked run name time octets old before began lists event come shows.1 ∙ refuses) (goes (step_runs why step)) (stays (step_runs why step)))
+        (λ run place said stood. stood.1) step (λ run lists event come shows. first_checked run name time octets old before began lists event come shows.1 ∙ refuses) (goes (step_runs why step) (step_calm why step)) (stays (step_runs why step) (step_calm why step)))
     by_cause (inr m) =
         let other : why ≡ refusal.Stopped → ⊥ = λ k. memory_runs (sym m.1 ∙ k) in
-        with_did octets (stage.First prepared) stage.Ended name time (progress.Done (reply.Refused why)) how did.Quiet old new before after began faulted (e.saves.did_is ∙ ap failing_did m.1)
+        with_did octets (stage.First prepared) stage.Ended name time (progress.Done (reply.Refused why)) how did.Quiet old new before after began faulted (e.did_is ∙ ap failing_did m.1)
         (subst (λ (w : Refusal). DeliveryClause octets (stage.First prepared) stage.Ended name time (progress.Done (reply.Refused w)) did.Quiet old new before after began faulted) (sym m.1)
         (λ behind. forgotten_save (around_saving octets (stage.First prepared) old) behind name time octets First (IsAtSave (stage.First prepared)) (IsAtSave stage.Ended) (seen_saving old before began) (seen_saving new after faulted) sees (ends_first name time octets) (first_at (around_saving octets (stage.First prepared) old) (request.Deliver name time octets))
-        refl (λ run place said stood. stood.1) (goes other) (stays other)))
+        refl (λ run place said stood. stood.1) (goes other (memory_unread why m.1)) (stays other (memory_unread why m.1))))
 
 -- ---- a file is taken
 
 pub taking_more : {D : Type 0} → (parts laid : SavedParts) (file : FileNo) (name : List ℕ) (time size : ℕ) (octets : List ℕ) (how : Did) (old new : StoreValue D) (before after : Option History) (began faulted : Faults) → EventOf (stage.Taking parts) (stage.Placing laid file) name time size octets progress.More how old new before after began faulted
-    → DeliveryClause octets (stage.Taking parts) (stage.Placing laid file) name time progress.More how old new before after began faulted
-taking_more parts laid file name time size octets how old new before after began faulted e =
-    let t = e.saves.effects.1 in
-    with_did octets (stage.Taking parts) (stage.Placing laid file) name time progress.More how did.Quiet old new before after began faulted e.saves.did_is (by_take t.take t.is t.took)
+    → laid ≡ parts → TakesFileFor (length parts.header) (length parts.laid.region) file old new → DeliveryClause octets (stage.Taking parts) (stage.Placing laid file) name time progress.More how old new before after began faulted
+taking_more parts laid file name time size octets how old new before after began faulted e laid_is t =
+    with_did octets (stage.Taking parts) (stage.Placing laid file) name time progress.More how did.Quiet old new before after began faulted e.did_is (by_take t.take t.is t.took)
   where
     keeps : KeepsMap (seen_saving old before began) (seen_saving new after faulted)
     keeps =
-        let s = e.saves in
-        let same = s.effects.1.same in
+        let s = e in
+        let same = t.same in
         let runs = not_stopped new.stopped (progress.More ≡ stopped_reply) s.stopped more_differs in
         let map = ap (λ (v : StoreValue _). v.map) same in
         record {
-          run = has_run old new before after began faulted e.ran runs (ap (λ (m : MapMeaning). m.boxes) map) (ap (λ (v : StoreValue _). indexes_of v.boxes) same) s.moments (s.rests runs) s.grows (s.unfailed more_differs);
+          run = has_run old new before after began faulted e.ran runs (ap (λ (m : MapMeaning). m.boxes) map) (ap (λ (v : StoreValue _). indexes_of v.boxes) same) s.moments (s.rests runs) s.grows s.faults;
           map = map;
           due = λ uid. due_stays old new uid map (ap (λ (v : StoreValue _). v.dues) same);
         }
 
     id : new.map.store ≡ old.map.store
-    id = ap (λ (v : StoreValue _). v.map.store) e.saves.effects.1.same
+    id = ap (λ (v : StoreValue _). v.map.store) t.same
 
     sees : SeesAround octets (around_saving octets (stage.Taking parts) old) (seen_saving old before began)
-    sees = sees_around octets (stage.Taking parts) old before began e.is e.order e.whole
+    sees = sees_around octets (stage.Taking parts) old before began e.is e.order e.ids
 
     as_laid : (behind : Around) → Steps (IsTakingFile parts.rows) (IsPlacingMessage parts.rows file.0) (around_saving octets (stage.Taking parts) old) behind (request.Deliver name time octets) (seen_saving old before began) (seen_saving new after faulted) did.Quiet None
         → Steps (IsTakingFile parts.rows) (IsPlacingMessage laid.rows file.0) (around_saving octets (stage.Taking parts) old) behind (request.Deliver name time octets) (seen_saving old before began) (seen_saving new after faulted) did.Quiet None
     as_laid behind does =
-        subst (λ (p : SavedParts). Steps (IsTakingFile parts.rows) (IsPlacingMessage p.rows file.0) (around_saving octets (stage.Taking parts) old) behind (request.Deliver name time octets) (seen_saving old before began) (seen_saving new after faulted) did.Quiet None) (sym e.saves.effects.0) does
+        subst (λ (p : SavedParts). Steps (IsTakingFile parts.rows) (IsPlacingMessage p.rows file.0) (around_saving octets (stage.Taking parts) old) behind (request.Deliver name time octets) (seen_saving old before began) (seen_saving new after faulted) did.Quiet None) (sym laid_is) does
 
-    by_take : (take : Take) → IsTakeFor (length parts.region) old.files take → TookAs take (length parts.header) file old new → DeliveryClause octets (stage.Taking parts) (stage.Placing laid file) name time progress.More did.Quiet old new before after began faulted
+    by_take : (take : Take) → IsTakeFor (length parts.laid.region) old.files take → TookAs take (length parts.header) file old new → DeliveryClause octets (stage.Taking parts) (stage.Placing laid file) name time progress.More did.Quiet old new before after began faulted
     by_take (Known taken) is took = λ behind.
-        let most = subst (λ (n : FileNo). All (λ g. MayBeTakenFor (length parts.region) g → g.file.0 ≤ n.0) old.files.files) (sym is.2) is.4 in
-        let room = known_room (length parts.region) old.files.files is.0 e.order.rising is.1 is.3 most ∙ ap (λ (n : FileNo). Some n.0) (is.2 ∙ took.0) in
-        as_laid behind (takes_known (around_saving octets (stage.Taking parts) old) behind name time octets parts.rows file.0 (seen_saving old before began) (seen_saving new after faulted) sees room keeps took.1
-        (tells_store old new before after began faulted id (let d = ap (λ (h : Highest). h.file) took.1 in omega (arith, d)) (same_ends old new took.2)))
+        let most = subst (λ (n : FileNo). All (λ g. MayBeTakenFor (length parts.laid.region) g → g.file.0 ≤ n.0) old.files.files) (sym is.2) is.4 in
+        let room = known_room (length parts.laid.region) old.files.files is.0 e.order.rising is.1 is.3 most ∙ ap (λ (n : FileNo). Some n.0) (is.2 ∙ took.0) in
+        as_laid behind (takes_known (around_saving octets (stage.Taking parts) old) behind name time octets parts.rows file.0 (seen_saving old before began) (seen_saving new after faulted) sees e.parts room keeps took.1
+        (tells_store old new before after began faulted id (let d = ap (λ (h : Highest). h.file) took.1 in omega (arith, d)) (same_ends old new took.2)
+        (knows_same old new (ap (λ (v : StoreValue _). v.instances) t.same) (ap (λ (h : Highest). h.instance) took.1))))
     by_take (New taken) is took = λ behind.
         let high = e.is.files.highest in
         let fresh = is.1 in
@@ -266,7 +277,7 @@ taking_more parts laid file name time size octets how old new before after began
         let named = ap (λ (n : FileNo). n.0) took.0 in
         let next : file.0 ≡ old.drawn.file + 1 = omega (arith, high, fresh, named) in
         let drawn = ap (λ (h : Highest). h.file) took.1 in
-        as_laid behind (takes_new (around_saving octets (stage.Taking parts) old) behind name time octets parts.rows file.0 (seen_saving old before began) (seen_saving new after faulted) sees (no_room (length parts.region) old.files.files is.0) next (omega (arith, high, less)) keeps (took.1 ∙ drawn_file old.drawn file.0 next)
+        as_laid behind (takes_new (around_saving octets (stage.Taking parts) old) behind name time octets parts.rows file.0 (seen_saving old before began) (seen_saving new after faulted) sees e.parts (no_room (length parts.laid.region) old.files.files is.0) next (omega (arith, high, less)) keeps (took.1 ∙ drawn_file old.drawn file.0 next)
         (λ event none itself. record {
           pins = λ n. refl;
           doomed = λ n. refl;
@@ -278,50 +289,52 @@ taking_more parts laid file name time size octets how old new before after began
             | inl same ↦ inr (itself n (sym same))
             | inr apart ↦ inl (ap (λ (o : Option ℕ). is_some o) (sym (took.4 n apart)) ∙ there)
           ];
-          instances = λ i. refl;
+          gone = λ i k. gone_on old new i id (let d = ap (λ (h : Highest). h.instance) took.1 in omega (arith, d)) k;
+          instances = λ i k. inl (ap (λ (n : InstancesValue). knows_in n.known i) (sym (ap (λ (v : StoreValue _). v.instances) t.same)) ∙ k);
         }))
     by_take Full is took = absurd took
 
 pub taking_refused : {D : Type 0} → (parts : SavedParts) (why : Refusal) (name : List ℕ) (time size : ℕ) (octets : List ℕ) (how : Did) (old new : StoreValue D) (before after : Option History) (began faulted : Faults) → EventOf (stage.Taking parts) stage.Ended name time size octets (progress.Done (reply.Refused why)) how old new before after began faulted
-    → DeliveryClause octets (stage.Taking parts) stage.Ended name time (progress.Done (reply.Refused why)) how old new before after began faulted
-taking_refused parts why name time size octets how old new before after began faulted e = by_cause e.saves.effects
+    → TakesNone (length parts.laid.region) why old new → DeliveryClause octets (stage.Taking parts) stage.Ended name time (progress.Done (reply.Refused why)) how old new before after began faulted
+taking_refused parts why name time size octets how old new before after began faulted e none = by_cause none
   where
     sees : SeesAround octets (around_saving octets (stage.Taking parts) old) (seen_saving old before began)
-    sees = sees_around octets (stage.Taking parts) old before began e.is e.order e.whole
+    sees = sees_around octets (stage.Taking parts) old before began e.is e.order e.ids
 
-    goes : (why ≡ refusal.Stopped → ⊥) → new.map ≡ old.map → new.boxes ≡ old.boxes → HasRun (seen_saving old before began) (seen_saving new after faulted)
-    goes other map boxes =
-        let s = e.saves in
+    goes : (why ≡ refusal.Stopped → ⊥) → faulted ≡ began → new.map ≡ old.map → new.boxes ≡ old.boxes → HasRun (seen_saving old before began) (seen_saving new after faulted)
+    goes other calm map boxes =
+        let s = e in
         let runs = not_stopped new.stopped (progress.Done (reply.Refused why) ≡ stopped_reply) s.stopped (refused_differs why other) in
-        has_run old new before after began faulted e.ran runs (ap (λ (m : MapMeaning). m.boxes) map) (ap indexes_of boxes) s.moments (s.rests runs) s.grows (s.unfailed (refused_differs why other))
+        has_run old new before after began faulted e.ran runs (ap (λ (m : MapMeaning). m.boxes) map) (ap indexes_of boxes) s.moments (s.rests runs) s.grows calm
 
-    by_cause : TakesNone (length parts.region) why old new → DeliveryClause octets (stage.Taking parts) stage.Ended name time (progress.Done (reply.Refused why)) how old new before after began faulted
+    by_cause : TakesNone (length parts.laid.region) why old new → DeliveryClause octets (stage.Taking parts) stage.Ended name time (progress.Done (reply.Refused why)) how old new before after began faulted
     by_cause (inl m) =
         let other : why ≡ refusal.Stopped → ⊥ = λ k. memory_runs (sym m.0 ∙ k) in
-        let same = e.saves.unfailed (refused_differs why other) in
-        with_did octets (stage.Taking parts) stage.Ended name time (progress.Done (reply.Refused why)) how did.Quiet old new before after began faulted (e.saves.did_is ∙ ap failing_did m.0)
+        let same = untold_faults why began faulted other (memory_unread why m.0) e.faults in
+        with_did octets (stage.Taking parts) stage.Ended name time (progress.Done (reply.Refused why)) how did.Quiet old new before after began faulted (e.did_is ∙ ap failing_did m.0)
         (subst (λ (w : Refusal). DeliveryClause octets (stage.Taking parts) stage.Ended name time (progress.Done (reply.Refused w)) did.Quiet old new before after began faulted) (sym m.0)
-        (λ behind. forgotten_save (around_saving octets (stage.Taking parts) old) behind name time octets (TakesFile (is_none (room_among (length parts.region) old.files.files))) (IsTakingFile parts.rows) (IsAtSave stage.Ended) (seen_saving old before began) (seen_saving new after faulted) sees (ends_taking name time octets _)
-        (taking_at (around_saving octets (stage.Taking parts) old) name time octets parts.rows sees.whole) refl (λ run place said stood. stood.1) (goes other (ap (λ (v : StoreValue _). v.map) m.1) (ap (λ (v : StoreValue _). v.boxes) m.1))
-        (stays_same old new before after began faulted m.1 e.saves.grows (same_reads began faulted same) (same_changes began faulted same))))
+        (λ behind. forgotten_save (around_saving octets (stage.Taking parts) old) behind name time octets (TakesFile (is_none (room_among (length parts.laid.region) old.files.files))) (IsTakingFile parts.rows) (IsAtSave stage.Ended) (seen_saving old before began) (seen_saving new after faulted) sees (ends_taking name time octets _)
+        (taking_at (around_saving octets (stage.Taking parts) old) name time octets parts.rows e.parts) refl (λ run place said stood. stood.1) (goes other same (ap (λ (v : StoreValue _). v.map) m.1) (ap (λ (v : StoreValue _). v.boxes) m.1))
+        (stays_same old new before after began faulted m.1 e.grows (same_reads began faulted same) (same_changes began faulted same))))
     by_cause (inr (inl f)) =
         let step : is_step why ≡ true = ap is_step f.0 in
         let other = step_runs why step in
-        let same = e.saves.unfailed (refused_differs why other) in
+        let same = untold_faults why began faulted other (step_calm why step) e.faults in
         let k = f.1.same in
         let map = ap (λ (v : StoreValue _). v.map) k in
         let high = e.is.files.highest in
         let full = f.1.full.1 in
-        with_did octets (stage.Taking parts) stage.Ended name time (progress.Done (reply.Refused why)) how (did.Step half.Whole) old new before after began faulted (e.saves.did_is ∙ step_did why step)
-        (λ behind. checked_save (around_saving octets (stage.Taking parts) old) behind name time octets (TakesFile (is_none (room_among (length parts.region) old.files.files))) (IsTakingFile parts.rows) (IsAtSave stage.Ended) why (seen_saving old before began) (seen_saving new after faulted) sees (ends_taking name time octets _)
-        (taking_at (around_saving octets (stage.Taking parts) old) name time octets parts.rows sees.whole) (λ run place said stood. stood.1) step
-        (λ run lists event come shows. full_files name time octets (around_saving octets (stage.Taking parts) old) (seen_saving old before began) (no_room (length parts.region) old.files.files f.1.full.0) (omega (arith, high, full)) run lists event come shows ∙ ap (λ (w : Refusal). Some w) (sym f.0))
-        (goes other map (ap (λ (v : StoreValue _). v.boxes) k))
+        with_did octets (stage.Taking parts) stage.Ended name time (progress.Done (reply.Refused why)) how (did.Step half.Whole) old new before after began faulted (e.did_is ∙ step_did why step)
+        (λ behind. checked_save (around_saving octets (stage.Taking parts) old) behind name time octets (TakesFile (is_none (room_among (length parts.laid.region) old.files.files))) (IsTakingFile parts.rows) (IsAtSave stage.Ended) why (seen_saving old before began) (seen_saving new after faulted) sees (ends_taking name time octets _)
+        (taking_at (around_saving octets (stage.Taking parts) old) name time octets parts.rows e.parts) (λ run place said stood. stood.1) step
+        (λ run lists event come shows. full_files name time octets (around_saving octets (stage.Taking parts) old) (seen_saving old before began) (no_room (length parts.laid.region) old.files.files f.1.full.0) (omega (arith, high, full)) run lists event come shows ∙ ap (λ (w : Refusal). Some w) (sym f.0))
+        (goes other same map (ap (λ (v : StoreValue _). v.boxes) k))
         (stays_so no_numbers old new before after began faulted map (ap (λ (v : StoreValue _). v.drawn) k ∙ sym (drawn_none old.drawn)) (ap (λ (v : StoreValue _). v.dues) k) (ap (λ (v : StoreValue _). indexes_of v.boxes) k) (let d = ap (λ (v : StoreValue _). v.drawn.file) k in omega (arith, d))
-        (same_ends old new (λ n. ap (λ (v : StoreValue _). end_in n v.files.files) k)) e.saves.grows (same_reads began faulted same) (same_changes began faulted same)))
+        (same_ends old new (λ n. ap (λ (v : StoreValue _). end_in n v.files.files) k)) (knows_same old new (ap (λ (v : StoreValue _). v.instances) k) (ap (λ (v : StoreValue _). v.drawn.instance) k)) e.grows (same_reads began faulted same) (same_changes began faulted same)))
     by_cause (inr (inr f)) =
-        let s = e.saves in
+        let s = e in
         let stop : progress.Done (reply.Refused why) ≡ stopped_reply = ap (λ (w : Refusal). progress.Done (reply.Refused w)) f.0 in
+        let fault = fell_by why began faulted f.0 s.faults in
         let k = f.1.same in
         let map = ap (λ (v : StoreValue _). v.map) k in
         let high = e.is.files.highest in
@@ -331,11 +344,11 @@ taking_refused parts why name time size octets how old new before after began fa
         let number = ap (λ (h : Highest). h.file) drawn in
         with_did octets (stage.Taking parts) stage.Ended name time (progress.Done (reply.Refused why)) how did.Failed old new before after began faulted (s.did_is ∙ ap failing_did f.0)
         (subst (λ (w : Refusal). DeliveryClause octets (stage.Taking parts) stage.Ended name time (progress.Done (reply.Refused w)) did.Failed old new before after began faulted) (sym f.0)
-        (λ behind. fallen_save (around_saving octets (stage.Taking parts) old) behind name time octets (TakesFile (is_none (room_among (length parts.region) old.files.files))) (IsTakingFile parts.rows) (IsAtSave stage.Ended) (record no_numbers { file = 1 }) (seen_saving old before began) (seen_saving new after faulted) sees (ends_taking name time octets _)
-        (taking_at (around_saving octets (stage.Taking parts) old) name time octets parts.rows sees.whole)
-        (λ run event. inr (sym (ap (λ (o : Option ℕ). draws run event (request.Deliver name time octets) (TakesFile (is_none o))) (no_room (length parts.region) old.files.files f.1.is.0))))
-        (stays_so (record no_numbers { file = 1 }) old new before after began faulted map (drawn ∙ drawn_file old.drawn f.1.file.0 next) (ap (λ (v : StoreValue _). v.dues) k) (ap (λ (v : StoreValue _). indexes_of v.boxes) k) (omega (arith, number, next)) (same_ends old new f.1.ends) s.grows (equal_reads began faulted s.fault.reads) s.fault.changes)
-        e.ran (s.stopped.0 stop) (s.fault.rose stop) (λ lists t. s.moments lists t)))
+        (λ behind. fallen_save (around_saving octets (stage.Taking parts) old) behind name time octets (TakesFile (is_none (room_among (length parts.laid.region) old.files.files))) (IsTakingFile parts.rows) (IsAtSave stage.Ended) (record no_numbers { file = 1 }) (seen_saving old before began) (seen_saving new after faulted) sees (ends_taking name time octets _)
+        (taking_at (around_saving octets (stage.Taking parts) old) name time octets parts.rows e.parts)
+        (λ run event. inr (sym (ap (λ (o : Option ℕ). draws run event (request.Deliver name time octets) (TakesFile (is_none o))) (no_room (length parts.laid.region) old.files.files f.1.is.0))))
+        (stays_so (record no_numbers { file = 1 }) old new before after began faulted map (drawn ∙ drawn_file old.drawn f.1.file.0 next) (ap (λ (v : StoreValue _). v.dues) k) (ap (λ (v : StoreValue _). indexes_of v.boxes) k) (omega (arith, number, next)) (same_ends old new f.1.ends) (knows_same old new (ap (λ (v : StoreValue _). v.instances) k) (ap (λ (h : Highest). h.instance) drawn)) s.grows (equal_reads began faulted fault.reads) fault.changes)
+        e.ran (s.stopped.0 stop) (fault.rose tt) (λ lists t. s.moments lists t)))
 
 -- ---- the message is placed
 
@@ -345,11 +358,10 @@ some_end a b e = cc e
 past_still : (offset end size : ℕ) → is_before offset (Some end) ≡ true → is_before offset (Some (end + size)) ≡ true
 past_still offset end size b = let l = lt_true offset end b in true_lt offset (end + size) (omega (arith, l))
 
-pub placing_more : {D : Type 0} → (parts : SavedParts) (file : FileNo) (at : SavedAt) (origin : ℕ) (rows : List InstRow) (room : LowerRoom) (name : List ℕ) (time size : ℕ) (octets : List ℕ) (how : Did) (old new : StoreValue D) (before after : Option History) (began faulted : Faults) → EventOf (stage.Placing parts file) (stage.Storing at origin rows room) name time size octets progress.More how old new before after began faulted
-    → DeliveryClause octets (stage.Placing parts file) (stage.Storing at origin rows room) name time progress.More how old new before after began faulted
-placing_more parts file at origin rows room name time size octets how old new before after began faulted e =
-    let s = e.saves in
-    let p = s.effects in
+pub placing_more : {D : Type 0} → (parts : SavedParts) (file : FileNo) (at : SavedAt) (rows : List InstRow) (room : LowerRoom) (name : List ℕ) (time size : ℕ) (octets : List ℕ) (how : Did) (old new : StoreValue D) (before after : Option History) (began faulted : Faults) → EventOf (stage.Placing parts file) (stage.Storing at rows room) name time size octets progress.More how old new before after began faulted
+    → PlacesParts parts file at rows old new → 1 ≤ at.size → DeliveryClause octets (stage.Placing parts file) (stage.Storing at rows room) name time progress.More how old new before after began faulted
+placing_more parts file at rows room name time size octets how old new before after began faulted e p some =
+    let s = e in
     let runs = not_stopped new.stopped (progress.More ≡ stopped_reply) s.stopped more_differs in
     let map = ap (λ (v : StoreValue _). v.map) p.same in
     let drawn = ap (λ (v : StoreValue _). v.drawn) p.same in
@@ -359,19 +371,17 @@ placing_more parts file at origin rows room name time size octets how old new be
     let last = e.order.last in
     let fits = e.left.1.fits in
     let began_at : e.left.1.end ≡ at.offset = some_end e.left.1.end at.offset (sym e.left.1.ends ∙ p.began) in
-    let some = region_some name time parts e.left.0 in
-    let long = p.size_is in
     let small : file.0 < 2 ^ 32 = omega (arith, low, last) in
     let near : at.offset < 2 ^ 32 = omega (arith, began_at, fits) in
     let fresh = ap (may_have_given old) p.guid ∙ place_new old file.0 at.offset e.id_long small near p.began in
-    let gave = ap (may_have_given new) p.guid ∙ place_given new old.map.store file.0 at.offset (at.offset + at.size) (ap (λ (m : MapMeaning). m.store) map) e.id_long small near (omega (arith, low, high, number)) p.ends (omega (arith, some, long)) in
-    with_did octets (stage.Placing parts file) (stage.Storing at origin rows room) name time progress.More how did.Quiet old new before after began faulted s.did_is
+    let gave = ap (may_have_given new) p.guid ∙ place_given new old.map.store file.0 at.offset (at.offset + at.size) (ap (λ (m : MapMeaning). m.store) map) e.id_long small near (omega (arith, low, high, number)) p.ends (omega (arith, some)) in
+    with_did octets (stage.Placing parts file) (stage.Storing at rows room) name time progress.More how did.Quiet old new before after began faulted s.did_is
     (λ behind. subst (λ (is : List InstRow). Steps (IsPlacingMessage parts.rows file.0) (IsStoringMessage is at.file.0 at.guid.0) (around_saving octets (stage.Placing parts file) old) behind (request.Deliver name time octets) (seen_saving old before began) (seen_saving new after faulted) did.Quiet None) (sym p.rows_are)
     (subst (λ (n : FileNo). Steps (IsPlacingMessage parts.rows file.0) (IsStoringMessage parts.rows n.0 at.guid.0) (around_saving octets (stage.Placing parts file) old) behind (request.Deliver name time octets) (seen_saving old before began) (seen_saving new after faulted) did.Quiet None) (sym p.file_is)
-    (places_message (around_saving octets (stage.Placing parts file) old) behind name time octets parts.rows file.0 at.guid.0 (seen_saving old before began) (seen_saving new after faulted) (sees_around octets (stage.Placing parts file) old before began e.is e.order e.whole)
+    (places_message (around_saving octets (stage.Placing parts file) old) behind name time octets parts.rows file.0 at.guid.0 (seen_saving old before began) (seen_saving new after faulted) (sees_around octets (stage.Placing parts file) old before began e.is e.order e.ids)
     (ap length p.guid ∙ place_long old.map.store file.0 at.offset e.id_long) (subst IsOctets (sym p.guid) (place_octets old.map.store file.0 at.offset e.id_octets)) (ap (guid_file old.map.store) p.guid ∙ place_file old.map.store file.0 at.offset e.id_long (omega (arith, low, last))) fresh
     (record {
-      run = has_run old new before after began faulted e.ran runs (ap (λ (m : MapMeaning). m.boxes) map) (ap (λ (v : StoreValue _). indexes_of v.boxes) p.same) s.moments (s.rests runs) s.grows (s.unfailed more_differs);
+      run = has_run old new before after began faulted e.ran runs (ap (λ (m : MapMeaning). m.boxes) map) (ap (λ (v : StoreValue _). indexes_of v.boxes) p.same) s.moments (s.rests runs) s.grows s.faults;
       map = map;
       due = λ uid. due_stays old new uid map (ap (λ (v : StoreValue _). v.dues) p.same);
     }) drawn
@@ -386,100 +396,98 @@ placing_more parts file at origin rows room name time size octets how old new be
         | inl same ↦ ap (λ (k : ℕ). is_some (end_in k old.files.files)) same ∙ ap (λ (o : Option ℕ). is_some o) p.began
         | inr apart ↦ ap (λ (o : Option ℕ). is_some o) (sym (p.others n apart)) ∙ there
       ];
-    })) gave)))
+    }) (knows_same old new (ap (λ (v : StoreValue _). v.instances) p.same) (ap (λ (h : Highest). h.instance) drawn))) gave)))
 
 -- one that left the store as it was, of which a change failed
 stays_alone : {D : Type 0} → (old new : StoreValue D) (before after : Option History) (began faulted : Faults) → IsLeftAlone old new → Grows before after → faulted.reads ≡ began.reads → began.changes ≤ faulted.changes → StaysSo no_numbers (seen_saving old before began) (seen_saving new after faulted)
 stays_alone old new before after began faulted k grows reads changes =
     stays_so no_numbers old new before after began faulted (ap (λ (v : StoreValue _). v.map) k.same) (ap (λ (v : StoreValue _). v.drawn) k.same ∙ sym (drawn_none old.drawn)) (ap (λ (v : StoreValue _). v.dues) k.same) k.indexes
-    (let d = ap (λ (v : StoreValue _). v.drawn.file) k.same in omega (arith, d)) (same_ends old new (λ n. ap (λ (v : StoreValue _). end_in n v.files.files) k.same)) grows (equal_reads began faulted reads) changes
+    (let d = ap (λ (v : StoreValue _). v.drawn.file) k.same in omega (arith, d)) (same_ends old new (λ n. ap (λ (v : StoreValue _). end_in n v.files.files) k.same)) (knows_same old new (ap (λ (v : StoreValue _). v.instances) k.same) (ap (λ (v : StoreValue _). v.drawn.instance) k.same)) grows (equal_reads began faulted reads) changes
 
 pub placing_refused : {D : Type 0} → (parts : SavedParts) (file : FileNo) (why : Refusal) (name : List ℕ) (time size : ℕ) (octets : List ℕ) (how : Did) (old new : StoreValue D) (before after : Option History) (began faulted : Faults) → EventOf (stage.Placing parts file) stage.Ended name time size octets (progress.Done (reply.Refused why)) how old new before after began faulted
-    → DeliveryClause octets (stage.Placing parts file) stage.Ended name time (progress.Done (reply.Refused why)) how old new before after began faulted
-placing_refused parts file why name time size octets how old new before after began faulted e =
-    let s = e.saves in
+    → IsLeftAlone old new → DeliveryClause octets (stage.Placing parts file) stage.Ended name time (progress.Done (reply.Refused why)) how old new before after began faulted
+placing_refused parts file why name time size octets how old new before after began faulted e alone =
+    let s = e in
     let is = s.replies in
+    let fault = fell_by why began faulted is s.faults in
     let stop : progress.Done (reply.Refused why) ≡ stopped_reply = ap (λ (w : Refusal). progress.Done (reply.Refused w)) is in
     with_did octets (stage.Placing parts file) stage.Ended name time (progress.Done (reply.Refused why)) how did.Failed old new before after began faulted (s.did_is ∙ ap failing_did is)
     (subst (λ (w : Refusal). DeliveryClause octets (stage.Placing parts file) stage.Ended name time (progress.Done (reply.Refused w)) did.Failed old new before after began faulted) (sym is)
-    (λ behind. fallen_save (around_saving octets (stage.Placing parts file) old) behind name time octets PlacesMessage (IsPlacingMessage parts.rows file.0) (IsAtSave stage.Ended) no_numbers (seen_saving old before began) (seen_saving new after faulted) (sees_around octets (stage.Placing parts file) old before began e.is e.order e.whole) (ends_placing name time octets)
-    (placing_at (around_saving octets (stage.Placing parts file) old) name time octets parts.rows file.0) (λ run event. inl refl) (stays_alone old new before after began faulted s.effects s.grows s.fault.reads s.fault.changes) e.ran (s.stopped.0 stop) (s.fault.rose stop) (λ lists t. s.moments lists t)))
+    (λ behind. fallen_save (around_saving octets (stage.Placing parts file) old) behind name time octets PlacesMessage (IsPlacingMessage parts.rows file.0) (IsAtSave stage.Ended) no_numbers (seen_saving old before began) (seen_saving new after faulted) (sees_around octets (stage.Placing parts file) old before began e.is e.order e.ids) (ends_placing name time octets)
+    (placing_at (around_saving octets (stage.Placing parts file) old) name time octets parts.rows file.0) (λ run event. inl refl) (stays_alone old new before after began faulted alone s.grows fault.reads fault.changes) e.ran (s.stopped.0 stop) (fault.rose tt) (λ lists t. s.moments lists t)))
 
 -- ---- the message is stored
 
-own_save : (octets : List ℕ) → has_detachable octets ≡ false → origin_of octets ≡ 0
-own_save octets whole = ap (λ (b : Bool). if b then 1 else 0) whole
-
-pub storing_more : {D : Type 0} → (at : SavedAt) (origin : ℕ) (rows : List InstRow) (room left : LowerRoom) (added : Added) (name : List ℕ) (time size : ℕ) (octets : List ℕ) (how : Did) (old new : StoreValue D) (before after : Option History) (began faulted : Faults) → EventOf (stage.Storing at origin rows room) (stage.Adding added left) name time size octets progress.More how old new before after began faulted
-    → DeliveryClause octets (stage.Storing at origin rows room) (stage.Adding added left) name time progress.More how old new before after began faulted
-storing_more at origin rows room left added name time size octets how old new before after began faulted e =
-    let s = e.saves in
-    let p = s.effects in
+pub storing_more : {D : Type 0} → (at : SavedAt) (rows : List InstRow) (room left : LowerRoom) (added : Added) (name : List ℕ) (time size : ℕ) (octets : List ℕ) (how : Did) (old new : StoreValue D) (before after : Option History) (began faulted : Faults) → EventOf (stage.Storing at rows room) (stage.Adding added left) name time size octets progress.More how old new before after began faulted
+    → StoresPlaced at rows time size added old new → DeliveryClause octets (stage.Storing at rows room) (stage.Adding added left) name time progress.More how old new before after began faulted
+storing_more at rows room left added name time size octets how old new before after began faulted e p =
+    let s = e in
     let r = e.ready.1 in
     let runs = not_stopped new.stopped (progress.More ≡ stopped_reply) s.stopped more_differs in
-    let none : origin ≡ 0 = r.origin_is ∙ own_save octets e.whole in
     let drawn = p.drawn ∙ drawn_map old.drawn added.map_uid.0 p.uid_is in
     let number = ap (λ (h : Highest). h.file) p.drawn in
-    with_did octets (stage.Storing at origin rows room) (stage.Adding added left) name time progress.More how did.Quiet old new before after began faulted s.did_is
-    (λ behind. subst (λ (g : Guid). Steps (IsStoringMessage rows at.file.0 at.guid.0) (IsAddingMessage g.0 added.map_uid.0) (around_saving octets (stage.Storing at origin rows room) old) behind (request.Deliver name time octets) (seen_saving old before began) (seen_saving new after faulted) did.Quiet None) (sym p.guid_is)
-    (stores_message (around_saving octets (stage.Storing at origin rows room) old) behind name time octets rows at.file.0 at.guid.0 added.map_uid.0 at.size at.offset (seen_saving old before began) (seen_saving new after faulted) (sees_around octets (stage.Storing at origin rows room) old before began e.is e.order e.whole)
+    with_did octets (stage.Storing at rows room) (stage.Adding added left) name time progress.More how did.Quiet old new before after began faulted s.did_is
+    (λ behind. subst (λ (g : Guid). Steps (IsStoringMessage rows at.file.0 at.guid.0) (IsAddingMessage g.0 added.map_uid.0) (around_saving octets (stage.Storing at rows room) old) behind (request.Deliver name time octets) (seen_saving old before began) (seen_saving new after faulted) did.Quiet None) (sym p.guid_is)
+    (stores_message (around_saving octets (stage.Storing at rows room) old) behind name time octets rows at.file.0 at.guid.0 added.map_uid.0 at.size at.offset (seen_saving old before began) (seen_saving new after faulted) (sees_around octets (stage.Storing at rows room) old before began e.is e.order e.ids)
     p.uid_is p.few (sym e.left.0.guid_offset)
-    (has_run old new before after began faulted e.ran runs p.mailboxes (ap (λ (v : StoreValue _). indexes_of v.boxes) p.same) (λ lists t. s.moments lists (r.ready (record { 0 = old.drawn.map + 1 }) lists t) t) (λ lists t. s.rests runs lists (r.ready (record { 0 = old.drawn.map + 1 }) lists t) t) s.grows (s.unfailed more_differs))
-    (subst (λ (n : ℕ). new.map ≡ map_applied (entry_stored n rows added.map_uid at) old.map) none p.map) drawn (λ other. p.due other)
-    (tells_store old new before after began faulted (ap (λ (m : MapMeaning). m.store) p.map) (omega (arith, number)) (same_ends old new p.ends))))
+    (has_run old new before after began faulted e.ran runs p.mailboxes (ap (λ (v : StoreValue _). indexes_of v.boxes) p.same) (λ lists t. s.moments lists (r.ready (record { 0 = old.drawn.map + 1 }) lists t) t) (λ lists t. s.rests runs lists (r.ready (record { 0 = old.drawn.map + 1 }) lists t) t) s.grows s.faults)
+    p.map drawn (λ other. p.due other)
+    (tells_store old new before after began faulted (ap (λ (m : MapMeaning). m.store) p.map) (omega (arith, number)) (same_ends old new p.ends)
+    (knows_same old new (ap (λ (v : StoreValue _). v.instances) p.same) (ap (λ (h : Highest). h.instance) p.drawn)))))
 
-pub storing_refused : {D : Type 0} → (at : SavedAt) (origin : ℕ) (rows : List InstRow) (room : LowerRoom) (why : Refusal) (name : List ℕ) (time size : ℕ) (octets : List ℕ) (how : Did) (old new : StoreValue D) (before after : Option History) (began faulted : Faults) → EventOf (stage.Storing at origin rows room) stage.Ended name time size octets (progress.Done (reply.Refused why)) how old new before after began faulted
-    → DeliveryClause octets (stage.Storing at origin rows room) stage.Ended name time (progress.Done (reply.Refused why)) how old new before after began faulted
-storing_refused at origin rows room why name time size octets how old new before after began faulted e = by_cause e.saves.replies e.saves.effects
+pub storing_refused : {D : Type 0} → (at : SavedAt) (rows : List InstRow) (room : LowerRoom) (why : Refusal) (name : List ℕ) (time size : ℕ) (octets : List ℕ) (how : Did) (old new : StoreValue D) (before after : Option History) (began faulted : Faults) → EventOf (stage.Storing at rows room) stage.Ended name time size octets (progress.Done (reply.Refused why)) how old new before after began faulted
+    → StoresNone at why old new → DeliveryClause octets (stage.Storing at rows room) stage.Ended name time (progress.Done (reply.Refused why)) how old new before after began faulted
+storing_refused at rows room why name time size octets how old new before after began faulted e none = by_cause e.replies none
   where
-    sees : SeesAround octets (around_saving octets (stage.Storing at origin rows room) old) (seen_saving old before began)
-    sees = sees_around octets (stage.Storing at origin rows room) old before began e.is e.order e.whole
+    sees : SeesAround octets (around_saving octets (stage.Storing at rows room) old) (seen_saving old before began)
+    sees = sees_around octets (stage.Storing at rows room) old before began e.is e.order e.ids
 
-    goes : (why ≡ refusal.Stopped → ⊥) → GivesFileBack at.file.0 old new → HasRun (seen_saving old before began) (seen_saving new after faulted)
-    goes other k =
-        let s = e.saves in
+    goes : (why ≡ refusal.Stopped → ⊥) → (why ≡ refusal.ReadFault → ⊥) → GivesFileBack at.file.0 old new → HasRun (seen_saving old before began) (seen_saving new after faulted)
+    goes other unread k =
+        let s = e in
         let r = e.ready.1 in
         let runs = not_stopped new.stopped (progress.Done (reply.Refused why) ≡ stopped_reply) s.stopped (refused_differs why other) in
         has_run old new before after began faulted e.ran runs (ap (λ (v : StoreValue _). v.map.boxes) k.same) (ap (λ (v : StoreValue _). indexes_of v.boxes) k.same) (λ lists t. s.moments lists (r.ready (record { 0 = old.drawn.map + 1 }) lists t) t)
-        (λ lists t. s.rests runs lists (r.ready (record { 0 = old.drawn.map + 1 }) lists t) t) s.grows (s.unfailed (refused_differs why other))
+        (λ lists t. s.rests runs lists (r.ready (record { 0 = old.drawn.map + 1 }) lists t) t) s.grows (untold_faults why began faulted other unread s.faults)
 
-    stays : (why ≡ refusal.Stopped → ⊥) → GivesFileBack at.file.0 old new → StaysSo no_numbers (seen_saving old before began) (seen_saving new after faulted)
-    stays other k =
-        let same = e.saves.unfailed (refused_differs why other) in
+    stays : (why ≡ refusal.Stopped → ⊥) → (why ≡ refusal.ReadFault → ⊥) → GivesFileBack at.file.0 old new → StaysSo no_numbers (seen_saving old before began) (seen_saving new after faulted)
+    stays other unread k =
+        let same = untold_faults why began faulted other unread e.faults in
         stays_so no_numbers old new before after began faulted (ap (λ (v : StoreValue _). v.map) k.same) (ap (λ (v : StoreValue _). v.drawn) k.same ∙ sym (drawn_none old.drawn)) (ap (λ (v : StoreValue _). v.dues) k.same) (ap (λ (v : StoreValue _). indexes_of v.boxes) k.same)
-        (let d = ap (λ (v : StoreValue _). v.drawn.file) k.same in omega (arith, d)) (same_ends old new k.ends) e.saves.grows (same_reads began faulted same) (same_changes began faulted same)
+        (let d = ap (λ (v : StoreValue _). v.drawn.file) k.same in omega (arith, d)) (same_ends old new k.ends) (knows_same old new (ap (λ (v : StoreValue _). v.instances) k.same) (ap (λ (v : StoreValue _). v.drawn.instance) k.same)) e.grows (same_reads began faulted same) (same_changes began faulted same)
 
-    full : why ≡ refusal.StoreFull 4294967294 → nat_le 4294967294 old.drawn.map ≡ true → (why ≡ refusal.Stopped → ⊥) → GivesFileBack at.file.0 old new → DeliveryClause octets (stage.Storing at origin rows room) stage.Ended name time (progress.Done (reply.Refused why)) how old new before after began faulted
+    full : why ≡ refusal.StoreFull 4294967294 → nat_le 4294967294 old.drawn.map ≡ true → (why ≡ refusal.Stopped → ⊥) → GivesFileBack at.file.0 old new → DeliveryClause octets (stage.Storing at rows room) stage.Ended name time (progress.Done (reply.Refused why)) how old new before after began faulted
     full is used other k =
         let step : is_step why ≡ true = ap is_step is in
-        with_did octets (stage.Storing at origin rows room) stage.Ended name time (progress.Done (reply.Refused why)) how (did.Step half.Whole) old new before after began faulted (e.saves.did_is ∙ step_did why step)
-        (λ behind. checked_save (around_saving octets (stage.Storing at origin rows room) old) behind name time octets StoresRecord (IsAtSave (stage.Storing at origin rows room)) (IsAtSave stage.Ended) why (seen_saving old before began) (seen_saving new after faulted) sees (ends_storing name time octets)
-        (storing_at (around_saving octets (stage.Storing at origin rows room) old) name time octets rows at.file.0 at.guid.0) (λ run place said stood. stood.3) step
-        (λ run lists event come shows. full_uids name time octets (seen_saving old before began) used run lists event come shows ∙ ap (λ (w : Refusal). Some w) (sym is)) (goes other k) (stays other k))
+        with_did octets (stage.Storing at rows room) stage.Ended name time (progress.Done (reply.Refused why)) how (did.Step half.Whole) old new before after began faulted (e.did_is ∙ step_did why step)
+        (λ behind. checked_save (around_saving octets (stage.Storing at rows room) old) behind name time octets StoresRecord (IsAtSave (stage.Storing at rows room)) (IsAtSave stage.Ended) why (seen_saving old before began) (seen_saving new after faulted) sees (ends_storing name time octets)
+        (storing_at (around_saving octets (stage.Storing at rows room) old) name time octets rows at.file.0 at.guid.0) (λ run place said stood. stood.3) step
+        (λ run lists event come shows. full_uids name time octets (seen_saving old before began) used run lists event come shows ∙ ap (λ (w : Refusal). Some w) (sym is)) (goes other (step_calm why step) k) (stays other (step_calm why step) k))
 
-    forgotten : why ≡ refusal.NoMemory → (why ≡ refusal.Stopped → ⊥) → GivesFileBack at.file.0 old new → DeliveryClause octets (stage.Storing at origin rows room) stage.Ended name time (progress.Done (reply.Refused why)) how old new before after began faulted
+    forgotten : why ≡ refusal.NoMemory → (why ≡ refusal.Stopped → ⊥) → GivesFileBack at.file.0 old new → DeliveryClause octets (stage.Storing at rows room) stage.Ended name time (progress.Done (reply.Refused why)) how old new before after began faulted
     forgotten m other k =
-        with_did octets (stage.Storing at origin rows room) stage.Ended name time (progress.Done (reply.Refused why)) how did.Quiet old new before after began faulted (e.saves.did_is ∙ ap failing_did m)
-        (subst (λ (w : Refusal). DeliveryClause octets (stage.Storing at origin rows room) stage.Ended name time (progress.Done (reply.Refused w)) did.Quiet old new before after began faulted) (sym m)
-        (λ behind. forgotten_save (around_saving octets (stage.Storing at origin rows room) old) behind name time octets StoresRecord (IsAtSave (stage.Storing at origin rows room)) (IsAtSave stage.Ended) (seen_saving old before began) (seen_saving new after faulted) sees (ends_storing name time octets)
-        (storing_at (around_saving octets (stage.Storing at origin rows room) old) name time octets rows at.file.0 at.guid.0) refl (λ run place said stood. stood.3) (goes other k) (stays other k)))
+        with_did octets (stage.Storing at rows room) stage.Ended name time (progress.Done (reply.Refused why)) how did.Quiet old new before after began faulted (e.did_is ∙ ap failing_did m)
+        (subst (λ (w : Refusal). DeliveryClause octets (stage.Storing at rows room) stage.Ended name time (progress.Done (reply.Refused w)) did.Quiet old new before after began faulted) (sym m)
+        (λ behind. forgotten_save (around_saving octets (stage.Storing at rows room) old) behind name time octets StoresRecord (IsAtSave (stage.Storing at rows room)) (IsAtSave stage.Ended) (seen_saving old before began) (seen_saving new after faulted) sees (ends_storing name time octets)
+        (storing_at (around_saving octets (stage.Storing at rows room) old) name time octets rows at.file.0 at.guid.0) refl (λ run place said stood. stood.3) (goes other (memory_unread why m) k) (stays other (memory_unread why m) k)))
 
-    fell : why ≡ refusal.Stopped → IsLeftAlone old new → DeliveryClause octets (stage.Storing at origin rows room) stage.Ended name time (progress.Done (reply.Refused why)) how old new before after began faulted
+    fell : why ≡ refusal.Stopped → IsLeftAlone old new → DeliveryClause octets (stage.Storing at rows room) stage.Ended name time (progress.Done (reply.Refused why)) how old new before after began faulted
     fell is k =
-        let s = e.saves in
+        let s = e in
         let r = e.ready.1 in
+        let fault = fell_by why began faulted is s.faults in
         let stop : progress.Done (reply.Refused why) ≡ stopped_reply = ap (λ (w : Refusal). progress.Done (reply.Refused w)) is in
-        with_did octets (stage.Storing at origin rows room) stage.Ended name time (progress.Done (reply.Refused why)) how did.Failed old new before after began faulted (s.did_is ∙ ap failing_did is)
-        (subst (λ (w : Refusal). DeliveryClause octets (stage.Storing at origin rows room) stage.Ended name time (progress.Done (reply.Refused w)) did.Failed old new before after began faulted) (sym is)
-        (λ behind. fallen_save (around_saving octets (stage.Storing at origin rows room) old) behind name time octets StoresRecord (IsAtSave (stage.Storing at origin rows room)) (IsAtSave stage.Ended) no_numbers (seen_saving old before began) (seen_saving new after faulted) sees (ends_storing name time octets)
-        (storing_at (around_saving octets (stage.Storing at origin rows room) old) name time octets rows at.file.0 at.guid.0) (λ run event. inl refl) (stays_alone old new before after began faulted k s.grows s.fault.reads s.fault.changes) e.ran (s.stopped.0 stop) (s.fault.rose stop)
+        with_did octets (stage.Storing at rows room) stage.Ended name time (progress.Done (reply.Refused why)) how did.Failed old new before after began faulted (s.did_is ∙ ap failing_did is)
+        (subst (λ (w : Refusal). DeliveryClause octets (stage.Storing at rows room) stage.Ended name time (progress.Done (reply.Refused w)) did.Failed old new before after began faulted) (sym is)
+        (λ behind. fallen_save (around_saving octets (stage.Storing at rows room) old) behind name time octets StoresRecord (IsAtSave (stage.Storing at rows room)) (IsAtSave stage.Ended) no_numbers (seen_saving old before began) (seen_saving new after faulted) sees (ends_storing name time octets)
+        (storing_at (around_saving octets (stage.Storing at rows room) old) name time octets rows at.file.0 at.guid.0) (λ run event. inl refl) (stays_alone old new before after began faulted k s.grows fault.reads fault.changes) e.ran (s.stopped.0 stop) (fault.rose tt)
         (λ lists t. s.moments lists (r.ready (record { 0 = old.drawn.map + 1 }) lists t) t)))
 
     full_runs : why ≡ refusal.StoreFull 4294967294 → why ≡ refusal.Stopped → ⊥
     full_runs is k = step_runs why (ap is_step is) k
 
     by_cause : (uid_refusal old.drawn.map ≡ Some why) ⊎ ((uid_refusal old.drawn.map ≡ None) × ((why ≡ refusal.Stopped) ⊎ (why ≡ refusal.NoMemory))) → StoresNone at why old new
-        → DeliveryClause octets (stage.Storing at origin rows room) stage.Ended name time (progress.Done (reply.Refused why)) how old new before after began faulted
+        → DeliveryClause octets (stage.Storing at rows room) stage.Ended name time (progress.Done (reply.Refused why)) how old new before after began faulted
     by_cause cause (inl k) = fell k.0 k.1
     by_cause (inl used) (inr k) = let u = uid_full (nat_le 4294967294 old.drawn.map) why used in full u.1 u.0 k.0 k.1
     by_cause (inr (some, inl is)) (inr k) = absurd (k.0 is)
@@ -534,18 +542,17 @@ added_as : (uid : Uid) (added : Added) (time : ℕ) (octets : List ℕ) → adde
 added_as uid added time octets t n = ap (λ (k : ℕ). box_entry.A uid 0 k added.size added.map_uid added.guid) t ∙ ap (λ (k : ℕ). box_entry.A uid 0 time k added.map_uid added.guid) n
 
 pub adding_saved : {D : Type 0} → (added : Added) (room : LowerRoom) (uid : Uid) (guid : Guid) (name : List ℕ) (time size : ℕ) (octets : List ℕ) (how : Did) (old new : StoreValue D) (before after : Option History) (began faulted : Faults) → EventOf (stage.Adding added room) stage.Ended name time size octets (progress.Done (reply.Saved uid guid)) how old new before after began faulted
-    → DeliveryClause octets (stage.Adding added room) stage.Ended name time (progress.Done (reply.Saved uid guid)) how old new before after began faulted
-adding_saved added room uid guid name time size octets how old new before after began faulted e =
-    let s = e.saves in
-    let p = s.effects.1 in
+    → guid ≡ added.guid → AddsStored name added uid old new → DeliveryClause octets (stage.Adding added room) stage.Ended name time (progress.Done (reply.Saved uid guid)) how old new before after began faulted
+adding_saved added room uid guid name time size octets how old new before after began faulted e guid_is p =
+    let s = e in
     let r = e.ready.1 in
     let small = e.ready.0.1 in
     let runs = not_stopped new.stopped (progress.Done (reply.Saved uid guid) ≡ stopped_reply) s.stopped (saved_differs uid guid) in
-    let same = s.unfailed (saved_differs uid guid) in
+    let same = s.faults in
     let entry = added_as uid added time octets r.time_is r.size_is in
     with_did octets (stage.Adding added room) stage.Ended name time (progress.Done (reply.Saved uid guid)) how (did.Step half.Whole) old new before after began faulted s.did_is
-    (subst (λ (g : Guid). DeliveryClause octets (stage.Adding added room) stage.Ended name time (progress.Done (reply.Saved uid g)) (did.Step half.Whole) old new before after began faulted) (sym s.effects.0)
-    (λ behind. saved_message (around_saving octets (stage.Adding added room) old) behind name time octets added.guid added.map_uid.0 p.number.0 uid (IsAtSave stage.Ended) (seen_saving old before began) (seen_saving new after faulted) (sees_around octets (stage.Adding added room) old before began e.is e.order e.whole) (record { timed = e.timed; small = small })
+    (subst (λ (g : Guid). DeliveryClause octets (stage.Adding added room) stage.Ended name time (progress.Done (reply.Saved uid g)) (did.Step half.Whole) old new before after began faulted) (sym guid_is)
+    (λ behind. saved_message (around_saving octets (stage.Adding added room) old) behind name time octets added.guid added.map_uid.0 p.number.0 uid (IsAtSave stage.Ended) (seen_saving old before began) (seen_saving new after faulted) (sees_around octets (stage.Adding added room) old before began e.is e.order e.ids) (record { timed = e.timed; small = small })
     (finds_box name added.guid.0 p.number uid old before began p.room r.unlisted)
     (record {
       ran = e.ran;
@@ -554,7 +561,7 @@ adding_saved added room uid guid name time size octets how old new before after 
       drawn = ap (λ (v : StoreValue _). v.drawn) p.same;
       taken = p.taken ∙ ap (λ (x : BoxEntry). meanings_by p.number.0 x old.map.boxes (indexes_of old.boxes)) entry;
       due = λ other. less_due added.map_uid old new other e.left.1 (p.due p.room.mailbox other p.room.named);
-      tells = tells_store old new before after began faulted (ap (λ (v : StoreValue _). v.map.store) p.same) (let d = ap (λ (v : StoreValue _). v.drawn.file) p.same in omega (arith, d)) (same_ends old new (λ n. ap (λ (v : StoreValue _). end_in n v.files.files) p.same));
+      tells = tells_store old new before after began faulted (ap (λ (v : StoreValue _). v.map.store) p.same) (let d = ap (λ (v : StoreValue _). v.drawn.file) p.same in omega (arith, d)) (same_ends old new (λ n. ap (λ (v : StoreValue _). end_in n v.files.files) p.same)) (knows_same old new (ap (λ (v : StoreValue _). v.instances) p.same) (ap (λ (v : StoreValue _). v.drawn.instance) p.same));
       moments = λ lists t. subst (λ (x : BoxEntry). Leaves lists (lists_by p.number.0 octets x lists) before after) entry (s.moments p.number uid p.room lists octets (r.brings uid) t);
       settled = λ lists t. subst (λ (x : BoxEntry). IsSettledFor (lists_by p.number.0 octets x lists) after) entry (s.rests runs p.number p.room lists octets (r.brings uid) t);
       grows = s.grows;
@@ -563,89 +570,91 @@ adding_saved added room uid guid name time size octets how old new before after 
     })))
 
 pub adding_refused : {D : Type 0} → (added : Added) (room : LowerRoom) (why : Refusal) (name : List ℕ) (time size : ℕ) (octets : List ℕ) (how : Did) (old new : StoreValue D) (before after : Option History) (began faulted : Faults) → EventOf (stage.Adding added room) stage.Ended name time size octets (progress.Done (reply.Refused why)) how old new before after began faulted
-    → DeliveryClause octets (stage.Adding added room) stage.Ended name time (progress.Done (reply.Refused why)) how old new before after began faulted
-adding_refused added room why name time size octets how old new before after began faulted e =
-    let s = e.saves in
+    → IsLeftAlone old new → DeliveryClause octets (stage.Adding added room) stage.Ended name time (progress.Done (reply.Refused why)) how old new before after began faulted
+adding_refused added room why name time size octets how old new before after began faulted e alone =
+    let s = e in
     let k = stops_adding added room why old name s.replies in
     let number = k.0 in
     let uid = k.1 in
     let found = k.2 in
     let is = k.3 in
+    let fault = fell_by why began faulted is s.faults in
     let r = e.ready.1 in
     let stop : progress.Done (reply.Refused why) ≡ stopped_reply = ap (λ (w : Refusal). progress.Done (reply.Refused w)) is in
     let entry = added_as uid added time octets r.time_is r.size_is in
     with_did octets (stage.Adding added room) stage.Ended name time (progress.Done (reply.Refused why)) how (did.Broken half.Whole) old new before after began faulted s.did_is
     (subst (λ (w : Refusal). DeliveryClause octets (stage.Adding added room) stage.Ended name time (progress.Done (reply.Refused w)) (did.Broken half.Whole) old new before after began faulted) (sym is)
-    (λ behind. broken_save (around_saving octets (stage.Adding added room) old) behind name time octets added.guid added.map_uid.0 number.0 uid (IsAtSave stage.Ended) (seen_saving old before began) (seen_saving new after faulted) (sees_around octets (stage.Adding added room) old before began e.is e.order e.whole)
+    (λ behind. broken_save (around_saving octets (stage.Adding added room) old) behind name time octets added.guid added.map_uid.0 number.0 uid (IsAtSave stage.Ended) (seen_saving old before began) (seen_saving new after faulted) (sees_around octets (stage.Adding added room) old before began e.is e.order e.ids)
     (finds_box name added.guid.0 number uid old before began found r.unlisted)
     (record {
       ran = e.ran;
       stopped = s.stopped.0 stop;
-      stays = stays_alone old new before after began faulted s.effects s.grows s.fault.reads s.fault.changes;
-      rose = s.fault.rose stop;
+      stays = stays_alone old new before after began faulted alone s.grows fault.reads fault.changes;
+      rose = fault.rose tt;
       moments = λ lists t. subst (λ (x : BoxEntry). Leaves lists (lists_by number.0 octets x lists) before after) entry (s.moments number uid found lists octets (r.brings uid) t);
     })))
 
 pub adding_more : {D : Type 0} → (added : Added) (room left : LowerRoom) (uid : MapUid) (why : Refusal) (name : List ℕ) (time size : ℕ) (octets : List ℕ) (how : Did) (old new : StoreValue D) (before after : Option History) (began faulted : Faults) → EventOf (stage.Adding added room) (stage.GivingBack uid why left) name time size octets progress.More how old new before after began faulted
-    → DeliveryClause octets (stage.Adding added room) (stage.GivingBack uid why left) name time progress.More how old new before after began faulted
-adding_more added room left uid why name time size octets how old new before after began faulted e = by_cause (goes_back added room left uid why old name e.saves.replies)
+    → uid ≡ added.map_uid → new ≡ old → DeliveryClause octets (stage.Adding added room) (stage.GivingBack uid why left) name time progress.More how old new before after began faulted
+adding_more added room left uid why name time size octets how old new before after began faulted e uid_is same = by_cause (goes_back added room left uid why old name e.replies)
   where
-    same : new ≡ old
-    same = e.saves.effects.1
-
     idle : (after ≡ before) × (faulted ≡ began)
     idle = e.idle (ap (λ (v : StoreValue _). v.disk) same)
 
     goes : HasRun (seen_saving old before began) (seen_saving new after faulted)
     goes =
-        has_run old new before after began faulted e.ran (not_stopped new.stopped (progress.More ≡ stopped_reply) e.saves.stopped more_differs) (ap (λ (v : StoreValue _). v.map.boxes) same) (ap (λ (v : StoreValue _). indexes_of v.boxes) same)
-        (λ lists t. subst (λ (h : Option History). Leaves lists lists before h) (sym idle.0) (leaves_none before lists lists t)) (λ lists t. subst (λ (h : Option History). IsSettledFor lists h) (sym idle.0) t) e.saves.grows idle.1
+        has_run old new before after began faulted e.ran (not_stopped new.stopped (progress.More ≡ stopped_reply) e.stopped more_differs) (ap (λ (v : StoreValue _). v.map.boxes) same) (ap (λ (v : StoreValue _). indexes_of v.boxes) same)
+        (λ lists t. subst (λ (h : Option History). Leaves lists lists before h) (sym idle.0) (leaves_none before lists lists t)) (λ lists t. subst (λ (h : Option History). IsSettledFor lists h) (sym idle.0) t) e.grows idle.1
 
     stays : StaysSo no_numbers (seen_saving old before began) (seen_saving new after faulted)
-    stays = stays_same old new before after began faulted same e.saves.grows (same_reads began faulted idle.1) (same_changes began faulted idle.1)
+    stays = stays_same old new before after began faulted same e.grows (same_reads began faulted idle.1) (same_changes began faulted idle.1)
 
     sees : SeesAround octets (around_saving octets (stage.Adding added room) old) (seen_saving old before began)
-    sees = sees_around octets (stage.Adding added room) old before began e.is e.order e.whole
+    sees = sees_around octets (stage.Adding added room) old before began e.is e.order e.ids
 
     as_held : (known : Did) → how ≡ known → ((behind : Around) → Steps (IsAddingMessage added.guid.0 added.map_uid.0) (IsLoweringCount added.map_uid.0 why) (around_saving octets (stage.Adding added room) old) behind (request.Deliver name time octets) (seen_saving old before began) (seen_saving new after faulted) known None)
         → DeliveryClause octets (stage.Adding added room) (stage.GivingBack uid why left) name time progress.More how old new before after began faulted
     as_held known is does = with_did octets (stage.Adding added room) (stage.GivingBack uid why left) name time progress.More how known old new before after began faulted is
-        (λ behind. subst (λ (u : MapUid). Steps (IsAddingMessage added.guid.0 added.map_uid.0) (IsLoweringCount u.0 why) (around_saving octets (stage.Adding added room) old) behind (request.Deliver name time octets) (seen_saving old before began) (seen_saving new after faulted) known None) (sym e.saves.effects.0) (does behind))
+        (λ behind. subst (λ (u : MapUid). Steps (IsAddingMessage added.guid.0 added.map_uid.0) (IsLoweringCount u.0 why) (around_saving octets (stage.Adding added room) old) behind (request.Deliver name time octets) (seen_saving old before began) (seen_saving new after faulted) known None) (sym uid_is) (does behind))
 
     by_cause : (box_refusal (list_named old name) ≡ Some why) ⊎ ((box_refusal (list_named old name) ≡ None) × (why ≡ refusal.NoMemory)) → DeliveryClause octets (stage.Adding added room) (stage.GivingBack uid why left) name time progress.More how old new before after began faulted
     by_cause (inl refuses) =
         let step = box_steps (list_named old name) why refuses in
-        as_held (did.Step half.Whole) (e.saves.did_is ∙ refused_as why step)
+        as_held (did.Step half.Whole) (e.did_is ∙ refused_as why step)
         (λ behind. refused_message (around_saving octets (stage.Adding added room) old) behind name time octets added.guid.0 added.map_uid.0 why (seen_saving old before began) (seen_saving new after faulted) sees step refuses goes stays)
     by_cause (inr m) =
-        as_held did.Quiet (e.saves.did_is ∙ ap refused_did m.1)
+        as_held did.Quiet (e.did_is ∙ ap refused_did m.1)
         (λ behind. subst (λ (w : Refusal). Steps (IsAddingMessage added.guid.0 added.map_uid.0) (IsLoweringCount added.map_uid.0 w) (around_saving octets (stage.Adding added room) old) behind (request.Deliver name time octets) (seen_saving old before began) (seen_saving new after faulted) did.Quiet None) (sym m.1)
         (forgotten_message (around_saving octets (stage.Adding added room) old) behind name time octets added.guid.0 added.map_uid.0 (seen_saving old before began) (seen_saving new after faulted) sees goes stays))
 
 -- ---- its record is given back
 
 pub giving_refused : {D : Type 0} → (uid : MapUid) (cause : Refusal) (room : LowerRoom) (why : Refusal) (name : List ℕ) (time size : ℕ) (octets : List ℕ) (how : Did) (old new : StoreValue D) (before after : Option History) (began faulted : Faults) → EventOf (stage.GivingBack uid cause room) stage.Ended name time size octets (progress.Done (reply.Refused why)) how old new before after began faulted
+    → ((why ≡ cause) × LowersRecord uid old new) ⊎ ((why ≡ refusal.Stopped) × IsLeftAlone old new)
     → DeliveryClause octets (stage.GivingBack uid cause room) stage.Ended name time (progress.Done (reply.Refused why)) how old new before after began faulted
-giving_refused uid cause room why name time size octets how old new before after began faulted e = by_case e.saves.effects
+giving_refused uid cause room why name time size octets how old new before after began faulted e made = by_case made
   where
     sees : SeesAround octets (around_saving octets (stage.GivingBack uid cause room) old) (seen_saving old before began)
-    sees = sees_around octets (stage.GivingBack uid cause room) old before began e.is e.order e.whole
+    sees = sees_around octets (stage.GivingBack uid cause room) old before began e.is e.order e.ids
 
     by_case : ((why ≡ cause) × LowersRecord uid old new) ⊎ ((why ≡ refusal.Stopped) × IsLeftAlone old new) → DeliveryClause octets (stage.GivingBack uid cause room) stage.Ended name time (progress.Done (reply.Refused why)) how old new before after began faulted
     by_case (inl k) =
-        let s = e.saves in
+        let s = e in
         let other : why ≡ refusal.Stopped → ⊥ = λ is. e.left.1 (sym k.0 ∙ is) in
+        let unread : why ≡ refusal.ReadFault → ⊥ = λ is. e.left.2 (sym k.0 ∙ is) in
         let runs = not_stopped new.stopped (progress.Done (reply.Refused why) ≡ stopped_reply) s.stopped (refused_differs why other) in
         let p = k.1 in
         with_did octets (stage.GivingBack uid cause room) stage.Ended name time (progress.Done (reply.Refused why)) how did.Quiet old new before after began faulted (s.did_is ∙ gives_quietly why other)
         (subst (λ (w : Refusal). DeliveryClause octets (stage.GivingBack uid cause room) stage.Ended name time (progress.Done (reply.Refused w)) did.Quiet old new before after began faulted) (sym k.0)
         (λ behind. lowers_count (around_saving octets (stage.GivingBack uid cause room) old) behind name time octets uid.0 cause (IsAtSave stage.Ended) (seen_saving old before began) (seen_saving new after faulted) sees
-        (has_run old new before after began faulted e.ran runs p.mailboxes (ap (λ (v : StoreValue _). indexes_of v.boxes) p.same) s.moments (s.rests runs) s.grows (s.unfailed (refused_differs why other))) p.map (ap (λ (v : StoreValue _). v.drawn) p.same) (λ u. less_due uid old new u e.left.0 (p.due u))
-        (tells_store old new before after began faulted (ap (λ (m : MapMeaning). m.store) p.map) (let d = ap (λ (v : StoreValue _). v.drawn.file) p.same in omega (arith, d)) (same_ends old new (λ n. ap (λ (v : StoreValue _). end_in n v.files.files) p.same)))))
+        (has_run old new before after began faulted e.ran runs p.mailboxes (ap (λ (v : StoreValue _). indexes_of v.boxes) p.same) s.moments (s.rests runs) s.grows (untold_faults why began faulted other unread s.faults)) p.map (ap (λ (v : StoreValue _). v.drawn) p.same) (λ u. less_due uid old new u e.left.0 (p.due u))
+        (tells_store old new before after began faulted (ap (λ (m : MapMeaning). m.store) p.map) (let d = ap (λ (v : StoreValue _). v.drawn.file) p.same in omega (arith, d)) (same_ends old new (λ n. ap (λ (v : StoreValue _). end_in n v.files.files) p.same))
+        (knows_same old new (ap (λ (v : StoreValue _). v.instances) p.same) (ap (λ (v : StoreValue _). v.drawn.instance) p.same)))))
     by_case (inr k) =
-        let s = e.saves in
+        let s = e in
+        let fault = fell_by why began faulted k.0 s.faults in
         let stop : progress.Done (reply.Refused why) ≡ stopped_reply = ap (λ (w : Refusal). progress.Done (reply.Refused w)) k.0 in
         with_did octets (stage.GivingBack uid cause room) stage.Ended name time (progress.Done (reply.Refused why)) how did.Failed old new before after began faulted (s.did_is ∙ ap (λ (w : Refusal). giving_did (progress.Done (reply.Refused w))) k.0)
         (subst (λ (w : Refusal). DeliveryClause octets (stage.GivingBack uid cause room) stage.Ended name time (progress.Done (reply.Refused w)) did.Failed old new before after began faulted) (sym k.0)
         (λ behind. fallen_save (around_saving octets (stage.GivingBack uid cause room) old) behind name time octets GivesBack (IsAtSave (stage.GivingBack uid cause room)) (IsAtSave stage.Ended) no_numbers (seen_saving old before began) (seen_saving new after faulted) sees (ends_giving name time octets)
-        (lowering_at (around_saving octets (stage.GivingBack uid cause room) old) name time octets uid.0 cause) (λ run event. inl refl) (stays_alone old new before after began faulted k.1 s.grows s.fault.reads s.fault.changes) e.ran (s.stopped.0 stop) (s.fault.rose stop) (λ lists t. s.moments lists t)))
+        (lowering_at (around_saving octets (stage.GivingBack uid cause room) old) name time octets uid.0 cause) (λ run event. inl refl) (stays_alone old new before after began faulted k.1 s.grows fault.reads fault.changes) e.ran (s.stopped.0 stop) (fault.rose tt) (λ lists t. s.moments lists t)))

@@ -10,49 +10,53 @@ use Rattle.std.proofs.lemmas.List.Elements.{All-nil, All-cons, All-head, All-tai
 use Rattle.disk_model.specs.Disk.{History, Faults, Grows}
 use Rattle.mdbox_base.specs.Words.{IsOctets}
 use Rattle.mdbox_base.specs.declared.entries.Highest.{Highest}
+use Rattle.mdbox_base.specs.declared.entries.InstRow.{InstRow}
 use Rattle.mdbox_base.specs.declared.ids.MapUid.{MapUid}
 use Rattle.model_appends.specs.Amounts.{bit}
 use Rattle.model_lists.specs.Lists.{Lists}
 use Rattle.model_meaning.specs.BoxMeaning.{BoxMeaning}
 use Rattle.model_meaning.specs.MapMeaning.{MapBox, MapMeaning, no_numbers, is_own, guid_file, number_at, is_sealed}
-use Rattle.model_mime.specs.Parts.{parts_in}
 use Rattle.model_store.specs.Listing.{ShowLists}
 use Rattle.model_store.specs.Settled.{IsSettledFor, Leaves}
 use Rattle.list_machine.specs.Run.{drawn_also}
-use Rattle.storage_files.specs.Files.{AreFilesInOrder, FilesValue, end_in, file_in}
+use Rattle.storage_files.specs.Files.{AreFilesInOrder, end_in, file_in}
 use Rattle.storage_files.specs.declared.file.MailFile.{MailFile}
+use Rattle.saved_message.specs.Region.{guid_of_place}
+use Rattle.sis_store.specs.Instances.{AreInstances}
 use Rattle.store_core.specs.Dues.{due_at, number_beside}
-use Rattle.store_core.specs.Knows.{may_have_given}
+use Rattle.store_core.specs.Knows.{knows_instance, may_have_given}
 use Rattle.store_core.specs.Running.{IsStore}
 use Rattle.store_core.specs.Value.{StoreValue, indexes_of}
 use Rattle.task_steps.specs.ExpungeStages.{one_due}
 use Rattle.task_steps.specs.Step.{ShowsSeen}
-use Rattle.mail_save.specs.Events.{has_detachable}
 use Rattle.mail_save.specs.SaveEffects.{AreEndsSame}
-use Rattle.mail_save.specs.SaveSeen.{seen_saving, around_saving, room_at}
-use Rattle.mail_save.specs.Saved.{place_guid}
+use Rattle.mail_save.specs.SaveSeen.{seen_saving, around_saving, candidate_at, room_at}
 use Rattle.mail_save.specs.declared.task.SaveStage.{SaveStage}
 use Rattle.mail_save.specs.declared.task.SaveStage.TheVariants as stage
 use Rattle.mail_save.proofs.PlaceLemmas.{own_place, file_of_place, offset_of_place}
 use Rattle.mail_save.proofs.SaveDidLemmas.{fall, HasRun, KeepsTelling, StaysSo}
 use Rattle.mail_save.proofs.SaveFrontLemmas.{SeesAround}
-use Rattle.mail_save.proofs.SaveRoomLemmas.{RoomIs, room_is, none_counted, both_true, le_true, true_le}
+use Rattle.mail_save.proofs.SaveRoomLemmas.{RoomIs, room_is, both_true, le_true, true_le}
+use Rattle.mail_save.proofs.SeenInstanceLemmas.{KnowsNoMore, candidate_known, gone_on}
 
 -- ---- what it finds
 
 pub room_known : {D : Type 0} → (now : SaveStage) (store : StoreValue D) (file : ℕ) → AreFilesInOrder store.files → room_at now store ≡ Some file → (size : ℕ) × RoomIs size file store.files.files
-room_known (stage.Taking parts) store file order e = (length parts.region, room_is (length parts.region) file store.files.files order.rising e)
+room_known (stage.Taking parts) store file order e = (length parts.laid.region, room_is (length parts.laid.region) file store.files.files order.rising e)
 room_known now store file order e = absurd (let k : None ≡ Some file = e in cc k)
 
 never_both : (b : Bool) → (b ≡ true → ⊥) → b ≡ false
 never_both true f = absurd (f refl)
 never_both false f = refl
 
-pub sees_around : {D : Type 0} → (octets : List ℕ) (now : SaveStage) (store : StoreValue D) (history : Option History) (faults : Faults) → IsStore history store → AreFilesInOrder store.files → has_detachable octets ≡ false → SeesAround octets (around_saving octets now store) (seen_saving store history faults)
-sees_around octets now store history faults is order whole = record {
+pub candidate_seen : {D : Type 0} → (now : SaveStage) (store : StoreValue D) (instance : InstRow) → AreInstances store.instances → candidate_at now store ≡ Some instance → knows_instance store instance ≡ true
+candidate_seen (stage.Attaching parts attaching) store instance ids e = candidate_known attaching store.instances instance ids e
+candidate_seen now store instance ids e = absurd (let k : None ≡ Some instance = e in cc k)
+
+pub sees_around : {D : Type 0} → (octets : List ℕ) (now : SaveStage) (store : StoreValue D) (history : Option History) (faults : Faults) → IsStore history store → AreFilesInOrder store.files → AreInstances store.instances → SeesAround octets (around_saving octets now store) (seen_saving store history faults)
+sees_around octets now store history faults is order ids = record {
   parts = refl;
-  whole = none_counted (λ part. part.detachable) (parts_in octets) whole;
-  candidate = refl;
+  candidate = λ instance e. candidate_seen now store instance ids e;
   some = λ file e. let r = room_known now store file order e in is.files.numbered file r.1.f r.1.found;
   known = λ file e. let r = room_known now store file order e in ap (λ (o : Option MailFile). is_some (option_and_then (λ f. f.end) o)) r.1.found ∙ ap (λ (o : Option ℕ). is_some o) r.1.has.ends;
   unsealed = λ file e. let r = room_known now store file order e in never_both (is_sealed store.map file) (λ k. fall r.1.f.sealed (is.files.sealed file r.1.f r.1.found k) r.1.has.unsealed);
@@ -84,15 +88,16 @@ gave_on old new guid id more ends e =
     let le : number_at 8 guid ≤ old.drawn.file = true_le (number_at 8 guid) old.drawn.file b.0 in
     all_true (is_own new.map.store guid) (nat_le (number_at 8 guid) new.drawn.file) (is_before (number_at 12 guid) (end_in (number_at 8 guid) new.files.files)) (ap (λ (s : List ℕ). is_own s guid) id ∙ a.0) (le_true (number_at 8 guid) new.drawn.file (omega (arith, le, more))) (ends (number_at 8 guid) (number_at 12 guid) le b.1)
 
-pub tells_store : {D : Type 0} → (old new : StoreValue D) (before after : Option History) (began faulted : Faults) → new.map.store ≡ old.map.store → old.drawn.file ≤ new.drawn.file → EndsGoOn old new → KeepsTelling (seen_saving old before began) (seen_saving new after faulted)
-tells_store old new before after began faulted id more ends = record {
+pub tells_store : {D : Type 0} → (old new : StoreValue D) (before after : Option History) (began faulted : Faults) → new.map.store ≡ old.map.store → old.drawn.file ≤ new.drawn.file → EndsGoOn old new → KnowsNoMore old new → KeepsTelling (seen_saving old before began) (seen_saving new after faulted)
+tells_store old new before after began faulted id more ends knows = record {
   pins = λ file. refl;
   doomed = λ file. refl;
   used = λ file. refl;
   unused = λ file. refl;
   gave = λ guid e. gave_on old new guid id more ends.gave e;
+  gone = λ instance e. gone_on old new instance id knows.drawn e;
   files = λ file e. ends.known file e;
-  instances = λ instance. refl;
+  instances = λ instance e. knows.known instance e;
 }
 
 -- ---- a store that goes on, or not
@@ -116,13 +121,13 @@ has_run old new before after began faulted ran runs boxes indexes moments rests 
 pub due_stays : {D : Type 0} → (old new : StoreValue D) (uid : ℕ) → new.map ≡ old.map → new.dues ≡ old.dues → due_at uid new ≡ due_at uid old
 due_stays old new uid map dues = ap (λ (m : MapMeaning). number_beside uid m.records new.dues) map ∙ ap (number_beside uid old.map.records) dues
 
-pub stays_so : {D : Type 0} → (drew : Highest) (old new : StoreValue D) (before after : Option History) (began faulted : Faults) → new.map ≡ old.map → new.drawn ≡ drawn_also old.drawn drew → new.dues ≡ old.dues → indexes_of new.boxes ≡ indexes_of old.boxes → old.drawn.file ≤ new.drawn.file → EndsGoOn old new → Grows before after
+pub stays_so : {D : Type 0} → (drew : Highest) (old new : StoreValue D) (before after : Option History) (began faulted : Faults) → new.map ≡ old.map → new.drawn ≡ drawn_also old.drawn drew → new.dues ≡ old.dues → indexes_of new.boxes ≡ indexes_of old.boxes → old.drawn.file ≤ new.drawn.file → EndsGoOn old new → KnowsNoMore old new → Grows before after
     → began.reads ≤ faulted.reads → began.changes ≤ faulted.changes → StaysSo drew (seen_saving old before began) (seen_saving new after faulted)
-stays_so drew old new before after began faulted map drawn dues indexes more ends grows reads changes = record {
+stays_so drew old new before after began faulted map drawn dues indexes more ends knows grows reads changes = record {
   map = map;
   drawn = drawn;
   due = λ uid. due_stays old new uid map dues;
-  tells = tells_store old new before after began faulted (ap (λ (m : MapMeaning). m.store) map) more ends;
+  tells = tells_store old new before after began faulted (ap (λ (m : MapMeaning). m.store) map) more ends knows;
   shown = λ lists shows. shows_on old new before after began faulted lists (ap (λ (m : MapMeaning). m.boxes) map) indexes shows;
   grows = grows;
   reads = reads;
@@ -143,6 +148,9 @@ pub drawn_map : (d : Highest) (n : ℕ) → n ≡ d.map + 1 → record d { map =
 drawn_map d n e =
     ap (λ (k : ℕ). numbers d.file k d.instance d.mailbox) e
     ∙ (ap (λ (k : ℕ). numbers k (d.map + 1) d.instance d.mailbox) (omega arith) ∙ (ap (λ (k : ℕ). numbers (d.file + 0) (d.map + 1) k d.mailbox) (omega arith) ∙ ap (λ (k : ℕ). numbers (d.file + 0) (d.map + 1) (d.instance + 0) k) (omega arith)))
+
+pub drawn_instance : (d : Highest) → record d { instance = d.instance + 1 } ≡ drawn_also d (record no_numbers { instance = 1 })
+drawn_instance d = ap (λ (k : ℕ). numbers k d.map (d.instance + 1) d.mailbox) (omega arith) ∙ (ap (λ (k : ℕ). numbers (d.file + 0) k (d.instance + 1) d.mailbox) (omega arith) ∙ ap (λ (k : ℕ). numbers (d.file + 0) (d.map + 0) (d.instance + 1) k) (omega arith))
 
 -- ---- what is due
 
@@ -169,18 +177,18 @@ four_octets n =
     All-cons (λ (o : ℕ). o < 256) (n / 16777216 % 256) (n / 65536 % 256 ∷ n / 256 % 256 ∷ n % 256 ∷ []) (below_256 (n / 16777216)) (All-cons (λ (o : ℕ). o < 256) (n / 65536 % 256) (n / 256 % 256 ∷ n % 256 ∷ []) (below_256 (n / 65536))
     (All-cons (λ (o : ℕ). o < 256) (n / 256 % 256) (n % 256 ∷ []) (below_256 (n / 256)) (All-cons (λ (o : ℕ). o < 256) (n % 256) [] (below_256 n) (All-nil (λ (o : ℕ). o < 256)))))
 
-pub place_long : (store : List ℕ) (file offset : ℕ) → length store ≡ 8 → length (place_guid store file offset) ≡ 16
+pub place_long : (store : List ℕ) (file offset : ℕ) → length store ≡ 8 → length (guid_of_place store file offset) ≡ 16
 place_long store file offset long = length-append store (to_be_bytes w32 file ++ to_be_bytes w32 offset) ∙ ap (λ (n : ℕ). n + 8) long
 
-pub place_octets : (store : List ℕ) (file offset : ℕ) → IsOctets store → IsOctets (place_guid store file offset)
+pub place_octets : (store : List ℕ) (file offset : ℕ) → IsOctets store → IsOctets (guid_of_place store file offset)
 place_octets store file offset each =
     All-append (λ (o : ℕ). o < 256) store (to_be_bytes w32 file ++ to_be_bytes w32 offset) each (All-append (λ (o : ℕ). o < 256) (to_be_bytes w32 file) (to_be_bytes w32 offset) (four_octets file) (four_octets offset))
 
-pub place_file : (store : List ℕ) (file offset : ℕ) → length store ≡ 8 → file ≤ 4294967294 → guid_file store (place_guid store file offset) ≡ file
+pub place_file : (store : List ℕ) (file offset : ℕ) → length store ≡ 8 → file ≤ 4294967294 → guid_file store (guid_of_place store file offset) ≡ file
 place_file store file offset long small =
     let own = own_place store file offset long in
     let named = file_of_place store file offset long (omega (arith, small)) in
-    ap (λ (b : Bool). if b && not (number_at 8 (place_guid store file offset) == 4294967295) then number_at 8 (place_guid store file offset) else 0) own
+    ap (λ (b : Bool). if b && not (number_at 8 (guid_of_place store file offset) == 4294967295) then number_at 8 (guid_of_place store file offset) else 0) own
     ∙ (ap (λ (n : ℕ). if true && not (n == 4294967295) then n else 0) named ∙ ap (λ (b : Bool). if true && not b then file else 0) (ne_eqb file 4294967295 (λ e. omega (arith, e, small))))
 
 and_false : (a b : Bool) → (a && (b && false)) ≡ false
@@ -195,18 +203,18 @@ past : (a b : ℕ) → a < b → nat_lt a b ≡ true
 past a b l = grind (arith, common_steps, l)
 
 -- it wasn't given, as its place is the end of the file
-pub place_new : {D : Type 0} → (store : StoreValue D) (file offset : ℕ) → length store.map.store ≡ 8 → file < 2 ^ 32 → offset < 2 ^ 32 → end_in file store.files.files ≡ Some offset → may_have_given store (place_guid store.map.store file offset) ≡ false
+pub place_new : {D : Type 0} → (store : StoreValue D) (file offset : ℕ) → length store.map.store ≡ 8 → file < 2 ^ 32 → offset < 2 ^ 32 → end_in file store.files.files ≡ Some offset → may_have_given store (guid_of_place store.map.store file offset) ≡ false
 place_new store file offset long f o end =
-    let guid : List ℕ = place_guid store.map.store file offset in
+    let guid : List ℕ = guid_of_place store.map.store file offset in
     let at : is_before (number_at 12 guid) (end_in (number_at 8 guid) store.files.files) ≡ false =
     ap (λ (n : ℕ). is_before (number_at 12 guid) (end_in n store.files.files)) (file_of_place store.map.store file offset long f)
     ∙ (ap (λ (e : Option ℕ). is_before (number_at 12 guid) e) end ∙ (ap (λ (n : ℕ). nat_lt n offset) (offset_of_place store.map.store file offset long o) ∙ not_past offset)) in
     ap (λ (b : Bool). is_own store.map.store guid && (nat_le (number_at 8 guid) store.drawn.file && b)) at ∙ and_false (is_own store.map.store guid) (nat_le (number_at 8 guid) store.drawn.file)
 
 -- it was, once the file ends behind it
-pub place_given : {D : Type 0} → (store : StoreValue D) (id : List ℕ) (file offset end : ℕ) → store.map.store ≡ id → length id ≡ 8 → file < 2 ^ 32 → offset < 2 ^ 32 → file ≤ store.drawn.file → end_in file store.files.files ≡ Some end → offset < end → may_have_given store (place_guid id file offset) ≡ true
+pub place_given : {D : Type 0} → (store : StoreValue D) (id : List ℕ) (file offset end : ℕ) → store.map.store ≡ id → length id ≡ 8 → file < 2 ^ 32 → offset < 2 ^ 32 → file ≤ store.drawn.file → end_in file store.files.files ≡ Some end → offset < end → may_have_given store (guid_of_place id file offset) ≡ true
 place_given store id file offset end same long f o drawn ends before =
-    let guid : List ℕ = place_guid id file offset in
+    let guid : List ℕ = guid_of_place id file offset in
     let named = file_of_place id file offset long f in
     all_true (is_own store.map.store guid) (nat_le (number_at 8 guid) store.drawn.file) (is_before (number_at 12 guid) (end_in (number_at 8 guid) store.files.files)) (ap (λ (s : List ℕ). is_own s guid) same ∙ own_place id file offset long)
     (le_true (number_at 8 guid) store.drawn.file (omega (arith, named, drawn)))

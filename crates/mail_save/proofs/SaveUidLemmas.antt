@@ -6,20 +6,23 @@ use Rattle.std.specs.Str.{bytes_eq}
 use Rattle.std.proofs.lemmas.Bool.{ne_eqb}
 use Rattle.std.proofs.lemmas.List.Folds.{find-append}
 use Rattle.mdbox_base.specs.declared.entries.BoxEntry.{BoxEntry}
+use Rattle.mdbox_base.specs.declared.entries.InstRow.{InstRow}
 use Rattle.mdbox_base.specs.declared.ids.Uid.{Uid}
 use Rattle.mdbox_base.specs.declared.progress.Progress.{Progress}
 use Rattle.mdbox_base.specs.declared.progress.Progress.TheVariants as progress
 use Rattle.mdbox_base.specs.declared.replies.Refusal.{Refusal}
+use Rattle.mdbox_base.specs.declared.replies.Refusal.TheVariants as refusal
 use Rattle.mdbox_base.specs.declared.replies.Reply.TheVariants as reply
 use Rattle.model_appends.specs.Appending.{meanings_by}
 use Rattle.model_meaning.specs.BoxMeaning.{LogRow, BoxMeaning, row_at, box_applied}
 use Rattle.model_meaning.specs.MapMeaning.{MapBox, MapMeaning}
 use Rattle.model_meaning.proofs.AppliedLemmas.{rows_by_added}
 use Rattle.model_store.specs.Listing.{meaning_named, meaning_numbered}
+use Rattle.save_instances.specs.Attaching.{AttachingValue}
 use Rattle.store_core.specs.Keeping.{KeepsUid, KeepsUids}
 use Rattle.store_core.specs.Value.{StoreValue, indexes_of, list_named}
 use Rattle.mail_save.specs.Added.{entry_added}
-use Rattle.mail_save.specs.SaveEffects.{AddsStored, IsLeftAlone, SaveEffects, StoresNone, TakesNone}
+use Rattle.mail_save.specs.SaveEffects.{AddsStored, AttachesNext, AttachesNone, IsLeftAlone, LetsGo, SaveEffects, StoresNone, TakesNone}
 use Rattle.mail_save.specs.declared.add.Added.{Added}
 use Rattle.mail_save.specs.declared.task.SaveStage.{SaveStage}
 use Rattle.mail_save.specs.declared.task.SaveStage.TheVariants as stage
@@ -121,15 +124,33 @@ unstored_stays at why old new (inr k) = same_stays old new (ap (λ v. v.map) k.1
 pub store_stays : {D : Type 0} → (old new : StoreValue D) → new ≡ old → KeepsUids old new
 store_stays old new same = same_stays old new (ap (λ v. v.map) same) (ap (λ v. v.boxes) same)
 
+-- an instance was found for an attachment, or compared with it
+attached_stays : {D : Type 0} → (attaching more : AttachingValue) (old new : StoreValue D) → AttachesNext attaching more old new → KeepsUids old new
+attached_stays attaching more old new (inl k) = same_stays old new (ap (λ v. v.map) k.same) (ap (λ v. v.boxes) k.same)
+attached_stays attaching more old new (inr k) = same_stays old new (ap (λ v. v.map) k.same) (ap (λ v. v.boxes) k.same)
+
+unattached_stays : {D : Type 0} → (attaching : AttachingValue) (why : Refusal) (old new : StoreValue D) → AttachesNone attaching why old new → KeepsUids old new
+unattached_stays attaching refusal.Stopped old new k = same_stays old new (ap (λ v. v.map) k.2) (ap (λ v. v.boxes) k.2)
+unattached_stays attaching refusal.ReadFault old new k = same_stays old new (ap (λ v. v.map) k.1) (ap (λ v. v.boxes) k.1)
+unattached_stays attaching why old new k = same_stays old new (ap (λ v. v.map) k.1) (ap (λ v. v.boxes) k.1)
+
+-- instances were let go then
+let_go_stays : {D : Type 0} → (found : List InstRow) (old left new : StoreValue D) → LetsGo found left new → KeepsUids old left → KeepsUids old new
+let_go_stays found old left new gone first = λ name uid held k. same_stays left new (ap (λ v. v.map) gone) (ap (λ v. v.boxes) gone) name uid held (first name uid held k)
+
 pub uids_stay : {D : Type 0} → (now next : SaveStage) (name : List ℕ) (time size : ℕ) (answer : Progress) (old new : StoreValue D) → SaveEffects now next name time size answer old new → KeepsUids old new
+uids_stay (stage.First prepared) (stage.Attaching parts attaching) name time size progress.More old new e = store_stays old new e.0
 uids_stay (stage.First prepared) (stage.Taking parts) name time size progress.More old new e = store_stays old new e.0
 uids_stay (stage.First prepared) stage.Ended name time size (progress.Done (reply.Refused why)) old new e = store_stays old new e
+uids_stay (stage.Attaching parts attaching) (stage.Attaching laid more) name time size progress.More old new e = attached_stays attaching more old new e.1
+uids_stay (stage.Attaching parts attaching) (stage.Taking named) name time size progress.More old new e = attached_stays attaching e.0 old new e.1
+uids_stay (stage.Attaching parts attaching) stage.Ended name time size (progress.Done (reply.Refused why)) old new e = let_go_stays attaching.found old e.0 new e.2 (unattached_stays attaching why old e.0 e.1)
 uids_stay (stage.Taking parts) (stage.Placing laid file) name time size progress.More old new e = same_stays old new (ap (λ v. v.map) e.1.same) (ap (λ v. v.boxes) e.1.same)
-uids_stay (stage.Taking parts) stage.Ended name time size (progress.Done (reply.Refused why)) old new e = untaken_stays (length parts.region) why old new e
-uids_stay (stage.Placing parts file) (stage.Storing at origin rows room) name time size progress.More old new e = same_stays old new (ap (λ v. v.map) e.same) (ap (λ v. v.boxes) e.same)
-uids_stay (stage.Placing parts file) stage.Ended name time size (progress.Done (reply.Refused why)) old new e = alone_stays old new e
-uids_stay (stage.Storing at origin rows room) (stage.Adding added left) name time size progress.More old new e = logs_stay old new e.mailboxes (ap (λ v. indexes_of v.boxes) e.same)
-uids_stay (stage.Storing at origin rows room) stage.Ended name time size (progress.Done (reply.Refused why)) old new e = unstored_stays at why old new e
+uids_stay (stage.Taking parts) stage.Ended name time size (progress.Done (reply.Refused why)) old new e = let_go_stays parts.rows old e.0 new e.2 (untaken_stays (length parts.laid.region) why old e.0 e.1)
+uids_stay (stage.Placing parts file) (stage.Storing at rows room) name time size progress.More old new e = same_stays old new (ap (λ v. v.map) e.same) (ap (λ v. v.boxes) e.same)
+uids_stay (stage.Placing parts file) stage.Ended name time size (progress.Done (reply.Refused why)) old new e = let_go_stays parts.rows old e.0 new e.2 (alone_stays old e.0 e.1)
+uids_stay (stage.Storing at rows room) (stage.Adding added left) name time size progress.More old new e = let_go_stays rows old e.0 new e.2 (logs_stay old e.0 e.1.mailboxes (ap (λ v. indexes_of v.boxes) e.1.same))
+uids_stay (stage.Storing at rows room) stage.Ended name time size (progress.Done (reply.Refused why)) old new e = let_go_stays rows old e.0 new e.2 (unstored_stays at why old e.0 e.1)
 uids_stay (stage.Adding added room) stage.Ended name time size (progress.Done (reply.Saved uid guid)) old new e = added_stays name added uid old new e.1
 uids_stay (stage.Adding added room) stage.Ended name time size (progress.Done (reply.Refused why)) old new e = alone_stays old new e
 uids_stay (stage.Adding added room) (stage.GivingBack uid why left) name time size progress.More old new e = store_stays old new e.1

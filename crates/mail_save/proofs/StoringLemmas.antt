@@ -1,5 +1,6 @@
 -- What storing a record, and lowering its count, make of a store.
-use Rattle.std.proofs.Common.{◌≡◌, ◌≤◌, ◌+◌, ℕ, List, Option, Some, inl, inr, refl, sym, ◌∙◌, ap, subst, arith}
+use Rattle.std.proofs.Common.{◌≡◌, ◌≤◌, ◌+◌, ℕ, List, Option, Some, None, Ok, Err, inl, inr, refl, sym, ◌∙◌, ap, subst, arith}
+use Rattle.std.specs.Prelude.{◌⊎◌, IfOk, IfErr, Result}
 use Rattle.disk_model.specs.Disk.{History, Between}
 use Rattle.disk_model.proofs.BetweenLemmas.{between-map}
 use Rattle.mdbox_base.specs.declared.entries.Highest.{Highest}
@@ -7,6 +8,7 @@ use Rattle.mdbox_base.specs.declared.entries.InstRow.{InstRow}
 use Rattle.mdbox_base.specs.declared.entries.MapEntry.{MapEntry}
 use Rattle.mdbox_base.specs.declared.ids.MapUid.{MapUid}
 use Rattle.mdbox_base.specs.declared.replies.Refusal.{Refusal}
+use Rattle.mdbox_base.specs.declared.replies.Refusal.TheVariants as refusal
 use Rattle.model_appends.specs.Amounts.{due_by}
 use Rattle.model_meaning.specs.MapMeaning.{MapRecord, MapMeaning, map_applied, record_at}
 use Rattle.model_store.specs.Settled.{files_of}
@@ -15,9 +17,11 @@ use Rattle.storage_files.specs.Files.{end_in, is_taken_in, released_in}
 use Rattle.store_core.specs.Dues.{due_at, KeepsStored}
 use Rattle.store_core.specs.MapAppend.{drawn_by}
 use Rattle.store_core.specs.Value.{StoreValue, indexes_of}
+use Rattle.mail_save.specs.Events.{uid_refusal}
 use Rattle.mail_save.specs.Record.{entry_stored, entry_lowered}
 use Rattle.mail_save.specs.SaveEffects.{AreSpared, GivesFileBack, IsLeftAlone, LowersRecord, StoresNone, StoresPlaced, saved_row}
 use Rattle.mail_save.specs.declared.place.SavedAt.{SavedAt}
+use Rattle.mail_save.proofs.FaultLemmas.{uid_unread}
 use Rattle.mail_save.proofs.TakingLemmas.{released_others}
 
 -- ---- behind an append to the map log
@@ -36,13 +40,13 @@ given_change file old mid new same given =
     let whole : new ≡ record old { disk = mid.disk; map_log = mid.map_log; map = mid.map; files = record old.files { files = released_in file old.files.files }; drawn = mid.drawn; dues = mid.dues; stopped = mid.stopped } = given ∙ ap (giver_store file) same in
     subst (λ (v : StoreValue _). v ≡ record old { disk = v.disk; map_log = v.map_log; map = v.map; files = record old.files { files = released_in file old.files.files }; drawn = v.drawn; dues = v.dues; stopped = v.stopped }) (sym whole) refl
 
-pub stores_placed : {D : Type 0} → (at : SavedAt) (origin : ℕ) (rows : List InstRow) (time size : ℕ) (uid : MapUid) (old mid new : StoreValue D) → uid.0 ≡ old.drawn.map + 1 → uid.0 ≤ 4294967294
-    → mid.map ≡ map_applied (entry_stored origin rows uid at) old.map → record_at mid.map uid.0 ≡ Some (saved_row origin rows uid at)
+pub stores_placed : {D : Type 0} → (at : SavedAt) (rows : List InstRow) (time size : ℕ) (uid : MapUid) (old mid new : StoreValue D) → uid.0 ≡ old.drawn.map + 1 → uid.0 ≤ 4294967294
+    → mid.map ≡ map_applied (entry_stored rows uid at) old.map → record_at mid.map uid.0 ≡ Some (saved_row rows uid at)
     → mid.drawn ≡ record old.drawn { map = uid.0 }
-    → ((other : ℕ) → due_at other mid ≡ due_by (entry_stored origin rows uid at) (λ k. due_at k old) other)
+    → ((other : ℕ) → due_at other mid ≡ due_by (entry_stored rows uid at) (λ k. due_at k old) other)
     → mid.map.boxes ≡ old.map.boxes → IsMapChange old mid → new ≡ giver_store at.file.0 mid → ((number : ℕ) → end_in number new.files.files ≡ end_in number mid.files.files)
-    → StoresPlaced at origin rows time size (record { map_uid = uid; guid = at.guid; time = time; size = size }) old new
-stores_placed at origin rows time size uid old mid new next high taken there drawn due boxes same given ends = record {
+    → StoresPlaced at rows time size (record { map_uid = uid; guid = at.guid; time = time; size = size }) old new
+stores_placed at rows time size uid old mid new next high taken there drawn due boxes same given ends = record {
   uid_is = next;
   few = omega (arith, next, high);
   guid_is = refl;
@@ -96,6 +100,22 @@ lowers_record uid entry old new is same taken boxes drawn due = record {
 pub unstored_map : {D : Type 0} → (at : SavedAt) (why : Refusal) (old new : StoreValue D) → StoresNone at why old new → new.map ≡ old.map
 unstored_map at why old new (inl k) = ap (λ v. v.map) k.1.same
 unstored_map at why old new (inr k) = ap (λ v. v.map) k.1.same
+
+pub unstored_instances : {D : Type 0} → (at : SavedAt) (why : Refusal) (old new : StoreValue D) → StoresNone at why old new → new.instances ≡ old.instances
+unstored_instances at why old new (inl k) = ap (λ v. v.instances) k.1.same
+unstored_instances at why old new (inr k) = ap (λ v. v.instances) k.1.same
+
+-- whether the record was stored or not
+pub storing_instances : {D : Type 0} → (at : SavedAt) (rows : List InstRow) (old new : StoreValue D) (r : Result MapUid Refusal) → IfOk r (λ uid. (time size : ℕ) → StoresPlaced at rows time size (record { map_uid = uid; guid = at.guid; time = time; size = size }) old new) → IfErr r (λ why. StoresNone at why old new)
+    → new.instances ≡ old.instances
+storing_instances at rows old new (Ok uid) stores none = ap (λ v. v.instances) (stores 0 0).same
+storing_instances at rows old new (Err why) stores none = unstored_instances at why old new none
+
+-- no read failed where it wasn't
+pub unstored_unread : (drawn : ℕ) (why : Refusal) → (uid_refusal drawn ≡ Some why) ⊎ ((uid_refusal drawn ≡ None) × ((why ≡ refusal.Stopped) ⊎ (why ≡ refusal.NoMemory))) → why ≡ refusal.ReadFault → ⊥
+unstored_unread drawn why (inl is) e = uid_unread drawn (is ∙ ap Some e)
+unstored_unread drawn why (inr (none, inl is)) e = let w : refusal.Stopped ≡ refusal.ReadFault = sym is ∙ e in cc w
+unstored_unread drawn why (inr (none, inr is)) e = let w : refusal.NoMemory ≡ refusal.ReadFault = sym is ∙ e in cc w
 
 -- ---- records that are kept
 

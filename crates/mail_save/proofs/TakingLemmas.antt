@@ -126,6 +126,17 @@ untaken_why size why old new (inl k) = inr (inl k.0)
 untaken_why size why old new (inr (inl k)) = inr (inr k.0)
 untaken_why size why old new (inr (inr k)) = inl k.0
 
+-- no read failed, and the instances are as they were
+pub untaken_unread : {D : Type 0} → (size : ℕ) (why : Refusal) (old new : StoreValue D) → TakesNone size why old new → why ≡ refusal.ReadFault → ⊥
+untaken_unread size why old new (inl k) e = let w : refusal.NoMemory ≡ refusal.ReadFault = sym k.0 ∙ e in cc w
+untaken_unread size why old new (inr (inl k)) e = let w : refusal.StoreFull 4294967294 ≡ refusal.ReadFault = sym k.0 ∙ e in cc w
+untaken_unread size why old new (inr (inr k)) e = let w : refusal.Stopped ≡ refusal.ReadFault = sym k.0 ∙ e in cc w
+
+pub untaken_instances : {D : Type 0} → (size : ℕ) (why : Refusal) (old new : StoreValue D) → TakesNone size why old new → new.instances ≡ old.instances
+untaken_instances size why old new (inl k) = ap (λ v. v.instances) k.1
+untaken_instances size why old new (inr (inl k)) = ap (λ v. v.instances) k.1.same
+untaken_instances size why old new (inr (inr k)) = ap (λ v. v.instances) k.1.same
+
 -- ---- what is held then
 
 pub file_some : {D : Type 0} → (file : ℕ) (store : StoreValue D) (history : Option History) → IsStore history store → is_taken_in file store.files.files ≡ true → 1 ≤ file

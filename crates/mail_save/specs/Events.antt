@@ -1,11 +1,9 @@
 -- Why the events of a delivery are refused.
-use Rattle.std.specs.Prelude.{nat_le, ℕ, Bool, List, length, if◌then◌else◌, Option, Some, None}
-use Rattle.std.specs.List.{list_any}
+use Rattle.std.specs.Prelude.{nat_le, ℕ, List, length, if◌then◌else◌, Option, Some, None}
 use Rattle.std.specs.Option.{option_or}
 use Rattle.mdbox_base.specs.declared.replies.Refusal.{Refusal}
 use Rattle.mdbox_base.specs.declared.replies.Refusal.TheVariants as refusal
 use Rattle.model_meaning.specs.BoxMeaning.{BoxMeaning}
-use Rattle.model_mime.specs.Parts.{parts_in}
 use Rattle.store_core.specs.Value.{StoreValue, list_named}
 
 -- Why a message can't be added to the mailbox that was found: no mailbox has the name, it lists 1,000,000 messages, or its
@@ -22,10 +20,10 @@ box_refusal (Some m) = full_refusal m
 abbrev pub uid_refusal : ℕ → Option Refusal
 uid_refusal drawn = if nat_le 4294967294 drawn then Some (refusal.StoreFull 4294967294) else None
 
+-- the running numbers of instances are used up
+abbrev pub instance_refusal : ℕ → Option Refusal
+instance_refusal drawn = if nat_le 4294967294 drawn then Some (refusal.StoreFull 4294967294) else None
+
 -- why nothing is saved, as the first event finds it
 abbrev pub save_refusal : {D : Type 0} → List ℕ → StoreValue D → Option Refusal
 save_refusal name store = option_or (box_refusal (list_named store name)) (uid_refusal store.drawn.map)
-
--- a part of the message can be detached
-abbrev pub has_detachable : List ℕ → Bool
-has_detachable octets = list_any (λ part. part.detachable) (parts_in octets)

@@ -4,6 +4,7 @@ use Rattle.disk_model.specs.Disk.{History, IfTold}
 use Rattle.mdbox_base.specs.declared.entries.InstRow.{InstRow}
 use Rattle.model_meaning.specs.MapFits.{IsFree}
 use Rattle.model_meaning.specs.MapMeaning.{number_at}
+use Rattle.save_instances.specs.Attaching.{AreHeld}
 use Rattle.storage_files.specs.Files.{is_taken_in, end_in}
 use Rattle.store_core.specs.StoreInstances.{IsKnownRow, IsFirstKnown}
 use Rattle.store_core.specs.Value.{StoreValue}
@@ -17,9 +18,10 @@ pub record HoldsFile {D : Type 0} (file size : ℕ) (store : StoreValue D) : Typ
   pub ends : end_in file store.files.files ≡ Some end
   pub fits : end + size ≤ 4294967295
 
--- The instances that a record will name are known, and each is the first known one of its octets. A record has room for them.
+-- The instances that a record will name are known, held, and each is the first known one of its octets. A record has room for them.
 pub record HoldsInstances {D : Type 0} (rows : List InstRow) (store : StoreValue D) (history : Option History) : Type 0 where
   pub known : All (IsKnownRow store.instances.known) rows
+  pub held : AreHeld rows store.instances.known
   pub first : IfTold history (λ now. All (IsFirstKnown store.instances.known now) rows)
   pub few : length rows < 2 ^ 16
 

@@ -10,6 +10,4 @@ pub mod Record
 pub mod SaveEffects
 pub mod SaveSeen
 pub mod SaveStages
-pub mod Saved
-pub mod Stored
 pub mod Task

@@ -2,11 +2,18 @@
 use Rattle.std.specs.Prelude.{◌≡◌, ◌≢◌, ℕ, List, Option, Some, None}
 use Rattle.disk_model.specs.Disk.{History, IfTold, Between, Keeps, reading}
 use Rattle.disk_model.specs.declared.name.FileName.TheVariants.{Mail, Inst}
+use Rattle.attach_detach.specs.declared.message.Detached.{Detached}
+use Rattle.attach_detach.specs.declared.message.Prepared.{Prepared}
+use Rattle.mdbox_base.specs.declared.entries.InstRow.{InstRow}
+use Rattle.save_instances.specs.Attaching.{next_attachment, next_candidate, part_row}
+use Rattle.saved_message.specs.Region.{written_region}
+use Rattle.saved_message.specs.Saved.{ids_in}
+use Rattle.sis_store.specs.Instances.{next_id}
+use Rattle.sis_store.specs.OnDisk.{instance_file}
 use Rattle.storage_files.specs.Files.{end_in}
 use Rattle.storage_files.specs.OnDisk.{IsAddedTo}
 use Rattle.store_core.specs.Value.{StoreValue}
 use Rattle.mail_save.specs.Parts.{AreLaidOut}
-use Rattle.mail_save.specs.Saved.{saved_region}
 use Rattle.mail_save.specs.declared.task.SaveStage.{SaveStage}
 use Rattle.mail_save.specs.declared.task.SaveStage.TheVariants as stage
 
@@ -23,13 +30,29 @@ pub record TakesWithHeader {D : Type 0} (header : List ℕ) (file : ℕ) (old : 
   pub known : (end : ℕ) → end_in file old.files.files ≡ Some end → ReadsSameMail before after
   pub made : end_in file old.files.files ≡ None → IfTold after (λ now. Keeps (now (Mail file)) header)
 
--- The region of the message was added to its storage file, with this GUID.
-pub record HasAppended (name : List ℕ) (time : ℕ) (octets : List ℕ) (guid : List ℕ) (file : ℕ) (before after : Option History) : Type 0 where
+-- This region was added to its storage file.
+pub record HasAppended (region : List ℕ) (file : ℕ) (before after : Option History) : Type 0 where
   pub others : ReadsOtherMail file before after
-  pub added : Between (λ a b. IsAddedTo (saved_region name time octets guid) (a (Mail file)) (b (Mail file))) before after
+  pub added : Between (λ a b. IsAddedTo region (a (Mail file)) (b (Mail file))) before after
 
--- By stage: one event takes a file, one adds to it, and the others write to none.
+-- An instance with these octets was placed, which wasn't there and which a crash leaves. All storage files and all other instances
+-- read as they did.
+pub record AddsInstance (row : InstRow) (octets : List ℕ) (before after : Option History) : Type 0 where
+  pub fresh : IfTold before (λ now. reading (now (instance_file row)) ≡ None)
+  pub files : Between (λ a b. (number : ℕ) → reading (b (Mail number)) ≡ reading (a (Mail number))) before after
+  pub others : Between (λ a b. (hash id : List ℕ) → Inst hash id ≢ instance_file row → reading (b (Inst hash id)) ≡ reading (a (Inst hash id))) before after
+  pub made : IfTold after (λ now. Keeps (now (instance_file row)) octets)
+
+-- What the event writes that goes on with this attachment: where it is compared with a candidate, nothing; else it is placed.
+abbrev pub WritesAttachment : {D : Type 0} → Option InstRow → Option Detached → StoreValue D → Option History → Option History → Type 0
+WritesAttachment None (Some part) old before after = AddsInstance (part_row part (next_id old.instances)) part.octets before after
+WritesAttachment candidate part old before after = ReadsSameMail before after
+
+-- By stage: an event compares or places an attachment, one takes a file, one adds to it, and the others write to none.
 abbrev pub WritesMail : {D : Type 0} → SaveStage → SaveStage → List ℕ → ℕ → StoreValue D → Option History → Option History → Type 0
+WritesMail (stage.Attaching parts attaching) stage.Ended name time old before after = ReadsSameMail before after
+WritesMail (stage.Attaching parts attaching) next name time old before after = WritesAttachment (next_candidate attaching old.instances) (next_attachment attaching) old before after
 WritesMail (stage.Taking parts) (stage.Placing laid file) name time old before after = TakesWithHeader parts.header file.0 old before after
-WritesMail (stage.Placing parts file) (stage.Storing at origin rows room) name time old before after = (octets : List ℕ) → AreLaidOut name time octets parts → HasAppended name time octets at.guid.0 file.0 before after
+WritesMail (stage.Placing parts file) (stage.Storing at rows room) name time old before after =
+    (prepared : Prepared) → AreLaidOut name time prepared (ids_in parts.rows) parts → HasAppended (written_region name time prepared (ids_in parts.rows) at.guid.0) file.0 before after
 WritesMail now next name time old before after = ReadsSameMail before after

@@ -9,7 +9,7 @@ use Rattle.mail_save.specs.declared.task.SaveStage.TheVariants as stage
 -- the storage file that a delivery has taken
 abbrev pub IsOwnFile : SaveStage → ℕ → Type 0
 IsOwnFile (stage.Placing parts file) number = number ≡ file.0
-IsOwnFile (stage.Storing at origin rows room) number = number ≡ at.file.0
+IsOwnFile (stage.Storing at rows room) number = number ≡ at.file.0
 IsOwnFile now number = ⊥
 
 pub record KeepsOthers {D : Type 0} (now : SaveStage) (old new : StoreValue D) : Type 0 where

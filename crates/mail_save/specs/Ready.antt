@@ -1,6 +1,7 @@
 -- What a delivery has between its events, of the message with these octets: what each event needs of the store and its disk.
-use Rattle.std.specs.Prelude.{◌≡◌, ◌≤◌, ℕ, List, [], length, Option, Some}
-use Rattle.attach_detach.specs.Prepared.{IsPlain}
+use Rattle.std.specs.Prelude.{◌≡◌, ◌≤◌, ℕ, List, length, Option, Some}
+use Rattle.attach_detach.specs.Prepared.{IsPrepared}
+use Rattle.attach_detach.specs.declared.message.Prepared.{Prepared}
 use Rattle.disk_model.specs.Disk.{History, IfTold}
 use Rattle.mdbox_base.specs.declared.entries.InstRow.{InstRow}
 use Rattle.mdbox_base.specs.declared.ids.MapUid.{MapUid}
@@ -13,15 +14,14 @@ use Rattle.model_lists.specs.Lists.{Lists}
 use Rattle.model_meaning.specs.MapMeaning.{MapRecord, record_at}
 use Rattle.model_store.specs.Settled.{IsSettledFor, files_of}
 use Rattle.model_store.specs.Stands.{StoresMessage}
+use Rattle.saved_message.specs.Saved.{HasWritten}
 use Rattle.store_core.specs.Append.{Brings}
 use Rattle.store_core.specs.MapAppend.{IsReadyToStore}
 use Rattle.store_core.specs.Value.{StoreValue, references_to}
 use Rattle.mail_save.specs.Added.{entry_added}
-use Rattle.mail_save.specs.Parts.{AreLaidOut, origin_of}
+use Rattle.mail_save.specs.Parts.{AreAttached, AreBeingAttached}
 use Rattle.mail_save.specs.Record.{entry_stored}
 use Rattle.mail_save.specs.SaveEffects.{saved_row}
-use Rattle.mail_save.specs.Saved.{saved_region}
-use Rattle.mail_save.specs.Stored.{HasRegionOctets}
 use Rattle.mail_save.specs.declared.add.Added.{Added}
 use Rattle.mail_save.specs.declared.place.SavedAt.{SavedAt}
 use Rattle.mail_save.specs.declared.task.SaveStage.{SaveStage}
@@ -30,21 +30,24 @@ use Rattle.mail_save.specs.declared.task.SaveStage.TheVariants as stage
 -- The region that was placed has the octets that are written of the message, and a record of it stores the message, under any map
 -- uid; and of a settled disk the region is ready: a crash leaves it as it reads, and a record of an own save stores its detached
 -- form.
-pub record IsRegionReady (at : SavedAt) (origin : ℕ) (rows : List InstRow) (name : List ℕ) (time : ℕ) (octets : List ℕ) (history : Option History) : Type 0 where
-  pub origin_is : origin ≡ origin_of octets
-  pub rows_are : rows ≡ []
-  pub written : (uid : MapUid) → IfTold history (λ now. HasRegionOctets (files_of now) (saved_row origin rows uid at) (saved_region name time octets at.guid.0))
-  pub stores : (uid : MapUid) → IfTold history (λ now. StoresMessage (files_of now) (saved_row origin rows uid at) octets)
-  pub ready : (uid : MapUid) (lists : Lists) → IsSettledFor lists history → IsReadyToStore (entry_stored origin rows uid at) history
+pub record IsRegionReady (at : SavedAt) (rows : List InstRow) (name : List ℕ) (time : ℕ) (octets : List ℕ) (history : Option History) : Type 0 where
+  pub prepared : Prepared
+  pub form : IsPrepared octets prepared
+  pub written : (uid : MapUid) → IfTold history (λ now. HasWritten (files_of now) (saved_row rows uid at) name time prepared)
+  pub stores : (uid : MapUid) → IfTold history (λ now. StoresMessage (files_of now) (saved_row rows uid at) octets)
+  pub ready : (uid : MapUid) (lists : Lists) → IsSettledFor lists history → IsReadyToStore (entry_stored rows uid at) history
 
 -- The record that was stored has a region with the octets that are written of the message, and brings the message to any mailbox,
 -- under any UID. None lists it yet.
 pub record IsRecordReady {D : Type 0} (added : Added) (name : List ℕ) (time : ℕ) (octets : List ℕ) (store : StoreValue D) (history : Option History) : Type 0 where
   pub time_is : added.time ≡ time
   pub size_is : added.size ≡ length octets
+  pub prepared : Prepared
+  pub form : IsPrepared octets prepared
   pub row : MapRecord
   pub there : record_at store.map added.map_uid.0 ≡ Some row
-  pub written : IfTold history (λ now. HasRegionOctets (files_of now) row (saved_region name time octets added.guid.0))
+  pub guid_is : row.guid ≡ added.guid.0
+  pub written : IfTold history (λ now. HasWritten (files_of now) row name time prepared)
   pub brings : (uid : Uid) → Brings store.map (entry_added uid added) octets history
   pub unlisted : references_to store added.guid.0 ≡ 0
 
@@ -55,10 +58,11 @@ HasSize size octets = (size ≡ length octets) × (length octets ≤ 67108864)
 -- What an event needs beside what the task and the store have (`HasLeft`), of a delivery to this mailbox at this time, of so many
 -- octets.
 abbrev pub IsReadyToSave : {D : Type 0} → SaveStage → List ℕ → ℕ → ℕ → List ℕ → StoreValue D → Option History → Type 0
-IsReadyToSave (stage.First prepared) name time size octets store history = HasSize size octets × IsPlain octets prepared
-IsReadyToSave (stage.Taking parts) name time size octets store history = HasSize size octets × AreLaidOut name time octets parts
-IsReadyToSave (stage.Placing parts file) name time size octets store history = HasSize size octets × AreLaidOut name time octets parts
-IsReadyToSave (stage.Storing at origin rows room) name time size octets store history = HasSize size octets × IsRegionReady at origin rows name time octets history
+IsReadyToSave (stage.First prepared) name time size octets store history = HasSize size octets × IsPrepared octets prepared
+IsReadyToSave (stage.Attaching parts attaching) name time size octets store history = HasSize size octets × AreBeingAttached name time octets parts attaching store history
+IsReadyToSave (stage.Taking parts) name time size octets store history = HasSize size octets × AreAttached name time octets parts store history
+IsReadyToSave (stage.Placing parts file) name time size octets store history = HasSize size octets × AreAttached name time octets parts store history
+IsReadyToSave (stage.Storing at rows room) name time size octets store history = HasSize size octets × IsRegionReady at rows name time octets history
 IsReadyToSave (stage.Adding added room) name time size octets store history = HasSize size octets × IsRecordReady added name time octets store history
 IsReadyToSave now name time size octets store history = HasSize size octets
 

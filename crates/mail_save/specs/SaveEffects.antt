@@ -1,10 +1,12 @@
 -- What each event of a delivery makes of the store.
-use Rattle.std.specs.Prelude.{◌≡◌, ◌≢◌, ◌⊎◌, ◌<◌, ◌+◌, ℕ, max, true, false, List, length, Option, Some, None}
-use Rattle.attach_detach.specs.Prepared.{IsPlain}
+use Rattle.std.specs.Prelude.{◌≡◌, ◌≢◌, ◌⊎◌, ◌<◌, ◌+◌, ℕ, Bool, max, true, false, List, [], length, if◌then◌else◌, Option, Some, None, IsSome}
+use Rattle.attach_detach.specs.declared.message.Detached.{Detached}
+use Rattle.attach_detach.specs.declared.message.Prepared.{Prepared}
 use Rattle.disk_model.specs.Disk.{History}
 use Rattle.mdbox_base.specs.declared.entries.InstRow.{InstRow}
 use Rattle.mdbox_base.specs.declared.ids.BoxNo.{BoxNo}
 use Rattle.mdbox_base.specs.declared.ids.FileNo.{FileNo}
+use Rattle.mdbox_base.specs.declared.ids.InstId.{InstId}
 use Rattle.mdbox_base.specs.declared.ids.MapUid.{MapUid}
 use Rattle.mdbox_base.specs.declared.ids.Uid.{Uid}
 use Rattle.mdbox_base.specs.declared.progress.Progress.{Progress}
@@ -17,16 +19,21 @@ use Rattle.model_appends.specs.Appending.{meanings_by}
 use Rattle.model_appends.specs.MapAppending.{stored_row}
 use Rattle.model_meaning.specs.BoxMeaning.{BoxMeaning}
 use Rattle.model_meaning.specs.MapMeaning.{MapRecord, map_applied, record_at}
+use Rattle.save_instances.specs.Attaching.{AttachingValue, candidate_held, found_let_go, next_attachment, next_candidate, nothing_found, part_row, with_compared, with_found}
+use Rattle.saved_message.specs.Laid.{IsLaid}
+use Rattle.saved_message.specs.Region.{guid_of_place, unknown_ids}
+use Rattle.saved_message.specs.Saved.{ids_in}
+use Rattle.sis_store.specs.Instances.{after_placing, next_id}
 use Rattle.storage_files.specs.Files.{FilesValue, IsTakeFor, after_take, changed_in, end_in, ending_at, is_taken_in, released_in}
 use Rattle.storage_files.specs.declared.file.Take.{Take}
 use Rattle.storage_files.specs.declared.file.Take.TheVariants.{Known, New, Full}
 use Rattle.store_core.specs.Dues.{due_at, IsSpared}
+use Rattle.store_core.specs.StoreInstances.{with_placed}
 use Rattle.store_core.specs.Value.{StoreValue, indexes_of, list_named}
 use Rattle.mail_save.specs.Added.{HasRoomUnder, entry_added}
-use Rattle.mail_save.specs.Events.{save_refusal}
+use Rattle.mail_save.specs.Events.{instance_refusal, save_refusal}
 use Rattle.mail_save.specs.Parts.{AreLaidOut}
 use Rattle.mail_save.specs.Record.{entry_stored, entry_lowered}
-use Rattle.mail_save.specs.Saved.{place_guid}
 use Rattle.mail_save.specs.declared.add.Added.{Added}
 use Rattle.mail_save.specs.declared.first.SavedParts.{SavedParts}
 use Rattle.mail_save.specs.declared.place.SavedAt.{SavedAt}
@@ -54,6 +61,62 @@ pub record IsLeftAlone {D : Type 0} (old new : StoreValue D) : Type 0 where
 -- each record is there still, and stores what it stored
 abbrev pub AreSpared : {D : Type 0} → StoreValue D → StoreValue D → Option History → Option History → Type 0
 AreSpared old new before after = (uid : ℕ) (row : MapRecord) → record_at old.map uid ≡ Some row → IsSpared uid row new before after
+
+-- ---- the first event
+
+-- The message may be saved. It is laid out, with zeros for the ids of its instances, none of which was found yet.
+pub record LaysOut {D : Type 0} (name : List ℕ) (time : ℕ) (prepared : Prepared) (parts : SavedParts) (store : StoreValue D) : Type 0 where
+  pub allowed : save_refusal name store ≡ None
+  pub laid : AreLaidOut name time prepared (unknown_ids prepared.parts) parts
+  pub rows : parts.rows ≡ []
+
+-- ---- an attachment is compared or placed
+
+-- what is known after a candidate was compared, which is held if it has the attachment's octets
+abbrev pub after_comparing : {D : Type 0} → Bool → InstRow → D → StoreValue D → StoreValue D
+after_comparing alike candidate disk store = record store { disk = disk; instances = record store.instances { known = if alike then candidate_held candidate store.instances.known else store.instances.known } }
+
+-- The next attachment was compared with a candidate, which is its instance if it has its octets.
+pub record ComparesNext {D : Type 0} (attaching more : AttachingValue) (old new : StoreValue D) : Type 0 where
+  pub candidate : InstRow
+  pub alike : Bool
+  pub next : next_candidate attaching old.instances ≡ Some candidate
+  pub more_is : more ≡ (if alike then with_found candidate attaching else with_compared candidate old.instances.highest attaching)
+  pub same : new ≡ after_comparing alike candidate new.disk old
+
+-- No candidate is left: it was placed as an instance, with the next running number.
+pub record PlacesNext {D : Type 0} (attaching more : AttachingValue) (old new : StoreValue D) : Type 0 where
+  pub part : Detached
+  pub next : next_attachment attaching ≡ Some part
+  pub compared : next_candidate attaching old.instances ≡ None
+  pub few : instance_refusal old.drawn.instance ≡ None
+  pub more_is : more ≡ with_found (part_row part (next_id old.instances)) attaching
+  pub same : new ≡ with_placed new.disk (after_placing part.hash (length part.octets) old.instances) old
+
+abbrev pub AttachesNext : {D : Type 0} → AttachingValue → AttachingValue → StoreValue D → StoreValue D → Type 0
+AttachesNext attaching more old new = ComparesNext attaching more old new ⊎ PlacesNext attaching more old new
+
+-- With these instances one was found for each attachment: what was laid out names them now.
+pub record NamesFound (found : List InstRow) (parts named : SavedParts) : Type 0 where
+  pub header : named.header ≡ parts.header
+  pub rows : named.rows ≡ found
+  pub region : (name : List ℕ) (time : ℕ) (prepared : Prepared) (ids : List InstId) (guid : List ℕ) → IsLaid name time prepared ids guid parts.laid → IsLaid name time prepared (ids_in found) guid named.laid
+
+-- No instance was found: the candidate could not be read; or none is left, and the running numbers are used up, there was no
+-- memory, or a change of the disk failed, which leaves the number drawn.
+abbrev pub AttachesNone : {D : Type 0} → AttachingValue → Refusal → StoreValue D → StoreValue D → Type 0
+AttachesNone attaching refusal.Stopped old new =
+    (next_candidate attaching old.instances ≡ None) × (instance_refusal old.drawn.instance ≡ None) × (new ≡ record (with_placed new.disk (record old.instances { highest = old.instances.highest + 1 }) old) { stopped = true })
+AttachesNone attaching refusal.ReadFault old new = IsSome (next_candidate attaching old.instances) × (new ≡ record old { disk = new.disk })
+AttachesNone attaching why old new = (next_candidate attaching old.instances ≡ None) × (new ≡ record old { disk = new.disk })
+
+-- The instances that were found for a request that has ended, or which a record names now, are held once less for each.
+abbrev pub LetsGo : {D : Type 0} → List InstRow → StoreValue D → StoreValue D → Type 0
+LetsGo found old new = new ≡ record old { instances = record old.instances { known = found_let_go found old.instances.known } }
+
+-- the store became this, and then these instances were let go
+abbrev pub AndLetsGo : {D : Type 0} → List InstRow → (StoreValue D → Type 0) → StoreValue D → Type 0
+AndLetsGo found Becomes new = (left : StoreValue _) × Becomes left × LetsGo found left new
 
 -- ---- a storage file is taken
 
@@ -103,12 +166,11 @@ TakesNone size why old new =
 -- ---- the message is placed
 
 -- Its region stands at the old end of the file that was taken, and its GUID names this place.
-pub record PlacesParts {D : Type 0} (parts : SavedParts) (file : FileNo) (at : SavedAt) (origin : ℕ) (rows : List InstRow) (old new : StoreValue D) : Type 0 where
+pub record PlacesParts {D : Type 0} (parts : SavedParts) (file : FileNo) (at : SavedAt) (rows : List InstRow) (old new : StoreValue D) : Type 0 where
   pub file_is : at.file ≡ file
-  pub origin_is : origin ≡ parts.origin
   pub rows_are : rows ≡ parts.rows
-  pub size_is : at.size ≡ length parts.region
-  pub guid : at.guid.0 ≡ place_guid old.map.store file.0 at.offset
+  pub size_is : at.size ≡ length parts.laid.region
+  pub guid : at.guid.0 ≡ guid_of_place old.map.store file.0 at.offset
   pub began : end_in file.0 old.files.files ≡ Some at.offset
   pub ends : end_in file.0 new.files.files ≡ Some (at.offset + at.size)
   pub others : AreOtherEndsSame file.0 old new
@@ -118,20 +180,20 @@ pub record PlacesParts {D : Type 0} (parts : SavedParts) (file : FileNo) (at : S
 -- ---- its record is stored
 
 -- the record of a message that was placed
-abbrev pub saved_row : ℕ → List InstRow → MapUid → SavedAt → MapRecord
-saved_row origin rows uid at = stored_row origin 1 uid at.file at.offset at.size at.guid rows
+abbrev pub saved_row : List InstRow → MapUid → SavedAt → MapRecord
+saved_row rows uid at = stored_row 0 1 uid at.file at.offset at.size at.guid rows
 
 -- It has the next map uid, and one of it is due. The storage file is given back.
-pub record StoresPlaced {D : Type 0} (at : SavedAt) (origin : ℕ) (rows : List InstRow) (time size : ℕ) (added : Added) (old new : StoreValue D) : Type 0 where
+pub record StoresPlaced {D : Type 0} (at : SavedAt) (rows : List InstRow) (time size : ℕ) (added : Added) (old new : StoreValue D) : Type 0 where
   pub uid_is : added.map_uid.0 ≡ old.drawn.map + 1
   pub few : old.drawn.map < 4294967294
   pub guid_is : added.guid ≡ at.guid
   pub time_is : added.time ≡ time
   pub size_is : added.size ≡ size
-  pub map : new.map ≡ map_applied (entry_stored origin rows added.map_uid at) old.map
-  pub there : record_at new.map added.map_uid.0 ≡ Some (saved_row origin rows added.map_uid at)
+  pub map : new.map ≡ map_applied (entry_stored rows added.map_uid at) old.map
+  pub there : record_at new.map added.map_uid.0 ≡ Some (saved_row rows added.map_uid at)
   pub drawn : new.drawn ≡ record old.drawn { map = added.map_uid.0 }
-  pub due : (uid : ℕ) → due_at uid new ≡ due_by (entry_stored origin rows added.map_uid at) (λ other. due_at other old) uid
+  pub due : (uid : ℕ) → due_at uid new ≡ due_by (entry_stored rows added.map_uid at) (λ other. due_at other old) uid
   pub mailboxes : new.map.boxes ≡ old.map.boxes
   pub ends : AreEndsSame old new
   pub others : AreOthersTaken at.file.0 old new
@@ -168,14 +230,18 @@ pub record LowersRecord {D : Type 0} (uid : MapUid) (old new : StoreValue D) : T
 
 -- From one stage to the next, with this answer, of a delivery to this mailbox at this time, of so many octets.
 abbrev pub SaveEffects : {D : Type 0} → SaveStage → SaveStage → List ℕ → ℕ → ℕ → Progress → StoreValue D → StoreValue D → Type 0
-SaveEffects (stage.First prepared) (stage.Taking parts) name time size progress.More old new = (new ≡ old) × (save_refusal name old ≡ None) × ((octets : List ℕ) → IsPlain octets prepared → AreLaidOut name time octets parts)
+SaveEffects (stage.First prepared) (stage.Attaching parts attaching) name time size progress.More old new = (new ≡ old) × (attaching ≡ nothing_found prepared.parts) × LaysOut name time prepared parts old
+SaveEffects (stage.First prepared) (stage.Taking parts) name time size progress.More old new = (new ≡ old) × (prepared.parts ≡ []) × LaysOut name time prepared parts old
 SaveEffects (stage.First prepared) stage.Ended name time size (progress.Done (reply.Refused why)) old new = new ≡ old
-SaveEffects (stage.Taking parts) (stage.Placing laid file) name time size progress.More old new = (laid ≡ parts) × TakesFileFor (length parts.header) (length parts.region) file old new
-SaveEffects (stage.Taking parts) stage.Ended name time size (progress.Done (reply.Refused why)) old new = TakesNone (length parts.region) why old new
-SaveEffects (stage.Placing parts file) (stage.Storing at origin rows room) name time size progress.More old new = PlacesParts parts file at origin rows old new
-SaveEffects (stage.Placing parts file) stage.Ended name time size (progress.Done (reply.Refused why)) old new = IsLeftAlone old new
-SaveEffects (stage.Storing at origin rows room) (stage.Adding added left) name time size progress.More old new = StoresPlaced at origin rows time size added old new
-SaveEffects (stage.Storing at origin rows room) stage.Ended name time size (progress.Done (reply.Refused why)) old new = StoresNone at why old new
+SaveEffects (stage.Attaching parts attaching) (stage.Attaching laid more) name time size progress.More old new = (laid ≡ parts) × AttachesNext attaching more old new
+SaveEffects (stage.Attaching parts attaching) (stage.Taking named) name time size progress.More old new = (more : AttachingValue) × AttachesNext attaching more old new × (next_attachment more ≡ None) × NamesFound more.found parts named
+SaveEffects (stage.Attaching parts attaching) stage.Ended name time size (progress.Done (reply.Refused why)) old new = AndLetsGo attaching.found (AttachesNone attaching why old) new
+SaveEffects (stage.Taking parts) (stage.Placing laid file) name time size progress.More old new = (laid ≡ parts) × TakesFileFor (length parts.header) (length parts.laid.region) file old new
+SaveEffects (stage.Taking parts) stage.Ended name time size (progress.Done (reply.Refused why)) old new = AndLetsGo parts.rows (TakesNone (length parts.laid.region) why old) new
+SaveEffects (stage.Placing parts file) (stage.Storing at rows room) name time size progress.More old new = PlacesParts parts file at rows old new
+SaveEffects (stage.Placing parts file) stage.Ended name time size (progress.Done (reply.Refused why)) old new = AndLetsGo parts.rows (IsLeftAlone old) new
+SaveEffects (stage.Storing at rows room) (stage.Adding added left) name time size progress.More old new = AndLetsGo rows (StoresPlaced at rows time size added old) new
+SaveEffects (stage.Storing at rows room) stage.Ended name time size (progress.Done (reply.Refused why)) old new = AndLetsGo rows (StoresNone at why old) new
 SaveEffects (stage.Adding added room) stage.Ended name time size (progress.Done (reply.Saved uid guid)) old new = (guid ≡ added.guid) × AddsStored name added uid old new
 SaveEffects (stage.Adding added room) stage.Ended name time size (progress.Done (reply.Refused why)) old new = IsLeftAlone old new
 SaveEffects (stage.Adding added room) (stage.GivingBack uid why left) name time size progress.More old new = (uid ≡ added.map_uid) × (new ≡ old)

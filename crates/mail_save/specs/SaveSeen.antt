@@ -1,22 +1,24 @@
 -- What an event of a delivery sees and finds, and where its task stands.
-use Rattle.std.specs.Prelude.{◌+◌, ◌&&◌, ◌||◌, nat_le, ℕ, Bool, false, not, List, [], ◌∷◌, length, filter, if◌then◌else◌, Option, Some, None}
+use Rattle.std.specs.Prelude.{◌≡◌, ◌+◌, ◌&&◌, ◌||◌, nat_le, ℕ, Bool, false, not, List, [], ◌∷◌, length, filter, if◌then◌else◌, Option, Some, None}
 use Rattle.std.specs.Option.{option_map_or, option_or}
 use Rattle.disk_model.specs.Disk.{History, Faults}
+use Rattle.mdbox_base.specs.declared.entries.InstRow.{InstRow}
 use Rattle.mdbox_base.specs.declared.replies.Reply.{Reply}
 use Rattle.model_mime.specs.Parts.{parts_in}
 use Rattle.list_machine.specs.Run.{Run}
 use Rattle.journal.specs.Events.{Around}
+use Rattle.save_instances.specs.Attaching.{next_candidate}
 use Rattle.storage_files.specs.declared.file.MailFile.{MailFile}
 use Rattle.store_core.specs.Dues.{due_at}
-use Rattle.store_core.specs.Knows.{knows_file, may_have_given}
+use Rattle.store_core.specs.Knows.{knows_file, knows_instance, may_be_gone, may_have_given}
 use Rattle.store_core.specs.Value.{StoreValue, indexes_of}
 use Rattle.task_steps.specs.Step.{Seen, HasNotBegun}
 use Rattle.mail_save.specs.SaveStages.{IsTakingFile, IsPlacingMessage, IsStoringMessage, IsAddingMessage, IsLoweringCount}
 use Rattle.mail_save.specs.declared.task.SaveStage.{SaveStage}
 use Rattle.mail_save.specs.declared.task.SaveStage.TheVariants as stage
 
--- A store as an event sees it, with what its disk tells and the faults that it has counted. No task pins or dooms a file, or
--- places an instance, yet.
+-- A store as an event sees it, with what its disk tells and the faults that it has counted. It shows no pins and no doomed files of
+-- other tasks.
 abbrev pub seen_saving : {D : Type 0} → StoreValue D → Option History → Faults → Seen
 seen_saving store history faults = record {
   map = store.map;
@@ -30,8 +32,9 @@ seen_saving store history faults = record {
   doomed = λ file. false;
   used = λ file. false;
   gave = λ guid. may_have_given store guid;
+  gone = λ instance. may_be_gone store instance;
   files = λ file. knows_file store file;
-  instances = λ instance. false;
+  instances = λ instance. knows_instance store instance;
 }
 
 -- ---- what it finds
@@ -45,15 +48,30 @@ abbrev pub room_among : ℕ → List MailFile → Option ℕ
 room_among size [] = None
 room_among size (f ∷ files) = option_or (room_among size files) (if has_room_for size f then Some f.file.0 else None)
 
--- The event that takes a file finds the one that has room, if any. No other finds anything.
+-- An event that goes on with an attachment finds the known instance to compare it with, if any is left; the one that takes a file
+-- finds the one that has room, if any. No other finds anything.
+abbrev pub candidate_at : {D : Type 0} → SaveStage → StoreValue D → Option InstRow
+candidate_at (stage.Attaching parts attaching) store = next_candidate attaching store.instances
+candidate_at other store = None
+
 abbrev pub room_at : {D : Type 0} → SaveStage → StoreValue D → Option ℕ
-room_at (stage.Taking parts) store = room_among (length parts.region) store.files.files
+room_at (stage.Taking parts) store = room_among (length parts.laid.region) store.files.files
 room_at other store = None
+
+-- how many parts of a message can be detached
+abbrev pub count_detachable : List ℕ → ℕ
+count_detachable octets = length (filter (λ part. part.detachable) (parts_in octets))
+
+-- A task at this stage has so many attachments, or has found so many instances.
+abbrev pub HasItsParts : SaveStage → List ℕ → Type 0
+HasItsParts (stage.Attaching parts attaching) octets = length attaching.parts ≡ count_detachable octets
+HasItsParts (stage.Taking parts) octets = length parts.rows ≡ count_detachable octets
+HasItsParts other octets = Unit {0}
 
 abbrev pub around_saving : {D : Type 0} → List ℕ → SaveStage → StoreValue D → Around
 around_saving octets now store = record {
-  parts = length (filter (λ part. part.detachable) (parts_in octets));
-  candidate = None;
+  parts = count_detachable octets;
+  candidate = candidate_at now store;
   room = room_at now store;
   files = [];
   instance = None;
@@ -64,9 +82,10 @@ around_saving octets now store = record {
 
 abbrev pub IsAtSave : SaveStage → Run → ℕ → List Reply → Type 0
 IsAtSave (stage.First prepared) run place said = HasNotBegun run place said
+IsAtSave (stage.Attaching parts attaching) run place said = IsTakingFile attaching.found run place said
 IsAtSave (stage.Taking parts) run place said = IsTakingFile parts.rows run place said
 IsAtSave (stage.Placing parts file) run place said = IsPlacingMessage parts.rows file.0 run place said
-IsAtSave (stage.Storing at origin rows room) run place said = IsStoringMessage rows at.file.0 at.guid.0 run place said
+IsAtSave (stage.Storing at rows room) run place said = IsStoringMessage rows at.file.0 at.guid.0 run place said
 IsAtSave (stage.Adding added room) run place said = IsAddingMessage added.guid.0 added.map_uid.0 run place said
 IsAtSave (stage.GivingBack uid why room) run place said = IsLoweringCount uid.0 why run place said
 IsAtSave stage.Ended run place said = ⊥

@@ -119,8 +119,9 @@ pub record IsOwnGuid (guid : List ℕ) (run : Run) (place : ℕ) : Type 0 where
   pub given : was_given run guid ≡ true
   pub once : All (λ other. other ≢ guid) (given_by_others place run)
 
--- Nothing was answered yet at these stages, and they tell the events so far: it takes a file next, places the message in this
--- file, stores a message of this file with this GUID, each with these instances, or adds that of this GUID under this map uid.
+-- Nothing was answered yet at these stages, and they tell the events so far: it has found these instances, and takes a file behind
+-- the last of them, places the message in this file, stores a message of this file with this GUID, each with these instances, or
+-- adds that of this GUID under this map uid.
 abbrev pub IsTakingFile : List InstRow → Run → ℕ → List Reply → Type 0
 IsTakingFile rows run place said = AreAttachedSoFar rows (own_events place run) × (said ≡ [])
 

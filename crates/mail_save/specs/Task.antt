@@ -1,8 +1,9 @@
 -- What a caller sees of a delivery, and what a step of it says.
-use Rattle.std.specs.Prelude.{◌≡◌, ◌↔◌, ◌⊎◌, ◌≢◌, ◌≤◌, ◌<◌, ◌+◌, ℕ, true, false, List, length, if◌then◌else◌, Option, Some, None}
-use Rattle.attach_detach.specs.Prepared.{IsPlain}
+use Rattle.std.specs.Prelude.{◌≡◌, ◌↔◌, ◌⊎◌, ◌≢◌, ◌≤◌, ◌<◌, ◌+◌, ℕ, true, false, List, length, if◌then◌else◌, Option, Some, None, IsSome}
+use Rattle.attach_detach.specs.Prepared.{IsPrepared}
 use Rattle.disk_model.specs.Disk.{History, Faults, Grows}
-use Rattle.disk_model.specs.FaultCounts.{NoFault, ChangeFaultCounted}
+use Rattle.disk_model.specs.FaultCounts.{NoFault, ChangeFaultCounted, ReadFaultCounted}
+use Rattle.mdbox_base.specs.declared.entries.InstRow.{InstRow}
 use Rattle.mdbox_base.specs.declared.ids.BoxNo.{BoxNo}
 use Rattle.mdbox_base.specs.declared.ids.Uid.{Uid}
 use Rattle.mdbox_base.specs.declared.progress.Did.{Did}
@@ -18,17 +19,20 @@ use Rattle.model_appends.specs.Appending.{lists_by}
 use Rattle.model_lists.specs.Lists.{Lists}
 use Rattle.model_meaning.specs.MapFits.{HasRecord}
 use Rattle.model_store.specs.Settled.{IsSettledFor, Leaves}
+use Rattle.save_instances.specs.Attaching.{AreHeld, AttachingValue, attach_events_left, next_attachment, next_candidate, nothing_found, parts_left}
+use Rattle.sis_store.specs.Instances.{InstancesValue}
 use Rattle.store_core.specs.Append.{Brings}
 use Rattle.store_core.specs.Dues.{Moves, amounts_in, due_at}
+use Rattle.store_core.specs.Keeping.{KeepsInstances, MovesHolds}
 use Rattle.store_core.specs.MapAppend.{IsReadyToStore}
 use Rattle.store_core.specs.Value.{StoreValue, list_named}
 use Rattle.mail_save.specs.Added.{HasRoomUnder, entry_added}
-use Rattle.mail_save.specs.Events.{box_refusal, save_refusal, uid_refusal}
-use Rattle.mail_save.specs.Held.{save_amounts}
+use Rattle.mail_save.specs.Events.{box_refusal, instance_refusal, save_refusal, uid_refusal}
+use Rattle.mail_save.specs.Held.{HasHoldRoom, save_amounts, save_holds}
 use Rattle.mail_save.specs.Left.{HoldsFile, HoldsInstances, HoldsRegion}
 use Rattle.mail_save.specs.MailFiles.{WritesMail}
 use Rattle.mail_save.specs.Others.{KeepsOthers}
-use Rattle.mail_save.specs.Parts.{AreLaidOut}
+use Rattle.mail_save.specs.Parts.{AreAttached, AreBeingAttached}
 use Rattle.mail_save.specs.Ready.{IsReadyToSave}
 use Rattle.mail_save.specs.Record.{entry_stored}
 use Rattle.mail_save.specs.SaveEffects.{AreSpared, SaveEffects}
@@ -45,39 +49,46 @@ pub record SaveValue : Type 0 where
   pub stage : SaveStage
   pub did : Did
 
--- what is laid out is of a message of at most 67,108,864 octets
-abbrev pub IsOfMessage : List ℕ → ℕ → SavedParts → Type 0
-IsOfMessage name time parts = (octets : List ℕ) × (length octets ≤ 67108864) × AreLaidOut name time octets parts
+-- the instances of a message of at most 67,108,864 octets are being found, or were
+abbrev pub IsAttachedSoFar : {D : Type 0} → List ℕ → ℕ → SavedParts → AttachingValue → StoreValue D → Option History → Type 0
+IsAttachedSoFar name time parts attaching store history = (octets : List ℕ) × (length octets ≤ 67108864) × AreBeingAttached name time octets parts attaching store history
 
--- What the task and its store have before an event: the message, the instances that its record will name, the file that was
--- taken, the region that was placed, or the record that is held. Of a task that has ended there is none.
+abbrev pub IsAttached : {D : Type 0} → List ℕ → ℕ → SavedParts → StoreValue D → Option History → Type 0
+IsAttached name time parts store history = ((octets : List ℕ) × (length octets ≤ 67108864) × AreAttached name time octets parts store history) × AreHeld parts.rows store.instances.known
+
+-- What the task and its store have before an event: the message, the instances that were found and are held, the file that was
+-- taken, the region that was placed, or the record that is held. Each instance can be held once more for each attachment that has
+-- none yet. Of a task that has ended there is none.
 abbrev pub HasLeft : {D : Type 0} → SaveStage → List ℕ → ℕ → StoreValue D → Option History → Type 0
-HasLeft (stage.First prepared) name time store history = (octets : List ℕ) × (length octets ≤ 67108864) × IsPlain octets prepared
-HasLeft (stage.Taking parts) name time store history = IsOfMessage name time parts × HoldsInstances parts.rows store history
-HasLeft (stage.Placing parts file) name time store history = IsOfMessage name time parts × HoldsFile file.0 (length parts.region) store × HoldsInstances parts.rows store history
-HasLeft (stage.Storing at origin rows room) name time store history = HoldsRegion at store × (origin ≤ 1) × (1 ≤ at.size) × HoldsInstances rows store history
+HasLeft (stage.First prepared) name time store history = ((octets : List ℕ) × (length octets ≤ 67108864) × IsPrepared octets prepared) × HasHoldRoom (length prepared.parts) store
+HasLeft (stage.Attaching parts attaching) name time store history =
+    IsAttachedSoFar name time parts attaching store history × IsSome (next_attachment attaching) × HasHoldRoom (parts_left attaching) store
+HasLeft (stage.Taking parts) name time store history = IsAttached name time parts store history
+HasLeft (stage.Placing parts file) name time store history = IsAttached name time parts store history × HoldsFile file.0 (length parts.laid.region) store
+HasLeft (stage.Storing at rows room) name time store history = HoldsRegion at store × (1 ≤ at.size) × HoldsInstances rows store history
 HasLeft (stage.Adding added room) name time store history =
     HasRecord store.map added.map_uid.0 (λ row. row.guid ≡ added.guid.0) × (1 ≤ due_at added.map_uid.0 store) × (added.size ≤ 67108864)
-HasLeft (stage.GivingBack uid why room) name time store history = (1 ≤ due_at uid.0 store) × (why ≢ refusal.Stopped)
+HasLeft (stage.GivingBack uid why room) name time store history = (1 ≤ due_at uid.0 store) × (why ≢ refusal.Stopped) × (why ≢ refusal.ReadFault)
 HasLeft stage.Ended name time store history = ⊥
 
--- how many events are still to come at the most
-abbrev pub save_events_left : SaveStage → ℕ
-save_events_left (stage.First prepared) = 6
-save_events_left (stage.Taking parts) = 5
-save_events_left (stage.Placing parts file) = 4
-save_events_left (stage.Storing at origin rows room) = 3
-save_events_left (stage.Adding added room) = 2
-save_events_left (stage.GivingBack uid why room) = 1
-save_events_left stage.Ended = 0
+-- how many events are still to come at the most, if no other task places an instance
+abbrev pub save_events_left : SaveStage → InstancesValue → ℕ
+save_events_left (stage.First prepared) instances = attach_events_left (nothing_found prepared.parts) instances + 7
+save_events_left (stage.Attaching parts attaching) instances = attach_events_left attaching instances + 6
+save_events_left (stage.Taking parts) instances = 5
+save_events_left (stage.Placing parts file) instances = 4
+save_events_left (stage.Storing at rows room) instances = 3
+save_events_left (stage.Adding added room) instances = 2
+save_events_left (stage.GivingBack uid why room) instances = 1
+save_events_left stage.Ended instances = 0
 
 -- ---- what a step says
 
 -- Each image at every moment is safe for the lists of a settled disk, whatever fails. One that stores the message asks that
 -- its region is ready; one that adds it may leave the lists with the message, of the octets that its record stores.
 abbrev pub MomentsAt : {D : Type 0} → SaveStage → List ℕ → StoreValue D → Option History → Option History → Type 0
-MomentsAt (stage.Storing at origin rows room) name store old new =
-    (lists : Lists) → IsReadyToStore (entry_stored origin rows (record { 0 = store.drawn.map + 1 }) at) old → IsSettledFor lists old → Leaves lists lists old new
+MomentsAt (stage.Storing at rows room) name store old new =
+    (lists : Lists) → IsReadyToStore (entry_stored rows (record { 0 = store.drawn.map + 1 }) at) old → IsSettledFor lists old → Leaves lists lists old new
 MomentsAt (stage.Adding added room) name store old new =
     (number : BoxNo) (uid : Uid) → HasRoomUnder name number uid store → (lists : Lists) (octets : List ℕ) → Brings store.map (entry_added uid added) octets old → IsSettledFor lists old
     → Leaves lists (lists_by number.0 octets (entry_added uid added) lists) old new
@@ -86,8 +97,8 @@ MomentsAt other name store old new = (lists : Lists) → IsSettledFor lists old 
 -- Unless the store is stopped then, the disk is settled for its lists again, or, after a message was saved, for those with the
 -- message.
 abbrev pub RestsAt : {D : Type 0} → SaveStage → List ℕ → Progress → StoreValue D → Option History → Option History → Type 0
-RestsAt (stage.Storing at origin rows room) name answer store old new =
-    (lists : Lists) → IsReadyToStore (entry_stored origin rows (record { 0 = store.drawn.map + 1 }) at) old → IsSettledFor lists old → IsSettledFor lists new
+RestsAt (stage.Storing at rows room) name answer store old new =
+    (lists : Lists) → IsReadyToStore (entry_stored rows (record { 0 = store.drawn.map + 1 }) at) old → IsSettledFor lists old → IsSettledFor lists new
 RestsAt (stage.Adding added room) name (progress.Done (reply.Saved uid guid)) store old new =
     (number : BoxNo) → HasRoomUnder name number uid store → (lists : Lists) (octets : List ℕ) → Brings store.map (entry_added uid added) octets old → IsSettledFor lists old
     → IsSettledFor (lists_by number.0 octets (entry_added uid added) lists) new
@@ -99,13 +110,19 @@ GoesOnOr Refuses progress.More = Unit {0}
 GoesOnOr Refuses (progress.Done (reply.Refused why)) = Refuses why
 GoesOnOr Refuses (progress.Done given) = ⊥
 
+-- why the instance of an attachment is not found: its candidate can't be read; or none is left, and it can't be placed
+abbrev pub IsAttachRefusal : Option InstRow → ℕ → Refusal → Type 0
+IsAttachRefusal (Some candidate) drawn why = why ≡ refusal.ReadFault
+IsAttachRefusal None drawn why = (instance_refusal drawn ≡ Some why) ⊎ ((instance_refusal drawn ≡ None) × ((why ≡ refusal.Stopped) ⊎ (why ≡ refusal.NoMemory)))
+
 -- What each event of a store that isn't stopped replies. The first one is refused by its causes, or out of memory; the last
 -- one replies the UID and the GUID.
 abbrev pub RepliesAt : {D : Type 0} → SaveStage → List ℕ → Progress → SaveStage → StoreValue D → Type 0
 RepliesAt (stage.First prepared) name answer next store = GoesOnOr (λ why. (save_refusal name store ≡ Some why) ⊎ ((save_refusal name store ≡ None) × (why ≡ refusal.NoMemory))) answer
+RepliesAt (stage.Attaching parts attaching) name answer next store = GoesOnOr (IsAttachRefusal (next_candidate attaching store.instances) store.drawn.instance) answer
 RepliesAt (stage.Taking parts) name answer next store = GoesOnOr (λ why. (why ≡ refusal.Stopped) ⊎ ((why ≡ refusal.NoMemory) ⊎ (why ≡ refusal.StoreFull 4294967294))) answer
 RepliesAt (stage.Placing parts file) name answer next store = GoesOnOr (λ why. why ≡ refusal.Stopped) answer
-RepliesAt (stage.Storing at origin rows room) name answer next store =
+RepliesAt (stage.Storing at rows room) name answer next store =
     GoesOnOr (λ why. (uid_refusal store.drawn.map ≡ Some why) ⊎ ((uid_refusal store.drawn.map ≡ None) × ((why ≡ refusal.Stopped) ⊎ (why ≡ refusal.NoMemory)))) answer
 RepliesAt (stage.Adding added room) name answer next store =
     ((number : BoxNo) × (uid : Uid) × HasRoomUnder name number uid store × (answer ≡ progress.Done (reply.Saved uid added.guid)))
@@ -142,6 +159,12 @@ saved_did now next answer = did.Quiet
 abbrev pub stopped_reply : Progress
 stopped_reply = progress.Done (reply.Refused refusal.Stopped)
 
+-- A change of the disk failed if the store is stopped then, a read if the reply says so, and else no call.
+abbrev pub FaultsAt : Progress → Faults → Faults → Type 0
+FaultsAt (progress.Done (reply.Refused refusal.Stopped)) began ended = ChangeFaultCounted (Unit {0}) began ended
+FaultsAt (progress.Done (reply.Refused refusal.ReadFault)) began ended = ReadFaultCounted (Unit {0}) began ended
+FaultsAt answer began ended = NoFault began ended
+
 -- What a step of a delivery says, of a store that isn't stopped: from this stage to the next one.
 pub record Saves {D : Type 0} (now next : SaveStage) (name : List ℕ) (time size : ℕ) (answer : Progress) (how : Did) (old new : StoreValue D) (before after : Option History) (began ended : Faults) : Type 0 where
   pub replies : RepliesAt now name answer next old
@@ -151,13 +174,14 @@ pub record Saves {D : Type 0} (now next : SaveStage) (name : List ℕ) (time siz
   pub mail : new.stopped ≡ false → WritesMail now next name time old before after
   pub ready : answer ≡ progress.More → (octets : List ℕ) → IsReadyToSave now name time size octets old before → IsReadyToSave next name time size octets new after
   pub left : answer ≡ progress.More → HasLeft next name time new after
-  pub fewer : answer ≡ progress.More → save_events_left next < save_events_left now
+  pub fewer : answer ≡ progress.More → save_events_left next new.instances < save_events_left now old.instances
   pub effects : SaveEffects now next name time size answer old new
   pub idle : new ≡ old → after ≡ before
   pub spared : new.stopped ≡ false → AreSpared old new before after
   pub others : KeepsOthers now old new
   pub moves : new.stopped ≡ false → Moves (save_amounts now) (save_amounts next) (amounts_in old) (amounts_in new)
+  pub holds : MovesHolds (save_holds now) (save_holds next) old new
+  pub instances : new.stopped ≡ false → KeepsInstances old new before after
   pub stopped : (answer ≡ stopped_reply) ↔ (new.stopped ≡ true)
-  pub fault : ChangeFaultCounted (answer ≡ stopped_reply) began ended
-  pub unfailed : (answer ≡ stopped_reply → ⊥) → NoFault began ended
+  pub faults : FaultsAt answer began ended
   pub grows : Grows before after

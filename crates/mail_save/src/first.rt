@@ -1,21 +1,21 @@
 // The first event of a delivery.
-ghost use Rattle.std.specs.Prelude.{◌≡◌, ◌⊎◌, ◌≤◌, ℕ, List, length, Some, None, IfOk, IfErr};
-ghost use Rattle.std.specs.List.{list_any};
-ghost use Rattle.attach_detach.specs.Prepared.{IsPlain};
+ghost use Rattle.std.specs.Prelude.{◌≡◌, ◌⊎◌, ◌≤◌, ℕ, List, [], length, Some, None, IfOk, IfErr};
+ghost use Rattle.attach_detach.specs.Prepared.{IsPrepared};
 ghost use Rattle.mdbox_base.specs.declared.replies.Refusal.TheVariants as refusal;
-ghost use Rattle.store_core.specs.Value.{list_named};
-ghost use Rattle.mail_save.specs.Events.{box_refusal, uid_refusal, save_refusal, has_detachable};
-ghost use Rattle.mail_save.specs.Parts.{AreLaidOut, origin_of};
+ghost use Rattle.save_instances.specs.Attaching.{nothing_found};
+ghost use Rattle.mail_save.specs.Events.{save_refusal};
+ghost use Rattle.mail_save.specs.SaveEffects.{LaysOut};
+ghost use Rattle.mail_save.specs.Parts.{AreLaidOut};
+ghost use Rattle.saved_message.specs.Region.{unknown_ids};
 
 use crate::add::room_in;
 use crate::record::LowerRoom;
-use crate::region::lay_out;
 use attach_detach::Prepared;
 use dbox_file::push_file_header;
 use disk_model::Disk;
 use mdbox_base::{InstRow, Name, NoMemory, Octets, Refusal, Seq};
-use mime_parts::leaf_parts;
-use model_mime::Part;
+use save_instances::Attaching;
+use saved_message::{Laid, lay_out};
 use std::alloc::Global;
 use store_core::Store;
 
@@ -28,23 +28,21 @@ pub struct SavedParts {
     /// The header of a storage file that the message would open.
     pub header: Octets,
     /// The region, in which the GUID isn't set yet.
-    pub region: Octets,
-    /// The origin of its record: 1 of a message with a part that can be detached, which is stored whole.
-    pub origin: u8,
-    /// The instances that its record names.
+    pub laid: Laid,
+    /// The instances that its record names: none until each attachment has its own.
     pub rows: Seq<InstRow>,
     pub room: LowerRoom,
 }
 
-/// Makes the checks of the first event, and lays out what will be written.
+/// Makes the checks of the first event, and lays out what will be written. All the memory for finding the instances is taken.
 pub fn begin<D: Disk>(
     store: &Store<D>,
     name: &Name,
     time: u64,
-    prepared: &Prepared,
-) -> Result<SavedParts, Refusal>
-    requires { (octets : List ℕ) × (length octets ≤ 67108864) × IsPlain octets prepared.now }
-    ensures begun { IfOk result (λ parts. (save_refusal name.now store.now ≡ None) × ((octets : List ℕ) → IsPlain octets prepared.now → AreLaidOut name.now time octets parts)) }
+    prepared: Prepared,
+) -> Result<(SavedParts, Attaching), Refusal>
+    requires { (octets : List ℕ) × (length octets ≤ 67108864) × IsPrepared octets prepared }
+    ensures begun { IfOk result (λ begun. (begun.1 ≡ nothing_found prepared.parts) × LaysOut name.now time prepared begun.0 store.now) }
     ensures refused { IfErr result (λ why. (save_refusal name.now store.now ≡ Some why) ⊎ ((save_refusal name.now store.now ≡ None) × (why ≡ refusal.NoMemory))) }
 {
     if let Err(why) = room_in(store, name) {
@@ -54,51 +52,31 @@ pub fn begin<D: Disk>(
         return Err(Refusal::StoreFull(LAST_UID));
     }
     match parts_of(store.alloc(), name, time, prepared) {
-        Ok(parts) => Ok(parts),
+        Ok(begun) => Ok(begun),
         Err(NoMemory) => Err(Refusal::NoMemory),
     }
 }
 
-/// Lays out what will be written of a message.
+/// Lays out what will be written of a message, of whose attachments no instance was found yet.
 fn parts_of(
     alloc: Global,
     name: &Name,
     time: u64,
-    prepared: &Prepared,
-) -> Result<SavedParts, NoMemory>
-    requires { (octets : List ℕ) × (length octets ≤ 67108864) × IsPlain octets prepared.now }
-    ensures { IfOk result (λ parts. (octets : List ℕ) → IsPlain octets prepared.now → AreLaidOut name.now time octets parts) }
+    prepared: Prepared,
+) -> Result<(SavedParts, Attaching), NoMemory>
+    requires { (octets : List ℕ) × (length octets ≤ 67108864) × IsPrepared octets prepared }
+    ensures attaching { IfOk result (λ begun. begun.1 ≡ nothing_found prepared.parts) }
+    ensures laid { IfOk result (λ begun. AreLaidOut name.now time prepared (unknown_ids prepared.parts) begun.0) }
+    ensures rows { IfOk result (λ begun. begun.0.rows ≡ []) }
 {
-    let body = prepared.body.as_slice();
-    let origin = find_origin(alloc, body)?;
-    let region = lay_out(alloc, name, time, body, prepared.virtual_size)?;
+    let laid = lay_out(alloc, name, time, &prepared)?;
     let mut header = Octets::empty(alloc);
     push_file_header(alloc, &mut header, time)?;
-    Ok(SavedParts {
+    let parts = SavedParts {
         header,
-        region,
-        origin,
+        laid,
         rows: Seq::empty(alloc),
         room: LowerRoom::of(alloc)?,
-    })
-}
-
-/// The origin of a record: 1 if a part of the message can be detached.
-fn find_origin(alloc: Global, message: &[u8]) -> Result<u8, NoMemory>
-    requires { length message.now ≤ 67108864 }
-    ensures { IfOk result (λ origin. origin ≡ origin_of message.now) }
-{
-    let leaves = leaf_parts(alloc, message)?;
-    if any_detachable(leaves.as_slice()) {
-        Ok(1)
-    } else {
-        Ok(0)
-    }
-}
-
-/// Whether one of these parts can be detached.
-fn any_detachable(leaves: &[Part]) -> bool
-    ensures { result ≡ list_any (λ part. part.detachable) leaves.now }
-{
-    leaves.iter().any(|leaf| leaf.detachable)
+    };
+    Ok((parts, Attaching::of(alloc, prepared.parts)?))
 }

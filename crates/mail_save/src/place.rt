@@ -3,22 +3,24 @@ ghost use Rattle.std.specs.Prelude.{◌≡◌, ◌↔◌, ◌≤◌, ◌+◌, �
 ghost use Rattle.disk_model.specs.Disk.{Grows, IfTold};
 ghost use Rattle.disk_model.specs.FaultCounts.{NoFault, ChangeFaultCounted};
 ghost use Rattle.disk_model.specs.declared.name.FileName.TheVariants.{Mail};
-ghost use Rattle.mdbox_base.specs.Words.{IsOctets};
+ghost use Rattle.attach_detach.specs.declared.message.Prepared.{Prepared as PreparedValue};
+ghost use Rattle.mdbox_base.specs.declared.ids.InstId.{InstId as InstIdValue};
 ghost use Rattle.mdbox_base.specs.declared.replies.Refusal.TheVariants as refusal;
 ghost use Rattle.model_appends.specs.Appending.{LeavesAsRead};
 ghost use Rattle.model_lists.specs.Lists.{Lists};
 ghost use Rattle.model_store.specs.Settled.{IsSettledFor, Leaves};
+ghost use Rattle.saved_message.specs.Laid.{AreSixteen, IsLaid};
+ghost use Rattle.saved_message.specs.Region.{guid_of_place};
 ghost use Rattle.storage_files.specs.Files.{changed_in, end_in, ending_at, is_taken_in};
 ghost use Rattle.store_core.specs.Dues.{KeepsStored};
 ghost use Rattle.store_core.specs.Files.{EndsWith};
 ghost use Rattle.mail_save.specs.Left.{HoldsFile, HoldsRegion};
 ghost use Rattle.mail_save.specs.MailFiles.{HasAppended, TakesWithHeader};
 ghost use Rattle.mail_save.specs.SaveEffects.{AreOtherEndsSame, IsLeftAlone, TakesFileFor, TakesNone};
-ghost use Rattle.mail_save.specs.Saved.{saved_region, no_guid, place_guid};
 
-use crate::region::{guid_at, set_guid};
 use disk_model::Disk;
-use mdbox_base::{FileNo, Guid, Name, NoMemory, Refusal};
+use mdbox_base::{FileNo, Guid, NoMemory, Refusal};
+use saved_message::{Laid, guid_at};
 use storage_files::Take;
 use store_core::{Stopped, Store};
 
@@ -73,32 +75,25 @@ pub fn take_file<D: Disk>(store: &mut Store<D>, header: &[u8], size: u32) -> Res
     }
 }
 
-/// Octets are below 256.
-fn known_octets(octets: &[u8])
-    ensures { IsOctets octets.now }
-{
-    let _length = octets.len();
-}
-
 /// Sets the GUID of a message in its region, and places the region at the end of a storage file that was taken.
 pub fn place_region<D: Disk>(
     store: &mut Store<D>,
-    name: &Name,
-    region: &mut [u8],
+    laid: &mut Laid,
     file: FileNo,
 ) -> Result<SavedAt, Stopped>
     requires running { store.old.stopped ≡ false }
-    requires laid_out { (time : ℕ) × (octets : List ℕ) × (region.old ≡ saved_region name.now time octets no_guid) }
-    requires taken { HoldsFile file.0 (length region.old) store.old }
+    requires laid { (name : List ℕ) × (time : ℕ) × (prepared : PreparedValue) × (ids : List InstIdValue) × (guid : List ℕ) × IsLaid name time prepared ids guid laid.old }
+    requires taken { HoldsFile file.0 (length laid.old.region) store.old }
     ensures placed { IfOk result (λ at. HoldsRegion at store.new) }
     ensures file { IfOk result (λ at. at.file ≡ file) }
-    ensures guid { IfOk result (λ at. at.guid.0 ≡ place_guid store.old.map.store file.0 at.offset) }
-    ensures octets { IfOk result (λ at. (length at.guid.0 ≡ 16) × IsOctets at.guid.0) }
-    ensures size { IfOk result (λ at. at.size ≡ length region.old) }
-    ensures long { IfOk result (λ at. (time : ℕ) (octets : List ℕ) → region.old ≡ saved_region name.now time octets no_guid → length (saved_region name.now time octets at.guid.0) ≡ at.size) }
+    ensures guid { IfOk result (λ at. at.guid.0 ≡ guid_of_place store.old.map.store file.0 at.offset) }
+    ensures octets { IfOk result (λ at. AreSixteen at.guid.0) }
+    ensures size { IfOk result (λ at. at.size ≡ length laid.old.region) }
+    ensures set { IfOk result (λ at. (name : List ℕ) (time : ℕ) (prepared : PreparedValue) (ids : List InstIdValue) (guid : List ℕ) → IsLaid name time prepared ids guid laid.old → IsLaid name time prepared ids at.guid.0 laid.new) }
+    ensures long { OnOk result (length laid.new.region ≡ length laid.old.region) }
     ensures offset { IfOk result (λ at. end_in file.0 store.old.files.files ≡ Some at.offset) }
-    ensures written { IfOk result (λ at. (time : ℕ) (octets : List ℕ) → region.old ≡ saved_region name.now time octets no_guid → IfTold (D.history store.new.disk) (λ now. EndsWith at.offset (saved_region name.now time octets at.guid.0) (now (Mail file.0)))) }
-    ensures appended { IfOk result (λ at. (time : ℕ) (octets : List ℕ) → region.old ≡ saved_region name.now time octets no_guid → HasAppended name.now time octets at.guid.0 file.0 (D.history store.old.disk) (D.history store.new.disk)) }
+    ensures written { IfOk result (λ at. IfTold (D.history store.new.disk) (λ now. EndsWith at.offset laid.new.region (now (Mail file.0)))) }
+    ensures appended { OnOk result (HasAppended laid.new.region file.0 (D.history store.old.disk) (D.history store.new.disk)) }
     ensures held { OnOk result ((lists : Lists) → IsSettledFor lists (D.history store.new.disk) → IfTold (D.history store.new.disk) (LeavesAsRead (Mail file.0))) }
     ensures ends { IfOk result (λ at. end_in file.0 store.new.files.files ≡ Some (at.offset + at.size)) }
     ensures others { OnOk result (AreOtherEndsSame file.0 store.old store.new) }
@@ -118,10 +113,10 @@ pub fn place_region<D: Disk>(
         unreachable!()
     };
     let guid = guid_at(store.id(), file, end as u32);
-    known_octets(&guid.0);
-    set_guid(region, name, guid);
-    let size = region.len() as u32;
+    laid.set_guid(guid);
+    let region = laid.region();
     let offset = store.place(file, region)?;
+    let size = region.len() as u32;
     Ok(SavedAt {
         file,
         offset,

@@ -1,7 +1,9 @@
 // The record of a message in the map.
-ghost use Rattle.std.specs.Prelude.{◌≡◌, ◌≢◌, ◌↔◌, ◌⊎◌, ◌≤◌, ◌<◌, ◌+◌, ◌∷◌, [], ℕ, All, true, false, Some, None, IfOk, IfErr, OnOk, IsErr, IsErrOf};
+ghost use Rattle.std.specs.Prelude.{◌≡◌, ◌≢◌, ◌↔◌, ◌⊎◌, ◌≤◌, ◌<◌, ◌+◌, ◌∷◌, [], ℕ, List, All, true, false, Some, None, IfOk, IfErr, OnOk, IsErr, IsErrOf};
 ghost use Rattle.disk_model.specs.Disk.{Grows};
 ghost use Rattle.disk_model.specs.FaultCounts.{NoFault, ChangeFaultCounted};
+ghost use Rattle.mdbox_base.specs.declared.entries.InstRow.{InstRow as InstRowValue};
+ghost use Rattle.mdbox_base.specs.declared.ids.MapUid.{MapUid as MapUidValue};
 ghost use Rattle.mdbox_base.specs.declared.replies.Refusal.TheVariants as refusal;
 ghost use Rattle.model_lists.specs.Lists.{Lists};
 ghost use Rattle.model_logs.specs.Entries.{RowInRange};
@@ -12,6 +14,7 @@ ghost use Rattle.mail_save.specs.Events.{uid_refusal};
 ghost use Rattle.mail_save.specs.Left.{HoldsInstances, HoldsRegion};
 ghost use Rattle.mail_save.specs.MailFiles.{ReadsSameMail};
 ghost use Rattle.mail_save.specs.Record.{entry_stored, entry_lowered};
+ghost use Rattle.mail_save.specs.declared.place.SavedAt.{SavedAt as SavedAtValue};
 ghost use Rattle.mail_save.specs.SaveEffects.{AreSpared, IsLeftAlone, LowersRecord, StoresPlaced, StoresNone};
 
 use crate::place::SavedAt;
@@ -80,29 +83,29 @@ fn known_rows(rows: &[InstRow])
     }
 }
 
-/// Stores a message that was placed in the map, with the instances that its record names, and gives its storage file back.
+/// Stores a message that was placed in the map, with the instances that its record names, and gives its storage file back. The
+/// instances are handed back too.
 pub fn store_record<D: Disk>(
     store: &mut Store<D>,
     at: SavedAt,
-    origin: u8,
     rows: Seq<InstRow>,
-) -> Result<MapUid, Refusal>
+) -> (Result<MapUid, Refusal>, Seq<InstRow>)
     requires running { store.old.stopped ≡ false }
-    requires origin { origin ≤ 1 }
     requires placed { HoldsRegion at store.old }
     requires size { 1 ≤ at.size }
     requires instances { HoldsInstances rows store.old (D.history store.old.disk) }
-    ensures stores { IfOk result (λ uid. (time size : ℕ) → StoresPlaced at origin rows time size (record { map_uid = uid; guid = at.guid; time = time; size = size }) store.old store.new) }
-    ensures none { IfErr result (λ why. StoresNone at why store.old store.new) }
-    ensures spared { OnOk result (AreSpared store.old store.new (D.history store.old.disk) (D.history store.new.disk)) }
-    ensures any_moment { (lists : Lists) → IsReadyToStore (entry_stored origin rows (record { 0 = store.old.drawn.map + 1 }) at) (D.history store.old.disk) → IsSettledFor lists (D.history store.old.disk) → Leaves lists lists (D.history store.old.disk) (D.history store.new.disk) }
-    ensures settled { store.new.stopped ≡ false → (lists : Lists) → IsReadyToStore (entry_stored origin rows (record { 0 = store.old.drawn.map + 1 }) at) (D.history store.old.disk) → IsSettledFor lists (D.history store.old.disk) → IsSettledFor lists (D.history store.new.disk) }
+    ensures rows { result.1 ≡ rows }
+    ensures stores { IfOk result.0 (λ uid. (time size : ℕ) → StoresPlaced at rows time size (record { map_uid = uid; guid = at.guid; time = time; size = size }) store.old store.new) }
+    ensures none { IfErr result.0 (λ why. StoresNone at why store.old store.new) }
+    ensures spared { OnOk result.0 (AreSpared store.old store.new (D.history store.old.disk) (D.history store.new.disk)) }
+    ensures any_moment { (lists : Lists) → IsReadyToStore (entry_stored rows (record { 0 = store.old.drawn.map + 1 }) at) (D.history store.old.disk) → IsSettledFor lists (D.history store.old.disk) → Leaves lists lists (D.history store.old.disk) (D.history store.new.disk) }
+    ensures settled { store.new.stopped ≡ false → (lists : Lists) → IsReadyToStore (entry_stored rows (record { 0 = store.old.drawn.map + 1 }) at) (D.history store.old.disk) → IsSettledFor lists (D.history store.old.disk) → IsSettledFor lists (D.history store.new.disk) }
     ensures stored { store.new.stopped ≡ false → KeepsStored (D.history store.old.disk) (D.history store.new.disk) }
-    ensures mail { OnOk result (ReadsSameMail (D.history store.old.disk) (D.history store.new.disk)) }
-    ensures refused { IfErr result (λ why. (uid_refusal store.old.drawn.map ≡ Some why) ⊎ ((uid_refusal store.old.drawn.map ≡ None) × ((why ≡ refusal.Stopped) ⊎ (why ≡ refusal.NoMemory)))) }
-    ensures stopped { IsErrOf result refusal.Stopped ↔ (store.new.stopped ≡ true) }
+    ensures mail { OnOk result.0 (ReadsSameMail (D.history store.old.disk) (D.history store.new.disk)) }
+    ensures refused { IfErr result.0 (λ why. (uid_refusal store.old.drawn.map ≡ Some why) ⊎ ((uid_refusal store.old.drawn.map ≡ None) × ((why ≡ refusal.Stopped) ⊎ (why ≡ refusal.NoMemory)))) }
+    ensures stopped { IsErrOf result.0 refusal.Stopped ↔ (store.new.stopped ≡ true) }
     ensures grows { Grows (D.history store.old.disk) (D.history store.new.disk) }
-    ensures fault { ChangeFaultCounted (IsErrOf result refusal.Stopped) (D.faults store.old.disk) (D.faults store.new.disk) }
+    ensures fault { ChangeFaultCounted (IsErrOf result.0 refusal.Stopped) (D.faults store.old.disk) (D.faults store.new.disk) }
     ensures unfailed { store.new.stopped ≡ false → NoFault (D.faults store.old.disk) (D.faults store.new.disk) }
 {
     store.facts();
@@ -110,10 +113,10 @@ pub fn store_record<D: Disk>(
     known_rows_agree::<D>();
     let Some(uid) = store.next_map_uid() else {
         store.release(at.file);
-        return Err(Refusal::StoreFull(LAST_UID));
+        return (Err(Refusal::StoreFull(LAST_UID)), rows);
     };
     let entry = MapEntry::S {
-        origin,
+        origin: 0,
         count: 1,
         uid,
         file: at.file,
@@ -122,7 +125,7 @@ pub fn store_record<D: Disk>(
         guid: at.guid,
         instances: rows,
     };
-    match store.append_map(&entry) {
+    let stored = match store.append_map(&entry) {
         Ok(()) => {
             store.release(at.file);
             Ok(uid)
@@ -132,7 +135,19 @@ pub fn store_record<D: Disk>(
             store.release(at.file);
             Err(Refusal::NoMemory)
         }
-    }
+    };
+    (stored, named_in(entry))
+}
+
+/// The instances that an entry names.
+fn named_in(entry: MapEntry) -> Seq<InstRow>
+    requires { (rows : List InstRowValue) × (uid : MapUidValue) × (at : SavedAtValue) × (entry ≡ entry_stored rows uid at) }
+    ensures { (rows : List InstRowValue) (uid : MapUidValue) (at : SavedAtValue) → entry ≡ entry_stored rows uid at → result ≡ rows }
+{
+    let MapEntry::S { instances, .. } = entry else {
+        unreachable!()
+    };
+    instances
 }
 
 /// Lowers the count of a record of which something is due. It takes no memory.

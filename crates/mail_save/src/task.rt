@@ -1,7 +1,9 @@
 // The task of a delivery.
-ghost use Rattle.std.specs.Prelude.{◌≡◌, ◌≢◌, ◌≤◌, ℕ, List, length, true, false};
-ghost use Rattle.attach_detach.specs.Prepared.{IsPlain};
+ghost use Rattle.std.specs.Prelude.{◌≡◌, ◌≢◌, ◌≤◌, ℕ, List, length, true, false, None, IsSome};
+ghost use Rattle.attach_detach.specs.Prepared.{IsPrepared};
+ghost use Rattle.attach_detach.specs.declared.message.Prepared.{Prepared as PreparedValue};
 ghost use Rattle.journal.specs.Events.{Around};
+ghost use Rattle.mdbox_base.specs.declared.ids.InstId.{InstId as InstIdValue};
 ghost use Rattle.mdbox_base.specs.Words.{IsName, IsOctets};
 ghost use Rattle.mdbox_base.specs.declared.progress.Did.TheVariants as did;
 ghost use Rattle.mdbox_base.specs.declared.progress.Progress.TheVariants as progress;
@@ -10,23 +12,27 @@ ghost use Rattle.mdbox_base.specs.declared.replies.Reply.TheVariants as reply;
 ghost use Rattle.mdbox_base.specs.declared.requests.Request.TheVariants as request;
 ghost use Rattle.model_lists.specs.Lists.{Lists};
 ghost use Rattle.model_store.specs.Settled.{IsSettledFor, Leaves};
+ghost use Rattle.save_instances.specs.Attaching.{next_attachment};
+ghost use Rattle.saved_message.specs.Laid.{IsLaid};
 ghost use Rattle.store_core.specs.Dues.{due_at};
 ghost use Rattle.store_core.specs.Keeping.{KeepsInstances, KeepsUids};
 ghost use Rattle.task_steps.specs.Step.{Steps, ended_by};
-ghost use Rattle.mail_save.specs.Events.{has_detachable};
-ghost use Rattle.mail_save.specs.Left.{HoldsFile, HoldsInstances};
+ghost use Rattle.mail_save.specs.SaveEffects.{NamesFound};
+ghost use Rattle.mail_save.specs.declared.first.SavedParts.{SavedParts as SavedPartsValue};
 ghost use Rattle.mail_save.specs.Ready.{IsReadyToSave, save_lists, lists_delivered};
-ghost use Rattle.mail_save.specs.SaveSeen.{IsAtSave, around_saving, seen_saving};
-ghost use Rattle.mail_save.specs.Task.{HasLeft, IsOfMessage, Saves, stopped_reply, refused_did, failing_did};
+ghost use Rattle.mail_save.specs.SaveSeen.{HasItsParts, IsAtSave, around_saving, seen_saving};
+ghost use Rattle.mail_save.specs.Task.{HasLeft, IsAttached, Saves, stopped_reply, refused_did, failing_did};
 ghost use Rattle.mail_save.specs.declared.task.SaveStage.TheVariants as stage;
 
 use crate::add::{Added, add_message};
+use crate::attach::{attach_next, name_found};
 use crate::first::{SavedParts, begin};
 use crate::place::{SavedAt, place_region, take_file};
 use crate::record::{LowerRoom, give_back, store_record};
 use attach_detach::Prepared;
 use disk_model::Disk;
 use mdbox_base::{Did, FileNo, Half, InstRow, MapUid, Name, Progress, Refusal, Reply, Seq};
+use save_instances::{Attaching, let_go_all};
 use std::marker::Model;
 use std::mem;
 use store_core::{Stopped, Store, listings_are_shown};
@@ -36,6 +42,11 @@ use store_core::{Stopped, Store, listings_are_shown};
 pub enum SaveStage {
     /// The first, which makes the checks and takes the memory.
     First(Prepared),
+    /// One that compares the next attachment with a known instance, or places it as one.
+    Attaching {
+        parts: SavedParts,
+        attaching: Attaching,
+    },
     /// One that takes a storage file.
     Taking(SavedParts),
     /// One that places the message in the storage file that was taken.
@@ -46,7 +57,6 @@ pub enum SaveStage {
     /// One that stores the message in the map.
     Storing {
         at: SavedAt,
-        origin: u8,
         rows: Seq<InstRow>,
         room: LowerRoom,
     },
@@ -96,9 +106,9 @@ impl Model for SaveTask {
 }
 
 impl SaveTask {
-    /// The delivery of a message to a mailbox, received at this time (Unix seconds), whole.
+    /// The delivery of a message to a mailbox, received at this time (Unix seconds).
     pub fn of(name: Name, time: u64, prepared: Prepared) -> SaveTask
-        requires { (octets : List ℕ) × (length octets ≤ 67108864) × IsPlain octets prepared }
+        requires { (octets : List ℕ) × (length octets ≤ 67108864) × IsPrepared octets prepared }
         ensures { result ≡ record { name = name; time = time; size = prepared.whole; stage = stage.First prepared; did = did.Quiet } }
     {
         SaveTask {
@@ -117,16 +127,17 @@ impl SaveTask {
         self.did
     }
 
-    /// Does the next event: the first one makes the checks and takes the memory; then a storage file is taken, the message placed
-    /// in it, stored in the map, and added to its mailbox. Where it can't be added, one more event gives its record back. The
-    /// store has to have what the event before left.
+    /// Does the next event: the first one makes the checks and takes the memory; then each attachment is compared with the known
+    /// instances of its hash and size, one at an event, and placed where none has its octets; a storage file is taken, the message
+    /// placed in it, stored in the map, and added to its mailbox. Where it can't be added, one more event gives its record back.
+    /// The instances are held until the record names them, or the request ends. The store has to have what the event before left.
     pub fn step<D: Disk>(&mut self, store: &mut Store<D>) -> Progress
         requires left { HasLeft self.old.stage self.old.name self.old.time store.old (D.history store.old.disk) }
         ensures saves { store.old.stopped ≡ false → Saves self.old.stage self.new.stage self.old.name self.old.time self.old.size result self.new.did store.old store.new (D.history store.old.disk) (D.history store.new.disk) (D.faults store.old.disk) (D.faults store.new.disk) }
 
-        // Of the message with these octets, of which no part can be detached, where the task is ready for it: which event of a
-        // run it was, of every run that has come to the store.
-        ensures does { (octets : List ℕ) (after : Around) → has_detachable octets ≡ false → (store.old.stopped ≡ false → IsReadyToSave self.old.stage self.old.name self.old.time self.old.size octets store.old (D.history store.old.disk)) → Steps (IsAtSave self.old.stage) (IsAtSave self.new.stage) (around_saving octets self.old.stage store.old) after (request.Deliver self.old.name self.old.time octets) (seen_saving store.old (D.history store.old.disk) (D.faults store.old.disk)) (seen_saving store.new (D.history store.new.disk) (D.faults store.new.disk)) self.new.did (ended_by result) }
+        // Of the message with these octets, where the task is ready for it: which event of a run it was, of every run that has come
+        // to the store. In a store that was stopped it need not be ready, but for the number of attachments.
+        ensures does { (octets : List ℕ) (after : Around) → HasItsParts self.old.stage octets → (store.old.stopped ≡ false → IsReadyToSave self.old.stage self.old.name self.old.time self.old.size octets store.old (D.history store.old.disk)) → Steps (IsAtSave self.old.stage) (IsAtSave self.new.stage) (around_saving octets self.old.stage store.old) after (request.Deliver self.old.name self.old.time octets) (seen_saving store.old (D.history store.old.disk) (D.faults store.old.disk)) (seen_saving store.new (D.history store.new.disk) (D.faults store.new.disk)) self.new.did (ended_by result) }
 
         // Of the message with these octets, where the task is ready for it: of a settled disk each crash image at every moment is
         // safe for its lists, or for those with the message, whatever fails. Unless the store is stopped then, the disk is
@@ -172,15 +183,13 @@ fn next_event<D: Disk>(
     ensures { Saves now result.next name.now time size result.answer result.did store.old store.new (D.history store.old.disk) (D.history store.new.disk) (D.faults store.old.disk) (D.faults store.new.disk) }
 {
     match now {
-        SaveStage::First(prepared) => first_event(store, name, time, &prepared),
+        SaveStage::First(prepared) => first_event(store, name, time, prepared),
+        SaveStage::Attaching { parts, attaching } => attaching_event(
+            store, name, time, parts, attaching,
+        ),
         SaveStage::Taking(parts) => taking(store, name, time, parts),
         SaveStage::Placing { parts, file } => placing(store, name, time, parts, file),
-        SaveStage::Storing {
-            at,
-            origin,
-            rows,
-            room,
-        } => storing(store, name, time, size, at, origin, rows, room),
+        SaveStage::Storing { at, rows, room } => storing(store, name, time, size, at, rows, room),
         SaveStage::Adding { added, room } => adding(store, name, time, added, room),
         SaveStage::GivingBack { uid, why, room } => giving_back(store, uid, why, room),
         SaveStage::Ended => unreachable!(),
@@ -231,14 +240,49 @@ fn did_fail(why: Refusal) -> Did
 }
 
 /// The first event, of a store that isn't stopped.
-fn first_event<D: Disk>(store: &Store<D>, name: &Name, time: u64, prepared: &Prepared) -> Led
+fn first_event<D: Disk>(store: &Store<D>, name: &Name, time: u64, prepared: Prepared) -> Led
     requires running { store.now.stopped ≡ false }
-    requires message { (octets : List ℕ) × (length octets ≤ 67108864) × IsPlain octets prepared.now }
-    ensures { (size : ℕ) → Saves (stage.First prepared.now) result.next name.now time size result.answer result.did store.now store.now (D.history store.now.disk) (D.history store.now.disk) (D.faults store.now.disk) (D.faults store.now.disk) }
+    requires left { HasLeft (stage.First prepared) name.now time store.now (D.history store.now.disk) }
+    ensures { (size : ℕ) → Saves (stage.First prepared) result.next name.now time size result.answer result.did store.now store.now (D.history store.now.disk) (D.history store.now.disk) (D.faults store.now.disk) (D.faults store.now.disk) }
 {
     match begin(store, name, time, prepared) {
-        Ok(parts) => goes_on(SaveStage::Taking(parts)),
+        Ok((parts, attaching)) => goes_on(behind_attachment(parts, attaching)),
         Err(why) => ends(why, did_fail(why)),
+    }
+}
+
+/// The event that comes next: one that goes on with an attachment, until each has its instance.
+fn behind_attachment(parts: SavedParts, attaching: Attaching) -> SaveStage
+    requires laid { (name : List ℕ) × (time : ℕ) × (prepared : PreparedValue) × (ids : List InstIdValue) × (guid : List ℕ) × IsLaid name time prepared ids guid parts.laid × (attaching.parts ≡ prepared.parts) }
+    ensures more { IsSome (next_attachment attaching) → result ≡ stage.Attaching parts attaching }
+    ensures whole { next_attachment attaching ≡ None → (named : SavedPartsValue) × (result ≡ stage.Taking named) × NamesFound attaching.found parts named }
+{
+    if attaching.is_whole() {
+        SaveStage::Taking(name_found(parts, attaching))
+    } else {
+        SaveStage::Attaching { parts, attaching }
+    }
+}
+
+/// The event that goes on with an attachment.
+fn attaching_event<D: Disk>(
+    store: &mut Store<D>,
+    name: &Name,
+    time: u64,
+    parts: SavedParts,
+    attaching: Attaching,
+) -> Led
+    requires running { store.old.stopped ≡ false }
+    requires left { HasLeft (stage.Attaching parts attaching) name.now time store.old (D.history store.old.disk) }
+    ensures { (size : ℕ) → Saves (stage.Attaching parts attaching) result.next name.now time size result.answer result.did store.old store.new (D.history store.old.disk) (D.history store.new.disk) (D.faults store.old.disk) (D.faults store.new.disk) }
+{
+    let mut attaching = attaching;
+    match attach_next(store, &mut attaching) {
+        Ok(()) => goes_on(behind_attachment(parts, attaching)),
+        Err(why) => {
+            let_go_all(store, attaching.found());
+            ends(why, did_fail(why))
+        }
     }
 }
 
@@ -260,15 +304,17 @@ fn known_name(name: &Name)
 /// The event that takes a storage file.
 fn taking<D: Disk>(store: &mut Store<D>, name: &Name, time: u64, parts: SavedParts) -> Led
     requires running { store.old.stopped ≡ false }
-    requires message { IsOfMessage name.now time parts }
-    requires instances { HoldsInstances parts.rows store.old (D.history store.old.disk) }
+    requires left { IsAttached name.now time parts store.old (D.history store.old.disk) }
     ensures { (size : ℕ) → Saves (stage.Taking parts) result.next name.now time size result.answer result.did store.old store.new (D.history store.old.disk) (D.history store.new.disk) (D.faults store.old.disk) (D.faults store.new.disk) }
 {
     known_name(name);
-    let size = parts.region.length() as u32;
+    let size = parts.laid.region().len() as u32;
     match take_file(store, parts.header.as_slice(), size) {
         Ok(file) => goes_on(SaveStage::Placing { parts, file }),
-        Err(why) => ends(why, did_fail(why)),
+        Err(why) => {
+            let_go_all(store, parts.rows.as_slice());
+            ends(why, did_fail(why))
+        }
     }
 }
 
@@ -281,49 +327,45 @@ fn placing<D: Disk>(
     file: FileNo,
 ) -> Led
     requires running { store.old.stopped ≡ false }
-    requires message { IsOfMessage name.now time parts }
-    requires taken { HoldsFile file.0 (length parts.region) store.old }
-    requires instances { HoldsInstances parts.rows store.old (D.history store.old.disk) }
+    requires left { HasLeft (stage.Placing parts file) name.now time store.old (D.history store.old.disk) }
     ensures { (size : ℕ) → Saves (stage.Placing parts file) result.next name.now time size result.answer result.did store.old store.new (D.history store.old.disk) (D.history store.new.disk) (D.faults store.old.disk) (D.faults store.new.disk) }
 {
     let SavedParts {
         header: _header,
-        region,
-        origin,
+        laid,
         rows,
         room,
     } = parts;
-    let mut region = region.into_vec();
+    let mut laid = laid;
     known_name(name);
-    match place_region(store, name, &mut region, file) {
-        Ok(at) => goes_on(SaveStage::Storing {
-            at,
-            origin,
-            rows,
-            room,
-        }),
-        Err(Stopped) => ends(Refusal::Stopped, Did::Failed),
+    match place_region(store, &mut laid, file) {
+        Ok(at) => goes_on(SaveStage::Storing { at, rows, room }),
+        Err(Stopped) => {
+            let_go_all(store, rows.as_slice());
+            ends(Refusal::Stopped, Did::Failed)
+        }
     }
 }
 
-/// The event that stores the message in the map.
+/// The event that stores the message in the map. Its record names the instances from then on: they are let go, whatever happens.
 fn storing<D: Disk>(
     store: &mut Store<D>,
     name: &Name,
     time: u64,
     size: u32,
     at: SavedAt,
-    origin: u8,
     rows: Seq<InstRow>,
     room: LowerRoom,
 ) -> Led
     requires running { store.old.stopped ≡ false }
-    requires left { HasLeft (stage.Storing at origin rows room) name.now time store.old (D.history store.old.disk) }
+    requires left { HasLeft (stage.Storing at rows room) name.now time store.old (D.history store.old.disk) }
     requires size { size ≤ 67108864 }
-    ensures { Saves (stage.Storing at origin rows room) result.next name.now time size result.answer result.did store.old store.new (D.history store.old.disk) (D.history store.new.disk) (D.faults store.old.disk) (D.faults store.new.disk) }
+    ensures { Saves (stage.Storing at rows room) result.next name.now time size result.answer result.did store.old store.new (D.history store.old.disk) (D.history store.new.disk) (D.faults store.old.disk) (D.faults store.new.disk) }
 {
     store.facts();
-    match store_record(store, at, origin, rows) {
+    let (stored, rows) = store_record(store, at, rows);
+    let_go_all(store, rows.as_slice());
+    match stored {
         Ok(map_uid) => goes_on(SaveStage::Adding {
             added: Added {
                 map_uid,
@@ -380,6 +422,7 @@ fn giving_back<D: Disk>(store: &mut Store<D>, uid: MapUid, why: Refusal, room: L
     requires running { store.old.stopped ≡ false }
     requires due { 1 ≤ due_at uid.0 store.old }
     requires why { why ≢ refusal.Stopped }
+    requires unread { why ≢ refusal.ReadFault }
     ensures { (name : List ℕ) (time size : ℕ) → Saves (stage.GivingBack uid why room) result.next name time size result.answer result.did store.old store.new (D.history store.old.disk) (D.history store.new.disk) (D.faults store.old.disk) (D.faults store.new.disk) }
 {
     match give_back(store, uid, room) {

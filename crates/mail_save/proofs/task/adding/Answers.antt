@@ -4,9 +4,12 @@ use Rattle.store_core.specs.Dues.{due_at}
 use Rattle.mail_save.specs.Task.{Saves}
 use Rattle.mail_save.specs.declared.task.SaveStage.TheVariants as stage
 use Rattle.mail_save.proofs.PlaceLemmas.{unchanged_settled}
-use Rattle.mail_save.proofs.SaveEventLemmas.{add_refused, done_goes_on, faults_by, is_false, more_apart, more_runs, ok_apart, saved_apart, saved_runs, refused_stops, unfallen}
+use Rattle.mail_save.proofs.SaveEventLemmas.{add_refused, done_goes_on, faults_by, is_false, more_runs, ok_apart, saved_runs, refused_stops, unfallen}
 use Rattle.mail_save.proofs.StoringLemmas.{left_unadded, spared_kept}
+use Rattle.mail_save.proofs.FaultLemmas.{add_unread}
+use Rattle.mail_save.proofs.HeldInstanceLemmas.{same_keeps}
 use Rattle.mail_save.proofs.HeldLemmas.{nothing_moves, one_less}
+use Rattle.mail_save.proofs.LettingLemmas.{moves_same}
 use Rattle.mail_save.specs.Held.{save_amounts}
 use Rattle.mail_save.proofs.OtherLemmas.{keeps_same}
 use Rattle.mail_save.proofs.MailFileLemmas.{mail_unchanged}
@@ -31,8 +34,9 @@ returns-in-Ok g c = λ size.
       others = keeps_same (stage.Adding c.args.added c.args.room) c.args.store.now c.add_message.new.store (ap (λ v. v.map) o.same) (ap (λ v. v.files.files) o.same);
       moves = λ ran. one_less c.args.added.map_uid (save_amounts (stage.Adding c.args.added c.args.room)) (save_amounts stage.Ended) c.args.store.now c.add_message.new.store (λ uid. refl) (λ uid. refl) c.requires.left.1 (λ uid. o.due o.uid.1.mailbox uid o.uid.1.named);
       stopped = saved_runs _ _ c.add_message.new.store.stopped runs;
-      fault = faults_by _ _ _ _ (λ e. absurd (saved_apart _ _ e)) o.fault;
-      unfailed = λ e. o.unfailed runs;
+      holds = moves_same (λ id. 0) c.args.store.now c.add_message.new.store (ap (λ v. v.instances) o.same);
+      instances = λ ran. same_keeps c.args.store.now c.add_message.new.store _ _ (ap (λ v. v.instances) o.same) o.mail;
+      faults = o.unfailed runs;
       grows = o.grows;
     }
 
@@ -55,8 +59,9 @@ returns-then-stopped g c = λ size.
       others = keeps_same (stage.Adding c.args.added c.args.room) c.args.store.now c.add_message.new.store (ap (λ v. v.map) o.same) (ap (λ v. v.files.files) o.same);
       moves = λ ran. absurd (unfallen c.add_message.new.store.stopped fell ran);
       stopped = refused_stops refusal.Stopped c.add_message.new.store.stopped (record { 0 = λ e. fell; 1 = λ e. refl });
-      fault = faults_by _ _ _ _ (λ e. o.stopped.1 fell) o.fault;
-      unfailed = λ e. absurd (e refl);
+      holds = moves_same (λ id. 0) c.args.store.now c.add_message.new.store (ap (λ v. v.instances) o.same);
+      instances = λ ran. absurd (unfallen c.add_message.new.store.stopped fell ran);
+      faults = faults_by _ _ _ _ (λ e. o.stopped.1 fell) o.fault;
       grows = o.grows;
     })
 
@@ -72,7 +77,7 @@ returns-else-stopped g c = λ size.
       moments = o.any_moment;
       rests = λ ran lists s. unchanged_settled g.D.Disk.history c.args.store.now.disk c.add_message.new.store.disk (ap (λ v. v.disk) same) lists s;
       ready = λ e octets h. h.0;
-      left = λ e. (subst (λ v. 1 ≤ due_at c.args.added.map_uid.0 v) (sym same) c.requires.left.1, calm);
+      left = λ e. (subst (λ v. 1 ≤ due_at c.args.added.map_uid.0 v) (sym same) c.requires.left.1, calm, add_unread c.args.name.now c.args.store.now c.in-Err.why o.refused);
       fewer = λ e. omega arith;
       effects = (refl, same);
       mail = λ ran. mail_unchanged g.D.Disk.history c.args.store.now.disk c.add_message.new.store.disk (ap (λ v. v.disk) same);
@@ -81,7 +86,8 @@ returns-else-stopped g c = λ size.
       others = keeps_same (stage.Adding c.args.added c.args.room) c.args.store.now c.add_message.new.store (ap (λ v. v.map) same) (ap (λ v. v.files.files) same);
       moves = λ ran. nothing_moves (save_amounts (stage.Adding c.args.added c.args.room)) (save_amounts (stage.GivingBack c.args.added.map_uid c.in-Err.why c.args.room)) c.args.store.now c.add_message.new.store (λ uid. refl) (λ uid. ap (λ v. due_at uid v) same);
       stopped = more_runs c.add_message.new.store.stopped runs;
-      fault = faults_by _ _ _ _ (λ e. absurd (more_apart e)) o.fault;
-      unfailed = λ e. o.unfailed runs;
+      holds = moves_same (λ id. 0) c.args.store.now c.add_message.new.store (ap (λ v. v.instances) o.same);
+      instances = λ ran. same_keeps c.args.store.now c.add_message.new.store _ _ (ap (λ v. v.instances) o.same) (mail_unchanged g.D.Disk.history c.args.store.now.disk c.add_message.new.store.disk (ap (λ v. v.disk) same));
+      faults = o.unfailed runs;
       grows = o.grows;
     }

@@ -2,8 +2,11 @@ use Rattle.std.proofs.Common.{ap, sym, subst, refl, inl, inr}
 use Rattle.mdbox_base.specs.declared.replies.Refusal.TheVariants as refusal
 use Rattle.mail_save.specs.Task.{Saves}
 use Rattle.mail_save.specs.declared.task.SaveStage.TheVariants as stage
-use Rattle.mail_save.proofs.SaveEventLemmas.{done_goes_on, faults_by, gives_quietly, is_false, never_stops, never_true, refused_rose, refused_stops, unfallen}
+use Rattle.mail_save.proofs.SaveEventLemmas.{done_goes_on, faults_by, gives_quietly, is_false, never_stops, never_true, refused_stops, unfallen}
+use Rattle.mail_save.proofs.FaultLemmas.{calm_faults}
+use Rattle.mail_save.proofs.HeldInstanceLemmas.{same_keeps}
 use Rattle.mail_save.proofs.HeldLemmas.{one_less}
+use Rattle.mail_save.proofs.LettingLemmas.{moves_same}
 use Rattle.mail_save.specs.Held.{save_amounts}
 use Rattle.mail_save.proofs.OtherLemmas.{alone_keeps, lowering_keeps}
 use Rattle.mail_save.proofs.task.giving_back.Goals as goal
@@ -27,8 +30,9 @@ returns-in-Ok g c = λ name time size.
       others = lowering_keeps c.args.uid c.args.why c.args.room c.args.store.now c.give_back.new.store o.lowers;
       moves = λ ran. one_less c.args.uid (save_amounts (stage.GivingBack c.args.uid c.args.why c.args.room)) (save_amounts stage.Ended) c.args.store.now c.give_back.new.store (λ uid. refl) (λ uid. refl) c.requires.due o.lowers.due;
       stopped = refused_stops c.args.why c.give_back.new.store.stopped (never_stops c.args.why c.give_back.new.store.stopped runs c.requires.why);
-      fault = faults_by _ _ _ _ (λ e. absurd (c.requires.why (refused_rose c.args.why e))) o.fault;
-      unfailed = λ e. o.unfailed;
+      holds = moves_same (λ id. 0) c.args.store.now c.give_back.new.store (ap (λ v. v.instances) o.lowers.same);
+      instances = λ ran. same_keeps c.args.store.now c.give_back.new.store _ _ (ap (λ v. v.instances) o.lowers.same) o.mail;
+      faults = calm_faults c.args.why _ _ c.requires.unread c.requires.why o.unfailed;
       grows = o.grows;
     })
 
@@ -51,7 +55,8 @@ returns-in-Err g c = λ name time size.
       others = alone_keeps (stage.GivingBack c.args.uid c.args.why c.args.room) c.args.store.now c.give_back.new.store (o.alone refl);
       moves = λ ran. absurd (unfallen c.give_back.new.store.stopped fell ran);
       stopped = refused_stops refusal.Stopped c.give_back.new.store.stopped (record { 0 = λ e. fell; 1 = λ e. refl });
-      fault = faults_by _ _ _ _ (λ e. refl) o.fault;
-      unfailed = λ e. absurd (e refl);
+      holds = moves_same (λ id. 0) c.args.store.now c.give_back.new.store (ap (λ v. v.instances) (o.alone refl).same);
+      instances = λ ran. absurd (unfallen c.give_back.new.store.stopped fell ran);
+      faults = faults_by _ _ _ _ (λ e. refl) o.fault;
       grows = o.grows;
     })

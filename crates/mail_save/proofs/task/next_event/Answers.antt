@@ -7,6 +7,11 @@ returns-in-First g c =
     subst (λ s. Saves s c.first_event.result.next c.args.name.now c.args.time c.args.size c.first_event.result.answer c.first_event.result.did c.args.store.now c.args.store.now (g.D.Disk.history c.args.store.now.disk) (g.D.Disk.history c.args.store.now.disk) (g.D.Disk.faults c.args.store.now.disk) (g.D.Disk.faults c.args.store.now.disk)) (sym c.in-First.is)
     (c.first_event.ensures c.args.size)
 
+pub returns-in-Attaching : goal.returns-in-Attaching
+returns-in-Attaching g c =
+    subst (λ s. Saves s c.attaching_event.result.next c.args.name.now c.args.time c.args.size c.attaching_event.result.answer c.attaching_event.result.did c.args.store.now c.attaching_event.new.store (g.D.Disk.history c.args.store.now.disk) (g.D.Disk.history c.attaching_event.new.store.disk) (g.D.Disk.faults c.args.store.now.disk) (g.D.Disk.faults c.attaching_event.new.store.disk)) (sym c.in-Attaching.is)
+    (c.attaching_event.ensures c.args.size)
+
 pub returns-in-Taking : goal.returns-in-Taking
 returns-in-Taking g c =
     subst (λ s. Saves s c.taking.result.next c.args.name.now c.args.time c.args.size c.taking.result.answer c.taking.result.did c.args.store.now c.taking.new.store (g.D.Disk.history c.args.store.now.disk) (g.D.Disk.history c.taking.new.store.disk) (g.D.Disk.faults c.args.store.now.disk) (g.D.Disk.faults c.taking.new.store.disk)) (sym c.in-Taking.is)

@@ -1,8 +1,7 @@
 use Rattle.std.proofs.Common.{rules, ◌<◌, ◌^◌, refl, sym, ◌∙◌}
 use Rattle.store_core.proofs.BoxCrashLemmas.{leaves_none}
-use Rattle.mail_save.proofs.SaveDoesLemmas.{seen_does, seen_stopped}
+use Rattle.mail_save.proofs.SaveDoesLemmas.{IsOpenStore, seen_does, seen_stopped}
 use Rattle.mail_save.proofs.SaveEventLemmas.{seen_saves, unfallen}
-use Rattle.mail_save.proofs.SaveInstanceLemmas.{instances_kept}
 use Rattle.mail_save.proofs.SaveMomentLemmas.{save_moments, save_rests}
 use Rattle.mail_save.proofs.SaveUidLemmas.{store_stays, uids_stay}
 use Rattle.mail_save.proofs.task.SaveTask.step.Goals as goal
@@ -11,14 +10,30 @@ pub returns-clause-saves : goal.returns-clause-saves
 returns-clause-saves g c = λ ran. seen_saves _ c.args.self.now c.replace-now.result _ _ _ _ _ _ _ _ _ c.self.view_is c.replace-now.ensures.value c.next_event-next.ensures
 
 pub returns-then-stopped-clause-does : goal.returns-then-stopped-clause-does
-returns-then-stopped-clause-does g c = λ octets after whole ready.
-    seen_stopped g.D.Disk.history g.D.Disk.faults _ c.args.self.now octets c.args.store.now c.self.view_is c.facts.ensures.store c.facts.ensures.files c.requires.left whole (sym c.stopped.ensures ∙ c.if-stopped.true) after
+returns-then-stopped-clause-does g c = λ octets after parts ready.
+    let known : IsOpenStore (g.D.Disk.history c.args.store.now.disk) c.args.store.now = record {
+      is = c.facts.ensures.store;
+      order = c.facts.ensures.files;
+      ids = c.facts.ensures.ids;
+      kept = c.facts.ensures.instances.kept;
+      id_long = c.known_id.ensures.long;
+      id_octets = c.known_id.ensures.each;
+    } in
+    seen_stopped g.D.Disk.history g.D.Disk.faults _ c.args.self.now octets c.args.store.now c.self.view_is known c.requires.left parts (sym c.stopped.ensures ∙ c.if-stopped.true) after
 
 pub returns-clause-does : goal.returns-clause-does
-returns-clause-does g c = λ octets after whole ready.
+returns-clause-does g c = λ octets after parts ready.
     let timed : c.args.self.now.time < 2 ^ 64 = search rules in
     let ran = sym c.stopped.ensures ∙ c.if-stopped.false in
-    seen_does g.D.Disk.history g.D.Disk.faults _ c.args.self.now c.replace-now.result _ octets _ _ c.args.store.now c.next_event-next.new.store c.self.view_is c.replace-now.ensures.value c.facts.ensures.store c.facts.ensures.files c.known_id.ensures.long c.known_id.ensures.each timed ran c.requires.left whole (ready ran) c.next_event-next.ensures after
+    let known : IsOpenStore (g.D.Disk.history c.args.store.now.disk) c.args.store.now = record {
+      is = c.facts.ensures.store;
+      order = c.facts.ensures.files;
+      ids = c.facts.ensures.ids;
+      kept = c.facts.ensures.instances.kept;
+      id_long = c.known_id.ensures.long;
+      id_octets = c.known_id.ensures.each;
+    } in
+    seen_does g.D.Disk.history g.D.Disk.faults _ c.args.self.now c.replace-now.result _ octets _ _ c.args.store.now c.next_event-next.new.store c.self.view_is c.replace-now.ensures.value known timed ran c.requires.left parts (ready ran) c.next_event-next.ensures after
 
 pub returns-then-stopped-clause-moments : goal.returns-then-stopped-clause-moments
 returns-then-stopped-clause-moments g c = λ octets ready lists at. leaves_none _ lists _ at
@@ -49,5 +64,4 @@ returns-then-stopped-clause-instances g c = λ ran. absurd (unfallen c.args.stor
 
 pub returns-clause-instances : goal.returns-clause-instances
 returns-clause-instances g c = λ ran.
-    let s = seen_saves _ c.args.self.now c.replace-now.result _ _ _ _ _ _ _ _ _ c.self.view_is c.replace-now.ensures.value c.next_event-next.ensures in
-    instances_kept c.args.self.now.stage _ _ _ _ _ _ c.args.store.now _ _ _ _ _ c.requires.left s ran
+    (seen_saves _ c.args.self.now c.replace-now.result _ _ _ _ _ _ _ _ _ c.self.view_is c.replace-now.ensures.value c.next_event-next.ensures).instances ran

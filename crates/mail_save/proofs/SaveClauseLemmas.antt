@@ -1,0 +1,152 @@
+-- The clause of a step of a delivery: what it stands on, and that instances may be let go as the event ends.
+use Rattle.std.proofs.Common.{◌≡◌, ◌<◌, ◌^◌, ℕ, Bool, true, false, List, length, Option, sym, ◌∙◌, ap, subst}
+use Rattle.std.specs.Prelude.{◌↔◌}
+use Rattle.disk_model.specs.Disk.{History, Faults, Grows}
+use Rattle.mdbox_base.specs.Words.{IsOctets}
+use Rattle.mdbox_base.specs.declared.entries.InstRow.{InstRow}
+use Rattle.mdbox_base.specs.declared.progress.Did.{Did}
+use Rattle.mdbox_base.specs.declared.progress.Did.TheVariants as did
+use Rattle.mdbox_base.specs.declared.progress.Progress.{Progress}
+use Rattle.mdbox_base.specs.declared.replies.Reply.{Reply}
+use Rattle.mdbox_base.specs.declared.requests.Request.{Request}
+use Rattle.mdbox_base.specs.declared.requests.Request.TheVariants as request
+use Rattle.model_lists.specs.Lists.{Lists}
+use Rattle.list_machine.specs.Run.{RunEvent, Run, and_then}
+use Rattle.journal.specs.Events.{Around}
+use Rattle.save_instances.specs.Attaching.{found_let_go}
+use Rattle.sis_store.specs.Instances.{AreInstances}
+use Rattle.storage_files.specs.Files.{AreFilesInOrder}
+use Rattle.store_core.specs.Knows.{knows_instance}
+use Rattle.store_core.specs.Running.{IsStore}
+use Rattle.store_core.specs.StoreInstances.{AreInstancesKept}
+use Rattle.store_core.specs.Value.{StoreValue}
+use Rattle.task_steps.specs.Step.{Seen, HasComeTo, Leads, Fell, Went, EndsRequest, DidEvent, Steps, ended_by}
+use Rattle.mail_save.specs.Ready.{IsReadyToSave}
+use Rattle.mail_save.specs.SaveEffects.{LetsGo}
+use Rattle.mail_save.specs.SaveSeen.{HasItsParts, IsAtSave, around_saving, seen_saving}
+use Rattle.mail_save.specs.Task.{FaultsAt, HasLeft, MomentsAt, RepliesAt, RestsAt, saved_did, stopped_reply}
+use Rattle.mail_save.specs.declared.task.SaveStage.{SaveStage}
+use Rattle.mail_save.proofs.SaveDidLemmas.{fall}
+use Rattle.mail_save.proofs.SeenInstanceLemmas.{knows_let_go}
+
+-- ---- an event
+
+-- What is known as a step of a delivery ends, of a store that wasn't stopped: but what it made of the store's value. If instances
+-- were let go then, the new store is that in front of this.
+pub record EventOf {D : Type 0} (now next : SaveStage) (name : List ℕ) (time size : ℕ) (octets : List ℕ) (answer : Progress) (how : Did) (old new : StoreValue D) (before after : Option History) (began faulted : Faults) : Type 0 where
+  pub is : IsStore before old
+  pub order : AreFilesInOrder old.files
+  pub ids : AreInstances old.instances
+  pub kept : AreInstancesKept old.instances old.drawn old.map
+  pub ran : old.stopped ≡ false
+  pub left : HasLeft now name time old before
+  pub ready : IsReadyToSave now name time size octets old before
+  pub parts : HasItsParts now octets
+  pub timed : time < 2 ^ 64
+  pub id_long : length old.map.store ≡ 8
+  pub id_octets : IsOctets old.map.store
+  pub idle : new.disk ≡ old.disk → (after ≡ before) × (faulted ≡ began)
+  pub replies : RepliesAt now name answer next old
+  pub did_is : how ≡ saved_did now next answer
+  pub moments : MomentsAt now name old before after
+  pub rests : new.stopped ≡ false → RestsAt now name answer old before after
+  pub stopped : (answer ≡ stopped_reply) ↔ (new.stopped ≡ true)
+  pub faults : FaultsAt answer began faulted
+  pub grows : Grows before after
+
+abbrev pub DeliveryClause : {D : Type 0} → List ℕ → SaveStage → SaveStage → List ℕ → ℕ → Progress → Did → StoreValue D → StoreValue D → Option History → Option History → Faults → Faults → Type 0
+DeliveryClause octets now next name time answer how old new before after began faulted =
+    (behind : Around) → Steps (IsAtSave now) (IsAtSave next) (around_saving octets now old) behind (request.Deliver name time octets) (seen_saving old before began) (seen_saving new after faulted) how (ended_by answer)
+
+pub with_did : {D : Type 0} → (octets : List ℕ) (now next : SaveStage) (name : List ℕ) (time : ℕ) (answer : Progress) (how known : Did) (old new : StoreValue D) (before after : Option History) (began faulted : Faults) → how ≡ known
+    → DeliveryClause octets now next name time answer known old new before after began faulted → DeliveryClause octets now next name time answer how old new before after began faulted
+with_did octets now next name time answer how known old new before after began faulted same = subst (λ (h : Did). DeliveryClause octets now next name time answer h old new before after began faulted) (sym same)
+
+-- ---- instances are let go
+
+-- a store that tells other instances
+abbrev telling : Seen → (InstRow → Bool) → Seen
+telling seen instances = record seen { instances = instances }
+
+leads_as : (lists left : Lists) (old new : Seen) (f : InstRow → Bool) → Leads lists left old new → Leads lists left old (telling new f)
+leads_as lists left old new f l = record { stops = l.stops; settled = l.settled }
+
+fell_as : (event : RunEvent) (answer : Option Reply) (old new : Seen) (f : InstRow → Bool) → Fell event answer old new → Fell event answer old (telling new f)
+fell_as event answer old new f k = record { refused = k.refused; unanswered = k.unanswered; ran = k.ran; stopped = k.stopped }
+
+went_as : (how : Did) (q : Request) (run : Run) (lists left : Lists) (event : RunEvent) (answer : Option Reply) (old new : Seen) (f : InstRow → Bool) → Went how q run lists left event answer old new → Went how q run lists left event answer old (telling new f)
+went_as did.Quiet q run lists left event answer old new f w = (w.0, w.1, leads_as lists lists old new f w.2)
+went_as (did.Step half) q run lists left event answer old new f w = (w.0, w.1, w.2, leads_as lists left old new f w.3)
+went_as did.Failed q run lists left event answer old new f w = (fell_as event answer old new f w.0, w.1)
+went_as (did.Broken half) q run lists left event answer old new f w = (fell_as event answer old new f w.0, w.1, w.2)
+
+come_as : (run : Run) (new : Seen) (f : InstRow → Bool) → ((row : InstRow) → f row ≡ true → new.instances row ≡ true) → HasComeTo run new → HasComeTo run (telling new f)
+come_as run new f fewer h = record { come = h.come; due = h.due; pins = h.pins; doomed = h.doomed; used = h.used; gave = h.gave; gone = h.gone; files = h.files; instances = λ row e. h.instances row (fewer row e) }
+
+ends_as : (q : Request) (said : List Reply) (event : RunEvent) (answer ended : Option Reply) (how : Did) (old new : Seen) (f : InstRow → Bool) → old.stopped ≡ false → EndsRequest q said event answer ended how old new → EndsRequest q said event answer ended how old (telling new f)
+ends_as q said event answer ended how old new f ran e = record {
+  in_turn = e.in_turn;
+  replied = e.replied;
+  halts = e.halts;
+  still = λ stopped. absurd (fall old.stopped stopped ran);
+  reads = e.reads;
+  faults = e.faults;
+}
+
+did_as : (around after : Around) (run : Run) (lane place : ℕ) (said : List Reply) (q : Request) (lists : Lists) (old new : Seen) (how : Did) (ended : Option Reply) (f : InstRow → Bool) → old.stopped ≡ false → ((row : InstRow) → f row ≡ true → new.instances row ≡ true)
+    → DidEvent around after run lane place said q lists old new how ended → DidEvent around after run lane place said q lists old (telling new f) how ended
+did_as around after run lane place said q lists old new how ended f ran fewer d = record {
+  left = d.left;
+  shown = d.shown;
+  makes = d.makes;
+  found = d.found;
+  come = come_as (and_then run d.makes.event) new f fewer d.come;
+  gives = d.gives;
+  went = went_as how q run lists d.left d.makes.event d.makes.answer old new f d.went;
+  grows = d.grows;
+  ends = ends_as q said d.makes.event d.makes.answer ended how old new f ran d.ends;
+}
+
+steps_as : (Stood Stands : Run → ℕ → List Reply → Type 0) (around after : Around) (q : Request) (old new : Seen) (how : Did) (ended : Option Reply) (f : InstRow → Bool) → old.stopped ≡ false → ((row : InstRow) → f row ≡ true → new.instances row ≡ true)
+    → Steps Stood Stands around after q old new how ended → Steps Stood Stands around after q old (telling new f) how ended
+unfolding did_as
+steps_as Stood Stands around after q old new how ended f ran fewer does = λ run lane place said lists come shows stood.
+    let d = does run lane place said lists come shows stood in
+    (did_as around after run lane place said q lists old new how ended f ran fewer d.0, d.1)
+
+abbrev let_go_of : {D : Type 0} → List InstRow → StoreValue D → StoreValue D
+let_go_of found store = record store { instances = record store.instances { known = found_let_go found store.instances.known } }
+
+-- It is the same event where these instances are let go as it ends.
+pub lets_go_does : {D : Type 0} → (octets : List ℕ) (now next : SaveStage) (name : List ℕ) (time : ℕ) (answer : Progress) (how : Did) (old left new : StoreValue D) (before after : Option History) (began faulted : Faults) (found : List InstRow) → old.stopped ≡ false → LetsGo found left new
+    → DeliveryClause octets now next name time answer how old left before after began faulted → DeliveryClause octets now next name time answer how old new before after began faulted
+lets_go_does octets now next name time answer how old left new before after began faulted found ran gone does =
+    subst (λ (n : StoreValue _). DeliveryClause octets now next name time answer how old n before after began faulted) (sym gone)
+    (λ behind. steps_as (IsAtSave now) (IsAtSave next) (around_saving octets now old) behind (request.Deliver name time octets) (seen_saving old before began) (seen_saving left after faulted) how (ended_by answer)
+    (λ row. knows_instance (let_go_of found left) row) ran (λ row e. sym (knows_let_go row found left.instances.known) ∙ e) (does behind))
+
+-- ---- the store in front of that
+
+pub before_letting : {D : Type 0} → (now next : SaveStage) (name : List ℕ) (time size : ℕ) (octets : List ℕ) (answer : Progress) (how : Did) (old left new : StoreValue D) (before after : Option History) (began faulted : Faults) (found : List InstRow) → LetsGo found left new
+    → EventOf now next name time size octets answer how old new before after began faulted → EventOf now next name time size octets answer how old left before after began faulted
+before_letting now next name time size octets answer how old left new before after began faulted found gone e = record {
+  is = e.is;
+  order = e.order;
+  ids = e.ids;
+  kept = e.kept;
+  ran = e.ran;
+  left = e.left;
+  ready = e.ready;
+  parts = e.parts;
+  timed = e.timed;
+  id_long = e.id_long;
+  id_octets = e.id_octets;
+  idle = λ same. e.idle (ap (λ (v : StoreValue _). v.disk) gone ∙ same);
+  replies = e.replies;
+  did_is = e.did_is;
+  moments = e.moments;
+  rests = λ runs. e.rests (ap (λ (v : StoreValue _). v.stopped) gone ∙ runs);
+  stopped = record { 0 = λ k. sym (ap (λ (v : StoreValue _). v.stopped) gone) ∙ e.stopped.0 k; 1 = λ k. e.stopped.1 (ap (λ (v : StoreValue _). v.stopped) gone ∙ k) };
+  faults = e.faults;
+  grows = e.grows;
+}
