@@ -65,7 +65,9 @@ alone_faults given began now unread fault unfailed = record {
   reads = (let same = fault.reads in omega (arith, same));
   changes = fault.changes;
   read_fault = λ e. absurd (let k : true ≡ false = sym (ap (λ (r : Reply). is_read_fault (Some r)) e) ∙ unread in cc k);
+  read_alone = λ e. absurd (let k : true ≡ false = sym (ap (λ (r : Reply). is_read_fault (Some r)) e) ∙ unread in cc k);
   stopped = fault.rose;
+  change_alone = λ e. fault.reads;
   unfailed = λ read stopped. unfailed stopped;
 }
 
@@ -74,7 +76,7 @@ done_alone request given old mid new began now s t how ops w show answer =
     let l = tells request given old mid new began now s t how ops w show answer in
     record {
       tells = l;
-      serves = λ journaled lists safe. request_served request lists given old mid new began now s t how w show (calm request given old new ops l) safe;
+      serves = λ lists safe. request_served request lists given old mid new began now s t how w show (calm request given old new ops l) safe;
       moments = leaves request given old mid new began now s t how ops w;
       rests = rests request given old mid new began now s t how ops w;
       faults = alone_faults given began now (calm request given old new ops l) w.fault w.unfailed;

@@ -400,7 +400,7 @@ copy_rests name uid target given old mid new began now s t w = λ none lists at.
 pub copy_done : {D : Type 0} → (name : List ℕ) (uid : Uid) (target : List ℕ) (given : Reply) (old mid new : Option History) (began now : Faults) (s t : StoreValue D) → CopyingKnown name uid target given old mid new began now s t → LogsShow → IsDoneAlone (request.Copy name uid target) given old new began now
 copy_done name uid target given old mid new began now s t w show = record {
   tells = copy_tells name uid target given old mid new began now s t w;
-  serves = λ journaled lists safe. w.copies.changes.served lists (before_opening (seen_of s mid began) old) (way_opens (IsAtCopy stage.First) (request.Copy name uid target) lists old mid began s w.opened show safe (refl, refl));
+  serves = λ lists safe. w.copies.changes.served lists (before_opening (seen_of s mid began) old) (way_opens (IsAtCopy stage.First) (request.Copy name uid target) lists old mid began s w.opened show safe (refl, refl));
   moments = changed_moments (copied_lists name uid target) old mid new s w.opened w.copies.changes.moments;
   rests = copy_rests name uid target given old mid new began now s t w;
   faults = alone_faults given began now w.copies.calm w.copies.changes.fault w.copies.changes.unfailed;

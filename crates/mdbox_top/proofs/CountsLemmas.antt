@@ -118,7 +118,9 @@ counts_faults given began unread runs = record {
   reads = omega arith;
   changes = omega arith;
   read_fault = λ e. absurd (let k : true ≡ false = sym (ap (λ (r : Reply). is_read_fault (Some r)) e) ∙ unread in cc k);
+  read_alone = λ e. refl;
   stopped = λ e. absurd (runs e);
+  change_alone = λ e. refl;
   unfailed = λ read stopped. refl;
 }
 
@@ -127,7 +129,7 @@ counts_done given old mid began s how w show =
     let l = counts_tells given old mid began s how w show in
     record {
       tells = l;
-      serves = λ journaled lists safe. counts_served lists given old mid began s how w show (counts_calm old mid given l) safe;
+      serves = λ lists safe. counts_served lists given old mid began s how w show (counts_calm old mid given l) safe;
       moments = w.opened.safe;
       rests = λ none. (w.opened.settled_again, w.opened.carried);
       faults = counts_faults given began (counts_calm old mid given l) (counts_run old mid given l);

@@ -1,10 +1,13 @@
 -- How a delivery ends: by what was read, and by its request alone.
 use Rattle.std.specs.Prelude.{◌≡◌, ◌≤◌, ◌<◌, ◌⊎◌, ℕ, false, List, [], ◌∷◌, length, Option, Some, None}
 use Rattle.std.proofs.Common.{refl, sym, ◌∙◌, ap, subst, inl, inr, arith}
+use Rattle.attach_detach.specs.Prepared.{IsPrepared}
+use Rattle.attach_detach.specs.declared.message.Prepared.{Prepared}
 use Rattle.disk_model.specs.Disk.{Files, History, Faults}
 use Rattle.disk_model.proofs.MomentLemmas.{each_image-map}
 use Rattle.mdbox_base.specs.Streams.{Rose, Refused}
 use Rattle.mdbox_base.specs.declared.entries.Highest.{Highest}
+use Rattle.mdbox_base.specs.declared.entries.InstRow.{InstRow}
 use Rattle.mdbox_base.specs.declared.ids.Guid.{Guid}
 use Rattle.mdbox_base.specs.declared.ids.MapUid.{MapUid}
 use Rattle.mdbox_base.specs.declared.ids.Uid.{Uid}
@@ -24,8 +27,11 @@ use Rattle.task_steps.proofs.OneEventLemmas.{not_true}
 use Rattle.storage_files.specs.Files.{FilesValue}
 use Rattle.store_core.specs.Running.{IsStore}
 use Rattle.store_core.specs.Value.{StoreValue, indexes_of, list_named}
-use Rattle.mail_ops.specs.Task.{seen_of}
-use Rattle.mail_save.specs.Saved.{place_guid, saved_region}
+use Rattle.mail_save.specs.SaveSeen.{seen_saving}
+use Rattle.saved_message.specs.Region.{guid_of_place, written_region}
+use Rattle.saved_message.specs.Saved.{ids_in}
+use Rattle.store_core.specs.StoreInstances.{HasKnownInstances}
+use Rattle.store_instances.specs.FoundInstances.{IsFoundInstances}
 use Rattle.store_open.specs.Opened.{IsOpenedAs}
 use Rattle.store_open.specs.declared.error.OpenError.{OpenError}
 use Rattle.store_open.specs.declared.error.OpenError.TheVariants as error
@@ -42,12 +48,12 @@ use Rattle.mdbox_top.specs.DeliverRun.{undelivered_cause, region_length, HasReco
 use Rattle.mdbox_top.specs.InputRun.{IsOneOf}
 use Rattle.mdbox_top.specs.OpeningOutcome.{opening_outcome}
 use Rattle.mdbox_top.specs.SavedMail.{LeavesDelivery, WroteMail}
-use Rattle.mdbox_top.proofs.AloneLemmas.{alone_faults}
 use Rattle.mdbox_top.proofs.ChangeLemmas.{opens_unchanged, moments_as}
 use Rattle.mdbox_top.proofs.CopyLemmas.{one_refusal}
 use Rattle.mdbox_top.proofs.InputLemmas.{long_told}
+use Rattle.mdbox_top.proofs.KnownFirstLemmas.{named_there, way_saves}
 use Rattle.mdbox_top.proofs.RequestLemmas.{opening_number, shown_number, request_status, request_used, request_input, request_damage}
-use Rattle.mdbox_top.proofs.ServedLemmas.{OpenedNow, way_opens}
+use Rattle.mdbox_top.proofs.ServedLemmas.{OpenedNow}
 use Rattle.mdbox_top.proofs.ShownLemmas.{LogsShow, opens_again}
 use Rattle.mdbox_top.proofs.UnderWayLemmas.{before_opening}
 use Rattle.mdbox_top.proofs.WroteLemmas.{wrote_message}
@@ -185,14 +191,17 @@ save_unopened_rests name time octets failed old new began now why h u = λ none 
 -- ---- behind the opening
 
 -- What is known of a delivery alone: of the opening of the store, and of the events of its task.
-pub record DeliveringKnown {D : Type 0} (name : List ℕ) (time : ℕ) (octets : List ℕ) (given : Reply) (old mid new : Option History) (began now : Faults) (s t : StoreValue D) : Type 0 where
+pub record DeliveringKnown {D : Type 0} (name : List ℕ) (time : ℕ) (octets : List ℕ) (prepared : Prepared) (given : Reply) (old mid new : Option History) (began now : Faults) (s t : StoreValue D) : Type 0 where
   pub opened : OpenedNow old mid s
+  pub form : IsPrepared octets prepared
+  pub instances : IsFoundInstances s.map s.instances
+  pub known : HasKnownInstances mid s
   pub later : IsStore new t
-  pub saves : SavesAlone name time octets s t mid new began now given
+  pub saves : SavesAlone name time octets prepared s t mid new began now given
   pub back : t ≡ s → new ≡ mid
 
-deliver_runs : {D : Type 0} → (name : List ℕ) (time : ℕ) (octets : List ℕ) (given : Reply) (old mid new : Option History) (began now : Faults) (s t : StoreValue D) → DeliveringKnown name time octets given old mid new began now s t → (given ≡ reply.Refused refusal.Stopped → ⊥) → t.stopped ≡ false
-deliver_runs name time octets given old mid new began now s t w running = not_true t.stopped (λ e. running (w.saves.halts.1 e))
+deliver_runs : {D : Type 0} → (name : List ℕ) (time : ℕ) (octets : List ℕ) (prepared : Prepared) (given : Reply) (old mid new : Option History) (began now : Faults) (s t : StoreValue D) → DeliveringKnown name time octets prepared given old mid new began now s t → (given ≡ reply.Refused refusal.Stopped → ⊥) → t.stopped ≡ false
+deliver_runs name time octets prepared given old mid new began now s t w running = not_true t.stopped (λ e. running (w.saves.halts.1 e))
 
 saved_runs : (given : Reply) (uid : Uid) (guid : Guid) → given ≡ reply.Saved uid guid → given ≡ reply.Refused refusal.Stopped → ⊥
 saved_runs given uid guid d s = let k : reply.Saved uid guid ≡ reply.Refused refusal.Stopped = sym d ∙ s in cc k
@@ -200,21 +209,21 @@ saved_runs given uid guid d s = let k : reply.Saved uid guid ≡ reply.Refused r
 refused_runs : (given : Reply) (why : Refusal) → given ≡ reply.Refused why → (why ≡ refusal.Stopped → ⊥) → given ≡ reply.Refused refusal.Stopped → ⊥
 refused_runs given why d running s = running (one_refusal why refusal.Stopped (sym d ∙ s))
 
-record_left : (name : List ℕ) (time : ℕ) (octets : List ℕ) (a b : Highest) (m map : MapMeaning) (files : FilesValue) → a ≡ b → (map ≡ m) ⊎ HasRecordLeft name time octets a.map m files map → (map ≡ m) ⊎ HasRecordLeft name time octets b.map m files map
-record_left name time octets a b m map files same left = subst (λ (h : Highest). (map ≡ m) ⊎ HasRecordLeft name time octets h.map m files map) same left
+record_left : (name : List ℕ) (time : ℕ) (prepared : Prepared) (a b : Highest) (m map : MapMeaning) (files : FilesValue) → a ≡ b → (map ≡ m) ⊎ HasRecordLeft name time prepared a.map m files map → (map ≡ m) ⊎ HasRecordLeft name time prepared b.map m files map
+record_left name time prepared a b m map files same left = subst (λ (h : Highest). (map ≡ m) ⊎ HasRecordLeft name time prepared h.map m files map) same left
 
-opens_alike : {D : Type 0} → (name : List ℕ) (time : ℕ) (octets : List ℕ) (new : Option History) (s t : StoreValue D) → IsStore new t → t.stopped ≡ false → s.drawn ≡ s.map.highest → IsAlike s t → (t.map ≡ s.map) ⊎ HasRecordLeft name time octets s.drawn.map s.map s.files t.map
-    → OpensAlike name time octets s.map (indexes_of s.boxes) s.files new
-opens_alike name time octets new s t k runs drawn b left = record {
+opens_alike : {D : Type 0} → (name : List ℕ) (time : ℕ) (prepared : Prepared) (new : Option History) (s t : StoreValue D) → IsStore new t → t.stopped ≡ false → s.drawn ≡ s.map.highest → IsAlike s t → (t.map ≡ s.map) ⊎ HasRecordLeft name time prepared s.drawn.map s.map s.files t.map
+    → OpensAlike name time prepared s.map (indexes_of s.boxes) s.files new
+opens_alike name time prepared new s t k runs drawn b left = record {
   map = t.map;
   opened = subst (λ ms. IsOpenedAs new t.map ms) b.indexes (opens_again new t k runs);
   mailboxes = b.mailboxes;
-  left = record_left name time octets s.drawn s.map.highest s.map t.map s.files drawn left;
+  left = record_left name time prepared s.drawn s.map.highest s.map t.map s.files drawn left;
 }
 
-opens_saved : {D : Type 0} → (name : List ℕ) (time : ℕ) (octets : List ℕ) (guid : Guid) (old mid new : Option History) (s t : StoreValue D) → OpenedNow old mid s → IsStore new t → t.stopped ≡ false → ShowsChanged (saved_lists name time octets guid) s t → (uid : MapUid) → StoresAlone name time octets uid guid s t mid new
-    → OpensSaved name time octets guid s.map (indexes_of s.boxes) s.files old new
-opens_saved name time octets guid old mid new s t opened later runs shows uid stored = record {
+opens_saved : {D : Type 0} → (name : List ℕ) (time : ℕ) (octets : List ℕ) (prepared : Prepared) (guid : Guid) (old mid new : Option History) (s t : StoreValue D) → OpenedNow old mid s → HasKnownInstances mid s → IsStore new t → t.stopped ≡ false → ShowsChanged (saved_lists name time octets guid) s t → (uid : MapUid) → StoresAlone name time prepared uid guid s t mid new
+    → OpensSaved name time octets prepared guid s.map (indexes_of s.boxes) s.files old new
+opens_saved name time octets prepared guid old mid new s t opened known later runs shows uid stored = record {
   map = t.map;
   changed = indexes_of t.boxes;
   opened = opens_again new t later runs;
@@ -222,50 +231,55 @@ opens_saved name time octets guid old mid new s t opened later runs shows uid st
   uid = uid;
   at = stored.at;
   guid_is = stored.guid_is;
-  more = subst (λ (h : Highest). HasRecordMore name time octets h.map s.map s.files uid stored.at t.map) opened.drawn stored.more;
-  mail = wrote_message time opened.swept.0 (saved_region name time octets guid.0) s.map s.files stored.at old mid new opened.swept.1 ((opened.store.running opened.running).files_known stored.at.file.0) stored.unsealed stored.mail;
+  rows = stored.rows;
+  more = subst (λ (h : Highest). HasRecordMore name time prepared h.map s.map s.files stored.rows uid stored.at t.map) opened.drawn stored.more;
+  mail = wrote_message prepared.parts stored.rows time opened.swept.0 (written_region name time prepared (ids_in stored.rows) guid.0) s.map s.files stored.at old mid new opened.swept.1 ((opened.store.running opened.running).files_known stored.at.file.0) (named_there mid s opened.running known) stored.unsealed stored.mail;
+  attachments = stored.attachments;
+  once = stored.once;
 }
 
 -- what was written since the opening
-by_guid : {D : Type 0} → (name : List ℕ) (time : ℕ) (octets : List ℕ) (guid : Guid) (mid new : Option History) (s t : StoreValue D) → (map_uid : MapUid) × StoresAlone name time octets map_uid guid s t mid new
-    → (file : ℕ) × (offset : ℕ) × (guid.0 ≡ place_guid s.map.store file offset) × WroteMail time file offset (saved_region name time octets guid.0) mid new
-by_guid name time octets guid mid new s t stored = (stored.1.at.file.0, stored.1.at.offset, sym (ap (λ (g : Guid). g.0) stored.1.guid_is) ∙ stored.1.more.place.guid_is, stored.1.mail)
+by_guid : {D : Type 0} → (name : List ℕ) (time : ℕ) (prepared : Prepared) (guid : Guid) (mid new : Option History) (s t : StoreValue D) → (map_uid : MapUid) × StoresAlone name time prepared map_uid guid s t mid new
+    → (rows : List InstRow) × (file : ℕ) × (offset : ℕ) × (guid.0 ≡ guid_of_place s.map.store file offset) × WroteMail prepared.parts rows time file offset (written_region name time prepared (ids_in rows) guid.0) mid new
+by_guid name time prepared guid mid new s t stored = (stored.1.rows, stored.1.at.file.0, stored.1.at.offset, sym (ap (λ (g : Guid). g.0) stored.1.guid_is) ∙ stored.1.more.place.guid_is, stored.1.mail)
 
-mail_left : {D : Type 0} → (name : List ℕ) (time : ℕ) (octets : List ℕ) (given : Reply) (mid new : Option History) (began now : Faults) (s t : StoreValue D) → SavesAlone name time octets s t mid new began now given → LeavesDelivery s.map.store name time octets given mid new
-mail_left name time octets given mid new began now s t saves = record { saved = λ uid guid e. by_guid name time octets guid mid new s t (saves.stored uid guid e); unsaved = saves.leaves }
+mail_left : {D : Type 0} → (name : List ℕ) (time : ℕ) (octets : List ℕ) (prepared : Prepared) (given : Reply) (mid new : Option History) (began now : Faults) (s t : StoreValue D) → SavesAlone name time octets prepared s t mid new began now given → LeavesDelivery s.map.store name time prepared given mid new
+mail_left name time octets prepared given mid new began now s t saves = record { saved = λ uid guid e. by_guid name time prepared guid mid new s t (saves.stored uid guid e); uncompared = saves.uncompared; unsaved = saves.leaves }
 
-deliver_tells : {D : Type 0} → (name : List ℕ) (time : ℕ) (octets : List ℕ) (given : Reply) (old mid new : Option History) (began now : Faults) (s t : StoreValue D) → DeliveringKnown name time octets given old mid new began now s t → IsDeliverReply name time octets old new given
-deliver_tells name time octets given old mid new began now s t w = record {
+deliver_tells : {D : Type 0} → (name : List ℕ) (time : ℕ) (octets : List ℕ) (prepared : Prepared) (given : Reply) (old mid new : Option History) (began now : Faults) (s t : StoreValue D) → DeliveringKnown name time octets prepared given old mid new began now s t → IsDeliverReply name time octets old new given
+deliver_tells name time octets prepared given old mid new began now s t w = record {
   m = s.map;
   meanings = indexes_of s.boxes;
   opened = w.opened.opened;
   files = s.files;
   found = w.opened.files;
-  given_is = subst (λ (h : Highest). IsDeliverAnswer (undelivered_cause (list_named s name) h) (list_named s name) s.map.store (region_length name time octets) s.files given) w.opened.drawn w.saves.given_is;
+  prepared = prepared;
+  form = w.form;
+  given_is = subst (λ (h : Highest). IsDeliverAnswer (undelivered_cause (list_named s name) h) (list_named s name) s.map.store (region_length name time prepared) h.instance (length prepared.parts) s.files given) w.opened.drawn w.saves.given_is;
   refused = λ why e. opens_unchanged old mid new s w.opened (w.back (w.saves.refused why (subst (λ (h : Highest). undelivered_cause (list_named s name) h ≡ Some why) (sym w.opened.drawn) e)));
-  unsaved = λ why e running. opens_alike name time octets new s t w.later (deliver_runs name time octets given old mid new began now s t w (refused_runs given why e running)) w.opened.drawn (w.saves.unsaved why e running) (w.saves.left why e running);
-  done = λ uid guid e. opens_saved name time octets guid old mid new s t w.opened w.later (deliver_runs name time octets given old mid new began now s t w (saved_runs given uid guid e)) (w.saves.shows uid guid e) (w.saves.stored uid guid e).0 (w.saves.stored uid guid e).1;
-  mail = (w.opened.swept.0, mid, w.opened.swept.1, mail_left name time octets given mid new began now s t w.saves);
-  settled = λ running lists at. w.saves.settled (deliver_runs name time octets given old mid new began now s t w running) lists (w.opened.settled_again lists at);
+  unsaved = λ why e running. opens_alike name time prepared new s t w.later (deliver_runs name time octets prepared given old mid new began now s t w (refused_runs given why e running)) w.opened.drawn (w.saves.unsaved why e running) (w.saves.left why e running);
+  done = λ uid guid e. opens_saved name time octets prepared guid old mid new s t w.opened w.known w.later (deliver_runs name time octets prepared given old mid new began now s t w (saved_runs given uid guid e)) (w.saves.shows uid guid e) (w.saves.stored uid guid e).0 (w.saves.stored uid guid e).1;
+  mail = (w.opened.swept.0, mid, w.opened.swept.1, mail_left name time octets prepared given mid new began now s t w.saves);
+  settled = λ running lists at. w.saves.settled (deliver_runs name time octets prepared given old mid new began now s t w running) lists (w.opened.settled_again lists at);
 }
 
 by_reply : (name : List ℕ) (time : ℕ) (octets : List ℕ) (given : Reply) (lists : Lists) (new : Option History) → IsSettledFor (lists_told (request.Deliver name time octets) given lists) new → IsSettledFor lists new ⊎ ((some : Lists) × AreSaved name time octets lists some × IsSettledFor some new)
 by_reply name time octets (reply.Saved uid guid) lists new s = inr (saved_lists name time octets guid lists, (guid, refl), s)
 by_reply name time octets other lists new s = inl s
 
-deliver_rests : {D : Type 0} → (name : List ℕ) (time : ℕ) (octets : List ℕ) (given : Reply) (old mid new : Option History) (began now : Faults) (s t : StoreValue D) → DeliveringKnown name time octets given old mid new began now s t → SaveRests name time octets (given ≡ reply.Refused refusal.Stopped) began now old new
-deliver_rests name time octets given old mid new began now s t w = λ none lists at.
-    by_reply name time octets given lists new (w.saves.settled (deliver_runs name time octets given old mid new began now s t w (λ stopped. none stopped (w.saves.fault.rose stopped))) lists (w.opened.settled_again lists at))
+deliver_rests : {D : Type 0} → (name : List ℕ) (time : ℕ) (octets : List ℕ) (prepared : Prepared) (given : Reply) (old mid new : Option History) (began now : Faults) (s t : StoreValue D) → DeliveringKnown name time octets prepared given old mid new began now s t → SaveRests name time octets (given ≡ reply.Refused refusal.Stopped) began now old new
+deliver_rests name time octets prepared given old mid new began now s t w = λ none lists at.
+    by_reply name time octets given lists new (w.saves.settled (deliver_runs name time octets prepared given old mid new began now s t w (λ stopped. none stopped (w.saves.faults.stopped stopped))) lists (w.opened.settled_again lists at))
 
 one_safe : (name : List ℕ) (time : ℕ) (octets : List ℕ) (lists some : Lists) (moment : ℕ) (image : Files) → AreAlongSave name time octets lists some → Safe image some → Safe image lists ⊎ ((other : Lists) × AreSaved name time octets lists other × Safe image other)
 one_safe name time octets lists some moment image (inl e) s = inl (subst (λ (ls : Lists). Safe image ls) e s)
 one_safe name time octets lists some moment image (inr e) s = inr (some, e, s)
 
-pub deliver_done : {D : Type 0} → (name : List ℕ) (time : ℕ) (octets : List ℕ) (given : Reply) (old mid new : Option History) (began now : Faults) (s t : StoreValue D) → DeliveringKnown name time octets given old mid new began now s t → LogsShow → IsDoneAlone (request.Deliver name time octets) given old new began now
-deliver_done name time octets given old mid new began now s t w show = record {
-  tells = deliver_tells name time octets given old mid new began now s t w;
-  serves = λ journaled lists safe. w.saves.served journaled lists (before_opening (seen_of s mid began) old) (way_opens HasNotBegun (request.Deliver name time octets) lists old mid began s w.opened show safe (refl, refl));
+pub deliver_done : {D : Type 0} → (name : List ℕ) (time : ℕ) (octets : List ℕ) (prepared : Prepared) (given : Reply) (old mid new : Option History) (began now : Faults) (s t : StoreValue D) → DeliveringKnown name time octets prepared given old mid new began now s t → LogsShow → IsDoneAlone (request.Deliver name time octets) given old new began now
+deliver_done name time octets prepared given old mid new began now s t w show = record {
+  tells = deliver_tells name time octets prepared given old mid new began now s t w;
+  serves = λ lists safe. w.saves.served lists (before_opening (seen_saving s mid began) old) (way_saves HasNotBegun (request.Deliver name time octets) lists old mid began s w.opened w.instances show safe (refl, refl));
   moments = moments_as (AreAlongSave name time octets) (λ lists moment image. Safe image lists ⊎ ((some : Lists) × AreSaved name time octets lists some × Safe image some)) old mid new s w.opened w.saves.moments (λ lists moment image safe. inl safe) (λ lists some moment image a safe. one_safe name time octets lists some moment image a safe);
-  rests = deliver_rests name time octets given old mid new began now s t w;
-  faults = alone_faults given began now w.saves.calm w.saves.fault w.saves.unfailed;
+  rests = deliver_rests name time octets prepared given old mid new began now s t w;
+  faults = w.saves.faults;
 }

@@ -252,7 +252,7 @@ expunge_rests name uid given old mid new began now s t w = λ none lists at.
 pub expunge_done : {D : Type 0} → (name : List ℕ) (uid : Uid) (given : Reply) (old mid new : Option History) (began now : Faults) (s t : StoreValue D) → Expunging name uid given old mid new began now s t → LogsShow → IsDoneAlone (request.Expunge name uid) given old new began now
 expunge_done name uid given old mid new began now s t w show = record {
   tells = expunge_tells name uid given old mid new began now s t w;
-  serves = λ journaled lists safe. w.removes.changes.served lists (before_opening (seen_of s mid began) old) (way_opens (IsAtExpunge stage.First) (request.Expunge name uid) lists old mid began s w.opened show safe (refl, refl));
+  serves = λ lists safe. w.removes.changes.served lists (before_opening (seen_of s mid began) old) (way_opens (IsAtExpunge stage.First) (request.Expunge name uid) lists old mid began s w.opened show safe (refl, refl));
   moments = changed_moments (lists_without name uid) old mid new s w.opened w.removes.changes.moments;
   rests = expunge_rests name uid given old mid new began now s t w;
   faults = alone_faults given began now (cause_calm (list_named s name) uid.0 given w.removes.given_is) w.removes.changes.fault w.removes.changes.unfailed;

@@ -88,7 +88,7 @@ count_last {X = X} p xs x e =
     let b : ◌≡◌ {A = ℕ} (cond (p x) 1 0) 1 = ap (λ (c : Bool). cond c 1 0) e in
     omega (arith, a, b)
 
-count_kept : {X : Type 0} → (p q : X → Bool) (xs : List X) → count_by p (filter q xs) ≤ count_by p xs
+pub count_kept : {X : Type 0} → (p q : X → Bool) (xs : List X) → count_by p (filter q xs) ≤ count_by p xs
 count_kept {X = X} p q xs =
     let a : count_by p (filter q xs) + count_by p (filter (λ x. not (q x)) xs) ≡ count_by p xs = sum_by-filter_both q (λ (x : X). not (q x)) (λ x. refl) (λ (x : X). cond (p x) 1 0) xs in omega (arith, a)
 
@@ -141,7 +141,7 @@ answer_runs row entry history given (inl e) = λ f. let k : reply.Refused refusa
 answer_runs row entry history given (inr (region, told, is)) = (region_calm (stored_at row entry) region given is).1
 
 -- a read fault is the only reply of which this holds
-read_is : (given : Reply) → is_read_fault (Some given) ≡ true → given ≡ reply.Refused refusal.ReadFault
+pub read_is : (given : Reply) → is_read_fault (Some given) ≡ true → given ≡ reply.Refused refusal.ReadFault
 read_is (reply.Refused refusal.ReadFault) e = refl
 read_is (reply.Refused other) e = absurd (cc e)
 read_is other e = absurd (cc e)
@@ -426,7 +426,9 @@ faults_end history faults name uid first d e stage.First next given running so r
       reads = (let a = so.counted.reads in let b = fault.reads in omega (arith, a, b));
       changes = (let a = so.counted.changes in let b = fault.changes in omega (arith, a, b));
       read_fault = λ f. absurd (calm.0 f);
+      read_alone = λ f. fault.changes ∙ so.counted.changes;
       stopped = λ f. absurd (calm.1 f);
+      change_alone = λ f. absurd (calm.1 f);
       unfailed = λ unread unstopped. still ∙ so.counted.unfailed (λ h. h);
     }
 faults_end history faults name uid first d e (stage.Reading region) next given running so r fault unfailed = absurd (more_done given (sym (r.1 running).0))
@@ -438,7 +440,9 @@ faults_end history faults name uid first d e (stage.Unpinning from other) next g
       reads = (let a = so.counted.reads in let b = fault.reads in omega (arith, a, b));
       changes = (let a = so.counted.changes in let b = fault.changes in omega (arith, a, b));
       read_fault = λ f. subst (λ (g : Faults). Rose (faults first.disk).reads g.reads) (sym still) (so.counted.failed (has_failed from other (sym same ∙ f)));
+      read_alone = λ f. fault.changes ∙ so.counted.changes;
       stopped = λ f. absurd (answer_runs so.knows.0 so.knows.1 (history d) other so.knows.5 (sym same ∙ f));
+      change_alone = λ f. absurd (answer_runs so.knows.0 so.knows.1 (history d) other so.knows.5 (sym same ∙ f));
       unfailed = λ unread unstopped. still ∙ so.counted.unfailed (λ h. unread (same ∙ failed_is from other h));
     }
 

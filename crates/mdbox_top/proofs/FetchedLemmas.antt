@@ -101,7 +101,7 @@ fetch_tells name uid given old mid new began now s t w show =
 pub fetch_done : {D : Type 0} → (name : List ℕ) (uid : Uid) (given : Reply) (old mid new : Option History) (began now : Faults) (s t : StoreValue D) → Fetching name uid given old mid new began now s t → LogsShow → IsDoneAlone (request.Fetch name uid) given old new began now
 fetch_done name uid given old mid new began now s t w show = record {
   tells = fetch_tells name uid given old mid new began now s t w show;
-  serves = λ journaled lists safe. w.served lists (before_opening (seen_of s mid began) old) (fetch_opens name uid lists old mid began s w.opened show safe) (carried_safe lists old mid w.opened.carried safe);
+  serves = λ lists safe. w.served lists (before_opening (seen_of s mid began) old) (fetch_opens name uid lists old mid began s w.opened show safe) (carried_safe lists old mid w.opened.carried safe);
   moments = λ lists at. each_image-then (λ _ image. Safe image lists) old mid new (w.opened.safe lists at) (idle_safe lists mid new w.idle (w.opened.settled_again lists at));
   rests = λ none. (stays_settled old mid new s w.opened w.idle, stays_carried old mid new s w.opened w.idle);
   faults = w.faults;

@@ -404,7 +404,7 @@ make_rests name given old mid new began now s t w = λ none lists at.
 pub make_done : {D : Type 0} → (name : List ℕ) (given : Reply) (old mid new : Option History) (began now : Faults) (s t : StoreValue D) → MakingKnown name given old mid new began now s t → LogsShow → IsDoneAlone (request.Make name) given old new began now
 make_done name given old mid new began now s t w show = record {
   tells = make_tells name given old mid new began now s t w;
-  serves = λ journaled lists safe. w.makes.serves.served lists (before_opening (seen_of s mid began) old) (way_opens (IsAtMake stage.First) (request.Make name) lists old mid began s w.opened show safe (record { unrefused = refl; unanswered = refl }, inl refl));
+  serves = λ lists safe. w.makes.serves.served lists (before_opening (seen_of s mid began) old) (way_opens (IsAtMake stage.First) (request.Make name) lists old mid began s w.opened show safe (record { unrefused = refl; unanswered = refl }, inl refl));
   moments = make_leaves name given old mid new began now s t w;
   rests = make_rests name given old mid new began now s t w;
   faults = alone_faults given began now w.makes.calm w.makes.serves.fault w.makes.serves.unfailed;

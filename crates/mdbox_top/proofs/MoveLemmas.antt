@@ -503,7 +503,7 @@ one_safe name uid target lists some moment image (inr (inr e)) s = inr (inr (sub
 pub move_done : {D : Type 0} → (name : List ℕ) (uid : Uid) (target : List ℕ) (given : Reply) (old mid new : Option History) (began now : Faults) (s t : StoreValue D) → MovingKnown name uid target given old mid new began now s t → LogsShow → IsDoneAlone (request.Move name uid target) given old new began now
 move_done name uid target given old mid new began now s t w show = record {
   tells = move_tells name uid target given old mid new began now s t w show;
-  serves = λ journaled lists safe. w.moves.changes.served lists (before_opening (seen_of s mid began) old) (way_opens (IsAtMove uid stage.First) (request.Move name uid target) lists old mid began s w.opened show safe (refl, refl));
+  serves = λ lists safe. w.moves.changes.served lists (before_opening (seen_of s mid began) old) (way_opens (IsAtMove uid stage.First) (request.Move name uid target) lists old mid began s w.opened show safe (refl, refl));
   moments = moments_as (AreAlongMove name uid target) (SafeAlong name uid target) old mid new s w.opened w.moves.changes.moments (λ lists moment image safe. inl safe) (λ lists some moment image a safe. one_safe name uid target lists some moment image a safe);
   rests = move_rests name uid target given old mid new began now s t w;
   faults = alone_faults given began now w.moves.calm w.moves.changes.fault w.moves.changes.unfailed;

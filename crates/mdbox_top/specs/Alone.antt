@@ -16,7 +16,7 @@ use Rattle.store_open.specs.declared.error.OpenError.{OpenError}
 use Rattle.store_open.specs.declared.error.OpenError.TheVariants as error
 use Rattle.store_sweep.specs.Moments.{NoFailedChange}
 use Rattle.mdbox_top.specs.InputRun.{IsOneOf}
-use Rattle.mdbox_top.specs.Served.{AreSafeFor, IsJournaled, ServesRequest, FaultsByReply}
+use Rattle.mdbox_top.specs.Served.{AreSafeFor, ServesRequest, FaultsByReply}
 use Rattle.mdbox_top.specs.ListRun.{StaysSettled, IsListReply, ListMoments, ListRests}
 use Rattle.mdbox_top.specs.DeliverRun.{IsDeliverReply, SaveMoments, SaveRests}
 use Rattle.mdbox_top.specs.FetchRun.{IsFetchReply, FetchMoments, FetchRests}
@@ -67,18 +67,18 @@ RequestRests request.Counts = CountsRests
 RequestRests other = λ failed began now old new. ⊥
 
 -- The statuses with which it may end if a call of the disk failed. A listing or a count reads no file once the store is open. Any
--- other request may reply that a read failed, or that the store is stopped, and fail in printing it, for a fault of the output or out
--- of memory.
+-- other request may reply that a read failed, or that the store is stopped, and fail in printing it, for a fault of the output or
+-- out of memory.
 abbrev pub MayFail : Request → ℕ → Type 0
 MayFail (request.List name) status = status ≡ 6
 MayFail request.Counts status = status ≡ 6
 MayFail other status = IsOneOf (5 ∷ 6 ∷ 8 ∷ []) status
 
--- A request was done alone on a store that was opened, and was replied this. It was served, if the journal speaks of it. No call of the disk failed but a read that is
--- replied, or a change that stopped the store.
+-- A request was done alone on a store that was opened, and was replied this. It was served. No call of the disk failed but a read
+-- that is replied, or a change that stopped the store.
 pub record IsDoneAlone (request : Request) (given : Reply) (old new : Option History) (began now : Faults) : Type 0 where
   pub tells : ReplyTells request old new given
-  pub serves : IsJournaled request → (lists : Lists) → AreSafeFor lists old → ServesRequest request lists given began now old new
+  pub serves : (lists : Lists) → AreSafeFor lists old → ServesRequest request lists given began now old new
   pub moments : RequestMoments request old new
   pub rests : RequestRests request (given ≡ reply.Refused refusal.Stopped) began now old new
   pub faults : FaultsByReply given began now

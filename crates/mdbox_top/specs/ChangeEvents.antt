@@ -1,9 +1,11 @@
 -- The events of a request alone that changes lists, one behind another.
-use Rattle.std.specs.Prelude.{◌≡◌, ◌≢◌, ◌↔◌, ◌⊎◌, ◌+◌, ◌++◌, ◌∷◌, [], ℕ, true, false, List, Option, Some}
+use Rattle.std.specs.Prelude.{◌≡◌, ◌≢◌, ◌↔◌, ◌⊎◌, ◌+◌, ◌++◌, ◌∷◌, [], ℕ, true, false, List, length, Option, Some}
+use Rattle.attach_detach.specs.declared.message.Prepared.{Prepared}
 use Rattle.disk_model.specs.Disk.{History, Faults, IfTold, Between, no_file, reading}
 use Rattle.disk_model.specs.FaultCounts.{NoFault, ChangeFaultCounted}
 use Rattle.disk_model.specs.declared.name.FileName.{FileName}
 use Rattle.disk_model.specs.declared.name.FileName.TheVariants as file
+use Rattle.mdbox_base.specs.declared.entries.InstRow.{InstRow}
 use Rattle.mdbox_base.specs.declared.entries.MapEntry.TheVariants as map_entry
 use Rattle.mdbox_base.specs.declared.ids.Guid.{Guid}
 use Rattle.mdbox_base.specs.declared.ids.MapUid.{MapUid}
@@ -18,7 +20,7 @@ use Rattle.model_lists.specs.Lists.{Lists, AreWellFormed}
 use Rattle.model_meaning.specs.BoxMeaning.{box_meaning}
 use Rattle.model_meaning.specs.MapMeaning.{is_sealed, map_applied}
 use Rattle.model_store.specs.Listing.{ShowLists}
-use Rattle.model_store.specs.Settled.{IsSettledFor}
+use Rattle.model_store.specs.Settled.{IsSettledFor, files_of}
 use Rattle.journal.specs.Journal.{is_read_fault}
 use Rattle.list_machine.specs.Run.{Run}
 use Rattle.store_core.specs.Value.{StoreValue, indexes_of, list_named}
@@ -32,25 +34,28 @@ use Rattle.mail_ops.specs.declared.copy.CopyStage.TheVariants as copy_stage
 use Rattle.mail_ops.specs.declared.expunging.ExpungeStage.TheVariants as expunge_stage
 use Rattle.mail_ops.specs.declared.making.MakeStage.TheVariants as make_stage
 use Rattle.mail_ops.specs.declared.moving.MoveStage.TheVariants as move_stage
-use Rattle.mail_save.specs.Saved.{saved_region}
+use Rattle.mail_save.specs.SaveSeen.{seen_saving}
+use Rattle.model_store.specs.Stands.{HasInstances}
+use Rattle.saved_message.specs.Region.{written_region}
+use Rattle.saved_message.specs.Saved.{ids_in}
 use Rattle.mail_save.specs.declared.place.SavedAt.{SavedAt}
 use Rattle.mdbox_top.specs.Changed.{IsChangeAnswer, saved_lists, lists_told, AreOneOf, MomentsAmong}
 use Rattle.mdbox_top.specs.CopyRun.{uncopied_cause, IsCopyAnswer}
-use Rattle.mdbox_top.specs.DeliverRun.{undelivered_cause, region_length, HasRecordLeft, HasRecordMore, IsDeliverAnswer, AreSaved}
+use Rattle.mdbox_top.specs.DeliverRun.{undelivered_cause, AreFirstNamed, attachment_octets, region_length, HasRecordLeft, HasRecordMore, IsDeliverAnswer, AreSaved}
 use Rattle.mdbox_top.specs.ExpungeRun.{lists_without}
 use Rattle.mdbox_top.specs.MakeRun.{lists_by_making}
 use Rattle.mdbox_top.specs.MoveRun.{AreAlongMove, IsMoveAnswer}
-use Rattle.mdbox_top.specs.SavedMail.{LeftMail, WroteMail}
-use Rattle.mdbox_top.specs.Served.{IsJournaled, ServesRequest, missing_cause}
+use Rattle.mdbox_top.specs.SavedMail.{AddedMail, LeftMail, WroteMail}
+use Rattle.mdbox_top.specs.Served.{FaultsByReply, ServesRequest, missing_cause}
 use Rattle.mdbox_top.specs.UnderWay.{IsUnderWay}
 
 -- A request alone is under way in this store, from these lists to those.
 abbrev pub IsWayTo : {D : Type 0} → (Run → ℕ → List Reply → Type 0) → Request → Lists → Seen → StoreValue D → Option History → Faults → Lists → Type 0
 IsWayTo Stands request lists began store history faults left = IsUnderWay Stands request lists began (seen_of store history faults) left
 
--- Of a request that had not begun, what its events did of a store that wasn't stopped: it was served; what a crash within it leaves,
--- and for which lists the disk is settled, by those that its reply tells; what it leaves of storage files and instances; and which
--- call of the disk failed.
+-- Of a request that had not begun, what its events did of a store that wasn't stopped: it was served; what a crash within it
+-- leaves, and for which lists the disk is settled, by those that its reply tells; what it leaves of storage files and instances;
+-- and which call of the disk failed.
 pub record ServesAlone {D : Type 0} (Began : Run → ℕ → List Reply → Type 0) (request : Request) (Among : Lists → Lists → Type 0) (told : Lists → Lists) (store later : StoreValue D) (old new : Option History) (began now : Faults) (given : Reply) : Type 0 where
   pub served : (lists : Lists) (seen : Seen) → IsWayTo Began request lists seen store old began lists → ServesRequest request lists given seen.faults now seen.history new
   pub moments : MomentsAmong Among old new
@@ -60,8 +65,8 @@ pub record ServesAlone {D : Type 0} (Began : Run → ℕ → List Reply → Type
   pub fault : ChangeFaultCounted (given ≡ reply.Refused refusal.Stopped) began now
   pub unfailed : (given ≡ reply.Refused refusal.Stopped → ⊥) → NoFault began now
 
--- Of a request that had not begun, what its events did of a store that wasn't stopped: it was served; where it is done, the
--- store shows the lists that the reply tells; what a crash within it leaves; what it leaves of storage files and instances; and which
+-- Of a request that had not begun, what its events did of a store that wasn't stopped: it was served; where it is done, the store
+-- shows the lists that the reply tells; what a crash within it leaves; what it leaves of storage files and instances; and which
 -- call of the disk failed.
 pub record ChangesAlone {D : Type 0} (Began : Run → ℕ → List Reply → Type 0) (request : Request) (Among : Lists → Lists → Type 0) (change : Lists → Lists) (store later : StoreValue D) (old new : Option History) (began now : Faults) (given : Reply) : Type 0 where
   pub served : (lists : Lists) (seen : Seen) → IsWayTo Began request lists seen store old began lists → ServesRequest request lists given seen.faults now seen.history new
@@ -92,30 +97,37 @@ ShowsChanged change store later = (lists : Lists) → AreWellFormed lists → Sh
 abbrev pub AreAlongSave : List ℕ → ℕ → List ℕ → Lists → Lists → Type 0
 AreAlongSave name time octets lists some = (some ≡ lists) ⊎ AreSaved name time octets lists some
 
--- The message was saved with this GUID: the map has its record more, and its region was written, to a storage file that isn't sealed.
-pub record StoresAlone {D : Type 0} (name : List ℕ) (time : ℕ) (octets : List ℕ) (uid : MapUid) (guid : Guid) (store later : StoreValue D) (old new : Option History) : Type 0 where
+-- The message was saved with this GUID: the map has its record more, its region was written, to a storage file that isn't sealed,
+-- and the files of the record's instances have the octets of its attachments, and each is the first that has them.
+pub record StoresAlone {D : Type 0} (name : List ℕ) (time : ℕ) (prepared : Prepared) (uid : MapUid) (guid : Guid) (store later : StoreValue D) (old new : Option History) : Type 0 where
   pub at : SavedAt
   pub guid_is : at.guid ≡ guid
-  pub more : HasRecordMore name time octets store.drawn.map store.map store.files uid at later.map
+  pub rows : List InstRow
+  pub more : HasRecordMore name time prepared store.drawn.map store.map store.files rows uid at later.map
   pub unsealed : is_sealed store.map at.file.0 ≡ true → ⊥
-  pub mail : WroteMail time at.file.0 at.offset (saved_region name time octets guid.0) old new
+  pub mail : WroteMail prepared.parts rows time at.file.0 at.offset (written_region name time prepared (ids_in rows) guid.0) old new
+  pub attachments : IfTold new (λ now. HasInstances (files_of now) rows (attachment_octets prepared.parts))
+  pub once : IfTold new (AreFirstNamed rows later.map)
 
--- What the events of a delivery did. It was served, if the journal speaks of it.
-pub record SavesAlone {D : Type 0} (name : List ℕ) (time : ℕ) (octets : List ℕ) (store later : StoreValue D) (old new : Option History) (began now : Faults) (given : Reply) : Type 0 where
-  pub given_is : IsDeliverAnswer (undelivered_cause (list_named store name) store.drawn) (list_named store name) store.map.store (region_length name time octets) store.files given
+-- A delivery alone is under way in this store, from these lists to those.
+abbrev pub IsWayToSave : {D : Type 0} → (Run → ℕ → List Reply → Type 0) → Request → Lists → Seen → StoreValue D → Option History → Faults → Lists → Type 0
+IsWayToSave Stands request lists began store history faults left = IsUnderWay Stands request lists began (seen_saving store history faults) left
+
+-- What the events of a delivery did, of a message with this detached form.
+pub record SavesAlone {D : Type 0} (name : List ℕ) (time : ℕ) (octets : List ℕ) (prepared : Prepared) (store later : StoreValue D) (old new : Option History) (began now : Faults) (given : Reply) : Type 0 where
+  pub given_is : IsDeliverAnswer (undelivered_cause (list_named store name) store.drawn) (list_named store name) store.map.store (region_length name time prepared) store.drawn.instance (length prepared.parts) store.files given
   pub refused : (why : Refusal) → undelivered_cause (list_named store name) store.drawn ≡ Some why → later ≡ store
   pub unsaved : (why : Refusal) → given ≡ reply.Refused why → (why ≡ refusal.Stopped → ⊥) → IsAlike store later
-  pub left : (why : Refusal) → given ≡ reply.Refused why → (why ≡ refusal.Stopped → ⊥) → (later.map ≡ store.map) ⊎ HasRecordLeft name time octets store.drawn.map store.map store.files later.map
-  pub leaves : (why : Refusal) → given ≡ reply.Refused why → (why ≡ refusal.Stopped → ⊥) → LeftMail name time octets old new
+  pub left : (why : Refusal) → given ≡ reply.Refused why → (why ≡ refusal.Stopped → ⊥) → (later.map ≡ store.map) ⊎ HasRecordLeft name time prepared store.drawn.map store.map store.files later.map
+  pub uncompared : given ≡ reply.Refused refusal.ReadFault → (rows : List InstRow) × AddedMail prepared.parts rows old new
+  pub leaves : (why : Refusal) → given ≡ reply.Refused why → (why ≡ refusal.Stopped → ⊥) → (rows : List InstRow) × LeftMail name time prepared rows old new
   pub shows : (uid : Uid) (guid : Guid) → given ≡ reply.Saved uid guid → ShowsChanged (saved_lists name time octets guid) store later
-  pub stored : (uid : Uid) (guid : Guid) → given ≡ reply.Saved uid guid → (map_uid : MapUid) × StoresAlone name time octets map_uid guid store later old new
-  pub calm : is_read_fault (Some given) ≡ false
-  pub served : IsJournaled (request.Deliver name time octets) → (lists : Lists) (seen : Seen) → IsWayTo HasNotBegun (request.Deliver name time octets) lists seen store old began lists → ServesRequest (request.Deliver name time octets) lists given seen.faults now seen.history new
+  pub stored : (uid : Uid) (guid : Guid) → given ≡ reply.Saved uid guid → (map_uid : MapUid) × StoresAlone name time prepared map_uid guid store later old new
+  pub served : (lists : Lists) (seen : Seen) → IsWayToSave HasNotBegun (request.Deliver name time octets) lists seen store old began lists → ServesRequest (request.Deliver name time octets) lists given seen.faults now seen.history new
   pub moments : MomentsAmong (AreAlongSave name time octets) old new
   pub settled : later.stopped ≡ false → (lists : Lists) → IsSettledFor lists old → IsSettledFor (lists_told (request.Deliver name time octets) given lists) new
   pub halts : (given ≡ reply.Refused refusal.Stopped) ↔ (later.stopped ≡ true)
-  pub fault : ChangeFaultCounted (given ≡ reply.Refused refusal.Stopped) began now
-  pub unfailed : (given ≡ reply.Refused refusal.Stopped → ⊥) → NoFault began now
+  pub faults : FaultsByReply given began now
 
 -- The store has the same listings, and the same mailboxes and records of the map, and their counts.
 pub record IsAsBefore {D : Type 0} (store later : StoreValue D) : Type 0 where

@@ -1,9 +1,13 @@
 -- How `deliver` ends.
-use Rattle.std.specs.Prelude.{◌≡◌, ◌≢◌, ◌≤◌, ◌<◌, ◌+◌, ◌⊎◌, ℕ, true, List, [], ◌∷◌, ◌++◌, length, All, Option, Some, None, IfSome}
+use Rattle.std.specs.Prelude.{◌≡◌, ◌≢◌, ◌≤◌, ◌<◌, ◌+◌, ◌⊎◌, ℕ, true, List, [], ◌∷◌, ◌++◌, length, map, All, Option, Some, None, IfSome}
 use Rattle.std.specs.Option.{option_or}
-use Rattle.disk_model.specs.Disk.{History, Faults, Between, EachImage, IfTold, reading}
+use Rattle.disk_model.specs.Disk.{DiskState, History, Faults, Between, EachImage, IfTold, reading}
 use Rattle.disk_model.specs.declared.name.FileName.TheVariants.{Mail}
+use Rattle.attach_detach.specs.Prepared.{IsPrepared}
+use Rattle.attach_detach.specs.declared.message.Detached.{Detached}
+use Rattle.attach_detach.specs.declared.message.Prepared.{Prepared}
 use Rattle.mdbox_base.specs.declared.entries.Highest.{Highest}
+use Rattle.mdbox_base.specs.declared.entries.InstRow.{InstRow}
 use Rattle.mdbox_base.specs.Streams.{IsAtEnd}
 use Rattle.mdbox_base.specs.declared.ids.FileNo.{FileNo}
 use Rattle.mdbox_base.specs.declared.ids.Guid.{Guid}
@@ -18,19 +22,21 @@ use Rattle.mdbox_base.specs.declared.stream.InputError.{InputError}
 use Rattle.mdbox_base.specs.declared.stream.InputError.TheVariants as read
 use Rattle.model_lists.specs.Lists.{Lists, AreWellFormed}
 use Rattle.model_meaning.specs.BoxMeaning.{BoxMeaning}
-use Rattle.model_meaning.specs.MapMeaning.{MapMeaning, is_sealed, map_applied}
+use Rattle.model_meaning.specs.MapMeaning.{MapMeaning, is_sealed, map_applied, named_instances}
 use Rattle.model_storage.specs.WrittenFile.{written_header}
 use Rattle.model_store.specs.Listing.{ShowLists, meaning_named}
 use Rattle.model_store.specs.Safe.{Safe}
 use Rattle.model_store.specs.Settled.{HasSameInstance, HasSameRegion, IsSettledFor, files_of}
+use Rattle.model_store.specs.Stands.{HasInstances}
 use Rattle.storage_files.specs.Files.{FilesValue, IsTakeFor, end_in}
 use Rattle.storage_files.specs.declared.file.Take.TheVariants.{Known, New, Full}
 use Rattle.store_core.specs.Files.{EndsWith}
+use Rattle.store_core.specs.StoreInstances.{IsOtherThan}
 use Rattle.store_files.specs.Found.{IsFoundFiles}
 use Rattle.mail_save.specs.Events.{box_refusal, uid_refusal}
-use Rattle.mail_save.specs.Parts.{origin_of}
 use Rattle.mail_save.specs.Record.{entry_lowered, entry_stored}
-use Rattle.mail_save.specs.Saved.{no_guid, place_guid, saved_region}
+use Rattle.saved_message.specs.Region.{guid_of_place, unknown_guid, unknown_ids, written_region}
+use Rattle.saved_message.specs.Saved.{AreInstancesOf, ids_in}
 use Rattle.mail_save.specs.declared.place.SavedAt.{SavedAt}
 use Rattle.store_open.specs.Opened.{IsOpenedAs}
 use Rattle.store_sweep.specs.Moments.{NoFailedChange}
@@ -51,9 +57,9 @@ use Rattle.mdbox_top.specs.Served.{RequestOutcome}
 abbrev pub undelivered_cause : Option BoxMeaning → Highest → Option Refusal
 undelivered_cause to highest = option_or (box_refusal to) (uid_refusal highest.map)
 
--- how many octets are written of a message, whatever its GUID
-abbrev pub region_length : List ℕ → ℕ → List ℕ → ℕ
-region_length name time octets = length (saved_region name time octets no_guid)
+-- how many octets are written of a message, whatever its GUID and the ids of its instances
+abbrev pub region_length : List ℕ → ℕ → Prepared → ℕ
+region_length name time prepared = length (written_region name time prepared (unknown_ids prepared.parts) unknown_guid)
 
 -- The storage file that is taken for so many octets: one that has room, or a new one.
 abbrev pub IsFileFor : ℕ → FilesValue → FileNo → Type 0
@@ -69,7 +75,7 @@ pub record IsSavedAs (to : Option BoxMeaning) (store : List ℕ) (size : ℕ) (f
   pub guid : Guid
   pub file : FileNo
   pub offset : ℕ
-  pub placed : guid.0 ≡ place_guid store file.0 offset
+  pub placed : guid.0 ≡ guid_of_place store file.0 offset
   pub taken : IsFileFor size files file
   pub given_is : given ≡ reply.Saved uid guid
 
@@ -77,11 +83,21 @@ pub record IsSavedAs (to : Option BoxMeaning) (store : List ℕ) (size : ℕ) (f
 abbrev pub IsOutOfFiles : ℕ → FilesValue → Reply → Type 0
 IsOutOfFiles size files given = (given ≡ reply.Refused (refusal.StoreFull 4294967294)) × IsTakeFor size files Full
 
--- Why it isn't saved is replied, if it isn't. Else it is, if and only if a storage file can be taken; but for out of memory, and
--- for a change of the disk that failed, and the store is stopped.
-abbrev pub IsDeliverAnswer : Option Refusal → Option BoxMeaning → List ℕ → ℕ → FilesValue → Reply → Type 0
-IsDeliverAnswer (Some why) to store size files given = given ≡ reply.Refused why
-IsDeliverAnswer None to store size files given = IsSavedAs to store size files given ⊎ (IsOutOfFiles size files given ⊎ ((given ≡ reply.Refused refusal.NoMemory) ⊎ (given ≡ reply.Refused refusal.Stopped)))
+-- It has more attachments than running numbers of instances are left.
+abbrev pub IsOutOfInstances : ℕ → ℕ → Reply → Type 0
+IsOutOfInstances highest parts given = (given ≡ reply.Refused (refusal.StoreFull 4294967294)) × (4294967294 < highest + parts)
+
+-- It has attachments, and a read failed as one was compared with an instance.
+abbrev pub IsUncompared : ℕ → Reply → Type 0
+IsUncompared parts given = (given ≡ reply.Refused refusal.ReadFault) × (1 ≤ parts)
+
+-- If there is a cause, it is replied. Else the message is saved, unless there is a want of storage files, of numbers of instances
+-- or of memory, an instance can't be read, or a change of the disk fails, and the store is stopped.
+abbrev pub IsDeliverAnswer : Option Refusal → Option BoxMeaning → List ℕ → ℕ → ℕ → ℕ → FilesValue → Reply → Type 0
+IsDeliverAnswer (Some why) to store size highest parts files given = given ≡ reply.Refused why
+IsDeliverAnswer None to store size highest parts files given =
+    IsSavedAs to store size files given
+    ⊎ (IsOutOfFiles size files given ⊎ (IsOutOfInstances highest parts given ⊎ (IsUncompared parts given ⊎ ((given ≡ reply.Refused refusal.NoMemory) ⊎ (given ≡ reply.Refused refusal.Stopped)))))
 
 -- ---- the record that is made
 
@@ -89,22 +105,25 @@ IsDeliverAnswer None to store size files given = IsSavedAs to store size files g
 -- new. Its GUID, which no record had, names this place.
 pub record IsSavedPlace (time size : ℕ) (m : MapMeaning) (files : FilesValue) (at : SavedAt) : Type 0 where
   pub size_is : at.size ≡ size
-  pub guid_is : at.guid.0 ≡ place_guid m.store at.file.0 at.offset
+  pub guid_is : at.guid.0 ≡ guid_of_place m.store at.file.0 at.offset
   pub guid_new : All (λ row. row.guid ≢ at.guid.0) m.records
   pub taken : (IsTakeFor size files (Known at.file) × (end_in at.file.0 files.files ≡ Some at.offset)) ⊎ (IsTakeFor size files (New at.file) × (at.offset ≡ length (written_header time)))
 
--- The map means what it did, with the record of the message: under the next map uid, at its place, and with count 1.
-pub record HasRecordMore (name : List ℕ) (time : ℕ) (octets : List ℕ) (last : ℕ) (m : MapMeaning) (files : FilesValue) (uid : MapUid) (at : SavedAt) (map : MapMeaning) : Type 0 where
+-- The map means what it did, with the record of the message: under the next map uid, at its place, with count 1, and with the
+-- instances of its attachments.
+pub record HasRecordMore (name : List ℕ) (time : ℕ) (prepared : Prepared) (last : ℕ) (m : MapMeaning) (files : FilesValue) (rows : List InstRow) (uid : MapUid) (at : SavedAt) (map : MapMeaning) : Type 0 where
   pub next : uid.0 ≡ last + 1
-  pub place : IsSavedPlace time (region_length name time octets) m files at
-  pub map_is : map ≡ map_applied (entry_stored (origin_of octets) [] uid at) m
+  pub place : IsSavedPlace time (region_length name time prepared) m files at
+  pub rows_are : AreInstancesOf prepared.parts rows
+  pub map_is : map ≡ map_applied (entry_stored rows uid at) m
 
 -- The map means what it did, with a record of the message, whose count, which was 1, was lowered.
-pub record HasRecordLeft (name : List ℕ) (time : ℕ) (octets : List ℕ) (last : ℕ) (m : MapMeaning) (files : FilesValue) (map : MapMeaning) : Type 0 where
+pub record HasRecordLeft (name : List ℕ) (time : ℕ) (prepared : Prepared) (last : ℕ) (m : MapMeaning) (files : FilesValue) (map : MapMeaning) : Type 0 where
+  pub rows : List InstRow
   pub uid : MapUid
   pub at : SavedAt
   pub made : MapMeaning
-  pub more : HasRecordMore name time octets last m files uid at made
+  pub more : HasRecordMore name time prepared last m files rows uid at made
   pub lowered : map ≡ map_applied (entry_lowered uid) made
 
 -- ---- the storage files
@@ -120,16 +139,25 @@ pub record WroteMessage (time : ℕ) (region : List ℕ) (m : MapMeaning) (files
 
 -- ---- what the files open with
 
+-- each of these instances is the first that has its octets, of those that the map names
+abbrev pub AreFirstNamed : List InstRow → MapMeaning → DiskState → Type 0
+AreFirstNamed rows m disk = All (λ row. All (IsOtherThan disk row) (named_instances m)) rows
+
+-- the octets of each attachment
+abbrev pub attachment_octets : List Detached → List (List ℕ)
+attachment_octets parts = map (λ d. d.octets) parts
+
 -- The files open with the same listings and the same mailboxes; the map is the same, or has the record of the message more, with
 -- count 0.
-pub record OpensAlike (name : List ℕ) (time : ℕ) (octets : List ℕ) (m : MapMeaning) (meanings : List BoxMeaning) (files : FilesValue) (new : Option History) : Type 0 where
+pub record OpensAlike (name : List ℕ) (time : ℕ) (prepared : Prepared) (m : MapMeaning) (meanings : List BoxMeaning) (files : FilesValue) (new : Option History) : Type 0 where
   pub map : MapMeaning
   pub opened : IsOpenedAs new map meanings
   pub mailboxes : map.boxes ≡ m.boxes
-  pub left : (map ≡ m) ⊎ HasRecordLeft name time octets m.highest.map m files map
+  pub left : (map ≡ m) ⊎ HasRecordLeft name time prepared m.highest.map m files map
 
--- The files open. Of any lists that the logs showed their logs show those with the message, and the map has its record more.
-pub record OpensSaved (name : List ℕ) (time : ℕ) (octets : List ℕ) (guid : Guid) (m : MapMeaning) (meanings : List BoxMeaning) (files : FilesValue) (old new : Option History) : Type 0 where
+-- The files open. Of any lists that the logs showed their logs show those with the message, and the map has its record more. The
+-- files of its instances have the octets of its attachments, and each is the first that has them.
+pub record OpensSaved (name : List ℕ) (time : ℕ) (octets : List ℕ) (prepared : Prepared) (guid : Guid) (m : MapMeaning) (meanings : List BoxMeaning) (files : FilesValue) (old new : Option History) : Type 0 where
   pub map : MapMeaning
   pub changed : List BoxMeaning
   pub opened : IsOpenedAs new map changed
@@ -137,34 +165,41 @@ pub record OpensSaved (name : List ℕ) (time : ℕ) (octets : List ℕ) (guid :
   pub uid : MapUid
   pub at : SavedAt
   pub guid_is : at.guid ≡ guid
-  pub more : HasRecordMore name time octets m.highest.map m files uid at map
-  pub mail : WroteMessage time (saved_region name time octets guid.0) m files at old new
+  pub rows : List InstRow
+  pub more : HasRecordMore name time prepared m.highest.map m files rows uid at map
+  pub mail : WroteMessage time (written_region name time prepared (ids_in rows) guid.0) m files at old new
+  pub attachments : IfTold new (λ now. HasInstances (files_of now) rows (attachment_octets prepared.parts))
+  pub once : IfTold new (AreFirstNamed rows map)
 
--- The reply to the delivery of these octets at this time, by what the logs mean from which the store opened, and by the storage
--- files that it found. Where the logs say why the message isn't saved, the files open with the same logs, all that the store reads
--- is carried over, and the disk was swept. With any other refusal they open with the same listings, unless the store is stopped.
--- Where it is saved, their logs show the lists with the message: last in its mailbox, with its next UID, without flags, with this
--- time and these octets, and with the GUID that is replied; its octets were added to its storage file, and what else the store
--- reads of storage files and instances is carried over. The opening swept the disk, and behind it, unless the store is stopped, no
--- storage file and no instance has changed but the one that was taken for the message. Unless the store is stopped, a disk that was
--- settled for lists is settled for those that the reply tells.
+-- The reply to the delivery of these octets, whose detached form this is, at this time, by what the logs mean from which the store
+-- opened, and by the storage files that it found. Where the logs say why the message isn't saved, the files open with the same
+-- logs, all that the store reads is carried over, and the disk was swept. With any other refusal they open with the same listings,
+-- unless the store is stopped. Where it is saved, their logs show the lists with the message: last in its mailbox, with its next
+-- UID, without flags, with this time and these octets, and with the GUID that is replied; its octets were added to its storage
+-- file, and what else the store reads of storage files and instances is carried over. The opening swept the disk, and behind it,
+-- unless the store is stopped, no storage file has changed but the one that was taken for the message, and no instance, but that
+-- new ones have the octets of its attachments. Unless the store is stopped, a disk that was settled for lists is settled for those
+-- that the reply tells.
 pub record IsDeliverReply (name : List ℕ) (time : ℕ) (octets : List ℕ) (old new : Option History) (given : Reply) : Type 0 where
   pub m : MapMeaning
   pub meanings : List BoxMeaning
   pub opened : IsOpenedAs old m meanings
   pub files : FilesValue
   pub found : IsFoundFiles m old files
-  pub given_is : IsDeliverAnswer (undelivered_cause (meaning_named name m.boxes meanings) m.highest) (meaning_named name m.boxes meanings) m.store (region_length name time octets) files given
+  pub prepared : Prepared
+  pub form : IsPrepared octets prepared
+  pub given_is : IsDeliverAnswer (undelivered_cause (meaning_named name m.boxes meanings) m.highest) (meaning_named name m.boxes meanings) m.store (region_length name time prepared) m.highest.instance (length prepared.parts) files given
   pub refused : (why : Refusal) → undelivered_cause (meaning_named name m.boxes meanings) m.highest ≡ Some why → OpensUnchanged m meanings old new
-  pub unsaved : (why : Refusal) → given ≡ reply.Refused why → (why ≡ refusal.Stopped → ⊥) → OpensAlike name time octets m meanings files new
-  pub done : (uid : Uid) (guid : Guid) → given ≡ reply.Saved uid guid → OpensSaved name time octets guid m meanings files old new
-  pub mail : (generation : ℕ) × (swept : Option History) × IsSwept generation m old swept × LeavesDelivery m.store name time octets given swept new
+  pub unsaved : (why : Refusal) → given ≡ reply.Refused why → (why ≡ refusal.Stopped → ⊥) → OpensAlike name time prepared m meanings files new
+  pub done : (uid : Uid) (guid : Guid) → given ≡ reply.Saved uid guid → OpensSaved name time octets prepared guid m meanings files old new
+  pub mail : (generation : ℕ) × (swept : Option History) × IsSwept generation m old swept × LeavesDelivery m.store name time prepared given swept new
   pub settled : (given ≡ reply.Refused refusal.Stopped → ⊥) → (lists : Lists) → IsSettledFor lists old → IsSettledFor (lists_told (request.Deliver name time octets) given lists) new
 
 -- ---- a message that was read
 
--- How the delivery of these octets at this time ends: the reply is printed, which is `OK` with the message's UID and GUID, or why it
--- isn't saved, or `NO 17 memory`, or `NO 19 stopped`; or a prefix of it; or the store was not opened.
+-- How the delivery of these octets at this time ends: the reply is printed, which is `OK` with the message's UID and GUID, or why
+-- it isn't saved, or `NO 17 memory`, or that an instance can't be read or the store is stopped; or a prefix of it; or the store was
+-- not opened.
 abbrev pub SaveOutcome : List ℕ → ℕ → List ℕ → Option (List ℕ) → Option (List ℕ) → Option History → Option History → Faults → Faults → Outcome → Type 0
 SaveOutcome name time octets = RequestOutcome (IsDeliverReply name time octets) (request.Deliver name time octets)
 
@@ -219,15 +254,15 @@ pub record IsDelivery (name : List ℕ) (time : ℕ) (octets : List ℕ) (held l
   pub moments : SaveMoments name time octets old new
   pub rests : SaveRests name time octets (IsOneOf (5 ∷ 6 ∷ 8 ∷ []) (status_of ended)) began now old new
 
--- How `deliver` ends: there is no message or no time, nothing is printed, and no call of the disk is made; or as the delivery of the
--- message that the input is, at the time that the clock told.
+-- How `deliver` ends: there is no message or no time, nothing is printed, and no call of the disk is made; or as the delivery of
+-- the message that the input is, at the time that the clock told.
 abbrev pub DeliverOutcome : List ℕ → Option (List ℕ) → Option ℕ → Option (List ℕ) → Option (List ℕ) → Option History → Option History → Faults → Faults → Outcome → Type 0
 DeliverOutcome name left told held later old new began now ended =
     (IsUnread left ended × (later ≡ held) × (new ≡ old))
     ⊎ OfDelivery left told (λ time octets. IsDelivery name time octets held later old new began now ended)
 
--- What a crash at any moment may leave, and what `deliver` leaves of the disk when it ends: no call of it was made, or as the delivery
--- of the message.
+-- What a crash at any moment may leave, and what `deliver` leaves of the disk when it ends: no call of it was made, or as the
+-- delivery of the message.
 abbrev pub DeliverMoments : List ℕ → Option (List ℕ) → Option ℕ → Option History → Option History → Type 0
 DeliverMoments name left told old new = (new ≡ old) ⊎ OfDelivery left told (λ time octets. SaveMoments name time octets old new)
 

@@ -52,10 +52,10 @@ pub record IsFetched (name : List ℕ) (uid : ℕ) (m : MapMeaning) (meanings : 
   pub given_is : IsFetchAnswer row entry new given
   pub text : (lists : Lists) → AreSafeFor lists old → IsTextOf name uid lists given
 
--- The reply to the fetch of this message, by what the logs mean from which the store opened, and opens again. It is refused if
--- and only if they have no such mailbox or message. Else it is by what the disk reads, or there was no memory; and where the
--- files were safe for lists, the octets are those of the message that they list. Behind the opening, which swept the disk, nothing has changed: all that the
--- store reads is carried over, and if the disk was settled for lists, it is settled for them again.
+-- The reply to the fetch of this message, by what the logs mean from which the store opened, and opens again. It is refused if and
+-- only if they have no such mailbox or message. Else it is by what the disk reads, or there was no memory; and where the files were
+-- safe for lists, the octets are those of the message that they list. Behind the opening, which swept the disk, nothing has
+-- changed: all that the store reads is carried over, and if the disk was settled for lists, it is settled for them again.
 pub record IsFetchReply (name : List ℕ) (uid : Uid) (old new : Option History) (given : Reply) : Type 0 where
   pub m : MapMeaning
   pub meanings : List BoxMeaning

@@ -47,8 +47,9 @@ lists_by_making number name given lists = lists
 abbrev pub ReadAlike : Option History → Option History → Type 0
 ReadAlike = Between (λ a b. (name : FileName) → reading (b name) ≡ reading (a name))
 
--- What is left of the files as the opening left them, which swept the disk: storage files and instances are as they were, but that names
--- may be synced. Unless it is done, each file reads as it did: so the log that was made is removed, and no other file was made.
+-- What is left of the files as the opening left them, which swept the disk: storage files and instances are as they were, but that
+-- names may be synced. Unless it is done, each file reads as it did: so the log that was made is removed, and no other file was
+-- made.
 pub record LeavesOpened (m : MapMeaning) (given : Reply) (old new : Option History) : Type 0 where
   pub generation : ℕ
   pub opened : Option History
@@ -57,10 +58,10 @@ pub record LeavesOpened (m : MapMeaning) (given : Reply) (old new : Option Histo
   pub undone : (given ≡ reply.Done → ⊥) → ReadAlike opened new
 
 -- The reply to the making of a mailbox with this name, by what the logs mean from which the store opened. Where it is refused, the
--- files open with the same logs, all that the store reads is carried over, and the disk was swept. Out of memory, they open with the
--- same logs. Where it is done, they open with the same logs, with the entry that names the mailbox and with its log, and these show
--- the lists with the empty mailbox last. Unless the store is stopped, a disk that was settled for lists is settled for those that the
--- reply tells, and storage files and instances, or all files, are left as the opening left them.
+-- files open with the same logs, all that the store reads is carried over, and the disk was swept. Out of memory, they open with
+-- the same logs. Where it is done, they open with the same logs, with the entry that names the mailbox and with its log, and these
+-- show the lists with the empty mailbox last. Unless the store is stopped, a disk that was settled for lists is settled for those
+-- that the reply tells, and storage files and instances, or all files, are left as the opening left them.
 pub record IsMakeReply (name : List ℕ) (old new : Option History) (given : Reply) : Type 0 where
   pub m : MapMeaning
   pub meanings : List BoxMeaning

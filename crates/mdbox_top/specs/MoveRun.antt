@@ -25,8 +25,8 @@ use Rattle.mdbox_top.specs.Served.{AreSafeFor, RequestOutcome}
 abbrev pub IsMovedAs : Option BoxMeaning → Reply → Type 0
 IsMovedAs to given = (target : BoxMeaning) × (uid : Uid) × (gone : Bool) × (to ≡ Some target) × (uid.0 ≡ target.next) × (given ≡ reply.Moved uid gone)
 
--- Why it isn't moved is replied, if it isn't, which is why a copy would not be made. Else it is; or there was no memory; or a change
--- of the disk failed, and the store is stopped.
+-- Why it isn't moved is replied, if it isn't, which is why a copy would not be made. Else it is; or there was no memory; or a
+-- change of the disk failed, and the store is stopped.
 abbrev pub IsMoveAnswer : Option Refusal → Option BoxMeaning → Reply → Type 0
 IsMoveAnswer (Some why) to given = given ≡ reply.Refused why
 IsMoveAnswer None to given = IsMovedAs to given ⊎ ((given ≡ reply.Refused refusal.NoMemory) ⊎ (given ≡ reply.Refused refusal.Stopped))

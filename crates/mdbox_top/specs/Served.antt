@@ -1,5 +1,5 @@
 -- What a request alone makes of a store, and how it ends.
-use Rattle.std.specs.Prelude.{◌≡◌, ◌≤◌, ◌⊎◌, ℕ, List, [], ◌∷◌, is_some, false, if◌then◌else◌, Option, Some, None}
+use Rattle.std.specs.Prelude.{◌≡◌, ◌≤◌, ◌⊎◌, ℕ, List, [], ◌∷◌, is_some, if◌then◌else◌, Option, Some, None}
 use Rattle.std.specs.Option.{option_map_or}
 use Rattle.disk_model.specs.Disk.{told_calls, History, Faults, EachImage, IfTold, IsIdle}
 use Rattle.disk_model.specs.FaultCounts.{NoFault}
@@ -12,7 +12,6 @@ use Rattle.mdbox_base.specs.declared.replies.Refusal.TheVariants as refusal
 use Rattle.mdbox_base.specs.declared.replies.Reply.{Reply}
 use Rattle.mdbox_base.specs.declared.replies.Reply.TheVariants as reply
 use Rattle.mdbox_base.specs.declared.requests.Request.{Request}
-use Rattle.mdbox_base.specs.declared.requests.Request.TheVariants as request
 use Rattle.model_lists.specs.Lists.{Lists}
 use Rattle.model_meaning.specs.BoxMeaning.{BoxMeaning, row_at}
 use Rattle.model_meaning.specs.MapMeaning.{MapMeaning, map_meaning}
@@ -23,7 +22,6 @@ use Rattle.model_store.specs.Settled.{files_of, IsSettledFor}
 use Rattle.list_machine.specs.Run.{Run}
 use Rattle.journal.specs.Journal.{JournalStep, Broken, left_by}
 use Rattle.journal.specs.Makes.{IsServed}
-use Rattle.mail_save.specs.Events.{has_detachable}
 use Rattle.store_open.specs.Making.{IdleUnless}
 use Rattle.store_open.specs.Opened.{Opening, IsOpeningError}
 use Rattle.store_open.specs.declared.error.OpenError.{OpenError}
@@ -66,13 +64,15 @@ pub record ServesRequest (request : Request) (lists : Lists) (given : Reply) (be
   pub crash : IsSettledFor lists old → EachImage (IsReached lists run journal broken) old new
   pub settled : (given ≡ reply.Refused refusal.Stopped → ⊥) → IsSettledFor lists old → IsSettledFor (left_by lists journal) new
 
--- The counts of the disk's faults, by what was replied: they never fall, a read fault is replied only if that of failed reads
--- rose, and that the store is stopped only if that of failed changes did. With any other reply no call failed.
+-- The counts of the disk's faults, by what was replied: they never fall, a read fault is replied only if that of failed reads alone
+-- rose, and that the store is stopped only if that of failed changes alone did. With any other reply no call failed.
 pub record FaultsByReply (given : Reply) (began now : Faults) : Type 0 where
   pub reads : began.reads ≤ now.reads
   pub changes : began.changes ≤ now.changes
   pub read_fault : given ≡ reply.Refused refusal.ReadFault → Rose began.reads now.reads
+  pub read_alone : given ≡ reply.Refused refusal.ReadFault → now.changes ≡ began.changes
   pub stopped : given ≡ reply.Refused refusal.Stopped → Rose began.changes now.changes
+  pub change_alone : given ≡ reply.Refused refusal.Stopped → now.reads ≡ began.reads
   pub unfailed : (given ≡ reply.Refused refusal.ReadFault → ⊥) → (given ≡ reply.Refused refusal.Stopped → ⊥) → NoFault began now
 
 -- How a reply with this text is printed: whole; or a prefix of it, for a fault of the output or out of memory.
@@ -92,17 +92,12 @@ pub record IsNotOpened (held later : Option (List ℕ)) (old new : Option Histor
   pub untouched : IdleUnless Opening old new
   pub unfailed : (why ≡ error.DiskFault → ⊥) → NoFault began now
 
--- The journal speaks of the request. Of a delivery it does unless a part of its message could be detached: that part isn't, yet.
-abbrev pub IsJournaled : Request → Type 0
-IsJournaled (request.Deliver name time octets) = has_detachable octets ≡ false
-IsJournaled other = Unit {0}
-
--- The store was opened and replied this: what this command's reply tells beside, that the request was served, if the journal speaks
--- of it, from any lists for which the files were safe, which calls of the disk failed, and that the reply was printed.
+-- The store was opened and replied this: what this command's reply tells beside, that the request was served, from any lists for
+-- which the files were safe, which calls of the disk failed, and that the reply was printed.
 pub record IsReplied (Tells : Option History → Option History → Reply → Type 0) (request : Request) (held later : Option (List ℕ)) (old new : Option History) (began now : Faults) (ended : Outcome) : Type 0 where
   pub given : Reply
   pub tells : Tells old new given
-  pub serves : IsJournaled request → (lists : Lists) → AreSafeFor lists old → ServesRequest request lists given began now old new
+  pub serves : (lists : Lists) → AreSafeFor lists old → ServesRequest request lists given began now old new
   pub faults : FaultsByReply given began now
   pub printed : ShowsReply (single_text request given) given held later ended
 

@@ -5,11 +5,11 @@ use Rattle.mdbox_top.proofs.DeliverLemmas.{deliver_done}
 use Rattle.mdbox_top.proofs.deliver.save_alone.Goals as goal
 
 pub returns-in-Ok-clause-done : goal.returns-in-Ok-clause-done
-returns-in-Ok-clause-done g c =
+returns-in-Ok-clause-done g c = λ octets small form.
     let o = c.in-Ok.ensures in
-    let asked = request.Deliver c.args.name c.args.time c.args.message in
+    let asked = request.Deliver c.args.name c.args.time octets in
     let given = c.save_message-reply.result in
-    let done = deliver_done c.args.name c.args.time c.args.message given (g.D.Disk.history c.args.disk) (g.D.Disk.history c.in-Ok.store.disk) (g.D.Disk.history c.save_message-reply.new.store.disk) (g.D.Disk.faults c.in-Ok.store.disk) (g.D.Disk.faults c.save_message-reply.new.store.disk) c.in-Ok.store c.save_message-reply.new.store
+    let done = deliver_done c.args.name c.args.time octets c.args.prepared given (g.D.Disk.history c.args.disk) (g.D.Disk.history c.in-Ok.store.disk) (g.D.Disk.history c.save_message-reply.new.store.disk) (g.D.Disk.faults c.in-Ok.store.disk) (g.D.Disk.faults c.save_message-reply.new.store.disk) c.in-Ok.store c.save_message-reply.new.store
     (record {
       opened = record {
         opened = o.opened;
@@ -23,8 +23,11 @@ returns-in-Ok-clause-done g c =
         carried = o.carried (λ f. absurd f);
         swept = (o.swept.0, o.swept.2);
       };
+      form = form;
+      instances = o.instances;
+      known = c.facts.ensures.instances;
       later = c.facts-in-Ok.ensures.store;
-      saves = c.save_message-reply.ensures;
+      saves = c.save_message-reply.ensures octets small form;
       back = λ same. ap (λ v. g.D.Disk.history v.disk) same;
     })
     c.listings_are_shown.ensures.logs in
