@@ -2,6 +2,7 @@ pub mod AnswerLemmas
 pub mod BadBoxLemmas
 pub mod BadLogLemmas
 pub mod CarryingLemmas
+pub mod InstanceExampleLemmas
 pub mod NewStoreLemmas
 pub mod OpeningLemmas
 pub mod OpeningSafeLemmas

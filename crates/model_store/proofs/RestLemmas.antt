@@ -1,6 +1,7 @@
 -- A disk at rest whose files are safe for lists is settled for them.
 use Rattle.std.specs.Prelude.{◌≡◌, ◌<◌, ◌==◌, ◌&&◌, ℕ, Bool, true, false, nat_lt, List, [], ◌∷◌, Option, Some, None, All, if◌then◌else◌, refl}
 use Rattle.std.specs.Option.{IfSome}
+use Rattle.std.specs.Str.{bytes_eq}
 use Rattle.std.proofs.Common.{sym, ◌∙◌, subst, inl, inr}
 use Rattle.std.proofs.lemmas.Bool.{false≢true, ltb-true}
 use Rattle.std.proofs.lemmas.List.Elements.{All-nil, All-cons, All-weaker}
@@ -16,8 +17,10 @@ use Rattle.model_store.specs.Safe.{LiesInFile, Safe}
 use Rattle.model_store.specs.Settled.{files_of, HasSameRegion, AreAlike, IsSettled}
 use Rattle.model_store.specs.Opening.{HoldOctets}
 use Rattle.model_store.specs.StoreExample.{example_file, example_image, example_lists, file_at_rest, disk_at_rest}
+use Rattle.model_store.specs.InstanceExample.{instance_octets, instance_hash, instance_id, stored_instance_file, instance_box_log, instance_map_log, instance_image, instance_lists}
 use Rattle.model_store.proofs.StandsLemmas.{same_image}
 use Rattle.model_store.proofs.StoreExampleLemmas.{example_safe}
+use Rattle.model_store.proofs.InstanceExampleLemmas.{instance_safe}
 
 -- the same files agree on all that a store reads of the first
 pub alike_same : (g : ℕ) (m : MapMeaning) (a b : Files) → ((name : FileName) → b name ≡ a name) → All (LiesInFile a) m.records → AreAlike g m a b
@@ -57,7 +60,7 @@ pub disk_settled : (files : Files) (lists : Lists) → HoldOctets files → Safe
 disk_settled files lists are s =
     rest_settled (disk_at_rest files) lists (λ name. resting_rests (files name) (are name)) (subst (λ (a : Files). Safe a lists) (sym (disk_reads files)) s)
 
--- ---- the example
+-- ---- the examples
 
 are_below : List ℕ → Bool
 are_below [] = true
@@ -87,3 +90,15 @@ example_octets (file.Inst hash id) = tt
 -- The disk at rest with the files of the example is settled for its lists.
 pub example_settled : IsSettled (disk_at_rest example_image) example_lists
 example_settled = disk_settled example_image example_lists example_octets example_safe
+
+instance_files_octets : HoldOctets instance_image
+unfolding instance_image are_below
+instance_files_octets file.Root = octets_by root_log refl
+instance_files_octets (file.Map g) = one_of (g == 1) instance_map_log refl
+instance_files_octets (file.Box k g) = one_of ((k == 1) && (g == 1)) instance_box_log refl
+instance_files_octets (file.Mail n) = one_of (n == 1) stored_instance_file refl
+instance_files_octets (file.Inst hash id) = one_of (bytes_eq hash instance_hash && bytes_eq id instance_id) instance_octets refl
+
+-- So is the one with the files of the example with an instance.
+pub instance_settled : IsSettled (disk_at_rest instance_image) instance_lists
+instance_settled = disk_settled instance_image instance_lists instance_files_octets instance_safe

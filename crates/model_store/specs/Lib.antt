@@ -1,5 +1,6 @@
 pub mod Carrying
 pub mod GoodLogs
+pub mod InstanceExample
 pub mod Listing
 pub mod Opening
 pub mod Safe

@@ -2,7 +2,10 @@
 #![tactic(auto)]
 
 pub use carrying::carried_files;
-pub use examples::{example_store_is_safe, example_store_is_settled};
+pub use examples::{
+    example_instance_store_is_safe, example_instance_store_is_settled, example_store_is_safe,
+    example_store_is_settled,
+};
 pub use opening::{new_store_is_safe, opening_has_an_answer, opening_is_one, safe_files_open};
 pub use settled::{alike_files, images_of_settled_disk, rest_is_settled};
 pub use stands::{
