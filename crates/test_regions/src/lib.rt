@@ -1,7 +1,5 @@
-//! Tests of the region of a message with an attachment.
+//! Tests of the regions of an empty message and of one with an attachment.
 #![tactic(auto)]
 
-#[cfg(test)]
-mod messages;
 #[cfg(test)]
 mod regions;

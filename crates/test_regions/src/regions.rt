@@ -1,5 +1,4 @@
-// What is written of a message with an attachment.
-use crate::messages::{FORM, attachment, uneven, with_attachment};
+// What is written of an empty message, and of one with an attachment.
 use attach_detach::prepare;
 use dbox_file::message_at;
 use dbox_metadata::read_metadata;
@@ -7,6 +6,7 @@ use mdbox_base::{ExtRef, FileNo, Hash, InstId, InstRow, Octets, StoreId, name_of
 use saved_message::{guid_at, lay_out};
 use std::alloc::Global;
 use std::test::Fail;
+use test_messages::{FORM, pdf_text, uneven, with_attachment};
 
 const STORE: StoreId = StoreId([0x00, 0x11, 0x22, 0x33, 0x44, 0x55, 0x66, 0x77]);
 
@@ -29,6 +29,23 @@ const EVEN_LINES: &[u8] =
 
 const UNEVEN_LINES: &[u8] =
     b"R65000000\nZ3c315\nV3c315\nG00112233445566770000000100000010\nBINBOX\nX225 246314 - ef/63/ef63f3685762e9758727cb9cf09654413f23cf3c-0011223344556677ffffffff00000001\n";
+
+/// The region of an empty message, received and stored so too.
+const EMPTY: &[u8] =
+    b"\x01\x02N          0000000000000000\n\n\x01\x03\nR65000000\nV0\nG00112233445566770000000100000010\nBINBOX\n\n";
+
+/// It has 89 octets, so the storage file has 105.
+#[test]
+fn an_empty_message_is_written_so(rt: HostRuntime) -> Result<(), Fail> {
+    let name = name_of(rt.alloc(), b"INBOX")?.ok_or("no name")?;
+    let prepared = prepare(rt.alloc(), b"")?;
+    let mut laid = lay_out(rt.alloc(), &name, 1_694_498_816, &prepared)?;
+    laid.set_guid(guid_at(STORE, FileNo(1), 16));
+    let region = laid.region();
+    assert_eq!(rt; region.len(), 89);
+    assert_eq!(rt; region, EMPTY);
+    Ok(())
+}
 
 /// What is written of a message with one attachment, whose instance has this id.
 fn written(alloc: Global, message: &[u8], id: InstId) -> Result<Octets, Fail> {
@@ -62,13 +79,13 @@ fn lines_of(region: &[u8]) -> Option<&[u8]> {
 /// The attachment is referred to, the whole size is written beside that of the body, and all is read back.
 #[test]
 fn a_reference_stands_in_the_region(rt: HostRuntime) -> Result<(), Fail> {
-    let canonical = attachment(rt.alloc())?;
+    let canonical = pdf_text(rt.alloc())?;
     let other = uneven(rt.alloc(), canonical.as_slice())?;
     for (text, expected, form, hash) in [
         (canonical.as_slice(), EVEN_LINES, Some(FORM), DECODED),
         (other.as_slice(), UNEVEN_LINES, None, UNEVEN),
     ] {
-        let message = with_attachment(rt.alloc(), text)?;
+        let message = with_attachment(rt.alloc(), b"a@example.org", text)?;
         let region = written(rt.alloc(), message.as_slice(), FIRST)?;
         let lines = lines_of(region.as_slice()).ok_or("no message")?;
         assert_eq!(rt; lines, expected);
