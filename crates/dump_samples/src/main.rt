@@ -1,7 +1,9 @@
-//! Dumps storage files that Dovecot 2.3.19 wrote, damaged ones too, and compares with what is wanted.
+//! Dumps storage files that Dovecot 2.3.19 wrote, damaged ones too, and compares with what is wanted; and delivers and fetches each
+//! of their messages.
 #![tactic(auto)]
 
 use anyhow::Result;
+use delivering::deliver_all;
 use devices::Narrow;
 use disk_mem::MemDisk;
 use mdbox_base::{MemClock, MemSink, MemSource, Octets, Seq, Sink, Source};
@@ -10,6 +12,7 @@ use std::alloc::Global;
 use std::fs;
 use std::rt::Files;
 
+mod delivering;
 mod devices;
 
 /// Files that are whole: NAME.m, and what is printed of it in NAME.txt.
@@ -49,7 +52,21 @@ fn main(rt: HostRuntime) -> Result<()> {
         dump_refused(&rt, name)?;
     }
     dump_cut(&rt)?;
-    dump_failing(&rt)
+    dump_failing(&rt)?;
+    for name in WHOLE {
+        deliver_whole(&rt, name)?;
+    }
+    Ok(())
+}
+
+/// Each message of the file is delivered to a store, and fetched.
+fn deliver_whole(rt: &(impl Files + Print + AllocGlobal), name: &str) -> Result<()> {
+    let found = deliver_all(rt.alloc(), &file(rt, name, "m")?)?;
+    let (messages, octets, fetched) = (found.messages, found.octets, found.fetched);
+    println!(rt;
+        "{name}: {messages} messages of {octets} octets delivered, {fetched} fetched as they were"
+    )?;
+    Ok(())
 }
 
 fn dump_whole(rt: &(impl Files + Print + AllocGlobal), name: &str) -> Result<()> {

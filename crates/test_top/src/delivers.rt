@@ -53,22 +53,36 @@ impl Source for Zeros {
 }
 
 /// A disk with a store that was just made.
-fn fresh(alloc: Global) -> Result<MemDisk, Fail> {
+pub(crate) fn fresh(alloc: Global) -> Result<MemDisk, Fail> {
     let disk = MemDisk::fresh(alloc)?;
     let ran = run_on(alloc, disk, &["init", "0011223344556677"], b"")?;
     Ok(ran.disk)
 }
 
 /// A new store to which this message was delivered, and whether it was.
-fn with_message(alloc: Global, message: &[u8]) -> Result<(MemDisk, bool), Fail> {
+pub(crate) fn with_message(alloc: Global, message: &[u8]) -> Result<(MemDisk, bool), Fail> {
     goes(alloc, fresh(alloc)?, message, &(&DELIVER, 0, FIRST, ""))
 }
 
-/// Whether a fetch prints this message, and the disk behind it.
-fn fetches(alloc: Global, disk: MemDisk, message: &[u8]) -> Result<(MemDisk, bool), Fail> {
-    let ran = run_on(alloc, disk, &["fetch", "INBOX", "1"], b"")?;
+/// Whether a fetch of the message with this UID prints this message, and the disk behind it.
+pub(crate) fn fetches_uid(
+    alloc: Global,
+    disk: MemDisk,
+    uid: &str,
+    message: &[u8],
+) -> Result<(MemDisk, bool), Fail> {
+    let ran = run_on(alloc, disk, &["fetch", "INBOX", uid], b"")?;
     let same = ran.status == 0 && told(&ran, message, "");
     Ok((ran.disk, same))
+}
+
+/// The same of the first message.
+pub(crate) fn fetches(
+    alloc: Global,
+    disk: MemDisk,
+    message: &[u8],
+) -> Result<(MemDisk, bool), Fail> {
+    fetches_uid(alloc, disk, "1", message)
 }
 
 /// Whether this message is delivered, fetched and counted.

@@ -2,6 +2,10 @@
 #![tactic(auto)]
 
 #[cfg(test)]
+mod attached;
+#[cfg(test)]
+mod attached_faults;
+#[cfg(test)]
 mod changes;
 #[cfg(test)]
 mod counts;
@@ -11,6 +15,8 @@ mod delivers;
 mod fetches;
 #[cfg(test)]
 mod full;
+#[cfg(test)]
+mod limits;
 #[cfg(test)]
 mod makes;
 #[cfg(test)]

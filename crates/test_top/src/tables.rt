@@ -13,7 +13,7 @@ pub(crate) type Row<'x> = (&'x [&'x str], u8, &'x str, &'x str);
 const NOW: u64 = 1_694_498_816;
 
 /// What is said where a call of the disk fails.
-const FAULT: &str = "mdbox: disk fault\n";
+pub(crate) const FAULT: &str = "mdbox: disk fault\n";
 
 /// A run that has this message on its input.
 pub(crate) fn run_on(
@@ -137,7 +137,12 @@ fn image(alloc: Global, disk: &MemDisk, run: u64, choice: Choice) -> Result<MemD
 }
 
 /// Whether a listing of INBOX prints one of these texts, on each image that a crash leaves behind so many calls.
-fn each_image_lists(alloc: Global, disk: &MemDisk, run: u64, texts: &[&str]) -> Result<bool, Fail> {
+pub(crate) fn each_image_lists(
+    alloc: Global,
+    disk: &MemDisk,
+    run: u64,
+    texts: &[&str],
+) -> Result<bool, Fail> {
     for choice in CHOICES {
         let left = image(alloc, disk, run, choice)?;
         if !lists(alloc, left, texts)? {
