@@ -1,4 +1,4 @@
--- The events of each request: what stands part_behind what, and what each one does.
+-- The events of each request: what stands behind what, and what each one does.
 use Rattle.std.specs.Prelude.{◌≡◌, ◌≢◌, ◌≤◌, ◌<◌, ◌↔◌, ◌+◌, ◌-◌, ◌/◌, ◌==◌, ◌&&◌, ◌||◌, nat_lt, nat_le, ℕ, Bool, true, false, not, List, [], ◌∷◌, ◌++◌, length, map, filter, find, flat_map, sum_by, count_by, slice_get, if◌then◌else◌, Option, Some, None, IsTrue, Contains, ◌⊎◌, All, is_some, is_none, option_map}
 use Rattle.std.specs.List.{list_any}
 use Rattle.std.specs.Option.{option_map_or, option_or}
@@ -158,7 +158,7 @@ number_of run request = number_drawn request 0 run.opened.mailbox run.events
 abbrev pub is_overtaken : Run → ℕ → Bool
 is_overtaken run request = nat_le (number_of run request) (map_of run).highest.mailbox
 
--- The part part_behind an event that did its own: none where the request is answered.
+-- The part behind an event that did its own: none where the request is answered.
 abbrev pub part_behind : Around → Run → Request → RunEvent → Option EventPart
 part_behind around run (request.Deliver name time octets) event = behind_delivery around run event event.part
 part_behind around run (request.Make name) event = behind_make (is_overtaken run event.request) event.part
@@ -170,7 +170,7 @@ part_behind around run request.Purge event = behind_purge around run event event
 part_behind around run request.Resync event = behind_resync run event event.part
 part_behind around run request event = None
 
--- The part part_behind an event that was refused: counts are given back where an addition was refused, unless the store is
+-- The part behind an event that was refused: counts are given back where an addition was refused, unless the store is
 -- stopped, and a fetch unpins also where it met a read fault or damage.
 abbrev pub behind_addition : EventPart → Refusal → Option EventPart
 behind_addition Last refusal.Stopped = None
@@ -193,7 +193,7 @@ abbrev pub behind_event : Around → Run → Request → RunEvent → Option Ref
 behind_event around run request event None = part_behind around run request event
 behind_event around run request event (Some refused) = behind_refused request event.part refused
 
--- The next part of a request part_behind these events of it: the first, or the one part_behind the last of them.
+-- The next part of a request behind these events of it: the first, or the one behind the last of them.
 abbrev pub next_part : Around → Run → Request → List RunEvent → Option EventPart
 next_part around run request [] = Some First
 next_part around run request (event ∷ []) = behind_event around run request event event.refused
@@ -481,7 +481,7 @@ IsRepliedBy own (Some given) = last_refusal own ≡ refusal_in given
 
 -- An event of a request: it does the next part. It is refused if one of its checks refuses it, and then does nothing; a
 -- part that isn't refused does its own and nothing else. The request is answered with it if and only if no part stands
--- part_behind it.
+-- behind it.
 pub record IsEvent (around after : Around) (run : Run) (lists : Lists) (request : Request) (event : RunEvent) : Type 0 where
   pub finds : Finds around request event
   pub part_is : next_part around run request (own_events event.request run) ≡ Some event.part

@@ -95,9 +95,10 @@ abbrev pub WouldDo : Requests → Lists → Run → List JournalStep → Broken 
 WouldDo script start run journal broken = (n : ℕ) (event : RunEvent) (asked : ℕ × Request) (around : Around) → slice_get broken.events n ≡ Some event → slice_get script event.request ≡ Some asked → event.refused ≡ None
     → DidPart around (before (broken.place + n) (as_if run broken)) (lists_before (left_by start journal) broken.steps (broken.place + n)) asked.1 event event.part
 
--- A script was served from these lists: the run began with the first map and the numbers that it names, each event was the next of its
--- lane, what it found agrees with the run, and each step has its entry, the journal and the replies are legal, the broken steps are what a failed append would have
--- made, a store that is stopped stays so, and the run has come to this map, these numbers drawn and so many device calls.
+-- A script was served from these lists: the run began with the first map and the numbers that it names, each event was the next of
+-- its lane, what it found agrees with the run, and each step has its entry, the journal and the replies are legal, the broken steps
+-- are what a failed append would have made, a store that is stopped stays so, and the run has come to this map, these numbers drawn
+-- and so many device calls.
 pub record IsServed (start : Lists) (script : Requests) (run : Run) (journal : List JournalStep) (broken : Broken) (replies : List (Option Reply)) (old new : Faults) (first m : MapMeaning) (drawn : Highest) (calls : ℕ) : Type 0 where
   pub around : ℕ → Around
   pub after : ℕ → Around
