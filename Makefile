@@ -1,6 +1,8 @@
 # The toolchain's `rt` proves, builds and tests everything.
 
-.PHONY: all demo check bench clean
+.PHONY: all demo check index bench install uninstall clean
+
+PREFIX = /usr/local
 
 # Proves and builds the program, and puts it here as ./mdbox.
 all:
@@ -22,6 +24,21 @@ demo: all
 # The gate: every proof, every edit that must fail, every test and program, and the names and the levels of crates.
 check:
 	.ci/run
+
+# Writes the lists of files in the crates' READMEs, and the index of definitions in docs/model.md.
+index:
+	tools/index
+
+# Puts the program that `make` left here below PREFIX, with a man page that is made of what `mdbox --help` prints; `make uninstall`
+# removes both. DESTDIR stands before PREFIX, for packages.
+install:
+	@test -x mdbox || { echo "make install: run make first, which proves and builds the program" >&2; exit 1; }
+	install -d $(DESTDIR)$(PREFIX)/bin $(DESTDIR)$(PREFIX)/share/man/man1
+	./mdbox --help | tools/manual "$$(./mdbox --version)" > $(DESTDIR)$(PREFIX)/share/man/man1/mdbox.1
+	install -m 755 mdbox $(DESTDIR)$(PREFIX)/bin/mdbox
+
+uninstall:
+	rm -f $(DESTDIR)$(PREFIX)/bin/mdbox $(DESTDIR)$(PREFIX)/share/man/man1/mdbox.1
 
 # Times the program on a storage file of 200 MB, a log of 100 MB and stores of up to 100,000 messages, taking messages apart,
 # and appends to a log.
