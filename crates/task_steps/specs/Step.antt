@@ -31,8 +31,9 @@ use Rattle.mdbox_base.specs.declared.progress.Progress.TheVariants as progress
 
 -- What is seen of a store: what its map and the logs of its mailboxes mean, the numbers drawn, what its disk tells, the
 -- faults counted, and whether it is stopped. Then what it keeps of its tasks: how much is due of each record, how many pins
--- each file has, which files are doomed, and which are no new ones, that it may have doomed or removed; the GUIDs that it may
--- have given; the instances that it may have removed; and the files and instances that it knows to be there.
+-- each file has, which files are doomed, which are no new ones, that it may have doomed or removed, and which may have been
+-- barred; the GUIDs that it may have given; the instances that it may have removed; the files that it knows to be there, and the
+-- instances that are.
 pub record Seen : Type 0 where
   pub map : MapMeaning
   pub meanings : List BoxMeaning
@@ -44,6 +45,7 @@ pub record Seen : Type 0 where
   pub pins : ℕ → ℕ
   pub doomed : ℕ → Bool
   pub used : ℕ → Bool
+  pub barred : ℕ → Bool
   pub gave : List ℕ → Bool
   pub gone : InstRow → Bool
   pub files : ℕ → Bool
@@ -69,19 +71,25 @@ was_used run file = list_any (λ e. is_one_of e.doomed file || is_one_of e.remov
 abbrev pub was_gone : Run → InstRow → Bool
 was_gone run instance = list_any (λ e. list_any (is_same_instance instance) e.gone) run.events
 
--- The run has come to where the store stands. Its entries, numbers and moments are the store's; of each record as much began
--- as ended and is due; its files are pinned and doomed as the store has them; events used files, gave GUIDs and removed
--- instances only if the store may have; and the files and instances that the store knows are there as far as the run tells.
-pub record HasComeTo (run : Run) (seen : Seen) : Type 0 where
-  pub come : HasCome run seen.map seen.drawn (told_calls seen.history)
+-- What a store that runs keeps of its tasks, as a run says it: of each record as much began as ended and is due, and files are
+-- pinned and doomed, and instances there, as the store has them.
+pub record KeepsTasks (run : Run) (seen : Seen) : Type 0 where
   pub due : (uid : ℕ) → sum_by (begun_in uid) run.events ≡ seen.due uid + sum_by (ended_in uid) run.events
   pub pins : (file : ℕ) → pins_of run file ≡ seen.pins file
   pub doomed : (file : ℕ) → is_doomed run file ≡ seen.doomed file
+  pub instances : (instance : InstRow) → is_known_instance run instance ≡ seen.instances instance
+
+-- The run has come to where the store stands. Its entries, numbers and moments are the store's; unless it is stopped, it keeps of
+-- its tasks what the run says; files were barred, events used files, gave GUIDs and removed instances only if the store may have;
+-- and the files that the store knows are there as far as the run tells.
+pub record HasComeTo (run : Run) (seen : Seen) : Type 0 where
+  pub come : HasCome run seen.map seen.drawn (told_calls seen.history)
+  pub keeps : seen.stopped ≡ false → KeepsTasks run seen
   pub used : (file : ℕ) → was_used run file ≡ true → seen.used file ≡ true
+  pub barred : (file : ℕ) → is_one_of run.barred file ≡ true → seen.barred file ≡ true
   pub gave : (guid : List ℕ) → was_given run guid ≡ true → seen.gave guid ≡ true
   pub gone : (instance : InstRow) → was_gone run instance ≡ true → seen.gone instance ≡ true
   pub files : (file : ℕ) → seen.files file ≡ true → is_known_file run file ≡ true
-  pub instances : (instance : InstRow) → seen.instances instance ≡ true → is_known_instance run instance ≡ true
 
 -- ---- the disk
 
