@@ -221,8 +221,8 @@ none_there events n event empty there = none_at n event (sym (ap (λ (es : List 
 -- A store that isn't stopped serves from the lists that it shows, before any event.
 pub serves_start : (start : Lists) (script : Requests) (run : Run) (replies : List (Option Reply)) (now : Seen) → run.events ≡ [] → HasComeTo run now → ShowsSeen now start → now.stopped ≡ false
     → ((i : ℕ) (given : Reply) → HasReply replies i given → ⊥) → count_by is_read_fault replies ≡ 0 → Serves start script run [] no_broken replies now now
-serves_start start script run replies now empty come shows runs none zero = record {
-  legal = legal_start start script run replies now.faults empty none zero;
+serves_start start script run replies now empty come shows runs none faultless = record {
+  legal = legal_start start script run replies now.faults empty none faultless;
   begins = record { map_is = at_start.map_is; drawn_is = at_start.drawn_is; moments = All-nil _ };
   come = come;
   shown = shows;

@@ -153,7 +153,7 @@ placed_still run event instance none stay =
     ap (λ (b : Bool). (list_any (is_same_instance instance) (named_instances (map_of (before 0 run))) || b) && not (list_any (λ (e : RunEvent). list_any (is_same_instance instance) e.gone) (run.events ++ event ∷ [])))
     (any_still (λ (e : RunEvent). list_any (is_same_instance instance) e.placed) run.events event (ap (λ (is : List InstRow). list_any (is_same_instance instance) is) none))
     ∙ ap (λ (b : Bool). (list_any (is_same_instance instance) (named_instances (map_of (before 0 run))) || list_any (λ (e : RunEvent). list_any (is_same_instance instance) e.placed) run.events) && not b)
-        (any_still (λ (e : RunEvent). list_any (is_same_instance instance) e.gone) run.events event (ap (λ (is : List InstRow). list_any (is_same_instance instance) is) stay))
+    (any_still (λ (e : RunEvent). list_any (is_same_instance instance) e.gone) run.events event (ap (λ (is : List InstRow). list_any (is_same_instance instance) is) stay))
 
 pub gone_still : (run : Run) (event : RunEvent) (instance : InstRow) → event.gone ≡ [] → was_gone (and_then run event) instance ≡ was_gone run instance
 gone_still run event instance none = any_still (λ (e : RunEvent). list_any (is_same_instance instance) e.gone) run.events event (ap (λ (is : List InstRow). list_any (is_same_instance instance) is) none)

@@ -1,6 +1,7 @@
 -- What an event of a task did: to the journal, to the disk, and by what its request ended.
 use Rattle.std.specs.Prelude.{◌≡◌, ◌≢◌, ◌≤◌, ◌↔◌, ◌+◌, ◌==◌, ◌||◌, ◌++◌, ◌∷◌, ℕ, Bool, true, false, List, [], All, flat_map, sum_by, count_by, length, if◌then◌else◌, slice_get, Option, Some, None, is_some}
 use Rattle.std.specs.List.{list_any}
+use Rattle.std.specs.Option.{IfSome}
 use Rattle.std.specs.Str.{bytes_eq}
 use Rattle.disk_model.specs.Disk.{History, Faults}
 use Rattle.mdbox_base.specs.Streams.{Rose}
@@ -17,7 +18,7 @@ use Rattle.model_store.specs.Listing.{ShowLists}
 use Rattle.list_machine.specs.Run.{RunEvent, Run, and_then, own_events, is_one_of, has_unpinned, is_doomed}
 use Rattle.journal.specs.Journal.{half_of, halves_of, IsReplyOf}
 use Rattle.journal.specs.Events.{Around, begun_in, ended_in}
-use Rattle.journal.specs.Found.{AgreesWithRun, is_known_file, is_same_instance, is_known_instance}
+use Rattle.journal.specs.Found.{AgreesWithRun, is_known_file, is_taken, is_same_instance, is_known_instance}
 use Rattle.journal.specs.Makes.{HasCome, WouldMake, Makes}
 use Rattle.disk_model.specs.Disk.{told_calls, Grows}
 use Rattle.model_store.specs.Settled.{Leaves}
@@ -174,6 +175,11 @@ abbrev pub Steps : (Run → ℕ → List Reply → Type 0) → (Run → ℕ → 
 Steps Stood Stands around after request old new did ended =
     (run : Run) (lane place : ℕ) (said : List Reply) (lists : Lists) → HasComeTo run old → ShowsSeen old lists → Stood run place said
     → (d : DidEvent around after run lane place said request lists old new did ended) × (ended ≡ None → Stands (and_then run d.makes.event) place (and_told said d.makes.answer))
+
+-- No request has taken the file in which a delivery finds room. A store doesn't say who has taken its files, so a task that takes
+-- one does as its clause says only where this holds.
+abbrev pub FindsRoom : Around → Run → Type 0
+FindsRoom around run = IfSome around.room (λ file. is_taken run file ≡ false)
 
 abbrev pub ended_by : Progress → Option Reply
 ended_by progress.More = None
