@@ -1,22 +1,26 @@
 -- What the calls of a sweep leave of the storage files and instances.
-use Rattle.std.proofs.Common.{inl, inr, ◌≡◌, ℕ, ◌+◌, ◌==◌, ◌&&◌, ◌≤◌, true, false, List, length, Option, Some, None, All, sym, ◌∙◌, subst}
-use Rattle.std.proofs.lemmas.List.Elements.{All-weaker}
+use Rattle.std.proofs.Common.{inl, inr, ◌≡◌, ℕ, ◌+◌, ◌==◌, ◌&&◌, ◌≤◌, true, false, List, [], ◌∷◌, ◌++◌, length, Option, Some, None, All, refl, sym, ◌∙◌, ap, subst}
+use Rattle.std.proofs.lemmas.List.Elements.{All-weaker, All-head, All-tail}
 use Rattle.std.proofs.lemmas.Bool.{or_parts, true≢false}
 use Rattle.std.specs.Str.{bytes_eq}
-use Rattle.disk_model.specs.Disk.{FileState, DiskState, History, IfTold, IsThere, Reaches, MayHold, MayLeave, Unchanged, AfterFailed, after, change, cut_to, half_cut, synced, removed, half_removed, reading}
+use Rattle.disk_model.specs.Disk.{FileState, DiskState, History, IfTold, IsThere, Reaches, MayHold, MayLeave, Unchanged, AfterFailed, EachImage, OthersStay, after, change, cut_to, half_cut, synced, removed, half_removed, reading}
 use Rattle.disk_model.specs.declared.name.FileName.{FileName}
 use Rattle.disk_model.specs.declared.name.FileName.TheVariants as file
 use Rattle.disk_model.proofs.MomentLemmas.{if_told-all, if_told-both}
 use Rattle.mdbox_base.specs.declared.entries.InstRow.{InstRow}
-use Rattle.model_meaning.specs.MapMeaning.{MapRecord, MapMeaning, is_sealed}
+use Rattle.model_meaning.specs.MapMeaning.{MapRecord, MapBox, MapMeaning, is_sealed}
 use Rattle.model_kept.specs.Kept.{StaysTo, MailIsKept}
-use Rattle.model_kept.proofs.KeptLemmas.{IsUnknownTo, ReadsImage, StaysAfter, left_stays, kept_then, kept_unchanged, kept_change, kept_failed, kept_fails_still}
+use Rattle.model_kept.proofs.KeptLemmas.{IsUnknownTo, ReadsImage, StaysAfter, left_stays, kept_then, kept_unchanged, kept_change, kept_failed, kept_fails_still, kept_beside, log_is_unknown}
 use Rattle.model_kept.proofs.CutFileLemmas.{half_cut_stays, cut_stays, synced_narrows}
 use Rattle.store_files.specs.Regions.{has_region}
 use Rattle.store_sweep.specs.Wanted.{row_names, is_wanted, EndBy}
 use Rattle.store_sweep.proofs.HeldLemmas.{reads_there, apart_row, apart_inst}
 use Rattle.store_sweep.proofs.CutLemmas.{sync_there}
 use Rattle.store_sweep.proofs.ScanLemmas.{none_pass}
+use Rattle.store_sweep.proofs.BoxLogLemmas.{Next}
+use Rattle.store_sweep.specs.Repaired.{box_name}
+use Rattle.gate_log.specs.State.{InspectedLog, IsWholeLog}
+use Rattle.disk_model.specs.Name.{is_log}
 
 -- ---- a file that the store doesn't need
 
@@ -88,3 +92,21 @@ shortened_stays m number end old mid new unsealed ends reaches reads reads_mid i
 
 pub walk_stays : (m : MapMeaning) (old now mid new : Option History) → MailIsKept m old now → IfTold mid ReadsImage → Unchanged now mid → MailIsKept m mid new → MailIsKept m old new
 walk_stays m old now mid new kept reads unchanged last = kept_then m old mid new reads (kept_unchanged m old now mid kept unchanged) last
+
+-- ---- a log that is repaired
+
+box_is_log : (m : MapMeaning) (name : FileName) (box : MapBox) → name ≡ box_name box → IsUnknownTo m name
+box_is_log m name box is = log_is_unknown m name (ap is_log is)
+
+pub repair_stays : (m : MapMeaning) (log : InspectedLog) (name : FileName) (old new : Option History) → log.name ≡ name → is_log name ≡ true → EachImage (λ _ image. OthersStay log.name old image) old new → MailIsKept m old new
+repair_stays m log name old new is named each = kept_beside m log.name old new (log_is_unknown m log.name (ap is_log is ∙ named)) each
+
+pub box_stays : (m : MapMeaning) (done : List InspectedLog) (log : InspectedLog) (old now new : Option History) → Next m done log → MailIsKept m old now → IfTold now ReadsImage
+    → EachImage (λ _ image. OthersStay log.name now image) now new → MailIsKept m old new
+box_stays m done log old now new next kept reads each = kept_then m old now new reads kept (kept_beside m log.name now new (box_is_log m log.name next.box next.name) each)
+
+-- ---- whole logs aren't changed
+
+pub whole_log : (done : List InspectedLog) (log : InspectedLog) (rest logs : List InspectedLog) → done ++ log ∷ rest ≡ logs → All IsWholeLog logs → IsWholeLog log
+whole_log [] log rest logs e whole = All-head IsWholeLog log rest (subst (All IsWholeLog) (sym e) whole)
+whole_log (first ∷ done) log rest logs e whole = whole_log done log rest (done ++ log ∷ rest) refl (All-tail IsWholeLog first (done ++ log ∷ rest) (subst (All IsWholeLog) (sym e) whole))
