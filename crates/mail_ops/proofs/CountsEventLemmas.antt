@@ -28,17 +28,17 @@ counts_are_plain = record { found = λ around run event. tt; finds = λ around e
 
 -- the clause of the step
 abbrev pub CountsClause : {D : Type 0} → StoreValue D → Option History → Faults → Did → Option Reply → Type 0
-CountsClause store history faults how ended = (around behind : Around) (others : Others) → Steps HasNotBegun HasNotBegun around behind request.Counts (seen_beside others store history faults) (seen_beside others store history faults) how ended
+CountsClause store history faults how ended = (around behind : Around) Steps HasNotBegun HasNotBegun around behind request.Counts (seen_of store history faults) (seen_of store history faults) how ended
 
 pub counts_stopped : {D : Type 0} → (store : StoreValue D) (history : Option History) (faults : Faults) → store.stopped ≡ true → CountsClause store history faults did.Quiet (Some (reply.Refused refusal.Stopped))
-counts_stopped store history faults stopped = λ around behind others run lane place said lists come shows stood. (
-  does_nothing around behind run lane place said request.Counts lists (seen_beside others store history faults) refusal.Stopped counts_are_plain come shows stood refl tt not_reading (when_stopped store.stopped stopped),
+counts_stopped store history faults stopped = λ around behind run lane place said lists come shows stood. (
+  does_nothing around behind run lane place said request.Counts lists (seen_of store history faults) refusal.Stopped counts_are_plain come shows stood refl tt not_reading (when_stopped store.stopped stopped),
   λ e. absurd (never_more _ e),
 )
 
 pub counts_unremembered : {D : Type 0} → (store : StoreValue D) (history : Option History) (faults : Faults) → store.stopped ≡ false → CountsClause store history faults did.Quiet (Some (reply.Refused refusal.NoMemory))
-counts_unremembered store history faults runs = λ around behind others run lane place said lists come shows stood. (
-  does_nothing around behind run lane place said request.Counts lists (seen_beside others store history faults) refusal.NoMemory counts_are_plain come shows stood refl refl not_reading_memory (memory_is store.stopped runs),
+counts_unremembered store history faults runs = λ around behind run lane place said lists come shows stood. (
+  does_nothing around behind run lane place said request.Counts lists (seen_of store history faults) refusal.NoMemory counts_are_plain come shows stood refl refl not_reading_memory (memory_is store.stopped runs),
   λ e. absurd (never_more _ e),
 )
 
@@ -50,9 +50,9 @@ counted_runs a b c d e = let k : reply.Counted a b c d ≡ reply.Refused refusal
 
 pub counts_done : {D : Type 0} → (store : StoreValue D) (history : Option History) (faults : Faults) (a b c d : ℕ) → store.stopped ≡ false → a ≡ length store.map.records → b ≡ listed_messages store → c ≡ sum_by (λ row. row.count) store.map.records → d ≡ count_different (named_ids store.map)
     → CountsClause store history faults (did.Step half.Whole) (Some (reply.Counted a b c d))
-counts_done store history faults a b c d runs records listed counts ids = λ around behind others run lane place said lists come shows stood.
+counts_done store history faults a b c d runs records listed counts ids = λ around behind run lane place said lists come shows stood.
     let q = request.Counts in
-    let seen = seen_beside others store history faults in
+    let seen = seen_of store history faults in
     let given = reply.Counted a b c d in
     let event : RunEvent = counting_event lane place given (told_calls history) in
     let are : AreCounts run lists a b c d = record {

@@ -255,8 +255,8 @@ given_still old new guid map drawn files =
 pub gone_still : {D : Type 0} → (old new : StoreValue D) (row : InstRow) → new.map.store ≡ old.map.store → new.drawn.instance ≡ old.drawn.instance → may_be_gone new row ≡ may_be_gone old row
 gone_still old new row id drawn = ap (λ (s : List ℕ). nat_le (instance_number s row.id.0) new.drawn.instance) id ∙ ap (λ (n : ℕ). nat_le (instance_number old.map.store row.id.0) n) drawn
 
-pub tells_same : {D : Type 0} → (others : Others) → (old new : StoreValue D) (h k : Option History) (f g : Faults) → new.map ≡ old.map → new.drawn ≡ old.drawn → new.files ≡ old.files → TellsSame (seen_beside others old h f) (seen_beside others new k g)
-tells_same others old new h k f g map drawn files = record {
+pub tells_same : {D : Type 0} → (old new : StoreValue D) (h k : Option History) (f g : Faults) → new.map ≡ old.map → new.drawn ≡ old.drawn → new.files ≡ old.files → TellsSame (seen_of old h f) (seen_of new k g)
+tells_same old new h k f g map drawn files = record {
   pins = λ file. refl;
   doomed = λ file. refl;
   used = λ file. refl;

@@ -44,9 +44,9 @@ one_of_own uid = ap (λ (b : Bool). cond b 1 0) (eq-eqb uid uid refl)
 
 -- ---- what is shown, and what a crash leaves
 
-pub shows_still : {D : Type 0} → (others : Others) → (old new : StoreValue D) (before after : Option History) (began now : Faults) (lists : Lists) → MapAppends old new before after began now → ShowsSeen (seen_beside others old before began) lists → ShowsSeen (seen_beside others new after now) lists
-shows_still others old new before after began now lists a shows =
+pub shows_still : {D : Type 0} → (old new : StoreValue D) (before after : Option History) (began now : Faults) (lists : Lists) → MapAppends old new before after began now → ShowsSeen (seen_of old before began) lists → ShowsSeen (seen_of new after now) lists
+shows_still old new before after began now lists a shows =
     (shows.0, subst (λ (bs : List MapBox). ShowLists bs (indexes_of new.boxes) lists) (sym a.mailboxes) (subst (λ (ms : List BoxMeaning). ShowLists old.map.boxes ms lists) (sym a.indexes) shows.1))
 
-pub leads_still : {D : Type 0} → (others : Others) → (entry : MapEntry) (old new : StoreValue D) (before after : Option History) (began now : Faults) (lists : Lists) → MapTook entry old new before after began now → Leads lists lists (seen_beside others old before began) (seen_beside others new after now)
-leads_still others entry old new before after began now lists t = record { stops = λ s. t.appends.moments lists s; settled = λ s. t.settled lists s }
+pub leads_still : {D : Type 0} → (entry : MapEntry) (old new : StoreValue D) (before after : Option History) (began now : Faults) (lists : Lists) → MapTook entry old new before after began now → Leads lists lists (seen_of old before began) (seen_of new after now)
+leads_still entry old new before after began now lists t = record { stops = λ s. t.appends.moments lists s; settled = λ s. t.settled lists s }

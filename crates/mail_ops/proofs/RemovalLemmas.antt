@@ -49,8 +49,8 @@ given_as old new guid id drawn files =
     ∙ (ap (λ (d : Highest). is_own old.map.store guid && (nat_le (number_at 8 guid) d.file && option_map_or (λ end. nat_lt (number_at 12 guid) end) (end_in (number_at 8 guid) new.files.files) true)) drawn
     ∙ ap (λ (f : FilesValue). is_own old.map.store guid && (nat_le (number_at 8 guid) old.drawn.file && option_map_or (λ end. nat_lt (number_at 12 guid) end) (end_in (number_at 8 guid) f.files) true)) files)
 
-pub store_tells : {D : Type 0} → (others : Others) → (old new : StoreValue D) (before after : Option History) (began now : Faults) → new.map.store ≡ old.map.store → new.drawn ≡ old.drawn → new.files ≡ old.files → TellsSame (seen_beside others old before began) (seen_beside others new after now)
-store_tells others old new before after began now id drawn files = record {
+pub store_tells : {D : Type 0} → (old new : StoreValue D) (before after : Option History) (began now : Faults) → new.map.store ≡ old.map.store → new.drawn ≡ old.drawn → new.files ≡ old.files → TellsSame (seen_of old before began) (seen_of new after now)
+store_tells old new before after began now id drawn files = record {
   pins = λ file. refl;
   doomed = λ file. refl;
   used = λ file. refl;
@@ -60,11 +60,11 @@ store_tells others old new before after began now id drawn files = record {
   instances = λ instance. refl;
 }
 
-pub took_tells : {D : Type 0} → (others : Others) → (entry : MapEntry) (old new : StoreValue D) (before after : Option History) (began now : Faults) → MapTook entry old new before after began now → TellsSame (seen_beside others old before began) (seen_beside others new after now)
-took_tells others entry old new before after began now t = store_tells others old new before after began now (ap (λ (m : MapMeaning). m.store) t.taken) t.appends.drawn t.appends.files
+pub took_tells : {D : Type 0} → (entry : MapEntry) (old new : StoreValue D) (before after : Option History) (began now : Faults) → MapTook entry old new before after began now → TellsSame (seen_of old before began) (seen_of new after now)
+took_tells entry old new before after began now t = store_tells old new before after began now (ap (λ (m : MapMeaning). m.store) t.taken) t.appends.drawn t.appends.files
 
-pub box_tells : {D : Type 0} → (others : Others) → (number : ℕ) (e : BoxEntry) (old new : StoreValue D) (before after : Option History) (began now : Faults) → BoxAppends number e old new before after began now → TellsSame (seen_beside others old before began) (seen_beside others new after now)
-box_tells others number e old new before after began now a = store_tells others old new before after began now (ap (λ (m : MapMeaning). m.store) a.map) a.drawn a.files
+pub box_tells : {D : Type 0} → (number : ℕ) (e : BoxEntry) (old new : StoreValue D) (before after : Option History) (began now : Faults) → BoxAppends number e old new before after began now → TellsSame (seen_of old before began) (seen_of new after now)
+box_tells number e old new before after began now a = store_tells old new before after began now (ap (λ (m : MapMeaning). m.store) a.map) a.drawn a.files
 
 -- ---- what is due
 
@@ -73,23 +73,23 @@ removal_due old new m uid row other listed due = due ∙ ap (λ (o : Option LogR
 
 -- ---- a store whose append failed
 
-pub box_fell_stays : {D : Type 0} → (others : Others) → (number : ℕ) (e : BoxEntry) (old new : StoreValue D) (before after : Option History) (began now : Faults) → BoxFell number e old new before after began now → StaysSo (seen_beside others old before began) (seen_beside others new after now)
-box_fell_stays others number e old new before after began now f = record {
+pub box_fell_stays : {D : Type 0} → (number : ℕ) (e : BoxEntry) (old new : StoreValue D) (before after : Option History) (began now : Faults) → BoxFell number e old new before after began now → StaysSo (seen_of old before began) (seen_of new after now)
+box_fell_stays number e old new before after began now f = record {
   map = f.appends.map;
   drawn = f.appends.drawn;
   due = λ uid. due_kept old new uid f.appends.map f.dues;
-  tells = box_tells others number e old new before after began now f.appends;
+  tells = box_tells number e old new before after began now f.appends;
   grows = f.appends.grows;
   reads = let same = f.appends.reads in omega (arith, same);
   changes = f.appends.changes;
 }
 
-pub map_fell_stays : {D : Type 0} → (others : Others) → (old new : StoreValue D) (before after : Option History) (began now : Faults) → MapFell old new before after began now → StaysSo (seen_beside others old before began) (seen_beside others new after now)
-map_fell_stays others old new before after began now f = record {
+pub map_fell_stays : {D : Type 0} → (old new : StoreValue D) (before after : Option History) (began now : Faults) → MapFell old new before after began now → StaysSo (seen_of old before began) (seen_of new after now)
+map_fell_stays old new before after began now f = record {
   map = f.map;
   drawn = f.appends.drawn;
   due = λ uid. due_kept old new uid f.map f.dues;
-  tells = store_tells others old new before after began now (ap (λ (m : MapMeaning). m.store) f.map) f.appends.drawn f.appends.files;
+  tells = store_tells old new before after began now (ap (λ (m : MapMeaning). m.store) f.map) f.appends.drawn f.appends.files;
   grows = f.appends.grows;
   reads = let same = f.appends.reads in omega (arith, same);
   changes = f.appends.changes;
@@ -109,9 +109,9 @@ pub record RemovalKnown {D : Type 0} (store : StoreValue D) (name : List ℕ) (u
 removal_gives : (lists : Lists) (name : List ℕ) (uid : Uid) (number : ℕ) (row : LogRow) → AreWellFormed lists → ShownRow name uid.0 number lists row → lists_by number [] (entry.R uid) lists ≡ expunge name uid.0 lists
 removal_gives lists name uid number row well s = subst (λ (k : ℕ). lists_by k [] (entry.R uid) lists ≡ expunge name uid.0 lists) s.number_is (removed_by lists name s.mailbox [] uid well s.named)
 
-pub removal_known : {D : Type 0} → (others : Others) → (history : Option History) (faults : Faults) (store : StoreValue D) (name : List ℕ) (uid : Uid) (number : ℕ) (row : LogRow) (lists : Lists) (run : Run) → IsStore history store → IsRowOf name uid.0 store number row → AreWellFormed lists → ShowLists store.map.boxes (indexes_of store.boxes) lists
-    → HasComeTo run (seen_beside others store history faults) → RemovalKnown store name uid number row lists run
-removal_known others history faults store name uid number row lists run s at well h come =
+pub removal_known : {D : Type 0} → (history : Option History) (faults : Faults) (store : StoreValue D) (name : List ℕ) (uid : Uid) (number : ℕ) (row : LogRow) (lists : Lists) (run : Run) → IsStore history store → IsRowOf name uid.0 store number row → AreWellFormed lists → ShowLists store.map.boxes (indexes_of store.boxes) lists
+    → HasComeTo run (seen_of store history faults) → RemovalKnown store name uid number row lists run
+removal_known history faults store name uid number row lists run s at well h come =
     let shown = shown_row store name uid.0 number row lists at h in
     let r = record_of_row history store name uid.0 number row s at in
     let by = removal_gives lists name uid number row well shown in

@@ -39,7 +39,7 @@ no_others = record { pins = λ file. 0; instances = λ instance. false }
 -- A store as an event sees it beside other tasks, with what its disk tells and the faults that it has counted. No task here pins or
 -- dooms a file, or places or removes an instance.
 abbrev pub seen_beside : {D : Type 0} → Others → StoreValue D → Option History → Faults → Seen
-seen_beside others store history faults = record {
+seen_of store history faults = record {
   map = store.map;
   meanings = indexes_of store.boxes;
   drawn = store.drawn;

@@ -85,7 +85,7 @@ impl CopyTask {
 
         // Of every run that has come to the store, whatever other tasks have pinned: which event it was, what it answered, and which
         // crash images it leaves.
-        ensures does { (around after : Around) (others : Others) → Steps (IsAtCopy self.old.stage) (IsAtCopy self.new.stage) around after (request.Copy self.old.name self.old.uid self.old.target) (seen_beside others store.old (D.history store.old.disk) (D.faults store.old.disk)) (seen_beside others store.new (D.history store.new.disk) (D.faults store.new.disk)) self.new.did (ended_by result) }
+        ensures does { (around after : Around) Steps (IsAtCopy self.old.stage) (IsAtCopy self.new.stage) around after (request.Copy self.old.name self.old.uid self.old.target) (seen_of store.old (D.history store.old.disk) (D.faults store.old.disk)) (seen_of store.new (D.history store.new.disk) (D.faults store.new.disk)) self.new.did (ended_by result) }
 
         // Of a settled disk each crash image at every moment is safe for its lists, or for those that the event makes of them,
         // whatever fails. Unless the store is stopped then, the disk is settled for those that the answer tells.

@@ -55,7 +55,7 @@ impl CountsTask {
 
     /// Counts what the store has, which changes nothing: the only event of its request.
     pub fn step<D: Disk>(&mut self, store: &Store<D>) -> Progress
-        ensures does { (around after : Around) (others : Others) → Steps HasNotBegun HasNotBegun around after request.Counts (seen_beside others store.now (D.history store.now.disk) (D.faults store.now.disk)) (seen_beside others store.now (D.history store.now.disk) (D.faults store.now.disk)) self.new (ended_by result) }
+        ensures does { (around after : Around) Steps HasNotBegun HasNotBegun around after request.Counts (seen_of store.now (D.history store.now.disk) (D.faults store.now.disk)) (seen_of store.now (D.history store.now.disk) (D.faults store.now.disk)) self.new (ended_by result) }
         ensures replies { (result ≡ progress.Done (counts_reply store.now)) ⊎ (result ≡ progress.Done (reply.Refused refusal.NoMemory)) }
         ensures stopped { (result ≡ progress.Done (reply.Refused refusal.Stopped)) ↔ (store.now.stopped ≡ true) }
     {

@@ -22,7 +22,7 @@ use store_core::{StepError, Store, listings_are_shown};
 
 /// Sets the flags of a message: the only event of its request. It takes no memory.
 pub fn flag<D: Disk>(store: &mut Store<D>, name: &Name, uid: Uid, flags: Flags) -> (Reply, Did)
-    ensures does { (around after : Around) (others : Others) → Steps HasNotBegun HasNotBegun around after (request.Flag name.now uid flags) (seen_beside others store.old (D.history store.old.disk) (D.faults store.old.disk)) (seen_beside others store.new (D.history store.new.disk) (D.faults store.new.disk)) result.1 (Some result.0) }
+    ensures does { (around after : Around) Steps HasNotBegun HasNotBegun around after (request.Flag name.now uid flags) (seen_of store.old (D.history store.old.disk) (D.faults store.old.disk)) (seen_of store.new (D.history store.new.disk) (D.faults store.new.disk)) result.1 (Some result.0) }
     ensures refused { (why : Refusal) → flag_refusal name.now uid.0 store.old ≡ Some why → (result.0 ≡ reply.Refused why) × (store.new ≡ store.old) }
     ensures done { flag_refusal name.now uid.0 store.old ≡ None → (result.0 ≡ reply.Done) ⊎ ((result.0 ≡ reply.Refused refusal.Stopped) × (store.new.stopped ≡ true)) }
     ensures due { (uid : ℕ) → due_at uid store.new ≡ due_at uid store.old }

@@ -19,7 +19,7 @@ use store_core::Store;
 
 /// Lists a mailbox, which changes nothing: the only event of its request.
 pub fn list<D: Disk>(store: &Store<D>, name: &Name) -> (Reply, Did)
-    ensures does { (around after : Around) (others : Others) → Steps HasNotBegun HasNotBegun around after (request.List name.now) (seen_beside others store.now (D.history store.now.disk) (D.faults store.now.disk)) (seen_beside others store.now (D.history store.now.disk) (D.faults store.now.disk)) result.1 (Some result.0) }
+    ensures does { (around after : Around) Steps HasNotBegun HasNotBegun around after (request.List name.now) (seen_of store.now (D.history store.now.disk) (D.faults store.now.disk)) (seen_of store.now (D.history store.now.disk) (D.faults store.now.disk)) result.1 (Some result.0) }
     ensures replies { (result.0 ≡ listing_reply name.now store.now) ⊎ (result.0 ≡ reply.Refused refusal.NoMemory) }
     ensures stopped { (result.0 ≡ reply.Refused refusal.Stopped) ↔ (store.now.stopped ≡ true) }
 {

@@ -73,7 +73,7 @@ impl OpsTask {
     pub fn step<D: Disk>(&mut self, store: &mut Store<D>) -> Progress
         // Of every run that has come to the store, whatever other tasks have pinned: which event it was, what it answered, and which
         // crash images it leaves.
-        ensures does { (around after : Around) (others : Others) → Steps (IsAt self.old.stage) (IsAt self.new.stage) around after self.old.request (seen_beside others store.old (D.history store.old.disk) (D.faults store.old.disk)) (seen_beside others store.new (D.history store.new.disk) (D.faults store.new.disk)) self.new.did (ended_by result) }
+        ensures does { (around after : Around) Steps (IsAt self.old.stage) (IsAt self.new.stage) around after self.old.request (seen_of store.old (D.history store.old.disk) (D.faults store.old.disk)) (seen_of store.new (D.history store.new.disk) (D.faults store.new.disk)) self.new.did (ended_by result) }
 
         // Of a settled disk each crash image at every moment is safe for its lists, or for those that the request makes of them,
         // whatever fails. Unless the store is stopped then, the disk is settled for the lists that the reply tells.
@@ -108,7 +108,7 @@ impl OpsTask {
 /// The only event of a request.
 fn only_event<D: Disk>(store: &mut Store<D>, request: &Request) -> (Reply, Did)
     requires { IsOpsRequest request.now }
-    ensures does { (around after : Around) (others : Others) → Steps HasNotBegun HasNotBegun around after request.now (seen_beside others store.old (D.history store.old.disk) (D.faults store.old.disk)) (seen_beside others store.new (D.history store.new.disk) (D.faults store.new.disk)) result.1 (Some result.0) }
+    ensures does { (around after : Around) Steps HasNotBegun HasNotBegun around after request.now (seen_of store.old (D.history store.old.disk) (D.faults store.old.disk)) (seen_of store.new (D.history store.new.disk) (D.faults store.new.disk)) result.1 (Some result.0) }
     ensures replies { Replies request.now store.old store.new result.0 }
     ensures same { AppendsNothing request.now store.old → store.new ≡ store.old }
     ensures due { (uid : ℕ) → due_at uid store.new ≡ due_at uid store.old }
