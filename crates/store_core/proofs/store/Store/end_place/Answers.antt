@@ -1,10 +1,9 @@
 use Rattle.std.proofs.Common.{◌≡◌, ◌∙◌, ap, subst, refl}
-use Rattle.disk_model.specs.Disk.{Grows}
 use Rattle.disk_model.specs.declared.name.FileName.TheVariants as file
 use Rattle.model_lists.specs.Lists.{Lists}
 use Rattle.model_store.specs.Settled.{IsSettledFor, Leaves}
 use Rattle.store_core.specs.Dues.{KeepsStored}
-use Rattle.store_core.proofs.StoreFileLemmas.{settled_then, stored_then, each_grows, room_kept}
+use Rattle.store_core.proofs.StoreFileLemmas.{settled_then, stored_then, room_kept}
 use Rattle.store_core.proofs.PieceLemmas.{synced_store, change_synced, left_leaves}
 use Rattle.store_core.proofs.MadeLogLemmas.{made_beside}
 use Rattle.store_core.proofs.KnownInstanceLemmas.{instances_placed}

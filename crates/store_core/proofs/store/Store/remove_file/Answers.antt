@@ -1,11 +1,10 @@
 use Rattle.std.proofs.Common.{◌≡◌, ◌∙◌, ap, subst, refl, sym}
-use Rattle.disk_model.specs.Disk.{Grows}
 use Rattle.disk_model.specs.declared.name.FileName.TheVariants as file
 use Rattle.model_lists.specs.Lists.{Lists}
 use Rattle.model_store.specs.Settled.{IsSettledFor, Leaves}
 use Rattle.storage_files.specs.Files.{end_in}
 use Rattle.store_core.specs.Removing.{AreElsewhere, KeepsStoredBut}
-use Rattle.store_core.proofs.StoreFileLemmas.{each_grows, room_kept}
+use Rattle.store_core.proofs.StoreFileLemmas.{room_kept}
 use Rattle.store_core.proofs.RemovalLemmas.{removed_store, removed_leaves, settled_removed, stored_but, known_there}
 use Rattle.store_core.proofs.MadeLogLemmas.{made_beside}
 use Rattle.store_core.proofs.KnownInstanceLemmas.{instances_placed}
