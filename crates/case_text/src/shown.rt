@@ -14,8 +14,8 @@ impl Stream {
     /// What stands before a line of it.
     fn mark(self) -> &'static str {
         match self {
-            Stream::Output => ". ",
-            Stream::Errors => "! ",
+            Stream::Output => ".",
+            Stream::Errors => "!",
         }
     }
 }
@@ -26,8 +26,8 @@ const MOST: usize = 4_000;
 /// How many octets are shown of each end of others.
 const ENDS: usize = 64;
 
-/// Adds octets: their lines, each after the stream's mark, or their name, or how many there are and the hexadecimal digits of the
-/// first and the last. Nothing if there are none.
+/// Adds octets: their name, or else their lines, each after the stream's mark, or else how many there are and the hexadecimal
+/// digits of the first and the last. Nothing if there are none.
 pub fn push_shown(
     out: &mut String,
     texts: &Texts,
@@ -37,9 +37,21 @@ pub fn push_shown(
     if octets.is_empty() {
         return Ok(());
     }
+    match texts.name_of(octets) {
+        Some(name) => {
+            out.push_str("= ")?;
+            out.push_str(name)?;
+            out.push_str("\n")?;
+            Ok(())
+        }
+        None => push_unnamed(out, stream, octets),
+    }
+}
+
+fn push_unnamed(out: &mut String, stream: Stream, octets: &[u8]) -> Result<(), NoMemory> {
     match str::from_utf8(octets) {
         Ok(text) if are_lines(octets) => push_lines(out, stream, text),
-        _ => push_other(out, texts, octets),
+        _ => push_ends(out, octets),
     }
 }
 
@@ -60,22 +72,13 @@ fn are_visible(octets: &[u8]) -> bool {
 fn push_lines(out: &mut String, stream: Stream, text: &str) -> Result<(), NoMemory> {
     for line in text.lines() {
         out.push_str(stream.mark())?;
-        out.push_str(line)?;
+        if !line.is_empty() {
+            out.push_str(" ")?;
+            out.push_str(line)?;
+        }
         out.push_str("\n")?;
     }
     Ok(())
-}
-
-fn push_other(out: &mut String, texts: &Texts, octets: &[u8]) -> Result<(), NoMemory> {
-    match texts.name_of(octets) {
-        Some(name) => {
-            out.push_str("= ")?;
-            out.push_str(name)?;
-            out.push_str("\n")?;
-            Ok(())
-        }
-        None => push_ends(out, octets),
-    }
 }
 
 /// Adds how many octets there are, and the digits of the first and the last.
