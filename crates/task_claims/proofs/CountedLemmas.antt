@@ -1,10 +1,10 @@
 -- Maps whose records are the same but for their counts.
-use Rattle.std.proofs.Common.{◌≡◌, ◌==◌, ◌+◌, ◌-◌, ℕ, Bool, true, false, cond, List, [], ◌∷◌, map, Option, Some, None, All, refl, sym, ◌∙◌, ap, subst}
+use Rattle.std.proofs.Common.{◌≡◌, ◌==◌, ◌+◌, ◌-◌, ℕ, Bool, true, false, cond, List, [], ◌∷◌, map, Some, None, All, refl, sym, ◌∙◌, ap}
 use Rattle.std.specs.Prelude.{find, filter, if◌then◌else◌}
 use Rattle.std.proofs.lemmas.List.Elements.{All-head, All-tail, All-cons, All-nil}
 use Rattle.mdbox_base.specs.declared.entries.MapEntry.TheVariants as map_entry
 use Rattle.mdbox_base.specs.declared.ids.MapUid.{MapUid}
-use Rattle.model_meaning.specs.MapMeaning.{MapRecord, MapMeaning, record_at, record_changed, map_applied, has_map_uid}
+use Rattle.model_meaning.specs.MapMeaning.{MapRecord, MapMeaning, record_changed, map_applied, has_map_uid}
 use Rattle.model_meaning.proofs.AppliedLemmas.{records_by_raised, records_by_lowered}
 use Rattle.task_claims.specs.Leaving.{but_count, records_within, SameButCounts}
 

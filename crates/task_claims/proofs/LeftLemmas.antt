@@ -1,5 +1,5 @@
 -- Of what others have something, that is left to them.
-use Rattle.std.proofs.Common.{◌≡◌, ◌≤◌, ◌<◌, ◌+◌, ℕ, Bool, true, false, Option, Some, refl, sym, ◌∙◌, ap, arith, inl, inr}
+use Rattle.std.proofs.Common.{◌≡◌, ◌≤◌, ◌<◌, ◌+◌, ℕ, Bool, true, false, Option, Some, refl, ap, arith, inl, inr}
 use Rattle.disk_model.specs.Disk.{History}
 use Rattle.mdbox_base.specs.declared.entries.InstRow.{InstRow}
 use Rattle.mdbox_base.specs.declared.ids.InstId.{InstId}
@@ -11,16 +11,16 @@ use Rattle.store_core.specs.MadeLogs.{has_made_log}
 use Rattle.store_core.specs.StoreInstances.{IsKnownRow}
 use Rattle.store_core.specs.Value.{StoreValue}
 use Rattle.task_claims.specs.Claims.{Claims, Due, Emptied, Held, Made, Pinned, Removing, Taken, Thing, amount_in, is_to_remove, one_if}
-use Rattle.task_claims.specs.Leaving.{IsKeptFile, IsKeptInstance, IsKeptPinned, IsKeptRecord}
+use Rattle.task_claims.specs.Leaving.{LeavesFile, LeavesInstance, LeavesPinnedFile, LeavesRecord}
 use Rattle.task_claims.specs.Stable.{Beside}
 
 less : (mine theirs all : ℕ) → mine + theirs ≤ all → 1 ≤ theirs → mine < all
 less mine theirs all l s = omega (arith, l, s)
 
-pub record_left : {D : Type 0} → (theirs : Claims) (old new : StoreValue D) (before after : Option History) (uid : ℕ) (row : MapRecord) → Beside theirs old new before after → 1 ≤ theirs (Due uid) → record_at old.map uid ≡ Some row → IsKeptRecord uid row new before after
+pub record_left : {D : Type 0} → (theirs : Claims) (old new : StoreValue D) (before after : Option History) (uid : ℕ) (row : MapRecord) → Beside theirs old new before after → 1 ≤ theirs (Due uid) → record_at old.map uid ≡ Some row → LeavesRecord uid row new before after
 record_left theirs old new before after uid row b some there = b.leaves.records uid row (less (b.mine (Due uid)) (theirs (Due uid)) (due_at uid old) (b.are (Due uid)) some) there
 
-pub instance_left : {D : Type 0} → (theirs : Claims) (old new : StoreValue D) (before after : Option History) (row : InstRow) → Beside theirs old new before after → 1 ≤ theirs (Held row.id) → IsKnownRow old.instances.known row → IsKeptInstance row old new before after
+pub instance_left : {D : Type 0} → (theirs : Claims) (old new : StoreValue D) (before after : Option History) (row : InstRow) → Beside theirs old new before after → 1 ≤ theirs (Held row.id) → IsKnownRow old.instances.known row → LeavesInstance row old new before after
 instance_left theirs old new before after row b some known = b.leaves.instances row known (less (b.mine (Held row.id)) (theirs (Held row.id)) (holders_in row.id old.instances.known) (b.are (Held row.id)) some)
 
 -- one alone has it
@@ -36,17 +36,17 @@ took_left : (mine theirs : ℕ) (t : Bool) → mine + theirs ≤ one_if t → 1 
 took_left mine theirs t l s = omega (arith, l, s)
 
 -- a storage file that it has taken, to add to it or to empty it, and one that it is to remove
-pub taken_left : {D : Type 0} → (theirs : Claims) (old new : StoreValue D) (before after : Option History) (number : ℕ) → Beside theirs old new before after → 1 ≤ theirs (Taken number) → IsKeptFile number old new before after × (is_taken_in number new.files.files ≡ true)
+pub taken_left : {D : Type 0} → (theirs : Claims) (old new : StoreValue D) (before after : Option History) (number : ℕ) → Beside theirs old new before after → 1 ≤ theirs (Taken number) → LeavesFile number old new before after × (is_taken_in number new.files.files ≡ true)
 taken_left theirs old new before after number b some =
     let a = alone (b.mine (Taken number)) (theirs (Taken number)) (is_taken_in number old.files.files) (b.are (Taken number)) some in
     (b.leaves.files number (inl (took_left (b.mine (Taken number)) (theirs (Taken number)) (is_taken_in number old.files.files) (b.are (Taken number)) some)), still (b.mine (Taken number)) (b.mine_now (Taken number)) (is_taken_in number old.files.files) (is_taken_in number new.files.files) (b.moves (Taken number)) a.0 a.1)
 
-pub emptied_left : {D : Type 0} → (theirs : Claims) (old new : StoreValue D) (before after : Option History) (number : ℕ) → Beside theirs old new before after → 1 ≤ theirs (Emptied number) → IsKeptFile number old new before after × (is_emptied_in number new.files.files ≡ true)
+pub emptied_left : {D : Type 0} → (theirs : Claims) (old new : StoreValue D) (before after : Option History) (number : ℕ) → Beside theirs old new before after → 1 ≤ theirs (Emptied number) → LeavesFile number old new before after × (is_emptied_in number new.files.files ≡ true)
 emptied_left theirs old new before after number b some =
     let a = alone (b.mine (Emptied number)) (theirs (Emptied number)) (is_emptied_in number old.files.files) (b.are (Emptied number)) some in
     (b.leaves.files number (inr (inl (took_left (b.mine (Emptied number)) (theirs (Emptied number)) (is_emptied_in number old.files.files) (b.are (Emptied number)) some))), still (b.mine (Emptied number)) (b.mine_now (Emptied number)) (is_emptied_in number old.files.files) (is_emptied_in number new.files.files) (b.moves (Emptied number)) a.0 a.1)
 
-pub removing_left : {D : Type 0} → (theirs : Claims) (old new : StoreValue D) (before after : Option History) (number : ℕ) → Beside theirs old new before after → 1 ≤ theirs (Removing number) → IsKeptFile number old new before after × (is_to_remove number new ≡ true)
+pub removing_left : {D : Type 0} → (theirs : Claims) (old new : StoreValue D) (before after : Option History) (number : ℕ) → Beside theirs old new before after → 1 ≤ theirs (Removing number) → LeavesFile number old new before after × (is_to_remove number new ≡ true)
 removing_left theirs old new before after number b some =
     let a = alone (b.mine (Removing number)) (theirs (Removing number)) (is_to_remove number old) (b.are (Removing number)) some in
     (b.leaves.files number (inr (inr (took_left (b.mine (Removing number)) (theirs (Removing number)) (is_to_remove number old) (b.are (Removing number)) some))), still (b.mine (Removing number)) (b.mine_now (Removing number)) (is_to_remove number old) (is_to_remove number new) (b.moves (Removing number)) a.0 a.1)
@@ -71,6 +71,6 @@ due_left theirs old new before after uid b = claim_left theirs old new before af
 pub held_left : {D : Type 0} → (theirs : Claims) (old new : StoreValue D) (before after : Option History) (id : InstId) → Beside theirs old new before after → theirs (Held id) ≤ holders_in id new.instances.known
 held_left theirs old new before after id b = claim_left theirs old new before after (Held id) b
 
-pub pinned_left : {D : Type 0} → (theirs : Claims) (old new : StoreValue D) (before after : Option History) (number : ℕ) → Beside theirs old new before after → 1 ≤ theirs (Pinned number) → IsKeptPinned number old new before after × (theirs (Pinned number) ≤ pins_in number new.files.files)
+pub pinned_left : {D : Type 0} → (theirs : Claims) (old new : StoreValue D) (before after : Option History) (number : ℕ) → Beside theirs old new before after → 1 ≤ theirs (Pinned number) → LeavesPinnedFile number old new before after × (theirs (Pinned number) ≤ pins_in number new.files.files)
 pinned_left theirs old new before after number b some =
     (b.leaves.pinned number (less (b.mine (Pinned number)) (theirs (Pinned number)) (pins_in number old.files.files) (b.are (Pinned number)) some), claim_left theirs old new before after (Pinned number) b)

@@ -1,8 +1,8 @@
 -- A store of which no task claims anything.
-use Rattle.std.specs.Prelude.{find, is_some, sum_by}
+use Rattle.std.specs.Prelude.{find, is_some}
 use Rattle.std.specs.List.{list_any}
 use Rattle.std.specs.Option.{option_and_then, option_map_or}
-use Rattle.std.proofs.Common.{◌≡◌, ◌==◌, ◌&&◌, ℕ, Bool, true, false, cond, List, [], ◌∷◌, All, Option, Some, None, refl, sym, ◌∙◌, ap, subst}
+use Rattle.std.proofs.Common.{◌≡◌, ◌==◌, ◌&&◌, ℕ, Bool, true, false, cond, List, [], ◌∷◌, All, Option, Some, None, refl, ◌∙◌, ap, subst}
 use Rattle.std.proofs.lemmas.List.Elements.{All-head, All-tail}
 use Rattle.model_meaning.specs.MapMeaning.{MapRecord}
 use Rattle.sis_store.specs.Instances.{instance_in, has_id}
@@ -12,7 +12,7 @@ use Rattle.storage_files.specs.declared.file.MailFile.{MailFile}
 use Rattle.store_core.specs.Dues.{number_beside}
 use Rattle.store_core.specs.Value.{StoreValue, none_due}
 use Rattle.store_core.specs.declared.store.OpenBox.{OpenBox}
-use Rattle.task_claims.specs.Claims.{AddsUp, Due, Emptied, HasNoTask, Held, IsUnusedFile, Made, Pinned, Placing, Removing, Taken, Thing, amount_in, one_if, total_claims}
+use Rattle.task_claims.specs.Claims.{AddsUp, Due, Emptied, HasNoTask, Held, IsUnusedFile, Made, Pinned, Placing, Removing, Taken, one_if}
 
 no_due : (rows : List MapRecord) (uid : ℕ) → number_beside uid rows (none_due rows) ≡ 0
 no_due [] uid = refl

@@ -1,22 +1,21 @@
 -- An event that leaves the rest of a store and its files leaves to the other tasks what is theirs.
 use Rattle.std.specs.Option.{option_map}
-use Rattle.std.proofs.Common.{◌≡◌, ◌≢◌, ◌<◌, ◌≤◌, ℕ, true, false, List, [], ◌++◌, All, get_or, Option, Some, None, refl, sym, ◌∙◌, ap, subst, arith, inl, inr}
+use Rattle.std.proofs.Common.{◌≡◌, ◌≢◌, ◌≤◌, ℕ, List, [], ◌++◌, get_or, Option, Some, refl, sym, ◌∙◌, ap, subst, arith, inl}
 use Rattle.std.proofs.lemmas.List.{append-nil}
-use Rattle.disk_model.specs.Disk.{DiskState, History, Between, IsIdle, reading}
+use Rattle.disk_model.specs.Disk.{DiskState, History, IsIdle, reading}
 use Rattle.disk_model.specs.declared.name.FileName.TheVariants as file
 use Rattle.disk_model.proofs.BetweenLemmas.{between-map}
 use Rattle.mdbox_base.specs.declared.entries.InstRow.{InstRow}
-use Rattle.model_meaning.specs.MapMeaning.{MapRecord, MapMeaning, record_at, number_at}
+use Rattle.model_meaning.specs.MapMeaning.{MapRecord, record_at}
 use Rattle.model_store.specs.Settled.{files_of}
-use Rattle.sis_store.specs.Instances.{InstancesValue}
 use Rattle.sis_store.specs.OnDisk.{instance_file}
 use Rattle.storage_files.specs.Files.{FilesValue, end_in, file_in, with_pins}
-use Rattle.store_core.specs.Keeping.{KeepsInstances, KeepsMail, KeepsRest, KeepsUids}
+use Rattle.store_core.specs.Keeping.{KeepsInstances, KeepsMail, KeepsUids}
 use Rattle.store_core.specs.StoreInstances.{IsKnownRow, IsFirstKnown}
 use Rattle.store_core.specs.Value.{StoreValue}
 use Rattle.store_core.proofs.InstanceKeepingLemmas.{kept_same, reads_mail}
 use Rattle.task_claims.specs.Claims.{Claims}
-use Rattle.task_claims.specs.Leaving.{HasRegionOctets, HaveSameInstances, IsKeptRecord, IsKeptFile, IsKeptInstance, IsKeptPinned, IsSameOrSynced, LeavesOthers, LeavesUnlisted, SameButCounts, but_count}
+use Rattle.task_claims.specs.Leaving.{HasRegionOctets, HaveSameInstances, LeavesRecord, LeavesFile, LeavesInstance, LeavesPinnedFile, IsSameOrSynced, LeavesOthers, LeavesUnlisted, SameButCounts, but_count}
 use Rattle.task_claims.proofs.CountedLemmas.{all_same, found_same, rows_same}
 
 -- ---- records
@@ -34,7 +33,7 @@ same_but row now same =
     let k = ap (λ (r : MapRecord). record r { count = now.count; file = now.file; offset = now.offset }) same in
     k
 
-pub record_kept : {D : Type 0} → (uid : ℕ) (row : MapRecord) (old new : StoreValue D) (before after : Option History) → KeepsMail before after → SameButCounts old.map new.map → record_at old.map uid ≡ Some row → IsKeptRecord uid row new before after
+pub record_kept : {D : Type 0} → (uid : ℕ) (row : MapRecord) (old new : StoreValue D) (before after : Option History) → KeepsMail before after → SameButCounts old.map new.map → record_at old.map uid ≡ Some row → LeavesRecord uid row new before after
 record_kept uid row old new before after mail same there =
     let f = found_same uid old.map.records new.map.records row same there in
     record {
@@ -48,7 +47,7 @@ record_kept uid row old new before after mail same there =
 
 -- ---- files and instances
 
-file_kept : {D : Type 0} → (number : ℕ) (old new : StoreValue D) (before after : Option History) → new.files ≡ old.files → KeepsMail before after → SameButCounts old.map new.map → IsKeptFile number old new before after
+file_kept : {D : Type 0} → (number : ℕ) (old new : StoreValue D) (before after : Option History) → new.files ≡ old.files → KeepsMail before after → SameButCounts old.map new.map → LeavesFile number old new before after
 file_kept number old new before after files mail same = record {
   known = ap (λ (f : FilesValue). option_map (with_pins 0) (file_in number f.files)) files;
   records = rows_same number old.map new.map same;
@@ -59,14 +58,14 @@ file_kept number old new before after files mail same = record {
 stays : (n : ℕ) → n ≤ n
 stays n = omega arith
 
-pinned_kept : {D : Type 0} → (number : ℕ) (old new : StoreValue D) (before after : Option History) → new.files ≡ old.files → KeepsMail before after → IsKeptPinned number old new before after
+pinned_kept : {D : Type 0} → (number : ℕ) (old new : StoreValue D) (before after : Option History) → new.files ≡ old.files → KeepsMail before after → LeavesPinnedFile number old new before after
 pinned_kept number old new before after files mail = record {
   there = λ end is. (end, ap (λ (f : FilesValue). end_in number f.files) files ∙ is, stays end);
   reads = between-map Mails (λ a b. (octets : List ℕ) → reading (a (file.Mail number)) ≡ Some octets → (more : List ℕ) × (reading (b (file.Mail number)) ≡ Some (octets ++ more))) before after
       (λ a b m octets is. ([], ap reading (m.0 number) ∙ (is ∙ ap Some (sym (append-nil octets))))) mail;
 }
 
-pub instance_kept : {D : Type 0} → (row : InstRow) (old new : StoreValue D) (before after : Option History) → KeepsInstances old new before after → IsKnownRow old.instances.known row → IsKeptInstance row old new before after
+pub instance_kept : {D : Type 0} → (row : InstRow) (old new : StoreValue D) (before after : Option History) → KeepsInstances old new before after → IsKnownRow old.instances.known row → LeavesInstance row old new before after
 instance_kept row old new before after keeps known = record {
   known = keeps.known row known;
   reads = between-map (λ a b. (r : InstRow) → IsKnownRow old.instances.known r → reading (b (instance_file r)) ≡ reading (a (instance_file r))) (λ a b. reading (b (instance_file row)) ≡ reading (a (instance_file row))) before after (λ a b r. r row known) keeps.reads;

@@ -1,10 +1,9 @@
 -- Claims of tasks beside each other.
-use Rattle.std.proofs.Common.{◌≡◌, ◌≢◌, ◌≤◌, ◌<◌, ◌+◌, ℕ, List, length, get_or, slice_index_or, slice_set, Option, refl, sym, ◌∙◌, ap, arith}
-use Rattle.std.specs.Prelude.{sum_by}
+use Rattle.std.proofs.Common.{◌≡◌, ◌≢◌, ◌≤◌, ◌<◌, ◌+◌, ℕ, List, length, slice_index_or, slice_set, refl, sym, ◌∙◌, ap, arith}
 use Rattle.std.proofs.lemmas.List.Sums.{sum_by-set, get_or-le-sum_by}
 use Rattle.std.proofs.lemmas.List.{get_or-set_other, length-set}
 use Rattle.store_core.specs.Value.{StoreValue}
-use Rattle.task_claims.specs.Claims.{AddsUp, AreIn, Claims, ClaimsNothing, MovesClaims, Thing, amount_in, both_claims, no_claims, total_claims}
+use Rattle.task_claims.specs.Claims.{AddsUp, AreIn, Claims, ClaimsNothing, MovesClaims, amount_in, both_claims, no_claims, total_claims}
 
 within : (mine mine_now other all all_now : ℕ) → all_now + mine ≡ all + mine_now → mine + other ≤ all → mine_now + other ≤ all_now
 within mine mine_now other all all_now moved due = omega (arith, moved, due)

@@ -1,11 +1,9 @@
 -- A record that is kept stores the text that it stored.
-use Rattle.std.proofs.Common.{◌≡◌, ◌≤◌, ◌+◌, ℕ, List, [], ◌∷◌, length, take, drop, All, Option, Some, refl, sym, ◌∙◌, ap, subst}
+use Rattle.std.proofs.Common.{◌≡◌, ℕ, List, [], ◌∷◌, take, drop, Option, Some, refl, sym, ◌∙◌, ap, subst}
 use Rattle.std.proofs.lemmas.List.Elements.{All-head, All-tail}
 use Rattle.disk_model.specs.Disk.{DiskState, Files, History, Between}
-use Rattle.disk_model.specs.declared.name.FileName.TheVariants as file
 use Rattle.disk_model.proofs.BetweenLemmas.{between-both, between-map}
 use Rattle.mdbox_base.specs.declared.entries.InstRow.{InstRow}
-use Rattle.mdbox_base.specs.declared.ids.Guid.{Guid}
 use Rattle.model_meaning.specs.MapMeaning.{MapRecord}
 use Rattle.model_storage.specs.StorageFile.{IsMessage}
 use Rattle.model_store.specs.Settled.{files_of}
@@ -13,7 +11,7 @@ use Rattle.model_store.specs.Stands.{HasInstances, HoldsMessage, NameInstances, 
 use Rattle.sis_store.specs.OnDisk.{instance_file}
 use Rattle.store_core.specs.Dues.{IsSpared}
 use Rattle.store_core.specs.Value.{StoreValue}
-use Rattle.task_claims.specs.Leaving.{HasRegionOctets, HaveSameInstances, IsKeptRecord}
+use Rattle.task_claims.specs.Leaving.{HasRegionOctets, HaveSameInstances, LeavesRecord}
 
 -- what files keep of a record: another row has its GUID, size and instances, its region has the same octets, and its instances are there
 pub record KeepsRow (a b : Files) (row now : MapRecord) : Type 0 where
@@ -46,6 +44,7 @@ holds_on a b row now k h =
       says = h.says;
       guid = h.guid ∙ ap (λ (g : List ℕ). Some (record { 0 = g })) (sym k.guid);
     }
+
 pub stores_on : (a b : Files) (row now : MapRecord) (octets : List ℕ) → KeepsRow a b row now → StoresMessage a row octets → StoresMessage b now octets
 unfolding holds_on
 stores_on a b row now octets k s = record {
@@ -64,13 +63,13 @@ Regions row now a b = (octets : List ℕ) → HasRegionOctets (files_of a) row o
 abbrev Insts : MapRecord → DiskState → DiskState → Type 0
 Insts row a b = HaveSameInstances row.instances (files_of a) (files_of b)
 
-pub row_kept : {D : Type 0} → (uid : ℕ) (row : MapRecord) (new : StoreValue D) (before after : Option History) → (k : IsKeptRecord uid row new before after) → Between (λ a b. KeepsRow (files_of a) (files_of b) row k.now) before after
+pub row_kept : {D : Type 0} → (uid : ℕ) (row : MapRecord) (new : StoreValue D) (before after : Option History) → (k : LeavesRecord uid row new before after) → Between (λ a b. KeepsRow (files_of a) (files_of b) row k.now) before after
 row_kept uid row new before after k =
     between-both (Regions row k.now) (Insts row) (λ a b. KeepsRow (files_of a) (files_of b) row k.now) before after
     (λ a b r s. record { guid = ap (λ (x : MapRecord). x.guid) k.is_same; size = ap (λ (x : MapRecord). x.size) k.is_same; instances = ap (λ (x : MapRecord). x.instances) k.is_same; region = r; same = s }) k.region k.instances
 
 -- So what was said of records of which others have something is said still.
-pub kept_spared : {D : Type 0} → (uid : ℕ) (row : MapRecord) (new : StoreValue D) (before after : Option History) → IsKeptRecord uid row new before after → IsSpared uid row new before after
+pub kept_spared : {D : Type 0} → (uid : ℕ) (row : MapRecord) (new : StoreValue D) (before after : Option History) → LeavesRecord uid row new before after → IsSpared uid row new before after
 kept_spared uid row new before after k = record {
   now = k.now;
   there = k.there;

@@ -33,7 +33,7 @@ HaveSameInstances rows before after = All (λ row. (octets : List ℕ) → befor
 
 -- It is there, and nothing of it has changed but its count and its place. Its region has the octets that it had, and so has each
 -- of its instances.
-pub record IsKeptRecord {D : Type 0} (uid : ℕ) (row : MapRecord) (new : StoreValue D) (before after : Option History) : Type 0 where
+pub record LeavesRecord {D : Type 0} (uid : ℕ) (row : MapRecord) (new : StoreValue D) (before after : Option History) : Type 0 where
   pub now : MapRecord
   pub there : record_at new.map uid ≡ Some now
   pub is_same : now ≡ record row { count = now.count; file = now.file; offset = now.offset }
@@ -68,21 +68,21 @@ IsSameOrSynced old new = (new ≡ old) ⊎ (new ≡ named old)
 
 -- What is known of it is as it was, but for its pins, and so are the records with regions in it, but for their counts. No record
 -- gets a GUID that is given in this file. On the disk it is as it was, or its name was synced.
-pub record IsKeptFile {D : Type 0} (number : ℕ) (old new : StoreValue D) (before after : Option History) : Type 0 where
+pub record LeavesFile {D : Type 0} (number : ℕ) (old new : StoreValue D) (before after : Option History) : Type 0 where
   pub known : known_but_pins number new ≡ known_but_pins number old
   pub records : records_within number new.map ≡ records_within number old.map
   pub guids : (guid : List ℕ) → number_at 8 guid ≡ number → All (λ row. row.guid ≢ guid) old.map.records → All (λ row. row.guid ≢ guid) new.map.records
   pub state : Between (λ a b. IsSameOrSynced (a (file.Mail number)) (b (file.Mail number))) before after
 
 -- A file that others have pinned is there, and what it read is the beginning of what it reads.
-pub record IsKeptPinned {D : Type 0} (number : ℕ) (old new : StoreValue D) (before after : Option History) : Type 0 where
+pub record LeavesPinnedFile {D : Type 0} (number : ℕ) (old new : StoreValue D) (before after : Option History) : Type 0 where
   pub there : (end : ℕ) → end_in number old.files.files ≡ Some end → (now : ℕ) × (end_in number new.files.files ≡ Some now) × (end ≤ now)
   pub reads : Between (λ a b. (octets : List ℕ) → reading (a (file.Mail number)) ≡ Some octets → (more : List ℕ) × (reading (b (file.Mail number)) ≡ Some (octets ++ more))) before after
 
 -- ---- an instance that others hold
 
 -- It is known, reads as it did, and is the first with its octets if it was.
-pub record IsKeptInstance {D : Type 0} (row : InstRow) (old new : StoreValue D) (before after : Option History) : Type 0 where
+pub record LeavesInstance {D : Type 0} (row : InstRow) (old new : StoreValue D) (before after : Option History) : Type 0 where
   pub known : IsKnownRow new.instances.known row
   pub reads : Between (λ a b. reading (b (instance_file row)) ≡ reading (a (instance_file row))) before after
   pub first : Between (λ a b. IsFirstKnown old.instances.known a row → IsFirstKnown new.instances.known b row) before after
@@ -98,11 +98,11 @@ KeepsCompared old new before after = (hash : Hash) (size : ℕ) (octets : List �
 -- The last five are of no claim: the store of the instances, whose numbers rise; what was compared; the message with a UID; and a
 -- disk that is modelled stays so.
 pub record LeavesOthers {D : Type 0} (mine : Claims) (old new : StoreValue D) (before after : Option History) : Type 0 where
-  pub records : (uid : ℕ) (row : MapRecord) → OthersClaim mine old (Due uid) → record_at old.map uid ≡ Some row → IsKeptRecord uid row new before after
+  pub records : (uid : ℕ) (row : MapRecord) → OthersClaim mine old (Due uid) → record_at old.map uid ≡ Some row → LeavesRecord uid row new before after
   pub unlisted : LeavesUnlisted mine old new
-  pub files : (number : ℕ) → OthersTook mine old number → IsKeptFile number old new before after
-  pub pinned : (number : ℕ) → OthersClaim mine old (Pinned number) → IsKeptPinned number old new before after
-  pub instances : (row : InstRow) → IsKnownRow old.instances.known row → OthersClaim mine old (Held row.id) → IsKeptInstance row old new before after
+  pub files : (number : ℕ) → OthersTook mine old number → LeavesFile number old new before after
+  pub pinned : (number : ℕ) → OthersClaim mine old (Pinned number) → LeavesPinnedFile number old new before after
+  pub instances : (row : InstRow) → IsKnownRow old.instances.known row → OthersClaim mine old (Held row.id) → LeavesInstance row old new before after
   pub store : new.instances.store ≡ old.instances.store
   pub drawn : old.instances.highest ≤ new.instances.highest
   pub compared : KeepsCompared old new before after

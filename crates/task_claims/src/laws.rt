@@ -14,7 +14,7 @@ ghost use Rattle.store_core.specs.MadeLogs.{has_made_log};
 ghost use Rattle.store_core.specs.StoreInstances.{IsKnownRow};
 ghost use Rattle.store_core.specs.Value.{StoreValue};
 ghost use Rattle.task_claims.specs.Claims.{AddsUp, AreIn, Claims, ClaimsNothing, Due, Emptied, HasNoTask, Held, Made, MovesClaims, Pinned, Removing, Taken, both_claims, is_to_remove, no_claims};
-ghost use Rattle.task_claims.specs.Leaving.{IsKeptFile, IsKeptInstance, IsKeptPinned, IsKeptRecord, LeavesOthers, LeavesUnlisted, SameButCounts};
+ghost use Rattle.task_claims.specs.Leaving.{LeavesFile, LeavesInstance, LeavesPinnedFile, LeavesRecord, LeavesOthers, LeavesUnlisted, SameButCounts};
 ghost use Rattle.task_claims.specs.Stable.{Beside};
 
 /// What two tasks claim stays among what all claim, as one of them goes on.
@@ -34,19 +34,19 @@ pub fn claims_add_up<D>()
 /// Of each thing that a task claims, what is left to it beside an event of another task.
 pub fn claimed_things_stay<D>()
     ensures dues { (theirs : Claims) (old new : StoreValue D) (before after : Option History) (uid : ℕ) → Beside theirs old new before after → theirs (Due uid) ≤ due_at uid new }
-    ensures records { (theirs : Claims) (old new : StoreValue D) (before after : Option History) (uid : ℕ) (row : MapRecord) → Beside theirs old new before after → 1 ≤ theirs (Due uid) → record_at old.map uid ≡ Some row → IsKeptRecord uid row new before after }
-    ensures taken { (theirs : Claims) (old new : StoreValue D) (before after : Option History) (number : ℕ) → Beside theirs old new before after → 1 ≤ theirs (Taken number) → IsKeptFile number old new before after × (is_taken_in number new.files.files ≡ true) }
-    ensures emptied { (theirs : Claims) (old new : StoreValue D) (before after : Option History) (number : ℕ) → Beside theirs old new before after → 1 ≤ theirs (Emptied number) → IsKeptFile number old new before after × (is_emptied_in number new.files.files ≡ true) }
-    ensures removing { (theirs : Claims) (old new : StoreValue D) (before after : Option History) (number : ℕ) → Beside theirs old new before after → 1 ≤ theirs (Removing number) → IsKeptFile number old new before after × (is_to_remove number new ≡ true) }
-    ensures pinned { (theirs : Claims) (old new : StoreValue D) (before after : Option History) (number : ℕ) → Beside theirs old new before after → 1 ≤ theirs (Pinned number) → IsKeptPinned number old new before after × (theirs (Pinned number) ≤ pins_in number new.files.files) }
-    ensures instances { (theirs : Claims) (old new : StoreValue D) (before after : Option History) (row : InstRow) → Beside theirs old new before after → 1 ≤ theirs (Held row.id) → IsKnownRow old.instances.known row → IsKeptInstance row old new before after }
+    ensures records { (theirs : Claims) (old new : StoreValue D) (before after : Option History) (uid : ℕ) (row : MapRecord) → Beside theirs old new before after → 1 ≤ theirs (Due uid) → record_at old.map uid ≡ Some row → LeavesRecord uid row new before after }
+    ensures taken { (theirs : Claims) (old new : StoreValue D) (before after : Option History) (number : ℕ) → Beside theirs old new before after → 1 ≤ theirs (Taken number) → LeavesFile number old new before after × (is_taken_in number new.files.files ≡ true) }
+    ensures emptied { (theirs : Claims) (old new : StoreValue D) (before after : Option History) (number : ℕ) → Beside theirs old new before after → 1 ≤ theirs (Emptied number) → LeavesFile number old new before after × (is_emptied_in number new.files.files ≡ true) }
+    ensures removing { (theirs : Claims) (old new : StoreValue D) (before after : Option History) (number : ℕ) → Beside theirs old new before after → 1 ≤ theirs (Removing number) → LeavesFile number old new before after × (is_to_remove number new ≡ true) }
+    ensures pinned { (theirs : Claims) (old new : StoreValue D) (before after : Option History) (number : ℕ) → Beside theirs old new before after → 1 ≤ theirs (Pinned number) → LeavesPinnedFile number old new before after × (theirs (Pinned number) ≤ pins_in number new.files.files) }
+    ensures instances { (theirs : Claims) (old new : StoreValue D) (before after : Option History) (row : InstRow) → Beside theirs old new before after → 1 ≤ theirs (Held row.id) → IsKnownRow old.instances.known row → LeavesInstance row old new before after }
     ensures held { (theirs : Claims) (old new : StoreValue D) (before after : Option History) (id : InstId) → Beside theirs old new before after → theirs (Held id) ≤ holders_in id new.instances.known }
     ensures logs { (theirs : Claims) (old new : StoreValue D) (before after : Option History) (number : ℕ) → Beside theirs old new before after → 1 ≤ theirs (Made number) → has_made_log number new ≡ true }
 {}
 
 /// A record that is kept stores the text that it stored.
 pub fn kept_records_are_spared<D>()
-    ensures spared { (uid : ℕ) (row : MapRecord) (new : StoreValue D) (before after : Option History) → IsKeptRecord uid row new before after → IsSpared uid row new before after }
+    ensures spared { (uid : ℕ) (row : MapRecord) (new : StoreValue D) (before after : Option History) → LeavesRecord uid row new before after → IsSpared uid row new before after }
 {}
 
 /// Entries of the map log that raise or lower a count leave all records, but for the counts.
