@@ -66,6 +66,10 @@ records_within number m = filter (λ row. row.file == number) (map but_count m.r
 abbrev pub IsSameOrSynced : FileState → FileState → Type 0
 IsSameOrSynced old new = (new ≡ old) ⊎ (new ≡ named old)
 
+-- each storage file and each instance is as it was, or its name was synced
+abbrev pub SyncsMail : Option History → Option History → Type 0
+SyncsMail = Between (λ a b. ((number : ℕ) → IsSameOrSynced (a (file.Mail number)) (b (file.Mail number))) × ((hash id : List ℕ) → IsSameOrSynced (a (file.Inst hash id)) (b (file.Inst hash id))))
+
 -- What is known of it is as it was, but for its pins, and so are the records with regions in it, but for their counts. No record
 -- gets a GUID that is given in this file. On the disk it is as it was, or its name was synced.
 pub record LeavesFile {D : Type 0} (number : ℕ) (old new : StoreValue D) (before after : Option History) : Type 0 where
