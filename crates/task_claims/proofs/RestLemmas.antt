@@ -16,7 +16,7 @@ use Rattle.store_core.specs.Dues.{due_at}
 use Rattle.store_core.specs.Value.{StoreValue}
 use Rattle.store_core.proofs.InstanceKeepingLemmas.{kept_same}
 use Rattle.store_core.proofs.MailChangeLemmas.{named_reads}
-use Rattle.task_claims.specs.Claims.{Claims, Due, Emptied, Held, Made, MovesClaims, Pinned, Placing, Removing, Taken, Thing, amount_in, claims_of_dues}
+use Rattle.task_claims.specs.Claims.{Claims, ClaimsNothing, Due, Emptied, Held, Made, MovesClaims, Pinned, Placing, Removing, Taken, Thing, amount_in, claims_of_dues}
 use Rattle.task_claims.specs.Leaving.{HasRegionOctets, HaveSameInstances, LeavesRecord, LeavesFile, LeavesInstance, LeavesPinnedFile, IsSameOrSynced, LeavesOthers, LeavesUnlisted, SameButCounts, SyncsMail, but_count}
 use Rattle.task_claims.proofs.CountedLemmas.{all_same, found_same, rows_same}
 
@@ -121,6 +121,27 @@ due_claims mine mine_now old new moves rest (Removing file) = ap (λ (v : StoreV
 due_claims mine mine_now old new moves rest (Held id) = ap (λ (v : StoreValue _). amount_in (Held id) v + 0) rest
 due_claims mine mine_now old new moves rest (Made number) = ap (λ (v : StoreValue _). amount_in (Made number) v + 0) rest
 
--- nothing that is claimed has changed
+-- no amount has changed
+pub rest_amounts : {D : Type 0} → (old new : StoreValue D) → ((uid : ℕ) → due_at uid new ≡ due_at uid old) → KeepsRest old new → (thing : Thing) → amount_in thing new ≡ amount_in thing old
+rest_amounts old new due rest (Due uid) = due uid
+rest_amounts old new due rest (Pinned file) = ap (λ (v : StoreValue _). amount_in (Pinned file) v) rest
+rest_amounts old new due rest (Taken file) = ap (λ (v : StoreValue _). amount_in (Taken file) v) rest
+rest_amounts old new due rest (Emptied file) = ap (λ (v : StoreValue _). amount_in (Emptied file) v) rest
+rest_amounts old new due rest (Placing file) = ap (λ (v : StoreValue _). amount_in (Placing file) v) rest
+rest_amounts old new due rest (Removing file) = ap (λ (v : StoreValue _). amount_in (Removing file) v) rest
+rest_amounts old new due rest (Held id) = ap (λ (v : StoreValue _). amount_in (Held id) v) rest
+rest_amounts old new due rest (Made number) = ap (λ (v : StoreValue _). amount_in (Made number) v) rest
+
 pub same_claims : {D : Type 0} → (mine : Claims) (old new : StoreValue D) → ((thing : Thing) → amount_in thing new ≡ amount_in thing old) → MovesClaims mine mine old new
 same_claims mine old new same thing = ap (λ (n : ℕ). n + mine thing) (same thing)
+
+-- a task of which nothing is due claims nothing
+pub none_claimed_of : (due : ℕ → ℕ) → ((uid : ℕ) → due uid ≡ 0) → ClaimsNothing (claims_of_dues due)
+none_claimed_of due none (Due uid) = none uid
+none_claimed_of due none (Pinned file) = refl
+none_claimed_of due none (Taken file) = refl
+none_claimed_of due none (Emptied file) = refl
+none_claimed_of due none (Placing file) = refl
+none_claimed_of due none (Removing file) = refl
+none_claimed_of due none (Held id) = refl
+none_claimed_of due none (Made number) = refl
