@@ -78,6 +78,9 @@ others_same number other (b ∷ bs) apart = by_test (b.number.0 == number) (b.nu
     by_test true false e f rest = rest ∙ sym (ap (λ (x : Bool). x || list_any (HasNumber other) bs) f)
     by_test false t e f rest = ap (λ (x : Bool). (b.number.0 == other) || x) rest
 
+differ_tests : false ≡ true → ⊥
+differ_tests k = cc k
+
 -- one fewer
 log_less : {D : Type 0} → (number : ℕ) (old new : StoreValue D) → new.made ≡ without_box number old.made → has_made_log number old ≡ true → (other : ℕ) → one_if (has_made_log other new) + one_if (number == other) ≡ one_if (has_made_log other old) + 0
 log_less number old new left there other = by_test (number == other) refl
@@ -90,12 +93,9 @@ log_less number old new left there other = by_test (number == other) refl
         let own : one_if (number == other) ≡ 1 = ap one_if e in
         omega (arith, was, is, own)
     by_test false e =
-        let same : one_if (has_made_log other new) ≡ one_if (has_made_log other old) = ap one_if (ap (λ (boxes : List OpenBox). list_any (HasNumber other) boxes) left ∙ others_same number other old.made (λ k. differ (sym e ∙ eq-eqb number other k))) in
+        let same : one_if (has_made_log other new) ≡ one_if (has_made_log other old) = ap one_if (ap (λ (boxes : List OpenBox). list_any (HasNumber other) boxes) left ∙ others_same number other old.made (λ k. differ_tests (sym e ∙ eq-eqb number other k))) in
         let own : one_if (number == other) ≡ 0 = ap one_if e in
         omega (arith, same, own)
-
-    differ : false ≡ true → ⊥
-    differ k = cc k
 
 -- ---- mailboxes
 
@@ -131,7 +131,7 @@ log_removed number old new same there = record {
   logs = log_less number.0 old new (ap (λ (v : StoreValue _). v.made) same) there;
 }
 
-make_changes : {D : Type 0} → (name : List ℕ) (now next : MakeStage) (answer : Progress) (old new : StoreValue D) (before after : Option History) → new.stopped ≡ false → IsReadyToMake now old → MakeAnswers name now old new before after next answer → MakeChanges now next old new
+pub make_changes : {D : Type 0} → (name : List ℕ) (now next : MakeStage) (answer : Progress) (old new : StoreValue D) (before after : Option History) → new.stopped ≡ false → IsReadyToMake now old → MakeAnswers name now old new before after next answer → MakeChanges now next old new
 make_changes name make_stage.First (make_stage.Naming number) progress.More old new before after runs ready a = record {
   same = same_map old.map new.map (ap (λ (v : StoreValue _). v.map) a.1.same);
   refs = λ guid. ap (λ (v : StoreValue _). references_to v guid) a.1.same;
