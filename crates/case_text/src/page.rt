@@ -131,7 +131,8 @@ impl Page {
             return Ok(false);
         };
         self.texts.add(name, b"\x01")?;
-        self.texts.add(name, &(octets.len() as u64).to_be_bytes()[4..])?;
+        self.texts
+            .add(name, &(octets.len() as u64).to_be_bytes()[4..])?;
         self.texts.add(name, octets.as_slice())?;
         Ok(true)
     }
