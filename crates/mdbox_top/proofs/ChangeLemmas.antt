@@ -185,7 +185,7 @@ so_far_ends history faults Began Stood Stands request Among change left may told
 pub way_shown : {D : Type 0} → (Stands : Run → ℕ → List Reply → Type 0) (request : Request) (lists : Lists) (old mid : Option History) (began : Faults) (s : StoreValue D) → (o : OpenedNow old mid s) → AreWellFormed lists × ShowLists s.map.boxes (indexes_of s.boxes) lists
     → Stands (beginning s.map o.store.entries) 0 [] → IsUnderWay Stands request lists (before_opening (seen_of s mid began) old) (seen_of s mid began) lists
 way_shown Stands request lists old mid began s o shown stands =
-    way_begins Stands request lists s.map o.store.entries (seen_of s mid began) old (comes old mid began s o.store o.drawn o.free o.files) shown o.running o.drawn (o.safe lists) (o.settled_again lists) (opening_begins old mid s o) stands
+    way_begins Stands request lists s.map o.store.entries (seen_of s mid began) old (comes old mid began s o) shown o.running o.drawn (o.safe lists) (o.settled_again lists) (opening_begins old mid s o) stands
 
 -- a store that is as it was opened
 pub opens_unchanged : {D : Type 0} → (old mid new : Option History) (s : StoreValue D) → OpenedNow old mid s → new ≡ mid → OpensUnchanged s.map (indexes_of s.boxes) old new

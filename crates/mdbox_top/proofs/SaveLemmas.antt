@@ -39,7 +39,7 @@ use Rattle.model_store.specs.Stands.{HasInstances}
 use Rattle.list_machine.specs.Machine.{add_message}
 use Rattle.list_machine.specs.Run.{Run, and_then}
 use Rattle.journal.specs.Events.{Around}
-use Rattle.task_steps.specs.Step.{Seen, HasNotBegun, Steps, and_told, ended_by}
+use Rattle.task_steps.specs.Step.{FindsRoom, Seen, HasNotBegun, Steps, and_told, ended_by}
 use Rattle.task_steps.proofs.OneEventLemmas.{not_true}
 use Rattle.entry_steps.proofs.AppendListLemmas.{added_by}
 use Rattle.save_instances.specs.Attaching.{AttachingValue, found_let_go, next_attachment, next_candidate, part_row, with_compared, with_found}
@@ -83,6 +83,7 @@ use Rattle.mdbox_top.proofs.ChangeLemmas.{more_done, one_done, still_among, mome
 use Rattle.mdbox_top.proofs.CopyLemmas.{one_refusal, memory_runs, none_made}
 use Rattle.mdbox_top.proofs.FirstLemmas.{AreFirstKnown, firsts_let_go, firsts_named, firsts_on}
 use Rattle.mdbox_top.proofs.ReplyFaultLemmas.{fault_event, replied_faults}
+use Rattle.mdbox_top.proofs.RoomLemmas.{finds_room, of_one}
 use Rattle.mdbox_top.proofs.SavedFormLemmas.{AttachedAs, attached_as, attaching_parts, ready_instances}
 use Rattle.mdbox_top.proofs.WroteLemmas.{AreAmong, added_among, added_none, added_on, compares_attachment, instances_on, places_attachment, took_mail, wrote_mail, wrote_on}
 use Rattle.mdbox_top.proofs.UnderWayLemmas.{nothing_found, way_shows, way_goes_on, way_ends}
@@ -161,7 +162,8 @@ refused_lists stage.Ended name octets why lists = refl
 pub record SaveEvent {D : Type 0} (history : D → Option History) (faults : D → Faults) (name : List ℕ) (time : ℕ) (octets : List ℕ) (now next : SaveStage) (s t : StoreValue D) (how : Did) (answer : Progress) : Type 0 where
   pub around : Around
   pub after : Around
-  pub does : Steps (IsAtSave now) (IsAtSave next) around after (request.Deliver name time octets) (seen_saving s (history s.disk) (faults s.disk)) (seen_saving t (history t.disk) (faults t.disk)) how (ended_by answer)
+  pub does : Steps (λ run place said. IsAtSave now run place said × FindsRoom around run) (IsAtSave next) around after (request.Deliver name time octets) (seen_saving s (history s.disk) (faults s.disk)) (seen_saving t (history t.disk) (faults t.disk)) how (ended_by answer)
+  pub finds : (run : Run) (said : List Reply) → All (λ e. e.request ≡ 0) run.events → IsAtSave now run 0 said → FindsRoom around run
   pub moments : (lists : Lists) → IsSettledFor lists (history s.disk) → Leaves lists (save_lists now name octets lists) (history s.disk) (history t.disk)
   pub settled : t.stopped ≡ false → (lists : Lists) → IsSettledFor lists (history s.disk) → IsSettledFor (lists_delivered now name octets answer lists) (history t.disk)
   pub stopped : (answer ≡ stopped_reply) ↔ (t.stopped ≡ true)
@@ -305,7 +307,7 @@ saving_by history faults name time octets prepared first s t now next how so eve
   settled = λ lists at. subst (λ (ls : Lists). IsSettledFor ls (history t.disk)) (more_lists now name octets lists) (event.settled running lists (so.settled lists at));
   way = λ lists seen u0.
       let u = so.way lists seen u0 in
-      let d = event.does u.run 1 0 u.said lists u.goes.serves.come (way_shows (IsAtSave now) asked lists lists seen from u) u.stands in
+      let d = event.does u.run 1 0 u.said lists u.goes.serves.come (way_shows (IsAtSave now) asked lists lists seen from u) (u.stands, event.finds u.run u.said (of_one asked lists u.run u.journal u.broken seen from u.goes) u.stands) in
       let v = way_goes_on (IsAtSave now) (IsAtSave next) asked lists lists seen from to event.around event.after how u d.0 (d.1 refl) in
       let was : u.said ≡ [] = said_none now refusal.NoMemory u.run u.said u.stands (known_only history name time octets prepared first s now so.knows) in
       let is : and_told u.said d.0.makes.answer ≡ [] = said_none next refusal.NoMemory (and_then u.run d.0.makes.event) (and_told u.said d.0.makes.answer) (d.1 refl) (known_only history name time octets prepared first t next knows) in
@@ -596,7 +598,7 @@ saving_ended : {D : Type 0} → (history : D → Option History) (faults : D →
 saving_ended history faults name time octets prepared first s t now next how given so event k told = record {
   served = λ lists seen u0.
       let u = so.way lists seen u0 in
-      let d = event.does u.run 1 0 u.said lists u.goes.serves.come (way_shows (IsAtSave now) asked lists lists seen from u) u.stands in
+      let d = event.does u.run 1 0 u.said lists u.goes.serves.come (way_shows (IsAtSave now) asked lists lists seen from u) (u.stands, event.finds u.run u.said (of_one asked lists u.run u.journal u.broken seen from u.goes) u.stands) in
       way_ends (IsAtSave now) asked lists lists given seen from to event.around event.after how t u k refl refl d.0 (λ fault. fault_event event.around event.after u.run u.said asked from to how given d.0 fault);
   moments = λ lists at. moments_on (AreAlongSave name time octets) lists lists (save_lists now name octets lists) (history first.disk) (history s.disk) (history t.disk) (inl refl) (along history name time octets prepared first s now so.knows lists) (so.moments lists at) (event.moments lists (so.settled lists at));
   settled = λ runs lists at. subst (λ (ls : Lists). IsSettledFor ls (history t.disk)) (told lists) (event.settled runs lists (so.settled lists at));
@@ -974,7 +976,7 @@ pub record SaveSaid {D : Type 0} (history : D → Option History) (faults : D �
   pub moments : (lists : Lists) → IsSettledFor lists (history s.disk) → Leaves lists (save_lists now name octets lists) (history s.disk) (history t.disk)
   pub settled : t.stopped ≡ false → (lists : Lists) → IsSettledFor lists (history s.disk) → IsSettledFor (lists_delivered now name octets answer lists) (history t.disk)
   pub says : s.stopped ≡ false → Saves now next name time size answer how s t (history s.disk) (history t.disk) (faults s.disk) (faults t.disk)
-  pub does : Steps (IsAtSave now) (IsAtSave next) (around_saving octets now s) nothing_found (request.Deliver name time octets) (seen_saving s (history s.disk) (faults s.disk)) (seen_saving t (history t.disk) (faults t.disk)) how (ended_by answer)
+  pub does : Steps (λ run place said. IsAtSave now run place said × FindsRoom (around_saving octets now s) run) (IsAtSave next) (around_saving octets now s) nothing_found (request.Deliver name time octets) (seen_saving s (history s.disk) (faults s.disk)) (seen_saving t (history t.disk) (faults t.disk)) how (ended_by answer)
 
 -- of a task that has this name and time
 pub save_said_of : {D : Type 0} → (history : D → Option History) (faults : D → Faults) (name other : List ℕ) (time last size : ℕ) (octets : List ℕ) (now next : SaveStage) (s t : StoreValue D) (how : Did) (answer : Progress) → other ≡ name → last ≡ time
@@ -998,6 +1000,7 @@ save_event history faults name time size octets now next s t how answer runs sai
       around = around_saving octets now s;
       after = nothing_found;
       does = said.does;
+      finds = λ run said one at. finds_room octets now s run said one at;
       moments = said.moments;
       settled = said.settled;
       stopped = says.stopped;

@@ -16,7 +16,9 @@ returns-in-Ok-clause-done g c = λ octets small form.
         store = c.facts.ensures.store;
         drawn = o.state.3;
         free = o.state.4;
+        order = c.facts.ensures.files;
         files = o.files;
+        instances = o.instances;
         running = o.state.1;
         safe = o.any_moment;
         settled_again = o.settled_again (λ f. absurd f);
@@ -24,7 +26,6 @@ returns-in-Ok-clause-done g c = λ octets small form.
         swept = (o.swept.0, o.swept.2);
       };
       form = form;
-      instances = o.instances;
       known = c.facts.ensures.instances;
       later = c.facts-in-Ok.ensures.store;
       saves = c.save_message-reply.ensures octets small form;
