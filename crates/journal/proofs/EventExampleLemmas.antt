@@ -40,7 +40,7 @@ went_on around after run lists q event part parts free unanswered next allowed d
   undone = λ r e. absurd (clash r (sym free) e);
   drew = λ h. absurd (h free);
   memory = λ e. absurd (clash refusal.NoMemory (sym free) e);
-  may = subst (λ (o : Option Refusal). IfSome o (MayMeet event.part)) (sym free) tt;
+  may = subst (λ (o : Option Refusal). IfSome o (MayMeet event.part q)) (sym free) tt;
   allowed = λ e. allowed;
   did = λ e. did;
   fits = fits;
@@ -64,7 +64,7 @@ answered around after run lists q event given parts free reply_is next allowed d
   undone = λ r e. absurd (clash r (sym free) e);
   drew = λ h. absurd (h free);
   memory = λ e. absurd (clash refusal.NoMemory (sym free) e);
-  may = subst (λ (o : Option Refusal). IfSome o (MayMeet event.part)) (sym free) tt;
+  may = subst (λ (o : Option Refusal). IfSome o (MayMeet event.part q)) (sym free) tt;
   allowed = λ e. allowed;
   did = λ e. did;
   fits = fits;
@@ -121,7 +121,7 @@ adds_message hello_parts = answered nothing_around nothing_around (before 4 firs
 
 -- an event that is refused, and behind which counts are given back
 refused_on : (around after : Around) (run : Run) (lists : Lists) (q : Request) (event : RunEvent) (r : Refusal) (part : EventPart) → Finds around q event → event.refused ≡ Some r → event.reply ≡ None → next_part around run q (own_events event.request run) ≡ Some event.part
-    → is_step r ≡ true → MayMeet event.part r → first_refusal run lists (checks_of run q event) ≡ Some r → DidNothing event → All (MapFits (map_of run)) event.map_entries → event.drew ≡ no_numbers → behind_event after (and_then run event) q event event.refused ≡ Some part → IsEvent around after run lists q event
+    → is_step r ≡ true → MayMeet event.part q r → first_refusal run lists (checks_of run q event) ≡ Some r → DidNothing event → All (MapFits (map_of run)) event.map_entries → event.drew ≡ no_numbers → behind_event after (and_then run event) q event event.refused ≡ Some part → IsEvent around after run lists q event
 refused_on around after run lists q event r part parts is_refused unanswered next step may first nothing fits drew behind = record {
   finds = parts;
   part_is = next;
@@ -129,7 +129,7 @@ refused_on around after run lists q event r part parts is_refused unanswered nex
   undone = λ x e. (nothing, λ s. drew);
   drew = λ h. inl drew;
   memory = λ e. absurd (no_memory (sym is_refused ∙ e));
-  may = subst (λ (o : Option Refusal). IfSome o (MayMeet event.part)) (sym is_refused) may;
+  may = subst (λ (o : Option Refusal). IfSome o (MayMeet event.part q)) (sym is_refused) may;
   allowed = λ e. absurd (some r (sym is_refused ∙ e));
   did = λ e. absurd (some r (sym is_refused ∙ e));
   fits = fits;

@@ -464,18 +464,20 @@ has_memory RemovesInstance request = true
 has_memory Last request.Purge = true
 has_memory part request = false
 
--- The parts that read octets of storage files or instances: only they can meet a read fault, and only a fetch's damage.
-abbrev pub reads_octets : EventPart → Bool
-reads_octets Compares = true
-reads_octets ReadsPiece = true
-reads_octets CopiesMessage = true
-reads_octets ReadsFile = true
-reads_octets part = false
+-- The parts that read octets of storage files or instances: only they can meet a read fault, and only a fetch's damage. As it
+-- begins, a purge reads the header lines that tell which files are clean.
+abbrev pub reads_octets : EventPart → Request → Bool
+reads_octets Compares request = true
+reads_octets ReadsPiece request = true
+reads_octets CopiesMessage request = true
+reads_octets ReadsFile request = true
+reads_octets First request.Purge = true
+reads_octets part request = false
 
-abbrev pub MayMeet : EventPart → Refusal → Type 0
-MayMeet part refusal.ReadFault = reads_octets part ≡ true
-MayMeet part (refusal.Damaged file offset) = is_piece part ≡ true
-MayMeet part refused = Unit {0}
+abbrev pub MayMeet : EventPart → Request → Refusal → Type 0
+MayMeet part request refusal.ReadFault = reads_octets part request ≡ true
+MayMeet part request (refusal.Damaged file offset) = is_piece part ≡ true
+MayMeet part request refused = Unit {0}
 
 -- an event that was refused by a read fault
 abbrev pub is_fault : Option Refusal → Bool
@@ -504,7 +506,7 @@ pub record IsEvent (around after : Around) (run : Run) (lists : Lists) (request 
   pub undone : (refusal : Refusal) → event.refused ≡ Some refusal → DidNothing event × (is_step refusal ≡ true → event.drew ≡ no_numbers)
   pub drew : event.refused ≢ None → (event.drew ≡ no_numbers) ⊎ (event.drew ≡ draws run event request event.part)
   pub memory : event.refused ≡ Some refusal.NoMemory → has_memory event.part request ≡ false
-  pub may : IfSome event.refused (MayMeet event.part)
+  pub may : IfSome event.refused (MayMeet event.part request)
   pub allowed : event.refused ≡ None → first_refusal run lists (checks_of run request event) ≡ None
   pub did : event.refused ≡ None → DidPart around run lists request event event.part
   pub fits : All (MapFits (map_of run)) event.map_entries

@@ -145,7 +145,7 @@ has_looked refused = false
 
 -- What each event finds agrees with the run. What only the disk tells (octets, lengths, which files are clean) stands elsewhere.
 abbrev pub AgreesWithRun : Around → Run → Request → RunEvent → EventPart → Type 0
-AgreesWithRun around run (request.Deliver name time octets) event part = FindsPlace run around
+AgreesWithRun around run (request.Deliver name time octets) event part = has_looked event.refused ≡ true → FindsPlace run around
 AgreesWithRun around run request.Purge event part = has_looked event.refused ≡ true → PurgeFinds around run part
 AgreesWithRun around run request.Resync event part = has_looked event.refused ≡ true → ResyncFinds around run event part
 AgreesWithRun around run request event part = Unit {0}

@@ -24,7 +24,7 @@ use Rattle.mail_ops.proofs.CountingLemmas.{shown_many}
 use Rattle.mail_ops.proofs.EventLemmas.{one_reply, comes_along, did_part, ends_well}
 
 counts_are_plain : IsPlain request.Counts
-counts_are_plain = record { found = λ around run event. tt; finds = λ around event. tt; memory = refl; behind = λ after run event why. refl; half_is = refl; halves_are = refl }
+counts_are_plain = record { found = λ around run event. tt; finds = λ around event. tt; memory = refl; reads = refl; behind = λ after run event why. refl; half_is = refl; halves_are = refl }
 
 -- the clause of the step
 abbrev pub CountsClause : {D : Type 0} → StoreValue D → Option History → Faults → Did → Option Reply → Type 0

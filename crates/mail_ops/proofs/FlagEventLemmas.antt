@@ -41,7 +41,7 @@ use Rattle.mail_ops.specs.Task.{Others, seen_beside}
 use Rattle.mail_ops.proofs.FlagListLemmas.{is_flagged, shows_by}
 
 pub flag_is_plain : (name : List ℕ) (uid : Uid) (flags : ℕ) → IsPlain (request.Flag name uid flags)
-flag_is_plain name uid flags = record { found = λ around run event. tt; finds = λ around event. tt; memory = refl; behind = λ after run event why. refl; half_is = refl; halves_are = refl }
+flag_is_plain name uid flags = record { found = λ around run event. tt; finds = λ around event. tt; memory = refl; reads = refl; behind = λ after run event why. refl; half_is = refl; halves_are = refl }
 
 -- ---- what is known as the entry is appended
 

@@ -22,7 +22,7 @@ use Rattle.task_steps.proofs.SeenLemmas.{comes_to_still, no_guids}
 use Rattle.task_steps.proofs.OneEventLemmas.{IsPlain, next_first, refusal_last, some_given, nothing, first_reply, first_turn, still_faults}
 
 pub list_is_plain : (name : List ℕ) → IsPlain (request.List name)
-list_is_plain name = record { found = λ around run event. tt; finds = λ around event. tt; memory = refl; behind = λ after run event why. refl; half_is = refl; halves_are = refl }
+list_is_plain name = record { found = λ around run event. tt; finds = λ around event. tt; memory = refl; reads = refl; behind = λ after run event why. refl; half_is = refl; halves_are = refl }
 
 abbrev list_event : ℕ → ℕ → List ListRow → ℕ → RunEvent
 list_event lane place rows calls = record (event_of lane place First calls) { reply = Some (reply.Listed rows) }

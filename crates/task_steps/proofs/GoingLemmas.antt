@@ -20,7 +20,7 @@ use Rattle.model_lists.specs.Lists.{Lists}
 use Rattle.list_machine.specs.Run.{RunEvent, Run, before, and_then}
 use Rattle.journal.specs.Journal.{Requests, half_of, halves_of, JournalStep, IsStep, AreSteps, left_by, IsLegal, Broken, no_broken, as_if, AreBroken, Reached, HasReply, RoseBy, steps_of, IsFirstPart}
 use Rattle.mdbox_base.specs.declared.script.Half.{Half}
-use Rattle.journal.proofs.JournalLemmas.{steps_within}
+use Rattle.journal.proofs.JournalLemmas.{steps_within, get_more}
 use Rattle.journal.specs.GoesOn.{broken_by, AllMayCome}
 use Rattle.journal.proofs.LegalLemmas.{legal_faults}
 use Rattle.journal.proofs.ReachedLemmas.{reached_last, reached_quiet, reached_step}
@@ -352,13 +352,13 @@ timely_on : (start : Lists) (run : Run) (request : Request) (journal : List Jour
     → ((m : ℕ) (state : DiskState) → m ≤ told_calls now.history → WasAt new.history m state → WasAt now.history m state)
     → (NoneStopped (run.events ++ event ∷ []) → IsSettledFor (left_by start (journal_by run request journal event answer left)) new.history)
     → AreTimely start (and_then run event) (journal_by run request journal event answer left) new.history
-timely_on start run request journal now new event answer left within moments at timely same settled n found state there none is = by_place (last_or_before run event found n there)
+timely_on start run request journal now new event answer left within moments at timely same settled n found state there last_then none is = by_place (last_or_before run event found n there)
   where
     by_place : (slice_get run.events n ≡ Some found) ⊎ ((n ≡ length run.events) × (found ≡ event)) → IsSettled state (lists_before start (journal_by run request journal event answer left) (n + 1))
     by_place (inl before) =
         let lt = slice_get_within run.events n found before in
         subst (λ (ls : Lists). IsSettled state ls) (lists_before_more run request event answer left start journal (n + 1) (omega (arith, lt)))
-        (timely n found state before (subst (λ (es : List RunEvent). NoneStopped es) (take-append-le (n + 1) run.events (event ∷ []) (omega (arith, lt))) none)
+        (timely n found state before (λ k later lt there. last_then k later lt (get_more run.events (event ∷ []) k later there)) (subst (λ (es : List RunEvent). NoneStopped es) (take-append-le (n + 1) run.events (event ∷ []) (omega (arith, lt))) none)
         (same found.moment state (moment_at run.events n found (told_calls now.history) moments before) is))
     by_place (inr last) =
         let whole : take (n + 1) (run.events ++ event ∷ []) ≡ run.events ++ event ∷ [] =

@@ -17,7 +17,7 @@ use Rattle.list_machine.specs.Machine.{PartAnswers, is_step}
 use Rattle.journal.specs.Journal.{half_of, halves_of, IsReplyOf}
 use Rattle.journal.specs.Events.{Around, next_part, behind_event}
 use Rattle.std.proofs.lemmas.List.Elements.{All-nil}
-use Rattle.journal.specs.Events.{Finds, MayMeet, has_memory, last_refusal}
+use Rattle.journal.specs.Events.{Finds, MayMeet, has_memory, reads_octets, last_refusal}
 use Rattle.journal.specs.Found.{AgreesWithRun}
 use Rattle.journal.specs.Makes.{HasCome, Makes}
 use Rattle.journal.proofs.RunLemmas.{comes_on}
@@ -38,6 +38,7 @@ pub record IsPlain (q : Request) : Type 0 where
   pub found : (around : Around) (run : Run) (event : RunEvent) → AgreesWithRun around run q event First
   pub finds : (around : Around) (event : RunEvent) → Finds around q event
   pub memory : has_memory First q ≡ false
+  pub reads : reads_octets First q ≡ false
   pub behind : (after : Around) (run : Run) (event : RunEvent) (why : Refusal) → behind_event after run q event (Some why) ≡ None
   pub half_is : half_of q First ≡ half.Whole
   pub halves_are : halves_of q ≡ half.Whole ∷ []
@@ -68,16 +69,16 @@ pub one_refusal : (a b : Refusal) → Some a ≡ Some b → a ≡ b
 one_refusal a b e = cc e
 
 -- a refusal that is a step may be met by any part
-pub step_may : (part : EventPart) (why : Refusal) → is_step why ≡ true → MayMeet part why
-step_may part refusal.ReadFault s = absurd (let k : false ≡ true = s in cc k)
-step_may part (refusal.Damaged file offset) s = absurd (let k : false ≡ true = s in cc k)
-step_may part why s = tt
+pub step_may : (part : EventPart) (q : Request) (why : Refusal) → is_step why ≡ true → MayMeet part q why
+step_may part q refusal.ReadFault s = absurd (let k : false ≡ true = s in cc k)
+step_may part q (refusal.Damaged file offset) s = absurd (let k : false ≡ true = s in cc k)
+step_may part q why s = tt
 
 pub no_step : (why r : Refusal) → is_step why ≡ false → Some why ≡ Some r → is_step r ≡ true → ⊥
 no_step why r none e s = let k : false ≡ true = sym none ∙ (ap is_step (one_refusal why r e) ∙ s) in cc k
 
 -- an event that was refused for lack of memory or by a stopped store
-unfoldable pub unmade : (around after : Around) (run : Run) (lane place : ℕ) (q : Request) (old : Lists) (m m_then : MapMeaning) (drawn : Highest) (calls calls_then : ℕ) (why : Refusal) → m_then ≡ m → IsPlain q → HasCome run m drawn calls → calls ≤ calls_then → own_events place run ≡ [] → is_step why ≡ false → MayMeet First why
+unfoldable pub unmade : (around after : Around) (run : Run) (lane place : ℕ) (q : Request) (old : Lists) (m m_then : MapMeaning) (drawn : Highest) (calls calls_then : ℕ) (why : Refusal) → m_then ≡ m → IsPlain q → HasCome run m drawn calls → calls ≤ calls_then → own_events place run ≡ [] → is_step why ≡ false → MayMeet First q why
     → Makes around after run lane place q old old m_then drawn calls_then (Some (reply.Refused why))
 unmade around after run lane place q old m m_then drawn calls calls_then why map_is plain come le own none may = record {
   event = refused_event lane place why calls_then;
@@ -121,7 +122,7 @@ refused around after run lane place q old m drawn calls why plain come own step 
     undone = λ r e. (refl, λ s. refl);
     drew = λ h. inl refl;
     memory = λ e. plain.memory;
-    may = step_may First why step;
+    may = step_may First q why step;
     replied = refusal_last (own_events place run) (refused_event lane place why calls) own;
     allowed = λ e. absurd (some_refusal why e);
     did = λ e. absurd (some_refusal why e);
@@ -160,7 +161,7 @@ still_faults F f never = record { reads = omega arith; changes = omega arith; ro
 
 -- stopped or lack of memory: the request ends, and nothing was done
 pub does_nothing : (around after : Around) (run : Run) (lane place : ℕ) (said : List Reply) (q : Request) (lists : Lists) (seen : Seen) (why : Refusal) → IsPlain q → HasComeTo run seen → ShowsSeen seen lists → HasNotBegun run place said
-    → is_step why ≡ false → IsReplyOf q [] (reply.Refused why) → MayMeet First why → ((Some (reply.Refused why) ≡ Some (reply.Refused refusal.Stopped)) ↔ (seen.stopped ≡ true))
+    → is_step why ≡ false → IsReplyOf q [] (reply.Refused why) → MayMeet First q why → ((Some (reply.Refused why) ≡ Some (reply.Refused refusal.Stopped)) ↔ (seen.stopped ≡ true))
     → DidEvent around after run lane place said q lists seen seen did.Quiet (Some (reply.Refused why))
 unfolding unmade
 does_nothing around after run lane place said q lists seen why plain come shows stage none is may halts = record {
@@ -177,7 +178,7 @@ does_nothing around after run lane place said q lists seen why plain come shows 
     replied = first_reply q said None (reply.Refused why) stage.1 is;
     halts = halts;
     still = λ e. refl;
-    reads = λ e. absurd (let k : false ≡ true = subst (λ (r : Refusal). MayMeet First r) (one_refusal why refusal.ReadFault e) may in cc k);
+    reads = λ e. absurd (let k : false ≡ true = sym plain.reads ∙ subst (λ (r : Refusal). MayMeet First q r) (one_refusal why refusal.ReadFault e) may in cc k);
     faults = still_faults (IsFault did.Quiet) seen.faults (λ x. x);
   };
 }

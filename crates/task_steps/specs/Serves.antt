@@ -30,10 +30,13 @@ WasAt None calls state = ⊥
 WasAt (Some history) calls state = state_at history calls ≡ Some state
 
 -- The moment of an event is that at which the disk came to what its step left: then the disk was settled for the lists of the
--- steps up to it, unless the store had stopped.
+-- steps up to it, unless the store had stopped. Of events of one moment this is said of the last.
+abbrev pub IsLastThen : Run → ℕ → RunEvent → Type 0
+IsLastThen run n event = (k : ℕ) (later : RunEvent) → n < k → slice_get run.events k ≡ Some later → later.moment ≢ event.moment
+
 abbrev pub AreTimely : Lists → Run → List JournalStep → Option History → Type 0
-AreTimely start run journal history = (n : ℕ) (event : RunEvent) (state : DiskState) → slice_get run.events n ≡ Some event → NoneStopped (take (n + 1) run.events) → WasAt history event.moment state
-    → IsSettled state (lists_before start journal (n + 1))
+AreTimely start run journal history = (n : ℕ) (event : RunEvent) (state : DiskState) → slice_get run.events n ≡ Some event → IsLastThen run n event
+    → NoneStopped (take (n + 1) run.events) → WasAt history event.moment state → IsSettled state (lists_before start journal (n + 1))
 
 -- A run of events, from these lists and from a store as it was seen then: the run began with the
 -- map and the numbers drawn of that store, the journal and the replies are legal, the run has
