@@ -27,7 +27,6 @@ use Rattle.task_steps.proofs.OneEventLemmas.{not_true}
 use Rattle.storage_files.specs.Files.{FilesValue}
 use Rattle.store_core.specs.Running.{IsStore}
 use Rattle.store_core.specs.Value.{StoreValue, indexes_of, list_named}
-use Rattle.mail_save.specs.SaveSeen.{seen_saving}
 use Rattle.saved_message.specs.Region.{guid_of_place, written_region}
 use Rattle.saved_message.specs.Saved.{ids_in}
 use Rattle.store_core.specs.StoreInstances.{HasKnownInstances}
@@ -56,6 +55,7 @@ use Rattle.mdbox_top.proofs.ServedLemmas.{OpenedNow, way_opens}
 use Rattle.mdbox_top.proofs.ShownLemmas.{LogsShow, opens_again}
 use Rattle.mdbox_top.proofs.UnderWayLemmas.{before_opening}
 use Rattle.mdbox_top.proofs.WroteLemmas.{wrote_message}
+use Rattle.mdbox_top.specs.UnderWay.{seen_alone}
 
 -- ---- the end of a run
 
@@ -276,7 +276,7 @@ one_safe name time octets lists some moment image (inr e) s = inr (some, e, s)
 pub deliver_done : {D : Type 0} → (name : List ℕ) (time : ℕ) (octets : List ℕ) (prepared : Prepared) (given : Reply) (old mid new : Option History) (began now : Faults) (s t : StoreValue D) → DeliveringKnown name time octets prepared given old mid new began now s t → LogsShow → IsDoneAlone (request.Deliver name time octets) given old new began now
 deliver_done name time octets prepared given old mid new began now s t w show = record {
   tells = deliver_tells name time octets prepared given old mid new began now s t w;
-  serves = λ lists safe. w.saves.served lists (before_opening (seen_saving s mid began) old) (way_opens HasNotBegun (request.Deliver name time octets) lists old mid began s w.opened show safe (refl, refl));
+  serves = λ lists safe. w.saves.served lists (before_opening (seen_alone s mid began) old) (way_opens HasNotBegun (request.Deliver name time octets) lists old mid began s w.opened show safe (refl, refl));
   moments = moments_as (AreAlongSave name time octets) (λ lists moment image. Safe image lists ⊎ ((some : Lists) × AreSaved name time octets lists some × Safe image some)) old mid new s w.opened w.saves.moments (λ lists moment image safe. inl safe) (λ lists some moment image a safe. one_safe name time octets lists some moment image a safe);
   rests = deliver_rests name time octets prepared given old mid new began now s t w;
   faults = w.saves.faults;

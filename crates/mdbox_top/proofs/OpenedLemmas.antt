@@ -1,4 +1,4 @@
--- What a store that was opened knows of its files and instances is what the run that begins then tells of them.
+-- What a store that was opened knows of its storage files and instances is what its map tells of them.
 use Rattle.std.specs.Prelude.{◌≡◌, ◌==◌, ◌&&◌, ◌||◌, ◌≤◌, nat_le, ℕ, Bool, true, false, not, cond, List, [], ◌∷◌, Contains, All, filter, find, map, is_some, if◌then◌else◌, option_and_then, Option, Some, None}
 use Rattle.std.specs.List.{list_any}
 use Rattle.std.specs.Option.{option_map, option_map_or}
@@ -11,37 +11,23 @@ use Rattle.mdbox_base.specs.declared.entries.InstRow.{InstRow}
 use Rattle.mdbox_base.specs.declared.ids.InstId.{InstId}
 use Rattle.model_meaning.specs.MapMeaning.{MapMeaning, MapRecord, is_sealed, named_instances}
 use Rattle.model_octets.proofs.SearchLemmas.{among, both_same, found_one, text_is, text_yes}
-use Rattle.list_machine.specs.Run.{RunEvent, Run, is_one_of, map_of}
-use Rattle.journal.specs.Found.{is_known_file, is_same_instance, is_known_instance}
+use Rattle.list_machine.specs.Run.{is_one_of}
+use Rattle.journal.specs.Found.{is_same_instance}
 use Rattle.sis_store.proofs.IdLemmas.{same_id}
 use Rattle.sis_store.specs.Instances.{has_id, instance_found, instance_in}
 use Rattle.sis_store.specs.declared.instance.KnownInstance.{KnownInstance}
-use Rattle.storage_files.specs.Files.{AreFilesInOrder, FilesValue, end_in, file_found, file_in}
+use Rattle.storage_files.specs.Files.{AreFilesInOrder, FilesValue, end_in, file_found, file_in, is_doomed_in}
 use Rattle.storage_files.specs.declared.file.FileState.{FileState}
 use Rattle.storage_files.specs.declared.file.MailFile.{MailFile}
-use Rattle.store_core.specs.Dues.{due_at, number_beside}
 use Rattle.store_core.specs.Knows.{knows_file, knows_instance, is_told_of}
-use Rattle.store_core.specs.Value.{StoreValue, none_due}
+use Rattle.store_core.specs.Value.{StoreValue}
 use Rattle.store_files.specs.Barred.{is_barred}
 use Rattle.store_files.specs.Found.{AreFilesFound, IsMarked, end_found, IsFoundFiles}
 use Rattle.store_files.specs.Regions.{end_of, has_region, last_end, region_numbers}
+use Rattle.store_seen.specs.Seeing.{may_be_barred}
 use Rattle.store_instances.specs.FoundInstances.{IsFoundInstances}
 use Rattle.store_sweep.proofs.KnownFileLemmas.{found_in}
 use Rattle.mdbox_top.specs.Served.{barred_files}
-
--- ---- what is due
-
-none_beside : (rows : List MapRecord) (uid : ℕ) → number_beside uid rows (none_due rows) ≡ 0
-none_beside [] uid = refl
-none_beside (row ∷ rows) uid = by_test (row.uid == uid) refl (none_beside rows uid)
-  where
-    by_test : (b : Bool) → (row.uid == uid) ≡ b → number_beside uid rows (none_due rows) ≡ 0 → number_beside uid (row ∷ rows) (none_due (row ∷ rows)) ≡ 0
-    by_test true t rest = ap (λ (c : Bool). cond c 0 (number_beside uid rows (none_due rows))) t
-    by_test false t rest = ap (λ (c : Bool). cond c 0 (number_beside uid rows (none_due rows))) t ∙ rest
-
--- nothing is due of any record
-pub nothing_due : {D : Type 0} → (s : StoreValue D) → s.dues ≡ none_due s.map.records → (uid : ℕ) → due_at uid s ≡ 0
-nothing_due s free uid = ap (λ (ns : List ℕ). number_beside uid s.map.records ns) free ∙ none_beside s.map.records uid
 
 -- ---- storage files
 
@@ -72,18 +58,6 @@ found_is_told s old f file there = by_seal (is_sealed s.map file) refl
     by_seal false e =
         let some : is_some (last_end s.map file) ≡ true = ap is_some (sym ((f.found.ends file).unsealed e)) ∙ (ap is_some (sym end_is) ∙ there) in
         ap (λ (b : Bool). b || is_sealed s.map file) (unsealed (list_any (λ row. row.file == file) s.map.records) refl some)
-
--- of a run without events a file is there that the map tells of
-pub known_first : (run : Run) (m : MapMeaning) (file : ℕ) → run.events ≡ [] → map_of run ≡ m → is_told_of m file ≡ true → is_known_file run file ≡ true
-known_first run m file none is told =
-    let at : map_of (record run { events = [] }) ≡ m = subst (λ (es : List RunEvent). map_of (record run { events = es }) ≡ m) none is in
-    subst (λ (es : List RunEvent). is_known_file (record run { events = es }) file ≡ true) (sym none)
-    (either (list_any (λ row. row.file == file) (map_of (record run { events = [] })).records) (is_sealed (map_of (record run { events = [] })) file) (ap (λ (x : MapMeaning). is_told_of x file) at ∙ told))
-  where
-    either : (a b : Bool) → (a || b) ≡ true → ((a || (b || false)) && true) ≡ true
-    either true b e = refl
-    either false true e = refl
-    either false false e = e
 
 same_number : (x y : ℕ) → (x == y) ≡ true → x ≡ y
 same_number x y k = grind (arith, common_steps, k)
@@ -119,7 +93,7 @@ named_region (row ∷ rows) n = ap (λ (b : Bool). (row.file == n) || b) (named_
 
 -- a file that is barred by the map is barred as the store knows it
 pub bars_known : {D : Type 0} → (s : StoreValue D) (old : Option History) → AreFilesInOrder s.files → IsFoundFiles s.map old s.files → s.files.highest ≡ s.drawn.file → (file : ℕ) → is_one_of (barred_files s.map) file ≡ true
-    → (nat_le file s.drawn.file && option_map_or (λ f. f.barred) (file_in file s.files.files) true) ≡ true
+    → may_be_barred s file ≡ true
 bars_known s old order f highest file e =
     let kept = one_kept (λ (n : ℕ). not (is_sealed s.map n) && is_barred s.map n (end_of s.map n)) (region_numbers s.map) file e in
     let marks = both (is_sealed s.map file) (is_barred s.map file (end_of s.map file)) kept.1 in
@@ -132,7 +106,7 @@ bars_known s old order f highest file e =
     both false b k = (refl, k)
 
     by_state : is_barred s.map file (end_of s.map file) ≡ true → (o : Option FileState) → find (λ t. t.file.0 == file) f.states ≡ o → option_map (λ t. t.end) o ≡ Some (end_of s.map file)
-        → (nat_le file s.drawn.file && option_map_or (λ f. f.barred) (file_in file s.files.files) true) ≡ true
+        → may_be_barred s file ≡ true
     by_state bars None is ends = absurd (let k : None ≡ Some (end_of s.map file) = ends in cc k)
     by_state bars (Some t) is ends =
         let one = found_one (λ (t : FileState). t.file.0 == file) f.states t is in
@@ -143,6 +117,14 @@ bars_known s old order f highest file e =
         let there = found_one (λ (g : MailFile). g.file.0 == file) s.files.files (file_found t) known in
         let low : file ≤ s.drawn.file = subst (λ (n : ℕ). n ≤ s.drawn.file) number (subst (λ (n : ℕ). t.file.0 ≤ n) highest (All-contains (λ (g : MailFile). g.file.0 ≤ s.files.highest) s.files.files (file_found t) order.below there.0)) in
         ap (λ (b : Bool). b && option_map_or (λ (g : MailFile). g.barred) (file_in file s.files.files) true) (at_most file s.drawn.file low) ∙ (ap (λ (o : Option MailFile). option_map_or (λ (g : MailFile). g.barred) o true) known ∙ mark)
+
+-- no file is doomed
+pub none_doomed : {D : Type 0} → (s : StoreValue D) (old : Option History) → IsFoundFiles s.map old s.files → (file : ℕ) → is_doomed_in file s.files.files ≡ false
+none_doomed s old f file = ap (λ (v : FilesValue). is_doomed_in file v.files) f.is ∙ (ap (λ (o : Option MailFile). option_map_or (λ (g : MailFile). g.doomed) o false) (found_in file f.states) ∙ same (find (λ (t : FileState). t.file.0 == file) f.states))
+  where
+    same : (o : Option FileState) → option_map_or (λ (g : MailFile). g.doomed) (option_map file_found o) false ≡ false
+    same None = refl
+    same (Some t) = refl
 
 -- ---- instances
 
@@ -195,14 +177,3 @@ named_known s f row named =
 -- a store that was opened knows what records name
 pub knows_named : {D : Type 0} → (s : StoreValue D) → IsFoundInstances s.map s.instances → (row : InstRow) → knows_instance s row ≡ list_any (is_same_instance row) (named_instances s.map)
 knows_named s f row = both_same (knows_instance s row) (list_any (is_same_instance row) (named_instances s.map)) (known_named s f row) (named_known s f row)
-
--- of a run without events those are there that a record of the map names
-pub named_first : (run : Run) (m : MapMeaning) (row : InstRow) → run.events ≡ [] → map_of run ≡ m → is_known_instance run row ≡ list_any (is_same_instance row) (named_instances m)
-named_first run m row none is =
-    let at : map_of (record run { events = [] }) ≡ m = subst (λ (es : List RunEvent). map_of (record run { events = es }) ≡ m) none is in
-    subst (λ (es : List RunEvent). is_known_instance (record run { events = es }) row ≡ list_any (is_same_instance row) (named_instances m)) (sym none)
-    (first (list_any (is_same_instance row) (named_instances (map_of (record run { events = [] })))) ∙ ap (λ (x : MapMeaning). list_any (is_same_instance row) (named_instances x)) at)
-  where
-    first : (b : Bool) → ((b || false) && true) ≡ b
-    first true = refl
-    first false = refl

@@ -66,7 +66,7 @@ use Rattle.mail_save.specs.MailFiles.{HasAppended, TakesWithHeader, ReadsSameMai
 use Rattle.mail_save.specs.Record.{entry_stored}
 use Rattle.mail_save.specs.SaveEffects.{AttachesNext, AttachesNone, LetsGo, TakesFileFor, TookAs, TakesNone, PlacesParts, StoresPlaced, StoresNone, AddsStored, LowersRecord, SaveEffects}
 use Rattle.mail_save.specs.Ready.{IsReadyToSave, IsRegionReady, delivered_lists, save_lists, lists_delivered}
-use Rattle.mail_save.specs.SaveSeen.{IsAtSave, around_saving, seen_saving}
+use Rattle.mail_save.specs.SaveSeen.{IsAtSave, around_saving}
 use Rattle.mail_save.specs.Task.{FaultsAt, HasLeft, IsAttachRefusal, RepliesAt, Saves, stopped_reply}
 use Rattle.mail_save.specs.declared.add.Added.{Added}
 use Rattle.mail_save.specs.declared.first.SavedParts.{SavedParts}
@@ -78,7 +78,7 @@ use Rattle.mdbox_top.specs.ChangeEvents.{IsAlike, ShowsChanged, AreAlongSave, St
 use Rattle.mdbox_top.specs.DeliverRun.{attachment_octets, region_length, IsFileFor, IsSavedAs, IsSavedPlace, IsOutOfFiles, IsOutOfInstances, IsUncompared, IsDeliverAnswer, HasRecordMore, HasRecordLeft}
 use Rattle.mdbox_top.specs.SavedMail.{AddedMail, LeftMail, TookMail, WroteMail}
 use Rattle.mdbox_top.specs.Served.{FaultsByReply, ServesRequest}
-use Rattle.mdbox_top.specs.UnderWay.{IsUnderWay}
+use Rattle.mdbox_top.specs.UnderWay.{IsUnderWay, seen_alone}
 use Rattle.mdbox_top.proofs.ChangeLemmas.{more_done, one_done, still_among, moments_on}
 use Rattle.mdbox_top.proofs.CopyLemmas.{one_refusal, memory_runs, none_made}
 use Rattle.mdbox_top.proofs.FirstLemmas.{AreFirstKnown, firsts_let_go, firsts_named, firsts_on}
@@ -162,7 +162,7 @@ refused_lists stage.Ended name octets why lists = refl
 pub record SaveEvent {D : Type 0} (history : D → Option History) (faults : D → Faults) (name : List ℕ) (time : ℕ) (octets : List ℕ) (now next : SaveStage) (s t : StoreValue D) (how : Did) (answer : Progress) : Type 0 where
   pub around : Around
   pub after : Around
-  pub does : Steps (λ run place said. IsAtSave now run place said × FindsRoom around run) (IsAtSave next) around after (request.Deliver name time octets) (seen_saving s (history s.disk) (faults s.disk)) (seen_saving t (history t.disk) (faults t.disk)) how (ended_by answer)
+  pub does : Steps (λ run place said. IsAtSave now run place said × FindsRoom around run) (IsAtSave next) around after (request.Deliver name time octets) (seen_alone s (history s.disk) (faults s.disk)) (seen_alone t (history t.disk) (faults t.disk)) how (ended_by answer)
   pub finds : (run : Run) (said : List Reply) → All (λ e. e.request ≡ 0) run.events → IsAtSave now run 0 said → FindsRoom around run
   pub moments : (lists : Lists) → IsSettledFor lists (history s.disk) → Leaves lists (save_lists now name octets lists) (history s.disk) (history t.disk)
   pub settled : t.stopped ≡ false → (lists : Lists) → IsSettledFor lists (history s.disk) → IsSettledFor (lists_delivered now name octets answer lists) (history t.disk)
@@ -322,10 +322,10 @@ saving_by history faults name time octets prepared first s t now next how so eve
     running = not_true t.stopped (λ e. more_done (reply.Refused refusal.Stopped) (event.stopped.1 e))
 
     from : Seen
-    from = seen_saving s (history s.disk) (faults s.disk)
+    from = seen_alone s (history s.disk) (faults s.disk)
 
     to : Seen
-    to = seen_saving t (history t.disk) (faults t.disk)
+    to = seen_alone t (history t.disk) (faults t.disk)
 
 -- ---- the first event
 
@@ -610,10 +610,10 @@ saving_ended history faults name time octets prepared first s t now next how giv
     asked = request.Deliver name time octets
 
     from : Seen
-    from = seen_saving s (history s.disk) (faults s.disk)
+    from = seen_alone s (history s.disk) (faults s.disk)
 
     to : Seen
-    to = seen_saving t (history t.disk) (faults t.disk)
+    to = seen_alone t (history t.disk) (faults t.disk)
 
 -- what it replies where nothing refuses it
 abbrev FreeAnswer : Option BoxMeaning → List ℕ → ℕ → ℕ → ℕ → FilesValue → Reply → Type 0
@@ -976,7 +976,7 @@ pub record SaveSaid {D : Type 0} (history : D → Option History) (faults : D �
   pub moments : (lists : Lists) → IsSettledFor lists (history s.disk) → Leaves lists (save_lists now name octets lists) (history s.disk) (history t.disk)
   pub settled : t.stopped ≡ false → (lists : Lists) → IsSettledFor lists (history s.disk) → IsSettledFor (lists_delivered now name octets answer lists) (history t.disk)
   pub says : s.stopped ≡ false → Saves now next name time size answer how s t (history s.disk) (history t.disk) (faults s.disk) (faults t.disk)
-  pub does : Steps (λ run place said. IsAtSave now run place said × FindsRoom (around_saving octets now s) run) (IsAtSave next) (around_saving octets now s) nothing_found (request.Deliver name time octets) (seen_saving s (history s.disk) (faults s.disk)) (seen_saving t (history t.disk) (faults t.disk)) how (ended_by answer)
+  pub does : Steps (λ run place said. IsAtSave now run place said × FindsRoom (around_saving octets now s) run) (IsAtSave next) (around_saving octets now s) nothing_found (request.Deliver name time octets) (seen_alone s (history s.disk) (faults s.disk)) (seen_alone t (history t.disk) (faults t.disk)) how (ended_by answer)
 
 -- of a task that has this name and time
 pub save_said_of : {D : Type 0} → (history : D → Option History) (faults : D → Faults) (name other : List ℕ) (time last size : ℕ) (octets : List ℕ) (now next : SaveStage) (s t : StoreValue D) (how : Did) (answer : Progress) → other ≡ name → last ≡ time

@@ -1,6 +1,6 @@
 -- A request alone of one event: from the disk as it was before the opening to where its event left it.
-use Rattle.std.specs.Prelude.{◌≡◌, ◌+◌, ◌↔◌, ℕ, false, true, List, [], Option, Some}
-use Rattle.std.proofs.Common.{refl, sym, ◌∙◌, ap, subst, append-nil, arith}
+use Rattle.std.specs.Prelude.{◌≡◌, ◌↔◌, ℕ, false, true, List, [], Option, Some}
+use Rattle.std.proofs.Common.{refl, sym, ◌∙◌, ap, subst, append-nil}
 use Rattle.std.proofs.lemmas.List.Elements.{All-nil}
 use Rattle.disk_model.specs.Disk.{History, Faults, EachImage}
 use Rattle.disk_model.specs.FaultCounts.{NoFault, ChangeFaultCounted}
@@ -17,28 +17,28 @@ use Rattle.model_meaning.specs.MapMeaning.{MapMeaning, map_meaning}
 use Rattle.model_meaning.specs.SameMeaning.{MeansSame}
 use Rattle.model_store.specs.Safe.{Safe}
 use Rattle.model_store.specs.Settled.{IsSettledFor, Leaves}
-use Rattle.list_machine.specs.Run.{Run, map_of}
+use Rattle.list_machine.specs.Run.{Run}
 use Rattle.journal.specs.Events.{Around}
 use Rattle.journal.specs.Journal.{is_read_fault}
 use Rattle.task_steps.specs.Step.{Seen, ShowsSeen, HasComeTo, HasNotBegun, DidEvent, Steps, ended_by}
 use Rattle.storage_files.specs.Files.{AreFilesInOrder}
-use Rattle.store_core.specs.Dues.{due_at}
 use Rattle.store_core.specs.Keeping.{KeepsMail}
 use Rattle.store_core.specs.Running.{IsStore}
 use Rattle.store_files.specs.Found.{IsFoundFiles}
 use Rattle.store_instances.specs.FoundInstances.{IsFoundInstances}
 use Rattle.store_core.specs.Value.{none_due, StoreValue, indexes_of}
+use Rattle.store_seen.proofs.SeeingLemmas.{comes_at_first}
 use Rattle.store_open.specs.Opened.{IsOpenedAs, StoreCarries}
 use Rattle.store_sweep.specs.Swept.{IsSwept}
 use Rattle.mail_ops.proofs.KeptMailLemmas.{mail_unnamed}
 use Rattle.mail_ops.specs.Making.{NamesMail}
 use Rattle.mail_ops.specs.Requests.{Replies, AppendsNothing, lists_after, lists_by_reply}
-use Rattle.mail_ops.specs.Task.{TaskValue, IsAt, seen_of}
+use Rattle.mail_ops.specs.Task.{TaskValue, IsAt}
 use Rattle.mail_ops.specs.declared.task.TaskStage.TheVariants as stage
 use Rattle.mdbox_top.specs.ListRun.{StaysSettled}
 use Rattle.mdbox_top.specs.Served.{AreSafeFor, RunBegins, ServesRequest, barred_files}
-use Rattle.mdbox_top.specs.UnderWay.{IsUnderWay}
-use Rattle.mdbox_top.proofs.OpenedLemmas.{bars_known, found_is_told, known_first, knows_named, named_first, nothing_due}
+use Rattle.mdbox_top.specs.UnderWay.{IsUnderWay, seen_alone}
+use Rattle.mdbox_top.proofs.OpenedLemmas.{bars_known, found_is_told, knows_named, none_doomed}
 use Rattle.mdbox_top.proofs.ShownLemmas.{LogsShow, opened_shows}
 use Rattle.mdbox_top.proofs.UnderWayLemmas.{nothing_found, beginning, before_opening, run_begins, way_begins, way_shows, way_ends}
 
@@ -60,24 +60,18 @@ pub record OpenedNow {D : Type 0} (old mid : Option History) (s : StoreValue D) 
   pub swept : (generation : ℕ) × IsSwept generation s.map old mid
 
 -- the run has come to it
-pub comes : {D : Type 0} → (old mid : Option History) (began : Faults) (s : StoreValue D) → (o : OpenedNow old mid s) → HasComeTo (beginning s.map o.store.entries) (seen_of s mid began)
+pub comes : {D : Type 0} → (old mid : Option History) (began : Faults) (s : StoreValue D) → (o : OpenedNow old mid s) → HasComeTo (beginning s.map o.store.entries) (seen_alone s mid began)
 comes old mid began s o =
-    let run = beginning s.map o.store.entries in
-    let map_is : map_of run ≡ s.map = ap (map_meaning s.map.store) (append-nil o.store.entries) ∙ sym o.store.map_is in
-    record {
-      come = record { map_is = map_is; drawn_is = sym o.drawn; moments = All-nil _ };
-      keeps = λ runs. record {
-        due = λ uid. let e : due_at uid s ≡ 0 = nothing_due s o.free uid in let k : due_at uid s + 0 ≡ 0 = omega (arith, e) in sym k;
-        pins = λ file. refl;
-        doomed = λ file. refl;
-        instances = λ instance. named_first run s.map instance refl map_is ∙ sym (knows_named s o.instances instance);
-      };
-      used = λ file e. e;
-      barred = λ file e. bars_known s old o.order o.files (o.store.files.highest) file e;
-      gave = λ guid e. absurd (cc e);
-      gone = λ instance e. absurd (cc e);
-      files = λ file e. known_first run s.map file refl map_is (found_is_told s old o.files file e);
-    }
+    comes_at_first (beginning s.map o.store.entries) s mid began
+    (record {
+      empty = refl;
+      free = o.free;
+      undoomed = λ file. none_doomed s old o.files file;
+      told = λ file e. found_is_told s old o.files file e;
+      named = λ instance. knows_named s o.instances instance;
+      barred = λ file e. bars_known s old o.order o.files o.store.files.highest file e;
+    })
+    (record { map_is = ap (map_meaning s.map.store) (append-nil o.store.entries) ∙ sym o.store.map_is; drawn_is = sym o.drawn; moments = All-nil _ })
 
 -- the run begins with the map log of the files
 pub opening_begins : {D : Type 0} → (old mid : Option History) (s : StoreValue D) → (o : OpenedNow old mid s) → RunBegins (beginning s.map o.store.entries) old
@@ -85,9 +79,9 @@ opening_begins old mid s o = run_begins (beginning s.map o.store.entries) old o.
 
 -- Behind the opening any request is under way, from the lists for which the files were safe.
 pub way_opens : {D : Type 0} → (Stands : Run → ℕ → List Reply → Type 0) (request : Request) (lists : Lists) (old mid : Option History) (began : Faults) (s : StoreValue D) → (o : OpenedNow old mid s) → LogsShow → AreSafeFor lists old → Stands (beginning s.map o.store.entries) 0 []
-    → IsUnderWay Stands request lists (before_opening (seen_of s mid began) old) (seen_of s mid began) lists
+    → IsUnderWay Stands request lists (before_opening (seen_alone s mid began) old) (seen_alone s mid began) lists
 way_opens Stands request lists old mid began s o show safe stands =
-    way_begins Stands request lists s.map o.store.entries (seen_of s mid began) old (comes old mid began s o) (opened_shows lists old s o.opened show safe) o.running o.drawn (o.safe lists) (o.settled_again lists) (opening_begins old mid s o) stands
+    way_begins Stands request lists s.map o.store.entries (seen_alone s mid began) old (comes old mid began s o) (opened_shows lists old s o.opened show safe) o.running o.drawn (o.safe lists) (o.settled_again lists) (opening_begins old mid s o) stands
 
 -- ---- the request
 
@@ -102,7 +96,7 @@ DoesAlone request given old new how = (around after : Around) (run : Run) (said 
 pub record Doing {D : Type 0} (request : Request) (given : Reply) (old mid new : Option History) (began now : Faults) (s t : StoreValue D) (how : Did) : Type 0 where
   pub opened : OpenedNow old mid s
   pub later : IsStore new t
-  pub did : DoesAlone request given (seen_of s mid began) (seen_of t new now) how
+  pub did : DoesAlone request given (seen_alone s mid began) (seen_alone t new now) how
   pub replies : Replies request s t given
   pub unchanged : AppendsNothing request s → new ≡ mid
   pub moments : (lists : Lists) → IsSettledFor lists mid → Leaves lists (lists_after request lists) mid new
@@ -116,11 +110,11 @@ pub record Doing {D : Type 0} (request : Request) (given : Reply) (old mid new :
 pub request_served : {D : Type 0} → (request : Request) (lists : Lists) (given : Reply) (old mid new : Option History) (began now : Faults) (s t : StoreValue D) (how : Did) → Doing request given old mid new began now s t how → LogsShow
     → is_read_fault (Some given) ≡ false → AreSafeFor lists old → ServesRequest request lists given began now old new
 request_served request lists given old mid new began now s t how w show unfaulted safe =
-    let from : Seen = seen_of s mid began in
+    let from : Seen = seen_alone s mid began in
     let first : Seen = before_opening from old in
     let u : IsUnderWay HasNotBegun request lists first from lists = way_opens HasNotBegun request lists old mid began s w.opened show safe (refl, refl) in
     let d = w.did nothing_found nothing_found u.run u.said lists u.goes.serves.come (way_shows HasNotBegun request lists lists first from u) u.stands in
-    way_ends HasNotBegun request lists lists given first from (seen_of t new now) nothing_found nothing_found how t u w.later refl refl d (λ e. absurd (let k : true ≡ false = sym e ∙ unfaulted in cc k))
+    way_ends HasNotBegun request lists lists given first from (seen_alone t new now) nothing_found nothing_found how t u w.later refl refl d (λ e. absurd (let k : true ≡ false = sym e ∙ unfaulted in cc k))
 
 -- ---- the step of its task
 
@@ -130,7 +124,7 @@ new_task request = record { request = request; stage = stage.First; did = did.Qu
 
 -- What the step of a task says of a store.
 pub record Stepped {D : Type 0} (history : D → Option History) (faults : D → Faults) (s t : StoreValue D) (next task : TaskValue) (answer : Progress) : Type 0 where
-  pub does : (around after : Around) → Steps (IsAt task.stage) (IsAt next.stage) around after task.request (seen_of s (history s.disk) (faults s.disk)) (seen_of t (history t.disk) (faults t.disk)) next.did (ended_by answer)
+  pub does : (around after : Around) → Steps (IsAt task.stage) (IsAt next.stage) around after task.request (seen_alone s (history s.disk) (faults s.disk)) (seen_alone t (history t.disk) (faults t.disk)) next.did (ended_by answer)
   pub moments : (lists : Lists) → IsSettledFor lists (history s.disk) → Leaves lists (lists_after task.request lists) (history s.disk) (history t.disk)
   pub settled : t.stopped ≡ false → (given : Reply) → answer ≡ progress.Done given → (lists : Lists) → IsSettledFor lists (history s.disk) → IsSettledFor (lists_by_reply task.request given lists) (history t.disk)
   pub mail : t.stopped ≡ s.stopped → KeepsMail (history s.disk) (history t.disk)

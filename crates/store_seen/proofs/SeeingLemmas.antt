@@ -1,6 +1,6 @@
 -- What is seen of a store as a run begins, and what stays of it.
 use Rattle.std.proofs.Common.{◌≡◌, ◌+◌, ◌==◌, ◌&&◌, ◌||◌, ℕ, Bool, true, false, not, cond, List, [], ◌∷◌, Option, refl, sym, ◌∙◌, ap, subst, arith}
-use Rattle.std.specs.Prelude.{nat_le, nat_lt, sum_by, is_some}
+use Rattle.std.specs.Prelude.{nat_le, nat_lt, sum_by, is_none, is_some}
 use Rattle.std.specs.List.{list_any}
 use Rattle.std.specs.Option.{option_map_or}
 use Rattle.disk_model.specs.Disk.{History, Faults, told_calls}
@@ -11,7 +11,7 @@ use Rattle.journal.specs.Events.{begun_in, ended_in}
 use Rattle.journal.specs.Found.{is_known_file, is_known_instance, is_same_instance}
 use Rattle.journal.specs.Makes.{HasCome}
 use Rattle.sis_store.specs.Instances.{InstancesValue, instance_in}
-use Rattle.storage_files.specs.Files.{FilesValue, end_in, file_in}
+use Rattle.storage_files.specs.Files.{FilesValue, end_in, file_in, is_doomed_in}
 use Rattle.store_core.specs.Dues.{number_beside, due_at}
 use Rattle.store_core.specs.Knows.{is_told_of, knows_file, knows_instance, may_be_gone, may_have_given}
 use Rattle.store_core.specs.Value.{StoreValue, none_due}
@@ -52,13 +52,13 @@ named_first run m instance none is =
     alone true = refl
     alone false = refl
 
-pub comes_at_first : {D : Type 0} → (run : Run) (store : StoreValue D) (history : Option History) (faults : Faults) → IsAtOpening run store → HasCome run store.map store.drawn (told_calls history) → HasComeTo run (seen_of store history faults)
+pub comes_at_first : {D : Type 0} → (run : Run) (store : StoreValue D) (history : Option History) (faults : Faults) → IsAtOpening run store → HasCome run store.map store.drawn (told_calls history) → HasComeTo run (seen_of (λ file. 0) store history faults)
 comes_at_first run store history faults at come = record {
   come = come;
   keeps = λ runs. record {
     due = λ uid. subst (λ (es : List RunEvent). sum_by (begun_in uid) es ≡ due_at uid store + sum_by (ended_in uid) es) (sym at.empty) (sym (none uid));
     pins = λ file. subst (λ (es : List RunEvent). pins_of (record run { events = es }) file ≡ 0) (sym at.empty) refl;
-    doomed = λ file. subst (λ (es : List RunEvent). is_doomed (record run { events = es }) file ≡ false) (sym at.empty) refl;
+    doomed = λ file. subst (λ (es : List RunEvent). is_doomed (record run { events = es }) file ≡ false) (sym at.empty) refl ∙ sym (at.undoomed file);
     instances = λ instance. named_first run store.map instance at.empty come.map_is ∙ sym (at.named instance);
   };
   used = λ file. subst (λ (es : List RunEvent). was_used (record run { events = es }) file ≡ true → may_be_used store file ≡ true) (sym at.empty) (λ e. absurd (cc e));
@@ -85,13 +85,14 @@ given_as_before old new guid id drawn files =
 pub gone_as_before : {D : Type 0} → (old new : StoreValue D) (row : InstRow) → new.map.store ≡ old.map.store → new.drawn.instance ≡ old.drawn.instance → may_be_gone new row ≡ may_be_gone old row
 gone_as_before old new row id drawn = ap (λ (s : List ℕ). nat_le (instance_number s row.id.0) new.drawn.instance) id ∙ ap (λ (n : ℕ). nat_le (instance_number old.map.store row.id.0) n) drawn
 
-pub tells_as_before : {D : Type 0} → (old new : StoreValue D) (before after : Option History) (began now : Faults) → (new.stopped ≡ false → old.stopped ≡ false) → new.map.store ≡ old.map.store → new.drawn.file ≡ old.drawn.file → new.drawn.instance ≡ old.drawn.instance → new.files ≡ old.files → new.instances ≡ old.instances
-    → TellsSame (seen_of old before began) (seen_of new after now)
-tells_as_before old new before after began now ran id file instance files instances = record {
+pub tells_as_before : {D : Type 0} → (pins : ℕ → ℕ) (old new : StoreValue D) (before after : Option History) (began now : Faults) → (new.stopped ≡ false → old.stopped ≡ false) → new.map.store ≡ old.map.store → new.drawn.file ≡ old.drawn.file → new.drawn.instance ≡ old.drawn.instance → new.files ≡ old.files → new.instances ≡ old.instances
+    → TellsSame (seen_of pins old before began) (seen_of pins new after now)
+tells_as_before pins old new before after began now ran id file instance files instances = record {
   ran = ran;
   pins = λ number. refl;
-  doomed = λ number. refl;
-  used = λ number. ap (λ (n : ℕ). nat_le number n && not (is_some (end_in number new.files.files))) file ∙ ap (λ (f : FilesValue). nat_le number old.drawn.file && not (is_some (end_in number f.files))) files;
+  doomed = λ number. ap (λ (f : FilesValue). is_doomed_in number f.files) files;
+  used = λ number. ap (λ (n : ℕ). nat_le number n && option_map_or (λ f. f.doomed || is_none f.end) (file_in number new.files.files) true) file
+      ∙ ap (λ (f : FilesValue). nat_le number old.drawn.file && option_map_or (λ x. x.doomed || is_none x.end) (file_in number f.files) true) files;
   barred = λ number. ap (λ (n : ℕ). nat_le number n && option_map_or (λ f. f.barred) (file_in number new.files.files) true) file
       ∙ ap (λ (f : FilesValue). nat_le number old.drawn.file && option_map_or (λ x. x.barred) (file_in number f.files) true) files;
   gave = λ guid. given_as_before old new guid id file files;

@@ -1,5 +1,5 @@
 -- An open store as an event of a task sees it.
-use Rattle.std.specs.Prelude.{◌≡◌, ◌&&◌, nat_le, ℕ, Bool, true, false, not, List, [], Option}
+use Rattle.std.specs.Prelude.{◌≡◌, ◌&&◌, ◌||◌, nat_le, ℕ, Bool, true, false, is_none, List, [], Option}
 use Rattle.std.specs.List.{list_any}
 use Rattle.std.specs.Option.{option_map_or}
 use Rattle.disk_model.specs.Disk.{History, Faults}
@@ -7,7 +7,7 @@ use Rattle.mdbox_base.specs.declared.entries.InstRow.{InstRow}
 use Rattle.model_meaning.specs.MapMeaning.{named_instances}
 use Rattle.list_machine.specs.Run.{Run, is_one_of}
 use Rattle.journal.specs.Found.{is_same_instance}
-use Rattle.storage_files.specs.Files.{file_in}
+use Rattle.storage_files.specs.Files.{file_in, is_doomed_in}
 use Rattle.store_core.specs.Dues.{due_at}
 use Rattle.store_core.specs.Knows.{is_told_of, knows_file, knows_instance, may_be_gone, may_have_given}
 use Rattle.store_core.specs.Value.{StoreValue, indexes_of, none_due}
@@ -17,13 +17,13 @@ use Rattle.task_steps.specs.Step.{Seen}
 abbrev pub may_be_barred : {D : Type 0} → StoreValue D → ℕ → Bool
 may_be_barred store file = nat_le file store.drawn.file && option_map_or (λ f. f.barred) (file_in file store.files.files) true
 
--- It may have doomed this file, or removed it: it was drawn, and isn't there.
+-- It may have doomed this file, or removed it: it was drawn, and is doomed or isn't there.
 abbrev pub may_be_used : {D : Type 0} → StoreValue D → ℕ → Bool
-may_be_used store file = nat_le file store.drawn.file && not (knows_file store file)
+may_be_used store file = nat_le file store.drawn.file && option_map_or (λ f. f.doomed || is_none f.end) (file_in file store.files.files) true
 
--- A store as an event sees it, with what its disk tells and the faults that it has counted. It pins and dooms no file.
-abbrev pub seen_of : {D : Type 0} → StoreValue D → Option History → Faults → Seen
-seen_of store history faults = record {
+-- A store as an event sees it, with so many pins of each file, what its disk tells and the faults that it has counted.
+abbrev pub seen_of : {D : Type 0} → (ℕ → ℕ) → StoreValue D → Option History → Faults → Seen
+seen_of pins store history faults = record {
   map = store.map;
   meanings = indexes_of store.boxes;
   drawn = store.drawn;
@@ -31,8 +31,8 @@ seen_of store history faults = record {
   faults = faults;
   stopped = store.stopped;
   due = λ uid. due_at uid store;
-  pins = λ file. 0;
-  doomed = λ file. false;
+  pins = pins;
+  doomed = λ file. is_doomed_in file store.files.files;
   used = λ file. may_be_used store file;
   barred = λ file. may_be_barred store file;
   gave = λ guid. may_have_given store guid;
@@ -41,11 +41,12 @@ seen_of store history faults = record {
   instances = λ instance. knows_instance store instance;
 }
 
--- A run has no events yet, and a store is as it was opened: nothing is due, the map tells of the files that are there, the known
--- instances are those that records name, and the files that the run calls barred are.
+-- A run has no events yet, and a store is as it was opened: nothing is due, no file is doomed, the map tells of those that are
+-- there, the known instances are those that records name, and the files that the run calls barred are.
 pub record IsAtOpening {D : Type 0} (run : Run) (store : StoreValue D) : Type 0 where
   pub empty : run.events ≡ []
   pub free : store.dues ≡ none_due store.map.records
+  pub undoomed : (file : ℕ) → is_doomed_in file store.files.files ≡ false
   pub told : (file : ℕ) → knows_file store file ≡ true → is_told_of store.map file ≡ true
   pub named : (instance : InstRow) → knows_instance store instance ≡ list_any (is_same_instance instance) (named_instances store.map)
   pub barred : (file : ℕ) → is_one_of run.barred file ≡ true → may_be_barred store file ≡ true

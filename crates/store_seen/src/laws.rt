@@ -12,7 +12,7 @@ ghost use Rattle.store_seen.specs.Seeing.{seen_of, IsAtOpening};
 /// A run without events has come to a store as it was opened; and a store whose storage files and instances are as they were, and
 /// that has drawn no number of either, tells the same of them.
 pub fn stores_are_seen<D>()
-    ensures first { (run : Run) (store : StoreValue D) (history : Option History) (faults : Faults) → IsAtOpening run store → HasCome run store.map store.drawn (told_calls history) → HasComeTo run (seen_of store history faults) }
-    ensures same { (old new : StoreValue D) (before after : Option History) (began now : Faults) → (new.stopped ≡ false → old.stopped ≡ false) → new.map.store ≡ old.map.store → new.drawn.file ≡ old.drawn.file → new.drawn.instance ≡ old.drawn.instance → new.files ≡ old.files → new.instances ≡ old.instances
-        → TellsSame (seen_of old before began) (seen_of new after now) }
+    ensures first { (run : Run) (store : StoreValue D) (history : Option History) (faults : Faults) → IsAtOpening run store → HasCome run store.map store.drawn (told_calls history) → HasComeTo run (seen_of (λ file. 0) store history faults) }
+    ensures same { (pins : ℕ → ℕ) (old new : StoreValue D) (before after : Option History) (began now : Faults) → (new.stopped ≡ false → old.stopped ≡ false) → new.map.store ≡ old.map.store → new.drawn.file ≡ old.drawn.file → new.drawn.instance ≡ old.drawn.instance → new.files ≡ old.files → new.instances ≡ old.instances
+        → TellsSame (seen_of pins old before began) (seen_of pins new after now) }
 {}

@@ -1,5 +1,4 @@
 use Rattle.std.proofs.Common.{sym, subst}
-use Rattle.mail_ops.specs.Task.{no_others}
 use Rattle.mdbox_top.specs.Alone.{IsDoneAlone}
 use Rattle.mdbox_top.proofs.AloneLemmas.{done_alone}
 use Rattle.mdbox_top.proofs.ServedLemmas.{doing}
@@ -26,7 +25,7 @@ returns-in-Done-clause-done g c =
     })
     c.facts-in-Ok.ensures.store
     (record {
-      does = λ around after. step.does around after no_others;
+      does = λ around after. step.does around after (λ file. 0);
       moments = step.moments;
       settled = step.settled;
       mail = step.mail;
