@@ -257,7 +257,7 @@ deliver_tells name time octets prepared given old mid new began now s t w = reco
   refused = λ why e. opens_unchanged old mid new s w.opened (w.back (w.saves.refused why (subst (λ (h : Highest). undelivered_cause (list_named s name) h ≡ Some why) (sym w.opened.drawn) e)));
   unsaved = λ why e running. opens_alike name time prepared new s t w.later (deliver_runs name time octets prepared given old mid new began now s t w (refused_runs given why e running)) w.opened.drawn (w.saves.unsaved why e running) (w.saves.left why e running);
   done = λ uid guid e. opens_saved name time octets prepared guid old mid new s t w.opened w.known w.later (deliver_runs name time octets prepared given old mid new began now s t w (saved_runs given uid guid e)) (w.saves.shows uid guid e) (w.saves.stored uid guid e).0 (w.saves.stored uid guid e).1;
-  mail = (w.opened.swept.0, mid, w.opened.swept.1, mail_left name time octets prepared given mid new began now s t w.saves);
+  mail = (w.opened.swept.0, mid, w.opened.swept.1, w.opened.stays, mail_left name time octets prepared given mid new began now s t w.saves);
   settled = λ running lists at. w.saves.settled (deliver_runs name time octets prepared given old mid new began now s t w running) lists (w.opened.settled_again lists at);
 }
 

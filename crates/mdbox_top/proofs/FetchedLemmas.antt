@@ -36,6 +36,7 @@ use Rattle.mdbox_top.proofs.ServedLemmas.{OpenedNow, way_opens}
 use Rattle.mdbox_top.proofs.ShownLemmas.{LogsShow, opens_again}
 use Rattle.mdbox_top.proofs.UnderWayLemmas.{before_opening}
 use Rattle.mdbox_top.specs.UnderWay.{seen_alone}
+use Rattle.mdbox_top.proofs.MailLemmas.{mail_kept_on}
 
 -- files that carry over what the store reads are safe for the same lists
 carried_safe : (lists : Lists) (old new : Option History) → StoreCarries old new → AreSafeFor lists old → ReadsSafe lists new
@@ -102,7 +103,7 @@ pub fetch_done : {D : Type 0} → (name : List ℕ) (uid : Uid) (given : Reply) 
 fetch_done name uid given old mid new began now s t w show = record {
   tells = fetch_tells name uid given old mid new began now s t w show;
   serves = λ lists safe. w.served lists (before_opening (seen_alone s mid began) old) (fetch_opens name uid lists old mid began s w.opened show safe) (carried_safe lists old mid w.opened.carried safe);
-  moments = λ lists at. each_image-then (λ _ image. Safe image lists) old mid new (w.opened.safe lists at) (idle_safe lists mid new w.idle (w.opened.settled_again lists at));
+  moments = (mail_kept_on old mid new w.opened.stays w.idle, λ lists at. each_image-then (λ _ image. Safe image lists) old mid new (w.opened.safe lists at) (idle_safe lists mid new w.idle (w.opened.settled_again lists at)));
   rests = λ none. (stays_settled old mid new s w.opened w.idle, stays_carried old mid new s w.opened w.idle);
   faults = w.faults;
 }

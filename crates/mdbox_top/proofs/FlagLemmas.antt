@@ -31,6 +31,7 @@ use Rattle.mdbox_top.specs.FlagRun.{IsFlagAnswer, HasFlagged, IsFlagReply, FlagM
 use Rattle.mdbox_top.proofs.ServedLemmas.{Doing, comes}
 use Rattle.mdbox_top.proofs.UnderWayLemmas.{nothing_found, beginning}
 use Rattle.mdbox_top.proofs.ShownLemmas.{opens_again}
+use Rattle.mdbox_top.proofs.MailLemmas.{opened_mail}
 
 -- ---- what is replied
 
@@ -112,7 +113,7 @@ flag_tells name uid flags given old mid new began now s t how w = record {
       );
   done = λ e. has_flagged name uid flags given old mid new began now s t how w (unstopped name uid flags given old mid new began now s t how w (done_runs given e)) e;
   settled = λ running lists at. w.settled (unstopped name uid flags given old mid new began now s t how w running) lists (w.opened.settled_again lists at);
-  mail = λ running. record { generation = w.opened.swept.0; opened = mid; swept = w.opened.swept.1; mail = w.mail (unstopped name uid flags given old mid new began now s t how w running) };
+  mail = opened_mail old mid new s given w.opened (λ running. w.mail (unstopped name uid flags given old mid new began now s t how w running));
 }
 
 pub flag_leaves : {D : Type 0} → (name : List ℕ) (uid : Uid) (flags : ℕ) (given : Reply) (old mid new : Option History) (began now : Faults) (s t : StoreValue D) (how : Did) → Doing (request.Flag name uid flags) given old mid new began now s t how → FlagMoments name uid flags old new

@@ -371,8 +371,7 @@ make_tells name given old mid new began now s t w =
           (subst (λ (m : MapMeaning). IsOpenedAs new m (indexes_of s.boxes ++ box_meaning [] ∷ [])) more.map_is
           (subst (λ (ms : List BoxMeaning). IsOpenedAs new t.map ms) more.indexes (opens_again new t w.later (make_runs name given old mid new began now s t w (done_runs given e)))));
       settled = λ running lists at. subst (λ (n : ℕ). IsSettledFor (lists_by_making n name given lists) new) next (w.makes.serves.settled (make_runs name given old mid new began now s t w running) lists (w.opened.settled_again lists at));
-      files = λ running.
-          record { generation = w.opened.swept.0; opened = mid; swept = w.opened.swept.1; mail = w.makes.serves.mail (make_runs name given old mid new began now s t w running); undone = λ undone. reads_alike w.opened.swept.0 (next_of s) s.map old mid new w.opened.swept.1 w.fresh (w.makes.files running undone) };
+      files = record { generation = w.opened.swept.0; opened = mid; swept = w.opened.swept.1; stays = w.opened.stays; mail = λ running. w.makes.serves.mail (make_runs name given old mid new began now s t w running); undone = λ running undone. reads_alike w.opened.swept.0 (next_of s) s.map old mid new w.opened.swept.1 w.fresh (w.makes.files running undone) };
     }
 
 abbrev SafeForMade : List ℕ → Option History → Lists → ℕ → Files → Type 0

@@ -28,7 +28,7 @@ use Rattle.store_files.specs.Found.{IsFoundFiles}
 use Rattle.store_instances.specs.FoundInstances.{IsFoundInstances}
 use Rattle.store_core.specs.Value.{none_due, StoreValue, indexes_of}
 use Rattle.store_seen.proofs.SeeingLemmas.{comes_at_first}
-use Rattle.store_open.specs.Opened.{IsOpenedAs, StoreCarries}
+use Rattle.store_open.specs.Opened.{IsOpenedAs, StoreCarries, KeepsOpenedMail}
 use Rattle.store_sweep.specs.Swept.{IsSwept}
 use Rattle.mail_ops.proofs.KeptMailLemmas.{mail_unnamed}
 use Rattle.mail_ops.specs.Making.{NamesMail}
@@ -58,6 +58,7 @@ pub record OpenedNow {D : Type 0} (old mid : Option History) (s : StoreValue D) 
   pub settled_again : StaysSettled old mid
   pub carried : StoreCarries old mid
   pub swept : (generation : ℕ) × IsSwept generation s.map old mid
+  pub stays : KeepsOpenedMail old mid
 
 -- the run has come to it
 pub comes : {D : Type 0} → (old mid : Option History) (began : Faults) (s : StoreValue D) → (o : OpenedNow old mid s) → HasComeTo (beginning s.map o.store.entries) (seen_alone s mid began)

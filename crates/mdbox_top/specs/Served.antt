@@ -25,7 +25,7 @@ use Rattle.journal.specs.Makes.{IsServed}
 use Rattle.store_files.specs.Barred.{is_barred}
 use Rattle.store_files.specs.Regions.{end_of, region_numbers}
 use Rattle.store_open.specs.Making.{IdleUnless}
-use Rattle.store_open.specs.Opened.{Opening, IsOpeningError}
+use Rattle.store_open.specs.Opened.{Opening, IsOpeningError, KeepsOpenedMail}
 use Rattle.store_open.specs.declared.error.OpenError.{OpenError}
 use Rattle.store_open.specs.declared.error.OpenError.TheVariants as error
 use Rattle.piece_writer.specs.Pieces.{WritesPrefix}
@@ -91,7 +91,8 @@ ShowsReply text given held later outcome.NoMemory = WritesPrefix held [] text la
 ShowsReply text given held later ended = (ended ≡ reply_outcome given) × Appended held text later
 
 -- The store was not opened, for a cause in the files, a fault, or out of memory: nothing was printed. Nothing has changed but
--- after a fault, and then only if the files open. With any other cause no call of the disk failed.
+-- after a fault, and then only if the files open; and at each moment storage files and instances stayed. With any other cause no
+-- call of the disk failed.
 pub record IsNotOpened (held later : Option (List ℕ)) (old new : Option History) (began now : Faults) (ended : Outcome) : Type 0 where
   pub why : OpenError
   pub ended_is : ended ≡ opening_outcome why
@@ -99,6 +100,7 @@ pub record IsNotOpened (held later : Option (List ℕ)) (old new : Option Histor
   pub cause : IsOpeningError old why
   pub idle : (why ≡ error.DiskFault → ⊥) → IsIdle old new
   pub untouched : IdleUnless Opening old new
+  pub stays : KeepsOpenedMail old new
   pub unfailed : (why ≡ error.DiskFault → ⊥) → NoFault began now
 
 -- The store was opened and replied this: what this command's reply tells beside, that the request was served, from any lists for
