@@ -74,7 +74,7 @@ use Rattle.mail_save.specs.declared.place.SavedAt.{SavedAt}
 use Rattle.mail_save.specs.declared.task.SaveStage.{SaveStage}
 use Rattle.mail_save.specs.declared.task.SaveStage.TheVariants as stage
 use Rattle.mdbox_top.specs.Changed.{saved_lists, lists_told, MomentsAmong}
-use Rattle.mdbox_top.specs.ChangeEvents.{IsAlike, ShowsChanged, AreAlongSave, StoresAlone, IsWayToSave, SavesAlone}
+use Rattle.mdbox_top.specs.ChangeEvents.{IsAlike, ShowsChanged, AreAlongSave, IsWayTo, StoresAlone, SavesAlone}
 use Rattle.mdbox_top.specs.DeliverRun.{attachment_octets, region_length, IsFileFor, IsSavedAs, IsSavedPlace, IsOutOfFiles, IsOutOfInstances, IsUncompared, IsDeliverAnswer, HasRecordMore, HasRecordLeft}
 use Rattle.mdbox_top.specs.SavedMail.{AddedMail, LeftMail, TookMail, WroteMail}
 use Rattle.mdbox_top.specs.Served.{FaultsByReply, ServesRequest}
@@ -267,7 +267,7 @@ pub record IsSavingAlone {D : Type 0} (history : D → Option History) (faults :
   pub unfailed : NoFault (faults first.disk) (faults s.disk)
   pub moments : MomentsAmong (AreAlongSave name time octets) (history first.disk) (history s.disk)
   pub settled : (lists : Lists) → IsSettledFor lists (history first.disk) → IsSettledFor lists (history s.disk)
-  pub way : (lists : Lists) (seen : Seen) → IsWayToSave HasNotBegun (request.Deliver name time octets) lists seen first (history first.disk) (faults first.disk) lists → IsWayToSave (IsAtSave now) (request.Deliver name time octets) lists seen s (history s.disk) (faults s.disk) lists
+  pub way : (lists : Lists) (seen : Seen) → IsWayTo HasNotBegun (request.Deliver name time octets) lists seen first (history first.disk) (faults first.disk) lists → IsWayTo (IsAtSave now) (request.Deliver name time octets) lists seen s (history s.disk) (faults s.disk) lists
   pub knows : SaveKnows history name time octets prepared first s now
 
 pub saving_begins : {D : Type 0} → (history : D → Option History) (faults : D → Faults) (name : List ℕ) (time : ℕ) (octets : List ℕ) (prepared : Prepared) (first : StoreValue D) → IsPrepared octets prepared → first.stopped ≡ false
@@ -586,7 +586,7 @@ saving_on history faults name time octets prepared first s t now next how so eve
 
 -- what every event says that ends it
 pub record EndsSaving {D : Type 0} (name : List ℕ) (time : ℕ) (octets : List ℕ) (first t : StoreValue D) (old new : Option History) (began now : Faults) (given : Reply) : Type 0 where
-  pub served : (lists : Lists) (seen : Seen) → IsWayToSave HasNotBegun (request.Deliver name time octets) lists seen first old began lists → ServesRequest (request.Deliver name time octets) lists given seen.faults now seen.history new
+  pub served : (lists : Lists) (seen : Seen) → IsWayTo HasNotBegun (request.Deliver name time octets) lists seen first old began lists → ServesRequest (request.Deliver name time octets) lists given seen.faults now seen.history new
   pub moments : MomentsAmong (AreAlongSave name time octets) old new
   pub settled : t.stopped ≡ false → (lists : Lists) → IsSettledFor lists old → IsSettledFor (lists_told (request.Deliver name time octets) given lists) new
   pub halts : (given ≡ reply.Refused refusal.Stopped) ↔ (t.stopped ≡ true)

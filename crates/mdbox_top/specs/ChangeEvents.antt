@@ -107,10 +107,6 @@ pub record StoresAlone {D : Type 0} (name : List ℕ) (time : ℕ) (prepared : P
   pub attachments : IfTold new (λ now. HasInstances (files_of now) rows (attachment_octets prepared.parts))
   pub once : IfTold new (AreFirstNamed rows later.map)
 
--- A delivery alone is under way in this store, from these lists to those.
-abbrev pub IsWayToSave : {D : Type 0} → (Run → ℕ → List Reply → Type 0) → Request → Lists → Seen → StoreValue D → Option History → Faults → Lists → Type 0
-IsWayToSave Stands request lists began store history faults left = IsUnderWay Stands request lists began (seen_alone store history faults) left
-
 -- What the events of a delivery did, of a message with this detached form.
 pub record SavesAlone {D : Type 0} (name : List ℕ) (time : ℕ) (octets : List ℕ) (prepared : Prepared) (store later : StoreValue D) (old new : Option History) (began now : Faults) (given : Reply) : Type 0 where
   pub given_is : IsDeliverAnswer (undelivered_cause (list_named store name) store.drawn) (list_named store name) store.map.store (region_length name time prepared) store.drawn.instance (length prepared.parts) store.files given
@@ -121,7 +117,7 @@ pub record SavesAlone {D : Type 0} (name : List ℕ) (time : ℕ) (octets : List
   pub leaves : (why : Refusal) → given ≡ reply.Refused why → (why ≡ refusal.Stopped → ⊥) → (rows : List InstRow) × LeftMail name time prepared rows old new
   pub shows : (uid : Uid) (guid : Guid) → given ≡ reply.Saved uid guid → ShowsChanged (saved_lists name time octets guid) store later
   pub stored : (uid : Uid) (guid : Guid) → given ≡ reply.Saved uid guid → (map_uid : MapUid) × StoresAlone name time prepared map_uid guid store later old new
-  pub served : (lists : Lists) (seen : Seen) → IsWayToSave HasNotBegun (request.Deliver name time octets) lists seen store old began lists → ServesRequest (request.Deliver name time octets) lists given seen.faults now seen.history new
+  pub served : (lists : Lists) (seen : Seen) → IsWayTo HasNotBegun (request.Deliver name time octets) lists seen store old began lists → ServesRequest (request.Deliver name time octets) lists given seen.faults now seen.history new
   pub moments : MomentsAmong (AreAlongSave name time octets) old new
   pub settled : later.stopped ≡ false → (lists : Lists) → IsSettledFor lists old → IsSettledFor (lists_told (request.Deliver name time octets) given lists) new
   pub halts : (given ≡ reply.Refused refusal.Stopped) ↔ (later.stopped ≡ true)
