@@ -68,11 +68,8 @@ at_most x y k = grind (arith, common_steps, k)
 -- one of those that pass is one of all, and passes
 one_kept : (p : ℕ → Bool) (numbers : List ℕ) (n : ℕ) → is_one_of (filter p numbers) n ≡ true → (is_one_of numbers n ≡ true) × (p n ≡ true)
 one_kept p [] n e = absurd (cc e)
-one_kept p (m ∷ rest) n e = by_tests (p m) (m == n) refl refl
+one_kept p (m ∷ rest) n e = by_tests (λ k. one_kept p rest n k) (p m) (m == n) refl refl
   where
-    rest_kept : is_one_of (filter p rest) n ≡ true → (is_one_of rest n ≡ true) × (p n ≡ true)
-    rest_kept k = one_kept p rest n k
-
     or_true : (b : Bool) → (b || true) ≡ true
     or_true true = refl
     or_true false = refl
@@ -80,11 +77,11 @@ one_kept p (m ∷ rest) n e = by_tests (p m) (m == n) refl refl
     later : (is_one_of rest n ≡ true) × (p n ≡ true) → (is_one_of (m ∷ rest) n ≡ true) × (p n ≡ true)
     later h = (ap (λ (b : Bool). (m == n) || b) h.0 ∙ or_true (m == n), h.1)
 
-    by_tests : (a b : Bool) → p m ≡ a → (m == n) ≡ b → (is_one_of (m ∷ rest) n ≡ true) × (p n ≡ true)
-    by_tests false b f t = later (rest_kept (sym (ap (λ (c : Bool). is_one_of (cond c (m ∷ filter p rest) (filter p rest)) n) f) ∙ e))
-    by_tests true true f t = (ap (λ (b : Bool). b || is_one_of rest n) t, sym (ap p (same_number m n t)) ∙ f)
-    by_tests true false f t =
-        later (rest_kept (sym (ap (λ (c : Bool). c || is_one_of (filter p rest) n) t) ∙ (sym (ap (λ (c : Bool). is_one_of (cond c (m ∷ filter p rest) (filter p rest)) n) f) ∙ e)))
+    by_tests : (is_one_of (filter p rest) n ≡ true → (is_one_of rest n ≡ true) × (p n ≡ true)) → (a b : Bool) → p m ≡ a → (m == n) ≡ b → (is_one_of (m ∷ rest) n ≡ true) × (p n ≡ true)
+    by_tests kept false b f t = later (kept (sym (ap (λ (c : Bool). is_one_of (cond c (m ∷ filter p rest) (filter p rest)) n) f) ∙ e))
+    by_tests kept true true f t = (ap (λ (b : Bool). b || is_one_of rest n) t, sym (ap p (same_number m n t)) ∙ f)
+    by_tests kept true false f t =
+        later (kept (sym (ap (λ (c : Bool). c || is_one_of (filter p rest) n) t) ∙ (sym (ap (λ (c : Bool). is_one_of (cond c (m ∷ filter p rest) (filter p rest)) n) f) ∙ e)))
 
 -- a file of a record has a region
 named_region : (rows : List MapRecord) (n : ℕ) → is_one_of (map (λ row. row.file) rows) n ≡ list_any (λ row. row.file == n) rows
@@ -155,11 +152,11 @@ known_named s f row known = by_found (instance_in row.id s.instances.known) refl
 -- one that passes, of those that all have this
 passing : {X : Type 0} → (P : X → Type 0) (p : X → Bool) (xs : List X) → All P xs → list_any p xs ≡ true → (x : X) × P x × (p x ≡ true)
 passing P p [] all e = absurd (cc e)
-passing P p (x ∷ xs) all e = by_test (p x) refl
+passing {X = X} P p (x ∷ xs) all e = by_test (λ k. passing P p xs (All-tail P x xs all) k) (p x) refl
   where
-    by_test : (b : Bool) → p x ≡ b → (x : _) × P x × (p x ≡ true)
-    by_test true t = (x, All-head P x xs all, t)
-    by_test false t = passing P p xs (All-tail P x xs all) (sym (ap (λ (b : Bool). b || list_any p xs) t) ∙ e)
+    by_test : (list_any p xs ≡ true → (y : X) × P y × (p y ≡ true)) → (b : Bool) → p x ≡ b → (y : X) × P y × (p y ≡ true)
+    by_test rest true t = (x, All-head P x xs all, t)
+    by_test rest false t = rest (sym (ap (λ (b : Bool). b || list_any p xs) t) ∙ e)
 
 -- what a record names is known
 named_known : {D : Type 0} → (s : StoreValue D) → IsFoundInstances s.map s.instances → (row : InstRow) → list_any (is_same_instance row) (named_instances s.map) ≡ true → knows_instance s row ≡ true

@@ -270,7 +270,7 @@ way_goes_on Stood Stands request lists left began now new around after how u =
 
 pub run_begins : (run : Run) (old : Option History) (entries : List MapEntry) (logs : List (List BoxEntry)) → run.barred ≡ barred_files (map_meaning run.store run.start) → IfTold old (λ now. Opens (files_of now) run.store entries logs) → MeansSame (map_meaning run.store entries) (map_meaning run.store run.start) → RunBegins run old
 run_begins run None entries logs barred opens means = (barred, tt)
-run_begins run (Some h) entries logs barred opens means = (barred, entries, logs, opens, means)
+run_begins run (Some h) entries logs barred opens means = (barred, (entries, logs, opens, means))
 
 run_ends : (run : Run) (m : MapMeaning) (new : Option History) (entries : List MapEntry) (logs : List (List BoxEntry)) → IfTold new (λ now. Opens (files_of now) run.store entries logs) → m ≡ map_meaning run.store entries → RunHasCome run m new
 run_ends run m None entries logs opens is = tt
