@@ -10,18 +10,15 @@ use Rattle.mdbox_base.specs.declared.progress.Progress.{Progress}
 use Rattle.mdbox_base.specs.declared.progress.Progress.TheVariants as progress
 use Rattle.mdbox_base.specs.declared.replies.Reply.TheVariants as reply
 use Rattle.mdbox_base.specs.declared.requests.Request.TheVariants as request
-use Rattle.list_machine.specs.Run.{First, Compares, PlacesInstance, TakesFile, PlacesMessage, StoresRecord, GivesBack}
-use Rattle.journal.specs.Events.{Around}
-use Rattle.save_instances.specs.Attaching.{next_candidate}
+use Rattle.list_machine.specs.Run.{First, PlacesInstance, TakesFile, PlacesMessage, StoresRecord, GivesBack}
 use Rattle.sis_store.specs.Instances.{AreInstances}
 use Rattle.storage_files.specs.Files.{AreFilesInOrder}
 use Rattle.store_core.specs.Running.{IsStore}
 use Rattle.store_core.specs.StoreInstances.{AreInstancesKept}
 use Rattle.store_core.specs.Value.{StoreValue}
-use Rattle.task_steps.specs.Step.{Steps, ended_by}
 use Rattle.mail_save.specs.Ready.{IsReadyToSave}
 use Rattle.mail_save.specs.SaveEffects.{SaveEffects}
-use Rattle.mail_save.specs.SaveSeen.{HasItsParts, seen_saving, around_saving, IsAtSave, room_among}
+use Rattle.mail_save.specs.SaveSeen.{HasItsParts, seen_saving, around_saving, IsAtSave, room_at}
 use Rattle.mail_save.specs.SaveStages.{IsTakingFile}
 use Rattle.mail_save.specs.Task.{SaveValue, HasLeft, Saves, stopped_reply}
 use Rattle.mail_save.specs.declared.task.SaveStage.{SaveStage}
@@ -29,9 +26,9 @@ use Rattle.mail_save.specs.declared.task.SaveStage.TheVariants as stage
 use Rattle.mail_save.proofs.SaveAttachLemmas.{attaching_on, attaching_refused, attaching_whole, is_left}
 use Rattle.mail_save.proofs.SaveClauseLemmas.{EventOf, DeliveryClause, before_letting, lets_go_does}
 use Rattle.mail_save.proofs.SaveLastLemmas.{unsaved_stopped}
-use Rattle.mail_save.proofs.SaveRefusedLemmas.{comparing_at, ends_comparing, ends_placing_instance, placing_instance_at, ends_first, ends_taking, ends_placing, ends_storing, ends_giving, first_at, taking_at, placing_at, storing_at, lowering_at, stopped_save}
+use Rattle.mail_save.proofs.SaveRefusedLemmas.{ends_placing_instance, placing_instance_at, ends_first, ends_taking, ends_placing, ends_storing, ends_giving, first_at, taking_at, placing_at, storing_at, lowering_at, stopped_save}
 use Rattle.mail_save.proofs.SaveStepLemmas.{first_attaching, first_taking, first_refused, taking_more, taking_refused, placing_more, placing_refused, storing_more, storing_refused, adding_saved, adding_refused, adding_more, giving_refused}
-use Rattle.mail_save.proofs.SaveStoreLemmas.{sees_around}
+use Rattle.mail_save.proofs.SaveStoreLemmas.{candidate_none, sees_around}
 
 -- ---- of a store that wasn't stopped
 
@@ -71,37 +68,29 @@ save_stopped : {D : Type 0} → (now next : SaveStage) (name : List ℕ) (time :
     → DeliveryClause octets now next name time stopped_reply did.Quiet store store history history faults faults
 save_stopped (stage.First prepared) next name time octets store history faults is order left ids parts_are stopped = λ behind.
     let around = around_saving octets (stage.First prepared) store in
-    stopped_save around behind name time octets First (IsAtSave (stage.First prepared)) (IsAtSave next) (seen_saving store history faults) (sees_around octets (stage.First prepared) store history faults is order ids) (ends_first name time octets) (first_at around (request.Deliver name time octets)) (λ file. refl) stopped
-save_stopped (stage.Attaching parts attaching) next name time octets store history faults is order left ids parts_are stopped = λ behind. by_candidate behind (next_candidate attaching store.instances) refl
-  where
-    by_candidate : (behind : Around) (o : Option InstRow) → next_candidate attaching store.instances ≡ o
-        → Steps (IsTakingFile attaching.found) (IsAtSave next) (around_saving octets (stage.Attaching parts attaching) store) behind (request.Deliver name time octets) (seen_saving store history faults) (seen_saving store history faults) did.Quiet (ended_by stopped_reply)
-    by_candidate behind (Some candidate) found =
-        let around = around_saving octets (stage.Attaching parts attaching) store in
-        stopped_save around behind name time octets Compares (IsTakingFile attaching.found) (IsAtSave next) (seen_saving store history faults) (sees_around octets (stage.Attaching parts attaching) store history faults is order ids) (ends_comparing name time octets)
-        (comparing_at around name time octets attaching.found candidate (is_left parts attaching octets left.1 parts_are) found) (λ file. refl) stopped
-    by_candidate behind None found =
-        let around = around_saving octets (stage.Attaching parts attaching) store in
-        stopped_save around behind name time octets PlacesInstance (IsTakingFile attaching.found) (IsAtSave next) (seen_saving store history faults) (sees_around octets (stage.Attaching parts attaching) store history faults is order ids) (ends_placing_instance name time octets)
-        (placing_instance_at around name time octets attaching.found (is_left parts attaching octets left.1 parts_are) found) (λ file. refl) stopped
+    stopped_save around behind name time octets First (IsAtSave (stage.First prepared)) (IsAtSave next) (seen_saving store history faults) (sees_around octets (stage.First prepared) store history faults is order ids) (ends_first name time octets) (first_at around (request.Deliver name time octets)) stopped
+save_stopped (stage.Attaching parts attaching) next name time octets store history faults is order left ids parts_are stopped = λ behind.
+    let around = around_saving octets (stage.Attaching parts attaching) store in
+    stopped_save around behind name time octets PlacesInstance (IsTakingFile attaching.found) (IsAtSave next) (seen_saving store history faults) (sees_around octets (stage.Attaching parts attaching) store history faults is order ids) (ends_placing_instance name time octets)
+    (placing_instance_at around name time octets attaching.found (is_left parts attaching octets left.1 parts_are) (candidate_none parts attaching store stopped)) stopped
 save_stopped (stage.Taking parts) next name time octets store history faults is order left ids parts_are stopped = λ behind.
     let around = around_saving octets (stage.Taking parts) store in
     let sees = sees_around octets (stage.Taking parts) store history faults is order ids in
-    stopped_save around behind name time octets (TakesFile (is_none (room_among (length parts.laid.region) store.files.files))) (IsAtSave (stage.Taking parts)) (IsAtSave next) (seen_saving store history faults) sees (ends_taking name time octets (is_none (room_among (length parts.laid.region) store.files.files)))
-    (taking_at around name time octets parts.rows parts_are) (λ file. refl) stopped
+    stopped_save around behind name time octets (TakesFile (is_none (room_at (stage.Taking parts) store))) (IsAtSave (stage.Taking parts)) (IsAtSave next) (seen_saving store history faults) sees (ends_taking name time octets (is_none (room_at (stage.Taking parts) store)))
+    (taking_at around name time octets parts.rows parts_are) stopped
 save_stopped (stage.Placing parts file) next name time octets store history faults is order left ids parts_are stopped = λ behind.
     let around = around_saving octets (stage.Placing parts file) store in
-    stopped_save around behind name time octets PlacesMessage (IsAtSave (stage.Placing parts file)) (IsAtSave next) (seen_saving store history faults) (sees_around octets (stage.Placing parts file) store history faults is order ids) (ends_placing name time octets) (placing_at around name time octets parts.rows file.0) (λ n. refl) stopped
+    stopped_save around behind name time octets PlacesMessage (IsAtSave (stage.Placing parts file)) (IsAtSave next) (seen_saving store history faults) (sees_around octets (stage.Placing parts file) store history faults is order ids) (ends_placing name time octets) (placing_at around name time octets parts.rows file.0) stopped
 save_stopped (stage.Storing at rows room) next name time octets store history faults is order left ids parts_are stopped = λ behind.
     let around = around_saving octets (stage.Storing at rows room) store in
     stopped_save around behind name time octets StoresRecord (IsAtSave (stage.Storing at rows room)) (IsAtSave next) (seen_saving store history faults) (sees_around octets (stage.Storing at rows room) store history faults is order ids) (ends_storing name time octets)
-    (storing_at around name time octets rows at.file.0 at.guid.0) (λ n. refl) stopped
+    (storing_at around name time octets rows at.file.0 at.guid.0) stopped
 save_stopped (stage.Adding added room) next name time octets store history faults is order left ids parts_are stopped = λ behind.
-    unsaved_stopped (around_saving octets (stage.Adding added room) store) behind name time octets added.guid.0 added.map_uid.0 (IsAtSave next) (seen_saving store history faults) (sees_around octets (stage.Adding added room) store history faults is order ids) (λ n. refl) stopped
+    unsaved_stopped (around_saving octets (stage.Adding added room) store) behind name time octets added.guid.0 added.map_uid.0 (IsAtSave next) (seen_saving store history faults) (sees_around octets (stage.Adding added room) store history faults is order ids) stopped
 save_stopped (stage.GivingBack uid why room) next name time octets store history faults is order left ids parts_are stopped = λ behind.
     let around = around_saving octets (stage.GivingBack uid why room) store in
     stopped_save around behind name time octets GivesBack (IsAtSave (stage.GivingBack uid why room)) (IsAtSave next) (seen_saving store history faults) (sees_around octets (stage.GivingBack uid why room) store history faults is order ids) (ends_giving name time octets)
-    (lowering_at around name time octets uid.0 why) (λ n. refl) stopped
+    (lowering_at around name time octets uid.0 why) stopped
 save_stopped stage.Ended next name time octets store history faults is order left ids parts_are stopped = absurd left
 
 -- ---- of a task that is seen as this

@@ -1,5 +1,5 @@
 -- What each event of a delivery did, by the clause of a step.
-use Rattle.std.proofs.Common.{◌≡◌, ◌≤◌, ◌<◌, ◌+◌, ◌^◌, ℕ, Bool, true, false, List, [], ◌∷◌, ◌⊎◌, length, Option, Some, None, refl, sym, ◌∙◌, ap, subst, arith, inl, inr}
+use Rattle.std.proofs.Common.{◌≡◌, ◌≤◌, ◌<◌, ◌+◌, ◌^◌, ◌||◌, ℕ, Bool, true, false, List, [], ◌∷◌, ◌++◌, ◌⊎◌, length, Option, Some, None, refl, sym, ◌∙◌, ap, subst, arith, inl, inr}
 use Rattle.std.specs.Prelude.{◌↔◌, nat_le, is_some, is_none, All, if◌then◌else◌}
 use Rattle.std.specs.List.{list_any}
 use Rattle.std.specs.Option.{option_or}
@@ -31,26 +31,27 @@ use Rattle.model_lists.specs.Lists.{Lists}
 use Rattle.model_meaning.specs.BoxMeaning.{BoxMeaning}
 use Rattle.model_meaning.specs.MapMeaning.{MapMeaning, no_numbers, guid_file}
 use Rattle.model_store.specs.Settled.{IsSettledFor, Leaves}
-use Rattle.list_machine.specs.Run.{First, TakesFile, PlacesMessage, StoresRecord, GivesBack, RunEvent, Run, drawn_of}
+use Rattle.list_machine.specs.Run.{First, TakesFile, PlacesMessage, StoresRecord, GivesBack, RunEvent, Run, drawn_of, is_one_of}
 use Rattle.list_machine.specs.Machine.{NextMapUid, first_refusal, refused_where, part_checks, is_step, is_used_up}
 use Rattle.journal.specs.Events.{Around, draws}
+use Rattle.journal.specs.Found.{is_same_instance}
 use Rattle.journal.proofs.RunLemmas.{drawn_none}
 use Rattle.model_store.specs.Listing.{ShowLists}
 use Rattle.save_instances.specs.Attaching.{AttachingValue, nothing_found}
 use Rattle.sis_store.specs.Instances.{InstancesValue}
-use Rattle.storage_files.specs.Files.{IsTakeFor, MayBeTakenFor, end_in}
+use Rattle.storage_files.specs.Files.{FilesValue, IsTakeFor, MayBeTakenFor, changed_in, end_in, ending_at, file_begun, with_taken}
 use Rattle.storage_files.specs.declared.file.Take.{Take}
 use Rattle.storage_files.specs.declared.file.Take.TheVariants.{Known, New, Full}
 use Rattle.store_core.specs.Dues.{due_at}
-use Rattle.store_core.specs.Knows.{may_have_given}
+use Rattle.store_core.specs.Knows.{knows_instance, may_have_given}
 use Rattle.store_core.specs.Value.{StoreValue, indexes_of, list_named, references_to}
 use Rattle.store_core.proofs.BoxCrashLemmas.{leaves_none}
 use Rattle.store_core.proofs.ShownLemmas.{refs_shown}
-use Rattle.task_steps.specs.Step.{HasComeTo, HasNotBegun, Steps}
+use Rattle.task_steps.specs.Step.{HasComeTo, HasNotBegun}
 use Rattle.mail_save.specs.Added.{HasRoomUnder, entry_added}
 use Rattle.mail_save.specs.Events.{box_refusal, save_refusal, uid_refusal}
-use Rattle.mail_save.specs.SaveEffects.{AddsStored, LaysOut, IsLeftAlone, PlacesParts, StoresPlaced, TakesFileFor, TookAs, TakesNone, GivesFileBack, StoresNone, LowersRecord}
-use Rattle.mail_save.specs.SaveSeen.{seen_saving, around_saving, IsAtSave, room_among}
+use Rattle.mail_save.specs.SaveEffects.{AddsStored, LaysOut, IsLeftAlone, PlacesParts, StoresPlaced, TakesFileFor, TookAs, TakesNone, GivesFileBack, StoresNone, LowersRecord, roomy_files, taken_files}
+use Rattle.mail_save.specs.SaveSeen.{seen_saving, around_saving, IsAtSave, StepsWithRoom, room_at}
 use Rattle.mail_save.specs.SaveStages.{IsTakingFile, IsPlacingMessage, IsStoringMessage, IsAddingMessage, IsLoweringCount}
 use Rattle.mail_save.specs.Task.{FaultsAt, RepliesAt, stopped_reply, failing_did, refused_did, giving_did}
 use Rattle.mail_save.specs.declared.add.Added.{Added}
@@ -60,13 +61,13 @@ use Rattle.mail_save.specs.declared.record.LowerRoom.{LowerRoom}
 use Rattle.mail_save.specs.declared.task.SaveStage.{SaveStage}
 use Rattle.mail_save.specs.declared.task.SaveStage.TheVariants as stage
 use Rattle.mail_save.proofs.SaveClauseLemmas.{EventOf, DeliveryClause, with_did}
-use Rattle.mail_save.proofs.SaveDidLemmas.{step_calm, step_runs, HasRun, StaysSo}
-use Rattle.mail_save.proofs.SaveFrontLemmas.{SeesAround, KeepsMap, begins_save, takes_known, takes_new, places_message, stores_message}
+use Rattle.mail_save.proofs.SaveDidLemmas.{or_none, step_calm, step_runs, HasRun, StaysSo}
+use Rattle.mail_save.proofs.SaveFrontLemmas.{SeesAround, KeepsMap, begins_save, made_itself, takes_known, takes_new, places_message, stores_message}
 use Rattle.mail_save.proofs.SaveLastLemmas.{FindsBox, saved_message, broken_save, refused_message, forgotten_message, lowers_count}
 use Rattle.mail_save.proofs.SaveListLemmas.{box_checked, made_of}
 use Rattle.mail_save.proofs.SaveRefusedLemmas.{ends_first, ends_taking, ends_placing, ends_storing, ends_giving, first_at, taking_at, placing_at, storing_at, lowering_at, fallen_save, forgotten_save, checked_save, full_files, full_uids}
 use Rattle.mail_save.proofs.SaveRoomLemmas.{known_room, no_room, lt_true, true_lt}
-use Rattle.mail_save.proofs.SaveStoreLemmas.{sees_around, same_ends, gave_on, tells_store, has_run, due_stays, stays_so, drawn_file, drawn_map, less_due, place_long, place_octets, place_file, place_new, place_given, file_below, is_before}
+use Rattle.mail_save.proofs.SaveStoreLemmas.{room_runs, bars_begun, bars_ended, bars_made, bars_released, bars_same, bars_taken, sees_around, same_ends, gave_on, tells_store, has_run, due_stays, stays_so, drawn_file, drawn_map, less_due, place_long, place_octets, place_file, place_new, place_given, file_below, is_before}
 use Rattle.mail_save.proofs.SeenInstanceLemmas.{gone_on, knows_in, knows_same}
 
 -- ---- answers
@@ -146,7 +147,7 @@ first_checked run name time octets store history faults lists event come h =
 
 first_goes : {D : Type 0} → (prepared : Prepared) (parts : SavedParts) (next : SaveStage) (name : List ℕ) (time size : ℕ) (octets : List ℕ) (how : Did) (old new : StoreValue D) (before after : Option History) (began faulted : Faults) → EventOf (stage.First prepared) next name time size octets progress.More how old new before after began faulted
     → new ≡ old → LaysOut name time prepared parts old
-    → (behind : Around) → Steps HasNotBegun (IsTakingFile []) (around_saving octets (stage.First prepared) old) behind (request.Deliver name time octets) (seen_saving old before began) (seen_saving new after faulted) did.Quiet None
+    → (behind : Around) → StepsWithRoom HasNotBegun (IsTakingFile []) (around_saving octets (stage.First prepared) old) behind (request.Deliver name time octets) (seen_saving old before began) (seen_saving new after faulted) did.Quiet None
 first_goes prepared parts next name time size octets how old new before after began faulted e same begins = λ behind.
     let runs = not_stopped new.stopped (progress.More ≡ stopped_reply) e.stopped more_differs in
     begins_save (around_saving octets (stage.First prepared) old) behind name time octets (seen_saving old before began) (seen_saving new after faulted) (sees_around octets (stage.First prepared) old before began e.is e.order e.ids)
@@ -156,7 +157,7 @@ first_goes prepared parts next name time size octets how old new before after be
       due = λ uid. ap (λ (v : StoreValue _). due_at uid v) same;
     })
     (ap (λ (v : StoreValue _). v.drawn) same)
-    (tells_store old new before after began faulted (ap (λ (v : StoreValue _). v.map.store) same) (let d = ap (λ (v : StoreValue _). v.drawn.file) same in omega (arith, d)) (same_ends old new (λ n. ap (λ (v : StoreValue _). end_in n v.files.files) same))
+    (tells_store old new before after began faulted e.ran (ap (λ (v : StoreValue _). v.map.store) same) (let d = ap (λ (v : StoreValue _). v.drawn.file) same in omega (arith, d)) (same_ends old new (bars_same old new (let d = ap (λ (v : StoreValue _). v.drawn.file) same in omega (arith, d)) (ap (λ (v : StoreValue _). v.files.files) same)) (λ n. ap (λ (v : StoreValue _). end_in n v.files.files) same))
     (knows_same old new (ap (λ (v : StoreValue _). v.instances) same) (ap (λ (v : StoreValue _). v.drawn.instance) same)))
     (λ run lists event come shows. first_checked run name time octets old before began lists event come shows.1 ∙ begins.allowed)
 
@@ -164,7 +165,7 @@ pub first_taking : {D : Type 0} → (prepared : Prepared) (parts : SavedParts) (
     → new ≡ old → LaysOut name time prepared parts old → DeliveryClause octets (stage.First prepared) (stage.Taking parts) name time progress.More how old new before after began faulted
 first_taking prepared parts name time size octets how old new before after began faulted e same begins =
     with_did octets (stage.First prepared) (stage.Taking parts) name time progress.More how did.Quiet old new before after began faulted e.did_is
-    (λ behind. subst (λ (rows : List InstRow). Steps HasNotBegun (IsTakingFile rows) (around_saving octets (stage.First prepared) old) behind (request.Deliver name time octets) (seen_saving old before began) (seen_saving new after faulted) did.Quiet None) (sym begins.rows)
+    (λ behind. subst (λ (rows : List InstRow). StepsWithRoom HasNotBegun (IsTakingFile rows) (around_saving octets (stage.First prepared) old) behind (request.Deliver name time octets) (seen_saving old before began) (seen_saving new after faulted) did.Quiet None) (sym begins.rows)
     (first_goes prepared parts (stage.Taking parts) name time size octets how old new before after began faulted e same begins behind))
 
 pub first_attaching : {D : Type 0} → (prepared : Prepared) (parts : SavedParts) (attaching : AttachingValue) (name : List ℕ) (time size : ℕ) (octets : List ℕ) (how : Did) (old new : StoreValue D) (before after : Option History) (began faulted : Faults)
@@ -172,13 +173,13 @@ pub first_attaching : {D : Type 0} → (prepared : Prepared) (parts : SavedParts
     → new ≡ old → attaching ≡ nothing_found prepared.parts → LaysOut name time prepared parts old → DeliveryClause octets (stage.First prepared) (stage.Attaching parts attaching) name time progress.More how old new before after began faulted
 first_attaching prepared parts attaching name time size octets how old new before after began faulted e same none begins =
     with_did octets (stage.First prepared) (stage.Attaching parts attaching) name time progress.More how did.Quiet old new before after began faulted e.did_is
-    (λ behind. subst (λ (rows : List InstRow). Steps HasNotBegun (IsTakingFile rows) (around_saving octets (stage.First prepared) old) behind (request.Deliver name time octets) (seen_saving old before began) (seen_saving new after faulted) did.Quiet None) (sym (ap (λ (a : AttachingValue). a.found) none))
+    (λ behind. subst (λ (rows : List InstRow). StepsWithRoom HasNotBegun (IsTakingFile rows) (around_saving octets (stage.First prepared) old) behind (request.Deliver name time octets) (seen_saving old before began) (seen_saving new after faulted) did.Quiet None) (sym (ap (λ (a : AttachingValue). a.found) none))
     (first_goes prepared parts (stage.Attaching parts attaching) name time size octets how old new before after began faulted e same begins behind))
 
 -- a store that was left as it was
-stays_same : {D : Type 0} → (old new : StoreValue D) (before after : Option History) (began faulted : Faults) → new ≡ old → Grows before after → began.reads ≤ faulted.reads → began.changes ≤ faulted.changes → StaysSo no_numbers (seen_saving old before began) (seen_saving new after faulted)
-stays_same old new before after began faulted same grows reads changes =
-    stays_so no_numbers old new before after began faulted (ap (λ (v : StoreValue _). v.map) same) (ap (λ (v : StoreValue _). v.drawn) same ∙ sym (drawn_none old.drawn)) (ap (λ (v : StoreValue _). v.dues) same) (ap (λ (v : StoreValue _). indexes_of v.boxes) same)
+stays_same : {D : Type 0} → (old new : StoreValue D) (before after : Option History) (began faulted : Faults) → old.stopped ≡ false → new ≡ old → Grows before after → began.reads ≤ faulted.reads → began.changes ≤ faulted.changes → StaysSo no_numbers (seen_saving old before began) (seen_saving new after faulted)
+stays_same old new before after began faulted ran same grows reads changes =
+    stays_so no_numbers old new before after began faulted ran (ap (λ (v : StoreValue _). v.map) same) (ap (λ (v : StoreValue _). v.drawn) same ∙ sym (drawn_none old.drawn)) (ap (λ (v : StoreValue _). v.dues) same) (ap (λ (v : StoreValue _). indexes_of v.boxes) same)
     (let d = ap (λ (v : StoreValue _). v.drawn.file) same in omega (arith, d)) (same_ends old new (λ n. ap (λ (v : StoreValue _). end_in n v.files.files) same)) (knows_same old new (ap (λ (v : StoreValue _). v.instances) same) (ap (λ (v : StoreValue _). v.drawn.instance) same)) grows reads changes
 
 box_steps : (o : Option BoxMeaning) (why : Refusal) → box_refusal o ≡ Some why → is_step why ≡ true
@@ -215,7 +216,7 @@ first_refused prepared why name time size octets how old new before after began 
     stays other unread =
         let s = e in
         let calm = untold_faults why began faulted other unread s.faults in
-        stays_same old new before after began faulted same s.grows (same_reads began faulted calm) (same_changes began faulted calm)
+        stays_same old new before after began faulted e.ran same s.grows (same_reads began faulted calm) (same_changes began faulted calm)
 
     sees : SeesAround octets (around_saving octets (stage.First prepared) old) (seen_saving old before began)
     sees = sees_around octets (stage.First prepared) old before began e.is e.order e.ids
@@ -238,7 +239,7 @@ first_refused prepared why name time size octets how old new before after began 
 pub taking_more : {D : Type 0} → (parts laid : SavedParts) (file : FileNo) (name : List ℕ) (time size : ℕ) (octets : List ℕ) (how : Did) (old new : StoreValue D) (before after : Option History) (began faulted : Faults) → EventOf (stage.Taking parts) (stage.Placing laid file) name time size octets progress.More how old new before after began faulted
     → laid ≡ parts → TakesFileFor (length parts.header) (length parts.laid.region) file old new → DeliveryClause octets (stage.Taking parts) (stage.Placing laid file) name time progress.More how old new before after began faulted
 taking_more parts laid file name time size octets how old new before after began faulted e laid_is t =
-    with_did octets (stage.Taking parts) (stage.Placing laid file) name time progress.More how did.Quiet old new before after began faulted e.did_is (by_take t.take t.is t.took)
+    with_did octets (stage.Taking parts) (stage.Placing laid file) name time progress.More how did.Quiet old new before after began faulted e.did_is (by_take t.take t.is t.took refl)
   where
     keeps : KeepsMap (seen_saving old before began) (seen_saving new after faulted)
     keeps =
@@ -258,41 +259,53 @@ taking_more parts laid file name time size octets how old new before after began
     sees : SeesAround octets (around_saving octets (stage.Taking parts) old) (seen_saving old before began)
     sees = sees_around octets (stage.Taking parts) old before began e.is e.order e.ids
 
-    as_laid : (behind : Around) → Steps (IsTakingFile parts.rows) (IsPlacingMessage parts.rows file.0) (around_saving octets (stage.Taking parts) old) behind (request.Deliver name time octets) (seen_saving old before began) (seen_saving new after faulted) did.Quiet None
-        → Steps (IsTakingFile parts.rows) (IsPlacingMessage laid.rows file.0) (around_saving octets (stage.Taking parts) old) behind (request.Deliver name time octets) (seen_saving old before began) (seen_saving new after faulted) did.Quiet None
-    as_laid behind does =
-        subst (λ (p : SavedParts). Steps (IsTakingFile parts.rows) (IsPlacingMessage p.rows file.0) (around_saving octets (stage.Taking parts) old) behind (request.Deliver name time octets) (seen_saving old before began) (seen_saving new after faulted) did.Quiet None) (sym laid_is) does
+    known_files : (taken : FileNo) → t.take ≡ Known taken → new.files.files ≡ changed_in taken.0 (with_taken true) old.files.files
+    known_files taken kind = ap (λ (v : FilesValue). v.files) (t.files ∙ ap (λ (k : Take). taken_files k (length parts.header) (roomy_files old.files)) kind)
 
-    by_take : (take : Take) → IsTakeFor (length parts.laid.region) old.files take → TookAs take (length parts.header) file old new → DeliveryClause octets (stage.Taking parts) (stage.Placing laid file) name time progress.More did.Quiet old new before after began faulted
-    by_take (Known taken) is took = λ behind.
+    new_files : (taken : FileNo) → t.take ≡ New taken → new.files.files ≡ changed_in taken.0 (ending_at (length parts.header)) (old.files.files ++ file_begun taken ∷ [])
+    new_files taken kind = ap (λ (v : FilesValue). v.files) (t.files ∙ ap (λ (k : Take). taken_files k (length parts.header) (roomy_files old.files)) kind)
+
+    as_laid : (behind : Around) → StepsWithRoom (IsTakingFile parts.rows) (IsPlacingMessage parts.rows file.0) (around_saving octets (stage.Taking parts) old) behind (request.Deliver name time octets) (seen_saving old before began) (seen_saving new after faulted) did.Quiet None
+        → StepsWithRoom (IsTakingFile parts.rows) (IsPlacingMessage laid.rows file.0) (around_saving octets (stage.Taking parts) old) behind (request.Deliver name time octets) (seen_saving old before began) (seen_saving new after faulted) did.Quiet None
+    as_laid behind does =
+        subst (λ (p : SavedParts). StepsWithRoom (IsTakingFile parts.rows) (IsPlacingMessage p.rows file.0) (around_saving octets (stage.Taking parts) old) behind (request.Deliver name time octets) (seen_saving old before began) (seen_saving new after faulted) did.Quiet None) (sym laid_is) does
+
+    by_take : (take : Take) → IsTakeFor (length parts.laid.region) old.files take → TookAs take (length parts.header) file old new → t.take ≡ take → DeliveryClause octets (stage.Taking parts) (stage.Placing laid file) name time progress.More did.Quiet old new before after began faulted
+    by_take (Known taken) is took kind = λ behind.
         let most = subst (λ (n : FileNo). All (λ g. MayBeTakenFor (length parts.laid.region) g → g.file.0 ≤ n.0) old.files.files) (sym is.2) is.4 in
-        let room = known_room (length parts.laid.region) old.files.files is.0 e.order.rising is.1 is.3 most ∙ ap (λ (n : FileNo). Some n.0) (is.2 ∙ took.0) in
+        let room = room_runs parts old e.ran ∙ known_room (length parts.laid.region) old.files.files is.0 e.order.rising is.1 is.3 most ∙ ap (λ (n : FileNo). Some n.0) (is.2 ∙ took.0) in
         as_laid behind (takes_known (around_saving octets (stage.Taking parts) old) behind name time octets parts.rows file.0 (seen_saving old before began) (seen_saving new after faulted) sees e.parts room keeps took.1
-        (tells_store old new before after began faulted id (let d = ap (λ (h : Highest). h.file) took.1 in omega (arith, d)) (same_ends old new took.2)
+        (tells_store old new before after began faulted e.ran id (let d = ap (λ (h : Highest). h.file) took.1 in omega (arith, d))
+        (same_ends old new (bars_taken old new taken.0 (let d = ap (λ (h : Highest). h.file) took.1 in omega (arith, d)) (known_files taken kind)) took.2)
         (knows_same old new (ap (λ (v : StoreValue _). v.instances) t.same) (ap (λ (h : Highest). h.instance) took.1))))
-    by_take (New taken) is took = λ behind.
+    by_take (New taken) is took kind = λ behind.
         let high = e.is.files.highest in
         let fresh = is.1 in
         let less = is.2 in
         let named = ap (λ (n : FileNo). n.0) took.0 in
         let next : file.0 ≡ old.drawn.file + 1 = omega (arith, high, fresh, named) in
         let drawn = ap (λ (h : Highest). h.file) took.1 in
-        as_laid behind (takes_new (around_saving octets (stage.Taking parts) old) behind name time octets parts.rows file.0 (seen_saving old before began) (seen_saving new after faulted) sees e.parts (no_room (length parts.laid.region) old.files.files is.0) next (omega (arith, high, less)) keeps (took.1 ∙ drawn_file old.drawn file.0 next)
-        (λ event none itself. record {
+        as_laid behind (takes_new (around_saving octets (stage.Taking parts) old) behind name time octets parts.rows file.0 (seen_saving old before began) (seen_saving new after faulted) sees e.parts (room_runs parts old e.ran ∙ no_room (length parts.laid.region) old.files.files is.0) next (omega (arith, high, less)) keeps (took.1 ∙ drawn_file old.drawn file.0 next)
+        (λ event none made unplaced. record {
+          ran = λ runs. e.ran;
           pins = λ n. refl;
           doomed = λ n. refl;
-          used = λ n. refl;
-          unused = λ n. refl;
+          used = λ n k. k;
+          unused = λ n k. refl;
+          barred = bars_made old new taken (length parts.header) (omega (arith, high, fresh)) (omega (arith, drawn, next)) (new_files taken kind);
           gave = λ guid k. gave_on old new guid id (omega (arith, drawn, next)) (λ n offset le b. ap (λ (o : Option ℕ). is_before offset o) (took.4 n (λ q. omega (arith, q, le, next))) ∙ b) k;
           given = λ guid some. absurd (let k : false ≡ true = sym (ap (list_any (bytes_eq guid)) none) ∙ some in cc k);
           files = λ n there. elim (cases_eq n file.0) [
-            | inl same ↦ inr (itself n (sym same))
+            | inl same ↦ inr (ap (λ (fs : List ℕ). is_one_of fs n) made ∙ made_itself file.0 n (sym same))
             | inr apart ↦ inl (ap (λ (o : Option ℕ). is_some o) (sym (took.4 n apart)) ∙ there)
           ];
           gone = λ i k. gone_on old new i id (let d = ap (λ (h : Highest). h.instance) took.1 in omega (arith, d)) k;
-          instances = λ i k. inl (ap (λ (n : InstancesValue). knows_in n.known i) (sym (ap (λ (v : StoreValue _). v.instances) t.same)) ∙ k);
+          instances = λ i.
+              ap (λ (n : InstancesValue). knows_in n.known i) (ap (λ (v : StoreValue _). v.instances) t.same)
+              ∙ sym (ap (λ (ps : List InstRow). knows_instance old i || list_any (is_same_instance i) ps) unplaced ∙ or_none (knows_instance old i));
+          ungone = λ i some. absurd (let k : false ≡ true = sym (ap (list_any (is_same_instance i)) unplaced) ∙ some in cc k);
         }))
-    by_take Full is took = absurd took
+    by_take Full is took kind = absurd took
 
 pub taking_refused : {D : Type 0} → (parts : SavedParts) (why : Refusal) (name : List ℕ) (time size : ℕ) (octets : List ℕ) (how : Did) (old new : StoreValue D) (before after : Option History) (began faulted : Faults) → EventOf (stage.Taking parts) stage.Ended name time size octets (progress.Done (reply.Refused why)) how old new before after began faulted
     → TakesNone (length parts.laid.region) why old new → DeliveryClause octets (stage.Taking parts) stage.Ended name time (progress.Done (reply.Refused why)) how old new before after began faulted
@@ -313,9 +326,9 @@ taking_refused parts why name time size octets how old new before after began fa
         let same = untold_faults why began faulted other (memory_unread why m.0) e.faults in
         with_did octets (stage.Taking parts) stage.Ended name time (progress.Done (reply.Refused why)) how did.Quiet old new before after began faulted (e.did_is ∙ ap failing_did m.0)
         (subst (λ (w : Refusal). DeliveryClause octets (stage.Taking parts) stage.Ended name time (progress.Done (reply.Refused w)) did.Quiet old new before after began faulted) (sym m.0)
-        (λ behind. forgotten_save (around_saving octets (stage.Taking parts) old) behind name time octets (TakesFile (is_none (room_among (length parts.laid.region) old.files.files))) (IsTakingFile parts.rows) (IsAtSave stage.Ended) (seen_saving old before began) (seen_saving new after faulted) sees (ends_taking name time octets _)
+        (λ behind. forgotten_save (around_saving octets (stage.Taking parts) old) behind name time octets (TakesFile (is_none (room_at (stage.Taking parts) old))) (IsTakingFile parts.rows) (IsAtSave stage.Ended) (seen_saving old before began) (seen_saving new after faulted) sees (ends_taking name time octets _)
         (taking_at (around_saving octets (stage.Taking parts) old) name time octets parts.rows e.parts) refl (λ run place said stood. stood.1) (goes other same (ap (λ (v : StoreValue _). v.map) m.1) (ap (λ (v : StoreValue _). v.boxes) m.1))
-        (stays_same old new before after began faulted m.1 e.grows (same_reads began faulted same) (same_changes began faulted same))))
+        (stays_same old new before after began faulted e.ran m.1 e.grows (same_reads began faulted same) (same_changes began faulted same))))
     by_cause (inr (inl f)) =
         let step : is_step why ≡ true = ap is_step f.0 in
         let other = step_runs why step in
@@ -325,12 +338,12 @@ taking_refused parts why name time size octets how old new before after began fa
         let high = e.is.files.highest in
         let full = f.1.full.1 in
         with_did octets (stage.Taking parts) stage.Ended name time (progress.Done (reply.Refused why)) how (did.Step half.Whole) old new before after began faulted (e.did_is ∙ step_did why step)
-        (λ behind. checked_save (around_saving octets (stage.Taking parts) old) behind name time octets (TakesFile (is_none (room_among (length parts.laid.region) old.files.files))) (IsTakingFile parts.rows) (IsAtSave stage.Ended) why (seen_saving old before began) (seen_saving new after faulted) sees (ends_taking name time octets _)
+        (λ behind. checked_save (around_saving octets (stage.Taking parts) old) behind name time octets (TakesFile (is_none (room_at (stage.Taking parts) old))) (IsTakingFile parts.rows) (IsAtSave stage.Ended) why (seen_saving old before began) (seen_saving new after faulted) sees (ends_taking name time octets _)
         (taking_at (around_saving octets (stage.Taking parts) old) name time octets parts.rows e.parts) (λ run place said stood. stood.1) step
-        (λ run lists event come shows. full_files name time octets (around_saving octets (stage.Taking parts) old) (seen_saving old before began) (no_room (length parts.laid.region) old.files.files f.1.full.0) (omega (arith, high, full)) run lists event come shows ∙ ap (λ (w : Refusal). Some w) (sym f.0))
+        (λ run lists event come shows. full_files name time octets (around_saving octets (stage.Taking parts) old) (seen_saving old before began) (room_runs parts old e.ran ∙ no_room (length parts.laid.region) old.files.files f.1.full.0) (omega (arith, high, full)) run lists event come shows ∙ ap (λ (w : Refusal). Some w) (sym f.0))
         (goes other same map (ap (λ (v : StoreValue _). v.boxes) k))
-        (stays_so no_numbers old new before after began faulted map (ap (λ (v : StoreValue _). v.drawn) k ∙ sym (drawn_none old.drawn)) (ap (λ (v : StoreValue _). v.dues) k) (ap (λ (v : StoreValue _). indexes_of v.boxes) k) (let d = ap (λ (v : StoreValue _). v.drawn.file) k in omega (arith, d))
-        (same_ends old new (λ n. ap (λ (v : StoreValue _). end_in n v.files.files) k)) (knows_same old new (ap (λ (v : StoreValue _). v.instances) k) (ap (λ (v : StoreValue _). v.drawn.instance) k)) e.grows (same_reads began faulted same) (same_changes began faulted same)))
+        (stays_so no_numbers old new before after began faulted e.ran map (ap (λ (v : StoreValue _). v.drawn) k ∙ sym (drawn_none old.drawn)) (ap (λ (v : StoreValue _). v.dues) k) (ap (λ (v : StoreValue _). indexes_of v.boxes) k) (let d = ap (λ (v : StoreValue _). v.drawn.file) k in omega (arith, d))
+        (same_ends old new (bars_same old new (let d = ap (λ (v : StoreValue _). v.drawn.file) k in omega (arith, d)) (ap (λ (v : StoreValue _). v.files.files) k)) (λ n. ap (λ (v : StoreValue _). end_in n v.files.files) k)) (knows_same old new (ap (λ (v : StoreValue _). v.instances) k) (ap (λ (v : StoreValue _). v.drawn.instance) k)) e.grows (same_reads began faulted same) (same_changes began faulted same)))
     by_cause (inr (inr f)) =
         let s = e in
         let stop : progress.Done (reply.Refused why) ≡ stopped_reply = ap (λ (w : Refusal). progress.Done (reply.Refused w)) f.0 in
@@ -344,10 +357,10 @@ taking_refused parts why name time size octets how old new before after began fa
         let number = ap (λ (h : Highest). h.file) drawn in
         with_did octets (stage.Taking parts) stage.Ended name time (progress.Done (reply.Refused why)) how did.Failed old new before after began faulted (s.did_is ∙ ap failing_did f.0)
         (subst (λ (w : Refusal). DeliveryClause octets (stage.Taking parts) stage.Ended name time (progress.Done (reply.Refused w)) did.Failed old new before after began faulted) (sym f.0)
-        (λ behind. fallen_save (around_saving octets (stage.Taking parts) old) behind name time octets (TakesFile (is_none (room_among (length parts.laid.region) old.files.files))) (IsTakingFile parts.rows) (IsAtSave stage.Ended) (record no_numbers { file = 1 }) (seen_saving old before began) (seen_saving new after faulted) sees (ends_taking name time octets _)
+        (λ behind. fallen_save (around_saving octets (stage.Taking parts) old) behind name time octets (TakesFile (is_none (room_at (stage.Taking parts) old))) (IsTakingFile parts.rows) (IsAtSave stage.Ended) (record no_numbers { file = 1 }) (seen_saving old before began) (seen_saving new after faulted) sees (ends_taking name time octets _)
         (taking_at (around_saving octets (stage.Taking parts) old) name time octets parts.rows e.parts)
-        (λ run event. inr (sym (ap (λ (o : Option ℕ). draws run event (request.Deliver name time octets) (TakesFile (is_none o))) (no_room (length parts.laid.region) old.files.files f.1.is.0))))
-        (stays_so (record no_numbers { file = 1 }) old new before after began faulted map (drawn ∙ drawn_file old.drawn f.1.file.0 next) (ap (λ (v : StoreValue _). v.dues) k) (ap (λ (v : StoreValue _). indexes_of v.boxes) k) (omega (arith, number, next)) (same_ends old new f.1.ends) (knows_same old new (ap (λ (v : StoreValue _). v.instances) k) (ap (λ (h : Highest). h.instance) drawn)) s.grows (equal_reads began faulted fault.reads) fault.changes)
+        (λ run event. inr (sym (ap (λ (o : Option ℕ). draws run event (request.Deliver name time octets) (TakesFile (is_none o))) (room_runs parts old e.ran ∙ no_room (length parts.laid.region) old.files.files f.1.is.0))))
+        (stays_so (record no_numbers { file = 1 }) old new before after began faulted e.ran map (drawn ∙ drawn_file old.drawn f.1.file.0 next) (ap (λ (v : StoreValue _). v.dues) k) (ap (λ (v : StoreValue _). indexes_of v.boxes) k) (omega (arith, number, next)) (same_ends old new (bars_begun old new f.1.file next (omega (arith, number, next)) (ap (λ (v : StoreValue _). v.files.files) k)) f.1.ends) (knows_same old new (ap (λ (v : StoreValue _). v.instances) k) (ap (λ (h : Highest). h.instance) drawn)) s.grows (equal_reads began faulted fault.reads) fault.changes)
         e.ran (s.stopped.0 stop) (fault.rose tt) (λ lists t. s.moments lists t)))
 
 -- ---- the message is placed
@@ -376,8 +389,8 @@ placing_more parts file at rows room name time size octets how old new before af
     let fresh = ap (may_have_given old) p.guid ∙ place_new old file.0 at.offset e.id_long small near p.began in
     let gave = ap (may_have_given new) p.guid ∙ place_given new old.map.store file.0 at.offset (at.offset + at.size) (ap (λ (m : MapMeaning). m.store) map) e.id_long small near (omega (arith, low, high, number)) p.ends (omega (arith, some)) in
     with_did octets (stage.Placing parts file) (stage.Storing at rows room) name time progress.More how did.Quiet old new before after began faulted s.did_is
-    (λ behind. subst (λ (is : List InstRow). Steps (IsPlacingMessage parts.rows file.0) (IsStoringMessage is at.file.0 at.guid.0) (around_saving octets (stage.Placing parts file) old) behind (request.Deliver name time octets) (seen_saving old before began) (seen_saving new after faulted) did.Quiet None) (sym p.rows_are)
-    (subst (λ (n : FileNo). Steps (IsPlacingMessage parts.rows file.0) (IsStoringMessage parts.rows n.0 at.guid.0) (around_saving octets (stage.Placing parts file) old) behind (request.Deliver name time octets) (seen_saving old before began) (seen_saving new after faulted) did.Quiet None) (sym p.file_is)
+    (λ behind. subst (λ (is : List InstRow). StepsWithRoom (IsPlacingMessage parts.rows file.0) (IsStoringMessage is at.file.0 at.guid.0) (around_saving octets (stage.Placing parts file) old) behind (request.Deliver name time octets) (seen_saving old before began) (seen_saving new after faulted) did.Quiet None) (sym p.rows_are)
+    (subst (λ (n : FileNo). StepsWithRoom (IsPlacingMessage parts.rows file.0) (IsStoringMessage parts.rows n.0 at.guid.0) (around_saving octets (stage.Placing parts file) old) behind (request.Deliver name time octets) (seen_saving old before began) (seen_saving new after faulted) did.Quiet None) (sym p.file_is)
     (places_message (around_saving octets (stage.Placing parts file) old) behind name time octets parts.rows file.0 at.guid.0 (seen_saving old before began) (seen_saving new after faulted) (sees_around octets (stage.Placing parts file) old before began e.is e.order e.ids)
     (ap length p.guid ∙ place_long old.map.store file.0 at.offset e.id_long) (subst IsOctets (sym p.guid) (place_octets old.map.store file.0 at.offset e.id_octets)) (ap (guid_file old.map.store) p.guid ∙ place_file old.map.store file.0 at.offset e.id_long (omega (arith, low, last))) fresh
     (record {
@@ -385,7 +398,8 @@ placing_more parts file at rows room name time size octets how old new before af
       map = map;
       due = λ uid. due_stays old new uid map (ap (λ (v : StoreValue _). v.dues) p.same);
     }) drawn
-    (tells_store old new before after began faulted (ap (λ (m : MapMeaning). m.store) map) (omega (arith, number)) (record {
+    (tells_store old new before after began faulted e.ran (ap (λ (m : MapMeaning). m.store) map) (omega (arith, number)) (record {
+      barred = bars_ended old new file.0 (at.offset + at.size) (omega (arith, number)) (ap (λ (v : StoreValue _). v.files.files) p.same);
       gave = λ n offset le b. elim (cases_eq n file.0) [
         | inl same ↦
             ap (λ (k : ℕ). is_before offset (end_in k new.files.files)) same
@@ -399,10 +413,10 @@ placing_more parts file at rows room name time size octets how old new before af
     }) (knows_same old new (ap (λ (v : StoreValue _). v.instances) p.same) (ap (λ (h : Highest). h.instance) drawn))) gave)))
 
 -- one that left the store as it was, of which a change failed
-stays_alone : {D : Type 0} → (old new : StoreValue D) (before after : Option History) (began faulted : Faults) → IsLeftAlone old new → Grows before after → faulted.reads ≡ began.reads → began.changes ≤ faulted.changes → StaysSo no_numbers (seen_saving old before began) (seen_saving new after faulted)
-stays_alone old new before after began faulted k grows reads changes =
-    stays_so no_numbers old new before after began faulted (ap (λ (v : StoreValue _). v.map) k.same) (ap (λ (v : StoreValue _). v.drawn) k.same ∙ sym (drawn_none old.drawn)) (ap (λ (v : StoreValue _). v.dues) k.same) k.indexes
-    (let d = ap (λ (v : StoreValue _). v.drawn.file) k.same in omega (arith, d)) (same_ends old new (λ n. ap (λ (v : StoreValue _). end_in n v.files.files) k.same)) (knows_same old new (ap (λ (v : StoreValue _). v.instances) k.same) (ap (λ (v : StoreValue _). v.drawn.instance) k.same)) grows (equal_reads began faulted reads) changes
+stays_alone : {D : Type 0} → (old new : StoreValue D) (before after : Option History) (began faulted : Faults) → old.stopped ≡ false → IsLeftAlone old new → Grows before after → faulted.reads ≡ began.reads → began.changes ≤ faulted.changes → StaysSo no_numbers (seen_saving old before began) (seen_saving new after faulted)
+stays_alone old new before after began faulted ran k grows reads changes =
+    stays_so no_numbers old new before after began faulted ran (ap (λ (v : StoreValue _). v.map) k.same) (ap (λ (v : StoreValue _). v.drawn) k.same ∙ sym (drawn_none old.drawn)) (ap (λ (v : StoreValue _). v.dues) k.same) k.indexes
+    (let d = ap (λ (v : StoreValue _). v.drawn.file) k.same in omega (arith, d)) (same_ends old new (bars_same old new (let d = ap (λ (v : StoreValue _). v.drawn.file) k.same in omega (arith, d)) (ap (λ (v : StoreValue _). v.files.files) k.same)) (λ n. ap (λ (v : StoreValue _). end_in n v.files.files) k.same)) (knows_same old new (ap (λ (v : StoreValue _). v.instances) k.same) (ap (λ (v : StoreValue _). v.drawn.instance) k.same)) grows (equal_reads began faulted reads) changes
 
 pub placing_refused : {D : Type 0} → (parts : SavedParts) (file : FileNo) (why : Refusal) (name : List ℕ) (time size : ℕ) (octets : List ℕ) (how : Did) (old new : StoreValue D) (before after : Option History) (began faulted : Faults) → EventOf (stage.Placing parts file) stage.Ended name time size octets (progress.Done (reply.Refused why)) how old new before after began faulted
     → IsLeftAlone old new → DeliveryClause octets (stage.Placing parts file) stage.Ended name time (progress.Done (reply.Refused why)) how old new before after began faulted
@@ -414,7 +428,7 @@ placing_refused parts file why name time size octets how old new before after be
     with_did octets (stage.Placing parts file) stage.Ended name time (progress.Done (reply.Refused why)) how did.Failed old new before after began faulted (s.did_is ∙ ap failing_did is)
     (subst (λ (w : Refusal). DeliveryClause octets (stage.Placing parts file) stage.Ended name time (progress.Done (reply.Refused w)) did.Failed old new before after began faulted) (sym is)
     (λ behind. fallen_save (around_saving octets (stage.Placing parts file) old) behind name time octets PlacesMessage (IsPlacingMessage parts.rows file.0) (IsAtSave stage.Ended) no_numbers (seen_saving old before began) (seen_saving new after faulted) (sees_around octets (stage.Placing parts file) old before began e.is e.order e.ids) (ends_placing name time octets)
-    (placing_at (around_saving octets (stage.Placing parts file) old) name time octets parts.rows file.0) (λ run event. inl refl) (stays_alone old new before after began faulted alone s.grows fault.reads fault.changes) e.ran (s.stopped.0 stop) (fault.rose tt) (λ lists t. s.moments lists t)))
+    (placing_at (around_saving octets (stage.Placing parts file) old) name time octets parts.rows file.0) (λ run event. inl refl) (stays_alone old new before after began faulted e.ran alone s.grows fault.reads fault.changes) e.ran (s.stopped.0 stop) (fault.rose tt) (λ lists t. s.moments lists t)))
 
 -- ---- the message is stored
 
@@ -427,12 +441,13 @@ storing_more at rows room left added name time size octets how old new before af
     let drawn = p.drawn ∙ drawn_map old.drawn added.map_uid.0 p.uid_is in
     let number = ap (λ (h : Highest). h.file) p.drawn in
     with_did octets (stage.Storing at rows room) (stage.Adding added left) name time progress.More how did.Quiet old new before after began faulted s.did_is
-    (λ behind. subst (λ (g : Guid). Steps (IsStoringMessage rows at.file.0 at.guid.0) (IsAddingMessage g.0 added.map_uid.0) (around_saving octets (stage.Storing at rows room) old) behind (request.Deliver name time octets) (seen_saving old before began) (seen_saving new after faulted) did.Quiet None) (sym p.guid_is)
+    (λ behind. subst (λ (g : Guid). StepsWithRoom (IsStoringMessage rows at.file.0 at.guid.0) (IsAddingMessage g.0 added.map_uid.0) (around_saving octets (stage.Storing at rows room) old) behind (request.Deliver name time octets) (seen_saving old before began) (seen_saving new after faulted) did.Quiet None) (sym p.guid_is)
     (stores_message (around_saving octets (stage.Storing at rows room) old) behind name time octets rows at.file.0 at.guid.0 added.map_uid.0 at.size at.offset (seen_saving old before began) (seen_saving new after faulted) (sees_around octets (stage.Storing at rows room) old before began e.is e.order e.ids)
-    p.uid_is p.few (sym e.left.0.guid_offset)
+    p.uid_is p.few (sym e.left.0.guid_offset) p.fits
     (has_run old new before after began faulted e.ran runs p.mailboxes (ap (λ (v : StoreValue _). indexes_of v.boxes) p.same) (λ lists t. s.moments lists (r.ready (record { 0 = old.drawn.map + 1 }) lists t) t) (λ lists t. s.rests runs lists (r.ready (record { 0 = old.drawn.map + 1 }) lists t) t) s.grows s.faults)
     p.map drawn (λ other. p.due other)
-    (tells_store old new before after began faulted (ap (λ (m : MapMeaning). m.store) p.map) (omega (arith, number)) (same_ends old new p.ends)
+    (tells_store old new before after began faulted e.ran (ap (λ (m : MapMeaning). m.store) p.map) (omega (arith, number))
+    (same_ends old new (bars_released old new at.file.0 (omega (arith, number)) (ap (λ (v : StoreValue _). v.files.files) p.same)) p.ends)
     (knows_same old new (ap (λ (v : StoreValue _). v.instances) p.same) (ap (λ (h : Highest). h.instance) p.drawn)))))
 
 pub storing_refused : {D : Type 0} → (at : SavedAt) (rows : List InstRow) (room : LowerRoom) (why : Refusal) (name : List ℕ) (time size : ℕ) (octets : List ℕ) (how : Did) (old new : StoreValue D) (before after : Option History) (began faulted : Faults) → EventOf (stage.Storing at rows room) stage.Ended name time size octets (progress.Done (reply.Refused why)) how old new before after began faulted
@@ -453,8 +468,8 @@ storing_refused at rows room why name time size octets how old new before after 
     stays : (why ≡ refusal.Stopped → ⊥) → (why ≡ refusal.ReadFault → ⊥) → GivesFileBack at.file.0 old new → StaysSo no_numbers (seen_saving old before began) (seen_saving new after faulted)
     stays other unread k =
         let same = untold_faults why began faulted other unread e.faults in
-        stays_so no_numbers old new before after began faulted (ap (λ (v : StoreValue _). v.map) k.same) (ap (λ (v : StoreValue _). v.drawn) k.same ∙ sym (drawn_none old.drawn)) (ap (λ (v : StoreValue _). v.dues) k.same) (ap (λ (v : StoreValue _). indexes_of v.boxes) k.same)
-        (let d = ap (λ (v : StoreValue _). v.drawn.file) k.same in omega (arith, d)) (same_ends old new k.ends) (knows_same old new (ap (λ (v : StoreValue _). v.instances) k.same) (ap (λ (v : StoreValue _). v.drawn.instance) k.same)) e.grows (same_reads began faulted same) (same_changes began faulted same)
+        stays_so no_numbers old new before after began faulted e.ran (ap (λ (v : StoreValue _). v.map) k.same) (ap (λ (v : StoreValue _). v.drawn) k.same ∙ sym (drawn_none old.drawn)) (ap (λ (v : StoreValue _). v.dues) k.same) (ap (λ (v : StoreValue _). indexes_of v.boxes) k.same)
+        (let d = ap (λ (v : StoreValue _). v.drawn.file) k.same in omega (arith, d)) (same_ends old new (bars_released old new at.file.0 (let d = ap (λ (v : StoreValue _). v.drawn.file) k.same in omega (arith, d)) (ap (λ (v : StoreValue _). v.files.files) k.same)) k.ends) (knows_same old new (ap (λ (v : StoreValue _). v.instances) k.same) (ap (λ (v : StoreValue _). v.drawn.instance) k.same)) e.grows (same_reads began faulted same) (same_changes began faulted same)
 
     full : why ≡ refusal.StoreFull 4294967294 → nat_le 4294967294 old.drawn.map ≡ true → (why ≡ refusal.Stopped → ⊥) → GivesFileBack at.file.0 old new → DeliveryClause octets (stage.Storing at rows room) stage.Ended name time (progress.Done (reply.Refused why)) how old new before after began faulted
     full is used other k =
@@ -480,7 +495,7 @@ storing_refused at rows room why name time size octets how old new before after 
         with_did octets (stage.Storing at rows room) stage.Ended name time (progress.Done (reply.Refused why)) how did.Failed old new before after began faulted (s.did_is ∙ ap failing_did is)
         (subst (λ (w : Refusal). DeliveryClause octets (stage.Storing at rows room) stage.Ended name time (progress.Done (reply.Refused w)) did.Failed old new before after began faulted) (sym is)
         (λ behind. fallen_save (around_saving octets (stage.Storing at rows room) old) behind name time octets StoresRecord (IsAtSave (stage.Storing at rows room)) (IsAtSave stage.Ended) no_numbers (seen_saving old before began) (seen_saving new after faulted) sees (ends_storing name time octets)
-        (storing_at (around_saving octets (stage.Storing at rows room) old) name time octets rows at.file.0 at.guid.0) (λ run event. inl refl) (stays_alone old new before after began faulted k s.grows fault.reads fault.changes) e.ran (s.stopped.0 stop) (fault.rose tt)
+        (storing_at (around_saving octets (stage.Storing at rows room) old) name time octets rows at.file.0 at.guid.0) (λ run event. inl refl) (stays_alone old new before after began faulted e.ran k s.grows fault.reads fault.changes) e.ran (s.stopped.0 stop) (fault.rose tt)
         (λ lists t. s.moments lists (r.ready (record { 0 = old.drawn.map + 1 }) lists t) t)))
 
     full_runs : why ≡ refusal.StoreFull 4294967294 → why ≡ refusal.Stopped → ⊥
@@ -561,7 +576,7 @@ adding_saved added room uid guid name time size octets how old new before after 
       drawn = ap (λ (v : StoreValue _). v.drawn) p.same;
       taken = p.taken ∙ ap (λ (x : BoxEntry). meanings_by p.number.0 x old.map.boxes (indexes_of old.boxes)) entry;
       due = λ other. less_due added.map_uid old new other e.left.1 (p.due p.room.mailbox other p.room.named);
-      tells = tells_store old new before after began faulted (ap (λ (v : StoreValue _). v.map.store) p.same) (let d = ap (λ (v : StoreValue _). v.drawn.file) p.same in omega (arith, d)) (same_ends old new (λ n. ap (λ (v : StoreValue _). end_in n v.files.files) p.same)) (knows_same old new (ap (λ (v : StoreValue _). v.instances) p.same) (ap (λ (v : StoreValue _). v.drawn.instance) p.same));
+      tells = tells_store old new before after began faulted e.ran (ap (λ (v : StoreValue _). v.map.store) p.same) (let d = ap (λ (v : StoreValue _). v.drawn.file) p.same in omega (arith, d)) (same_ends old new (bars_same old new (let d = ap (λ (v : StoreValue _). v.drawn.file) p.same in omega (arith, d)) (ap (λ (v : StoreValue _). v.files.files) p.same)) (λ n. ap (λ (v : StoreValue _). end_in n v.files.files) p.same)) (knows_same old new (ap (λ (v : StoreValue _). v.instances) p.same) (ap (λ (v : StoreValue _). v.drawn.instance) p.same));
       moments = λ lists t. subst (λ (x : BoxEntry). Leaves lists (lists_by p.number.0 octets x lists) before after) entry (s.moments p.number uid p.room lists octets (r.brings uid) t);
       settled = λ lists t. subst (λ (x : BoxEntry). IsSettledFor (lists_by p.number.0 octets x lists) after) entry (s.rests runs p.number p.room lists octets (r.brings uid) t);
       grows = s.grows;
@@ -589,7 +604,7 @@ adding_refused added room why name time size octets how old new before after beg
     (record {
       ran = e.ran;
       stopped = s.stopped.0 stop;
-      stays = stays_alone old new before after began faulted alone s.grows fault.reads fault.changes;
+      stays = stays_alone old new before after began faulted e.ran alone s.grows fault.reads fault.changes;
       rose = fault.rose tt;
       moments = λ lists t. subst (λ (x : BoxEntry). Leaves lists (lists_by number.0 octets x lists) before after) entry (s.moments number uid found lists octets (r.brings uid) t);
     })))
@@ -607,15 +622,15 @@ adding_more added room left uid why name time size octets how old new before aft
         (λ lists t. subst (λ (h : Option History). Leaves lists lists before h) (sym idle.0) (leaves_none before lists lists t)) (λ lists t. subst (λ (h : Option History). IsSettledFor lists h) (sym idle.0) t) e.grows idle.1
 
     stays : StaysSo no_numbers (seen_saving old before began) (seen_saving new after faulted)
-    stays = stays_same old new before after began faulted same e.grows (same_reads began faulted idle.1) (same_changes began faulted idle.1)
+    stays = stays_same old new before after began faulted e.ran same e.grows (same_reads began faulted idle.1) (same_changes began faulted idle.1)
 
     sees : SeesAround octets (around_saving octets (stage.Adding added room) old) (seen_saving old before began)
     sees = sees_around octets (stage.Adding added room) old before began e.is e.order e.ids
 
-    as_held : (known : Did) → how ≡ known → ((behind : Around) → Steps (IsAddingMessage added.guid.0 added.map_uid.0) (IsLoweringCount added.map_uid.0 why) (around_saving octets (stage.Adding added room) old) behind (request.Deliver name time octets) (seen_saving old before began) (seen_saving new after faulted) known None)
+    as_held : (known : Did) → how ≡ known → ((behind : Around) → StepsWithRoom (IsAddingMessage added.guid.0 added.map_uid.0) (IsLoweringCount added.map_uid.0 why) (around_saving octets (stage.Adding added room) old) behind (request.Deliver name time octets) (seen_saving old before began) (seen_saving new after faulted) known None)
         → DeliveryClause octets (stage.Adding added room) (stage.GivingBack uid why left) name time progress.More how old new before after began faulted
     as_held known is does = with_did octets (stage.Adding added room) (stage.GivingBack uid why left) name time progress.More how known old new before after began faulted is
-        (λ behind. subst (λ (u : MapUid). Steps (IsAddingMessage added.guid.0 added.map_uid.0) (IsLoweringCount u.0 why) (around_saving octets (stage.Adding added room) old) behind (request.Deliver name time octets) (seen_saving old before began) (seen_saving new after faulted) known None) (sym uid_is) (does behind))
+        (λ behind. subst (λ (u : MapUid). StepsWithRoom (IsAddingMessage added.guid.0 added.map_uid.0) (IsLoweringCount u.0 why) (around_saving octets (stage.Adding added room) old) behind (request.Deliver name time octets) (seen_saving old before began) (seen_saving new after faulted) known None) (sym uid_is) (does behind))
 
     by_cause : (box_refusal (list_named old name) ≡ Some why) ⊎ ((box_refusal (list_named old name) ≡ None) × (why ≡ refusal.NoMemory)) → DeliveryClause octets (stage.Adding added room) (stage.GivingBack uid why left) name time progress.More how old new before after began faulted
     by_cause (inl refuses) =
@@ -624,7 +639,7 @@ adding_more added room left uid why name time size octets how old new before aft
         (λ behind. refused_message (around_saving octets (stage.Adding added room) old) behind name time octets added.guid.0 added.map_uid.0 why (seen_saving old before began) (seen_saving new after faulted) sees step refuses goes stays)
     by_cause (inr m) =
         as_held did.Quiet (e.did_is ∙ ap refused_did m.1)
-        (λ behind. subst (λ (w : Refusal). Steps (IsAddingMessage added.guid.0 added.map_uid.0) (IsLoweringCount added.map_uid.0 w) (around_saving octets (stage.Adding added room) old) behind (request.Deliver name time octets) (seen_saving old before began) (seen_saving new after faulted) did.Quiet None) (sym m.1)
+        (λ behind. subst (λ (w : Refusal). StepsWithRoom (IsAddingMessage added.guid.0 added.map_uid.0) (IsLoweringCount added.map_uid.0 w) (around_saving octets (stage.Adding added room) old) behind (request.Deliver name time octets) (seen_saving old before began) (seen_saving new after faulted) did.Quiet None) (sym m.1)
         (forgotten_message (around_saving octets (stage.Adding added room) old) behind name time octets added.guid.0 added.map_uid.0 (seen_saving old before began) (seen_saving new after faulted) sees goes stays))
 
 -- ---- its record is given back
@@ -647,8 +662,8 @@ giving_refused uid cause room why name time size octets how old new before after
         with_did octets (stage.GivingBack uid cause room) stage.Ended name time (progress.Done (reply.Refused why)) how did.Quiet old new before after began faulted (s.did_is ∙ gives_quietly why other)
         (subst (λ (w : Refusal). DeliveryClause octets (stage.GivingBack uid cause room) stage.Ended name time (progress.Done (reply.Refused w)) did.Quiet old new before after began faulted) (sym k.0)
         (λ behind. lowers_count (around_saving octets (stage.GivingBack uid cause room) old) behind name time octets uid.0 cause (IsAtSave stage.Ended) (seen_saving old before began) (seen_saving new after faulted) sees
-        (has_run old new before after began faulted e.ran runs p.mailboxes (ap (λ (v : StoreValue _). indexes_of v.boxes) p.same) s.moments (s.rests runs) s.grows (untold_faults why began faulted other unread s.faults)) p.map (ap (λ (v : StoreValue _). v.drawn) p.same) (λ u. less_due uid old new u e.left.0 (p.due u))
-        (tells_store old new before after began faulted (ap (λ (m : MapMeaning). m.store) p.map) (let d = ap (λ (v : StoreValue _). v.drawn.file) p.same in omega (arith, d)) (same_ends old new (λ n. ap (λ (v : StoreValue _). end_in n v.files.files) p.same))
+        (has_run old new before after began faulted e.ran runs p.mailboxes (ap (λ (v : StoreValue _). indexes_of v.boxes) p.same) s.moments (s.rests runs) s.grows (untold_faults why began faulted other unread s.faults)) p.fits p.map (ap (λ (v : StoreValue _). v.drawn) p.same) (λ u. less_due uid old new u e.left.0 (p.due u))
+        (tells_store old new before after began faulted e.ran (ap (λ (m : MapMeaning). m.store) p.map) (let d = ap (λ (v : StoreValue _). v.drawn.file) p.same in omega (arith, d)) (same_ends old new (bars_same old new (let d = ap (λ (v : StoreValue _). v.drawn.file) p.same in omega (arith, d)) (ap (λ (v : StoreValue _). v.files.files) p.same)) (λ n. ap (λ (v : StoreValue _). end_in n v.files.files) p.same))
         (knows_same old new (ap (λ (v : StoreValue _). v.instances) p.same) (ap (λ (v : StoreValue _). v.drawn.instance) p.same)))))
     by_case (inr k) =
         let s = e in
@@ -657,4 +672,4 @@ giving_refused uid cause room why name time size octets how old new before after
         with_did octets (stage.GivingBack uid cause room) stage.Ended name time (progress.Done (reply.Refused why)) how did.Failed old new before after began faulted (s.did_is ∙ ap (λ (w : Refusal). giving_did (progress.Done (reply.Refused w))) k.0)
         (subst (λ (w : Refusal). DeliveryClause octets (stage.GivingBack uid cause room) stage.Ended name time (progress.Done (reply.Refused w)) did.Failed old new before after began faulted) (sym k.0)
         (λ behind. fallen_save (around_saving octets (stage.GivingBack uid cause room) old) behind name time octets GivesBack (IsAtSave (stage.GivingBack uid cause room)) (IsAtSave stage.Ended) no_numbers (seen_saving old before began) (seen_saving new after faulted) sees (ends_giving name time octets)
-        (lowering_at (around_saving octets (stage.GivingBack uid cause room) old) name time octets uid.0 cause) (λ run event. inl refl) (stays_alone old new before after began faulted k.1 s.grows fault.reads fault.changes) e.ran (s.stopped.0 stop) (fault.rose tt) (λ lists t. s.moments lists t)))
+        (lowering_at (around_saving octets (stage.GivingBack uid cause room) old) name time octets uid.0 cause) (λ run event. inl refl) (stays_alone old new before after began faulted e.ran k.1 s.grows fault.reads fault.changes) e.ran (s.stopped.0 stop) (fault.rose tt) (λ lists t. s.moments lists t)))

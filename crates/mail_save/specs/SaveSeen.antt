@@ -1,21 +1,28 @@
 -- What an event of a delivery sees and finds, and where its task stands.
-use Rattle.std.specs.Prelude.{◌≡◌, ◌+◌, ◌&&◌, ◌||◌, nat_le, ℕ, Bool, false, not, List, [], ◌∷◌, length, filter, if◌then◌else◌, Option, Some, None}
+use Rattle.std.specs.Prelude.{◌≡◌, ◌+◌, ◌&&◌, ◌||◌, nat_le, ℕ, Bool, true, false, not, List, [], ◌∷◌, length, filter, if◌then◌else◌, Option, Some, None}
 use Rattle.std.specs.Option.{option_map_or, option_or}
 use Rattle.disk_model.specs.Disk.{History, Faults}
 use Rattle.mdbox_base.specs.declared.entries.InstRow.{InstRow}
+use Rattle.mdbox_base.specs.declared.progress.Did.{Did}
 use Rattle.mdbox_base.specs.declared.replies.Reply.{Reply}
+use Rattle.mdbox_base.specs.declared.requests.Request.{Request}
 use Rattle.model_mime.specs.Parts.{parts_in}
 use Rattle.list_machine.specs.Run.{Run}
 use Rattle.journal.specs.Events.{Around}
 use Rattle.save_instances.specs.Attaching.{next_candidate}
+use Rattle.storage_files.specs.Files.{file_in}
 use Rattle.storage_files.specs.declared.file.MailFile.{MailFile}
 use Rattle.store_core.specs.Dues.{due_at}
 use Rattle.store_core.specs.Knows.{knows_file, knows_instance, may_be_gone, may_have_given}
 use Rattle.store_core.specs.Value.{StoreValue, indexes_of}
-use Rattle.task_steps.specs.Step.{Seen, HasNotBegun}
+use Rattle.task_steps.specs.Step.{Seen, FindsRoom, HasNotBegun, Steps}
 use Rattle.mail_save.specs.SaveStages.{IsTakingFile, IsPlacingMessage, IsStoringMessage, IsAddingMessage, IsLoweringCount}
 use Rattle.mail_save.specs.declared.task.SaveStage.{SaveStage}
 use Rattle.mail_save.specs.declared.task.SaveStage.TheVariants as stage
+
+-- a storage file that was drawn, and is barred or not there: it may have been barred as a run began
+abbrev pub may_be_barred : {D : Type 0} → StoreValue D → ℕ → Bool
+may_be_barred store number = nat_le number store.drawn.file && option_map_or (λ f. f.barred) (file_in number store.files.files) true
 
 -- A store as an event sees it, with what its disk tells and the faults that it has counted. It shows no pins and no doomed files of
 -- other tasks.
@@ -31,6 +38,7 @@ seen_saving store history faults = record {
   pins = λ file. 0;
   doomed = λ file. false;
   used = λ file. false;
+  barred = λ file. may_be_barred store file;
   gave = λ guid. may_have_given store guid;
   gone = λ instance. may_be_gone store instance;
   files = λ file. knows_file store file;
@@ -49,13 +57,13 @@ room_among size [] = None
 room_among size (f ∷ files) = option_or (room_among size files) (if has_room_for size f then Some f.file.0 else None)
 
 -- An event that goes on with an attachment finds the known instance to compare it with, if any is left; the one that takes a file
--- finds the one that has room, if any. No other finds anything.
+-- finds the one that has room, if any. No other finds anything, and none does in a store that is stopped.
 abbrev pub candidate_at : {D : Type 0} → SaveStage → StoreValue D → Option InstRow
-candidate_at (stage.Attaching parts attaching) store = next_candidate attaching store.instances
+candidate_at (stage.Attaching parts attaching) store = if store.stopped then None else next_candidate attaching store.instances
 candidate_at other store = None
 
 abbrev pub room_at : {D : Type 0} → SaveStage → StoreValue D → Option ℕ
-room_at (stage.Taking parts) store = room_among (length parts.laid.region) store.files.files
+room_at (stage.Taking parts) store = if store.stopped then None else room_among (length parts.laid.region) store.files.files
 room_at other store = None
 
 -- how many parts of a message can be detached
@@ -89,3 +97,7 @@ IsAtSave (stage.Storing at rows room) run place said = IsStoringMessage rows at.
 IsAtSave (stage.Adding added room) run place said = IsAddingMessage added.guid.0 added.map_uid.0 run place said
 IsAtSave (stage.GivingBack uid why room) run place said = IsLoweringCount uid.0 why run place said
 IsAtSave stage.Ended run place said = ⊥
+
+-- What a step says of every run in which no request has taken the storage file in which it finds room.
+abbrev pub StepsWithRoom : (Run → ℕ → List Reply → Type 0) → (Run → ℕ → List Reply → Type 0) → Around → Around → Request → Seen → Seen → Did → Option Reply → Type 0
+StepsWithRoom Stood Stands around after = Steps (λ run place said. Stood run place said × FindsRoom around run) Stands around after
