@@ -78,8 +78,8 @@ found_closed c before entries logs old now idle k p =
     let generation : p.opens.passed.map_log.generation ≡ c.generation = g.1 ∙ at.1 in
     let m : map_meaning p.store p.entries ≡ c.map.meaning = cc (e.0, e.1, k.map_is) in
     record {
-      logs = All-cons IsWholeLog c.root_log _ (whole_as c.root_log _ _ _ now k.root_log p.root_log)
-          (All-cons IsWholeLog c.map_log _ (whole_as c.map_log _ _ _ now k.map_log (subst (λ (n : ℕ). IsClosedLog (reading (now.now (file.Map n)))) generation p.map_log))
+      logs = All-cons IsWholeLog c.root_log (c.map_log ∷ map (λ b. b.log) c.boxes) (whole_as c.root_log _ _ _ now k.root_log p.root_log)
+          (All-cons IsWholeLog c.map_log (map (λ b. b.log) c.boxes) (whole_as c.map_log _ _ _ now k.map_log (subst (λ (n : ℕ). IsClosedLog (reading (now.now (file.Map n)))) generation p.map_log))
           (all_whole c.id.0 c.map.meaning.boxes c.boxes logs now k.box_logs (subst (λ (x : MapMeaning). All (λ box. IsClosedLog (reading (now.now (file.Box box.number box.generation)))) x.boxes) m p.box_logs)));
       nothing = subst (λ (n : ℕ). HasNothingToSweep n c.map.meaning now.now) generation (subst (λ (x : MapMeaning). HasNothingToSweep p.opens.passed.map_log.generation x now.now) m p.nothing);
     }
