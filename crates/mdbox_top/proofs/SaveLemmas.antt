@@ -39,7 +39,7 @@ use Rattle.model_store.specs.Stands.{HasInstances}
 use Rattle.list_machine.specs.Machine.{add_message}
 use Rattle.list_machine.specs.Run.{Run, and_then}
 use Rattle.journal.specs.Events.{Around}
-use Rattle.task_steps.specs.Step.{FindsRoom, Seen, HasNotBegun, Steps, and_told, ended_by}
+use Rattle.task_steps.specs.Step.{FindsRoom, Seen, HasNotBegun, and_told, ended_by}
 use Rattle.task_steps.proofs.OneEventLemmas.{not_true}
 use Rattle.entry_steps.proofs.AppendListLemmas.{added_by}
 use Rattle.save_instances.specs.Attaching.{AttachingValue, found_let_go, next_attachment, next_candidate, part_row, with_compared, with_found}
@@ -66,7 +66,7 @@ use Rattle.mail_save.specs.MailFiles.{HasAppended, TakesWithHeader, ReadsSameMai
 use Rattle.mail_save.specs.Record.{entry_stored}
 use Rattle.mail_save.specs.SaveEffects.{AttachesNext, AttachesNone, LetsGo, TakesFileFor, TookAs, TakesNone, PlacesParts, StoresPlaced, StoresNone, AddsStored, LowersRecord, SaveEffects}
 use Rattle.mail_save.specs.Ready.{IsReadyToSave, IsRegionReady, delivered_lists, save_lists, lists_delivered}
-use Rattle.mail_save.specs.SaveSeen.{IsAtSave, around_saving}
+use Rattle.mail_save.specs.SaveSeen.{IsAtSave, StepsWithRoom, around_saving}
 use Rattle.mail_save.specs.Task.{FaultsAt, HasLeft, IsAttachRefusal, RepliesAt, Saves, stopped_reply}
 use Rattle.mail_save.specs.declared.add.Added.{Added}
 use Rattle.mail_save.specs.declared.first.SavedParts.{SavedParts}
@@ -162,7 +162,7 @@ refused_lists stage.Ended name octets why lists = refl
 pub record SaveEvent {D : Type 0} (history : D → Option History) (faults : D → Faults) (name : List ℕ) (time : ℕ) (octets : List ℕ) (now next : SaveStage) (s t : StoreValue D) (how : Did) (answer : Progress) : Type 0 where
   pub around : Around
   pub after : Around
-  pub does : Steps (λ run place said. IsAtSave now run place said × (s.stopped ≡ false → FindsRoom around run)) (IsAtSave next) around after (request.Deliver name time octets) (seen_alone s (history s.disk) (faults s.disk)) (seen_alone t (history t.disk) (faults t.disk)) how (ended_by answer)
+  pub does : StepsWithRoom (IsAtSave now) (IsAtSave next) around after (request.Deliver name time octets) (seen_alone s (history s.disk) (faults s.disk)) (seen_alone t (history t.disk) (faults t.disk)) how (ended_by answer)
   pub finds : (run : Run) (said : List Reply) → All (λ e. e.request ≡ 0) run.events → IsAtSave now run 0 said → FindsRoom around run
   pub moments : (lists : Lists) → IsSettledFor lists (history s.disk) → Leaves lists (save_lists now name octets lists) (history s.disk) (history t.disk)
   pub settled : t.stopped ≡ false → (lists : Lists) → IsSettledFor lists (history s.disk) → IsSettledFor (lists_delivered now name octets answer lists) (history t.disk)
@@ -307,7 +307,7 @@ saving_by history faults name time octets prepared first s t now next how so eve
   settled = λ lists at. subst (λ (ls : Lists). IsSettledFor ls (history t.disk)) (more_lists now name octets lists) (event.settled running lists (so.settled lists at));
   way = λ lists seen u0.
       let u = so.way lists seen u0 in
-      let d = event.does u.run 1 0 u.said lists u.goes.serves.come (way_shows (IsAtSave now) asked lists lists seen from u) (u.stands, λ runs. event.finds u.run u.said (of_one asked lists u.run u.journal u.broken seen from u.goes) u.stands) in
+      let d = event.does u.run 1 0 u.said lists u.goes.serves.come (way_shows (IsAtSave now) asked lists lists seen from u) (u.stands, event.finds u.run u.said (of_one asked lists u.run u.journal u.broken seen from u.goes) u.stands) in
       let v = way_goes_on (IsAtSave now) (IsAtSave next) asked lists lists seen from to event.around event.after how u d.0 (d.1 refl) in
       let was : u.said ≡ [] = said_none now refusal.NoMemory u.run u.said u.stands (known_only history name time octets prepared first s now so.knows) in
       let is : and_told u.said d.0.makes.answer ≡ [] = said_none next refusal.NoMemory (and_then u.run d.0.makes.event) (and_told u.said d.0.makes.answer) (d.1 refl) (known_only history name time octets prepared first t next knows) in
@@ -598,7 +598,7 @@ saving_ended : {D : Type 0} → (history : D → Option History) (faults : D →
 saving_ended history faults name time octets prepared first s t now next how given so event k told = record {
   served = λ lists seen u0.
       let u = so.way lists seen u0 in
-      let d = event.does u.run 1 0 u.said lists u.goes.serves.come (way_shows (IsAtSave now) asked lists lists seen from u) (u.stands, λ runs. event.finds u.run u.said (of_one asked lists u.run u.journal u.broken seen from u.goes) u.stands) in
+      let d = event.does u.run 1 0 u.said lists u.goes.serves.come (way_shows (IsAtSave now) asked lists lists seen from u) (u.stands, event.finds u.run u.said (of_one asked lists u.run u.journal u.broken seen from u.goes) u.stands) in
       way_ends (IsAtSave now) asked lists lists given seen from to event.around event.after how t u k refl refl d.0 (λ fault. fault_event event.around event.after u.run u.said asked from to how given d.0 fault);
   moments = λ lists at. moments_on (AreAlongSave name time octets) lists lists (save_lists now name octets lists) (history first.disk) (history s.disk) (history t.disk) (inl refl) (along history name time octets prepared first s now so.knows lists) (so.moments lists at) (event.moments lists (so.settled lists at));
   settled = λ runs lists at. subst (λ (ls : Lists). IsSettledFor ls (history t.disk)) (told lists) (event.settled runs lists (so.settled lists at));
@@ -976,7 +976,7 @@ pub record SaveSaid {D : Type 0} (history : D → Option History) (faults : D �
   pub moments : (lists : Lists) → IsSettledFor lists (history s.disk) → Leaves lists (save_lists now name octets lists) (history s.disk) (history t.disk)
   pub settled : t.stopped ≡ false → (lists : Lists) → IsSettledFor lists (history s.disk) → IsSettledFor (lists_delivered now name octets answer lists) (history t.disk)
   pub says : s.stopped ≡ false → Saves now next name time size answer how s t (history s.disk) (history t.disk) (faults s.disk) (faults t.disk)
-  pub does : Steps (λ run place said. IsAtSave now run place said × (s.stopped ≡ false → FindsRoom (around_saving octets now s) run)) (IsAtSave next) (around_saving octets now s) nothing_found (request.Deliver name time octets) (seen_alone s (history s.disk) (faults s.disk)) (seen_alone t (history t.disk) (faults t.disk)) how (ended_by answer)
+  pub does : StepsWithRoom (IsAtSave now) (IsAtSave next) (around_saving octets now s) nothing_found (request.Deliver name time octets) (seen_alone s (history s.disk) (faults s.disk)) (seen_alone t (history t.disk) (faults t.disk)) how (ended_by answer)
 
 -- of a task that has this name and time
 pub save_said_of : {D : Type 0} → (history : D → Option History) (faults : D → Faults) (name other : List ℕ) (time last size : ℕ) (octets : List ℕ) (now next : SaveStage) (s t : StoreValue D) (how : Did) (answer : Progress) → other ≡ name → last ≡ time
