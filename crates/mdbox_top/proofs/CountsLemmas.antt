@@ -129,7 +129,7 @@ counts_done given old mid began s how w show =
     record {
       tells = l;
       serves = λ lists safe. counts_served lists given old mid began s how w show (counts_calm old mid given l) safe;
-      moments = (w.opened.stays, w.opened.safe);
+      moments = record { safe = w.opened.safe; stays = w.opened.stays; closed_well = w.opened.closed_well };
       rests = λ none. (w.opened.settled_again, w.opened.carried);
       faults = counts_faults given began (counts_calm old mid given l) (counts_run old mid given l);
     }

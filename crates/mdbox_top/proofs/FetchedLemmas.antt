@@ -3,7 +3,8 @@ use Rattle.std.specs.Prelude.{◌≡◌, ◌⊎◌, ℕ, false, List, Option, So
 use Rattle.std.proofs.Common.{refl, sym, ◌∙◌, subst, inl, inr}
 use Rattle.disk_model.specs.Disk.{History, Faults, IsIdle}
 use Rattle.disk_model.proofs.BetweenLemmas.{between-same}
-use Rattle.disk_model.proofs.MomentLemmas.{each_image-then}
+use Rattle.disk_model.proofs.IdleLemmas.{idle-then}
+use Rattle.disk_model.proofs.MomentLemmas.{each_image-then, if_told-map}
 use Rattle.mdbox_base.specs.declared.ids.Uid.{Uid}
 use Rattle.mdbox_base.specs.declared.replies.Refusal.{Refusal}
 use Rattle.mdbox_base.specs.declared.replies.Refusal.TheVariants as refusal
@@ -20,7 +21,7 @@ use Rattle.model_store.proofs.SettledLemmas.{safe_carried}
 use Rattle.model_store.proofs.StandsLemmas.{root_same}
 use Rattle.store_core.specs.Running.{IsStore}
 use Rattle.store_core.specs.Value.{StoreValue, indexes_of}
-use Rattle.store_open.specs.Opened.{IsOpenedAs, StoreCarries}
+use Rattle.store_open.specs.Opened.{IsOpenedAs, StoreCarries, IsClosedWell}
 use Rattle.store_open.proofs.SweptStoreLemmas.{idle_settled, idle_safe}
 use Rattle.mail_fetch.specs.Clause.{ReadsSafe}
 use Rattle.mail_fetch.specs.Events.{fetch_refusal}
@@ -103,7 +104,11 @@ pub fetch_done : {D : Type 0} → (name : List ℕ) (uid : Uid) (given : Reply) 
 fetch_done name uid given old mid new began now s t w show = record {
   tells = fetch_tells name uid given old mid new began now s t w show;
   serves = λ lists safe. w.served lists (before_opening (seen_alone s mid began) old) (fetch_opens name uid lists old mid began s w.opened show safe) (carried_safe lists old mid w.opened.carried safe);
-  moments = (mail_kept_on old mid new w.opened.stays w.idle, λ lists at. each_image-then (λ _ image. Safe image lists) old mid new (w.opened.safe lists at) (idle_safe lists mid new w.idle (w.opened.settled_again lists at)));
+  moments = record {
+    safe = λ lists at. each_image-then (λ _ image. Safe image lists) old mid new (w.opened.safe lists at) (idle_safe lists mid new w.idle (w.opened.settled_again lists at));
+    stays = mail_kept_on old mid new w.opened.stays w.idle;
+    closed_well = if_told-map (λ disk. IsClosedWell disk → IsIdle old mid) (λ disk. IsClosedWell disk → IsIdle old new) old (λ disk still well. idle-then old mid new (still well) w.idle) w.opened.closed_well;
+  };
   rests = λ none. (stays_settled old mid new s w.opened w.idle, stays_carried old mid new s w.opened w.idle);
   faults = w.faults;
 }

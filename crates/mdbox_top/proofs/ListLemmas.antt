@@ -1,7 +1,7 @@
 -- The reply to a listing.
 use Rattle.std.specs.Prelude.{◌≡◌, ◌⊎◌, ℕ, Bool, false, List, Option, Some, None, if◌then◌else◌}
 use Rattle.std.proofs.Common.{sym, ◌∙◌, ap, subst, inl, inr}
-use Rattle.disk_model.specs.Disk.{History, Faults, EachImage}
+use Rattle.disk_model.specs.Disk.{History, Faults}
 use Rattle.mdbox_base.specs.declared.progress.Did.{Did}
 use Rattle.mdbox_base.specs.declared.replies.Refusal.TheVariants as refusal
 use Rattle.mdbox_base.specs.declared.replies.Reply.{Reply}
@@ -9,10 +9,9 @@ use Rattle.mdbox_base.specs.declared.replies.Reply.TheVariants as reply
 use Rattle.mdbox_base.specs.declared.requests.Request.TheVariants as request
 use Rattle.model_meaning.specs.BoxMeaning.{BoxMeaning}
 use Rattle.model_store.specs.Listing.{listing_of}
-use Rattle.model_store.specs.Safe.{Safe}
 use Rattle.journal.specs.Journal.{is_read_fault}
 use Rattle.store_core.specs.Value.{StoreValue, indexes_of, list_named}
-use Rattle.store_open.specs.Opened.{IsOpenedAs, StoreCarries, KeepsOpenedMail}
+use Rattle.store_open.specs.Opened.{IsOpenedAs, StoreCarries}
 use Rattle.store_sweep.specs.Swept.{IsSwept}
 use Rattle.mail_ops.specs.Requests.{Replies}
 use Rattle.mdbox_top.specs.ListRun.{StaysSettled, IsListReply, ListMoments, ListRests}
@@ -58,10 +57,8 @@ list_tells name given old mid new began now s t how w show answer =
     }
 
 pub list_leaves : {D : Type 0} → (name : List ℕ) (given : Reply) (old mid new : Option History) (began now : Faults) (s t : StoreValue D) (how : Did) → Doing (request.List name) given old mid new began now s t how → ListMoments old new
-list_leaves name given old mid new began now s t how w = (
-  subst (λ (h : Option History). KeepsOpenedMail old h) (sym (w.unchanged tt)) w.opened.stays,
-  λ lists at. subst (λ (h : Option History). EachImage (λ _ image. Safe image lists) old h) (sym (w.unchanged tt)) (w.opened.safe lists at),
-)
+list_leaves name given old mid new began now s t how w =
+    subst (λ (h : Option History). ListMoments old h) (sym (w.unchanged tt)) (record { safe = w.opened.safe; stays = w.opened.stays; closed_well = w.opened.closed_well })
 
 pub list_rests : {D : Type 0} → (name : List ℕ) (given : Reply) (old mid new : Option History) (began now : Faults) (s t : StoreValue D) (how : Did) (failed : Type 0) → Doing (request.List name) given old mid new began now s t how → ListRests failed began now old new
 list_rests name given old mid new began now s t how failed w = λ none. (

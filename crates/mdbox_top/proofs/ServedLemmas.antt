@@ -28,7 +28,7 @@ use Rattle.store_files.specs.Found.{IsFoundFiles}
 use Rattle.store_instances.specs.FoundInstances.{IsFoundInstances}
 use Rattle.store_core.specs.Value.{none_due, StoreValue, indexes_of}
 use Rattle.store_seen.proofs.SeeingLemmas.{comes_at_first}
-use Rattle.store_open.specs.Opened.{IsOpenedAs, StoreCarries, KeepsOpenedMail}
+use Rattle.store_open.specs.Opened.{IsOpenedAs, StoreCarries, KeepsOpenedMail, IsClosedWell}
 use Rattle.store_sweep.specs.Swept.{IsSwept}
 use Rattle.mail_ops.proofs.KeptMailLemmas.{mail_unnamed}
 use Rattle.mail_ops.specs.Making.{NamesMail}
@@ -41,6 +41,7 @@ use Rattle.mdbox_top.specs.UnderWay.{IsUnderWay, seen_alone}
 use Rattle.mdbox_top.proofs.OpenedLemmas.{bars_known, found_is_told, knows_named, none_doomed}
 use Rattle.mdbox_top.proofs.ShownLemmas.{LogsShow, opened_shows}
 use Rattle.mdbox_top.proofs.UnderWayLemmas.{nothing_found, beginning, before_opening, run_begins, way_begins, way_shows, way_ends}
+use Rattle.store_sweep.specs.Moments.{IdleIf}
 
 -- ---- the opening
 
@@ -59,6 +60,7 @@ pub record OpenedNow {D : Type 0} (old mid : Option History) (s : StoreValue D) 
   pub carried : StoreCarries old mid
   pub swept : (generation : ℕ) × IsSwept generation s.map old mid
   pub stays : KeepsOpenedMail old mid
+  pub closed_well : IdleIf IsClosedWell old mid
 
 -- the run has come to it
 pub comes : {D : Type 0} → (old mid : Option History) (began : Faults) (s : StoreValue D) → (o : OpenedNow old mid s) → HasComeTo (beginning s.map o.store.entries) (seen_alone s mid began)

@@ -42,7 +42,8 @@ abbrev pub CountsOutcome : Option (List ℕ) → Option (List ℕ) → Option Hi
 CountsOutcome = RequestOutcome IsCountsReply request.Counts
 
 -- A crash at any moment of a count leaves a disk that is safe for the lists for which it was settled, whatever fails; and of any
--- disk it leaves of storage files and instances what a crash could leave of them at the beginning.
+-- disk it leaves of storage files and instances what a crash could leave of them at the beginning. A store that was closed well is
+-- left as it is.
 abbrev pub CountsMoments : Option History → Option History → Type 0
 CountsMoments old new = ListMoments old new
 

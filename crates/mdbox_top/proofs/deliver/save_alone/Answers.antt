@@ -25,6 +25,7 @@ returns-in-Ok-clause-done g c = λ octets small form.
         carried = o.carried (λ f. absurd f);
         swept = (o.swept.0, o.swept.2);
         stays = o.mail_stays;
+        closed_well = o.closed_well;
       };
       form = form;
       known = c.facts.ensures.instances;
@@ -39,4 +40,4 @@ returns-in-Ok-clause-done g c = λ octets small form.
 pub returns-in-Err-clause-refused : goal.returns-in-Err-clause-refused
 returns-in-Err-clause-refused g c =
     let o = c.in-Err.ensures in
-    record { cause = o.refused; idle = o.idle; untouched = o.untouched; stays = o.mail_stays; moments = o.any_moment; settled_again = o.settled_again; carried = o.carried; fault = o.fault; unfailed = o.unfailed }
+    record { cause = o.refused; idle = o.idle; untouched = o.untouched; stays = o.mail_stays; closed_well = o.closed_well; moments = o.any_moment; settled_again = o.settled_again; carried = o.carried; fault = o.fault; unfailed = o.unfailed }
