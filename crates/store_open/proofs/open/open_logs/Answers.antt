@@ -264,25 +264,25 @@ pub returns-in_err-files-clause-closed_well : goal.returns-in_err-files-clause-c
 returns-in_err-files-clause-closed_well g c = idle_if IsClosedWell _ _ (idle-then _ _ _ c.in_ok-checked.ensures.idle c.in_err-files.ensures.idle)
 
 pub returns-in_err-logs-clause-mail_stays : goal.returns-in_err-logs-clause-mail_stays
-returns-in_err-logs-clause-mail_stays g c = 
+returns-in_err-logs-clause-mail_stays g c =
     let k = c.in_ok-checked.ensures.checked in
     let idle = idle-then _ _ _ c.in_ok-checked.ensures.idle c.in_ok-files.ensures.idle in
     mail_of_opened c.in_ok-checked.checked.map.meaning c.in_ok-checked.checked.id.0 k.1 k.2 _ _ k.3.map_is k.3.opens
     (kept_then c.in_ok-checked.checked.map.meaning _ _ _ (g.met.D.Disk.reads_image c.find_files.new.disk) (kept_idle c.in_ok-checked.checked.map.meaning _ _ idle) c.in_err-logs.ensures.mail_stays)
 
 pub returns-clause-mail_stays : goal.returns-clause-mail_stays
-returns-clause-mail_stays g c = 
+returns-clause-mail_stays g c =
     let k = c.in_ok-checked.ensures.checked in
     let idle = idle-then _ _ _ c.in_ok-checked.ensures.idle c.in_ok-files.ensures.idle in
     mail_of_opened c.in_ok-checked.checked.map.meaning c.in_ok-checked.checked.id.0 k.1 k.2 _ _ k.3.map_is k.3.opens
     (kept_then c.in_ok-checked.checked.map.meaning _ _ _ (g.met.D.Disk.reads_image c.find_files.new.disk) (kept_idle c.in_ok-checked.checked.map.meaning _ _ idle) c.in_ok-logs.ensures.mail_stays)
 
 pub returns-in_err-logs-clause-closed_well : goal.returns-in_err-logs-clause-closed_well
-returns-in_err-logs-clause-closed_well g c = 
+returns-in_err-logs-clause-closed_well g c =
     let k = c.in_ok-checked.ensures.checked in
     closed_sweep c.in_ok-checked.checked k.0 k.1 k.2 _ _ _ _ c.in_ok-checked.ensures.idle c.in_ok-files.ensures.idle k.3 c.in_err-logs.ensures.idle
 
 pub returns-clause-closed_well : goal.returns-clause-closed_well
-returns-clause-closed_well g c = 
+returns-clause-closed_well g c =
     let k = c.in_ok-checked.ensures.checked in
     closed_sweep c.in_ok-checked.checked k.0 k.1 k.2 _ _ _ _ c.in_ok-checked.ensures.idle c.in_ok-files.ensures.idle k.3 c.in_ok-logs.ensures.idle

@@ -129,7 +129,7 @@ returns-clause-indexes g c =
     }
 
 pub returns-in_err-log-clause-mail_stays : goal.returns-in_err-log-clause-mail_stays
-returns-in_err-log-clause-mail_stays g c = 
+returns-in_err-log-clause-mail_stays g c =
     let whole = whole_next c.loop-checked.yielded c.in-Some.checked _ _ c.args.found.items c.in-Some.ensures.steps.0 c.loop-checked.invariant.whole in
     let logs = logs_whole c.loop-checked.yielded c.in-Some.checked _ c.args.found.items whole in
     let next : Next c.args.map.now.meaning (found_logs c.loop-checked.yielded) c.in-Some.checked.log = next_log c.args.map.now.meaning (found_logs c.args.found.items) (found_logs c.loop-checked.yielded) c.in-Some.checked.log _ c.known_facts.ensures.boxes.rising c.requires.logs logs in
@@ -139,7 +139,7 @@ pub returns-clause-mail_stays : goal.returns-clause-mail_stays
 returns-clause-mail_stays g c = c.loop-checked.invariant.mail_stays
 
 pub returns-in_err-log-clause-untouched : goal.returns-in_err-log-clause-untouched
-returns-in_err-log-clause-untouched g c = 
+returns-in_err-log-clause-untouched g c =
     let whole = whole_next c.loop-checked.yielded c.in-Some.checked _ _ c.args.found.items c.in-Some.ensures.steps.0 c.loop-checked.invariant.whole in
     let logs = logs_whole c.loop-checked.yielded c.in-Some.checked _ c.args.found.items whole in
     λ all. (c.in_err-log.ensures.untouched (whole_log (found_logs c.loop-checked.yielded) c.in-Some.checked.log _ (found_logs c.args.found.items) logs all)).1 ∙ c.loop-checked.invariant.untouched all

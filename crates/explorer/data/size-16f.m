@@ -1,0 +1,6 @@
+2 M1e C65000000
+N          FFFFFFFFFFFFFFFF
+Hello
+
+R65000001
+

@@ -1,0 +1,4 @@
+mod BesideLemmas
+mod HeldLemmas
+mod StepLemmas
+mod TurnLemmas
