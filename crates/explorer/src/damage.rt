@@ -81,15 +81,21 @@ impl Damage<'_> {
 
     /// The run with these octets in place of the others.
     fn ran(self, disk: &MemDisk, octets: &[u8]) -> Result<(u8, Streams), Trouble> {
+        let mut streams = Streams::sound(self.alloc, self.input(octets))?;
         let mut disk = copy_of(self.alloc, disk)?;
-        let mut input = self.run.input;
-        match self.damaged {
-            Damaged::File(name) => put(&mut disk, name, octets, true)?,
-            Damaged::Input => input = octets,
+        if let Damaged::File(name) = self.damaged {
+            put(&mut disk, name, octets, true)?;
         }
-        let mut streams = Streams::sound(self.alloc, input)?;
         let (_left, status) = perform(self.alloc, disk, self.run.words, &mut streams);
         Ok((status, streams))
+    }
+
+    /// The input of the run, where these octets are in place of the others.
+    fn input<'y>(&'y self, octets: &'y [u8]) -> &'y [u8] {
+        match self.damaged {
+            Damaged::File(_) => self.run.input,
+            Damaged::Input => octets,
+        }
     }
 }
 

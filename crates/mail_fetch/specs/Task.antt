@@ -12,9 +12,8 @@ use Rattle.mdbox_base.specs.declared.script.Half.TheVariants as half
 use Rattle.model_meaning.specs.MapMeaning.{MapMeaning}
 use Rattle.list_machine.specs.Machine.{is_step}
 use Rattle.journal.specs.Events.{pieces_to_read}
-use Rattle.store_core.specs.Dues.{due_at}
-use Rattle.store_core.specs.Knows.{knows_file, may_be_gone, may_have_given}
-use Rattle.store_core.specs.Value.{StoreValue, indexes_of}
+use Rattle.store_core.specs.Value.{StoreValue}
+use Rattle.store_seen.specs.Seeing.{seen_of}
 use Rattle.task_steps.specs.Step.{Seen}
 use Rattle.mail_fetch.specs.Parts.{HasSomeOctets, KnowsSource, pieces_left}
 use Rattle.mail_fetch.specs.declared.task.FetchStage.{FetchStage}
@@ -66,21 +65,6 @@ pins_at (stage.Reading region) file = one_pin region.from.file.0 file
 pins_at (stage.Unpinning from given) file = one_pin from.file.0 file
 
 -- A store as an event of a fetch sees it, with what its disk tells and the faults that it has counted: so many pins of each
--- file are other tasks', and those of this stage are its own. No task dooms a file, or places an instance, yet.
+-- file are other tasks', and those of this stage are its own.
 abbrev pub seen_with_pins : {D : Type 0} → (ℕ → ℕ) → FetchStage → StoreValue D → Option History → Faults → Seen
-seen_with_pins others now store history faults = record {
-  map = store.map;
-  meanings = indexes_of store.boxes;
-  drawn = store.drawn;
-  history = history;
-  faults = faults;
-  stopped = store.stopped;
-  due = λ uid. due_at uid store;
-  pins = λ file. others file + pins_at now file;
-  doomed = λ file. false;
-  used = λ file. false;
-  gave = λ guid. may_have_given store guid;
-  gone = λ instance. may_be_gone store instance;
-  files = λ file. knows_file store file;
-  instances = λ instance. false;
-}
+seen_with_pins others now store history faults = record (seen_of store history faults) { pins = λ file. others file + pins_at now file }

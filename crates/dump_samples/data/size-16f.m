@@ -1,6 +1,0 @@
-2 M1e C65000000
-N          FFFFFFFFFFFFFFFF
-Hello
-
-R65000001
-

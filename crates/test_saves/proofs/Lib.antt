@@ -1,4 +1,0 @@
-mod BesideLemmas
-mod HeldLemmas
-mod StepLemmas
-mod TurnLemmas
