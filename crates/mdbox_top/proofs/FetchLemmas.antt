@@ -31,6 +31,7 @@ use Rattle.list_machine.specs.Run.{EventPart, First, RunEvent, Run, before, own_
 use Rattle.journal.specs.Events.{Around, is_fault, is_faulted}
 use Rattle.journal.specs.Journal.{JournalStep, AreSteps, refusal_in, is_read_fault, steps_of}
 use Rattle.journal.specs.Makes.{StepOf}
+use Rattle.storage_files.specs.Files.{is_doomed_in}
 use Rattle.storage_files.specs.OnDisk.{piece_read}
 use Rattle.store_core.specs.Running.{IsStore}
 use Rattle.store_core.specs.Value.{StoreValue, list_named}
@@ -41,7 +42,7 @@ use Rattle.mail_fetch.specs.Failed.{HasFailedRead}
 use Rattle.mail_fetch.specs.Parts.{instance_part, left_after, parts_to_read, parts_read, pieces_left}
 use Rattle.mail_fetch.specs.Region.{stored_at, RegionValue, unread, IsReplyFor, damage_at}
 use Rattle.mail_fetch.specs.Stages.{IsAtFetch, IsTrueReply, UnpinsNext}
-use Rattle.mail_fetch.specs.Task.{FetchValue, seen_with_pins}
+use Rattle.mail_fetch.specs.Task.{FetchValue, UnpinsUndoomed, seen_with_pins}
 use Rattle.mail_fetch.specs.declared.parts.StoredAt.{StoredAt}
 use Rattle.mail_fetch.specs.declared.task.FetchStage.{FetchStage}
 use Rattle.mail_fetch.specs.declared.task.FetchStage.TheVariants as stage
@@ -477,6 +478,12 @@ served_ends history faults name uid first d e now next how given running so even
     omega (arith, one, more))
 
 -- ---- from what a step says
+
+-- no file is doomed, so not that which is unpinned
+pub unpins_undoomed : {D : Type 0} → (now : FetchStage) (first s : StoreValue D) → s ≡ at_disk first s.disk → ((file : ℕ) → is_doomed_in file first.files.files ≡ false) → UnpinsUndoomed now s
+unpins_undoomed (stage.Unpinning from given) first s same none = ap (λ (v : StoreValue _). is_doomed_in from.file.0 v.files.files) same ∙ none from.file.0
+unpins_undoomed stage.First first s same none = tt
+unpins_undoomed (stage.Reading region) first s same none = tt
 
 -- What a step of the task says, of the store as it was and as it is.
 pub record StepSaid {D : Type 0} (history : D → Option History) (faults : D → Faults) (s t : StoreValue D) (task next : FetchValue) (answer : Progress) : Type 0 where

@@ -2,7 +2,11 @@ use Rattle.std.proofs.Common.{sym, subst}
 use Rattle.mdbox_base.specs.declared.requests.Request.TheVariants as request
 use Rattle.mdbox_top.specs.Alone.{IsDoneAlone}
 use Rattle.mdbox_top.proofs.FetchedLemmas.{fetch_done}
+use Rattle.mdbox_top.proofs.OpenedLemmas.{none_doomed}
 use Rattle.mdbox_top.proofs.fetch.fetch_alone.Goals as goal
+
+pub take_message-reply-requires-clause-undoomed : goal.take_message-reply-requires-clause-undoomed
+take_message-reply-requires-clause-undoomed g c file = none_doomed c.in-Ok.store (g.D.Disk.history c.args.disk) c.in-Ok.ensures.files file
 
 pub returns-in-Ok-clause-done : goal.returns-in-Ok-clause-done
 returns-in-Ok-clause-done g c =
