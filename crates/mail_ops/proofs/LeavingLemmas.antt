@@ -92,7 +92,7 @@ raise_leaves : {D : Type 0} → (mine : Claims) (name : List ℕ) (uid : Uid) (t
 raise_leaves mine name uid target held old new before after began now is r =
     map_leaves mine (raising_of held) old new before after began now r.took (raised_same held old.map)
     (same_unlisted mine old new r.took.appends.indexes (λ u none rec found listed.
-        r.took.due u ∙ due_other (held.0 == u) (due_at u old) (λ t. other_record before old name uid.0 r.at.source r.row u rec is r.at.from found listed (sym r.holds ∙ eqb-true held.0 u t))))
+    r.took.due u ∙ due_other (held.0 == u) (due_at u old) (λ t. other_record before old name uid.0 r.at.source r.row u rec is r.at.from found listed (sym r.holds ∙ eqb-true held.0 u t))))
 
 lower_leaves : {D : Type 0} → (owed : MapUid) (old new : StoreValue D) (before after : Option History) (began now : Faults) (mine : Claims) → ((uid : ℕ) → mine (Due uid) ≡ one_due owed.0 uid) → MapTook (lowering_of owed) old new before after began now → LeavesOthers mine old new before after
 lower_leaves owed old new before after began now mine own t =
@@ -136,9 +136,9 @@ remove_leaves mine name uid owed old new before after began now is r =
     box_leaves mine r.number (box_entry.R uid) old new before after began now r.took (removal_left name uid owed old new before after began now r)
     (λ u rec none found listed. (
       none_more (references_to new rec.guid) (references_to old rec.guid)
-      (subst (λ (ms : List BoxMeaning). refs_in ms rec.guid ≤ references_to old rec.guid) (sym r.took.taken) (entry_refs rec.guid r.number (box_entry.R uid) old.map.boxes (indexes_of old.boxes) (removal_lists rec.guid uid))) listed,
+          (subst (λ (ms : List BoxMeaning). refs_in ms rec.guid ≤ references_to old rec.guid) (sym r.took.taken) (entry_refs rec.guid r.number (box_entry.R uid) old.map.boxes (indexes_of old.boxes) (removal_lists rec.guid uid))) listed,
       r.took.due r.there.m u r.there.box.numbered
-      ∙ (ap (λ (o : Option LogRow). option_map_or (λ row. more_due 1 row.map_uid (λ k. due_at k old)) o (λ k. due_at k old) u) r.there.listed ∙ due_other (r.row.map_uid == u) (due_at u old) (λ t. other_record before old name uid.0 r.number r.row u rec is r.there found listed (eqb-true r.row.map_uid u t))),
+          ∙ (ap (λ (o : Option LogRow). option_map_or (λ row. more_due 1 row.map_uid (λ k. due_at k old)) o (λ k. due_at k old) u) r.there.listed ∙ due_other (r.row.map_uid == u) (due_at u old) (λ t. other_record before old name uid.0 r.number r.row u rec is r.there found listed (eqb-true r.row.map_uid u t))),
     ))
 
 -- ---- nothing
@@ -167,7 +167,7 @@ flag_leaves number uid flags old new before after map_is files instances taken m
     rest_leaves no_claims old new before after files instances (mail_same before after mail) (same_map old.map new.map map_is) keeps
     (λ other rec none found listed. (
       none_more (references_to new rec.guid) (references_to old rec.guid)
-      (subst (λ (ms : List BoxMeaning). refs_in ms rec.guid ≤ references_to old rec.guid) (sym taken) (entry_refs rec.guid number (box_entry.F uid flags) old.map.boxes (indexes_of old.boxes) (flag_lists rec.guid uid flags))) listed,
+          (subst (λ (ms : List BoxMeaning). refs_in ms rec.guid ≤ references_to old rec.guid) (sym taken) (entry_refs rec.guid number (box_entry.F uid flags) old.map.boxes (indexes_of old.boxes) (flag_lists rec.guid uid flags))) listed,
       due other,
     ))
 
