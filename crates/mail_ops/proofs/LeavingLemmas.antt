@@ -1,8 +1,8 @@
 -- What each event of a copy, a move or an expunge leaves to the tasks beside it.
-use Rattle.std.proofs.Common.{◌≡◌, ◌≤◌, ◌+◌, ◌-◌, ◌||◌, ◌==◌, ℕ, Bool, true, false, cond, List, [], ◌∷◌, Option, Some, None, refl, sym, ◌∙◌, ap, subst, arith}
+use Rattle.std.proofs.Common.{◌≡◌, ◌≤◌, ◌+◌, ◌-◌, ◌||◌, ◌==◌, ℕ, Bool, true, false, cond, List, [], ◌∷◌, Option, Some, refl, sym, ◌∙◌, ap, subst, arith}
 use Rattle.std.specs.Str.{bytes_eq}
 use Rattle.std.specs.Option.{option_map_or}
-use Rattle.std.proofs.lemmas.Bool.{eqb-true, cond-false}
+use Rattle.std.proofs.lemmas.Bool.{eqb-true}
 use Rattle.disk_model.specs.Disk.{History, Faults}
 use Rattle.mdbox_base.specs.declared.entries.BoxEntry.{BoxEntry}
 use Rattle.mdbox_base.specs.declared.entries.BoxEntry.TheVariants as box_entry
@@ -13,23 +13,22 @@ use Rattle.mdbox_base.specs.declared.progress.Did.{Did}
 use Rattle.mdbox_base.specs.declared.progress.Progress.{Progress}
 use Rattle.mdbox_base.specs.declared.progress.Progress.TheVariants as progress
 use Rattle.mdbox_base.specs.declared.replies.Reply.TheVariants as reply
-use Rattle.model_meaning.specs.BoxMeaning.{LogRow, BoxMeaning, row_at}
-use Rattle.model_meaning.specs.MapMeaning.{MapBox, MapMeaning, MapRecord, record_at, map_applied}
+use Rattle.model_meaning.specs.BoxMeaning.{LogRow, BoxMeaning}
+use Rattle.model_meaning.specs.MapMeaning.{MapMeaning, MapRecord, record_at, map_applied}
 use Rattle.model_appends.specs.Appending.{meanings_by}
-use Rattle.model_appends.specs.Amounts.{bit, due_by_box, more_due}
-use Rattle.model_octets.proofs.SearchLemmas.{text_is, text_yes}
-use Rattle.model_store.specs.Listing.{meaning_named, refs_in}
-use Rattle.sis_store.specs.Instances.{InstancesValue}
+use Rattle.model_appends.specs.Amounts.{bit, more_due}
+use Rattle.model_octets.proofs.SearchLemmas.{text_yes}
+use Rattle.model_store.specs.Listing.{refs_in}
 use Rattle.store_core.specs.Dues.{due_at}
 use Rattle.store_core.specs.Keeping.{KeepsMail, KeepsUids}
 use Rattle.store_core.specs.Running.{IsStore}
-use Rattle.store_core.specs.Value.{StoreValue, indexes_of, list_named, references_to}
+use Rattle.store_core.specs.Value.{StoreValue, indexes_of, references_to}
 use Rattle.task_claims.specs.Claims.{Claims, Due, no_claims}
 use Rattle.task_claims.specs.Leaving.{LeavesOthers, LeavesUnlisted, SameButCounts}
 use Rattle.task_claims.proofs.CountedLemmas.{lowered_same, raised_same, same_map}
 use Rattle.task_claims.proofs.RestLemmas.{mail_same, rest_leaves}
 use Rattle.task_steps.specs.ExpungeStages.{one_due}
-use Rattle.mail_ops.specs.Appends.{BoxTook, MapTook, MapFell, lowering_of}
+use Rattle.mail_ops.specs.Appends.{BoxTook, MapTook, lowering_of}
 use Rattle.mail_ops.specs.Claims.{copy_claims, expunge_claims, move_claims}
 use Rattle.mail_ops.specs.Copy.{CopiesOn, CopyValue}
 use Rattle.mail_ops.specs.Copying.{AddsRow, IsNotRaised, RaisesRow, added_copy, raising_of}
@@ -48,7 +47,7 @@ use Rattle.mail_ops.proofs.EventLemmas.{fall}
 use Rattle.mail_ops.proofs.KeptMailLemmas.{same_mail}
 use Rattle.mail_ops.proofs.KeptUidLemmas.{took_keeps, addition_left, removal_left}
 use Rattle.mail_ops.proofs.MessageLemmas.{record_of_row}
-use Rattle.mail_ops.proofs.UnlistedLemmas.{addition_lists, entry_refs, flag_lists, has_guid, listed_counts, removal_lists}
+use Rattle.mail_ops.proofs.UnlistedLemmas.{addition_lists, entry_refs, flag_lists, listed_counts, removal_lists}
 
 -- ---- records that no mailbox lists
 
