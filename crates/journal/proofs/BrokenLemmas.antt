@@ -25,7 +25,7 @@ broken_is run script start journal failed would began step s = (subst (λ (r : R
 
 -- The broken steps are of the append that failed, also in a run that goes on.
 pub none_failed : (run : Run) → IsOfFailure run no_broken
-none_failed run = record { first = All-nil _; events = tt; steps = All-nil _; once = pairs_nil (λ (a b : JournalStep). a.event < b.event); began = All-nil _ }
+none_failed run = record { first = All-nil _; events = tt; one = omega arith; steps = All-nil _; once = pairs_nil (λ (a b : JournalStep). a.event < b.event); began = All-nil _ }
 
 would_have_been : (events failed : List RunEvent) (would : RunEvent) → events ≡ failed → WouldHaveBeen failed (would ∷ []) → WouldHaveBeen events (would ∷ [])
 would_have_been events failed would e h = subst (λ (es : List RunEvent). WouldHaveBeen es (would ∷ [])) (sym e) h
@@ -35,6 +35,7 @@ pub failure_is : (run : Run) (failed would : RunEvent) (began : ℕ) (step : Jou
 failure_is run failed would began step ran before stopped lane request part place = record {
   first = subst (λ (es : List RunEvent). All (λ e. e.refused ≢ Some refusal.Stopped) es) (sym (take-append_seam run.events (failed ∷ []))) ran;
   events = would_have_been _ (failed ∷ []) would (drop-append_seam run.events (failed ∷ [])) (stopped, lane, request, part, tt);
+  one = omega arith;
   steps = All-cons (λ (s : JournalStep). length run.events ≤ s.event) step [] (omega (arith, place)) (All-nil _);
   once = AllPairs-cons (λ (a b : JournalStep). a.event < b.event) step [] (All-nil _) (pairs_nil (λ (a b : JournalStep). a.event < b.event));
   began = subst (λ (es : List RunEvent). All (λ e. e.moment ≤ began) es) (sym (take-append_seam run.events (failed ∷ []))) before;
@@ -49,6 +50,7 @@ pub failure_still : (run : Run) (event : RunEvent) (broken : Broken) → broken.
 failure_still run event broken within f = record {
   first = subst (λ (es : List RunEvent). All (λ e. e.refused ≢ Some refusal.Stopped) es) (sym (take-append-le broken.place run.events (event ∷ []) within)) f.first;
   events = subst (λ (es : List RunEvent). WouldHaveBeen es broken.events) (sym (drop-append-le broken.place run.events (event ∷ []) within)) (would_have_been_more (drop broken.place run.events) (event ∷ []) broken.events f.events);
+  one = f.one;
   steps = f.steps;
   once = f.once;
   began = subst (λ (es : List RunEvent). All (λ e. e.moment ≤ broken.began) es) (sym (take-append-le broken.place run.events (event ∷ []) within)) f.began;

@@ -2,6 +2,7 @@
 use Rattle.std.specs.Prelude.{◌≡◌, ◌≤◌, ℕ, List, [], ◌∷◌, ◌++◌, flat_map, Option, Some, None, refl}
 use Rattle.std.specs.Option.{option_or}
 use Rattle.std.proofs.Common.{inl, ◌∙◌, ap}
+use Rattle.std.proofs.lemmas.List.Elements.{All-nil, All-cons}
 use Rattle.mdbox_base.specs.declared.ids.Uid.{Uid}
 use Rattle.mdbox_base.specs.declared.entries.Highest.{Highest}
 use Rattle.mdbox_base.specs.declared.requests.Request.TheVariants as request
@@ -10,7 +11,8 @@ use Rattle.mdbox_base.specs.declared.replies.Reply.{Reply}
 use Rattle.mdbox_base.specs.declared.replies.Reply.TheVariants as reply
 use Rattle.model_lists.specs.Lists.{Mailbox, Lists}
 use Rattle.model_meaning.specs.MapMeaning.{MapRecord, MapMeaning, map_applied, no_numbers}
-use Rattle.list_machine.specs.Run.{EventPart, First, GivesBack, RunEvent, Run, drawn_also, own_events, first_in}
+use Rattle.model_meaning.specs.MapFits.{MapFits}
+use Rattle.list_machine.specs.Run.{EventPart, First, GivesBack, RunEvent, Run, map_of, drawn_also, own_events, first_in}
 use Rattle.list_machine.specs.Machine.{mailbox_named, expunge, first_refusal, part_checks}
 use Rattle.journal.specs.Events.{last_refusal, Around, IsRecord, owed_by, next_part, behind_event, behind_expunge}
 use Rattle.journal.specs.Makes.{HasCome, Makes}
@@ -51,8 +53,10 @@ removal_makes around after run lane place name uid old m drawn calls later mailb
           undone = λ r e. absurd (no_refusal r e);
           drew = λ h. inl refl;
           memory = λ e. absurd (no_refusal _ e);
+          may = tt;
           allowed = λ e. allowed;
           did = λ e. (mailbox, row, there, is_record, refl);
+          fits = All-nil _;
           ends = record { 0 = λ h. absurd (h refl); 1 = λ h. absurd (some_part GivesBack h) };
           replied = tt;
         };
@@ -78,9 +82,9 @@ never_refused own e last one free =
 
 -- The second: the count of the record that is owed is lowered, and the request is answered.
 unfoldable pub lowering_makes : (around after : Around) (run : Run) (lane place : ℕ) (name : List ℕ) (uid : Uid) (old : Lists) (m : MapMeaning) (drawn : Highest) (calls later owed : ℕ) → HasCome run m drawn calls → calls ≤ later
-    → IsAtStage (ToLower owed) (own_events place run)
+    → IsAtStage (ToLower owed) (own_events place run) → MapFits (map_of run) (entry.D (record { 0 = owed } ∷ []))
     → Makes around after run lane place (request.Expunge name uid) old old (map_applied (entry.D (record { 0 = owed } ∷ [])) m) (drawn_also drawn no_numbers) later (Some reply.Done)
-lowering_makes around after run lane place name uid old m drawn calls later owed come le stands =
+lowering_makes around after run lane place name uid old m drawn calls later owed come le stands fits =
     let event = lowering lane place owed later in
     record {
       event = event;
@@ -95,8 +99,10 @@ lowering_makes around after run lane place name uid old m drawn calls later owed
         undone = λ r e. absurd (no_refusal r e);
         drew = λ h. inl refl;
         memory = λ e. absurd (no_refusal _ e);
+        may = tt;
         allowed = λ e. refl;
         did = λ e. (owed, owed_is place owed run stands.0 stands.1 stands.4, refl);
+        fits = All-cons (MapFits (map_of run)) (entry.D (record { 0 = owed } ∷ [])) [] fits (All-nil _);
         ends = record { 0 = λ h. refl; 1 = λ h e. some_reply reply.Done e };
         replied = never_refused (own_events place run) stands.0 event stands.1 stands.3;
       };

@@ -74,7 +74,7 @@ none_kept : (p : JournalStep → Bool) (run : Run) (request : Request) (event : 
 none_kept p run request event None left e = refl
 none_kept p run request event (Some answer) left e = ap (λ (b : Bool). cond b (steps_made run request event (Some answer) left) []) (e _ refl)
 
-lists_before_more : (run : Run) (request : Request) (event : RunEvent) (answer : Option Reply) (left start : Lists) (journal : List JournalStep) (n : ℕ) → n ≤ length run.events
+pub lists_before_more : (run : Run) (request : Request) (event : RunEvent) (answer : Option Reply) (left start : Lists) (journal : List JournalStep) (n : ℕ) → n ≤ length run.events
     → lists_before start journal n ≡ lists_before start (journal ++ steps_made run request event answer left) n
 lists_before_more run request event answer left start journal n le =
     ap (λ (s : List JournalStep). left_by start s)
@@ -85,7 +85,7 @@ lists_before_more run request event answer left start journal n le =
     not_less : (a b : ℕ) → b ≤ a → nat_lt a b ≡ false
     not_less a b h = grind (arith, common_steps, h)
 
-all_kept : (journal : List JournalStep) (n : ℕ) → All (λ s. s.event < n) journal → filter (λ s. nat_lt s.event n) journal ≡ journal
+pub all_kept : (journal : List JournalStep) (n : ℕ) → All (λ s. s.event < n) journal → filter (λ s. nat_lt s.event n) journal ≡ journal
 all_kept [] n a = refl
 all_kept (step ∷ steps) n a =
     ap (λ (b : Bool). cond b (step ∷ filter (λ (s : JournalStep). nat_lt s.event n) steps) (filter (λ (s : JournalStep). nat_lt s.event n) steps)) (less step.event n (All-head (λ (s : JournalStep). s.event < n) step steps a))

@@ -1,7 +1,7 @@
 -- A purge beside a fetch that has pinned the file: each event is the next of its lane.
-use Rattle.std.specs.Prelude.{◌≡◌, ◌≢◌, ◌≤◌, ◌<◌, ℕ, false, Contains, zero, suc, [], ◌∷◌, ◌++◌, slice_get, Some, None, refl}
+use Rattle.std.specs.Prelude.{◌≡◌, ◌≢◌, ◌≤◌, ◌<◌, ◌&&◌, ◌||◌, ℕ, Bool, true, false, All, Contains, zero, suc, [], ◌∷◌, ◌++◌, slice_get, Some, None, refl}
 use Rattle.std.proofs.Common.{sym, ap, ◌∙◌, arith, subst, lit≤, lit<}
-use Rattle.std.proofs.lemmas.List.Elements.{All-nil, All-cons}
+use Rattle.std.proofs.lemmas.List.Elements.{All-nil, All-cons, All-contains}
 use Rattle.std.proofs.lemmas.List.Kept.{AllPairs-cons}
 use Rattle.mdbox_base.specs.declared.ids.MapUid.{MapUid}
 use Rattle.mdbox_base.specs.declared.entries.MapPlace.{MapPlace}
@@ -10,13 +10,13 @@ use Rattle.mdbox_base.specs.declared.requests.Request.TheVariants as request
 use Rattle.mdbox_base.specs.declared.replies.Reply.TheVariants as reply
 use Rattle.model_lists.specs.Lists.{Lists}
 use Rattle.model_octets.proofs.PairLemmas.{pairs_nil}
-use Rattle.model_meaning.specs.MapMeaning.{MapRecord, MapMeaning}
+use Rattle.model_meaning.specs.MapMeaning.{MapRecord, MapMeaning, is_sealed}
 use Rattle.model_meaning.specs.MapFits.{MapFits, HasRecord, IsApart, FitsPlace, ArePlacedApart, IsMovedOrDropped}
 use Rattle.model_meaning.specs.MeaningExamples.{example_guid}
 use Rattle.model_logs.specs.LogExamples.{example_store}
 use Rattle.list_machine.specs.Run.{ReadsPiece, Unpins, RemovesFile, MakesTarget, CopiesMessage, Switches, Last, RunEvent, before, map_of, reply_of}
 use Rattle.journal.specs.Events.{IsNextEvent, IsEvent}
-use Rattle.journal.specs.Found.{IsFreeFile, may_be_taken, FindsFiles}
+use Rattle.journal.specs.Found.{IsFreeFile, is_named_file, FindsFiles}
 use Rattle.journal.specs.Makes.{lists_before, AreNextEvents}
 use Rattle.journal.specs.JournalExamples.{inbox, hello, nothing_around, lists_saved, fourth_run, fourth_script, fourth_around, fourth_journal, switched, pins_event, takes_files_event, target_event, copies_event, switches_event, purged_event, reads_event, unpins_event, removes_event}
 use Rattle.journal.proofs.EventExampleLemmas.{went_on, answered}
@@ -82,35 +82,35 @@ switch_fits = record {
 -- ---- the events
 
 pins : Fits 0 (1, fetching) pins_event
-pins = went_on nothing_around nothing_around (before 0 fourth_run) lists_saved fetching pins_event ReadsPiece tt refl refl refl refl (_, (_, refl, refl), refl) refl
+pins = went_on nothing_around nothing_around (before 0 fourth_run) lists_saved fetching pins_event ReadsPiece tt refl refl refl refl (_, (_, refl, refl), refl) (All-nil _) refl
 
 takes : Fits 1 (2, request.Purge) takes_files_event
-takes = went_on (fourth_around 1) nothing_around (before 1 fourth_run) lists_saved request.Purge takes_files_event MakesTarget refl refl refl refl refl (record { file = 1; target = 2 } ∷ [], refl, refl) refl
+takes = went_on (fourth_around 1) nothing_around (before 1 fourth_run) lists_saved request.Purge takes_files_event MakesTarget refl refl refl refl refl (record { file = 1; target = 2 } ∷ [], refl, refl) (All-nil _) refl
 
 makes : Fits 2 (2, request.Purge) target_event
-makes = went_on nothing_around nothing_around (before 2 fourth_run) lists_saved request.Purge target_event CopiesMessage tt refl refl refl refl refl refl
+makes = went_on nothing_around nothing_around (before 2 fourth_run) lists_saved request.Purge target_event CopiesMessage tt refl refl refl refl (record { file = 1; target = 2 }, refl, refl) (All-nil _) refl
 
 abbrev NoLower : MapRecord → Type 0
 NoLower other = kept.offset ≤ other.offset
 
 copies : Fits 3 (2, request.Purge) copies_event
-copies = went_on nothing_around nothing_around (before 3 fourth_run) lists_saved request.Purge copies_event Switches tt refl refl refl refl (kept, ((0, lit< tt, refl), All-cons NoLower kept [] (lit≤ tt) (All-nil _)), refl) refl
+copies = went_on nothing_around nothing_around (before 3 fourth_run) lists_saved request.Purge copies_event Switches tt refl refl refl refl (kept, ((0, lit< tt, refl), All-cons NoLower kept [] (lit≤ tt) (All-nil _)), refl) (All-nil _) refl
 
 switches : Fits 4 (2, request.Purge) switches_event
 switches = went_on nothing_around nothing_around (before 4 fourth_run) lists_saved request.Purge switches_event Last tt refl refl refl refl
-    (record { file = 1; target = 2 }, 2, new_place ∷ [], record { 0 = 2 } ∷ [], refl, switch_fits, All-cons (λ (p : MapPlace). HasRecord now p.uid.0 (λ row. 1 ≤ row.count)) new_place [] (kept, refl, lit≤ tt) (All-nil _), λ h. refl, refl) refl
+    (record { file = 1; target = 2 }, 2, new_place ∷ [], record { 0 = 2 } ∷ [], refl, All-cons (λ (p : MapPlace). HasRecord now p.uid.0 (λ row. 1 ≤ row.count)) new_place [] (kept, refl, lit≤ tt) (All-nil _), λ h. refl, refl) (All-cons (MapFits now) switched [] switch_fits (All-nil _)) refl
 
 ends : Fits 7 (2, request.Purge) purged_event
-ends = answered nothing_around nothing_around (before 7 fourth_run) lists_saved request.Purge purged_event (reply.Purged 1 1 0) tt refl refl refl refl refl refl refl
+ends = answered nothing_around nothing_around (before 7 fourth_run) lists_saved request.Purge purged_event (reply.Purged 1 1 0) tt refl refl refl refl refl (All-nil _) refl refl
 
 reads : Fits 5 (1, fetching) reads_event
-reads = went_on nothing_around nothing_around (before 5 fourth_run) lists_saved fetching reads_event Unpins tt refl refl refl refl refl refl
+reads = went_on nothing_around nothing_around (before 5 fourth_run) lists_saved fetching reads_event Unpins tt refl refl refl refl refl (All-nil _) refl
 
 unpins : Fits 6 (1, fetching) unpins_event
-unpins = went_on nothing_around nothing_around (before 6 fourth_run) lists_saved fetching unpins_event RemovesFile tt refl refl refl refl refl refl
+unpins = went_on nothing_around nothing_around (before 6 fourth_run) lists_saved fetching unpins_event RemovesFile tt refl refl refl refl refl (All-nil _) refl
 
 removes : Fits 8 (1, fetching) removes_event
-removes = answered nothing_around nothing_around (before 8 fourth_run) lists_saved fetching removes_event (reply.Fetched hello) tt refl refl refl refl (1, refl, refl, refl, refl) refl refl
+removes = answered nothing_around nothing_around (before 8 fourth_run) lists_saved fetching removes_event (reply.Fetched hello) tt refl refl refl refl (1, refl, refl, refl, refl) (All-nil _) refl refl
 
 -- ---- the run
 
@@ -152,11 +152,24 @@ purge_events (suc (suc (suc (suc (suc (suc (suc (suc (suc n))))))))) event e = a
 -- ---- what it found agrees with the run
 
 abbrev HasFile : MapRecord → Type 0
-HasFile row = row.count ≡ 0 → IsFreeFile (before 1 fourth_run) row.file → may_be_taken (before 1 fourth_run) row.file ≡ false → Contains (1 ∷ []) row.file
+HasFile row = row.count ≡ 0 → IsFreeFile (before 1 fourth_run) row.file → Contains (1 ∷ []) row.file
+
+abbrev IsOfFirst : MapRecord → Type 0
+IsOfFirst row = row.file ≡ 1
+
+all_first : All IsOfFirst (map_of (before 1 fourth_run)).records
+all_first = All-cons IsOfFirst kept (gone ∷ []) refl (All-cons IsOfFirst gone [] refl (All-nil _))
+
+unknown : (named sealed : Bool) → named ≡ false → sealed ≡ false → ((named || (sealed || false)) && true) ≡ true → ⊥
+unknown true sealed e f k = cc e
+unknown false true e f k = cc f
+unknown false false e f k = cc k
 
 pub purge_found : FindsFiles (before 1 fourth_run) (1 ∷ [])
 purge_found = record {
   once = AllPairs-cons (λ (a b : ℕ). a ≢ b) 1 [] (All-nil _) (pairs_nil (λ (a b : ℕ). a ≢ b));
-  free = All-cons (IsFreeFile (before 1 fourth_run)) 1 [] (record { some = lit≤ tt; known = refl; unsealed = refl; undoomed = refl }) (All-nil _);
-  every = All-cons HasFile kept (gone ∷ []) (λ none free taken. (0, lit< tt, refl)) (All-cons HasFile gone [] (λ none free taken. (0, lit< tt, refl)) (All-nil _));
+  free = All-cons (IsFreeFile (before 1 fourth_run)) 1 [] (record { some = lit≤ tt; known = refl; untaken = refl; unsealed = refl; undoomed = refl }) (All-nil _);
+  every = All-cons HasFile kept (gone ∷ []) (λ none free. (0, lit< tt, refl)) (All-cons HasFile gone [] (λ none free. (0, lit< tt, refl)) (All-nil _));
+  bare = λ file free bare. absurd (unknown (is_named_file (map_of (before 1 fourth_run)) file) (is_sealed (map_of (before 1 fourth_run)) file) bare free.unsealed free.known);
+  gaps = λ file free gap. subst (λ (n : ℕ). Contains (1 ∷ []) n) (sym (All-contains IsOfFirst (map_of (before 1 fourth_run)).records gap.first all_first gap.first_here.0) ∙ gap.first_here.1) (0, lit< tt, refl);
 }

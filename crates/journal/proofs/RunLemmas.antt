@@ -56,8 +56,8 @@ comes_on_with run event entry m drawn calls c le one = record {
 }
 
 -- A run without events has come to where its entries and its numbers stand.
-pub comes_first : (store : List ℕ) (start : List MapEntry) (opened : Highest) (calls : ℕ) → HasCome (record { store = store; start = start; opened = opened; events = [] }) (map_meaning store start) opened calls
-comes_first store start opened calls = record {
+pub comes_first : (store : List ℕ) (start : List MapEntry) (opened : Highest) (barred : List ℕ) (calls : ℕ) → HasCome (record { store = store; start = start; opened = opened; barred = barred; events = [] }) (map_meaning store start) opened calls
+comes_first store start opened barred calls = record {
   map_is = ap (λ (es : List MapEntry). map_meaning store es) (append-nil start);
   drawn_is = refl;
   moments = All-nil (λ (e : RunEvent). e.moment ≤ calls);

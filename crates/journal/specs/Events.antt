@@ -1,7 +1,7 @@
 -- The events of each request: what stands behind what, and what each one does.
 use Rattle.std.specs.Prelude.{◌≡◌, ◌≢◌, ◌≤◌, ◌<◌, ◌↔◌, ◌+◌, ◌-◌, ◌/◌, ◌==◌, ◌&&◌, ◌||◌, nat_lt, nat_le, ℕ, Bool, true, false, not, List, [], ◌∷◌, ◌++◌, length, map, filter, find, flat_map, sum_by, count_by, slice_get, if◌then◌else◌, Option, Some, None, IsTrue, Contains, ◌⊎◌, All, is_some, is_none, option_map}
 use Rattle.std.specs.List.{list_any}
-use Rattle.std.specs.Option.{option_map_or, option_or}
+use Rattle.std.specs.Option.{IfSome, option_map_or, option_or}
 use Rattle.mdbox_base.specs.declared.ids.MapUid.{MapUid}
 use Rattle.mdbox_base.specs.declared.entries.Highest.{Highest}
 use Rattle.mdbox_base.specs.declared.entries.InstRow.{InstRow}
@@ -139,7 +139,7 @@ is_reading ReadsFile = true
 is_reading part = false
 
 abbrev pub file_left : List RunEvent → Bool
-file_left own = nat_lt (count_by (λ e. is_reading e.part) own) (sum_by (λ e. length e.files) own)
+file_left own = nat_lt (count_by (λ e. is_reading e.part) own) (sum_by (λ e. length e.listed) own)
 
 abbrev pub behind_resync : Run → RunEvent → EventPart → Option EventPart
 behind_resync run event Last = None
@@ -291,6 +291,7 @@ DidDeliver around run lists name time octets event PlacesInstance =
 DidDeliver around run lists name time octets event (TakesFile new) =
     event ≡ record (plain event) {
       files = record { file = option_map_or (λ file. file) around.room ((drawn_of run).file + 1); target = 0 } ∷ [];
+      made = if new then ((drawn_of run).file + 1) ∷ [] else [];
       drew = if new then record no_numbers { file = 1 } else no_numbers;
     }
 DidDeliver around run lists name time octets event PlacesMessage =
@@ -311,8 +312,8 @@ DidMake run name event First = event ≡ record (plain event) { drew = record no
 DidMake run name event Last = event ≡ record (plain event) { map_entries = entry.B (record { 0 = number_of run event.request }) 1 name ∷ [] }
 DidMake run name event part = event ≡ plain event
 
--- What the events of a purge do: it takes files and draws a number for each target, one after another; it copies a record
--- that has a count; a file is switched, by the counts at that event, and doomed; files and instances are removed.
+-- What the events of a purge do: it takes files and draws a number for each target, one after another; it makes a target, and
+-- copies each record that has a count; a file is switched, by the counts at that event, and doomed; files and instances are removed.
 abbrev pub targets_of : MapMeaning → ℕ → List TakenFile → List ℕ
 targets_of m drawn [] = []
 targets_of m drawn (taken ∷ rest) =
@@ -335,10 +336,11 @@ abbrev pub DidPurge : Around → Run → RunEvent → EventPart → Type 0
 DidPurge around run event First =
     (files : List TakenFile) × (map (λ t. t.target) files ≡ targets_of (map_of run) (drawn_of run).file files)
     × (event ≡ record (plain event) { files = files; drew = record no_numbers { file = length (with_targets (map_of run) files) } })
+DidPurge around run event MakesTarget = (taken : TakenFile) × (next_taken (own_events event.request run) ≡ Some taken) × (event ≡ record (plain event) { made = taken.target ∷ [] })
 DidPurge around run event CopiesMessage =
     (row : MapRecord) × IsCopiedNext (copies_left (own_events event.request run) run (next_taken (own_events event.request run))) row × (event ≡ record (plain event) { copied = row.uid ∷ [] })
 DidPurge around run event Switches =
-    (taken : TakenFile) × (target : ℕ) × (moved : List MapPlace) × (dropped : List MapUid) × (next_taken (own_events event.request run) ≡ Some taken) × MapFits (map_of run) (entry.P (record { 0 = taken.file }) target moved dropped)
+    (taken : TakenFile) × (target : ℕ) × (moved : List MapPlace) × (dropped : List MapUid) × (next_taken (own_events event.request run) ≡ Some taken)
     × All (λ place. HasRecord (map_of run) place.uid.0 (λ row. 1 ≤ row.count)) moved × (target ≢ 0 → target ≡ taken.target)
     × (event ≡ record (plain event) { map_entries = entry.P (record { 0 = taken.file }) target moved dropped ∷ []; doomed = taken.file ∷ [] })
 DidPurge around run event RemovesFile =
@@ -376,21 +378,21 @@ corrects [] = []
 corrects (count ∷ counts) = entry.T (count ∷ counts) ∷ []
 
 abbrev pub DidResync : Around → Run → Lists → RunEvent → EventPart → Type 0
-DidResync around run lists event First = event ≡ record (plain event) { files = map (λ file. record { file = file; target = 0 }) around.files }
+DidResync around run lists event First = event ≡ record (plain event) { listed = around.files }
 DidResync around run lists event ReadsFile = event ≡ record (plain event) { damaged = around.damaged }
 DidResync around run lists event Last =
     (counts : List MapCount) × All (λ given. HasRecord (map_of run) given.uid.0 (λ row. row.count ≢ given.count)) counts × AreRight (and_then run event) lists
     × (event ≡ record (plain event) { map_entries = corrects counts })
 DidResync around run lists event part = event ≡ plain event
 
--- What the events of a fetch do: it pins the file of the listed message, and has as many pieces to read as its region and
--- its instances have, of 65,536 octets each.
+-- What the events of a fetch do: it pins the file and the instances of the listed message, and has as many pieces to read as its
+-- region and its instances have, of 65,536 octets each.
 abbrev pub pieces_to_read : MapRecord → ℕ
 pieces_to_read row = (row.size + 65535) / 65536 + sum_by (λ i. (i.size + 65535) / 65536) row.instances
 
 abbrev pub DidFetch : Run → Lists → List ℕ → ℕ → RunEvent → EventPart → Type 0
 DidFetch run lists name uid event First =
-    (row : MapRecord) × IsRecord run lists name uid row × (event ≡ record (plain event) { pins = record { file = row.file; pieces = pieces_to_read row } ∷ [] })
+    (row : MapRecord) × IsRecord run lists name uid row × (event ≡ record (plain event) { pins = record { file = row.file; pieces = pieces_to_read row; instances = row.instances } ∷ [] })
 DidFetch run lists name uid event RemovesFile =
     (file : ℕ) × IsTrue (list_any (λ e. list_any (λ p. p.file == file) e.pins) (own_events event.request run)) × (is_doomed run file ≡ true) × (is_pinned run file ≡ false)
     × (event ≡ record (plain event) { removed = file ∷ [] })
@@ -462,6 +464,21 @@ has_memory RemovesInstance request = true
 has_memory Last request.Purge = true
 has_memory part request = false
 
+-- The parts that read octets of storage files or instances: only they can meet a read fault, and only a fetch's damage. As it
+-- begins, a purge reads the header lines that tell which files are clean.
+abbrev pub reads_octets : EventPart → Request → Bool
+reads_octets Compares request = true
+reads_octets ReadsPiece request = true
+reads_octets CopiesMessage request = true
+reads_octets ReadsFile request = true
+reads_octets First request.Purge = true
+reads_octets part request = false
+
+abbrev pub MayMeet : EventPart → Request → Refusal → Type 0
+MayMeet part request refusal.ReadFault = reads_octets part request ≡ true
+MayMeet part request (refusal.Damaged file offset) = is_piece part ≡ true
+MayMeet part request refused = Unit {0}
+
 -- an event that was refused by a read fault
 abbrev pub is_fault : Option Refusal → Bool
 is_fault (Some refusal.ReadFault) = true
@@ -480,8 +497,8 @@ IsRepliedBy own None = Unit {0}
 IsRepliedBy own (Some given) = last_refusal own ≡ refusal_in given
 
 -- An event of a request: it does the next part. It is refused if one of its checks refuses it, and then does nothing; a
--- part that isn't refused does its own and nothing else. The request is answered with it if and only if no part stands
--- behind it.
+-- part that isn't refused does its own and nothing else, and its entries fit the map. The request is answered with it if and
+-- only if no part stands behind it.
 pub record IsEvent (around after : Around) (run : Run) (lists : Lists) (request : Request) (event : RunEvent) : Type 0 where
   pub finds : Finds around request event
   pub part_is : next_part around run request (own_events event.request run) ≡ Some event.part
@@ -489,8 +506,10 @@ pub record IsEvent (around after : Around) (run : Run) (lists : Lists) (request 
   pub undone : (refusal : Refusal) → event.refused ≡ Some refusal → DidNothing event × (is_step refusal ≡ true → event.drew ≡ no_numbers)
   pub drew : event.refused ≢ None → (event.drew ≡ no_numbers) ⊎ (event.drew ≡ draws run event request event.part)
   pub memory : event.refused ≡ Some refusal.NoMemory → has_memory event.part request ≡ false
+  pub may : IfSome event.refused (MayMeet event.part request)
   pub allowed : event.refused ≡ None → first_refusal run lists (checks_of run request event) ≡ None
   pub did : event.refused ≡ None → DidPart around run lists request event event.part
+  pub fits : All (MapFits (map_of run)) event.map_entries
   pub ends : (event.reply ≢ None) ↔ (behind_event after (and_then run event) request event event.refused ≡ None)
   pub replied : IsRepliedBy (own_events event.request run ++ event ∷ []) event.reply
 

@@ -212,10 +212,12 @@ WouldHaveBeen (event ∷ failed) (would ∷ rest) =
     (event.refused ≡ Some refusal.Stopped) × (would.lane ≡ event.lane) × (would.request ≡ event.request) × (would.part ≡ event.part) × WouldHaveBeen failed rest
 
 -- The broken steps are those of the append that failed, which is the one that stopped the store: no event before it was
--- refused so. They stand behind the events before it, each event makes one at most, and it began no earlier than those ended.
+-- refused so, and it is of one event. They stand behind the events before it, each event makes one at most, and it began no
+-- earlier than those ended.
 pub record IsOfFailure (run : Run) (broken : Broken) : Type 0 where
   pub first : All (λ event. event.refused ≢ Some refusal.Stopped) (take broken.place run.events)
   pub events : WouldHaveBeen (drop broken.place run.events) broken.events
+  pub one : length broken.events ≤ 1
   pub steps : All (λ step. broken.place ≤ step.event) broken.steps
   pub once : AllPairs (λ a b. a.event < b.event) broken.steps
   pub began : All (λ event. event.moment ≤ broken.began) (take broken.place run.events)

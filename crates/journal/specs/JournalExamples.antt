@@ -1,5 +1,5 @@
--- Three runs: a delivery and a listing; a copy whose message is expunged between its two events; and two moves of one
--- message, the second of which finds it gone.
+-- Five runs: a delivery and a listing; a copy whose message is expunged between its two events; two moves of one message, the
+-- second of which finds it gone; a purge beside a fetch that has pinned its file; and a resync.
 use Rattle.std.specs.Prelude.{ℕ, true, false, List, [], ◌∷◌, ◌++◌, codes, Some, None, ◌==◌, if◌then◌else◌}
 use Rattle.mdbox_base.specs.declared.entries.MapEntry.{MapEntry}
 use Rattle.mdbox_base.specs.declared.entries.MapEntry.TheVariants as map
@@ -48,7 +48,7 @@ abbrev pub first_event : RunEvent
 first_event = event_of 1 0 First 0
 
 abbrev pub takes_event : RunEvent
-takes_event = record (event_of 1 0 (TakesFile true) 3) { files = record { file = 1; target = 0 } ∷ []; drew = record no_numbers { file = 1 } }
+takes_event = record (event_of 1 0 (TakesFile true) 3) { files = record { file = 1; target = 0 } ∷ []; made = 1 ∷ []; drew = record no_numbers { file = 1 } }
 
 abbrev pub places_event : RunEvent
 places_event = record (event_of 1 0 PlacesMessage 5) { given = example_guid ∷ [] }
@@ -70,6 +70,7 @@ first_run = record {
   store = example_store;
   start = example_made ∷ [];
   opened = record { file = 0; map = 0; instance = 0; mailbox = 1 };
+  barred = [];
   events = first_event ∷ takes_event ∷ places_event ∷ stores_event ∷ adds_event ∷ lists_event ∷ [];
 }
 
@@ -115,6 +116,7 @@ second_run = record {
   store = example_store;
   start = example_made ∷ stored ∷ [];
   opened = record { file = 1; map = 1; instance = 0; mailbox = 1 };
+  barred = [];
   events = raise_event ∷ remove_event ∷ lower_event ∷ refused_event ∷ back_event ∷ [];
 }
 
@@ -150,6 +152,7 @@ third_run = record {
   store = example_store;
   start = example_made ∷ map.B (record { 0 = 2 }) 1 a_box ∷ map.B (record { 0 = 3 }) 1 b_box ∷ stored ∷ [];
   opened = record { file = 1; map = 1; instance = 0; mailbox = 3 };
+  barred = [];
   events = record (event_of 1 0 First 4) { map_entries = map.U (record { 0 = 1 }) ∷ [] }
       ∷ record (event_of 2 1 First 8) { map_entries = map.U (record { 0 = 1 }) ∷ [] }
       ∷ added 2 (event_of 1 0 Last 12)
@@ -177,13 +180,13 @@ abbrev pub switched : MapEntry
 switched = map.P (record { 0 = 1 }) 2 (record { uid = record { 0 = 1 }; offset = 9 } ∷ []) (record { 0 = 2 } ∷ [])
 
 abbrev pub pins_event : RunEvent
-pins_event = record (event_of 1 0 First 0) { pins = record { file = 1; pieces = 1 } ∷ [] }
+pins_event = record (event_of 1 0 First 0) { pins = record { file = 1; pieces = 1; instances = [] } ∷ [] }
 
 abbrev pub takes_files_event : RunEvent
 takes_files_event = record (event_of 2 1 First 1) { files = record { file = 1; target = 2 } ∷ []; drew = record no_numbers { file = 1 } }
 
 abbrev pub target_event : RunEvent
-target_event = event_of 2 1 MakesTarget 4
+target_event = record (event_of 2 1 MakesTarget 4) { made = 2 ∷ [] }
 
 abbrev pub copies_event : RunEvent
 copies_event = record (event_of 2 1 CopiesMessage 6) { copied = 1 ∷ [] }
@@ -208,6 +211,7 @@ fourth_run = record {
   store = example_store;
   start = example_made ∷ stored ∷ stored_two ∷ [];
   opened = record { file = 1; map = 2; instance = 0; mailbox = 1 };
+  barred = [];
   events = pins_event ∷ takes_files_event ∷ target_event ∷ copies_event ∷ switches_event ∷ reads_event ∷ unpins_event ∷ purged_event ∷ removes_event ∷ [];
 }
 
@@ -226,7 +230,8 @@ fifth_run = record {
   store = example_store;
   start = example_made ∷ stored ∷ [];
   opened = record { file = 1; map = 1; instance = 0; mailbox = 1 };
-  events = record (event_of 1 0 First 0) { files = record { file = 1; target = 0 } ∷ [] }
+  barred = [];
+  events = record (event_of 1 0 First 0) { listed = 1 ∷ [] }
       ∷ event_of 1 0 ReadsFile 2
       ∷ record (event_of 1 0 Last 6) { reply = Some (reply.Resynced 1 0); map_entries = map.T (record { uid = record { 0 = 1 }; count = 0 } ∷ []) ∷ [] }
       ∷ [];

@@ -1,5 +1,5 @@
 -- What a purge beside no other task leaves, and a resync.
-use Rattle.std.specs.Prelude.{◌≡◌, ◌≢◌, ◌≤◌, ◌↔◌, ◌+◌, ◌==◌, ◌&&◌, ℕ, Bool, false, not, List, [], ◌∷◌, length, map, filter, take, drop, slice_get, Some, None, All, AllPairs, Contains}
+use Rattle.std.specs.Prelude.{◌≡◌, ◌≢◌, ◌≤◌, ◌↔◌, ◌+◌, ◌==◌, ◌&&◌, ℕ, Bool, true, false, not, List, [], ◌∷◌, length, map, filter, take, drop, slice_get, Some, None, All, AllPairs, Contains}
 use Rattle.std.specs.List.Sorted.{IsStrictlyIncreasing}
 use Rattle.disk_model.specs.Disk.{Files}
 use Rattle.disk_model.specs.declared.name.FileName.TheVariants as file
@@ -54,13 +54,18 @@ pub record AreAllOf (Holds : ℕ → Type 0) (numbers : List ℕ) : Type 0 where
 
 -- A quiet purge, from these files and this map's meaning to those: each file that isn't sealed is clean, each instance
 -- that is there is named, the records that went are those of unsealed files with count 0, and each that stays keeps all but
--- its place, and its region's octets. The numbers are those of the records that went, of the files that were neither
--- sealed nor clean, and of the instances that went.
+-- its place, and its region's octets. The same files are sealed, which are as they were, with their records in their places, and
+-- the mailboxes are the same. The numbers are those of the records that went, of the files that were neither sealed nor clean,
+-- and of the instances that went.
 pub record PurgesQuietly (old new : Files) (before after : MapMeaning) (dropped files instances : ℕ) : Type 0 where
   pub clean : (n : ℕ) (octets : List ℕ) → new (file.Mail n) ≡ Some octets → is_sealed after n ≡ false → IsClean after n octets
   pub only_named : (hash id octets : List ℕ) → new (file.Inst hash id) ≡ Some octets → (inst : InstRow) × Contains (named_instances after) inst × (inst.hash.0 ≡ hash) × (inst.id.0 ≡ id)
   pub stay : map apart_from_place after.records ≡ map apart_from_place (filter (λ row. not (goes before row)) before.records)
   pub regions : AllHaveSameOctets old new (filter (λ row. not (goes before row)) before.records) after.records
+  pub seals : after.sealed ≡ before.sealed
+  pub boxes : after.boxes ≡ before.boxes
+  pub untouched : (n : ℕ) → is_sealed before n ≡ true → new (file.Mail n) ≡ old (file.Mail n)
+  pub places : All (λ row. is_sealed before row.file ≡ true → Contains after.records row) before.records
   pub dropped_are : dropped ≡ length (filter (goes before) before.records)
   pub numbers : List ℕ
   pub numbers_are : AreAllOf (λ n. (old (file.Mail n) ≢ None) × (is_sealed before n ≡ false) × (IsCleanFile old before n → ⊥)) numbers

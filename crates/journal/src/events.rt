@@ -11,7 +11,8 @@ ghost use Rattle.mdbox_base.specs.declared.replies.Reply.{Reply};
 ghost use Rattle.mdbox_base.specs.declared.replies.Reply.TheVariants as reply;
 ghost use Rattle.model_lists.specs.Lists.{Mailbox, Lists};
 ghost use Rattle.model_meaning.specs.MapMeaning.{MapRecord, MapMeaning, map_meaning, map_applied, no_numbers};
-ghost use Rattle.list_machine.specs.Run.{First, Run, RunEvent, and_then, drawn_also, own_events};
+ghost use Rattle.model_meaning.specs.MapFits.{MapFits};
+ghost use Rattle.list_machine.specs.Run.{First, Run, RunEvent, and_then, map_of, drawn_also, own_events};
 ghost use Rattle.journal.specs.Journal.{is_read_fault, Requests, JournalStep, AreSteps, left_by, IsLegal};
 ghost use Rattle.journal.specs.GoesOn.{AllMayCome};
 ghost use Rattle.journal.specs.Events.{is_faulted, Around, IsRecord, IsNextEvent};
@@ -22,7 +23,7 @@ ghost use Rattle.journal.specs.Stages.{ToRemove, ToLower, IsAtStage, removal};
 /// A store and a run go on together: without events the run has come to its start, an event that appends nothing to the map
 /// and draws nothing leaves map and numbers, and one that appends an entry applies it.
 pub fn runs_come_on()
-    ensures start { (store : List ℕ) (start : List MapEntry) (opened : Highest) (calls : ℕ) → HasCome (record { store = store; start = start; opened = opened; events = [] }) (map_meaning store start) opened calls }
+    ensures start { (store : List ℕ) (start : List MapEntry) (opened : Highest) (barred : List ℕ) (calls : ℕ) → HasCome (record { store = store; start = start; opened = opened; barred = barred; events = [] }) (map_meaning store start) opened calls }
     ensures nothing { (run : Run) (event : RunEvent) (m : MapMeaning) (drawn : Highest) (calls : ℕ) → HasCome run m drawn calls → calls ≤ event.moment → event.map_entries ≡ [] → event.drew ≡ no_numbers → HasCome (and_then run event) m drawn event.moment }
     ensures entry { (run : Run) (event : RunEvent) (entry : MapEntry) (m : MapMeaning) (drawn : Highest) (calls : ℕ) → HasCome run m drawn calls → calls ≤ event.moment → event.map_entries ≡ entry ∷ [] → HasCome (and_then run event) (map_applied entry m) (drawn_also drawn event.drew) event.moment }
 {}
@@ -45,5 +46,5 @@ pub fn tasks_make_journals()
 /// What the two events of an expunge make, of every run that has come to where the store stood.
 pub fn expunges_make_two_events()
     ensures removal { (around after : Around) (run : Run) (lane place : ℕ) (name : List ℕ) (uid : Uid) (old : Lists) (m : MapMeaning) (drawn : Highest) (calls later : ℕ) (mailbox : Mailbox) (row : MapRecord) → HasCome run m drawn calls → calls ≤ later → IsAtStage ToRemove (own_events place run) → first_refusal run old (part_checks run (removal lane place mailbox uid row.uid later) (request.Expunge name uid) First) ≡ None → mailbox_named name old ≡ Some mailbox → IsRecord run old name uid.0 row → (k : Makes around after run lane place (request.Expunge name uid) old (expunge name uid.0 old) m drawn later None) × IsAtStage (ToLower row.uid) (own_events place run ++ k.event ∷ []) }
-    ensures lowering { (around after : Around) (run : Run) (lane place : ℕ) (name : List ℕ) (uid : Uid) (old : Lists) (m : MapMeaning) (drawn : Highest) (calls later owed : ℕ) → HasCome run m drawn calls → calls ≤ later → IsAtStage (ToLower owed) (own_events place run) → Makes around after run lane place (request.Expunge name uid) old old (map_applied (entry.D (record { 0 = owed } ∷ [])) m) (drawn_also drawn no_numbers) later (Some reply.Done) }
+    ensures lowering { (around after : Around) (run : Run) (lane place : ℕ) (name : List ℕ) (uid : Uid) (old : Lists) (m : MapMeaning) (drawn : Highest) (calls later owed : ℕ) → HasCome run m drawn calls → calls ≤ later → IsAtStage (ToLower owed) (own_events place run) → MapFits (map_of run) (entry.D (record { 0 = owed } ∷ [])) → Makes around after run lane place (request.Expunge name uid) old old (map_applied (entry.D (record { 0 = owed } ∷ [])) m) (drawn_also drawn no_numbers) later (Some reply.Done) }
 {}

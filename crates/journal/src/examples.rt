@@ -1,11 +1,11 @@
 // Examples of journals.
-ghost use Rattle.std.specs.Prelude.{◌∷◌, [], Some};
+ghost use Rattle.std.specs.Prelude.{◌≡◌, ◌∷◌, [], Some, true, false};
 ghost use Rattle.disk_model.specs.Disk.{Faults};
 ghost use Rattle.mdbox_base.specs.declared.replies.Refusal.TheVariants as refusal;
 ghost use Rattle.mdbox_base.specs.declared.replies.Reply.TheVariants as reply;
 ghost use Rattle.list_machine.specs.Run.{before, map_of, drawn_of};
 ghost use Rattle.journal.specs.Journal.{AreSteps, no_broken};
-ghost use Rattle.journal.specs.Found.{FindsFiles};
+ghost use Rattle.journal.specs.Found.{is_taken, FindsFiles};
 ghost use Rattle.journal.specs.Makes.{AreNextEvents, IsServed};
 ghost use Rattle.journal.specs.JournalExamples.{first_run, first_script, first_lists, first_journal, second_run, second_script, lists_saved, second_journal, third_run, third_script, third_lists, third_journal, fourth_run, fourth_script, fourth_journal, fourth_around, nothing_around};
 
@@ -20,4 +20,7 @@ pub fn example_journals()
     ensures purge { AreSteps fourth_run fourth_script lists_saved fourth_journal }
     ensures purge_events { AreNextEvents fourth_around (λ _. nothing_around) fourth_script lists_saved fourth_run fourth_journal }
     ensures purge_found { FindsFiles (before 1 fourth_run) (1 ∷ []) }
+    // A purge's files are taken from its first event to the switch, a delivery's until its record is stored.
+    ensures purge_takes { (is_taken (before 1 fourth_run) 1 ≡ false) × (is_taken (before 2 fourth_run) 1 ≡ true) × (is_taken (before 4 fourth_run) 2 ≡ true) × (is_taken (before 5 fourth_run) 1 ≡ false) × (is_taken (before 5 fourth_run) 2 ≡ false) }
+    ensures delivery_takes { (is_taken (before 1 first_run) 1 ≡ false) × (is_taken (before 2 first_run) 1 ≡ true) × (is_taken (before 3 first_run) 1 ≡ true) × (is_taken (before 4 first_run) 1 ≡ false) }
 {}

@@ -1,5 +1,5 @@
 -- What the events of a run did, and what is read of it.
-use Rattle.std.specs.Prelude.{◌+◌, ◌==◌, ◌&&◌, nat_lt, ℕ, Bool, true, false, not, List, [], ◌∷◌, ◌++◌, length, filter, flat_map, fold, sum_by, take, if◌then◌else◌, Option, Some, None}
+use Rattle.std.specs.Prelude.{◌+◌, ◌==◌, ◌&&◌, nat_lt, ℕ, Bool, true, false, not, List, [], ◌∷◌, ◌++◌, length, filter, flat_map, fold, sum_by, take, if◌then◌else◌, Option, Some, None, is_none}
 use Rattle.std.specs.List.{list_any}
 use Rattle.std.specs.Option.{option_or}
 use Rattle.mdbox_base.specs.declared.entries.Highest.{Highest}
@@ -42,7 +42,7 @@ pub record BoxAppend : Type 0 where
   pub entry : BoxEntry
 
 -- A storage file that an event took, with the number drawn for its target, or 0; and a file that a fetch pinned, with the
--- number of pieces that it has to read.
+-- number of pieces that it has to read, and the instances among them.
 pub record TakenFile : Type 0 where
   pub file : ℕ
   pub target : ℕ
@@ -50,13 +50,14 @@ pub record TakenFile : Type 0 where
 pub record Pin : Type 0 where
   pub file : ℕ
   pub pieces : ℕ
+  pub instances : List InstRow
 
 -- What one event did: a part of a request of a lane, the request by its place in the script. Where it was refused, it
 -- says with what; where its request ended with it, what was replied. Then the entries that it appended, the records of the
 -- messages that it removed, how many numbers of each kind it drew, the GUID that it gave, the storage files that it took (a
--- purge: also those that it would have taken; a resync: those that it listed), the pin that it began, the record that it
--- copied, the files that it doomed and removed, the instances that it compared with a part of a message, found equal, placed
--- and removed, the records whose regions it found damaged, and the number of device calls as it ended.
+-- purge: also those that it would have taken), those that a resync listed, the file that it made, the pin that it began, the
+-- record that it copied, the files that it doomed and removed, the instances that it compared with a part of a message, found
+-- equal, placed and removed, the records whose regions it found damaged, and the number of device calls as it ended.
 pub record RunEvent : Type 0 where
   pub lane : ℕ
   pub request : ℕ
@@ -69,6 +70,8 @@ pub record RunEvent : Type 0 where
   pub drew : Highest
   pub given : List (List ℕ)
   pub files : List TakenFile
+  pub listed : List ℕ
+  pub made : List ℕ
   pub pins : List Pin
   pub copied : List ℕ
   pub doomed : List ℕ
@@ -94,6 +97,8 @@ event_of lane request part moment = record {
   drew = no_numbers;
   given = [];
   files = [];
+  listed = [];
+  made = [];
   pins = [];
   copied = [];
   doomed = [];
@@ -106,11 +111,13 @@ event_of lane request part moment = record {
   moment = moment;
 }
 
--- A run: the store's id, the entries of the map log and the numbers drawn as it began, and what its events did, in order.
+-- A run: the store's id, the entries of the map log, the numbers drawn and the storage files to which nothing may be appended
+-- as it began, and what its events did, in order.
 pub record Run : Type 0 where
   pub store : List ℕ
   pub start : List MapEntry
   pub opened : Highest
+  pub barred : List ℕ
   pub events : List RunEvent
 
 -- the run up to an event, and with one event more
@@ -234,28 +241,13 @@ target_length m file = 9 + sum_by (λ row. if is_copied_from file row then row.s
 abbrev pub is_one_of : List ℕ → ℕ → Bool
 is_one_of numbers n = list_any (λ m. m == n) numbers
 
--- a part that the request did
+abbrev pub is_unpinning_part : EventPart → Bool
+is_unpinning_part Unpins = true
+is_unpinning_part part = false
+
+-- an event that took its request's pins away: one that was refused did not
 abbrev pub is_unpinning : RunEvent → Bool
-is_unpinning event = elim event.part [
-  | Unpins ↦ true
-  | First ↦ false
-  | Compares ↦ false
-  | PlacesInstance ↦ false
-  | TakesFile new ↦ false
-  | PlacesMessage ↦ false
-  | StoresRecord ↦ false
-  | Last ↦ false
-  | SecondHalf ↦ false
-  | GivesBack ↦ false
-  | StartsOver ↦ false
-  | ReadsPiece ↦ false
-  | RemovesFile ↦ false
-  | MakesTarget ↦ false
-  | CopiesMessage ↦ false
-  | Switches ↦ false
-  | RemovesInstance ↦ false
-  | ReadsFile ↦ false
-]
+is_unpinning event = is_none event.refused && is_unpinning_part event.part
 
 abbrev pub has_unpinned : ℕ → Run → Bool
 has_unpinned request run = list_any is_unpinning (own_events request run)

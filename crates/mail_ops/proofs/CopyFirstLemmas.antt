@@ -1,4 +1,5 @@
 -- The first event of a copy or a move, by the clause of a step: the count is raised, or it is refused.
+use Rattle.model_meaning.specs.MapFits.{MapFits}
 use Rattle.std.proofs.Common.{◌≡◌, ◌≤◌, ◌<◌, ◌+◌, ℕ, Bool, true, false, List, [], ◌∷◌, ◌++◌, Option, Some, None, refl, sym, ◌∙◌, ap, subst, arith, inl, inr}
 use Rattle.std.specs.Prelude.{nat_le, length, slice_get, is_some, if◌then◌else◌}
 use Rattle.std.specs.Option.{option_map_or, option_or}
@@ -34,17 +35,17 @@ use Rattle.task_steps.proofs.OneEventLemmas.{never_more, nothing, memory_is}
 use Rattle.mail_ops.specs.Appends.{MapFell}
 use Rattle.mail_ops.specs.CopyStages.{IsHolding}
 use Rattle.mail_ops.specs.Copying.{CopyPlace, copy_refusal, room_refusal, raising_of, RaisesRow, IsRaiseRefusal}
-use Rattle.mail_ops.specs.Task.{Others, seen_beside}
+use Rattle.store_seen.specs.Seeing.{seen_of}
 use Rattle.mail_ops.proofs.CopyPartLemmas.{IsCopying}
 use Rattle.mail_ops.proofs.CopyPlaceLemmas.{place_checked}
-use Rattle.mail_ops.proofs.EventLemmas.{stands_by, some_reply, one_reply, no_reply, stays_itself, memory_calm, CanRefuse, did_unstepped, did_stop, did_fall, did_check, did_part, ends_well}
+use Rattle.mail_ops.proofs.EventLemmas.{one_fits, stands_by, some_reply, one_reply, no_reply, stays_itself, memory_calm, CanRefuse, did_unstepped, did_stop, did_fall, did_check, did_part, ends_well}
 use Rattle.mail_ops.proofs.LoweringLemmas.{comes_with, shows_still, leads_still}
 use Rattle.mail_ops.proofs.MessageLemmas.{shown_row, shown_guid, record_of_row}
 use Rattle.mail_ops.proofs.RemovalLemmas.{took_tells, map_fell_stays}
 
 -- the clause of a step of a request that copies
 abbrev pub CopyingClause : {D : Type 0} → Request → (Run → ℕ → List Reply → Type 0) → (Run → ℕ → List Reply → Type 0) → StoreValue D → StoreValue D → Option History → Option History → Faults → Faults → Did → Option Reply → Type 0
-CopyingClause q Stood Stands old new before after began faulted how ended = (around behind : Around) (others : Others) → Steps Stood Stands around behind q (seen_beside others old before began) (seen_beside others new after faulted) how ended
+CopyingClause q Stood Stands old new before after began faulted how ended = (around behind : Around) (pins : ℕ → ℕ) → Steps Stood Stands around behind q (seen_of pins old before began) (seen_of pins new after faulted) how ended
 
 some_part : (p : EventPart) → Some p ≡ None → ⊥
 some_part p e = cc e
@@ -54,7 +55,6 @@ raise_refuses around run place q name uid target half why c own = record {
   finds = c.finds around;
   found = λ event. c.found around run event First;
   part_is = ap (λ (es : List RunEvent). next_part around run q es) own;
-  unpins = refl;
   memory = λ e. c.memory_first;
   ends = record { 0 = λ e. c.refused_first why; 1 = λ e f. some_reply (reply.Refused why) f };
   replied = λ given e. subst (λ (r : Reply). refusal_in r ≡ Some why) (one_reply (reply.Refused why) given e) refl;
@@ -63,9 +63,9 @@ raise_refuses around run place q name uid target half why c own = record {
 -- ---- what the first event looks at
 
 -- the count of the message's record
-copies_checked : {D : Type 0} → (others : Others) → (history : Option History) (faults : Faults) (run : Run) (name : List ℕ) (uid : ℕ) (target : List ℕ) (store : StoreValue D) (row : LogRow) (number next : ℕ) (lists : Lists) → CopyPlace name uid target store row number next → ShowLists store.map.boxes (indexes_of store.boxes) lists → HasComeTo run (seen_beside others store history faults)
+copies_checked : {D : Type 0} → (pins : ℕ → ℕ) → (history : Option History) (faults : Faults) (run : Run) (name : List ℕ) (uid : ℕ) (target : List ℕ) (store : StoreValue D) (row : LogRow) (number next : ℕ) (lists : Lists) → CopyPlace name uid target store row number next → ShowLists store.map.boxes (indexes_of store.boxes) lists → HasComeTo run (seen_of pins store history faults)
     → first_refusal run lists (MayBeCopied name uid ∷ []) ≡ option_or (refused_where (nat_le 65535 (count_of store.map row.guid)) (refusal.TooManyCopies 65535)) None
-copies_checked others history faults run name uid target store row number next lists at h come =
+copies_checked pins history faults run name uid target store row number next lists at h come =
     let s = shown_row store name uid at.source row lists at.from h in
     ap (λ (o : Option ListedMessage). option_or (refused_where (option_map_or (λ m. nat_le 65535 (count_of (map_of run) m.guid)) o false) (refusal.TooManyCopies 65535)) None) s.there
     ∙ ap (λ (m : MapMeaning). option_or (refused_where (nat_le 65535 (count_of m s.message.guid)) (refusal.TooManyCopies 65535)) None) come.come.map_is
@@ -92,23 +92,23 @@ too_many count l = grind (arith, common_steps, l)
 pub few_copies : (count : ℕ) → count < 65535 → nat_le 65535 count ≡ false
 few_copies count l = grind (arith, common_steps, l)
 
-pub raise_checked : {D : Type 0} → (others : Others) → (history : Option History) (faults : Faults) (run : Run) (q : Request) (name : List ℕ) (uid : Uid) (target : List ℕ) (half : Half) (store : StoreValue D) (why : Refusal) (lists : Lists) → IsCopying q name uid target half → IsRaiseRefusal name uid.0 target store why
-    → ShowLists store.map.boxes (indexes_of store.boxes) lists → HasComeTo run (seen_beside others store history faults) → (event : RunEvent) → first_refusal run lists (part_checks run event q First) ≡ Some why
-raise_checked others history faults run q name uid target half store why lists c (inl e) h come = λ event.
+pub raise_checked : {D : Type 0} → (pins : ℕ → ℕ) → (history : Option History) (faults : Faults) (run : Run) (q : Request) (name : List ℕ) (uid : Uid) (target : List ℕ) (half : Half) (store : StoreValue D) (why : Refusal) (lists : Lists) → IsCopying q name uid target half → IsRaiseRefusal name uid.0 target store why
+    → ShowLists store.map.boxes (indexes_of store.boxes) lists → HasComeTo run (seen_of pins store history faults) → (event : RunEvent) → first_refusal run lists (part_checks run event q First) ≡ Some why
+raise_checked pins history faults run q name uid target half store why lists c (inl e) h come = λ event.
     ap (first_refusal run lists) (c.checks run event First) ∙ (place_checked run name uid.0 target store lists (MayBeCopied name uid.0 ∷ []) h ∙ ap (λ (r : Option Refusal). option_or r (first_refusal run lists (MayBeCopied name uid.0 ∷ []))) e)
-raise_checked others history faults run q name uid target half store why lists c (inr many) h come = λ event.
+raise_checked pins history faults run q name uid target half store why lists c (inr many) h come = λ event.
     let t = many.0 in
     ap (first_refusal run lists) (c.checks run event First) ∙ (place_checked run name uid.0 target store lists (MayBeCopied name uid.0 ∷ []) h
     ∙ (ap (λ (r : Option Refusal). option_or r (first_refusal run lists (MayBeCopied name uid.0 ∷ []))) (place_free name uid.0 target store t.row t.number t.next t.at)
-    ∙ (copies_checked others history faults run name uid.0 target store t.row t.number t.next lists t.at h come
+    ∙ (copies_checked pins history faults run name uid.0 target store t.row t.number t.next lists t.at h come
     ∙ (ap (λ (b : Bool). option_or (refused_where b (refusal.TooManyCopies 65535)) None) (too_many (count_of store.map t.row.guid) t.many) ∙ ap Some (sym many.1)))))
 
-pub raise_allowed : {D : Type 0} → (others : Others) → (history : Option History) (faults : Faults) (run : Run) (q : Request) (name : List ℕ) (uid : Uid) (target : List ℕ) (half : Half) (store : StoreValue D) (row : LogRow) (number next : ℕ) (lists : Lists) → IsCopying q name uid target half → CopyPlace name uid.0 target store row number next → count_of store.map row.guid < 65535
-    → ShowLists store.map.boxes (indexes_of store.boxes) lists → HasComeTo run (seen_beside others store history faults) → (event : RunEvent) → first_refusal run lists (part_checks run event q First) ≡ None
-raise_allowed others history faults run q name uid target half store row number next lists c at few h come = λ event.
+pub raise_allowed : {D : Type 0} → (pins : ℕ → ℕ) → (history : Option History) (faults : Faults) (run : Run) (q : Request) (name : List ℕ) (uid : Uid) (target : List ℕ) (half : Half) (store : StoreValue D) (row : LogRow) (number next : ℕ) (lists : Lists) → IsCopying q name uid target half → CopyPlace name uid.0 target store row number next → count_of store.map row.guid < 65535
+    → ShowLists store.map.boxes (indexes_of store.boxes) lists → HasComeTo run (seen_of pins store history faults) → (event : RunEvent) → first_refusal run lists (part_checks run event q First) ≡ None
+raise_allowed pins history faults run q name uid target half store row number next lists c at few h come = λ event.
     ap (first_refusal run lists) (c.checks run event First) ∙ (place_checked run name uid.0 target store lists (MayBeCopied name uid.0 ∷ []) h
     ∙ (ap (λ (r : Option Refusal). option_or r (first_refusal run lists (MayBeCopied name uid.0 ∷ []))) (place_free name uid.0 target store row number next at)
-    ∙ (copies_checked others history faults run name uid.0 target store row number next lists at h come
+    ∙ (copies_checked pins history faults run name uid.0 target store row number next lists at h come
     ∙ ap (λ (b : Bool). option_or (refused_where b (refusal.TooManyCopies 65535)) None) (few_copies (count_of store.map row.guid) few))))
 
 -- ---- it is refused
@@ -155,36 +155,36 @@ raise_steps name uid target store why (inr many) = ap is_step many.1
 
 pub raise_refused : {D : Type 0} → (q : Request) (name : List ℕ) (uid : Uid) (target : List ℕ) (half : Half) (Stands : Run → ℕ → List Reply → Type 0) (store : StoreValue D) (history : Option History) (faults : Faults) (why : Refusal) → IsCopying q name uid target half → store.stopped ≡ false → IsRaiseRefusal name uid.0 target store why
     → CopyingClause q HasNotBegun Stands store store history history faults faults (did.Step half) (Some (reply.Refused why))
-raise_refused q name uid target half Stands store history faults why c runs refuses = λ around behind others run lane place said lists come shows stood.
+raise_refused q name uid target half Stands store history faults why c runs refuses = λ around behind pins run lane place said lists come shows stood.
     let w = step_why why (raise_steps name uid.0 target store why refuses) in (
-      (did_check around behind run lane place said q First lists (seen_beside others store history faults) why (Some (reply.Refused why)) half (raise_refuses around run place q name uid target half why c stood.0) come shows runs w.0 c.half_first
-          (ap (λ (s : List Reply). slice_get (halves_of q) (length s)) stood.1 ∙ (c.halves ∙ ap Some (sym c.half_first))) (raise_checked others history faults run q name uid target half store why lists c refuses shows.1 come)
+      (did_check around behind run lane place said q First lists (seen_of pins store history faults) why (Some (reply.Refused why)) half (raise_refuses around run place q name uid target half why c stood.0) come shows runs w.0 c.half_first
+          (ap (λ (s : List Reply). slice_get (halves_of q) (length s)) stood.1 ∙ (c.halves ∙ ap Some (sym c.half_first))) (raise_checked pins history faults run q name uid target half store why lists c refuses shows.1 come)
           (λ given e. subst (λ (r : Reply). IsReplyOf q (said ++ reply.Refused why ∷ []) r) (one_reply (reply.Refused why) given e) (subst (λ (s : List Reply). IsReplyOf q (s ++ reply.Refused why ∷ []) (reply.Refused why)) (sym stood.1) (c.replied why w.0))) w.1).so,
       λ e. absurd (never_more _ e),
     )
 
 pub raise_stopped : {D : Type 0} → (q : Request) (name : List ℕ) (uid : Uid) (target : List ℕ) (half : Half) (Stands : Run → ℕ → List Reply → Type 0) (store : StoreValue D) (history : Option History) (faults : Faults) → IsCopying q name uid target half → store.stopped ≡ true
     → CopyingClause q HasNotBegun Stands store store history history faults faults did.Quiet (Some (reply.Refused refusal.Stopped))
-raise_stopped q name uid target half Stands store history faults c stopped = λ around behind others run lane place said lists come shows stood. (
-  (did_stop around behind run lane place said q First lists (seen_beside others store history faults) (raise_refuses around run place q name uid target half refusal.Stopped c stood.0) come shows tt stopped).so,
+raise_stopped q name uid target half Stands store history faults c stopped = λ around behind pins run lane place said lists come shows stood. (
+  (did_stop around behind run lane place said q First lists (seen_of pins store history faults) (raise_refuses around run place q name uid target half refusal.Stopped c stood.0) come shows tt stopped).so,
   λ e. absurd (never_more _ e),
 )
 
 pub raise_unremembered : {D : Type 0} → (q : Request) (name : List ℕ) (uid : Uid) (target : List ℕ) (half : Half) (Stands : Run → ℕ → List Reply → Type 0) (store : StoreValue D) (history : Option History) (faults : Faults) → IsCopying q name uid target half → store.stopped ≡ false
     → CopyingClause q HasNotBegun Stands store store history history faults faults did.Quiet (Some (reply.Refused refusal.NoMemory))
-raise_unremembered q name uid target half Stands store history faults c runs = λ around behind others run lane place said lists come shows stood.
-    let seen = seen_beside others store history faults in (
-      (did_unstepped around behind run lane place said q First lists seen seen refusal.NoMemory (Some (reply.Refused refusal.NoMemory)) did.Quiet (raise_refuses around run place q name uid target half refusal.NoMemory c stood.0) come (stays_itself seen) shows refl memory_calm (refl, refl, nothing lists seen)
+raise_unremembered q name uid target half Stands store history faults c runs = λ around behind pins run lane place said lists come shows stood.
+    let seen = seen_of pins store history faults in (
+      (did_unstepped around behind run lane place said q First lists seen seen refusal.NoMemory (Some (reply.Refused refusal.NoMemory)) did.Quiet (raise_refuses around run place q name uid target half refusal.NoMemory c stood.0) come (stays_itself seen) shows refl tt memory_calm (refl, refl, nothing lists seen)
           (λ given e. subst (λ (r : Reply). IsReplyOf q said r) (one_reply (reply.Refused refusal.NoMemory) given e) stood.1) (memory_is store.stopped runs) (λ e. refl) (λ x. absurd x)).so,
       λ e. absurd (never_more _ e),
     )
 
 pub raise_fell : {D : Type 0} → (q : Request) (name : List ℕ) (uid : Uid) (target : List ℕ) (half : Half) (Stands : Run → ℕ → List Reply → Type 0) (old new : StoreValue D) (before after : Option History) (began faulted : Faults) → IsCopying q name uid target half → old.stopped ≡ false → MapFell old new before after began faulted
     → CopyingClause q HasNotBegun Stands old new before after began faulted did.Failed (Some (reply.Refused refusal.Stopped))
-raise_fell q name uid target half Stands old new before after began faulted c ran f = λ around behind others run lane place said lists come shows stood.
-    let seen = seen_beside others old before began in
-    let later = seen_beside others new after faulted in (
-      (did_fall around behind run lane place said q First lists seen later did.Failed (raise_refuses around run place q name uid target half refusal.Stopped c stood.0) come (map_fell_stays others old new before after began faulted f) (shows_still others old new before after began faulted lists f.appends shows) tt ran f.stopped f.rose
+raise_fell q name uid target half Stands old new before after began faulted c ran f = λ around behind pins run lane place said lists come shows stood.
+    let seen = seen_of pins old before began in
+    let later = seen_of pins new after faulted in (
+      (did_fall around behind run lane place said q First lists seen later did.Failed (raise_refuses around run place q name uid target half refusal.Stopped c stood.0) come (map_fell_stays pins old new before after began faulted f) (shows_still pins old new before after began faulted lists f.appends shows) tt ran f.stopped f.rose
           (record { refused = refl; unanswered = refl; ran = ran; stopped = f.stopped }, λ s. f.appends.moments lists s)).so,
       λ e. absurd (never_more _ e),
     )
@@ -199,14 +199,14 @@ raised_due old new held uid e = omega (arith, e)
 
 pub raise_done : {D : Type 0} → (q : Request) (name : List ℕ) (uid : Uid) (target : List ℕ) (half : Half) (held : MapUid) (old new : StoreValue D) (before after : Option History) (began faulted : Faults) → IsCopying q name uid target half → IsStore before old → old.stopped ≡ false → RaisesRow name uid target held old new before after began faulted
     → CopyingClause q HasNotBegun (IsHolding held) old new before after began faulted did.Quiet None
-raise_done q name uid target half held old new before after began faulted c is ran r = λ around behind others run lane place said lists come shows stood.
+raise_done q name uid target half held old new before after began faulted c is ran r = λ around behind pins run lane place said lists come shows stood.
     let s = shown_row old name uid.0 r.at.source r.row lists r.at.from shows.1 in
     let k = record_of_row before old name uid.0 r.at.source r.row is r.at.from in
     let own : k.entry.uid ≡ held.0 = k.uid_is ∙ sym r.holds in
     let event : RunEvent = raising lane place k.entry.uid (told_calls after) in
     let a = r.took.appends in
-    let seen = seen_beside others old before began in
-    let later = seen_beside others new after faulted in
+    let seen = seen_of pins old before began in
+    let later = seen_of pins new after faulted in
     stands_by around behind run lane place said q lists seen later did.Quiet None event None (IsHolding held)
     (did_part around behind run lane place said q lists lists seen later did.Quiet None None event
     (record {
@@ -216,17 +216,18 @@ raise_done q name uid target half held old new before after began faulted c is r
       ended_is = refl;
       unrefused = refl;
       undrawn = refl;
-      leaves = record { pins = refl; unpins = refl; doomed = refl; removed = refl; given = refl; gone = refl };
+      leaves = record { pins = refl; unpins = refl; doomed = refl; removed = refl; given = refl; placed = refl; gone = refl };
       finds = c.finds around event;
       found = c.found around run event First;
       part_is = ap (λ (es : List RunEvent). next_part around run q es) stood.0;
-      allowed = raise_allowed others before began run q name uid target half old r.row r.number r.next lists c r.at r.few shows.1 come event;
+      allowed = raise_allowed pins before began run q name uid target half old r.row r.number r.next lists c r.at r.few shows.1 come event;
+      fits = one_fits run seen (map_entry.U (record { 0 = k.entry.uid })) come (subst (λ (u : ℕ). MapFits old.map (map_entry.U (record { 0 = u }))) (sym own) r.took.fits);
       did = c.did_first around run lists event (k.entry, (s.message, s.there, ap (λ (m : MapMeaning). record_of m s.message.guid) come.come.map_is ∙ k.by_guid s.message.guid (shown_guid name uid.0 r.at.source lists r.row s)), refl);
       ends = record { 0 = λ h. absurd (h refl); 1 = λ h. absurd (some_part Last (sym (c.behind_first behind (and_then run event) event refl) ∙ h)) };
       replied = tt;
     }) come (comes_with run event (map_entry.U (record { 0 = k.entry.uid })) seen later come (subst (λ (u : ℕ). new.map ≡ map_applied (map_entry.U (record { 0 = u })) old.map) (sym own) r.took.taken) a.drawn a.grows refl refl refl)
     (λ other. subst (λ (u : ℕ). due_at other new + 0 ≡ due_at other old + ((0 + one_due u other) + 0)) (sym own) (raised_due (due_at other old) (due_at other new) held.0 other (r.took.due other)))
-    (took_tells others (raising_of held) old new before after began faulted r.took) (shows_still others old new before after began faulted lists a shows) a.grows (sym c.steps_first) refl (refl, r.took.runs ∙ sym ran, leads_still others (raising_of held) old new before after began faulted lists r.took)
+    (took_tells pins (raising_of held) old new before after began faulted ran r.took) (shows_still pins old new before after began faulted lists a shows) a.grows (sym c.steps_first) refl (refl, r.took.runs ∙ sym ran, leads_still pins (raising_of held) old new before after began faulted lists r.took)
     (ends_well q said event None None did.Quiet seen later refl ran r.took.runs (let same = a.reads in omega (arith, same)) a.changes (λ x. x) (λ e. no_reply (reply.Refused refusal.Stopped) e) (λ some. absurd (let f : false ≡ true = some in cc f)) (λ given e. absurd (no_reply given e))))
     (λ goes_on. (
       (

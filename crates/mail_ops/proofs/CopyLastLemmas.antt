@@ -1,4 +1,5 @@
 -- The second event of a copy or a move, by the clause of a step: the message is added, or it is refused, and the count given back.
+use Rattle.std.proofs.lemmas.List.Elements.{All-nil}
 use Rattle.std.proofs.Common.{◌≡◌, ◌≤◌, ◌+◌, ℕ, Bool, true, false, List, [], ◌∷◌, ◌++◌, map, Option, Some, None, refl, sym, ◌∙◌, ap, subst, arith, inl, inr}
 use Rattle.std.specs.Prelude.{◌⊎◌, length, slice_get, if◌then◌else◌}
 use Rattle.std.specs.Option.{option_or}
@@ -44,11 +45,11 @@ use Rattle.task_steps.proofs.OneEventLemmas.{never_more, nothing}
 use Rattle.mail_ops.specs.Appends.{MapTook, MapFell, lowering_of}
 use Rattle.mail_ops.specs.CopyStages.{HasRaised, WasRefused, IsHolding, IsGivingBack, answered_by}
 use Rattle.mail_ops.specs.Copying.{CopyPlace, copy_refusal, added_copy, AddsRow, FellAdding}
-use Rattle.mail_ops.specs.Task.{seen_beside}
+use Rattle.store_seen.specs.Seeing.{seen_of}
 use Rattle.mail_ops.proofs.CopyFirstLemmas.{CopyingClause, place_free, step_why, copy_steps}
 use Rattle.mail_ops.proofs.CopyPartLemmas.{IsCopying, copy_copies, adds_next, gives_back_next, held_first, held_second}
 use Rattle.mail_ops.proofs.CopyPlaceLemmas.{ShownBox, shows_box, ShowsBox, place_checked}
-use Rattle.mail_ops.proofs.EventLemmas.{stands_by, fall, some_reply, one_reply, no_reply, stays_itself, memory_calm, comes_along, refusal_event, CanRefuse, did_unstepped, did_stop, did_fall, did_check, did_part, ends_well}
+use Rattle.mail_ops.proofs.EventLemmas.{one_fits, stands_by, fall, some_reply, one_reply, no_reply, stays_itself, memory_calm, comes_along, refusal_event, CanRefuse, did_unstepped, did_stop, did_fall, did_check, did_part, ends_well}
 use Rattle.mail_ops.proofs.FlagEventLemmas.{shown_on}
 use Rattle.mail_ops.proofs.FlagListLemmas.{numbered}
 use Rattle.mail_ops.proofs.LoweringLemmas.{comes_with, lowered_due, shows_still, leads_still}
@@ -167,7 +168,6 @@ add_goes_on around run place q name uid target half held why first c one r other
   finds = c.finds around;
   found = λ event. c.found around run event Last;
   part_is = adds_next around run q name uid target half held (own_events place run) first c one r;
-  unpins = refl;
   memory = λ e. c.memory_last;
   ends = record { 0 = λ h. absurd (h refl); 1 = λ h. absurd (some_part GivesBack (sym (c.refused_last why other) ∙ h)) };
   replied = λ given e. absurd (no_reply given e);
@@ -178,7 +178,6 @@ add_stops around run place q name uid target half held first c one r = record {
   finds = c.finds around;
   found = λ event. c.found around run event Last;
   part_is = adds_next around run q name uid target half held (own_events place run) first c one r;
-  unpins = refl;
   memory = λ e. absurd (let k : refusal.Stopped ≡ refusal.NoMemory = e in cc k);
   ends = record { 0 = λ e. c.stopped_last; 1 = λ e f. some_reply (reply.Refused refusal.Stopped) f };
   replied = λ given e. subst (λ (r : Reply). refusal_in r ≡ Some refusal.Stopped) (one_reply (reply.Refused refusal.Stopped) given e) refl;
@@ -193,14 +192,14 @@ place_refuses run q name uid target half store lists why c h e = λ event. ap (f
 
 pub add_refused : {D : Type 0} → (q : Request) (name : List ℕ) (uid : Uid) (target : List ℕ) (half : Half) (held : MapUid) (store : StoreValue D) (history : Option History) (faults : Faults) (why : Refusal) → IsCopying q name uid target half → store.stopped ≡ false → copy_refusal name uid.0 target store ≡ Some why
     → CopyingClause q (IsHolding held) (IsGivingBack held why) store store history history faults faults (did.Step half) None
-add_refused q name uid target half held store history faults why c runs refuses = λ around behind others run lane place said lists come shows stood.
+add_refused q name uid target half held store history faults why c runs refuses = λ around behind pins run lane place said lists come shows stood.
     let w = step_why why (copy_steps name uid.0 target store why refuses) in
     let first = stood.0.0 in
     let one = stood.0.1 in
     let r = stood.0.2 in
     let event : RunEvent = refusal_event lane place Last why None (told_calls history) in
-    stands_by around behind run lane place said q lists (seen_beside others store history faults) (seen_beside others store history faults) (did.Step half) None event (Some (reply.Refused why)) (IsGivingBack held why)
-    (did_check around behind run lane place said q Last lists (seen_beside others store history faults) why None half (add_goes_on around run place q name uid target half held why first c one r w.2) come shows runs w.0 c.half_last
+    stands_by around behind run lane place said q lists (seen_of pins store history faults) (seen_of pins store history faults) (did.Step half) None event (Some (reply.Refused why)) (IsGivingBack held why)
+    (did_check around behind run lane place said q Last lists (seen_of pins store history faults) why None half (add_goes_on around run place q name uid target half held why first c one r w.2) come shows runs w.0 c.half_last
     (ap (λ (s : List Reply). slice_get (halves_of q) (length s)) stood.1 ∙ (c.halves ∙ ap Some (sym c.half_last))) (place_refuses run q name uid target half store lists (Some why) c shows.1 refuses) (λ given e. absurd (no_reply given e)) (λ e. no_reply (reply.Refused refusal.Stopped) e))
     (λ goes_on. (
       (first, event, held_twice place run event first refl one, r, record { part = refl; refused = refl; bare = refl }),
@@ -213,21 +212,21 @@ memory_differs e = cc e
 
 pub add_unremembered : {D : Type 0} → (q : Request) (name : List ℕ) (uid : Uid) (target : List ℕ) (half : Half) (held : MapUid) (store : StoreValue D) (history : Option History) (faults : Faults) → IsCopying q name uid target half → store.stopped ≡ false
     → CopyingClause q (IsHolding held) (IsGivingBack held refusal.NoMemory) store store history history faults faults did.Quiet None
-add_unremembered q name uid target half held store history faults c runs = λ around behind others run lane place said lists come shows stood.
+add_unremembered q name uid target half held store history faults c runs = λ around behind pins run lane place said lists come shows stood.
     let first = stood.0.0 in
     let one = stood.0.1 in
     let r = stood.0.2 in
-    let seen = seen_beside others store history faults in
+    let seen = seen_of pins store history faults in
     let event : RunEvent = refusal_event lane place Last refusal.NoMemory None (told_calls history) in
     stands_by around behind run lane place said q lists seen seen did.Quiet None event None (IsGivingBack held refusal.NoMemory)
-    (did_unstepped around behind run lane place said q Last lists seen seen refusal.NoMemory None did.Quiet (add_goes_on around run place q name uid target half held refusal.NoMemory first c one r memory_differs) come (stays_itself seen) shows refl memory_calm (refl, refl, nothing lists seen)
+    (did_unstepped around behind run lane place said q Last lists seen seen refusal.NoMemory None did.Quiet (add_goes_on around run place q name uid target half held refusal.NoMemory first c one r memory_differs) come (stays_itself seen) shows refl tt memory_calm (refl, refl, nothing lists seen)
     (λ given e. absurd (no_reply given e)) (record { 0 = λ e. absurd (no_reply (reply.Refused refusal.Stopped) e); 1 = λ e. absurd (fall store.stopped e runs) }) (λ e. refl) (λ x. absurd x))
     (λ goes_on. ((first, event, held_twice place run event first refl one, r, record { part = refl; refused = refl; bare = refl }), stood.1, inr refl))
 
 pub add_stopped : {D : Type 0} → (q : Request) (name : List ℕ) (uid : Uid) (target : List ℕ) (half : Half) (held : MapUid) (Stands : Run → ℕ → List Reply → Type 0) (store : StoreValue D) (history : Option History) (faults : Faults) → IsCopying q name uid target half → store.stopped ≡ true
     → CopyingClause q (IsHolding held) Stands store store history history faults faults did.Quiet (Some (reply.Refused refusal.Stopped))
-add_stopped q name uid target half held Stands store history faults c stopped = λ around behind others run lane place said lists come shows stood. (
-  (did_stop around behind run lane place said q Last lists (seen_beside others store history faults) (add_stops around run place q name uid target half held stood.0.0 c stood.0.1 stood.0.2) come shows tt stopped).so,
+add_stopped q name uid target half held Stands store history faults c stopped = λ around behind pins run lane place said lists come shows stood. (
+  (did_stop around behind run lane place said q Last lists (seen_of pins store history faults) (add_stops around run place q name uid target half held stood.0.0 c stood.0.1 stood.0.2) come shows tt stopped).so,
   λ e. absurd (never_more _ e),
 )
 
@@ -255,15 +254,15 @@ is_copied store name uid target row number given lists k = record { message = k.
 
 pub copy_added : {D : Type 0} → (name : List ℕ) (uid : Uid) (target : List ℕ) (held : MapUid) (given : Uid) (Stands : Run → ℕ → List Reply → Type 0) (old new : StoreValue D) (before after : Option History) (began faulted : Faults) → IsStore before old → old.stopped ≡ false → ((other : ℕ) → one_due held.0 other ≤ due_at other old)
     → AddsRow name uid target held given old new before after began faulted → CopyingClause (request.Copy name uid target) (IsHolding held) Stands old new before after began faulted (did.Step half_is.Whole) (Some (reply.Copied given))
-copy_added name uid target held given Stands old new before after began faulted is ran due r = λ around behind others run lane place said lists come shows stood.
+copy_added name uid target held given Stands old new before after began faulted is ran due r = λ around behind pins run lane place said lists come shows stood.
     let q = request.Copy name uid target in
     let c = copy_copies name uid target in
     let k = copy_known old name uid target r.row r.number given lists r.at shows.0 shows.1 in
     let ended = Some (reply.Copied given) in
     let event : RunEvent = adding lane place k.mailbox k.shown.message held.0 ended (told_calls after) in
     let a = r.took.appends in
-    let seen = seen_beside others old before began in
-    let later = seen_beside others new after faulted in
+    let seen = seen_of pins old before began in
+    let later = seen_of pins new after faulted in
     let first = stood.0.0 in
     let one = stood.0.1 in
     let h = stood.0.2 in
@@ -277,17 +276,18 @@ copy_added name uid target held given Stands old new before after began faulted 
             ended_is = refl;
             unrefused = refl;
             undrawn = refl;
-            leaves = record { pins = refl; unpins = refl; doomed = refl; removed = refl; given = refl; gone = refl };
+            leaves = record { pins = refl; unpins = refl; doomed = refl; removed = refl; given = refl; placed = refl; gone = refl };
             finds = tt;
             found = tt;
             part_is = adds_next around run q name uid target half_is.Whole held (own_events place run) first c one h;
             allowed = allowed;
+            fits = All-nil _;
             did = (k.shown.message, k.shown.there, (k.mailbox, held.0, k.named, held_first place run held first one h, refl));
             ends = record { 0 = λ e. refl; 1 = λ e f. some_reply (reply.Copied given) f };
             replied = replied_once (own_events place run) first event one h.unrefused;
           }) come (comes_along run event seen later come a.map a.drawn a.grows refl refl refl)
           (λ other. ended_due (due_at other old) (due_at other new) held.0 other (added_due held given r.row r.at.m old new other r.holds (due other) (r.took.due r.at.m other r.at.to.numbered)))
-          (box_tells others r.number (added_copy given r.row) old new before after began faulted a) (
+          (box_tells pins r.number (added_copy given r.row) old new before after began faulted (λ runs. ran) a) (
             answers_well run lists q event (reply.Copied given) (add_message target k.shown.message lists) shows.0 tt (allowed, copied),
             shown_on seen later _ (add_message target k.shown.message lists) a.map r.took.taken k.shows,
           ) a.grows refl ((allowed, copied), refl) (
@@ -308,16 +308,16 @@ copy_added name uid target held given Stands old new before after began faulted 
 
 pub add_fell : {D : Type 0} → (q : Request) (name : List ℕ) (uid : Uid) (target : List ℕ) (half : Half) (held : MapUid) (Stands : Run → ℕ → List Reply → Type 0) (old new : StoreValue D) (before after : Option History) (began faulted : Faults) → IsCopying q name uid target half → IsStore before old → old.stopped ≡ false
     → FellAdding name uid target held old new before after began faulted → CopyingClause q (IsHolding held) Stands old new before after began faulted (did.Broken half) (Some (reply.Refused refusal.Stopped))
-add_fell q name uid target half held Stands old new before after began faulted c is ran r = λ around behind others run lane place said lists come shows stood.
+add_fell q name uid target half held Stands old new before after began faulted c is ran r = λ around behind pins run lane place said lists come shows stood.
     let k = copy_known old name uid target r.row r.number r.given lists r.at shows.0 shows.1 in
     let would : RunEvent = adding lane place k.mailbox k.shown.message held.0 None (told_calls after) in
-    let seen = seen_beside others old before began in
-    let later = seen_beside others new after faulted in
+    let seen = seen_of pins old before began in
+    let later = seen_of pins new after faulted in
     let first = stood.0.0 in
     let one = stood.0.1 in
     let h = stood.0.2 in
     let allowed = place_refuses run q name uid target half old lists None c shows.1 (place_free name uid.0 target old r.row r.number r.given.0 r.at) would in (
-      (did_fall around behind run lane place said q Last lists seen later (did.Broken half) (add_stops around run place q name uid target half held first c one h) come (box_fell_stays others r.number (added_copy r.given r.row) old new before after began faulted r.fell)
+      (did_fall around behind run lane place said q Last lists seen later (did.Broken half) (add_stops around run place q name uid target half held first c one h) come (box_fell_stays pins r.number (added_copy r.given r.row) old new before after began faulted r.fell)
           (shows.0, shown_on seen later (indexes_of old.boxes) lists r.fell.appends.map r.fell.indexes shows.1) tt ran r.fell.stopped r.fell.rose (
             record { refused = refl; unanswered = refl; ran = ran; stopped = r.fell.stopped },
             c.half_last,
@@ -358,7 +358,6 @@ back_stops around run place q name uid target half why first second c other two 
   finds = c.finds around;
   found = λ event. c.found around run event GivesBack;
   part_is = gives_back_next around run q name uid target half why (own_events place run) first second c other two r;
-  unpins = refl;
   memory = λ e. absurd (let k : refusal.Stopped ≡ refusal.NoMemory = e in cc k);
   ends = record { 0 = λ e. c.refused_back refusal.Stopped; 1 = λ e f. some_reply (reply.Refused refusal.Stopped) f };
   replied = λ given e. subst (λ (r : Reply). refusal_in r ≡ Some refusal.Stopped) (one_reply (reply.Refused refusal.Stopped) given e) refl;
@@ -366,17 +365,17 @@ back_stops around run place q name uid target half why first second c other two 
 
 pub back_stopped : {D : Type 0} → (q : Request) (name : List ℕ) (uid : Uid) (target : List ℕ) (half : Half) (held : MapUid) (why : Refusal) (Stands : Run → ℕ → List Reply → Type 0) (store : StoreValue D) (history : Option History) (faults : Faults) → IsCopying q name uid target half → store.stopped ≡ true
     → CopyingClause q (IsGivingBack held why) Stands store store history history faults faults did.Quiet (Some (reply.Refused refusal.Stopped))
-back_stopped q name uid target half held why Stands store history faults c stopped = λ around behind others run lane place said lists come shows stood. (
-  (did_stop around behind run lane place said q GivesBack lists (seen_beside others store history faults) (back_stops around run place q name uid target half why stood.0.0 stood.0.1 c (given_for why stood.2) stood.0.2 stood.0.4) come shows tt stopped).so,
+back_stopped q name uid target half held why Stands store history faults c stopped = λ around behind pins run lane place said lists come shows stood. (
+  (did_stop around behind run lane place said q GivesBack lists (seen_of pins store history faults) (back_stops around run place q name uid target half why stood.0.0 stood.0.1 c (given_for why stood.2) stood.0.2 stood.0.4) come shows tt stopped).so,
   λ e. absurd (never_more _ e),
 )
 
 pub back_fell : {D : Type 0} → (q : Request) (name : List ℕ) (uid : Uid) (target : List ℕ) (half : Half) (held : MapUid) (why : Refusal) (Stands : Run → ℕ → List Reply → Type 0) (old new : StoreValue D) (before after : Option History) (began faulted : Faults) → IsCopying q name uid target half → old.stopped ≡ false → MapFell old new before after began faulted
     → CopyingClause q (IsGivingBack held why) Stands old new before after began faulted did.Failed (Some (reply.Refused refusal.Stopped))
-back_fell q name uid target half held why Stands old new before after began faulted c ran f = λ around behind others run lane place said lists come shows stood.
-    let seen = seen_beside others old before began in
-    let later = seen_beside others new after faulted in (
-      (did_fall around behind run lane place said q GivesBack lists seen later did.Failed (back_stops around run place q name uid target half why stood.0.0 stood.0.1 c (given_for why stood.2) stood.0.2 stood.0.4) come (map_fell_stays others old new before after began faulted f) (shows_still others old new before after began faulted lists f.appends shows) tt ran f.stopped f.rose
+back_fell q name uid target half held why Stands old new before after began faulted c ran f = λ around behind pins run lane place said lists come shows stood.
+    let seen = seen_of pins old before began in
+    let later = seen_of pins new after faulted in (
+      (did_fall around behind run lane place said q GivesBack lists seen later did.Failed (back_stops around run place q name uid target half why stood.0.0 stood.0.1 c (given_for why stood.2) stood.0.2 stood.0.4) come (map_fell_stays pins old new before after began faulted f) (shows_still pins old new before after began faulted lists f.appends shows) tt ran f.stopped f.rose
           (record { refused = refl; unanswered = refl; ran = ran; stopped = f.stopped }, λ s. f.appends.moments lists s)).so,
       λ e. absurd (never_more _ e),
     )
@@ -386,11 +385,11 @@ lowered_ends old new held uid e = omega (arith, e)
 
 pub given_back : {D : Type 0} → (q : Request) (name : List ℕ) (uid : Uid) (target : List ℕ) (half : Half) (held : MapUid) (why : Refusal) (Stands : Run → ℕ → List Reply → Type 0) (old new : StoreValue D) (before after : Option History) (began faulted : Faults) → IsCopying q name uid target half → old.stopped ≡ false
     → ((other : ℕ) → one_due held.0 other ≤ due_at other old) → MapTook (lowering_of held) old new before after began faulted → CopyingClause q (IsGivingBack held why) Stands old new before after began faulted did.Quiet (Some (reply.Refused why))
-given_back q name uid target half held why Stands old new before after began faulted c ran due t = λ around behind others run lane place said lists come shows stood.
+given_back q name uid target half held why Stands old new before after began faulted c ran due t = λ around behind pins run lane place said lists come shows stood.
     let event : RunEvent = giving_back lane place held.0 why (told_calls after) in
     let a = t.appends in
-    let seen = seen_beside others old before began in
-    let later = seen_beside others new after faulted in
+    let seen = seen_of pins old before began in
+    let later = seen_of pins new after faulted in
     let first = stood.0.0 in
     let second = stood.0.1 in
     let two = stood.0.2 in
@@ -405,17 +404,18 @@ given_back q name uid target half held why Stands old new before after began fau
             ended_is = refl;
             unrefused = refl;
             undrawn = refl;
-            leaves = record { pins = refl; unpins = refl; doomed = refl; removed = refl; given = refl; gone = refl };
+            leaves = record { pins = refl; unpins = refl; doomed = refl; removed = refl; given = refl; placed = refl; gone = refl };
             finds = c.finds around event;
             found = c.found around run event GivesBack;
             part_is = gives_back_next around run q name uid target half why (own_events place run) first second c other two r;
             allowed = ap (first_refusal run lists) (c.checks run event GivesBack);
+            fits = one_fits run seen (lowering_of held) come t.fits;
             did = c.did_back around run lists event (held.0, held_second place run held first second two h, refl);
             ends = record { 0 = λ e. c.behind_back behind (and_then run event) event refl; 1 = λ e f. some_reply (reply.Refused why) f };
             replied = replied_back (own_events place run) first second event why two r.refused refl;
           }) come (comes_with run event (lowering_of held) seen later come t.taken a.drawn a.grows refl refl refl)
           (λ u. lowered_ends (due_at u old) (due_at u new) held.0 u (lowered_due held old new u (due u) (t.due u)))
-          (took_tells others (lowering_of held) old new before after began faulted t) (shows_still others old new before after began faulted lists a shows) a.grows (sym c.steps_back) refl (refl, t.runs ∙ sym ran, leads_still others (lowering_of held) old new before after began faulted lists t)
+          (took_tells pins (lowering_of held) old new before after began faulted ran t) (shows_still pins old new before after began faulted lists a shows) a.grows (sym c.steps_back) refl (refl, t.runs ∙ sym ran, leads_still pins (lowering_of held) old new before after began faulted lists t)
           (ends_well q said event None (Some (reply.Refused why)) did.Quiet seen later refl ran t.runs (let same = a.reads in omega (arith, same)) a.changes (λ x. x) (λ e. other (let k : reply.Refused why ≡ reply.Refused refusal.Stopped = cc e in cc k)) (λ some. absurd (let k : false ≡ true = some in cc k))
           (λ given e. subst (λ (x : Reply). IsReplyOf q said x) (one_reply (reply.Refused why) given e) (given_reply q name uid target half said why c stood.1 stood.2)))).so,
       λ e. absurd (never_more _ e),

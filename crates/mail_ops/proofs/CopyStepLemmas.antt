@@ -41,7 +41,7 @@ use Rattle.mail_ops.proofs.CopyFirstLemmas.{CopyingClause, raise_stopped, raise_
 use Rattle.mail_ops.proofs.CopyLastLemmas.{copy_settled, added_due, add_stopped, add_refused, add_unremembered, add_fell, copy_added, back_stopped, back_fell, given_back, holding_kept, giving_back_kept}
 use Rattle.mail_ops.proofs.CopyPartLemmas.{copy_copies}
 use Rattle.mail_ops.proofs.EventLemmas.{fall}
-use Rattle.mail_ops.proofs.FlagEventLemmas.{due_kept}
+use Rattle.store_seen.proofs.SeeingLemmas.{due_as_before}
 use Rattle.mail_ops.proofs.LoweringLemmas.{lowered_due}
 use Rattle.mail_ops.proofs.SettledFlagLemmas.{LogsShowLists}
 
@@ -122,7 +122,7 @@ known_unraised name uid target old new before after began faulted ran f may = re
   stopped = record { 0 = λ e. f.stopped; 1 = λ e. refl };
   fault = record { reads = f.appends.reads; changes = f.appends.changes; rose = λ e. f.rose };
   unfailed = λ other. absurd (other refl);
-  moves = moves_as (copy_amounts stage.First) (amounts_in old) (amounts_in new) (λ other. due_kept old new other f.map f.dues);
+  moves = moves_as (copy_amounts stage.First) (amounts_in old) (amounts_in new) (λ other. due_as_before old new other f.map f.dues);
   spares = λ same. absurd (fall new.stopped f.stopped (same ∙ ran));
   replies = inl (refl, f.stopped, may);
   left = λ e. absurd (done_more (reply.Refused refusal.Stopped) e);
@@ -190,7 +190,7 @@ known_unadded : {D : Type 0} → (name : List ℕ) (uid : Uid) (target : List �
     → CopyKnown name uid target (stage.Adding held) (stage.Adding held) (progress.Done (reply.Refused refusal.Stopped)) (did.Broken half.Whole) old new before after began faulted
 known_unadded name uid target held old new before after began faulted show is ran ready r = record {
   ready = record {
-    due = held_still held old new ready.due (λ other. due_kept old new other r.fell.appends.map r.fell.dues);
+    due = held_still held old new ready.due (λ other. due_as_before old new other r.fell.appends.map r.fell.dues);
     source = record {
       m = ready.source.m;
       named = ap (λ (bs : List MapBox). meaning_named name bs (indexes_of new.boxes)) (ap (λ (m : MapMeaning). m.boxes) r.fell.appends.map) ∙ (ap (meaning_named name old.map.boxes) r.fell.indexes ∙ ready.source.named);
@@ -206,7 +206,7 @@ known_unadded name uid target held old new before after began faulted show is ra
   stopped = record { 0 = λ e. r.fell.stopped; 1 = λ e. refl };
   fault = record { reads = r.fell.appends.reads; changes = r.fell.appends.changes; rose = λ e. r.fell.rose };
   unfailed = λ other. absurd (other refl);
-  moves = moves_as (copy_amounts (stage.Adding held)) (amounts_in old) (amounts_in new) (λ other. due_kept old new other r.fell.appends.map r.fell.dues);
+  moves = moves_as (copy_amounts (stage.Adding held)) (amounts_in old) (amounts_in new) (λ other. due_as_before old new other r.fell.appends.map r.fell.dues);
   spares = λ same. absurd (fall new.stopped r.fell.stopped (same ∙ ran));
   replies = (refl, refl, r.fell.stopped);
   left = λ e. absurd (done_more (reply.Refused refusal.Stopped) e);
@@ -254,14 +254,14 @@ known_given name uid target held why old new before after began faulted ran read
 known_ungiven : {D : Type 0} → (name : List ℕ) (uid : Uid) (target : List ℕ) (held : MapUid) (why : Refusal) (old new : StoreValue D) (before after : Option History) (began faulted : Faults) → old.stopped ≡ false → IsReadyToCopy name uid (stage.GivingBack held why) old → MapFell old new before after began faulted
     → CopyKnown name uid target (stage.GivingBack held why) (stage.GivingBack held why) (progress.Done (reply.Refused refusal.Stopped)) did.Failed old new before after began faulted
 known_ungiven name uid target held why old new before after began faulted ran ready f = record {
-  ready = record { due = held_still held old new ready.due (λ other. due_kept old new other f.map f.dues); source = ready.source };
+  ready = record { due = held_still held old new ready.due (λ other. due_as_before old new other f.map f.dues); source = ready.source };
   does = back_fell (request.Copy name uid target) name uid target half.Whole held why (IsAtCopy (stage.GivingBack held why)) old new before after began faulted (copy_copies name uid target) ran f;
   moments = λ lists s. f.appends.moments lists s;
   settled = λ runs lists s. absurd (fall new.stopped f.stopped runs);
   stopped = record { 0 = λ e. f.stopped; 1 = λ e. refl };
   fault = record { reads = f.appends.reads; changes = f.appends.changes; rose = λ e. f.rose };
   unfailed = λ other. absurd (other refl);
-  moves = moves_as (copy_amounts (stage.GivingBack held why)) (amounts_in old) (amounts_in new) (λ other. due_kept old new other f.map f.dues);
+  moves = moves_as (copy_amounts (stage.GivingBack held why)) (amounts_in old) (amounts_in new) (λ other. due_as_before old new other f.map f.dues);
   spares = λ same. absurd (fall new.stopped f.stopped (same ∙ ran));
   replies = (refl, refl, refl, f.stopped);
   left = λ e. absurd (done_more (reply.Refused refusal.Stopped) e);

@@ -1,4 +1,5 @@
 -- A count as an event, which changes nothing.
+use Rattle.std.proofs.lemmas.List.Elements.{All-nil}
 use Rattle.std.proofs.Common.{◌≡◌, ℕ, true, false, List, [], ◌∷◌, ◌++◌, length, Option, Some, refl, sym, ◌∙◌, ap, subst, arith}
 use Rattle.std.specs.Prelude.{slice_get, sum_by}
 use Rattle.disk_model.specs.Disk.{History, Faults, told_calls}
@@ -16,29 +17,29 @@ use Rattle.journal.specs.Journal.{halves_of, IsReplyOf}
 use Rattle.journal.specs.Events.{Around, next_part}
 use Rattle.store_core.specs.Value.{StoreValue}
 use Rattle.task_steps.specs.Step.{HasNotBegun, Steps}
-use Rattle.task_steps.proofs.OneEventLemmas.{IsPlain, does_nothing, never_more, memory_is, when_stopped, not_reading, not_reading_memory, nothing, some_given, refusal_last}
+use Rattle.task_steps.proofs.OneEventLemmas.{IsPlain, does_nothing, never_more, memory_is, when_stopped, nothing, some_given, refusal_last}
 use Rattle.task_steps.proofs.SeenLemmas.{tells_itself}
 use Rattle.mail_ops.specs.Counting.{listed_messages, named_ids}
-use Rattle.mail_ops.specs.Task.{Others, seen_beside}
+use Rattle.store_seen.specs.Seeing.{seen_of}
 use Rattle.mail_ops.proofs.CountingLemmas.{shown_many}
 use Rattle.mail_ops.proofs.EventLemmas.{one_reply, comes_along, did_part, ends_well}
 
 counts_are_plain : IsPlain request.Counts
-counts_are_plain = record { found = λ around run event. tt; finds = λ around event. tt; memory = refl; behind = λ after run event why. refl; half_is = refl; halves_are = refl }
+counts_are_plain = record { found = λ around run event. tt; finds = λ around event. tt; memory = refl; reads = refl; behind = λ after run event why. refl; half_is = refl; halves_are = refl }
 
 -- the clause of the step
 abbrev pub CountsClause : {D : Type 0} → StoreValue D → Option History → Faults → Did → Option Reply → Type 0
-CountsClause store history faults how ended = (around behind : Around) (others : Others) → Steps HasNotBegun HasNotBegun around behind request.Counts (seen_beside others store history faults) (seen_beside others store history faults) how ended
+CountsClause store history faults how ended = (around behind : Around) (pins : ℕ → ℕ) → Steps HasNotBegun HasNotBegun around behind request.Counts (seen_of pins store history faults) (seen_of pins store history faults) how ended
 
 pub counts_stopped : {D : Type 0} → (store : StoreValue D) (history : Option History) (faults : Faults) → store.stopped ≡ true → CountsClause store history faults did.Quiet (Some (reply.Refused refusal.Stopped))
-counts_stopped store history faults stopped = λ around behind others run lane place said lists come shows stood. (
-  does_nothing around behind run lane place said request.Counts lists (seen_beside others store history faults) refusal.Stopped counts_are_plain come shows stood refl tt not_reading (when_stopped store.stopped stopped),
+counts_stopped store history faults stopped = λ around behind pins run lane place said lists come shows stood. (
+  does_nothing around behind run lane place said request.Counts lists (seen_of pins store history faults) refusal.Stopped counts_are_plain come shows stood refl tt tt (when_stopped store.stopped stopped),
   λ e. absurd (never_more _ e),
 )
 
 pub counts_unremembered : {D : Type 0} → (store : StoreValue D) (history : Option History) (faults : Faults) → store.stopped ≡ false → CountsClause store history faults did.Quiet (Some (reply.Refused refusal.NoMemory))
-counts_unremembered store history faults runs = λ around behind others run lane place said lists come shows stood. (
-  does_nothing around behind run lane place said request.Counts lists (seen_beside others store history faults) refusal.NoMemory counts_are_plain come shows stood refl refl not_reading_memory (memory_is store.stopped runs),
+counts_unremembered store history faults runs = λ around behind pins run lane place said lists come shows stood. (
+  does_nothing around behind run lane place said request.Counts lists (seen_of pins store history faults) refusal.NoMemory counts_are_plain come shows stood refl refl tt (memory_is store.stopped runs),
   λ e. absurd (never_more _ e),
 )
 
@@ -50,9 +51,9 @@ counted_runs a b c d e = let k : reply.Counted a b c d ≡ reply.Refused refusal
 
 pub counts_done : {D : Type 0} → (store : StoreValue D) (history : Option History) (faults : Faults) (a b c d : ℕ) → store.stopped ≡ false → a ≡ length store.map.records → b ≡ listed_messages store → c ≡ sum_by (λ row. row.count) store.map.records → d ≡ count_different (named_ids store.map)
     → CountsClause store history faults (did.Step half.Whole) (Some (reply.Counted a b c d))
-counts_done store history faults a b c d runs records listed counts ids = λ around behind others run lane place said lists come shows stood.
+counts_done store history faults a b c d runs records listed counts ids = λ around behind pins run lane place said lists come shows stood.
     let q = request.Counts in
-    let seen = seen_beside others store history faults in
+    let seen = seen_of pins store history faults in
     let given = reply.Counted a b c d in
     let event : RunEvent = counting_event lane place given (told_calls history) in
     let are : AreCounts run lists a b c d = record {
@@ -69,11 +70,12 @@ counts_done store history faults a b c d runs records listed counts ids = λ aro
             ended_is = refl;
             unrefused = refl;
             undrawn = refl;
-            leaves = record { pins = refl; unpins = refl; doomed = refl; removed = refl; given = refl; gone = refl };
+            leaves = record { pins = refl; unpins = refl; doomed = refl; removed = refl; given = refl; placed = refl; gone = refl };
             finds = tt;
             found = tt;
             part_is = ap (λ (es : List RunEvent). next_part around run q es) stood.0;
             allowed = refl;
+            fits = All-nil _;
             did = refl;
             ends = record { 0 = λ e. refl; 1 = λ e f. some_given given f };
             replied = refusal_last (own_events place run) event stood.0;

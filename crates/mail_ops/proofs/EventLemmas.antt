@@ -1,7 +1,8 @@
 -- Events of requests that have several, by the clause of a step.
 use Rattle.std.proofs.Common.{◌≡◌, ◌≤◌, ◌+◌, ℕ, Bool, true, false, List, [], ◌∷◌, Option, Some, None, refl, sym, ap, ◌∙◌, subst, arith, inl}
-use Rattle.std.specs.Prelude.{length, slice_get, is_some, ◌↔◌, ◌++◌, ◌≢◌}
-use Rattle.std.specs.Option.{option_or}
+use Rattle.std.specs.Prelude.{All, length, slice_get, is_some, ◌↔◌, ◌++◌, ◌≢◌}
+use Rattle.std.specs.Option.{IfSome, option_or}
+use Rattle.std.proofs.lemmas.List.Elements.{All-nil, All-cons}
 use Rattle.disk_model.specs.Disk.{told_calls, Grows}
 use Rattle.mdbox_base.specs.Streams.{Rose}
 use Rattle.mdbox_base.specs.declared.entries.Highest.{Highest}
@@ -14,18 +15,20 @@ use Rattle.mdbox_base.specs.declared.replies.Reply.TheVariants as reply
 use Rattle.mdbox_base.specs.declared.requests.Request.{Request}
 use Rattle.mdbox_base.specs.declared.script.Half.{Half}
 use Rattle.model_lists.specs.Lists.{Lists}
+use Rattle.mdbox_base.specs.declared.entries.MapEntry.{MapEntry}
+use Rattle.model_meaning.specs.MapFits.{MapFits}
 use Rattle.model_meaning.specs.MapMeaning.{MapMeaning, no_numbers}
-use Rattle.list_machine.specs.Run.{EventPart, RunEvent, event_of, Run, and_then, own_events, is_unpinning}
+use Rattle.list_machine.specs.Run.{EventPart, RunEvent, event_of, Run, and_then, map_of, own_events}
 use Rattle.list_machine.specs.Machine.{is_step, first_refusal, part_checks, checks_of}
 use Rattle.journal.specs.Journal.{half_of, halves_of, refusal_in, IsReplyOf}
-use Rattle.journal.specs.Events.{Around, Finds, DidPart, has_memory, next_part, behind_event, behind_refused, makes_step, last_refusal, IsRepliedBy, begun_in, ended_in}
+use Rattle.journal.specs.Events.{Around, Finds, DidPart, MayMeet, has_memory, next_part, behind_event, behind_refused, makes_step, last_refusal, IsRepliedBy, begun_in, ended_in}
 use Rattle.journal.specs.Found.{AgreesWithRun}
 use Rattle.journal.specs.Makes.{HasCome, StepOf}
 use Rattle.journal.proofs.RunLemmas.{comes_on}
 use Rattle.task_steps.specs.Step.{Seen, ShowsSeen, HasComeTo, Went, IsFault, and_told, EndsRequest, DidEvent}
 use Rattle.task_steps.specs.Tells.{LeavesFiles, TellsSame}
 use Rattle.task_steps.proofs.SeenLemmas.{comes_to_on, no_guids, tells_itself}
-use Rattle.task_steps.proofs.OneEventLemmas.{one_refusal, some_refusal, nothing}
+use Rattle.task_steps.proofs.OneEventLemmas.{one_refusal, some_refusal, step_may, nothing}
 
 -- ---- what an event did, and where its task stands then
 
@@ -101,17 +104,16 @@ pub record CanRefuse (around : Around) (run : Run) (place : ℕ) (q : Request) (
   pub finds : (event : RunEvent) → Finds around q event
   pub found : (event : RunEvent) → AgreesWithRun around run q event part
   pub part_is : next_part around run q (own_events place run) ≡ Some part
-  pub unpins : is_unpinning (event_of 0 0 part 0) ≡ false
   pub memory : why ≡ refusal.NoMemory → has_memory part q ≡ false
   pub ends : (ended ≢ None) ↔ (behind_refused q part why ≡ None)
   pub replied : (given : Reply) → ended ≡ Some given → refusal_in given ≡ Some why
 
-pub did_refused : (around after : Around) (run : Run) (lane place : ℕ) (said : List Reply) (q : Request) (part : EventPart) (lists : Lists) (old new : Seen) (why : Refusal) (ended answer : Option Reply) (how : Did) → CanRefuse around run place q part why ended → HasComeTo run old → StaysSo old new
+pub did_refused : (around after : Around) (run : Run) (lane place : ℕ) (said : List Reply) (q : Request) (part : EventPart) (lists : Lists) (old new : Seen) (why : Refusal) (ended answer : Option Reply) (how : Did) → CanRefuse around run place q part why ended → MayMeet part q why → HasComeTo run old → StaysSo old new
     → ShowsSeen new lists → (is_step why ≡ true → first_refusal run lists (part_checks run (refusal_event lane place part why ended (told_calls new.history)) q part) ≡ Some why) → is_some answer ≡ is_step why
     → StepOf run q lists (refusal_event lane place part why ended (told_calls new.history)) answer lists → Went how q run lists lists (refusal_event lane place part why ended (told_calls new.history)) answer old new
     → EndsRequest q said (refusal_event lane place part why ended (told_calls new.history)) answer ended how old new
     → DidBy around after run lane place said q lists old new how ended (refusal_event lane place part why ended (told_calls new.history)) answer
-did_refused around after run lane place said q part lists old new why ended answer how can come stays shows checks told made went ends = record {
+did_refused around after run lane place said q part lists old new why ended answer how can may come stays shows checks told made went ends = record {
   so = record {
     left = lists;
     shown = shows;
@@ -129,8 +131,10 @@ did_refused around after run lane place said q part lists old new why ended answ
         undone = λ r e. (refl, λ s. refl);
         drew = λ h. inl refl;
         memory = λ e. can.memory (one_refusal why refusal.NoMemory e);
+        may = may;
         allowed = λ e. absurd (some_refusal why e);
         did = λ e. absurd (some_refusal why e);
+        fits = All-nil _;
         ends = can.ends;
         replied = replied_by (own_events place run) event why ended refl can.replied;
       };
@@ -139,7 +143,7 @@ did_refused around after run lane place said q part lists old new why ended answ
       made = made;
       come = comes;
     };
-    come = comes_to_on run event old new come comes (λ uid. let d = stays.due uid in omega (arith, d)) (record { pins = refl; unpins = can.unpins; doomed = refl; removed = refl; given = refl; gone = refl }) stays.tells;
+    come = comes_to_on run event old new come comes (λ uid. let d = stays.due uid in omega (arith, d)) (record { pins = refl; unpins = refl; doomed = refl; removed = refl; given = refl; placed = refl; gone = refl }) stays.tells;
     gives = no_guids run event refl;
     went = went;
     grows = stays.grows;
@@ -157,10 +161,10 @@ did_refused around after run lane place said q part lists old new why ended answ
 
 -- An event that did nothing, and was no step: for want of memory, or since the store is stopped, now or before.
 pub did_unstepped : (around after : Around) (run : Run) (lane place : ℕ) (said : List Reply) (q : Request) (part : EventPart) (lists : Lists) (old new : Seen) (why : Refusal) (ended : Option Reply) (how : Did) → CanRefuse around run place q part why ended → HasComeTo run old → StaysSo old new → ShowsSeen new lists
-    → is_step why ≡ false → (why ≡ refusal.ReadFault → ⊥) → Went how q run lists lists (refusal_event lane place part why ended (told_calls new.history)) None old new → ((given : Reply) → ended ≡ Some given → IsReplyOf q said given) → ((ended ≡ Some (reply.Refused refusal.Stopped)) ↔ (new.stopped ≡ true))
+    → is_step why ≡ false → MayMeet part q why → (why ≡ refusal.ReadFault → ⊥) → Went how q run lists lists (refusal_event lane place part why ended (told_calls new.history)) None old new → ((given : Reply) → ended ≡ Some given → IsReplyOf q said given) → ((ended ≡ Some (reply.Refused refusal.Stopped)) ↔ (new.stopped ≡ true))
     → (old.stopped ≡ true → new ≡ record old { pins = new.pins }) → (IsFault how → Rose old.faults.changes new.faults.changes) → DidBy around after run lane place said q lists old new how ended (refusal_event lane place part why ended (told_calls new.history)) None
-did_unstepped around after run lane place said q part lists old new why ended how can come stays shows unstep calm went replied halts still rose =
-    did_refused around after run lane place said q part lists old new why ended None how can come stays shows (λ s. absurd (fall (is_step why) s unstep)) (sym unstep) refl went (record {
+did_unstepped around after run lane place said q part lists old new why ended how can come stays shows unstep may calm went replied halts still rose =
+    did_refused around after run lane place said q part lists old new why ended None how can may come stays shows (λ s. absurd (fall (is_step why) s unstep)) (sym unstep) refl went (record {
       in_turn = λ some. absurd (let k : false ≡ true = some in cc k);
       replied = replied;
       halts = halts;
@@ -180,7 +184,7 @@ pub did_stop : (around after : Around) (run : Run) (lane place : ℕ) (said : Li
     → IsReplyOf q said (reply.Refused refusal.Stopped) → seen.stopped ≡ true
     → DidBy around after run lane place said q lists seen seen did.Quiet (Some (reply.Refused refusal.Stopped)) (refusal_event lane place part refusal.Stopped (Some (reply.Refused refusal.Stopped)) (told_calls seen.history)) None
 did_stop around after run lane place said q part lists seen can come shows is stopped =
-    did_unstepped around after run lane place said q part lists seen seen refusal.Stopped (Some (reply.Refused refusal.Stopped)) did.Quiet can come (stays_itself seen) shows refl stopped_calm (refl, refl, nothing lists seen)
+    did_unstepped around after run lane place said q part lists seen seen refusal.Stopped (Some (reply.Refused refusal.Stopped)) did.Quiet can come (stays_itself seen) shows refl tt stopped_calm (refl, refl, nothing lists seen)
     (λ given e. subst (λ (r : Reply). IsReplyOf q said r) (one_reply (reply.Refused refusal.Stopped) given e) is) (record { 0 = λ e. stopped; 1 = λ e. refl }) (λ e. refl) (λ x. absurd x)
 
 -- A change of the disk failed: it was no step, or would have been one (`went`).
@@ -189,7 +193,7 @@ pub did_fall : (around after : Around) (run : Run) (lane place : ℕ) (said : Li
     → Went how q run lists lists (refusal_event lane place part refusal.Stopped (Some (reply.Refused refusal.Stopped)) (told_calls new.history)) None old new
     → DidBy around after run lane place said q lists old new how (Some (reply.Refused refusal.Stopped)) (refusal_event lane place part refusal.Stopped (Some (reply.Refused refusal.Stopped)) (told_calls new.history)) None
 did_fall around after run lane place said q part lists old new how can come stays shows is runs stopped rose went =
-    did_unstepped around after run lane place said q part lists old new refusal.Stopped (Some (reply.Refused refusal.Stopped)) how can come stays shows refl stopped_calm went
+    did_unstepped around after run lane place said q part lists old new refusal.Stopped (Some (reply.Refused refusal.Stopped)) how can come stays shows refl tt stopped_calm went
     (λ given e. subst (λ (r : Reply). IsReplyOf q said r) (one_reply (reply.Refused refusal.Stopped) given e) is) (record { 0 = λ e. stopped; 1 = λ e. refl }) (λ e. absurd (fall old.stopped e runs)) (λ x. rose)
 
 -- A check refused it: a step.
@@ -201,7 +205,7 @@ pub did_check : (around after : Around) (run : Run) (lane place : ℕ) (said : L
     → ((given : Reply) → ended ≡ Some given → IsReplyOf q (said ++ reply.Refused why ∷ []) given) → (ended ≡ Some (reply.Refused refusal.Stopped) → ⊥)
     → DidBy around after run lane place said q lists seen seen (did.Step half) ended (refusal_event lane place part why ended (told_calls seen.history)) (Some (reply.Refused why))
 did_check around after run lane place said q part lists seen why ended half can come shows runs step half_is turn refuses replied unstopped =
-    did_refused around after run lane place said q part lists seen seen why ended (Some (reply.Refused why)) (did.Step half) can come (stays_itself seen) shows (λ s. refuses event) (sym step) ((refuses event, refl), refl) (refl, half_is, runs, nothing lists seen) (record {
+    did_refused around after run lane place said q part lists seen seen why ended (Some (reply.Refused why)) (did.Step half) can (step_may part q why step) come (stays_itself seen) shows (λ s. refuses event) (sym step) ((refuses event, refl), refl) (refl, half_is, runs, nothing lists seen) (record {
       in_turn = λ some. turn;
       replied = replied;
       halts = record { 0 = λ e. absurd (unstopped e); 1 = λ e. absurd (fall seen.stopped e runs) };
@@ -214,6 +218,10 @@ did_check around after run lane place said q part lists seen why ended half can 
     event = refusal_event lane place part why ended (told_calls seen.history)
 
 -- ---- an event that does its part
+
+-- an entry that fits the store's map fits the run's
+pub one_fits : (run : Run) (seen : Seen) (entry : MapEntry) → HasComeTo run seen → MapFits seen.map entry → All (MapFits (map_of run)) (entry ∷ [])
+one_fits run seen entry come fits = All-cons (MapFits (map_of run)) entry [] (subst (λ (m : MapMeaning). MapFits m entry) (sym come.come.map_is) fits) (All-nil _)
 
 -- It is of this lane and request, ends its request with this or not, and ends at this moment; it does its part.
 pub record DoesPart (around after : Around) (run : Run) (lane place : ℕ) (q : Request) (lists : Lists) (calls : ℕ) (ended : Option Reply) (event : RunEvent) : Type 0 where
@@ -229,6 +237,7 @@ pub record DoesPart (around after : Around) (run : Run) (lane place : ℕ) (q : 
   pub part_is : next_part around run q (own_events event.request run) ≡ Some event.part
   pub allowed : first_refusal run lists (checks_of run q event) ≡ None
   pub did : DidPart around run lists q event event.part
+  pub fits : All (MapFits (map_of run)) event.map_entries
   pub ends : (event.reply ≢ None) ↔ (behind_event after (and_then run event) q event event.refused ≡ None)
   pub replied : IsRepliedBy (own_events event.request run ++ event ∷ []) event.reply
 
@@ -254,8 +263,10 @@ did_part around after run lane place said q lists left old new how ended answer 
         undone = λ r e. absurd (no_refusal r (sym does.unrefused ∙ e));
         drew = λ h. inl does.undrawn;
         memory = λ e. absurd (no_refusal refusal.NoMemory (sym does.unrefused ∙ e));
+        may = subst (λ (o : Option Refusal). IfSome o (MayMeet event.part q)) (sym does.unrefused) tt;
         allowed = λ e. does.allowed;
         did = λ e. does.did;
+        fits = does.fits;
         ends = does.ends;
         replied = does.replied;
       };

@@ -1,4 +1,5 @@
 -- The events of an expunge, by the clause of a step.
+use Rattle.std.proofs.lemmas.List.Elements.{All-nil}
 use Rattle.std.proofs.Common.{◌≡◌, ◌+◌, ℕ, true, false, List, [], ◌∷◌, ◌++◌, Option, Some, None, refl, sym, ◌∙◌, ap, subst, arith}
 use Rattle.std.specs.Prelude.{◌⊎◌, length, slice_get}
 use Rattle.std.proofs.Common.{inl, inr}
@@ -35,10 +36,10 @@ use Rattle.mail_ops.specs.Appends.{MapTook, MapFell, lowering_of}
 use Rattle.mail_ops.specs.Expunging.{IsAtExpunge, expunge_amounts, RemovesRow, FellRemoving}
 use Rattle.mail_ops.specs.Messages.{missing_message}
 use Rattle.mail_ops.specs.Owing.{AreDueIn}
-use Rattle.mail_ops.specs.Task.{Others, seen_beside}
+use Rattle.store_seen.specs.Seeing.{seen_of}
 use Rattle.mail_ops.specs.declared.expunging.ExpungeStage.{ExpungeStage}
 use Rattle.mail_ops.specs.declared.expunging.ExpungeStage.TheVariants as stage
-use Rattle.mail_ops.proofs.EventLemmas.{stands_by, some_reply, one_reply, no_reply, stays_itself, memory_calm, comes_along, CanRefuse, did_unstepped, did_stop, did_fall, did_check, did_part, ends_well}
+use Rattle.mail_ops.proofs.EventLemmas.{one_fits, stands_by, some_reply, one_reply, no_reply, stays_itself, memory_calm, comes_along, CanRefuse, did_unstepped, did_stop, did_fall, did_check, did_part, ends_well}
 use Rattle.mail_ops.proofs.FlagEventLemmas.{shown_on}
 use Rattle.mail_ops.proofs.LoweringLemmas.{comes_with, lowered_due, shows_still, leads_still}
 use Rattle.mail_ops.proofs.MessageLemmas.{missing_is, missing_refused}
@@ -47,7 +48,7 @@ use Rattle.mail_ops.proofs.RemovalLemmas.{brings_removal, box_tells, took_tells,
 -- the clause of a step from one stage to another
 abbrev pub ExpungeClause : {D : Type 0} → List ℕ → Uid → ExpungeStage → ExpungeStage → StoreValue D → StoreValue D → Option History → Option History → Faults → Faults → Did → Option Reply → Type 0
 ExpungeClause name uid now next old new before after began then how ended =
-    (around behind : Around) (others : Others) → Steps (IsAtExpunge now) (IsAtExpunge next) around behind (request.Expunge name uid) (seen_beside others old before began) (seen_beside others new after then) how ended
+    (around behind : Around) (pins : ℕ → ℕ) → Steps (IsAtExpunge now) (IsAtExpunge next) around behind (request.Expunge name uid) (seen_of pins old before began) (seen_of pins new after then) how ended
 
 some_part : (p : EventPart) → Some p ≡ None → ⊥
 some_part p e = cc e
@@ -62,7 +63,6 @@ first_refuses around run place name uid why own = record {
   finds = λ event. tt;
   found = λ event. tt;
   part_is = ap (λ (es : List RunEvent). next_part around run (request.Expunge name uid) es) own;
-  unpins = refl;
   memory = λ e. refl;
   ends = record { 0 = λ e. refl; 1 = λ e f. some_reply (reply.Refused why) f };
   replied = λ given e. subst (λ (r : Reply). refusal_in r ≡ Some why) (one_reply (reply.Refused why) given e) refl;
@@ -73,7 +73,6 @@ last_stops around run place name uid owed at = record {
   finds = λ event. tt;
   found = λ event. tt;
   part_is = next_is around run name uid (own_events place run) at.0 at.1 at.2 at.3;
-  unpins = refl;
   memory = λ e. absurd (let k : refusal.Stopped ≡ refusal.NoMemory = e in cc k);
   ends = record { 0 = λ e. refl; 1 = λ e f. some_reply (reply.Refused refusal.Stopped) f };
   replied = λ given e. subst (λ (r : Reply). refusal_in r ≡ Some refusal.Stopped) (one_reply (reply.Refused refusal.Stopped) given e) refl;
@@ -82,12 +81,12 @@ last_stops around run place name uid owed at = record {
 -- ---- a store that was stopped
 
 pub expunge_stopped : {D : Type 0} → (name : List ℕ) (uid : Uid) (now : ExpungeStage) (store : StoreValue D) (history : Option History) (faults : Faults) → store.stopped ≡ true → ExpungeClause name uid now now store store history history faults faults did.Quiet (Some (reply.Refused refusal.Stopped))
-expunge_stopped name uid stage.First store history faults stopped = λ around behind others run lane place said lists come shows stood. (
-  (did_stop around behind run lane place said (request.Expunge name uid) First lists (seen_beside others store history faults) (first_refuses around run place name uid refusal.Stopped stood.0) come shows tt stopped).so,
+expunge_stopped name uid stage.First store history faults stopped = λ around behind pins run lane place said lists come shows stood. (
+  (did_stop around behind run lane place said (request.Expunge name uid) First lists (seen_of pins store history faults) (first_refuses around run place name uid refusal.Stopped stood.0) come shows tt stopped).so,
   λ e. absurd (never_more _ e),
 )
-expunge_stopped name uid (stage.Owing owed) store history faults stopped = λ around behind others run lane place said lists come shows stood. (
-  (did_stop around behind run lane place said (request.Expunge name uid) GivesBack lists (seen_beside others store history faults) (last_stops around run place name uid owed.0 stood.0) come shows tt stopped).so,
+expunge_stopped name uid (stage.Owing owed) store history faults stopped = λ around behind pins run lane place said lists come shows stood. (
+  (did_stop around behind run lane place said (request.Expunge name uid) GivesBack lists (seen_of pins store history faults) (last_stops around run place name uid owed.0 stood.0) come shows tt stopped).so,
   λ e. absurd (never_more _ e),
 )
 
@@ -98,13 +97,13 @@ removal_box_due old new owed uid e = omega (arith, e)
 
 pub expunge_removed : {D : Type 0} → (name : List ℕ) (uid : Uid) (owed : MapUid) (old new : StoreValue D) (before after : Option History) (began then : Faults) → IsStore before old → old.stopped ≡ false → RemovesRow name uid owed old new before after began then
     → ExpungeClause name uid stage.First (stage.Owing owed) old new before after began then (did.Step half.Whole) None
-expunge_removed name uid owed old new before after began then is ran r = λ around behind others run lane place said lists come shows stood.
+expunge_removed name uid owed old new before after began then is ran r = λ around behind pins run lane place said lists come shows stood.
     let q = request.Expunge name uid in
-    let k = removal_known others before began old name uid r.number r.row lists run is r.there shows.0 shows.1 come in
+    let k = removal_known pins before began old name uid r.number r.row lists run is r.there shows.0 shows.1 come in
     let event : RunEvent = removal lane place k.shown.mailbox uid k.recorded.entry.uid (told_calls after) in
     let a = r.took.appends in
-    let seen = seen_beside others old before began in
-    let later = seen_beside others new after then in
+    let seen = seen_of pins old before began in
+    let later = seen_of pins new after then in
     stands_by around behind run lane place said q lists seen later (did.Step half.Whole) None event (Some reply.Done) (IsAtExpunge (stage.Owing owed))
     (did_part around behind run lane place said q lists (expunge name uid.0 lists) seen later (did.Step half.Whole) None (Some reply.Done) event
     (record {
@@ -114,18 +113,19 @@ expunge_removed name uid owed old new before after began then is ran r = λ arou
       ended_is = refl;
       unrefused = refl;
       undrawn = refl;
-      leaves = record { pins = refl; unpins = refl; doomed = refl; removed = refl; given = refl; gone = refl };
+      leaves = record { pins = refl; unpins = refl; doomed = refl; removed = refl; given = refl; placed = refl; gone = refl };
       finds = tt;
       found = tt;
       part_is = ap (λ (es : List RunEvent). next_part around run q es) stood.0;
       allowed = k.allowed;
+      fits = All-nil _;
       did = (k.shown.mailbox, k.recorded.entry, k.shown.named, k.is_record, refl);
       ends = record { 0 = λ h. absurd (h refl); 1 = λ h. absurd (some_part GivesBack h) };
       replied = tt;
     }) come (comes_along run event seen later come a.map a.drawn a.grows refl refl refl)
     (λ other. subst (λ (u : ℕ). due_at other new + 0 ≡ due_at other old + (0 + (0 + one_due u other))) (sym k.recorded.uid_is)
     (removal_box_due (due_at other old) (due_at other new) r.row.map_uid other (removal_due old new r.there.m uid r.row other r.there.listed (r.took.due r.there.m other r.there.box.numbered))))
-    (box_tells others r.number (box_entry.R uid) old new before after began then a) (
+    (box_tells pins r.number (box_entry.R uid) old new before after began then (λ runs. ran) a) (
       answers_well run lists q event reply.Done (expunge name uid.0 lists) shows.0 tt (k.allowed, refl),
       shown_on seen later _ (expunge name uid.0 lists) a.map r.took.taken k.shows,
     ) a.grows refl ((k.allowed, refl), refl) (
@@ -152,13 +152,13 @@ expunge_removed name uid owed old new before after began then is ran r = λ arou
 
 pub expunge_broken : {D : Type 0} → (name : List ℕ) (uid : Uid) (old new : StoreValue D) (before after : Option History) (began then : Faults) → IsStore before old → old.stopped ≡ false → FellRemoving name uid old new before after began then
     → ExpungeClause name uid stage.First stage.First old new before after began then (did.Broken half.Whole) (Some (reply.Refused refusal.Stopped))
-expunge_broken name uid old new before after began then is ran r = λ around behind others run lane place said lists come shows stood.
+expunge_broken name uid old new before after began then is ran r = λ around behind pins run lane place said lists come shows stood.
     let q = request.Expunge name uid in
-    let k = removal_known others before began old name uid r.number r.row lists run is r.there shows.0 shows.1 come in
+    let k = removal_known pins before began old name uid r.number r.row lists run is r.there shows.0 shows.1 come in
     let would : RunEvent = removal lane place k.shown.mailbox uid k.recorded.entry.uid (told_calls after) in
-    let seen = seen_beside others old before began in
-    let later = seen_beside others new after then in (
-      (did_fall around behind run lane place said q First lists seen later (did.Broken half.Whole) (first_refuses around run place name uid refusal.Stopped stood.0) come (box_fell_stays others r.number (box_entry.R uid) old new before after began then r.fell)
+    let seen = seen_of pins old before began in
+    let later = seen_of pins new after then in (
+      (did_fall around behind run lane place said q First lists seen later (did.Broken half.Whole) (first_refuses around run place name uid refusal.Stopped stood.0) come (box_fell_stays pins r.number (box_entry.R uid) old new before after began then r.fell)
           (shows.0, shown_on seen later (indexes_of old.boxes) lists r.fell.appends.map r.fell.indexes shows.1) tt ran r.fell.stopped r.fell.rose (
             record { refused = refl; unanswered = refl; ran = ran; stopped = r.fell.stopped },
             refl,
@@ -188,20 +188,20 @@ missing_steps name uid other (inr e) = absurd (cc e)
 
 pub expunge_refused : {D : Type 0} → (name : List ℕ) (uid : Uid) (store : StoreValue D) (history : Option History) (faults : Faults) (why : Refusal) → store.stopped ≡ false → missing_message name uid.0 store ≡ Some why
     → ExpungeClause name uid stage.First stage.First store store history history faults faults (did.Step half.Whole) (Some (reply.Refused why))
-expunge_refused name uid store history faults why runs missing = λ around behind others run lane place said lists come shows stood.
+expunge_refused name uid store history faults why runs missing = λ around behind pins run lane place said lists come shows stood.
     let q = request.Expunge name uid in
     let m = missing_steps name uid why (missing_is name uid.0 store why missing) in (
-      (did_check around behind run lane place said q First lists (seen_beside others store history faults) why (Some (reply.Refused why)) half.Whole (first_refuses around run place name uid why stood.0) come shows runs m.0 refl (ap (λ (s : List Reply). slice_get (halves_of q) (length s)) stood.1)
+      (did_check around behind run lane place said q First lists (seen_of pins store history faults) why (Some (reply.Refused why)) half.Whole (first_refuses around run place name uid why stood.0) come shows runs m.0 refl (ap (λ (s : List Reply). slice_get (halves_of q) (length s)) stood.1)
           (λ event. missing_refused run name uid.0 store why lists shows.1 missing)
           (λ given e. subst (λ (r : Reply). IsReplyOf q (said ++ reply.Refused why ∷ []) r) (one_reply (reply.Refused why) given e) (subst (λ (s : List Reply). IsReplyOf q (s ++ reply.Refused why ∷ []) (reply.Refused why)) (sym stood.1) m.1)) m.2).so,
       λ e. absurd (never_more _ e),
     )
 
 pub expunge_unremembered : {D : Type 0} → (name : List ℕ) (uid : Uid) (store : StoreValue D) (history : Option History) (faults : Faults) → store.stopped ≡ false → ExpungeClause name uid stage.First stage.First store store history history faults faults did.Quiet (Some (reply.Refused refusal.NoMemory))
-expunge_unremembered name uid store history faults runs = λ around behind others run lane place said lists come shows stood.
+expunge_unremembered name uid store history faults runs = λ around behind pins run lane place said lists come shows stood.
     let q = request.Expunge name uid in
-    let seen = seen_beside others store history faults in (
-      (did_unstepped around behind run lane place said q First lists seen seen refusal.NoMemory (Some (reply.Refused refusal.NoMemory)) did.Quiet (first_refuses around run place name uid refusal.NoMemory stood.0) come (stays_itself seen) shows refl memory_calm (refl, refl, nothing lists seen)
+    let seen = seen_of pins store history faults in (
+      (did_unstepped around behind run lane place said q First lists seen seen refusal.NoMemory (Some (reply.Refused refusal.NoMemory)) did.Quiet (first_refuses around run place name uid refusal.NoMemory stood.0) come (stays_itself seen) shows refl tt memory_calm (refl, refl, nothing lists seen)
           (λ given e. subst (λ (r : Reply). IsReplyOf q said r) (one_reply (reply.Refused refusal.NoMemory) given e) stood.1) (memory_is store.stopped runs) (λ e. refl) (λ x. absurd x)).so,
       λ e. absurd (never_more _ e),
     )
@@ -213,12 +213,12 @@ last_due old new owed uid e = omega (arith, e)
 
 pub expunge_lowered : {D : Type 0} → (name : List ℕ) (uid : Uid) (owed : MapUid) (old new : StoreValue D) (before after : Option History) (began then : Faults) → old.stopped ≡ false → AreDueIn old (expunge_amounts (stage.Owing owed)) → MapTook (lowering_of owed) old new before after began then
     → ExpungeClause name uid (stage.Owing owed) stage.First old new before after began then did.Quiet (Some reply.Done)
-expunge_lowered name uid owed old new before after began then ran due t = λ around behind others run lane place said lists come shows stood.
+expunge_lowered name uid owed old new before after began then ran due t = λ around behind pins run lane place said lists come shows stood.
     let q = request.Expunge name uid in
     let event : RunEvent = lowering lane place owed.0 (told_calls after) in
     let a = t.appends in
-    let seen = seen_beside others old before began in
-    let later = seen_beside others new after then in
+    let seen = seen_of pins old before began in
+    let later = seen_of pins new after then in
     let at = stood.0 in (
       (did_part around behind run lane place said q lists lists seen later did.Quiet (Some reply.Done) None event
           (record {
@@ -228,17 +228,18 @@ expunge_lowered name uid owed old new before after began then ran due t = λ aro
             ended_is = refl;
             unrefused = refl;
             undrawn = refl;
-            leaves = record { pins = refl; unpins = refl; doomed = refl; removed = refl; given = refl; gone = refl };
+            leaves = record { pins = refl; unpins = refl; doomed = refl; removed = refl; given = refl; placed = refl; gone = refl };
             finds = tt;
             found = tt;
             part_is = next_is around run name uid (own_events place run) at.0 at.1 at.2 at.3;
             allowed = refl;
+            fits = one_fits run seen (lowering_of owed) come t.fits;
             did = (owed.0, owed_is place owed.0 run at.0 at.1 at.4, refl);
             ends = record { 0 = λ h. refl; 1 = λ h e. some_reply reply.Done e };
             replied = never_refused (own_events place run) at.0 event at.1 at.3;
           }) come (comes_with run event (lowering_of owed) seen later come t.taken a.drawn a.grows refl refl refl)
           (λ other. last_due (due_at other old) (due_at other new) owed.0 other (lowered_due owed old new other (due other) (t.due other)))
-          (took_tells others (lowering_of owed) old new before after began then t) (shows_still others old new before after began then lists a shows) a.grows refl refl (refl, t.runs ∙ sym ran, leads_still others (lowering_of owed) old new before after began then lists t)
+          (took_tells pins (lowering_of owed) old new before after began then ran t) (shows_still pins old new before after began then lists a shows) a.grows refl refl (refl, t.runs ∙ sym ran, leads_still pins (lowering_of owed) old new before after began then lists t)
           (ends_well q said event None (Some reply.Done) did.Quiet seen later refl ran t.runs (let same = a.reads in omega (arith, same)) a.changes (λ x. x) said_done (λ some. absurd (let k : false ≡ true = some in cc k))
           (λ given e. subst (λ (r : Reply). IsReplyOf q said r) (one_reply reply.Done given e) stood.1))).so,
       λ e. absurd (never_more _ e),
@@ -246,10 +247,10 @@ expunge_lowered name uid owed old new before after began then ran due t = λ aro
 
 pub expunge_unlowered : {D : Type 0} → (name : List ℕ) (uid : Uid) (owed : MapUid) (old new : StoreValue D) (before after : Option History) (began then : Faults) → old.stopped ≡ false → MapFell old new before after began then
     → ExpungeClause name uid (stage.Owing owed) (stage.Owing owed) old new before after began then did.Failed (Some (reply.Refused refusal.Stopped))
-expunge_unlowered name uid owed old new before after began then ran f = λ around behind others run lane place said lists come shows stood.
-    let seen = seen_beside others old before began in
-    let later = seen_beside others new after then in (
-      (did_fall around behind run lane place said (request.Expunge name uid) GivesBack lists seen later did.Failed (last_stops around run place name uid owed.0 stood.0) come (map_fell_stays others old new before after began then f) (shows_still others old new before after began then lists f.appends shows) tt ran f.stopped f.rose
+expunge_unlowered name uid owed old new before after began then ran f = λ around behind pins run lane place said lists come shows stood.
+    let seen = seen_of pins old before began in
+    let later = seen_of pins new after then in (
+      (did_fall around behind run lane place said (request.Expunge name uid) GivesBack lists seen later did.Failed (last_stops around run place name uid owed.0 stood.0) come (map_fell_stays pins old new before after began then f) (shows_still pins old new before after began then lists f.appends shows) tt ran f.stopped f.rose
           (record { refused = refl; unanswered = refl; ran = ran; stopped = f.stopped }, λ s. f.appends.moments lists s)).so,
       λ e. absurd (never_more _ e),
     )

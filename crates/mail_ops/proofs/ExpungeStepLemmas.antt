@@ -37,7 +37,7 @@ use Rattle.mail_ops.specs.declared.expunging.ExpungeStage.{ExpungeStage}
 use Rattle.mail_ops.specs.declared.expunging.ExpungeStage.TheVariants as stage
 use Rattle.mail_ops.proofs.EventLemmas.{fall}
 use Rattle.mail_ops.proofs.ExpungeEventLemmas.{ExpungeClause, expunge_stopped, expunge_removed, expunge_broken, expunge_refused, expunge_unremembered, expunge_lowered, expunge_unlowered}
-use Rattle.mail_ops.proofs.FlagEventLemmas.{due_kept}
+use Rattle.store_seen.proofs.SeeingLemmas.{due_as_before}
 use Rattle.mail_ops.proofs.LoweringLemmas.{lowered_due}
 use Rattle.mail_ops.proofs.MessageLemmas.{missing_is, not_missing}
 use Rattle.mail_ops.proofs.RemovalLemmas.{brings_removal, removal_due, removal_settled}
@@ -108,7 +108,7 @@ known_broken name uid old new before after began then show is ran r = record {
   stopped = record { 0 = λ e. r.fell.stopped; 1 = λ e. refl };
   fault = record { reads = r.fell.appends.reads; changes = r.fell.appends.changes; rose = λ e. r.fell.rose };
   unfailed = λ other. absurd (other refl);
-  moves = moves_as (expunge_amounts stage.First) (amounts_in old) (amounts_in new) (λ other. due_kept old new other r.fell.appends.map r.fell.dues);
+  moves = moves_as (expunge_amounts stage.First) (amounts_in old) (amounts_in new) (λ other. due_as_before old new other r.fell.appends.map r.fell.dues);
   spares = λ same. absurd (fall new.stopped r.fell.stopped (same ∙ ran));
   replies = (r.fell.stopped, not_missing name uid.0 old r.number r.row r.there);
   left = λ e. absurd (done_more (reply.Refused refusal.Stopped) e);
@@ -186,14 +186,14 @@ known_lowered name uid owed old new before after began then ran due t = record {
 known_unlowered : {D : Type 0} → (name : List ℕ) (uid : Uid) (owed : MapUid) (old new : StoreValue D) (before after : Option History) (began then : Faults) → old.stopped ≡ false → AreDueIn old (expunge_amounts (stage.Owing owed)) → MapFell old new before after began then
     → ExpungeKnown name uid (stage.Owing owed) (stage.Owing owed) (progress.Done (reply.Refused refusal.Stopped)) did.Failed old new before after began then
 known_unlowered name uid owed old new before after began then ran due f = record {
-  due = λ other. subst (λ (n : ℕ). one_due owed.0 other ≤ n) (sym (due_kept old new other f.map f.dues)) (due other);
+  due = λ other. subst (λ (n : ℕ). one_due owed.0 other ≤ n) (sym (due_as_before old new other f.map f.dues)) (due other);
   does = expunge_unlowered name uid owed old new before after began then ran f;
   moments = λ lists s. f.appends.moments lists s;
   settled = λ runs lists s. absurd (fall new.stopped f.stopped runs);
   stopped = record { 0 = λ e. f.stopped; 1 = λ e. refl };
   fault = record { reads = f.appends.reads; changes = f.appends.changes; rose = λ e. f.rose };
   unfailed = λ other. absurd (other refl);
-  moves = moves_as (expunge_amounts (stage.Owing owed)) (amounts_in old) (amounts_in new) (λ other. due_kept old new other f.map f.dues);
+  moves = moves_as (expunge_amounts (stage.Owing owed)) (amounts_in old) (amounts_in new) (λ other. due_as_before old new other f.map f.dues);
   spares = λ same. absurd (fall new.stopped f.stopped (same ∙ ran));
   replies = (refl, f.stopped);
   left = λ e. absurd (done_more (reply.Refused refusal.Stopped) e);

@@ -1,4 +1,5 @@
 -- A flag as an event, which appends one entry.
+use Rattle.std.proofs.lemmas.List.Elements.{All-nil}
 use Rattle.std.proofs.Common.{◌≡◌, ◌≤◌, ◌<◌, ℕ, Bool, true, false, List, [], Option, Some, None, refl, sym, ◌∙◌, ap, subst, arith}
 use Rattle.std.specs.Option.{option_map, option_or}
 use Rattle.std.specs.Prelude.{find, is_some, is_none, nat_le}
@@ -37,11 +38,11 @@ use Rattle.task_steps.specs.Step.{Seen, ShowsSeen, HasComeTo, DidEvent, HasNotBe
 use Rattle.task_steps.specs.Tells.{TellsSame}
 use Rattle.task_steps.proofs.SeenLemmas.{comes_to_on, no_guids}
 use Rattle.task_steps.proofs.OneEventLemmas.{IsPlain, refused_event, refused_leaves, unmade, next_first, refusal_last, some_given, first_reply, first_turn}
-use Rattle.mail_ops.specs.Task.{Others, seen_beside}
+use Rattle.store_seen.specs.Seeing.{seen_of}
 use Rattle.mail_ops.proofs.FlagListLemmas.{is_flagged, shows_by}
 
 pub flag_is_plain : (name : List ℕ) (uid : Uid) (flags : ℕ) → IsPlain (request.Flag name uid flags)
-flag_is_plain name uid flags = record { found = λ around run event. tt; finds = λ around event. tt; memory = refl; behind = λ after run event why. refl; half_is = refl; halves_are = refl }
+flag_is_plain name uid flags = record { found = λ around run event. tt; finds = λ around event. tt; memory = refl; reads = refl; behind = λ after run event why. refl; half_is = refl; halves_are = refl }
 
 -- ---- what is known as the entry is appended
 
@@ -123,6 +124,8 @@ flag_makes around after run lane place name uid flags number bits lists old new 
         undone = λ r e. absurd (no_refusal r e);
         drew = λ h. absurd (h refl);
         memory = λ e. absurd (no_refusal refusal.NoMemory e);
+        may = tt;
+        fits = All-nil _;
         replied = refusal_last (own_events place run) event own;
         allowed = λ e. (answers event).0;
         did = λ e. (found.0, found.1, refl);
@@ -159,7 +162,7 @@ flag_done around after run lane place said lists name number uid flags bits old 
   makes = flag_makes around after run lane place name uid flags number bits lists old new come a stage.0 f.answers;
   found = tt;
   come = comes_to_on run event old new come (come_along run event old new number uid bits come a refl (comes_on run event old.map old.drawn (told_calls old.history) come.come a.grows refl refl))
-      (λ other. let d = a.due_is other in omega (arith, d)) (record { pins = refl; unpins = refl; doomed = refl; removed = refl; given = refl; gone = refl }) a.same;
+      (λ other. let d = a.due_is other in omega (arith, d)) (record { pins = refl; unpins = refl; doomed = refl; removed = refl; given = refl; placed = refl; gone = refl }) a.same;
   gives = no_guids run event refl;
   went = (
     refl,
@@ -196,7 +199,7 @@ flag_broken around after run lane place said lists name number uid flags bits ol
   left = lists;
   shown = (shows.0, shown_on old new old.meanings lists a.map_is untaken shows.1);
   makes = unmade around after run lane place (request.Flag name uid flags) lists old.map new.map new.drawn (told_calls old.history) (told_calls new.history) refusal.Stopped a.map_is (flag_is_plain name uid flags) (subst (λ (d : Highest). HasCome run old.map d (told_calls old.history)) (sym a.drawn_is) come.come)
-      a.grows stage.0 refl;
+      a.grows stage.0 refl tt;
   found = tt;
   come = comes_to_on run event old new come (come_along run event old new number uid bits come a refl (comes_on run event old.map old.drawn (told_calls old.history) come.come a.grows refl refl))
       (λ other. let d = a.due_is other in omega (arith, d)) (refused_leaves lane place refusal.Stopped (told_calls new.history)) a.same;
@@ -238,30 +241,3 @@ none_of f (Some x) r gone is = absurd (cc gone)
 pub some_of : {R S : Type 0} → (f : R → S) (o : Option R) (r : Option S) → is_some o ≡ true → option_map f o ≡ r → (s : S) × (r ≡ Some s)
 some_of f None r there is = absurd (cc there)
 some_of f (Some x) r there is = (f x, sym is)
-
--- ---- what is due
-
-pub due_kept : {D : Type 0} → (old new : StoreValue D) (uid : ℕ) → new.map ≡ old.map → new.dues ≡ old.dues → due_at uid new ≡ due_at uid old
-due_kept old new uid map dues = ap (λ (m : MapMeaning). number_beside uid m.records new.dues) map ∙ ap (number_beside uid old.map.records) dues
-
--- ---- what is told of files and GUIDs
-
-given_still : {D : Type 0} → (old new : StoreValue D) (guid : List ℕ) → new.map ≡ old.map → new.drawn ≡ old.drawn → new.files ≡ old.files → may_have_given new guid ≡ may_have_given old guid
-given_still old new guid map drawn files =
-    ap (λ (m : MapMeaning). may_have_given (record new { map = m }) guid) map
-    ∙ (ap (λ (d : Highest). may_have_given (record new { map = old.map; drawn = d }) guid) drawn ∙ ap (λ (x : FilesValue). may_have_given (record new { map = old.map; drawn = old.drawn; files = x }) guid) files)
-
--- nor may an instance be gone now that couldn't before
-pub gone_still : {D : Type 0} → (old new : StoreValue D) (row : InstRow) → new.map.store ≡ old.map.store → new.drawn.instance ≡ old.drawn.instance → may_be_gone new row ≡ may_be_gone old row
-gone_still old new row id drawn = ap (λ (s : List ℕ). nat_le (instance_number s row.id.0) new.drawn.instance) id ∙ ap (λ (n : ℕ). nat_le (instance_number old.map.store row.id.0) n) drawn
-
-pub tells_same : {D : Type 0} → (others : Others) → (old new : StoreValue D) (h k : Option History) (f g : Faults) → new.map ≡ old.map → new.drawn ≡ old.drawn → new.files ≡ old.files → TellsSame (seen_beside others old h f) (seen_beside others new k g)
-tells_same others old new h k f g map drawn files = record {
-  pins = λ file. refl;
-  doomed = λ file. refl;
-  used = λ file. refl;
-  gave = λ guid. given_still old new guid map drawn files;
-  gone = λ instance. gone_still old new instance (ap (λ (m : MapMeaning). m.store) map) (ap (λ (d : Highest). d.instance) drawn);
-  files = λ file. ap (λ (x : FilesValue). is_some (end_in file x.files)) files;
-  instances = λ instance. refl;
-}

@@ -1,4 +1,5 @@
 -- A listing as an event, which changes nothing.
+use Rattle.std.proofs.lemmas.List.Elements.{All-nil}
 use Rattle.std.proofs.Common.{◌≡◌, ℕ, Bool, true, false, List, [], Some, None, refl, sym, ◌∙◌, arith}
 use Rattle.mdbox_base.specs.declared.entries.Highest.{Highest}
 use Rattle.mdbox_base.specs.declared.progress.Did.TheVariants as did
@@ -22,7 +23,7 @@ use Rattle.task_steps.proofs.SeenLemmas.{comes_to_still, no_guids}
 use Rattle.task_steps.proofs.OneEventLemmas.{IsPlain, next_first, refusal_last, some_given, nothing, first_reply, first_turn, still_faults}
 
 pub list_is_plain : (name : List ℕ) → IsPlain (request.List name)
-list_is_plain name = record { found = λ around run event. tt; finds = λ around event. tt; memory = refl; behind = λ after run event why. refl; half_is = refl; halves_are = refl }
+list_is_plain name = record { found = λ around run event. tt; finds = λ around event. tt; memory = refl; reads = refl; behind = λ after run event why. refl; half_is = refl; halves_are = refl }
 
 abbrev list_event : ℕ → ℕ → List ListRow → ℕ → RunEvent
 list_event lane place rows calls = record (event_of lane place First calls) { reply = Some (reply.Listed rows) }
@@ -45,6 +46,8 @@ list_makes around after run lane place name old m drawn calls rows come own answ
     undone = λ r e. absurd (no_refusal r e);
     drew = λ h. absurd (h refl);
     memory = λ e. absurd (no_refusal refusal.NoMemory e);
+    may = tt;
+    fits = All-nil _;
     replied = refusal_last (own_events place run) (list_event lane place rows calls) own;
     allowed = λ e. (answers (list_event lane place rows calls)).0;
     did = λ e. refl;
@@ -70,7 +73,7 @@ does_list around after run lane place said name lists seen rows come shows stage
   shown = shows;
   makes = list_makes around after run lane place name lists seen.map seen.drawn (told_calls seen.history) rows come.come stage.0 answers;
   found = tt;
-  come = comes_to_still run (list_event lane place rows (told_calls seen.history)) seen come (comes_on run (list_event lane place rows (told_calls seen.history)) seen.map seen.drawn (told_calls seen.history) come.come (omega arith) refl refl) (λ uid. refl) (record { pins = refl; unpins = refl; doomed = refl; removed = refl; given = refl; gone = refl });
+  come = comes_to_still run (list_event lane place rows (told_calls seen.history)) seen come (comes_on run (list_event lane place rows (told_calls seen.history)) seen.map seen.drawn (told_calls seen.history) come.come (omega arith) refl refl) (λ uid. refl) (record { pins = refl; unpins = refl; doomed = refl; removed = refl; given = refl; placed = refl; gone = refl });
   gives = no_guids run (list_event lane place rows (told_calls seen.history)) refl;
   went = (refl, refl, runs, nothing lists seen);
   grows = omega arith;

@@ -17,8 +17,10 @@ use Rattle.store_core.specs.Dues.{due_at}
 use Rattle.store_core.specs.Value.{StoreValue, indexes_of}
 use Rattle.task_steps.specs.ExpungeStages.{one_due}
 use Rattle.task_steps.specs.Step.{Seen, ShowsSeen, HasComeTo, Leads}
+use Rattle.std.proofs.lemmas.List.Elements.{All-nil, All-cons}
+use Rattle.model_meaning.specs.MapFits.{HasRecord, MapFits}
 use Rattle.mail_ops.specs.Appends.{lowering_of, MapAppends, MapTook}
-use Rattle.mail_ops.specs.Task.{Others, seen_beside}
+use Rattle.store_seen.specs.Seeing.{seen_of}
 
 -- the run with an event that adds this entry to the map log has come to where the store stands
 pub comes_with : (run : Run) (event : RunEvent) (entry : MapEntry) (old new : Seen) → HasComeTo run old → new.map ≡ map_applied entry old.map → new.drawn ≡ old.drawn → Grows old.history new.history → event.moment ≡ told_calls new.history → event.map_entries ≡ entry ∷ [] → event.drew ≡ no_numbers
@@ -28,6 +30,10 @@ comes_with run event entry old new come map drawn grows moment entries drew =
     subst (λ (m : MapMeaning). HasCome (and_then run event) m new.drawn (told_calls new.history)) (sym map)
     (subst (λ (d : Highest). HasCome (and_then run event) (map_applied entry old.map) d (told_calls new.history)) (ap (λ (d : Highest). drawn_also old.drawn d) drew ∙ (drawn_none old.drawn ∙ sym drawn))
     (subst (λ (n : ℕ). HasCome (and_then run event) (map_applied entry old.map) (drawn_also old.drawn event.drew) n) moment (comes_on_with run event entry old.map old.drawn (told_calls old.history) come.come later entries)))
+
+-- the entry that lowers a count fits
+pub one_lowered_fits : (m : MapMeaning) (uid : MapUid) → HasRecord m uid.0 (λ row. 1 ≤ row.count) → MapFits m (lowering_of uid)
+one_lowered_fits m uid some = (λ k lt. absurd (omega (arith, lt)), All-cons (λ (u : MapUid). HasRecord m u.0 (λ row. 1 ≤ row.count)) uid [] some (All-nil _))
 
 -- ---- what is due
 
@@ -44,9 +50,9 @@ one_of_own uid = ap (λ (b : Bool). cond b 1 0) (eq-eqb uid uid refl)
 
 -- ---- what is shown, and what a crash leaves
 
-pub shows_still : {D : Type 0} → (others : Others) → (old new : StoreValue D) (before after : Option History) (began now : Faults) (lists : Lists) → MapAppends old new before after began now → ShowsSeen (seen_beside others old before began) lists → ShowsSeen (seen_beside others new after now) lists
-shows_still others old new before after began now lists a shows =
+pub shows_still : {D : Type 0} → (pins : ℕ → ℕ) → (old new : StoreValue D) (before after : Option History) (began now : Faults) (lists : Lists) → MapAppends old new before after began now → ShowsSeen (seen_of pins old before began) lists → ShowsSeen (seen_of pins new after now) lists
+shows_still pins old new before after began now lists a shows =
     (shows.0, subst (λ (bs : List MapBox). ShowLists bs (indexes_of new.boxes) lists) (sym a.mailboxes) (subst (λ (ms : List BoxMeaning). ShowLists old.map.boxes ms lists) (sym a.indexes) shows.1))
 
-pub leads_still : {D : Type 0} → (others : Others) → (entry : MapEntry) (old new : StoreValue D) (before after : Option History) (began now : Faults) (lists : Lists) → MapTook entry old new before after began now → Leads lists lists (seen_beside others old before began) (seen_beside others new after now)
-leads_still others entry old new before after began now lists t = record { stops = λ s. t.appends.moments lists s; settled = λ s. t.settled lists s }
+pub leads_still : {D : Type 0} → (pins : ℕ → ℕ) → (entry : MapEntry) (old new : StoreValue D) (before after : Option History) (began now : Faults) (lists : Lists) → MapTook entry old new before after began now → Leads lists lists (seen_of pins old before began) (seen_of pins new after now)
+leads_still pins entry old new before after began now lists t = record { stops = λ s. t.appends.moments lists s; settled = λ s. t.settled lists s }

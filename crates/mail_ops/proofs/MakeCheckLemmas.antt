@@ -15,7 +15,7 @@ use Rattle.list_machine.specs.Machine.{IsNewName, RoomForMailbox, NextMailbox, C
 use Rattle.store_core.specs.Value.{StoreValue, indexes_of, list_named}
 use Rattle.task_steps.specs.Step.{HasComeTo}
 use Rattle.mail_ops.specs.Making.{naming_refusal, making_refusal}
-use Rattle.mail_ops.specs.Task.{Others, seen_beside}
+use Rattle.store_seen.specs.Seeing.{seen_of}
 use Rattle.mail_ops.proofs.MakeStageLemmas.{naming_part}
 use Rattle.mail_ops.proofs.NamedListLemmas.{Finds, found_by_name}
 
@@ -66,9 +66,9 @@ pub naming_checked : {D : Type 0} → (run : Run) (name : List ℕ) (store : Sto
 naming_checked run name store lists true h = checked_then run name store lists [] h ∙ or_none (naming_refusal name store)
 naming_checked run name store lists false h = checked_then run name store lists [] h ∙ or_none (naming_refusal name store)
 
-pub making_checked : {D : Type 0} → (others : Others) → (history : Option History) (faults : Faults) (run : Run) (name : List ℕ) (store : StoreValue D) (lists : Lists) → ShowLists store.map.boxes (indexes_of store.boxes) lists → HasComeTo run (seen_beside others store history faults)
+pub making_checked : {D : Type 0} → (pins : ℕ → ℕ) → (history : Option History) (faults : Faults) (run : Run) (name : List ℕ) (store : StoreValue D) (lists : Lists) → ShowLists store.map.boxes (indexes_of store.boxes) lists → HasComeTo run (seen_of pins store history faults)
     → first_refusal run lists (make_checks name First) ≡ making_refusal name store
-making_checked others history faults run name store lists h come =
+making_checked pins history faults run name store lists h come =
     checked_then run name store lists (NextMailbox ∷ []) h
     ∙ (ap (λ (d : Highest). option_or (naming_refusal name store) (option_or (used_up d.mailbox) None)) come.come.drawn_is ∙ ap (λ (r : Option Refusal). option_or (naming_refusal name store) r) (or_none (used_up store.drawn.mailbox)))
 

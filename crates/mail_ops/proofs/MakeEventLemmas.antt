@@ -1,7 +1,8 @@
 -- The events of a make that name no mailbox, by the clause of a step.
+use Rattle.std.proofs.lemmas.List.Elements.{All-nil}
 use Rattle.std.proofs.Common.{◌≡◌, ◌≤◌, ◌<◌, ◌+◌, ◌&&◌, ℕ, Bool, true, false, List, [], ◌∷◌, ◌++◌, Option, Some, None, refl, sym, ◌∙◌, ap, subst, arith, inr}
-use Rattle.std.specs.Prelude.{◌≢◌, ◌↔◌, nat_le, nat_lt, length, slice_get, is_some}
-use Rattle.std.specs.Option.{option_map_or}
+use Rattle.std.specs.Prelude.{◌≢◌, ◌↔◌, nat_le, nat_lt, length, slice_get, is_none, is_some}
+use Rattle.std.specs.Option.{IfSome, option_map_or}
 use Rattle.std.proofs.lemmas.Grind.{common_steps}
 use Rattle.std.proofs.lemmas.List.{append-nil}
 use Rattle.std.proofs.lemmas.List.Elements.{All-push, All-weaker}
@@ -22,7 +23,7 @@ use Rattle.model_meaning.specs.MapMeaning.{MapMeaning, is_own, map_meaning, no_n
 use Rattle.list_machine.specs.Run.{EventPart, First, Last, StartsOver, RunEvent, event_of, Run, and_then, entries_of, own_events, map_of, drawn_also, is_unpinning}
 use Rattle.list_machine.specs.Machine.{first_refusal, make_checks, is_step}
 use Rattle.journal.specs.Journal.{halves_of, half_of, refusal_in, IsReplyOf}
-use Rattle.journal.specs.Events.{Around, has_memory, is_overtaken, next_part, behind_event, behind_make, makes_step, IsRepliedBy}
+use Rattle.journal.specs.Events.{MayMeet, Around, has_memory, is_overtaken, next_part, behind_event, behind_make, makes_step, IsRepliedBy}
 use Rattle.journal.specs.Makes.{HasCome}
 use Rattle.journal.proofs.RunLemmas.{drawn_more, entries_more}
 use Rattle.storage_files.specs.Files.{FilesValue, end_in}
@@ -30,15 +31,16 @@ use Rattle.store_core.specs.Knows.{may_have_given}
 use Rattle.store_core.specs.Value.{StoreValue, indexes_of}
 use Rattle.task_steps.specs.Step.{Seen, ShowsSeen, HasComeTo, Leads, Steps, Went, EndsRequest}
 use Rattle.task_steps.specs.Tells.{TellsSame}
-use Rattle.task_steps.proofs.OneEventLemmas.{leaves_none, never_more, memory_is, one_refusal, some_refusal}
+use Rattle.task_steps.proofs.OneEventLemmas.{step_may, leaves_none, never_more, memory_is, one_refusal, some_refusal}
 use Rattle.task_steps.proofs.SeenLemmas.{comes_to_on, no_guids}
 use Rattle.mail_ops.specs.MakeStages.{IsToMakeLog, HasMadeLog}
 use Rattle.mail_ops.specs.Making.{IsAtMake, naming_refusal, making_refusal, with_drawn_box, RemovesLog, IsStoppedSo, ChangesDisk, HasChangedDisk, FellChanging, same_lists, MadeLogSo, CanBeNamed}
-use Rattle.mail_ops.specs.Task.{Others, seen_beside}
+use Rattle.store_seen.specs.Seeing.{seen_of}
 use Rattle.mail_ops.specs.declared.making.MakeStage.{MakeStage}
 use Rattle.mail_ops.specs.declared.making.MakeStage.TheVariants as stage
 use Rattle.mail_ops.proofs.EventLemmas.{DidBy, stands_by, fall, no_refusal, no_reply, some_reply, one_reply, last_with, StaysSo, comes_along, memory_calm, CanRefuse, did_refused, did_unstepped, did_stop, did_fall, did_check, did_part, ends_well}
-use Rattle.mail_ops.proofs.FlagEventLemmas.{due_kept, gone_still, shown_on}
+use Rattle.store_seen.proofs.SeeingLemmas.{due_as_before, tells_as_before}
+use Rattle.mail_ops.proofs.FlagEventLemmas.{shown_on}
 use Rattle.mail_ops.proofs.MakeCheckLemmas.{naming_checked, making_checked, naming_steps, making_steps}
 use Rattle.mail_ops.proofs.MakeStageLemmas.{first_next, naming_part, naming_next, makes_log_then, starts_over_then}
 use Rattle.mail_ops.proofs.RemovalLemmas.{store_tells}
@@ -46,30 +48,25 @@ use Rattle.mail_ops.proofs.RemovalLemmas.{store_tells}
 -- the clause of a step of a make
 abbrev pub MakeClause : {D : Type 0} → List ℕ → MakeStage → MakeStage → StoreValue D → StoreValue D → Option History → Option History → Faults → Faults → Did → Option Reply → Type 0
 MakeClause name now next old new before after began then how ended =
-    (around behind : Around) (others : Others) → Steps (IsAtMake now) (IsAtMake next) around behind (request.Make name) (seen_beside others old before began) (seen_beside others new after then) how ended
+    (around behind : Around) (pins : ℕ → ℕ) → Steps (IsAtMake now) (IsAtMake next) around behind (request.Make name) (seen_of pins old before began) (seen_of pins new after then) how ended
 
 -- ---- what may be refused
 
-can_refuse : (around : Around) (run : Run) (place : ℕ) (name : List ℕ) (part : EventPart) (why : Refusal) → next_part around run (request.Make name) (own_events place run) ≡ Some part → is_unpinning (event_of 0 0 part 0) ≡ false → (why ≡ refusal.NoMemory → has_memory part (request.Make name) ≡ false)
+can_refuse : (around : Around) (run : Run) (place : ℕ) (name : List ℕ) (part : EventPart) (why : Refusal) → next_part around run (request.Make name) (own_events place run) ≡ Some part → (why ≡ refusal.NoMemory → has_memory part (request.Make name) ≡ false)
     → CanRefuse around run place (request.Make name) part why (Some (reply.Refused why))
-can_refuse around run place name part why next unpins memory = record {
+can_refuse around run place name part why next memory = record {
   finds = λ event. tt;
   found = λ event. tt;
   part_is = next;
-  unpins = unpins;
   memory = memory;
   ends = record { 0 = λ e. refl; 1 = λ e f. some_reply (reply.Refused why) f };
   replied = λ given e. subst (λ (r : Reply). refusal_in r ≡ Some why) (one_reply (reply.Refused why) given e) refl;
 }
 
 pub first_refuses : (around : Around) (run : Run) (place : ℕ) (said : List Reply) (name : List ℕ) (why : Refusal) → IsToMakeLog run place said → CanRefuse around run place (request.Make name) First why (Some (reply.Refused why))
-first_refuses around run place said name why stood = can_refuse around run place name First why (first_next around run name place said stood) refl (λ e. refl)
+first_refuses around run place said name why stood = can_refuse around run place name First why (first_next around run name place said stood) (λ e. refl)
 
 -- the second event, whichever part it is; out of memory only if it isn't overtaken
-naming_unpins : (overtaken : Bool) → is_unpinning (event_of 0 0 (naming_part overtaken) 0) ≡ false
-naming_unpins true = refl
-naming_unpins false = refl
-
 naming_memory : (name : List ℕ) (overtaken : Bool) → overtaken ≡ false → has_memory (naming_part overtaken) (request.Make name) ≡ false
 naming_memory name true e = absurd (let k : true ≡ false = e in cc k)
 naming_memory name false e = refl
@@ -77,7 +74,7 @@ naming_memory name false e = refl
 pub naming_refuses : (around : Around) (run : Run) (place : ℕ) (said : List Reply) (name : List ℕ) (number : ℕ) (m : MapMeaning) (overtaken : Bool) (why : Refusal) → nat_le number m.highest.mailbox ≡ overtaken → HasMadeLog number run place said → map_of run ≡ m → (why ≡ refusal.NoMemory → overtaken ≡ false)
     → CanRefuse around run place (request.Make name) (naming_part overtaken) why (Some (reply.Refused why))
 naming_refuses around run place said name number m overtaken why is stood come memory =
-    can_refuse around run place name (naming_part overtaken) why (naming_next around run name place said number m stood come ∙ ap (λ (b : Bool). Some (naming_part b)) is) (naming_unpins overtaken) (λ e. naming_memory name overtaken (memory e))
+    can_refuse around run place name (naming_part overtaken) why (naming_next around run name place said number m stood come ∙ ap (λ (b : Bool). Some (naming_part b)) is) (λ e. naming_memory name overtaken (memory e))
 
 -- ---- what is replied
 
@@ -118,29 +115,29 @@ in_turn name said part none = ap (λ (before : List Reply). slice_get (half.Whol
 
 -- ---- a store that goes on
 
-pub stays_of : {D : Type 0} → (others : Others) → (old new : StoreValue D) (before after : Option History) (began then : Faults) (left : Lists → Lists) → new.map ≡ old.map → new.drawn ≡ old.drawn → new.files ≡ old.files → new.dues ≡ old.dues → ChangesDisk left before after began then → StaysSo (seen_beside others old before began) (seen_beside others new after then)
-stays_of others old new before after began then left map drawn files dues c = record {
+pub stays_of : {D : Type 0} → (pins : ℕ → ℕ) → (old new : StoreValue D) (before after : Option History) (began then : Faults) (left : Lists → Lists) → (new.stopped ≡ false → old.stopped ≡ false) → new.map ≡ old.map → new.drawn ≡ old.drawn → new.files ≡ old.files → new.instances ≡ old.instances → new.dues ≡ old.dues → ChangesDisk left before after began then → StaysSo (seen_of pins old before began) (seen_of pins new after then)
+stays_of pins old new before after began then left ran map drawn files instances dues c = record {
   map = map;
   drawn = drawn;
-  due = λ uid. due_kept old new uid map dues;
-  tells = store_tells others old new before after began then (ap (λ (m : MapMeaning). m.store) map) drawn files;
+  due = λ uid. due_as_before old new uid map dues;
+  tells = store_tells pins old new before after began then ran (ap (λ (m : MapMeaning). m.store) map) drawn files instances;
   grows = c.grows;
   reads = let same = c.reads in omega (arith, same);
   changes = c.changes;
 }
 
-pub shows_of : {D : Type 0} → (others : Others) → (old new : StoreValue D) (before after : Option History) (began then : Faults) (lists : Lists) → new.map ≡ old.map → new.boxes ≡ old.boxes → ShowsSeen (seen_beside others old before began) lists → ShowsSeen (seen_beside others new after then) lists
-shows_of others old new before after began then lists map boxes shows =
-    (shows.0, shown_on (seen_beside others old before began) (seen_beside others new after then) (indexes_of old.boxes) lists map (ap indexes_of boxes) shows.1)
+pub shows_of : {D : Type 0} → (pins : ℕ → ℕ) → (old new : StoreValue D) (before after : Option History) (began then : Faults) (lists : Lists) → new.map ≡ old.map → new.boxes ≡ old.boxes → ShowsSeen (seen_of pins old before began) lists → ShowsSeen (seen_of pins new after then) lists
+shows_of pins old new before after began then lists map boxes shows =
+    (shows.0, shown_on (seen_of pins old before began) (seen_of pins new after then) (indexes_of old.boxes) lists map (ap indexes_of boxes) shows.1)
 
-pub leads_of : {D : Type 0} → (others : Others) → (old new : StoreValue D) (before after : Option History) (began then : Faults) (lists : Lists) → HasChangedDisk same_lists before after began then → Leads lists lists (seen_beside others old before began) (seen_beside others new after then)
-leads_of others old new before after began then lists d = record { stops = λ s. d.change.moments lists s; settled = λ s. d.settled lists s }
+pub leads_of : {D : Type 0} → (pins : ℕ → ℕ) → (old new : StoreValue D) (before after : Option History) (began then : Faults) (lists : Lists) → HasChangedDisk same_lists before after began then → Leads lists lists (seen_of pins old before began) (seen_of pins new after then)
+leads_of pins old new before after began then lists d = record { stops = λ s. d.change.moments lists s; settled = λ s. d.settled lists s }
 
 -- ---- the store was stopped
 
 pub first_stopped : {D : Type 0} → (name : List ℕ) (next : MakeStage) (store : StoreValue D) (history : Option History) (faults : Faults) → store.stopped ≡ true → MakeClause name stage.First next store store history history faults faults did.Quiet (Some (reply.Refused refusal.Stopped))
-first_stopped name next store history faults stopped = λ around behind others run lane place said lists come shows stood. (
-  (did_stop around behind run lane place said (request.Make name) First lists (seen_beside others store history faults) (first_refuses around run place said name refusal.Stopped stood) come shows tt stopped).so,
+first_stopped name next store history faults stopped = λ around behind pins run lane place said lists come shows stood. (
+  (did_stop around behind run lane place said (request.Make name) First lists (seen_of pins store history faults) (first_refuses around run place said name refusal.Stopped stood) come shows tt stopped).so,
   λ e. absurd (never_more _ e),
 )
 
@@ -148,8 +145,8 @@ pub stops_memory : refusal.Stopped ≡ refusal.NoMemory → ⊥
 stops_memory e = cc e
 
 pub naming_stopped : {D : Type 0} → (name : List ℕ) (number : BoxNo) (next : MakeStage) (store : StoreValue D) (history : Option History) (faults : Faults) → store.stopped ≡ true → MakeClause name (stage.Naming number) next store store history history faults faults did.Quiet (Some (reply.Refused refusal.Stopped))
-naming_stopped name number next store history faults stopped = λ around behind others run lane place said lists come shows stood. (
-  (did_stop around behind run lane place said (request.Make name) (naming_part (nat_le number.0 store.map.highest.mailbox)) lists (seen_beside others store history faults)
+naming_stopped name number next store history faults stopped = λ around behind pins run lane place said lists come shows stood. (
+  (did_stop around behind run lane place said (request.Make name) (naming_part (nat_le number.0 store.map.highest.mailbox)) lists (seen_of pins store history faults)
       (naming_refuses around run place said name number.0 store.map (nat_le number.0 store.map.highest.mailbox) refusal.Stopped refl stood come.come.map_is (λ e. absurd (stops_memory e))) come shows tt stopped).so,
   λ e. absurd (never_more _ e),
 )
@@ -158,11 +155,11 @@ naming_stopped name number next store history faults stopped = λ around behind 
 
 pub making_refused : {D : Type 0} → (name : List ℕ) (next : MakeStage) (store : StoreValue D) (history : Option History) (faults : Faults) (why : Refusal) → store.stopped ≡ false → making_refusal name store ≡ Some why
     → MakeClause name stage.First next store store history history faults faults (did.Step half.Whole) (Some (reply.Refused why))
-making_refused name next store history faults why runs refuses = λ around behind others run lane place said lists come shows stood.
+making_refused name next store history faults why runs refuses = λ around behind pins run lane place said lists come shows stood.
     let w = step_why why (making_steps name store why refuses) in
     let none = stood.0.unanswered in (
-      (did_check around behind run lane place said (request.Make name) First lists (seen_beside others store history faults) why (Some (reply.Refused why)) half.Whole (first_refuses around run place said name why stood) come shows runs w.0 refl (in_turn name said First none)
-          (λ event. making_checked others history faults run name store lists shows.1 come ∙ refuses) (why_replied name said why none w.0) w.1).so,
+      (did_check around behind run lane place said (request.Make name) First lists (seen_of pins store history faults) why (Some (reply.Refused why)) half.Whole (first_refuses around run place said name why stood) come shows runs w.0 refl (in_turn name said First none)
+          (λ event. making_checked pins history faults run name store lists shows.1 come ∙ refuses) (why_replied name said why none w.0) w.1).so,
       λ e. absurd (never_more _ e),
     )
 
@@ -206,14 +203,18 @@ drawn_then run event old new come d moment entries drew =
     (subst (λ (n : Highest). HasCome (and_then run event) old.map n (told_calls new.history)) (ap (λ (x : Highest). drawn_also old.drawn x) drew ∙ (one_drawn old.drawn ∙ sym d.drawn))
     (subst (λ (n : ℕ). HasCome (and_then run event) old.map (drawn_also old.drawn event.drew) n) moment (comes_drawing run event old.map old.drawn (told_calls old.history) come.come later entries)))
 
+drawn_unpins : (refused : Option Refusal) → (is_none refused && false) ≡ false
+drawn_unpins None = refl
+drawn_unpins (Some why) = refl
+
 -- A first event that drew a number, whether it was refused then or not; no step.
 did_drawing : (around after : Around) (run : Run) (lane place : ℕ) (said : List Reply) (name : List ℕ) (lists : Lists) (old new : Seen) (how : Did) (refused : Option Refusal) (ended : Option Reply) → IsToMakeLog run place said → HasComeTo run old → DrawsSo old new → ShowsSeen new lists
-    → ((r : Refusal) → refused ≡ Some r → is_step r ≡ false) → (refused ≡ None → first_refusal run lists (make_checks name First) ≡ None)
+    → ((r : Refusal) → refused ≡ Some r → is_step r ≡ false) → IfSome refused (MayMeet First (request.Make name)) → (refused ≡ None → first_refusal run lists (make_checks name First) ≡ None)
     → ((ended ≢ None) ↔ (behind_event after (and_then run (drawing lane place refused ended (told_calls new.history))) (request.Make name) (drawing lane place refused ended (told_calls new.history)) refused ≡ None))
     → IsRepliedBy (own_events place run ++ drawing lane place refused ended (told_calls new.history) ∷ []) ended → makes_step (request.Make name) First refused ≡ false
     → Went how (request.Make name) run lists lists (drawing lane place refused ended (told_calls new.history)) None old new → EndsRequest (request.Make name) said (drawing lane place refused ended (told_calls new.history)) None ended how old new
     → DidBy around after run lane place said (request.Make name) lists old new how ended (drawing lane place refused ended (told_calls new.history)) None
-did_drawing around after run lane place said name lists old new how refused ended stood come d shows unstep allowed behind replied told went ends = record {
+did_drawing around after run lane place said name lists old new how refused ended stood come d shows unstep may allowed behind replied told went ends = record {
   so = record {
     left = lists;
     shown = shows;
@@ -231,8 +232,10 @@ did_drawing around after run lane place said name lists old new how refused ende
         undone = λ r e. (refl, λ s. absurd (fall (is_step r) s (unstep r e)));
         drew = λ h. inr refl;
         memory = λ e. refl;
+        may = may;
         allowed = allowed;
         did = λ e. ap (λ (r : Option Refusal). drawing lane place r ended (told_calls new.history)) e;
+        fits = All-nil _;
         ends = behind;
         replied = replied;
       };
@@ -241,7 +244,7 @@ did_drawing around after run lane place said name lists old new how refused ende
       made = refl;
       come = comes;
     };
-    come = comes_to_on run event old new come comes (λ uid. let e = d.due uid in omega (arith, e)) (record { pins = refl; unpins = refl; doomed = refl; removed = refl; given = refl; gone = refl }) d.tells;
+    come = comes_to_on run event old new come comes (λ uid. let e = d.due uid in omega (arith, e)) (record { pins = refl; unpins = drawn_unpins refused; doomed = refl; removed = refl; given = refl; placed = refl; gone = refl }) d.tells;
     gives = no_guids run event refl;
     went = went;
     grows = d.grows;
@@ -258,27 +261,13 @@ did_drawing around after run lane place said name lists old new how refused ende
     comes = drawn_then run event old new come d refl refl refl
 
 -- a store that has drawn a number
-given_drawing : {D : Type 0} → (old new : StoreValue D) (guid : List ℕ) → new.map.store ≡ old.map.store → new.drawn.file ≡ old.drawn.file → new.files ≡ old.files → may_have_given new guid ≡ may_have_given old guid
-given_drawing old new guid id drawn files =
-    ap (λ (s : List ℕ). is_own s guid && (nat_le (number_at 8 guid) new.drawn.file && option_map_or (λ end. nat_lt (number_at 12 guid) end) (end_in (number_at 8 guid) new.files.files) true)) id
-    ∙ (ap (λ (n : ℕ). is_own old.map.store guid && (nat_le (number_at 8 guid) n && option_map_or (λ end. nat_lt (number_at 12 guid) end) (end_in (number_at 8 guid) new.files.files) true)) drawn
-    ∙ ap (λ (f : FilesValue). is_own old.map.store guid && (nat_le (number_at 8 guid) old.drawn.file && option_map_or (λ end. nat_lt (number_at 12 guid) end) (end_in (number_at 8 guid) f.files) true)) files)
-
-pub draws_of : {D : Type 0} → (others : Others) → (old new : StoreValue D) (before after : Option History) (began then : Faults) → new.map ≡ old.map → new.drawn ≡ record old.drawn { mailbox = old.drawn.mailbox + 1 } → new.files ≡ old.files → new.dues ≡ old.dues → Grows before after → began.reads ≤ then.reads → began.changes ≤ then.changes
-    → DrawsSo (seen_beside others old before began) (seen_beside others new after then)
-draws_of others old new before after began then map drawn files dues grows reads changes = record {
+pub draws_of : {D : Type 0} → (pins : ℕ → ℕ) → (old new : StoreValue D) (before after : Option History) (began then : Faults) → (new.stopped ≡ false → old.stopped ≡ false) → new.map ≡ old.map → new.drawn ≡ record old.drawn { mailbox = old.drawn.mailbox + 1 } → new.files ≡ old.files → new.instances ≡ old.instances → new.dues ≡ old.dues
+    → Grows before after → began.reads ≤ then.reads → began.changes ≤ then.changes → DrawsSo (seen_of pins old before began) (seen_of pins new after then)
+draws_of pins old new before after began then ran map drawn files instances dues grows reads changes = record {
   map = map;
   drawn = drawn;
-  due = λ uid. due_kept old new uid map dues;
-  tells = record {
-    pins = λ file. refl;
-    doomed = λ file. refl;
-    used = λ file. refl;
-    gave = λ guid. given_drawing old new guid (ap (λ (m : MapMeaning). m.store) map) (ap (λ (d : Highest). d.file) drawn) files;
-    gone = λ instance. gone_still old new instance (ap (λ (m : MapMeaning). m.store) map) (ap (λ (d : Highest). d.instance) drawn);
-    files = λ file. ap (λ (f : FilesValue). is_some (end_in file f.files)) files;
-    instances = λ instance. refl;
-  };
+  due = λ uid. due_as_before old new uid map dues;
+  tells = tells_as_before pins old new before after began then ran (ap (λ (m : MapMeaning). m.store) map) (ap (λ (d : Highest). d.file) drawn) (ap (λ (d : Highest). d.instance) drawn) files instances;
   grows = grows;
   reads = reads;
   changes = changes;
@@ -296,12 +285,12 @@ stopped_calm e = cc e
 -- out of memory behind the number
 pub making_unremembered : {D : Type 0} → (name : List ℕ) (next : MakeStage) (store : StoreValue D) (history : Option History) (faults : Faults) → store.stopped ≡ false
     → MakeClause name stage.First next store (with_drawn_box (store.drawn.mailbox + 1) store) history history faults faults did.Quiet (Some (reply.Refused refusal.NoMemory))
-making_unremembered name next store history faults runs = λ around behind others run lane place said lists come shows stood.
-    let seen = seen_beside others store history faults in
+making_unremembered name next store history faults runs = λ around behind pins run lane place said lists come shows stood.
+    let seen = seen_of pins store history faults in
     let new = with_drawn_box (store.drawn.mailbox + 1) store in
-    let later = seen_beside others new history faults in
+    let later = seen_of pins new history faults in
     let event = drawing lane place (Some refusal.NoMemory) (Some (reply.Refused refusal.NoMemory)) (told_calls history) in (
-      (did_drawing around behind run lane place said name lists seen later did.Quiet (Some refusal.NoMemory) (Some (reply.Refused refusal.NoMemory)) stood come (draws_of others store new history history faults faults refl refl refl refl (omega arith) (omega arith) (omega arith)) shows memory_steps
+      (did_drawing around behind run lane place said name lists seen later did.Quiet (Some refusal.NoMemory) (Some (reply.Refused refusal.NoMemory)) stood come (draws_of pins store new history history faults faults (λ runs. runs) refl refl refl refl refl (omega arith) (omega arith) (omega arith)) shows memory_steps tt
           (λ e. absurd (some_refusal refusal.NoMemory e)) (record { 0 = λ e. refl; 1 = λ e f. some_reply (reply.Refused refusal.NoMemory) f }) (last_with (own_events place run) event refusal.NoMemory refl) refl (refl, refl, record { stops = leaves_none history lists lists; settled = λ s. s })
           (record {
             in_turn = λ some. absurd (let k : false ≡ true = some in cc k);
@@ -317,15 +306,15 @@ making_unremembered name next store history faults runs = λ around behind other
 -- a change of the disk failed as the log was made
 pub making_fell : {D : Type 0} → (name : List ℕ) (next : MakeStage) (old new : StoreValue D) (before after : Option History) (began then : Faults) → old.stopped ≡ false → new ≡ record (with_drawn_box (old.drawn.mailbox + 1) old) { disk = new.disk; stopped = true } → FellChanging same_lists before after began then
     → MakeClause name stage.First next old new before after began then did.Failed (Some (reply.Refused refusal.Stopped))
-making_fell name next old new before after began then ran same f = λ around behind others run lane place said lists come shows stood.
-    let seen = seen_beside others old before began in
-    let later = seen_beside others new after then in
+making_fell name next old new before after began then ran same f = λ around behind pins run lane place said lists come shows stood.
+    let seen = seen_of pins old before began in
+    let later = seen_of pins new after then in
     let stops : new.stopped ≡ true = ap (λ (s : StoreValue _). s.stopped) same in
     let map_is : new.map ≡ old.map = ap (λ (s : StoreValue _). s.map) same in
     let event = drawing lane place (Some refusal.Stopped) (Some (reply.Refused refusal.Stopped)) (told_calls after) in (
       (did_drawing around behind run lane place said name lists seen later did.Failed (Some refusal.Stopped) (Some (reply.Refused refusal.Stopped)) stood come
-          (draws_of others old new before after began then map_is (ap (λ (s : StoreValue _). s.drawn) same) (ap (λ (s : StoreValue _). s.files) same) (ap (λ (s : StoreValue _). s.dues) same) f.change.grows (let r = f.change.reads in omega (arith, r)) f.change.changes)
-          (shows_of others old new before after began then lists map_is (ap (λ (s : StoreValue _). s.boxes) same) shows) stopped_steps (λ e. absurd (some_refusal refusal.Stopped e)) (record { 0 = λ e. refl; 1 = λ e k. some_reply (reply.Refused refusal.Stopped) k })
+          (draws_of pins old new before after began then (λ runs. ran) map_is (ap (λ (s : StoreValue _). s.drawn) same) (ap (λ (s : StoreValue _). s.files) same) (ap (λ (s : StoreValue _). s.instances) same) (ap (λ (s : StoreValue _). s.dues) same) f.change.grows (let r = f.change.reads in omega (arith, r)) f.change.changes)
+          (shows_of pins old new before after began then lists map_is (ap (λ (s : StoreValue _). s.boxes) same) shows) stopped_steps tt (λ e. absurd (some_refusal refusal.Stopped e)) (record { 0 = λ e. refl; 1 = λ e k. some_reply (reply.Refused refusal.Stopped) k })
           (last_with (own_events place run) event refusal.Stopped refl) refl (record { refused = refl; unanswered = refl; ran = ran; stopped = stops }, λ s. f.change.moments lists s)
           (record {
             in_turn = λ some. absurd (let k : false ≡ true = some in cc k);
@@ -348,9 +337,9 @@ makes_on false e = some_part Last e
 -- the log was made
 pub making_done : {D : Type 0} → (name : List ℕ) (number : BoxNo) (old new : StoreValue D) (before after : Option History) (began then : Faults) → old.stopped ≡ false → MadeLogSo name number.0 old new before after began then
     → MakeClause name stage.First (stage.Naming number) old new before after began then did.Quiet None
-making_done name number old new before after began then ran m = λ around behind others run lane place said lists come shows stood.
-    let seen = seen_beside others old before began in
-    let later = seen_beside others new after then in
+making_done name number old new before after began then ran m = λ around behind pins run lane place said lists come shows stood.
+    let seen = seen_of pins old before began in
+    let later = seen_of pins new after then in
     let same = m.log.same in
     let runs : new.stopped ≡ false = ap (λ (s : StoreValue _). s.stopped) same ∙ ran in
     let map_is : new.map ≡ old.map = ap (λ (s : StoreValue _). s.map) same in
@@ -358,21 +347,22 @@ making_done name number old new before after began then ran m = λ around behind
     let event = drawing lane place None None (told_calls after) in
     stands_by around behind run lane place said (request.Make name) lists seen later did.Quiet None event None (IsAtMake (stage.Naming number))
     (did_drawing around behind run lane place said name lists seen later did.Quiet None None stood come
-    (draws_of others old new before after began then map_is drawn_is (ap (λ (s : StoreValue _). s.files) same) (ap (λ (s : StoreValue _). s.dues) same) m.disk.change.grows (let r = m.disk.change.reads in omega (arith, r)) m.disk.change.changes)
-    (shows_of others old new before after began then lists map_is (ap (λ (s : StoreValue _). s.boxes) same) shows) (λ r e. absurd (no_refusal r e)) (λ e. making_checked others before began run name old lists shows.1 come ∙ m.free)
-    (record { 0 = λ h. absurd (h refl); 1 = λ h. absurd (makes_on (is_overtaken (and_then run event) place) h) }) tt refl (refl, runs ∙ sym ran, leads_of others old new before after began then lists m.disk)
+    (draws_of pins old new before after began then (λ runs. ran) map_is drawn_is (ap (λ (s : StoreValue _). s.files) same) (ap (λ (s : StoreValue _). s.instances) same) (ap (λ (s : StoreValue _). s.dues) same) m.disk.change.grows (let r = m.disk.change.reads in omega (arith, r)) m.disk.change.changes)
+    (shows_of pins old new before after began then lists map_is (ap (λ (s : StoreValue _). s.boxes) same) shows) (λ r e. absurd (no_refusal r e)) tt (λ e. making_checked pins before began run name old lists shows.1 come ∙ m.free)
+    (record { 0 = λ h. absurd (h refl); 1 = λ h. absurd (makes_on (is_overtaken (and_then run event) place) h) }) tt refl (refl, runs ∙ sym ran, leads_of pins old new before after began then lists m.disk)
     (ends_well (request.Make name) said event None None did.Quiet seen later refl ran runs (let r = m.disk.change.reads in omega (arith, r)) m.disk.change.changes (λ x. x) (λ e. no_reply (reply.Refused refusal.Stopped) e) (λ some. absurd (let k : false ≡ true = some in cc k)) (λ given e. absurd (no_reply given e))))
     (λ goes_on. makes_log_then run event place said number.0 stood refl refl refl refl (m.log.next ∙ ap (λ (d : Highest). d.mailbox + 1) (sym come.come.drawn_is)))
 
 -- ---- the second event removes the log
 
 -- what stays, if the log was removed
-pub removed_stays : {D : Type 0} → (others : Others) → (number : ℕ) (old new : StoreValue D) (before after : Option History) (began then : Faults) → RemovesLog number old new before after → HasChangedDisk same_lists before after began then → StaysSo (seen_beside others old before began) (seen_beside others new after then)
-removed_stays others number old new before after began then r d =
-    stays_of others old new before after began then same_lists (ap (λ (s : StoreValue _). s.map) r.same) (ap (λ (s : StoreValue _). s.drawn) r.same) (ap (λ (s : StoreValue _). s.files) r.same) (ap (λ (s : StoreValue _). s.dues) r.same) d.change
+pub removed_stays : {D : Type 0} → (pins : ℕ → ℕ) → (number : ℕ) (old new : StoreValue D) (before after : Option History) (began then : Faults) → RemovesLog number old new before after → HasChangedDisk same_lists before after began then → StaysSo (seen_of pins old before began) (seen_of pins new after then)
+removed_stays pins number old new before after began then r d =
+    stays_of pins old new before after began then same_lists (λ runs. sym (ap (λ (s : StoreValue _). s.stopped) r.same) ∙ runs) (ap (λ (s : StoreValue _). s.map) r.same) (ap (λ (s : StoreValue _). s.drawn) r.same) (ap (λ (s : StoreValue _). s.files) r.same) (ap (λ (s : StoreValue _). s.instances) r.same)
+    (ap (λ (s : StoreValue _). s.dues) r.same) d.change
 
-pub removed_shows : {D : Type 0} → (others : Others) → (number : ℕ) (old new : StoreValue D) (before after : Option History) (began then : Faults) (lists : Lists) → RemovesLog number old new before after → ShowsSeen (seen_beside others old before began) lists → ShowsSeen (seen_beside others new after then) lists
-removed_shows others number old new before after began then lists r shows = shows_of others old new before after began then lists (ap (λ (s : StoreValue _). s.map) r.same) (ap (λ (s : StoreValue _). s.boxes) r.same) shows
+pub removed_shows : {D : Type 0} → (pins : ℕ → ℕ) → (number : ℕ) (old new : StoreValue D) (before after : Option History) (began then : Faults) (lists : Lists) → RemovesLog number old new before after → ShowsSeen (seen_of pins old before began) lists → ShowsSeen (seen_of pins new after then) lists
+removed_shows pins number old new before after began then lists r shows = shows_of pins old new before after began then lists (ap (λ (s : StoreValue _). s.map) r.same) (ap (λ (s : StoreValue _). s.boxes) r.same) shows
 
 pub removed_runs : {D : Type 0} → (number : ℕ) (old new : StoreValue D) (before after : Option History) → RemovesLog number old new before after → old.stopped ≡ false → new.stopped ≡ false
 removed_runs number old new before after r ran = ap (λ (s : StoreValue _). s.stopped) r.same ∙ ran
@@ -380,9 +370,9 @@ removed_runs number old new before after r ran = ap (λ (s : StoreValue _). s.st
 -- refused by a check
 pub naming_refused : {D : Type 0} → (name : List ℕ) (number : BoxNo) (next : MakeStage) (old new : StoreValue D) (before after : Option History) (began then : Faults) (why : Refusal) → old.stopped ≡ false → naming_refusal name old ≡ Some why → RemovesLog number.0 old new before after → HasChangedDisk same_lists before after began then
     → MakeClause name (stage.Naming number) next old new before after began then (did.Step half.Whole) (Some (reply.Refused why))
-naming_refused name number next old new before after began then why ran refuses r d = λ around behind others run lane place said lists come shows stood.
-    let seen = seen_beside others old before began in
-    let later = seen_beside others new after then in
+naming_refused name number next old new before after began then why ran refuses r d = λ around behind pins run lane place said lists come shows stood.
+    let seen = seen_of pins old before began in
+    let later = seen_of pins new after then in
     let overtaken = nat_le number.0 old.map.highest.mailbox in
     let part = naming_part overtaken in
     let w = step_why why (naming_steps name old why refuses) in
@@ -390,8 +380,8 @@ naming_refused name number next old new before after began then why ran refuses 
     let runs = removed_runs number.0 old new before after r ran in
     let checks : first_refusal run lists (make_checks name part) ≡ Some why = naming_checked run name old lists overtaken shows.1 ∙ refuses in (
       (did_refused around behind run lane place said (request.Make name) part lists seen later why (Some (reply.Refused why)) (Some (reply.Refused why)) (did.Step half.Whole)
-          (naming_refuses around run place said name number.0 old.map overtaken why refl stood come.come.map_is (λ e. absurd (step_memory why w.0 e))) come (removed_stays others number.0 old new before after began then r d) (removed_shows others number.0 old new before after began then lists r shows)
-          (λ s. checks) (sym w.0) ((checks, refl), refl) (refl, refl, runs, leads_of others old new before after began then lists d)
+          (naming_refuses around run place said name number.0 old.map overtaken why refl stood come.come.map_is (λ e. absurd (step_memory why w.0 e))) (step_may part (request.Make name) why w.0) come (removed_stays pins number.0 old new before after began then r d) (removed_shows pins number.0 old new before after began then lists r shows)
+          (λ s. checks) (sym w.0) ((checks, refl), refl) (refl, refl, runs, leads_of pins old new before after began then lists d)
           (record {
             in_turn = λ some. in_turn name said part none;
             replied = why_replied name said why none w.0;
@@ -418,33 +408,35 @@ overtaken_is a b l = grind (arith, common_steps, l)
 -- out of memory
 pub naming_unremembered : {D : Type 0} → (name : List ℕ) (number : BoxNo) (next : MakeStage) (old new : StoreValue D) (before after : Option History) (began then : Faults) → old.stopped ≡ false → CanBeNamed name number.0 old → RemovesLog number.0 old new before after → HasChangedDisk same_lists before after began then
     → MakeClause name (stage.Naming number) next old new before after began then did.Quiet (Some (reply.Refused refusal.NoMemory))
-naming_unremembered name number next old new before after began then ran can r d = λ around behind others run lane place said lists come shows stood.
-    let seen = seen_beside others old before began in
-    let later = seen_beside others new after then in
+naming_unremembered name number next old new before after began then ran can r d = λ around behind pins run lane place said lists come shows stood.
+    let seen = seen_of pins old before began in
+    let later = seen_of pins new after then in
     let above = above_not number.0 old.map.highest.mailbox can.above in
     let runs = removed_runs number.0 old new before after r ran in (
       (did_unstepped around behind run lane place said (request.Make name) Last lists seen later refusal.NoMemory (Some (reply.Refused refusal.NoMemory)) did.Quiet (naming_refuses around run place said name number.0 old.map false refusal.NoMemory above stood come.come.map_is (λ e. refl)) come
-          (removed_stays others number.0 old new before after began then r d) (removed_shows others number.0 old new before after began then lists r shows) refl memory_calm (refl, runs ∙ sym ran, leads_of others old new before after began then lists d)
+          (removed_stays pins number.0 old new before after began then r d) (removed_shows pins number.0 old new before after began then lists r shows) refl tt memory_calm (refl, runs ∙ sym ran, leads_of pins old new before after began then lists d)
           (memory_replied name said stood.0.unanswered) (memory_is new.stopped runs) (λ e. absurd (fall old.stopped e ran)) (λ x. absurd x)).so,
       λ e. absurd (never_more _ e),
     )
 
 -- a change of the disk failed as it was removed
-pub stopped_stays : {D : Type 0} → (others : Others) → (old new : StoreValue D) (before after : Option History) (began then : Faults) (left : Lists → Lists) → IsStoppedSo old new → ChangesDisk left before after began then → StaysSo (seen_beside others old before began) (seen_beside others new after then)
-stopped_stays others old new before after began then left same c = stays_of others old new before after began then left (ap (λ (s : StoreValue _). s.map) same) (ap (λ (s : StoreValue _). s.drawn) same) (ap (λ (s : StoreValue _). s.files) same) (ap (λ (s : StoreValue _). s.dues) same) c
+pub stopped_stays : {D : Type 0} → (pins : ℕ → ℕ) → (old new : StoreValue D) (before after : Option History) (began then : Faults) (left : Lists → Lists) → IsStoppedSo old new → ChangesDisk left before after began then → StaysSo (seen_of pins old before began) (seen_of pins new after then)
+stopped_stays pins old new before after began then left same c =
+    stays_of pins old new before after began then left (λ runs. absurd (fall new.stopped (ap (λ (s : StoreValue _). s.stopped) same) runs)) (ap (λ (s : StoreValue _). s.map) same) (ap (λ (s : StoreValue _). s.drawn) same) (ap (λ (s : StoreValue _). s.files) same) (ap (λ (s : StoreValue _). s.instances) same)
+    (ap (λ (s : StoreValue _). s.dues) same) c
 
-pub stopped_shows : {D : Type 0} → (others : Others) → (old new : StoreValue D) (before after : Option History) (began then : Faults) (lists : Lists) → IsStoppedSo old new → ShowsSeen (seen_beside others old before began) lists → ShowsSeen (seen_beside others new after then) lists
-stopped_shows others old new before after began then lists same shows = shows_of others old new before after began then lists (ap (λ (s : StoreValue _). s.map) same) (ap (λ (s : StoreValue _). s.boxes) same) shows
+pub stopped_shows : {D : Type 0} → (pins : ℕ → ℕ) → (old new : StoreValue D) (before after : Option History) (began then : Faults) (lists : Lists) → IsStoppedSo old new → ShowsSeen (seen_of pins old before began) lists → ShowsSeen (seen_of pins new after then) lists
+stopped_shows pins old new before after began then lists same shows = shows_of pins old new before after began then lists (ap (λ (s : StoreValue _). s.map) same) (ap (λ (s : StoreValue _). s.boxes) same) shows
 
 pub removing_fell : {D : Type 0} → (name : List ℕ) (number : BoxNo) (next : MakeStage) (old new : StoreValue D) (before after : Option History) (began then : Faults) → old.stopped ≡ false → IsStoppedSo old new → FellChanging same_lists before after began then
     → MakeClause name (stage.Naming number) next old new before after began then did.Failed (Some (reply.Refused refusal.Stopped))
-removing_fell name number next old new before after began then ran same f = λ around behind others run lane place said lists come shows stood.
-    let seen = seen_beside others old before began in
-    let later = seen_beside others new after then in
+removing_fell name number next old new before after began then ran same f = λ around behind pins run lane place said lists come shows stood.
+    let seen = seen_of pins old before began in
+    let later = seen_of pins new after then in
     let overtaken = nat_le number.0 old.map.highest.mailbox in
     let stops : new.stopped ≡ true = ap (λ (s : StoreValue _). s.stopped) same in (
       (did_fall around behind run lane place said (request.Make name) (naming_part overtaken) lists seen later did.Failed (naming_refuses around run place said name number.0 old.map overtaken refusal.Stopped refl stood come.come.map_is (λ e. absurd (stops_memory e))) come
-          (stopped_stays others old new before after began then same_lists same f.change) (stopped_shows others old new before after began then lists same shows) tt ran stops f.rose (record { refused = refl; unanswered = refl; ran = ran; stopped = stops }, λ s. f.change.moments lists s)).so,
+          (stopped_stays pins old new before after began then same_lists same f.change) (stopped_shows pins old new before after began then lists same shows) tt ran stops f.rose (record { refused = refl; unanswered = refl; ran = ran; stopped = stops }, λ s. f.change.moments lists s)).so,
       λ e. absurd (never_more _ e),
     )
 
@@ -454,11 +446,11 @@ starting_over lane place calls = event_of lane place StartsOver calls
 
 pub naming_overtaken : {D : Type 0} → (name : List ℕ) (number : BoxNo) (old new : StoreValue D) (before after : Option History) (began then : Faults) → old.stopped ≡ false → naming_refusal name old ≡ None → number.0 ≤ old.map.highest.mailbox → RemovesLog number.0 old new before after → HasChangedDisk same_lists before after began then
     → MakeClause name (stage.Naming number) stage.First old new before after began then did.Quiet None
-naming_overtaken name number old new before after began then ran free behind_it r d = λ around behind others run lane place said lists come shows stood.
-    let seen = seen_beside others old before began in
-    let later = seen_beside others new after then in
+naming_overtaken name number old new before after began then ran free behind_it r d = λ around behind pins run lane place said lists come shows stood.
+    let seen = seen_of pins old before began in
+    let later = seen_of pins new after then in
     let runs = removed_runs number.0 old new before after r ran in
-    let stays = removed_stays others number.0 old new before after began then r d in
+    let stays = removed_stays pins number.0 old new before after began then r d in
     let event : RunEvent = starting_over lane place (told_calls after) in
     stands_by around behind run lane place said (request.Make name) lists seen later did.Quiet None event None (IsAtMake stage.First)
     (did_part around behind run lane place said (request.Make name) lists lists seen later did.Quiet None None event
@@ -469,16 +461,17 @@ naming_overtaken name number old new before after began then ran free behind_it 
       ended_is = refl;
       unrefused = refl;
       undrawn = refl;
-      leaves = record { pins = refl; unpins = refl; doomed = refl; removed = refl; given = refl; gone = refl };
+      leaves = record { pins = refl; unpins = refl; doomed = refl; removed = refl; given = refl; placed = refl; gone = refl };
       finds = tt;
       found = tt;
       part_is = naming_next around run name place said number.0 old.map stood come.come.map_is ∙ ap (λ (b : Bool). Some (naming_part b)) (overtaken_is number.0 old.map.highest.mailbox behind_it);
       allowed = naming_checked run name old lists true shows.1 ∙ free;
+      fits = All-nil _;
       did = refl;
       ends = record { 0 = λ h. absurd (h refl); 1 = λ h. absurd (some_part First (over_is (is_overtaken (and_then run event) place) h)) };
       replied = tt;
-    }) come (comes_along run event seen later come stays.map stays.drawn stays.grows refl refl refl) (λ uid. let e = stays.due uid in omega (arith, e)) stays.tells (removed_shows others number.0 old new before after began then lists r shows) stays.grows refl refl
-    (refl, runs ∙ sym ran, leads_of others old new before after began then lists d)
+    }) come (comes_along run event seen later come stays.map stays.drawn stays.grows refl refl refl) (λ uid. let e = stays.due uid in omega (arith, e)) stays.tells (removed_shows pins number.0 old new before after began then lists r shows) stays.grows refl refl
+    (refl, runs ∙ sym ran, leads_of pins old new before after began then lists d)
     (ends_well (request.Make name) said event None None did.Quiet seen later refl ran runs stays.reads stays.changes (λ x. x) (λ e. no_reply (reply.Refused refusal.Stopped) e) (λ some. absurd (let k : false ≡ true = some in cc k)) (λ given e. absurd (no_reply given e))))
     (λ goes_on. starts_over_then run event place said number.0 stood refl refl refl)
   where

@@ -1,4 +1,6 @@
 -- The event of a make that names its mailbox, by the clause of a step.
+use Rattle.model_meaning.specs.MapFits.{MapFits}
+use Rattle.mail_ops.proofs.MakeCallLemmas.{naming_fits}
 use Rattle.std.proofs.Common.{◌≡◌, ◌≤◌, ◌<◌, ℕ, Bool, true, false, List, [], ◌∷◌, ◌++◌, Option, Some, None, refl, sym, ◌∙◌, ap, subst, arith}
 use Rattle.std.specs.Prelude.{All}
 use Rattle.std.proofs.lemmas.List.Elements.{All-nil, All-cons, All-head, All-tail}
@@ -30,10 +32,10 @@ use Rattle.store_core.proofs.NamingLemmas.{same_records, one_box_more, box_named
 use Rattle.task_steps.specs.Step.{ShowsSeen, HasComeTo}
 use Rattle.task_steps.proofs.OneEventLemmas.{never_more}
 use Rattle.mail_ops.specs.Making.{NamesLog, IsStoppedSo, CanBeNamed, HasChangedDisk, FellChanging, with_mailbox}
-use Rattle.mail_ops.specs.Task.{Others, seen_beside}
+use Rattle.store_seen.specs.Seeing.{seen_of}
 use Rattle.mail_ops.specs.declared.making.MakeStage.{MakeStage}
 use Rattle.mail_ops.specs.declared.making.MakeStage.TheVariants as stage
-use Rattle.mail_ops.proofs.EventLemmas.{some_reply, one_reply, did_fall, did_part, ends_well}
+use Rattle.mail_ops.proofs.EventLemmas.{one_fits, some_reply, one_reply, did_fall, did_part, ends_well}
 use Rattle.mail_ops.proofs.LoweringLemmas.{comes_with}
 use Rattle.mail_ops.proofs.MakeCheckLemmas.{naming_checked}
 use Rattle.mail_ops.proofs.MakeEventLemmas.{MakeClause, naming_refuses, stops_memory, in_turn, above_not, stopped_stays, stopped_shows}
@@ -84,9 +86,9 @@ pub record IsNamedSo {D : Type 0} (name : List ℕ) (number : ℕ) (store : Stor
   pub was_drawn : number ≤ store.drawn.mailbox
 
 -- it is the machine's step
-made_so : {D : Type 0} → (others : Others) → (run : Run) (lane place : ℕ) (name : List ℕ) (number : BoxNo) (store : StoreValue D) (history : Option History) (faults : Faults) (lists : Lists) (calls : ℕ) → IsStore history store → HasComeTo run (seen_beside others store history faults) → ShowsSeen (seen_beside others store history faults) lists → IsNamedSo name number.0 store
+made_so : {D : Type 0} → (pins : ℕ → ℕ) → (run : Run) (lane place : ℕ) (name : List ℕ) (number : BoxNo) (store : StoreValue D) (history : Option History) (faults : Faults) (lists : Lists) (calls : ℕ) → IsStore history store → HasComeTo run (seen_of pins store history faults) → ShowsSeen (seen_of pins store history faults) lists → IsNamedSo name number.0 store
     → number_of run place ≡ number.0 → IsMade run (naming_event lane place (number_of run place) name calls) lists name (with_mailbox number.0 name lists)
-made_so others run lane place name number store history faults lists calls is come shows n drew = record {
+made_so pins run lane place name number store history faults lists calls is come shows n drew = record {
   number = number.0;
   number_is = ap Some drew;
   above = shown_below store.map.highest.mailbox number.0 store.map.boxes (indexes_of store.boxes) lists shows.1 (store_is_sound history store is).boxes n.can.above;
@@ -96,8 +98,8 @@ made_so others run lane place name number store history faults lists calls is co
   new_is = refl;
 }
 
-no_check : {D : Type 0} → (others : Others) → (run : Run) (name : List ℕ) (number : ℕ) (store : StoreValue D) (history : Option History) (faults : Faults) (lists : Lists) → ShowsSeen (seen_beside others store history faults) lists → IsNamedSo name number store → first_refusal run lists (make_checks name Last) ≡ None
-no_check others run name number store history faults lists shows n = naming_checked run name store lists false shows.1 ∙ n.can.free
+no_check : {D : Type 0} → (pins : ℕ → ℕ) → (run : Run) (name : List ℕ) (number : ℕ) (store : StoreValue D) (history : Option History) (faults : Faults) (lists : Lists) → ShowsSeen (seen_of pins store history faults) lists → IsNamedSo name number store → first_refusal run lists (make_checks name Last) ≡ None
+no_check pins run name number store history faults lists shows n = naming_checked run name store lists false shows.1 ∙ n.can.free
 
 done_stopped : Some reply.Done ≡ Some (reply.Refused refusal.Stopped) → ⊥
 done_stopped e = let k : reply.Done ≡ reply.Refused refusal.Stopped = cc e in cc k
@@ -108,15 +110,15 @@ named_due old new number name uid n =
 
 pub naming_done : {D : Type 0} → (name : List ℕ) (number : BoxNo) (next : MakeStage) (old new : StoreValue D) (before after : Option History) (began then : Faults) → IsStore before old → old.stopped ≡ false → IsNamedSo name number.0 old → NamesLog number name old new → HasChangedDisk (with_mailbox number.0 name) before after began then
     → MakeClause name (stage.Naming number) next old new before after began then (did.Step half.Whole) (Some reply.Done)
-naming_done name number next old new before after began then is ran n named d = λ around behind others run lane place said lists come shows stood.
-    let seen = seen_beside others old before began in
-    let later = seen_beside others new after then in
+naming_done name number next old new before after began then is ran n named d = λ around behind pins run lane place said lists come shows stood.
+    let seen = seen_of pins old before began in
+    let later = seen_of pins new after then in
     let left = with_mailbox number.0 name lists in
     let none = stood.0.unanswered in
     let event : RunEvent = naming_event lane place (number_of run place) name (told_calls after) in
     let runs : new.stopped ≡ false = ap (λ (s : StoreValue _). s.stopped) named.same ∙ ran in
-    let free = no_check others run name number.0 old before began lists shows n in
-    let made = made_so others run lane place name number old before began lists (told_calls after) is come shows n stood.2 in
+    let free = no_check pins run name number.0 old before began lists shows n in
+    let made = made_so pins run lane place name number old before began lists (told_calls after) is come shows n stood.2 in
     let well : AreWellFormed left = answers_well run lists (request.Make name) event reply.Done left shows.0 n.is_name (free, made) in
     let boxes : new.map.boxes ≡ old.map.boxes ++ box_named number name ∷ [] = ap (λ (m : MapMeaning). m.boxes) named.map ∙ one_box_more old.map number name in
     let shown : ShowsSeen later left = (
@@ -132,18 +134,19 @@ naming_done name number next old new before after began then is ran n named d = 
             ended_is = refl;
             unrefused = refl;
             undrawn = refl;
-            leaves = record { pins = refl; unpins = refl; doomed = refl; removed = refl; given = refl; gone = refl };
+            leaves = record { pins = refl; unpins = refl; doomed = refl; removed = refl; given = refl; placed = refl; gone = refl };
             finds = tt;
             found = tt;
             part_is = naming_next around run name place said number.0 old.map stood come.come.map_is ∙ ap (λ (b : Bool). Some (naming_part b)) (above_not number.0 old.map.highest.mailbox n.can.above);
             allowed = free;
+            fits = one_fits run seen (map_entry.B (record { 0 = number_of run place }) 1 name) come (subst (λ (k : ℕ). MapFits old.map (map_entry.B (record { 0 = k }) 1 name)) (sym stood.2) (naming_fits before name number.0 old is n.can.free n.is_number n.can.above));
             did = refl;
             ends = record { 0 = λ h. refl; 1 = λ h e. some_reply reply.Done e };
             replied = none_with (own_events place run) event stood.0.unrefused refl;
           }) come
           (comes_with run event (map_entry.B (record { 0 = number_of run place }) 1 name) seen later come (subst (λ (k : ℕ). new.map ≡ map_applied (map_entry.B (record { 0 = k }) 1 name) old.map) (sym stood.2) named.map) (ap (λ (s : StoreValue _). s.drawn) named.same) d.change.grows refl refl refl)
           (λ uid. let e = named_due old new number name uid named in omega (arith, e))
-          (store_tells others old new before after began then (ap (λ (m : MapMeaning). m.store) named.map) (ap (λ (s : StoreValue _). s.drawn) named.same) (ap (λ (s : StoreValue _). s.files) named.same)) shown d.change.grows refl ((free, made), refl)
+          (store_tells pins old new before after began then (λ runs. ran) (ap (λ (m : MapMeaning). m.store) named.map) (ap (λ (s : StoreValue _). s.drawn) named.same) (ap (λ (s : StoreValue _). s.files) named.same) (ap (λ (s : StoreValue _). s.instances) named.same)) shown d.change.grows refl ((free, made), refl)
           (refl, refl, runs, record { stops = λ s. d.change.moments lists s; settled = λ s. d.settled lists s })
           (ends_well (request.Make name) said event (Some reply.Done) (Some reply.Done) (did.Step half.Whole) seen later refl ran runs (let k = d.change.reads in omega (arith, k)) d.change.changes (λ x. x) done_stopped (λ some. in_turn name said Last none)
           (λ given e. subst (λ (r : Reply). IsReplyOf (request.Make name) (said ++ reply.Done ∷ []) r) (one_reply reply.Done given e) (ap (λ (before_it : List Reply). before_it ++ reply.Done ∷ []) none)))).so,
@@ -153,15 +156,15 @@ naming_done name number next old new before after began then is ran n named d = 
 -- the append failed
 pub naming_fell : {D : Type 0} → (name : List ℕ) (number : BoxNo) (next : MakeStage) (old new : StoreValue D) (before after : Option History) (began then : Faults) → IsStore before old → old.stopped ≡ false → IsNamedSo name number.0 old → IsStoppedSo old new → FellChanging (with_mailbox number.0 name) before after began then
     → MakeClause name (stage.Naming number) next old new before after began then (did.Broken half.Whole) (Some (reply.Refused refusal.Stopped))
-naming_fell name number next old new before after began then is ran n same f = λ around behind others run lane place said lists come shows stood.
-    let seen = seen_beside others old before began in
-    let later = seen_beside others new after then in
+naming_fell name number next old new before after began then is ran n same f = λ around behind pins run lane place said lists come shows stood.
+    let seen = seen_of pins old before began in
+    let later = seen_of pins new after then in
     let stops : new.stopped ≡ true = ap (λ (s : StoreValue _). s.stopped) same in
     let left = with_mailbox number.0 name lists in
     let would : RunEvent = naming_event lane place (number_of run place) name (told_calls after) in (
       (did_fall around behind run lane place said (request.Make name) Last lists seen later (did.Broken half.Whole)
           (naming_refuses around run place said name number.0 old.map false refusal.Stopped (above_not number.0 old.map.highest.mailbox n.can.above) stood come.come.map_is (λ e. absurd (stops_memory e))) come
-          (stopped_stays others old new before after began then (with_mailbox number.0 name) same f.change) (stopped_shows others old new before after began then lists same shows) tt ran stops f.rose (
+          (stopped_stays pins old new before after began then (with_mailbox number.0 name) same f.change) (stopped_shows pins old new before after began then lists same shows) tt ran stops f.rose (
             record { refused = refl; unanswered = refl; ran = ran; stopped = stops },
             refl,
             (
@@ -173,7 +176,7 @@ naming_fell name number next old new before after began then is ran n same f = �
                 did = λ other e. refl;
                 answer = reply.Done;
                 left = left;
-                made = ((no_check others run name number.0 old before began lists shows n, made_so others run lane place name number old before began lists (told_calls after) is come shows n stood.2), refl);
+                made = ((no_check pins run name number.0 old before began lists shows n, made_so pins run lane place name number old before began lists (told_calls after) is come shows n stood.2), refl);
               },
               λ s. f.change.moments lists s,
             ),

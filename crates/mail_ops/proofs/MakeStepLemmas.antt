@@ -37,7 +37,7 @@ use Rattle.mail_ops.specs.declared.event.NotDone.TheVariants as not_done
 use Rattle.mail_ops.specs.declared.making.MakeStage.{MakeStage}
 use Rattle.mail_ops.specs.declared.making.MakeStage.TheVariants as stage
 use Rattle.mail_ops.proofs.EventLemmas.{fall}
-use Rattle.mail_ops.proofs.FlagEventLemmas.{due_kept}
+use Rattle.store_seen.proofs.SeeingLemmas.{due_as_before}
 use Rattle.mail_ops.proofs.KeptMailLemmas.{same_mail, mail_unnamed, mail_named}
 use Rattle.mail_ops.proofs.KeptUidLemmas.{logs_keep, same_keeps}
 use Rattle.mail_ops.proofs.MakeCheckLemmas.{naming_steps, making_steps}
@@ -142,7 +142,7 @@ known_made name number old new before after began then b m = record {
   stopped = record { 0 = λ e. absurd (more_is (reply.Refused refusal.Stopped) e); 1 = λ e. absurd (fall new.stopped e (ap (λ (s : StoreValue _). s.stopped) m.log.same ∙ b.runs)) };
   fault = record { reads = m.disk.change.reads; changes = m.disk.change.changes; rose = λ e. absurd (more_is (reply.Refused refusal.Stopped) e) };
   unfailed = λ other. m.disk.unfailed;
-  moves = moves_as no_amounts (amounts_in old) (amounts_in new) (λ uid. due_kept old new uid map_is (ap (λ (s : StoreValue _). s.dues) m.log.same));
+  moves = moves_as no_amounts (amounts_in old) (amounts_in new) (λ uid. due_as_before old new uid map_is (ap (λ (s : StoreValue _). s.dues) m.log.same));
   spares = λ same. spares_kept no_amounts old new before after map_is m.disk.stored;
   keeps = logs_keep old new (ap (λ (s : StoreValue _). s.map.boxes) m.log.same) (ap (λ (s : StoreValue _). indexes_of s.boxes) m.log.same);
   logs = logs_more number old new m.log;
@@ -211,7 +211,7 @@ known_fell name old new before after began then b n f = record {
   stopped = record { 0 = λ e. stops; 1 = λ e. refl };
   fault = record { reads = f.change.reads; changes = f.change.changes; rose = λ e. f.rose };
   unfailed = λ other. absurd (other refl);
-  moves = moves_as no_amounts (amounts_in old) (amounts_in new) (λ uid. due_kept old new uid (ap (λ (s : StoreValue _). s.map) n.0) (ap (λ (s : StoreValue _). s.dues) n.0));
+  moves = moves_as no_amounts (amounts_in old) (amounts_in new) (λ uid. due_as_before old new uid (ap (λ (s : StoreValue _). s.map) n.0) (ap (λ (s : StoreValue _). s.dues) n.0));
   spares = λ same. absurd (fall new.stopped stops (same ∙ b.runs));
   keeps = logs_keep old new (ap (λ (s : StoreValue _). s.map.boxes) n.0) (ap (λ (s : StoreValue _). indexes_of s.boxes) n.0);
   logs = logs_stay stage.First old new (ap (λ (s : StoreValue _). s.made) n.0);
@@ -278,7 +278,7 @@ pub record RemovedKnown {D : Type 0} (now : MakeStage) (old new : StoreValue D) 
 
 removed_known : {D : Type 0} → (number : BoxNo) (old new : StoreValue D) (before after : Option History) (began then : Faults) → RemovesLog number.0 old new before after → HasChangedDisk same_lists before after began then → RemovedKnown (stage.Naming number) old new before after
 removed_known number old new before after began then r d = record {
-  moves = moves_as no_amounts (amounts_in old) (amounts_in new) (λ uid. due_kept old new uid map_is (ap (λ (s : StoreValue _). s.dues) r.same));
+  moves = moves_as no_amounts (amounts_in old) (amounts_in new) (λ uid. due_as_before old new uid map_is (ap (λ (s : StoreValue _). s.dues) r.same));
   spares = spares_kept no_amounts old new before after map_is d.stored;
   keeps = logs_keep old new (ap (λ (s : StoreValue _). s.map.boxes) r.same) (ap (λ (s : StoreValue _). indexes_of s.boxes) r.same);
   logs = logs_less number old new (ap (λ (s : StoreValue _). s.made) r.same);
@@ -357,7 +357,7 @@ known_stopped name number how old new before after began then b same moments fau
   stopped = record { 0 = λ e. stops; 1 = λ e. refl };
   fault = fault;
   unfailed = λ other. absurd (other refl);
-  moves = moves_as no_amounts (amounts_in old) (amounts_in new) (λ uid. due_kept old new uid (ap (λ (s : StoreValue _). s.map) same) (ap (λ (s : StoreValue _). s.dues) same));
+  moves = moves_as no_amounts (amounts_in old) (amounts_in new) (λ uid. due_as_before old new uid (ap (λ (s : StoreValue _). s.map) same) (ap (λ (s : StoreValue _). s.dues) same));
   spares = λ again. absurd (fall new.stopped stops (again ∙ b.runs));
   keeps = logs_keep old new (ap (λ (s : StoreValue _). s.map.boxes) same) (ap (λ (s : StoreValue _). indexes_of s.boxes) same);
   logs = logs_stay (stage.Naming number) old new (ap (λ (s : StoreValue _). s.made) same);

@@ -1,4 +1,5 @@
 -- The events of a move that a copy doesn't have, by the clause of a step.
+use Rattle.std.proofs.lemmas.List.Elements.{All-nil}
 use Rattle.std.proofs.Common.{◌≡◌, ◌≤◌, ◌+◌, ℕ, Bool, true, false, List, [], ◌∷◌, ◌++◌, Option, Some, None, refl, sym, ◌∙◌, ap, subst, arith}
 use Rattle.std.specs.Prelude.{length, slice_get, is_some, is_none, option_and_then, if◌then◌else◌}
 use Rattle.std.specs.Option.{option_map, option_map_or}
@@ -37,11 +38,11 @@ use Rattle.mail_ops.specs.Copying.{added_copy, AddsRow}
 use Rattle.mail_ops.specs.Expunging.{RemovesRow, FellRemoving}
 use Rattle.mail_ops.specs.Messages.{missing_message}
 use Rattle.mail_ops.specs.MoveStages.{HasAdded, HasRemoved, HasCopied, HasMoved}
-use Rattle.mail_ops.specs.Task.{seen_beside}
+use Rattle.store_seen.specs.Seeing.{seen_of}
 use Rattle.mail_ops.proofs.CopyFirstLemmas.{CopyingClause, place_free}
 use Rattle.mail_ops.proofs.CopyLastLemmas.{copy_known, adding, added_due, ended_due, is_copied, brings_copy, held_twice, place_refuses, lowered_ends}
 use Rattle.mail_ops.proofs.CopyPartLemmas.{adds_next, held_first}
-use Rattle.mail_ops.proofs.EventLemmas.{stands_by, some_reply, one_reply, no_reply, comes_along, CanRefuse, did_stop, did_fall, did_part, ends_well}
+use Rattle.mail_ops.proofs.EventLemmas.{one_fits, stands_by, some_reply, one_reply, no_reply, comes_along, CanRefuse, did_stop, did_fall, did_part, ends_well}
 use Rattle.mail_ops.proofs.FlagEventLemmas.{shown_on}
 use Rattle.mail_ops.proofs.FlagListLemmas.{none_there, found_row}
 use Rattle.mail_ops.proofs.LoweringLemmas.{comes_with, lowered_due, shows_still, leads_still}
@@ -59,14 +60,14 @@ moved_runs copied gone e = let k : reply.Moved copied gone ≡ reply.Refused ref
 
 pub move_added : {D : Type 0} → (name : List ℕ) (uid : Uid) (target : List ℕ) (held : MapUid) (copied : Uid) (old new : StoreValue D) (before after : Option History) (began faulted : Faults) → IsStore before old → old.stopped ≡ false → ((other : ℕ) → one_due held.0 other ≤ due_at other old)
     → AddsRow name uid target held copied old new before after began faulted → CopyingClause (request.Move name uid target) (IsHolding held) (HasCopied held copied) old new before after began faulted (did.Step half.CopyHalf) None
-move_added name uid target held copied old new before after began faulted is ran due r = λ around behind others run lane place said lists come shows stood.
+move_added name uid target held copied old new before after began faulted is ran due r = λ around behind pins run lane place said lists come shows stood.
     let q = request.Move name uid target in
     let c = move_copies name uid target in
     let k = copy_known old name uid target r.row r.number copied lists r.at shows.0 shows.1 in
     let event : RunEvent = adding lane place k.mailbox k.shown.message held.0 None (told_calls after) in
     let a = r.took.appends in
-    let seen = seen_beside others old before began in
-    let later = seen_beside others new after faulted in
+    let seen = seen_of pins old before began in
+    let later = seen_of pins new after faulted in
     let first = stood.0.0 in
     let one = stood.0.1 in
     let h = stood.0.2 in
@@ -81,17 +82,18 @@ move_added name uid target held copied old new before after began faulted is ran
       ended_is = refl;
       unrefused = refl;
       undrawn = refl;
-      leaves = record { pins = refl; unpins = refl; doomed = refl; removed = refl; given = refl; gone = refl };
+      leaves = record { pins = refl; unpins = refl; doomed = refl; removed = refl; given = refl; placed = refl; gone = refl };
       finds = tt;
       found = tt;
       part_is = adds_next around run q name uid target half.CopyHalf held (own_events place run) first c one h;
       allowed = allowed;
+      fits = All-nil _;
       did = (k.shown.message, k.shown.there, (k.mailbox, held.0, k.named, held_first place run held first one h, refl));
       ends = record { 0 = λ e. absurd (e refl); 1 = λ e. absurd (some_part SecondHalf e) };
       replied = tt;
     }) come (comes_along run event seen later come a.map a.drawn a.grows refl refl refl)
     (λ other. ended_due (due_at other old) (due_at other new) held.0 other (added_due held copied r.row r.at.m old new other r.holds (due other) (r.took.due r.at.m other r.at.to.numbered)))
-    (box_tells others r.number (added_copy copied r.row) old new before after began faulted a) (
+    (box_tells pins r.number (added_copy copied r.row) old new before after began faulted (λ runs. ran) a) (
       answers_well run lists q event (reply.Copied copied) (add_message target k.shown.message lists) shows.0 tt (allowed, done),
       shown_on seen later _ (add_message target k.shown.message lists) a.map r.took.taken k.shows,
     ) a.grows refl ((allowed, done), refl) (
@@ -118,7 +120,6 @@ removes_stops around run place name uid target copied first second two a = recor
   finds = λ event. tt;
   found = λ event. tt;
   part_is = removes_next around run name uid target copied (own_events place run) first second two a;
-  unpins = refl;
   memory = λ e. absurd (let k : refusal.Stopped ≡ refusal.NoMemory = e in cc k);
   ends = record { 0 = λ e. refl; 1 = λ e f. some_reply (reply.Refused refusal.Stopped) f };
   replied = λ given e. subst (λ (r : Reply). refusal_in r ≡ Some refusal.Stopped) (one_reply (reply.Refused refusal.Stopped) given e) refl;
@@ -126,8 +127,8 @@ removes_stops around run place name uid target copied first second two a = recor
 
 pub removal_stopped : {D : Type 0} → (name : List ℕ) (uid : Uid) (target : List ℕ) (held : MapUid) (copied : Uid) (Stands : Run → ℕ → List Reply → Type 0) (store : StoreValue D) (history : Option History) (faults : Faults) → store.stopped ≡ true
     → CopyingClause (request.Move name uid target) (HasCopied held copied) Stands store store history history faults faults did.Quiet (Some (reply.Refused refusal.Stopped))
-removal_stopped name uid target held copied Stands store history faults stopped = λ around behind others run lane place said lists come shows stood. (
-  (did_stop around behind run lane place said (request.Move name uid target) SecondHalf lists (seen_beside others store history faults) (removes_stops around run place name uid target copied stood.0.0 stood.0.1 stood.0.2 stood.0.4) come shows tt stopped).so,
+removal_stopped name uid target held copied Stands store history faults stopped = λ around behind pins run lane place said lists come shows stood. (
+  (did_stop around behind run lane place said (request.Move name uid target) SecondHalf lists (seen_of pins store history faults) (removes_stops around run place name uid target copied stood.0.0 stood.0.1 stood.0.2 stood.0.4) come shows tt stopped).so,
   λ e. absurd (never_more _ e),
 )
 
@@ -152,11 +153,11 @@ telling_gone lane place copied calls = record (event_of lane place SecondHalf ca
 
 pub move_gone : {D : Type 0} → (name : List ℕ) (uid : Uid) (target : List ℕ) (held : MapUid) (copied : Uid) (Stands : Run → ℕ → List Reply → Type 0) (store : StoreValue D) (history : Option History) (faults : Faults) (why : Refusal) → store.stopped ≡ false → missing_message name uid.0 store ≡ Some why
     → CopyingClause (request.Move name uid target) (HasCopied held copied) Stands store store history history faults faults (did.Step half.ExpungeHalf) (Some (reply.Moved copied true))
-move_gone name uid target held copied Stands store history faults why runs missing = λ around behind others run lane place said lists come shows stood.
+move_gone name uid target held copied Stands store history faults why runs missing = λ around behind pins run lane place said lists come shows stood.
     let q = request.Move name uid target in
     let none = missing_none name uid.0 store why lists shows.1 missing in
     let event : RunEvent = telling_gone lane place copied (told_calls history) in
-    let seen = seen_beside others store history faults in
+    let seen = seen_of pins store history faults in
     let ended = Some (reply.Moved copied true) in
     let first = stood.0.0 in
     let second = stood.0.1 in
@@ -172,11 +173,12 @@ move_gone name uid target held copied Stands store history faults why runs missi
             ended_is = refl;
             unrefused = refl;
             undrawn = refl;
-            leaves = record { pins = refl; unpins = refl; doomed = refl; removed = refl; given = refl; gone = refl };
+            leaves = record { pins = refl; unpins = refl; doomed = refl; removed = refl; given = refl; placed = refl; gone = refl };
             finds = tt;
             found = tt;
             part_is = removes_next around run name uid target copied (own_events place run) first second two a;
             allowed = refl;
+            fits = All-nil _;
             did = subst (λ (o : Option ListedMessage). RemovesIfThere run lists name uid.0 event o) (sym none) refl;
             ends = record { 0 = λ e. refl; 1 = λ e f. some_reply (reply.Moved copied true) f };
             replied = never_twice (own_events place run) first second event two h.unrefused a.unrefused refl;
@@ -200,13 +202,13 @@ own_third place run event first second own two = own_more place run event (eq-eq
 
 pub move_removed : {D : Type 0} → (name : List ℕ) (uid : Uid) (target : List ℕ) (held : MapUid) (copied : Uid) (old new : StoreValue D) (before after : Option History) (began faulted : Faults) → IsStore before old → old.stopped ≡ false → RemovesRow name uid held old new before after began faulted
     → CopyingClause (request.Move name uid target) (HasCopied held copied) (HasMoved uid held copied) old new before after began faulted (did.Step half.ExpungeHalf) None
-move_removed name uid target held copied old new before after began faulted is ran r = λ around behind others run lane place said lists come shows stood.
+move_removed name uid target held copied old new before after began faulted is ran r = λ around behind pins run lane place said lists come shows stood.
     let q = request.Move name uid target in
-    let k = removal_known others before began old name uid r.number r.row lists run is r.there shows.0 shows.1 come in
+    let k = removal_known pins before began old name uid r.number r.row lists run is r.there shows.0 shows.1 come in
     let event : RunEvent = taking_away lane place k.shown.mailbox uid k.recorded.entry.uid (told_calls after) in
     let a = r.took.appends in
-    let seen = seen_beside others old before began in
-    let later = seen_beside others new after faulted in
+    let seen = seen_of pins old before began in
+    let later = seen_of pins new after faulted in
     let first = stood.0.0 in
     let second = stood.0.1 in
     let two = stood.0.2 in
@@ -223,18 +225,19 @@ move_removed name uid target held copied old new before after began faulted is r
       ended_is = refl;
       unrefused = refl;
       undrawn = refl;
-      leaves = record { pins = refl; unpins = refl; doomed = refl; removed = refl; given = refl; gone = refl };
+      leaves = record { pins = refl; unpins = refl; doomed = refl; removed = refl; given = refl; placed = refl; gone = refl };
       finds = tt;
       found = tt;
       part_is = removes_next around run name uid target copied (own_events place run) first second two added;
       allowed = refl;
+      fits = All-nil _;
       did = subst (λ (o : Option ListedMessage). RemovesIfThere run lists name uid.0 event o) (sym k.shown.there) (k.shown.mailbox, k.recorded.entry, k.shown.named, k.is_record, refl);
       ends = record { 0 = λ e. absurd (e refl); 1 = λ e. absurd (some_part GivesBack e) };
       replied = tt;
     }) come (comes_along run event seen later come a.map a.drawn a.grows refl refl refl)
     (λ other. subst (λ (u : ℕ). due_at other new + 0 ≡ due_at other old + (0 + (0 + one_due u other))) (sym k.recorded.uid_is)
     (taken_due (due_at other old) (due_at other new) r.row.map_uid other (removal_due old new r.there.m uid r.row other r.there.listed (r.took.due r.there.m other r.there.box.numbered))))
-    (box_tells others r.number (box_entry.R uid) old new before after began faulted a) (
+    (box_tells pins r.number (box_entry.R uid) old new before after began faulted (λ runs. ran) a) (
       answers_well run lists q event (reply.Moved copied false) (expunge name uid.0 lists) shows.0 tt (refl, (given, (there, refl))),
       shown_on seen later _ (expunge name uid.0 lists) a.map r.took.taken k.shows,
     ) a.grows refl ((refl, (given, (there, refl))), refl) (
@@ -255,18 +258,18 @@ move_removed name uid target held copied old new before after began faulted is r
 
 pub move_broken : {D : Type 0} → (name : List ℕ) (uid : Uid) (target : List ℕ) (held : MapUid) (copied : Uid) (Stands : Run → ℕ → List Reply → Type 0) (old new : StoreValue D) (before after : Option History) (began faulted : Faults) → IsStore before old → old.stopped ≡ false → FellRemoving name uid old new before after began faulted
     → CopyingClause (request.Move name uid target) (HasCopied held copied) Stands old new before after began faulted (did.Broken half.ExpungeHalf) (Some (reply.Refused refusal.Stopped))
-move_broken name uid target held copied Stands old new before after began faulted is ran r = λ around behind others run lane place said lists come shows stood.
+move_broken name uid target held copied Stands old new before after began faulted is ran r = λ around behind pins run lane place said lists come shows stood.
     let q = request.Move name uid target in
-    let k = removal_known others before began old name uid r.number r.row lists run is r.there shows.0 shows.1 come in
+    let k = removal_known pins before began old name uid r.number r.row lists run is r.there shows.0 shows.1 come in
     let would : RunEvent = taking_away lane place k.shown.mailbox uid k.recorded.entry.uid (told_calls after) in
-    let seen = seen_beside others old before began in
-    let later = seen_beside others new after faulted in
+    let seen = seen_of pins old before began in
+    let later = seen_of pins new after faulted in
     let first = stood.0.0 in
     let second = stood.0.1 in
     let two = stood.0.2 in
     let h = stood.0.3 in
     let added = stood.0.4 in (
-      (did_fall around behind run lane place said q SecondHalf lists seen later (did.Broken half.ExpungeHalf) (removes_stops around run place name uid target copied first second two added) come (box_fell_stays others r.number (box_entry.R uid) old new before after began faulted r.fell)
+      (did_fall around behind run lane place said q SecondHalf lists seen later (did.Broken half.ExpungeHalf) (removes_stops around run place name uid target copied first second two added) come (box_fell_stays pins r.number (box_entry.R uid) old new before after began faulted r.fell)
           (shows.0, shown_on seen later (indexes_of old.boxes) lists r.fell.appends.map r.fell.indexes shows.1) tt ran r.fell.stopped r.fell.rose (
             record { refused = refl; unanswered = refl; ran = ran; stopped = r.fell.stopped },
             refl,
@@ -298,7 +301,6 @@ lowers_stops around run place name uid target first second third three r = recor
   finds = λ event. tt;
   found = λ event. tt;
   part_is = lowers_next around run name uid target (own_events place run) first second third three r;
-  unpins = refl;
   memory = λ e. absurd (let k : refusal.Stopped ≡ refusal.NoMemory = e in cc k);
   ends = record { 0 = λ e. refl; 1 = λ e f. some_reply (reply.Refused refusal.Stopped) f };
   replied = λ given e. subst (λ (x : Reply). refusal_in x ≡ Some refusal.Stopped) (one_reply (reply.Refused refusal.Stopped) given e) refl;
@@ -306,30 +308,30 @@ lowers_stops around run place name uid target first second third three r = recor
 
 pub lowering_stopped : {D : Type 0} → (name : List ℕ) (uid : Uid) (target : List ℕ) (owed : MapUid) (copied : Uid) (Stands : Run → ℕ → List Reply → Type 0) (store : StoreValue D) (history : Option History) (faults : Faults) → store.stopped ≡ true
     → CopyingClause (request.Move name uid target) (HasMoved uid owed copied) Stands store store history history faults faults did.Quiet (Some (reply.Refused refusal.Stopped))
-lowering_stopped name uid target owed copied Stands store history faults stopped = λ around behind others run lane place said lists come shows stood. (
-  (did_stop around behind run lane place said (request.Move name uid target) GivesBack lists (seen_beside others store history faults) (lowers_stops around run place name uid target stood.0.0 stood.0.1 stood.0.2 stood.0.3 stood.0.6) come shows tt stopped).so,
+lowering_stopped name uid target owed copied Stands store history faults stopped = λ around behind pins run lane place said lists come shows stood. (
+  (did_stop around behind run lane place said (request.Move name uid target) GivesBack lists (seen_of pins store history faults) (lowers_stops around run place name uid target stood.0.0 stood.0.1 stood.0.2 stood.0.3 stood.0.6) come shows tt stopped).so,
   λ e. absurd (never_more _ e),
 )
 
 pub move_unlowered : {D : Type 0} → (name : List ℕ) (uid : Uid) (target : List ℕ) (owed : MapUid) (copied : Uid) (Stands : Run → ℕ → List Reply → Type 0) (old new : StoreValue D) (before after : Option History) (began faulted : Faults) → old.stopped ≡ false → MapFell old new before after began faulted
     → CopyingClause (request.Move name uid target) (HasMoved uid owed copied) Stands old new before after began faulted did.Failed (Some (reply.Refused refusal.Stopped))
-move_unlowered name uid target owed copied Stands old new before after began faulted ran f = λ around behind others run lane place said lists come shows stood.
-    let seen = seen_beside others old before began in
-    let later = seen_beside others new after faulted in (
-      (did_fall around behind run lane place said (request.Move name uid target) GivesBack lists seen later did.Failed (lowers_stops around run place name uid target stood.0.0 stood.0.1 stood.0.2 stood.0.3 stood.0.6) come (map_fell_stays others old new before after began faulted f) (shows_still others old new before after began faulted lists f.appends shows) tt ran f.stopped f.rose
+move_unlowered name uid target owed copied Stands old new before after began faulted ran f = λ around behind pins run lane place said lists come shows stood.
+    let seen = seen_of pins old before began in
+    let later = seen_of pins new after faulted in (
+      (did_fall around behind run lane place said (request.Move name uid target) GivesBack lists seen later did.Failed (lowers_stops around run place name uid target stood.0.0 stood.0.1 stood.0.2 stood.0.3 stood.0.6) come (map_fell_stays pins old new before after began faulted f) (shows_still pins old new before after began faulted lists f.appends shows) tt ran f.stopped f.rose
           (record { refused = refl; unanswered = refl; ran = ran; stopped = f.stopped }, λ s. f.appends.moments lists s)).so,
       λ e. absurd (never_more _ e),
     )
 
 pub move_lowered : {D : Type 0} → (name : List ℕ) (uid : Uid) (target : List ℕ) (owed : MapUid) (copied : Uid) (Stands : Run → ℕ → List Reply → Type 0) (old new : StoreValue D) (before after : Option History) (began faulted : Faults) → old.stopped ≡ false → ((other : ℕ) → one_due owed.0 other ≤ due_at other old)
     → MapTook (lowering_of owed) old new before after began faulted → CopyingClause (request.Move name uid target) (HasMoved uid owed copied) Stands old new before after began faulted did.Quiet (Some (reply.Moved copied false))
-move_lowered name uid target owed copied Stands old new before after began faulted ran due t = λ around behind others run lane place said lists come shows stood.
+move_lowered name uid target owed copied Stands old new before after began faulted ran due t = λ around behind pins run lane place said lists come shows stood.
     let q = request.Move name uid target in
     let ended = Some (reply.Moved copied false) in
     let event : RunEvent = lowering_moved lane place owed.0 copied (told_calls after) in
     let a = t.appends in
-    let seen = seen_beside others old before began in
-    let later = seen_beside others new after faulted in
+    let seen = seen_of pins old before began in
+    let later = seen_of pins new after faulted in
     let first = stood.0.0 in
     let second = stood.0.1 in
     let third = stood.0.2 in
@@ -345,17 +347,18 @@ move_lowered name uid target owed copied Stands old new before after began fault
             ended_is = refl;
             unrefused = refl;
             undrawn = refl;
-            leaves = record { pins = refl; unpins = refl; doomed = refl; removed = refl; given = refl; gone = refl };
+            leaves = record { pins = refl; unpins = refl; doomed = refl; removed = refl; given = refl; placed = refl; gone = refl };
             finds = tt;
             found = tt;
             part_is = lowers_next around run name uid target (own_events place run) first second third three removed;
             allowed = refl;
+            fits = one_fits run seen (lowering_of owed) come t.fits;
             did = (owed.0, held_third place run owed first second third three h, refl);
             ends = record { 0 = λ e. refl; 1 = λ e f. some_reply (reply.Moved copied false) f };
             replied = never_thrice (own_events place run) first second third event three h.unrefused added.unrefused removed.unrefused refl;
           }) come (comes_with run event (lowering_of owed) seen later come t.taken a.drawn a.grows refl refl refl)
           (λ u. lowered_ends (due_at u old) (due_at u new) owed.0 u (lowered_due owed old new u (due u) (t.due u)))
-          (took_tells others (lowering_of owed) old new before after began faulted t) (shows_still others old new before after began faulted lists a shows) a.grows refl refl (refl, t.runs ∙ sym ran, leads_still others (lowering_of owed) old new before after began faulted lists t)
+          (took_tells pins (lowering_of owed) old new before after began faulted ran t) (shows_still pins old new before after began faulted lists a shows) a.grows refl refl (refl, t.runs ∙ sym ran, leads_still pins (lowering_of owed) old new before after began faulted lists t)
           (ends_well q said event None ended did.Quiet seen later refl ran t.runs (let same = a.reads in omega (arith, same)) a.changes (λ x. x) (moved_runs copied false) (λ some. absurd (let k : false ≡ true = some in cc k))
           (λ given e. subst (λ (x : Reply). IsReplyOf q said x) (one_reply (reply.Moved copied false) given e) stood.1))).so,
       λ e. absurd (never_more _ e),

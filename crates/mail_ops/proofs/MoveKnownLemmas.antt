@@ -42,7 +42,7 @@ use Rattle.mail_ops.specs.declared.moving.MoveStage.{MoveStage}
 use Rattle.mail_ops.proofs.CopyFirstLemmas.{CopyingClause, raise_refused, raise_unremembered, raise_fell, raise_done, raise_steps, copy_steps}
 use Rattle.mail_ops.proofs.CopyLastLemmas.{copy_settled, added_due, add_fell, back_fell, given_back}
 use Rattle.mail_ops.proofs.EventLemmas.{fall}
-use Rattle.mail_ops.proofs.FlagEventLemmas.{due_kept}
+use Rattle.store_seen.proofs.SeeingLemmas.{due_as_before}
 use Rattle.mail_ops.proofs.KeptUidLemmas.{addition_left}
 use Rattle.mail_ops.proofs.LoweringLemmas.{lowered_due}
 use Rattle.mail_ops.proofs.MoveEventLemmas.{move_added, move_gone, move_removed, move_broken, move_unlowered, move_lowered}
@@ -127,7 +127,7 @@ known_unraised name uid target old new before after began faulted ran f may = re
   stopped = record { 0 = λ e. f.stopped; 1 = λ e. refl };
   fault = record { reads = f.appends.reads; changes = f.appends.changes; rose = λ e. f.rose };
   unfailed = λ other. absurd (other refl);
-  moves = moves_as (move_amounts stage.First) (amounts_in old) (amounts_in new) (λ other. due_kept old new other f.map f.dues);
+  moves = moves_as (move_amounts stage.First) (amounts_in old) (amounts_in new) (λ other. due_as_before old new other f.map f.dues);
   spares = λ same. absurd (fall new.stopped f.stopped (same ∙ ran));
   replies = inl (refl, f.stopped, may);
   left = λ e. absurd (done_more (reply.Refused refusal.Stopped) e);
@@ -195,7 +195,7 @@ pub known_unadded : {D : Type 0} → (name : List ℕ) (uid : Uid) (target : Lis
     → MoveKnown name uid target (stage.Adding held) (stage.Adding held) (progress.Done (reply.Refused refusal.Stopped)) (did.Broken half.CopyHalf) old new before after began faulted
 known_unadded name uid target held old new before after began faulted show is ran ready r = record {
   ready = record {
-    due = held_still held old new ready.due (λ other. due_kept old new other r.fell.appends.map r.fell.dues);
+    due = held_still held old new ready.due (λ other. due_as_before old new other r.fell.appends.map r.fell.dues);
     source = record {
       m = ready.source.m;
       named = ap (λ (bs : List MapBox). meaning_named name bs (indexes_of new.boxes)) (ap (λ (m : MapMeaning). m.boxes) r.fell.appends.map) ∙ (ap (meaning_named name old.map.boxes) r.fell.indexes ∙ ready.source.named);
@@ -211,7 +211,7 @@ known_unadded name uid target held old new before after began faulted show is ra
   stopped = record { 0 = λ e. r.fell.stopped; 1 = λ e. refl };
   fault = record { reads = r.fell.appends.reads; changes = r.fell.appends.changes; rose = λ e. r.fell.rose };
   unfailed = λ other. absurd (other refl);
-  moves = moves_as (move_amounts (stage.Adding held)) (amounts_in old) (amounts_in new) (λ other. due_kept old new other r.fell.appends.map r.fell.dues);
+  moves = moves_as (move_amounts (stage.Adding held)) (amounts_in old) (amounts_in new) (λ other. due_as_before old new other r.fell.appends.map r.fell.dues);
   spares = λ same. absurd (fall new.stopped r.fell.stopped (same ∙ ran));
   replies = (refl, refl, r.fell.stopped);
   left = λ e. absurd (done_more (reply.Refused refusal.Stopped) e);
@@ -259,14 +259,14 @@ known_given name uid target held why old new before after began faulted ran read
 pub known_ungiven : {D : Type 0} → (name : List ℕ) (uid : Uid) (target : List ℕ) (held : MapUid) (why : Refusal) (old new : StoreValue D) (before after : Option History) (began faulted : Faults) → old.stopped ≡ false → IsReadyToMove name uid (stage.GivingBack held why) old → MapFell old new before after began faulted
     → MoveKnown name uid target (stage.GivingBack held why) (stage.GivingBack held why) (progress.Done (reply.Refused refusal.Stopped)) did.Failed old new before after began faulted
 known_ungiven name uid target held why old new before after began faulted ran ready f = record {
-  ready = record { due = held_still held old new ready.due (λ other. due_kept old new other f.map f.dues); source = ready.source };
+  ready = record { due = held_still held old new ready.due (λ other. due_as_before old new other f.map f.dues); source = ready.source };
   does = back_fell (request.Move name uid target) name uid target half.CopyHalf held why (IsAtMove uid (stage.GivingBack held why)) old new before after began faulted (move_copies name uid target) ran f;
   moments = λ lists s. f.appends.moments lists s;
   settled = λ runs lists s. absurd (fall new.stopped f.stopped runs);
   stopped = record { 0 = λ e. f.stopped; 1 = λ e. refl };
   fault = record { reads = f.appends.reads; changes = f.appends.changes; rose = λ e. f.rose };
   unfailed = λ other. absurd (other refl);
-  moves = moves_as (move_amounts (stage.GivingBack held why)) (amounts_in old) (amounts_in new) (λ other. due_kept old new other f.map f.dues);
+  moves = moves_as (move_amounts (stage.GivingBack held why)) (amounts_in old) (amounts_in new) (λ other. due_as_before old new other f.map f.dues);
   spares = λ same. absurd (fall new.stopped f.stopped (same ∙ ran));
   replies = (refl, refl, refl, f.stopped);
   left = λ e. absurd (done_more (reply.Refused refusal.Stopped) e);
@@ -333,7 +333,7 @@ known_broken name uid target held copied old new before after began faulted show
   stopped = record { 0 = λ e. r.fell.stopped; 1 = λ e. refl };
   fault = record { reads = r.fell.appends.reads; changes = r.fell.appends.changes; rose = λ e. r.fell.rose };
   unfailed = λ other. absurd (other refl);
-  moves = moves_as (move_amounts (stage.Removing held copied)) (amounts_in old) (amounts_in new) (λ other. due_kept old new other r.fell.appends.map r.fell.dues);
+  moves = moves_as (move_amounts (stage.Removing held copied)) (amounts_in old) (amounts_in new) (λ other. due_as_before old new other r.fell.appends.map r.fell.dues);
   spares = λ same. absurd (fall new.stopped r.fell.stopped (same ∙ ran));
   replies = (refl, refl, refl, r.fell.stopped);
   left = λ e. absurd (done_more (reply.Refused refusal.Stopped) e);
@@ -360,14 +360,14 @@ known_lowered name uid target owed copied old new before after began faulted ran
 pub known_unlowered : {D : Type 0} → (name : List ℕ) (uid : Uid) (target : List ℕ) (owed : MapUid) (copied : Uid) (old new : StoreValue D) (before after : Option History) (began faulted : Faults) → old.stopped ≡ false → IsReadyToMove name uid (stage.Owing owed copied) old → MapFell old new before after began faulted
     → MoveKnown name uid target (stage.Owing owed copied) (stage.Owing owed copied) (progress.Done (reply.Refused refusal.Stopped)) did.Failed old new before after began faulted
 known_unlowered name uid target owed copied old new before after began faulted ran ready f = record {
-  ready = record { due = held_still owed old new ready.due (λ other. due_kept old new other f.map f.dues); source = tt };
+  ready = record { due = held_still owed old new ready.due (λ other. due_as_before old new other f.map f.dues); source = tt };
   does = move_unlowered name uid target owed copied (IsAtMove uid (stage.Owing owed copied)) old new before after began faulted ran f;
   moments = λ lists s. f.appends.moments lists s;
   settled = λ runs lists s. absurd (fall new.stopped f.stopped runs);
   stopped = record { 0 = λ e. f.stopped; 1 = λ e. refl };
   fault = record { reads = f.appends.reads; changes = f.appends.changes; rose = λ e. f.rose };
   unfailed = λ other. absurd (other refl);
-  moves = moves_as (move_amounts (stage.Owing owed copied)) (amounts_in old) (amounts_in new) (λ other. due_kept old new other f.map f.dues);
+  moves = moves_as (move_amounts (stage.Owing owed copied)) (amounts_in old) (amounts_in new) (λ other. due_as_before old new other f.map f.dues);
   spares = λ same. absurd (fall new.stopped f.stopped (same ∙ ran));
   replies = (refl, refl, refl, f.stopped);
   left = λ e. absurd (done_more (reply.Refused refusal.Stopped) e);

@@ -10,6 +10,7 @@ use Rattle.model_appends.specs.Amounts.{due_by, due_by_box}
 use Rattle.model_appends.specs.Appending.{lists_by, meanings_by}
 use Rattle.model_lists.specs.Lists.{Lists}
 use Rattle.model_meaning.specs.BoxMeaning.{BoxMeaning}
+use Rattle.model_meaning.specs.MapFits.{MapFits}
 use Rattle.model_meaning.specs.MapMeaning.{MapRecord, map_applied, record_at}
 use Rattle.model_store.specs.Settled.{IsSettledFor, Leaves}
 use Rattle.store_core.specs.Append.{Brings}
@@ -36,11 +37,12 @@ pub record MapAppends {D : Type 0} (old new : StoreValue D) (before after : Opti
   pub reads : now.reads ≡ began.reads
   pub changes : began.changes ≤ now.changes
 
--- The entry was taken in.
+-- The entry, which fits, was taken in.
 pub record MapTook {D : Type 0} (entry : MapEntry) (old new : StoreValue D) (before after : Option History) (began now : Faults) : Type 0 where
   pub appends : MapAppends old new before after began now
   pub runs : new.stopped ≡ false
   pub settled : (lists : Lists) → IsSettledFor lists before → IsSettledFor lists after
+  pub fits : MapFits old.map entry
   pub taken : new.map ≡ map_applied entry old.map
   pub due : (uid : ℕ) → due_at uid new ≡ due_by entry (λ other. due_at other old) uid
   pub spared : (uid : ℕ) (row : MapRecord) → record_at old.map uid ≡ Some row → IsSpared uid row new before after

@@ -1,5 +1,5 @@
 // Copying a message to a mailbox.
-ghost use Rattle.std.specs.Prelude.{◌≡◌, ◌≢◌, ◌↔◌, ◌<◌, ◌≤◌, IfOk, IfErr, true, false};
+ghost use Rattle.std.specs.Prelude.{◌≡◌, ◌≢◌, ◌↔◌, ◌<◌, ◌≤◌, IfOk, IfErr, true, false, ℕ};
 ghost use Rattle.disk_model.specs.FaultCounts.{NoFault, ChangeFaultCounted};
 ghost use Rattle.journal.specs.Events.{Around};
 ghost use Rattle.mdbox_base.specs.declared.progress.Did.TheVariants as did;
@@ -13,7 +13,7 @@ ghost use Rattle.store_core.specs.Dues.{Moves, Spares, amounts_in};
 ghost use Rattle.store_core.specs.Keeping.{KeepsMail, KeepsRest, KeepsUids};
 ghost use Rattle.task_steps.specs.Step.{Steps, ended_by};
 ghost use Rattle.mail_ops.specs.Copy.{IsAtCopy, copy_amounts, copy_left, copy_lists, lists_copied, IsReadyToCopy, CopyAnswers, CopiesOn};
-ghost use Rattle.mail_ops.specs.Task.{Others, seen_beside};
+ghost use Rattle.store_seen.specs.Seeing.{seen_of};
 ghost use Rattle.mail_ops.specs.declared.copy.CopyStage.TheVariants as stage;
 
 use crate::copying::{add, raise};
@@ -85,7 +85,7 @@ impl CopyTask {
 
         // Of every run that has come to the store, whatever other tasks have pinned: which event it was, what it answered, and which
         // crash images it leaves.
-        ensures does { (around after : Around) (others : Others) → Steps (IsAtCopy self.old.stage) (IsAtCopy self.new.stage) around after (request.Copy self.old.name self.old.uid self.old.target) (seen_beside others store.old (D.history store.old.disk) (D.faults store.old.disk)) (seen_beside others store.new (D.history store.new.disk) (D.faults store.new.disk)) self.new.did (ended_by result) }
+        ensures does { (around after : Around) (pins : ℕ → ℕ) → Steps (IsAtCopy self.old.stage) (IsAtCopy self.new.stage) around after (request.Copy self.old.name self.old.uid self.old.target) (seen_of pins store.old (D.history store.old.disk) (D.faults store.old.disk)) (seen_of pins store.new (D.history store.new.disk) (D.faults store.new.disk)) self.new.did (ended_by result) }
 
         // Of a settled disk each crash image at every moment is safe for its lists, or for those that the event makes of them,
         // whatever fails. Unless the store is stopped then, the disk is settled for those that the answer tells.

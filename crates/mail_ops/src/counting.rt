@@ -1,5 +1,5 @@
 // Counting what a store has.
-ghost use Rattle.std.specs.Prelude.{◌≡◌, ◌⊎◌, ◌↔◌, ◌≤◌, ◌<◌, ◌++◌, IfOk, OnOk, length, map, sum_by, slice_get, true, Some};
+ghost use Rattle.std.specs.Prelude.{◌≡◌, ◌⊎◌, ◌↔◌, ◌≤◌, ◌<◌, ◌++◌, IfOk, OnOk, length, map, sum_by, slice_get, true, Some, ℕ};
 ghost use Rattle.std.specs.BTreeSet.{IsFromIterResult};
 ghost use Rattle.std.specs.Cmp.Lexicographic.{slice_cmp};
 ghost use Rattle.std.specs.Option.{option_map, option_map_or};
@@ -14,7 +14,7 @@ ghost use Rattle.mdbox_base.specs.declared.requests.Request.TheVariants as reque
 ghost use Rattle.store_core.specs.Value.{indexes_of};
 ghost use Rattle.task_steps.specs.Step.{HasNotBegun, Steps, ended_by};
 ghost use Rattle.mail_ops.specs.Counting.{counts_reply, listed_messages, named_ids};
-ghost use Rattle.mail_ops.specs.Task.{Others, seen_beside};
+ghost use Rattle.store_seen.specs.Seeing.{seen_of};
 
 use disk_model::Disk;
 use map_index::MapIndex;
@@ -55,7 +55,7 @@ impl CountsTask {
 
     /// Counts what the store has, which changes nothing: the only event of its request.
     pub fn step<D: Disk>(&mut self, store: &Store<D>) -> Progress
-        ensures does { (around after : Around) (others : Others) → Steps HasNotBegun HasNotBegun around after request.Counts (seen_beside others store.now (D.history store.now.disk) (D.faults store.now.disk)) (seen_beside others store.now (D.history store.now.disk) (D.faults store.now.disk)) self.new (ended_by result) }
+        ensures does { (around after : Around) (pins : ℕ → ℕ) → Steps HasNotBegun HasNotBegun around after request.Counts (seen_of pins store.now (D.history store.now.disk) (D.faults store.now.disk)) (seen_of pins store.now (D.history store.now.disk) (D.faults store.now.disk)) self.new (ended_by result) }
         ensures replies { (result ≡ progress.Done (counts_reply store.now)) ⊎ (result ≡ progress.Done (reply.Refused refusal.NoMemory)) }
         ensures stopped { (result ≡ progress.Done (reply.Refused refusal.Stopped)) ↔ (store.now.stopped ≡ true) }
     {

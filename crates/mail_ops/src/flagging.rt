@@ -10,7 +10,7 @@ ghost use Rattle.model_lists.specs.Lists.{Lists};
 ghost use Rattle.model_store.specs.Settled.{IsSettledFor, Leaves};
 ghost use Rattle.mail_ops.specs.Flagging.{flag_refusal};
 ghost use Rattle.mail_ops.specs.Requests.{lists_after, lists_by_reply};
-ghost use Rattle.mail_ops.specs.Task.{Others, seen_beside};
+ghost use Rattle.store_seen.specs.Seeing.{seen_of};
 ghost use Rattle.store_core.specs.Dues.{due_at, KeepsStored};
 ghost use Rattle.store_core.specs.Keeping.{KeepsMail, KeepsRest, KeepsUids};
 ghost use Rattle.task_steps.specs.Step.{HasNotBegun, Steps};
@@ -22,7 +22,7 @@ use store_core::{StepError, Store, listings_are_shown};
 
 /// Sets the flags of a message: the only event of its request. It takes no memory.
 pub fn flag<D: Disk>(store: &mut Store<D>, name: &Name, uid: Uid, flags: Flags) -> (Reply, Did)
-    ensures does { (around after : Around) (others : Others) → Steps HasNotBegun HasNotBegun around after (request.Flag name.now uid flags) (seen_beside others store.old (D.history store.old.disk) (D.faults store.old.disk)) (seen_beside others store.new (D.history store.new.disk) (D.faults store.new.disk)) result.1 (Some result.0) }
+    ensures does { (around after : Around) (pins : ℕ → ℕ) → Steps HasNotBegun HasNotBegun around after (request.Flag name.now uid flags) (seen_of pins store.old (D.history store.old.disk) (D.faults store.old.disk)) (seen_of pins store.new (D.history store.new.disk) (D.faults store.new.disk)) result.1 (Some result.0) }
     ensures refused { (why : Refusal) → flag_refusal name.now uid.0 store.old ≡ Some why → (result.0 ≡ reply.Refused why) × (store.new ≡ store.old) }
     ensures done { flag_refusal name.now uid.0 store.old ≡ None → (result.0 ≡ reply.Done) ⊎ ((result.0 ≡ reply.Refused refusal.Stopped) × (store.new.stopped ≡ true)) }
     ensures due { (uid : ℕ) → due_at uid store.new ≡ due_at uid store.old }

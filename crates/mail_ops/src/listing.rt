@@ -1,5 +1,5 @@
 // Listing a mailbox.
-ghost use Rattle.std.specs.Prelude.{◌≡◌, ◌⊎◌, ◌↔◌, map, Some, IfOk, true};
+ghost use Rattle.std.specs.Prelude.{◌≡◌, ◌⊎◌, ◌↔◌, map, Some, IfOk, true, ℕ};
 ghost use Rattle.box_index.specs.Row.{row_of as shown};
 ghost use Rattle.journal.specs.Events.{Around};
 ghost use Rattle.mdbox_base.specs.declared.replies.Refusal.TheVariants as refusal;
@@ -8,7 +8,7 @@ ghost use Rattle.mdbox_base.specs.declared.requests.Request.TheVariants as reque
 ghost use Rattle.model_store.specs.Listing.{listed_row};
 ghost use Rattle.task_steps.specs.Step.{HasNotBegun, Steps};
 ghost use Rattle.mail_ops.specs.Listing.{listing_reply};
-ghost use Rattle.mail_ops.specs.Task.{Others, seen_beside};
+ghost use Rattle.store_seen.specs.Seeing.{seen_of};
 
 use crate::laws::listings_are_answered;
 use box_index::{BoxIndex, BoxRow};
@@ -19,7 +19,7 @@ use store_core::Store;
 
 /// Lists a mailbox, which changes nothing: the only event of its request.
 pub fn list<D: Disk>(store: &Store<D>, name: &Name) -> (Reply, Did)
-    ensures does { (around after : Around) (others : Others) → Steps HasNotBegun HasNotBegun around after (request.List name.now) (seen_beside others store.now (D.history store.now.disk) (D.faults store.now.disk)) (seen_beside others store.now (D.history store.now.disk) (D.faults store.now.disk)) result.1 (Some result.0) }
+    ensures does { (around after : Around) (pins : ℕ → ℕ) → Steps HasNotBegun HasNotBegun around after (request.List name.now) (seen_of pins store.now (D.history store.now.disk) (D.faults store.now.disk)) (seen_of pins store.now (D.history store.now.disk) (D.faults store.now.disk)) result.1 (Some result.0) }
     ensures replies { (result.0 ≡ listing_reply name.now store.now) ⊎ (result.0 ≡ reply.Refused refusal.NoMemory) }
     ensures stopped { (result.0 ≡ reply.Refused refusal.Stopped) ↔ (store.now.stopped ≡ true) }
 {

@@ -1,5 +1,5 @@
 // Making a mailbox.
-ghost use Rattle.std.specs.Prelude.{◌≡◌, ◌≢◌, ◌↔◌, ◌<◌, Some, None, IfOk, IfErr, OnOk, true, false};
+ghost use Rattle.std.specs.Prelude.{◌≡◌, ◌≢◌, ◌↔◌, ◌<◌, Some, None, IfOk, IfErr, OnOk, true, false, ℕ};
 ghost use Rattle.disk_model.specs.FaultCounts.{NoFault, ChangeFaultCounted};
 ghost use Rattle.journal.specs.Events.{Around};
 ghost use Rattle.mdbox_base.specs.Words.{IsName};
@@ -15,7 +15,7 @@ ghost use Rattle.store_core.specs.Keeping.{KeepsUids};
 ghost use Rattle.store_core.specs.MadeLogs.{has_made_log};
 ghost use Rattle.task_steps.specs.Step.{Steps, ended_by};
 ghost use Rattle.mail_ops.specs.Making.{IsAtMake, naming_refusal, IsReadyToMake, LeavesLogs, KeepsAllButLogs, NamesMail, MakeAnswers, make_left, make_lists, lists_by_make, IsLogNotMade, MadeLogSo, FellIfStopped, MakesOn, RemovesOr};
-ghost use Rattle.mail_ops.specs.Task.{Others, seen_beside};
+ghost use Rattle.store_seen.specs.Seeing.{seen_of};
 ghost use Rattle.mail_ops.specs.declared.making.MakeStage.TheVariants as stage;
 
 use crate::event::NotDone;
@@ -84,7 +84,7 @@ impl MakeTask {
 
         // Of every run that has come to the store, whatever other tasks have pinned: which event it was, what it answered, and which
         // crash images it leaves.
-        ensures does { (around after : Around) (others : Others) → Steps (IsAtMake self.old.stage) (IsAtMake self.new.stage) around after (request.Make self.old.name) (seen_beside others store.old (D.history store.old.disk) (D.faults store.old.disk)) (seen_beside others store.new (D.history store.new.disk) (D.faults store.new.disk)) self.new.did (ended_by result) }
+        ensures does { (around after : Around) (pins : ℕ → ℕ) → Steps (IsAtMake self.old.stage) (IsAtMake self.new.stage) around after (request.Make self.old.name) (seen_of pins store.old (D.history store.old.disk) (D.faults store.old.disk)) (seen_of pins store.new (D.history store.new.disk) (D.faults store.new.disk)) self.new.did (ended_by result) }
 
         // Of a settled disk each crash image at every moment is safe for its lists, or for those that the event makes of them,
         // whatever fails. Unless the store is stopped then, the disk is settled for those that the answer tells.

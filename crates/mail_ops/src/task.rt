@@ -13,7 +13,8 @@ ghost use Rattle.task_steps.specs.Step.{HasNotBegun, Steps, ended_by};
 ghost use Rattle.mail_ops.specs.Requests.{IsOpsRequest, Replies, AppendsNothing, lists_after, lists_by_reply};
 ghost use Rattle.store_core.specs.Dues.{due_at, KeepsStored, Moves, Spares, amounts_in};
 ghost use Rattle.store_core.specs.Keeping.{KeepsMail, KeepsRest, KeepsUids};
-ghost use Rattle.mail_ops.specs.Task.{IsAt, amounts_of, Others, seen_beside};
+ghost use Rattle.mail_ops.specs.Task.{IsAt, amounts_of};
+ghost use Rattle.store_seen.specs.Seeing.{seen_of};
 ghost use Rattle.mail_ops.specs.declared.task.TaskStage.TheVariants as stage;
 
 use crate::flagging::flag;
@@ -73,7 +74,7 @@ impl OpsTask {
     pub fn step<D: Disk>(&mut self, store: &mut Store<D>) -> Progress
         // Of every run that has come to the store, whatever other tasks have pinned: which event it was, what it answered, and which
         // crash images it leaves.
-        ensures does { (around after : Around) (others : Others) → Steps (IsAt self.old.stage) (IsAt self.new.stage) around after self.old.request (seen_beside others store.old (D.history store.old.disk) (D.faults store.old.disk)) (seen_beside others store.new (D.history store.new.disk) (D.faults store.new.disk)) self.new.did (ended_by result) }
+        ensures does { (around after : Around) (pins : ℕ → ℕ) → Steps (IsAt self.old.stage) (IsAt self.new.stage) around after self.old.request (seen_of pins store.old (D.history store.old.disk) (D.faults store.old.disk)) (seen_of pins store.new (D.history store.new.disk) (D.faults store.new.disk)) self.new.did (ended_by result) }
 
         // Of a settled disk each crash image at every moment is safe for its lists, or for those that the request makes of them,
         // whatever fails. Unless the store is stopped then, the disk is settled for the lists that the reply tells.
@@ -108,7 +109,7 @@ impl OpsTask {
 /// The only event of a request.
 fn only_event<D: Disk>(store: &mut Store<D>, request: &Request) -> (Reply, Did)
     requires { IsOpsRequest request.now }
-    ensures does { (around after : Around) (others : Others) → Steps HasNotBegun HasNotBegun around after request.now (seen_beside others store.old (D.history store.old.disk) (D.faults store.old.disk)) (seen_beside others store.new (D.history store.new.disk) (D.faults store.new.disk)) result.1 (Some result.0) }
+    ensures does { (around after : Around) (pins : ℕ → ℕ) → Steps HasNotBegun HasNotBegun around after request.now (seen_of pins store.old (D.history store.old.disk) (D.faults store.old.disk)) (seen_of pins store.new (D.history store.new.disk) (D.faults store.new.disk)) result.1 (Some result.0) }
     ensures replies { Replies request.now store.old store.new result.0 }
     ensures same { AppendsNothing request.now store.old → store.new ≡ store.old }
     ensures due { (uid : ℕ) → due_at uid store.new ≡ due_at uid store.old }

@@ -20,10 +20,11 @@ use Rattle.store_core.specs.Knows.{knows_instance}
 use Rattle.store_core.specs.Running.{IsStore}
 use Rattle.store_core.specs.StoreInstances.{AreInstancesKept}
 use Rattle.store_core.specs.Value.{StoreValue}
-use Rattle.task_steps.specs.Step.{Seen, HasComeTo, Leads, Fell, Went, EndsRequest, DidEvent, Steps, ended_by}
+use Rattle.task_steps.specs.Step.{Seen, HasComeTo, FindsRoom, Leads, Fell, Went, EndsRequest, DidEvent, Steps, ended_by}
+use Rattle.store_seen.specs.Seeing.{seen_of}
 use Rattle.mail_save.specs.Ready.{IsReadyToSave}
 use Rattle.mail_save.specs.SaveEffects.{LetsGo}
-use Rattle.mail_save.specs.SaveSeen.{HasItsParts, IsAtSave, around_saving, seen_saving}
+use Rattle.mail_save.specs.SaveSeen.{HasItsParts, IsAtSave, StepsWithRoom, around_saving}
 use Rattle.mail_save.specs.Task.{FaultsAt, HasLeft, MomentsAt, RepliesAt, RestsAt, saved_did, stopped_reply}
 use Rattle.mail_save.specs.declared.task.SaveStage.{SaveStage}
 use Rattle.mail_save.proofs.SaveDidLemmas.{fall}
@@ -54,13 +55,13 @@ pub record EventOf {D : Type 0} (now next : SaveStage) (name : List ℕ) (time s
   pub faults : FaultsAt answer began faulted
   pub grows : Grows before after
 
-abbrev pub DeliveryClause : {D : Type 0} → List ℕ → SaveStage → SaveStage → List ℕ → ℕ → Progress → Did → StoreValue D → StoreValue D → Option History → Option History → Faults → Faults → Type 0
-DeliveryClause octets now next name time answer how old new before after began faulted =
-    (behind : Around) → Steps (IsAtSave now) (IsAtSave next) (around_saving octets now old) behind (request.Deliver name time octets) (seen_saving old before began) (seen_saving new after faulted) how (ended_by answer)
+abbrev pub DeliveryClause : {D : Type 0} → (pins : ℕ → ℕ) → List ℕ → SaveStage → SaveStage → List ℕ → ℕ → Progress → Did → StoreValue D → StoreValue D → Option History → Option History → Faults → Faults → Type 0
+DeliveryClause pins octets now next name time answer how old new before after began faulted =
+    (behind : Around) → StepsWithRoom (IsAtSave now) (IsAtSave next) (around_saving octets now old) behind (request.Deliver name time octets) (seen_of pins old before began) (seen_of pins new after faulted) how (ended_by answer)
 
-pub with_did : {D : Type 0} → (octets : List ℕ) (now next : SaveStage) (name : List ℕ) (time : ℕ) (answer : Progress) (how known : Did) (old new : StoreValue D) (before after : Option History) (began faulted : Faults) → how ≡ known
-    → DeliveryClause octets now next name time answer known old new before after began faulted → DeliveryClause octets now next name time answer how old new before after began faulted
-with_did octets now next name time answer how known old new before after began faulted same = subst (λ (h : Did). DeliveryClause octets now next name time answer h old new before after began faulted) (sym same)
+pub with_did : {D : Type 0} → (pins : ℕ → ℕ) (octets : List ℕ) (now next : SaveStage) (name : List ℕ) (time : ℕ) (answer : Progress) (how known : Did) (old new : StoreValue D) (before after : Option History) (began faulted : Faults) → how ≡ known
+    → DeliveryClause pins octets now next name time answer known old new before after began faulted → DeliveryClause pins octets now next name time answer how old new before after began faulted
+with_did pins octets now next name time answer how known old new before after began faulted same = subst (λ (h : Did). DeliveryClause pins octets now next name time answer h old new before after began faulted) (sym same)
 
 -- ---- instances are let go
 
@@ -80,8 +81,16 @@ went_as (did.Step half) q run lists left event answer old new f w = (w.0, w.1, w
 went_as did.Failed q run lists left event answer old new f w = (fell_as event answer old new f w.0, w.1)
 went_as (did.Broken half) q run lists left event answer old new f w = (fell_as event answer old new f w.0, w.1, w.2)
 
-come_as : (run : Run) (new : Seen) (f : InstRow → Bool) → ((row : InstRow) → f row ≡ true → new.instances row ≡ true) → HasComeTo run new → HasComeTo run (telling new f)
-come_as run new f fewer h = record { come = h.come; due = h.due; pins = h.pins; doomed = h.doomed; used = h.used; gave = h.gave; gone = h.gone; files = h.files; instances = λ row e. h.instances row (fewer row e) }
+come_as : (run : Run) (new : Seen) (f : InstRow → Bool) → ((row : InstRow) → f row ≡ new.instances row) → HasComeTo run new → HasComeTo run (telling new f)
+come_as run new f same h = record {
+  come = h.come;
+  keeps = λ runs. let k = h.keeps runs in record { due = k.due; pins = k.pins; doomed = k.doomed; instances = λ row. k.instances row ∙ sym (same row) };
+  used = h.used;
+  barred = h.barred;
+  gave = h.gave;
+  gone = h.gone;
+  files = h.files;
+}
 
 ends_as : (q : Request) (said : List Reply) (event : RunEvent) (answer ended : Option Reply) (how : Did) (old new : Seen) (f : InstRow → Bool) → old.stopped ≡ false → EndsRequest q said event answer ended how old new → EndsRequest q said event answer ended how old (telling new f)
 ends_as q said event answer ended how old new f ran e = record {
@@ -93,37 +102,37 @@ ends_as q said event answer ended how old new f ran e = record {
   faults = e.faults;
 }
 
-did_as : (around after : Around) (run : Run) (lane place : ℕ) (said : List Reply) (q : Request) (lists : Lists) (old new : Seen) (how : Did) (ended : Option Reply) (f : InstRow → Bool) → old.stopped ≡ false → ((row : InstRow) → f row ≡ true → new.instances row ≡ true)
+did_as : (around after : Around) (run : Run) (lane place : ℕ) (said : List Reply) (q : Request) (lists : Lists) (old new : Seen) (how : Did) (ended : Option Reply) (f : InstRow → Bool) → old.stopped ≡ false → ((row : InstRow) → f row ≡ new.instances row)
     → DidEvent around after run lane place said q lists old new how ended → DidEvent around after run lane place said q lists old (telling new f) how ended
-did_as around after run lane place said q lists old new how ended f ran fewer d = record {
+did_as around after run lane place said q lists old new how ended f ran same d = record {
   left = d.left;
   shown = d.shown;
   makes = d.makes;
   found = d.found;
-  come = come_as (and_then run d.makes.event) new f fewer d.come;
+  come = come_as (and_then run d.makes.event) new f same d.come;
   gives = d.gives;
   went = went_as how q run lists d.left d.makes.event d.makes.answer old new f d.went;
   grows = d.grows;
   ends = ends_as q said d.makes.event d.makes.answer ended how old new f ran d.ends;
 }
 
-steps_as : (Stood Stands : Run → ℕ → List Reply → Type 0) (around after : Around) (q : Request) (old new : Seen) (how : Did) (ended : Option Reply) (f : InstRow → Bool) → old.stopped ≡ false → ((row : InstRow) → f row ≡ true → new.instances row ≡ true)
+steps_as : (Stood Stands : Run → ℕ → List Reply → Type 0) (around after : Around) (q : Request) (old new : Seen) (how : Did) (ended : Option Reply) (f : InstRow → Bool) → old.stopped ≡ false → ((row : InstRow) → f row ≡ new.instances row)
     → Steps Stood Stands around after q old new how ended → Steps Stood Stands around after q old (telling new f) how ended
 unfolding did_as
-steps_as Stood Stands around after q old new how ended f ran fewer does = λ run lane place said lists come shows stood.
+steps_as Stood Stands around after q old new how ended f ran same does = λ run lane place said lists come shows stood.
     let d = does run lane place said lists come shows stood in
-    (did_as around after run lane place said q lists old new how ended f ran fewer d.0, d.1)
+    (did_as around after run lane place said q lists old new how ended f ran same d.0, d.1)
 
 abbrev let_go_of : {D : Type 0} → List InstRow → StoreValue D → StoreValue D
 let_go_of found store = record store { instances = record store.instances { known = found_let_go found store.instances.known } }
 
 -- It is the same event where these instances are let go as it ends.
-pub lets_go_does : {D : Type 0} → (octets : List ℕ) (now next : SaveStage) (name : List ℕ) (time : ℕ) (answer : Progress) (how : Did) (old left new : StoreValue D) (before after : Option History) (began faulted : Faults) (found : List InstRow) → old.stopped ≡ false → LetsGo found left new
-    → DeliveryClause octets now next name time answer how old left before after began faulted → DeliveryClause octets now next name time answer how old new before after began faulted
-lets_go_does octets now next name time answer how old left new before after began faulted found ran gone does =
-    subst (λ (n : StoreValue _). DeliveryClause octets now next name time answer how old n before after began faulted) (sym gone)
-    (λ behind. steps_as (IsAtSave now) (IsAtSave next) (around_saving octets now old) behind (request.Deliver name time octets) (seen_saving old before began) (seen_saving left after faulted) how (ended_by answer)
-    (λ row. knows_instance (let_go_of found left) row) ran (λ row e. sym (knows_let_go row found left.instances.known) ∙ e) (does behind))
+pub lets_go_does : {D : Type 0} → (pins : ℕ → ℕ) (octets : List ℕ) (now next : SaveStage) (name : List ℕ) (time : ℕ) (answer : Progress) (how : Did) (old left new : StoreValue D) (before after : Option History) (began faulted : Faults) (found : List InstRow) → old.stopped ≡ false → LetsGo found left new
+    → DeliveryClause pins octets now next name time answer how old left before after began faulted → DeliveryClause pins octets now next name time answer how old new before after began faulted
+lets_go_does pins octets now next name time answer how old left new before after began faulted found ran gone does =
+    subst (λ (n : StoreValue _). DeliveryClause pins octets now next name time answer how old n before after began faulted) (sym gone)
+    (λ behind. steps_as (λ run place said. IsAtSave now run place said × (old.stopped ≡ false → FindsRoom (around_saving octets now old) run)) (IsAtSave next) (around_saving octets now old) behind (request.Deliver name time octets) (seen_of pins old before began) (seen_of pins left after faulted) how (ended_by answer)
+    (λ row. knows_instance (let_go_of found left) row) ran (λ row. knows_let_go row found left.instances.known) (does behind))
 
 -- ---- the store in front of that
 

@@ -1,14 +1,13 @@
 -- Events of a delivery, by the clause of a step: which files and GUIDs the run knows then, and what an event did.
-use Rattle.std.proofs.Common.{◌≡◌, ◌≤◌, ◌+◌, ◌||◌, ℕ, Bool, true, false, List, [], ◌∷◌, ◌++◌, ◌⊎◌, Option, Some, None, refl, sym, ◌∙◌, ap, subst, arith, inl, inr}
-use Rattle.std.specs.Prelude.{◌≢◌, ◌↔◌, length, slice_get, is_some, flat_map, sum_by}
+use Rattle.std.proofs.Common.{◌≡◌, ◌≤◌, ◌+◌, ◌&&◌, ◌||◌, ℕ, Bool, true, false, not, List, [], ◌∷◌, ◌++◌, ◌⊎◌, Option, Some, None, refl, sym, ◌∙◌, ap, subst, arith, inl, inr}
+use Rattle.std.specs.Prelude.{◌≢◌, ◌↔◌, length, slice_get, is_some, flat_map, All}
 use Rattle.std.specs.List.{list_any}
-use Rattle.std.specs.Option.{option_or}
+use Rattle.std.specs.Option.{IfSome, option_or}
 use Rattle.std.specs.Str.{bytes_eq}
 use Rattle.std.proofs.lemmas.Grind.{flat_map-append}
 use Rattle.std.proofs.lemmas.List.{append-nil}
-use Rattle.std.proofs.lemmas.List.Elements.{All-push, All-weaker}
+use Rattle.std.proofs.lemmas.List.Elements.{All-nil, All-push, All-weaker}
 use Rattle.std.proofs.lemmas.List.Folds.{list_any-append}
-use Rattle.std.proofs.lemmas.List.Sums.{sum_by-append, sum_by-cons}
 use Rattle.disk_model.specs.Disk.{told_calls, Grows}
 use Rattle.mdbox_base.specs.Streams.{Rose}
 use Rattle.mdbox_base.specs.declared.entries.Highest.{Highest}
@@ -23,16 +22,17 @@ use Rattle.mdbox_base.specs.declared.replies.Reply.TheVariants as reply
 use Rattle.mdbox_base.specs.declared.requests.Request.{Request}
 use Rattle.mdbox_base.specs.declared.script.Half.{Half}
 use Rattle.model_lists.specs.Lists.{Lists}
-use Rattle.model_meaning.specs.MapMeaning.{MapMeaning, map_meaning, map_applied, no_numbers}
-use Rattle.list_machine.specs.Run.{EventPart, RunEvent, event_of, Run, and_then, entries_of, drawn_also, own_events, is_one_of, is_unpinning}
+use Rattle.model_meaning.specs.MapFits.{MapFits}
+use Rattle.model_meaning.specs.MapMeaning.{MapMeaning, map_meaning, map_applied, named_instances, no_numbers}
+use Rattle.list_machine.specs.Run.{EventPart, RunEvent, event_of, Run, before, and_then, entries_of, map_of, drawn_also, own_events, is_one_of, is_unpinning}
 use Rattle.list_machine.specs.Machine.{is_step, first_refusal, part_checks, checks_of}
 use Rattle.journal.specs.Journal.{half_of, halves_of, refusal_in, IsReplyOf}
-use Rattle.journal.specs.Events.{Around, Finds, DidPart, draws, has_memory, next_part, behind_event, behind_refused, makes_step, last_refusal, IsRepliedBy, begun_in, ended_in}
-use Rattle.journal.specs.Found.{AgreesWithRun, took_file, is_known_file, is_known_instance, is_same_instance}
+use Rattle.journal.specs.Events.{Around, Finds, DidPart, MayMeet, draws, has_memory, next_part, behind_event, behind_refused, makes_step, last_refusal, IsRepliedBy, begun_in, ended_in}
+use Rattle.journal.specs.Found.{AgreesWithRun, is_known_file, is_known_instance, is_same_instance}
 use Rattle.journal.specs.Makes.{HasCome, StepOf}
 use Rattle.journal.proofs.RunLemmas.{entries_more, drawn_more, drawn_none, comes_on_with}
-use Rattle.task_steps.specs.Step.{Seen, ShowsSeen, was_given, was_used, HasComeTo, Went, Leads, IsFault, and_told, EndsRequest, GivesNew, DidEvent}
-use Rattle.task_steps.proofs.SeenLemmas.{no_guids, pins_still, used_still, doomed_still, file_still_known, file_now_known, instance_still_known, gone_still, places_new}
+use Rattle.task_steps.specs.Step.{Seen, ShowsSeen, was_given, KeepsTasks, HasComeTo, Went, Leads, IsFault, and_told, EndsRequest, GivesNew, DidEvent}
+use Rattle.task_steps.proofs.SeenLemmas.{no_guids, pins_still, used_still, doomed_still, file_still_known, file_now_known, gone_still, places_known, never_used, never_gone, due_more}
 use Rattle.task_steps.proofs.OneEventLemmas.{one_refusal, some_refusal, nothing}
 
 -- ---- small facts
@@ -61,6 +61,10 @@ one_why a b e = cc e
 pub unstepped : false ≡ true → ⊥
 unstepped e = cc e
 
+pub or_none : (b : Bool) → (b || false) ≡ b
+or_none true = refl
+or_none false = refl
+
 either : (a b : Bool) → (a || b) ≡ true → (a ≡ true) ⊎ (b ≡ true)
 either true b e = inl refl
 either false b e = inr e
@@ -81,9 +85,6 @@ none_of_second file (x ∷ xs) e = by_tests (is_one_of x.doomed file) (is_one_of
     by_tests false true rest f h = absurd (let k : true ≡ false = f in cc k)
     by_tests true b rest f h = absurd (let k : true ≡ false = f in cc k)
 
-sum_push : {X : Type 0} → (f : X → ℕ) (xs : List X) (x : X) → sum_by f (xs ++ x ∷ []) ≡ sum_by f xs + f x
-sum_push f xs x = let h = sum_by-append f xs (x ∷ []) in let k = sum_by-cons f x [] in omega (arith, h, k)
-
 -- The event pins, unpins, dooms and removes no file, and removes no instance.
 pub record LeavesPinned (event : RunEvent) : Type 0 where
   pub pins : event.pins ≡ []
@@ -92,54 +93,64 @@ pub record LeavesPinned (event : RunEvent) : Type 0 where
   pub removed : event.removed ≡ []
   pub gone : event.gone ≡ []
 
--- What a store tells of its tasks, beside what is due: no file is used, pins and dooms stay, GUIDs that may have been given and
--- instances that may be gone stay so, and the event's GUIDs were given; the files that it knows are those that it knew, and those
--- that the event took; the instances those that it knew, and those that the event placed, which weren't gone.
+-- What a store tells of its tasks, beside what is due: pins and dooms stay; files that may be used or barred, GUIDs that may have been
+-- given and instances that may be gone stay so, and the event's GUIDs were given; the files that it knows are those that it knew, and
+-- those that the event made, which weren't used; the instances those that it knew, and those that the event placed, which weren't gone.
 pub record TellsMore (event : RunEvent) (old new : Seen) : Type 0 where
+  pub ran : new.stopped ≡ false → old.stopped ≡ false
   pub pins : (file : ℕ) → new.pins file ≡ old.pins file
   pub doomed : (file : ℕ) → new.doomed file ≡ old.doomed file
-  pub used : (file : ℕ) → new.used file ≡ old.used file
-  pub unused : (file : ℕ) → old.used file ≡ false
+  pub used : (file : ℕ) → old.used file ≡ true → new.used file ≡ true
+  pub unused : (file : ℕ) → is_one_of event.made file ≡ true → old.used file ≡ false
+  pub barred : (file : ℕ) → old.barred file ≡ true → new.barred file ≡ true
   pub gave : (guid : List ℕ) → old.gave guid ≡ true → new.gave guid ≡ true
   pub given : (guid : List ℕ) → list_any (bytes_eq guid) event.given ≡ true → new.gave guid ≡ true
   pub gone : (instance : InstRow) → old.gone instance ≡ true → new.gone instance ≡ true
-  pub files : (file : ℕ) → new.files file ≡ true → (old.files file ≡ true) ⊎ (took_file file event ≡ true)
-  pub instances : (instance : InstRow) → new.instances instance ≡ true → (old.instances instance ≡ true) ⊎ ((list_any (is_same_instance instance) event.placed ≡ true) × (old.gone instance ≡ false))
+  pub files : (file : ℕ) → new.files file ≡ true → (old.files file ≡ true) ⊎ (is_one_of event.made file ≡ true)
+  pub instances : (instance : InstRow) → new.instances instance ≡ (old.instances instance || list_any (is_same_instance instance) event.placed)
+  pub ungone : (instance : InstRow) → list_any (is_same_instance instance) event.placed ≡ true → old.gone instance ≡ false
 
-not_so : (b : Bool) → (b ≡ true → ⊥) → b ≡ false
-not_so true f = absurd (f refl)
-not_so false f = refl
+-- an event that places others than this instance
+placed_other : (run : Run) (event : RunEvent) (instance : InstRow) → list_any (is_same_instance instance) event.placed ≡ false → event.gone ≡ [] → is_known_instance (and_then run event) instance ≡ is_known_instance run instance
+placed_other run event instance none stay =
+    ap (λ (b : Bool). (list_any (is_same_instance instance) (named_instances (map_of (before 0 run))) || b) && not (list_any (λ (e : RunEvent). list_any (is_same_instance instance) e.gone) (run.events ++ event ∷ [])))
+    (list_any-append (λ (e : RunEvent). list_any (is_same_instance instance) e.placed) run.events (event ∷ [])
+    ∙ (ap (λ (b : Bool). list_any (λ (e : RunEvent). list_any (is_same_instance instance) e.placed) run.events || (b || false)) none ∙ or_none (list_any (λ (e : RunEvent). list_any (is_same_instance instance) e.placed) run.events)))
+    ∙ ap (λ (b : Bool). (list_any (is_same_instance instance) (named_instances (map_of (before 0 run))) || list_any (λ (e : RunEvent). list_any (is_same_instance instance) e.placed) run.events) && not b) (gone_still run event instance stay)
 
 pub comes_to_more : (run : Run) (event : RunEvent) (old new : Seen) → HasComeTo run old → HasCome (and_then run event) new.map new.drawn (told_calls new.history) → ((uid : ℕ) → new.due uid + ended_in uid event ≡ old.due uid + begun_in uid event) → LeavesPinned event → TellsMore event old new
     → HasComeTo (and_then run event) new
 comes_to_more run event old new h come due leaves tells = record {
   come = come;
-  due = λ uid.
-      let a = sum_push (begun_in uid) run.events event in
-      let b = sum_push (ended_in uid) run.events event in
-      let c = h.due uid in
-      let d = due uid in
-      omega (arith, a, b, c, d);
-  pins = λ file. pins_still run event file leaves.pins leaves.unpins ∙ (h.pins file ∙ sym (tells.pins file));
-  doomed = λ file. doomed_still run event file leaves.doomed leaves.removed ∙ (h.doomed file ∙ sym (tells.doomed file));
-  used = λ file e. tells.used file ∙ h.used file (sym (used_still run event file leaves.doomed leaves.removed) ∙ e);
+  keeps = λ runs. keeps_on (h.keeps (tells.ran runs));
+  used = λ file e. tells.used file (h.used file (sym (used_still run event file leaves.doomed leaves.removed) ∙ e));
+  barred = λ file e. tells.barred file (h.barred file e);
   gave = λ guid e. by_giver guid (either (was_given run guid) (list_any (bytes_eq guid) event.given) (sym (given_more run event guid) ∙ e));
-  files = λ file e. by_taker file (tells.files file e);
+  files = λ file e. by_maker file (tells.files file e);
   gone = λ instance e. tells.gone instance (h.gone instance (sym (gone_still run event instance leaves.gone) ∙ e));
-  instances = λ instance e. by_placer instance (tells.instances instance e);
 }
   where
-    by_placer : (instance : InstRow) → (old.instances instance ≡ true) ⊎ ((list_any (is_same_instance instance) event.placed ≡ true) × (old.gone instance ≡ false)) → is_known_instance (and_then run event) instance ≡ true
-    by_placer instance (inl e) = instance_still_known run event instance leaves.gone (h.instances instance e)
-    by_placer instance (inr e) = places_new run event old instance h e.1 leaves.gone e.0
+    by_placed : (instance : InstRow) (placed : Bool) → list_any (is_same_instance instance) event.placed ≡ placed → is_known_instance (and_then run event) instance ≡ (is_known_instance run instance || placed)
+    by_placed instance true e = places_known run event instance leaves.gone (never_gone run old instance h (tells.ungone instance e)) ∙ ap (λ (b : Bool). is_known_instance run instance || b) e
+    by_placed instance false e = placed_other run event instance e leaves.gone ∙ sym (or_none (is_known_instance run instance))
+
+    keeps_on : KeepsTasks run old → KeepsTasks (and_then run event) new
+    keeps_on k = record {
+      due = λ uid. due_more run event uid (old.due uid) (new.due uid) (k.due uid) (due uid);
+      pins = λ file. pins_still run event file leaves.pins leaves.unpins ∙ (k.pins file ∙ sym (tells.pins file));
+      doomed = λ file. doomed_still run event file leaves.doomed leaves.removed ∙ (k.doomed file ∙ sym (tells.doomed file));
+      instances = λ instance.
+          by_placed instance (list_any (is_same_instance instance) event.placed) refl
+          ∙ (ap (λ (b : Bool). b || list_any (is_same_instance instance) event.placed) (k.instances instance) ∙ sym (tells.instances instance));
+    }
 
     by_giver : (guid : List ℕ) → (was_given run guid ≡ true) ⊎ (list_any (bytes_eq guid) event.given ≡ true) → new.gave guid ≡ true
     by_giver guid (inl e) = tells.gave guid (h.gave guid e)
     by_giver guid (inr e) = tells.given guid e
 
-    by_taker : (file : ℕ) → (old.files file ≡ true) ⊎ (took_file file event ≡ true) → is_known_file (and_then run event) file ≡ true
-    by_taker file (inl e) = file_still_known run event file leaves.removed (h.files file e)
-    by_taker file (inr e) = file_now_known run event file leaves.removed e (none_of_second file run.events (not_so (was_used run file) (λ u. fall (old.used file) (h.used file u) (tells.unused file))))
+    by_maker : (file : ℕ) → (old.files file ≡ true) ⊎ (is_one_of event.made file ≡ true) → is_known_file (and_then run event) file ≡ true
+    by_maker file (inl e) = file_still_known run event file leaves.removed (h.files file e)
+    by_maker file (inr e) = file_now_known run event file leaves.removed e (none_of_second file run.events (never_used run old file h (tells.unused file e)))
 
 -- ---- what an event did
 
@@ -168,6 +179,7 @@ pub record DoesPart (around after : Around) (run : Run) (lane place : ℕ) (q : 
   pub part_is : next_part around run q (own_events event.request run) ≡ Some event.part
   pub allowed : first_refusal run lists (checks_of run q event) ≡ None
   pub did : DidPart around run lists q event event.part
+  pub fits : All (MapFits (map_of run)) event.map_entries
   pub ends : (event.reply ≢ None) ↔ (behind_event after (and_then run event) q event event.refused ≡ None)
   pub replied : IsRepliedBy (own_events event.request run ++ event ∷ []) event.reply
 
@@ -193,8 +205,10 @@ did_part around after run lane place said q lists left old new how ended answer 
         undone = λ r e. absurd (no_refusal r (sym does.unrefused ∙ e));
         drew = λ h. absurd (h does.unrefused);
         memory = λ e. absurd (no_refusal refusal.NoMemory (sym does.unrefused ∙ e));
+        may = subst (λ (r : Option Refusal). IfSome r (MayMeet event.part q)) (sym does.unrefused) tt;
         allowed = λ e. does.allowed;
         did = λ e. does.did;
+        fits = does.fits;
         ends = does.ends;
         replied = does.replied;
       };
@@ -242,9 +256,10 @@ replied_by own event why (Some given) e h = last_with own event why e ∙ sym (h
 -- A part of a request can be refused by this, having drawn these numbers; its request ends with it or goes on.
 pub record CanRefuse (around : Around) (run : Run) (place : ℕ) (q : Request) (part : EventPart) (why : Refusal) (ended : Option Reply) (drew : Highest) : Type 0 where
   pub finds : (event : RunEvent) → Finds around q event
-  pub found : (event : RunEvent) → AgreesWithRun around run q event part
+  pub found : (event : RunEvent) → event.refused ≡ Some why → AgreesWithRun around run q event part
   pub part_is : next_part around run q (own_events place run) ≡ Some part
   pub memory : why ≡ refusal.NoMemory → has_memory part q ≡ false
+  pub may : MayMeet part q why
   pub ends : (ended ≢ None) ↔ (behind_refused q part why ≡ None)
   pub replied : (given : Reply) → ended ≡ Some given → refusal_in given ≡ Some why
   pub drawn : (event : RunEvent) → (drew ≡ no_numbers) ⊎ (drew ≡ draws run event q part)
@@ -260,7 +275,7 @@ did_refused around after run lane place said q part lists old new why ended answ
   so = record {
     left = lists;
     shown = shows;
-    found = can.found event;
+    found = can.found event refl;
     makes = record {
       event = event;
       lane_is = refl;
@@ -274,8 +289,10 @@ did_refused around after run lane place said q part lists old new why ended answ
         undone = λ r e. (refl, λ s. can.undrawn (ap is_step (one_refusal why r e) ∙ s));
         drew = λ h. can.drawn event;
         memory = λ e. can.memory (one_refusal why refusal.NoMemory e);
+        may = can.may;
         allowed = λ e. absurd (some_refusal why e);
         did = λ e. absurd (some_refusal why e);
+        fits = All-nil (MapFits (map_of run));
         ends = can.ends;
         replied = replied_by (own_events place run) event why ended refl can.replied;
       };
@@ -340,31 +357,42 @@ did_check around after run lane place said q part lists old new why ended half c
 
 -- ---- a store before and after an event
 
--- It tells the same of its tasks, or more GUIDs that may have been given and instances that may be gone, or fewer files and instances.
+-- It tells the same of its tasks, or more files that may be used or barred, GUIDs that may have been given and instances that may be
+-- gone, or fewer files.
 pub record KeepsTelling (old new : Seen) : Type 0 where
+  pub ran : new.stopped ≡ false → old.stopped ≡ false
   pub pins : (file : ℕ) → new.pins file ≡ old.pins file
   pub doomed : (file : ℕ) → new.doomed file ≡ old.doomed file
-  pub used : (file : ℕ) → new.used file ≡ old.used file
-  pub unused : (file : ℕ) → old.used file ≡ false
+  pub used : (file : ℕ) → old.used file ≡ true → new.used file ≡ true
+  pub barred : (file : ℕ) → old.barred file ≡ true → new.barred file ≡ true
   pub gave : (guid : List ℕ) → old.gave guid ≡ true → new.gave guid ≡ true
   pub gone : (instance : InstRow) → old.gone instance ≡ true → new.gone instance ≡ true
   pub files : (file : ℕ) → new.files file ≡ true → old.files file ≡ true
-  pub instances : (instance : InstRow) → new.instances instance ≡ true → old.instances instance ≡ true
+  pub instances : (instance : InstRow) → new.instances instance ≡ old.instances instance
 
 none_of_none : (guid : List ℕ) (given : List (List ℕ)) → given ≡ [] → list_any (bytes_eq guid) given ≡ true → ⊥
 none_of_none guid given none some = let k : false ≡ true = sym (ap (list_any (bytes_eq guid)) none) ∙ some in cc k
 
-pub tells_on : (event : RunEvent) (old new : Seen) → event.given ≡ [] → KeepsTelling old new → TellsMore event old new
-tells_on event old new none k = record {
+none_made : (file : ℕ) (made : List ℕ) → made ≡ [] → is_one_of made file ≡ true → ⊥
+none_made file made none some = let k : false ≡ true = sym (ap (λ (fs : List ℕ). is_one_of fs file) none) ∙ some in cc k
+
+none_placed : (instance : InstRow) (placed : List InstRow) → placed ≡ [] → list_any (is_same_instance instance) placed ≡ true → ⊥
+none_placed instance placed none some = let k : false ≡ true = sym (ap (list_any (is_same_instance instance)) none) ∙ some in cc k
+
+pub tells_on : (event : RunEvent) (old new : Seen) → event.given ≡ [] → event.made ≡ [] → event.placed ≡ [] → KeepsTelling old new → TellsMore event old new
+tells_on event old new none unmade unplaced k = record {
+  ran = k.ran;
   pins = k.pins;
   doomed = k.doomed;
   used = k.used;
-  unused = k.unused;
+  unused = λ file some. absurd (none_made file event.made unmade some);
+  barred = k.barred;
   gave = k.gave;
   given = λ guid some. absurd (none_of_none guid event.given none some);
   gone = k.gone;
   files = λ file e. inl (k.files file e);
-  instances = λ instance e. inl (k.instances instance e);
+  instances = λ instance. k.instances instance ∙ sym (ap (λ (ps : List InstRow). old.instances instance || list_any (is_same_instance instance) ps) unplaced ∙ or_none (old.instances instance));
+  ungone = λ instance some. absurd (none_placed instance event.placed unplaced some);
 }
 
 -- It goes on, with what it shows, and a settled disk.
@@ -409,18 +437,18 @@ pub record StaysSo (drew : Highest) (old new : Seen) : Type 0 where
   pub reads : old.faults.reads ≤ new.faults.reads
   pub changes : old.faults.changes ≤ new.faults.changes
 
-pub refused_comes : (run : Run) (lane place : ℕ) (part : EventPart) (why : Refusal) (ended : Option Reply) (drew : Highest) (old new : Seen) → is_unpinning (event_of lane place part 0) ≡ false → HasComeTo run old → StaysSo drew old new
+pub refused_comes : (run : Run) (lane place : ℕ) (part : EventPart) (why : Refusal) (ended : Option Reply) (drew : Highest) (old new : Seen) → HasComeTo run old → StaysSo drew old new
     → HasComeTo (and_then run (refusal_event lane place part why ended drew (told_calls new.history))) new
-refused_comes run lane place part why ended drew old new unpins come s =
+refused_comes run lane place part why ended drew old new come s =
     let event : RunEvent = refusal_event lane place part why ended drew (told_calls new.history) in
-    comes_to_more run event old new come (comes_drawn run event old new come s.map s.drawn s.grows refl refl) (λ uid. let e = s.due uid in omega (arith, e)) (record { pins = refl; unpins = unpins; doomed = refl; removed = refl; gone = refl }) (tells_on event old new refl s.tells)
+    comes_to_more run event old new come (comes_drawn run event old new come s.map s.drawn s.grows refl refl) (λ uid. let e = s.due uid in omega (arith, e)) (record { pins = refl; unpins = refl; doomed = refl; removed = refl; gone = refl }) (tells_on event old new refl refl refl s.tells)
 
-pub stays_itself : (seen : Seen) → ((file : ℕ) → seen.used file ≡ false) → StaysSo no_numbers seen seen
-stays_itself seen unused = record {
+pub stays_itself : (seen : Seen) → StaysSo no_numbers seen seen
+stays_itself seen = record {
   map = refl;
   drawn = sym (drawn_none seen.drawn);
   due = λ uid. refl;
-  tells = record { pins = λ file. refl; doomed = λ file. refl; used = λ file. refl; unused = unused; gave = λ guid e. e; gone = λ instance e. e; files = λ file e. e; instances = λ instance e. e };
+  tells = record { ran = λ runs. runs; pins = λ file. refl; doomed = λ file. refl; used = λ file e. e; barred = λ file e. e; gave = λ guid e. e; gone = λ instance e. e; files = λ file e. e; instances = λ instance. refl };
   shown = λ lists shows. shows;
   grows = omega arith;
   reads = omega arith;
@@ -449,22 +477,22 @@ memory_halts : (b : Bool) → b ≡ false → (ended : Option Reply) → (ended 
 memory_halts b runs ended other = record { 0 = λ e. absurd (other e); 1 = λ e. absurd (fall b e runs) }
 
 -- Out of memory.
-pub forgets : (around after : Around) (run : Run) (lane place : ℕ) (said : List Reply) (q : Request) (part : EventPart) (lists : Lists) (old new : Seen) (ended : Option Reply) → CanRefuse around run place q part refusal.NoMemory ended no_numbers → is_unpinning (event_of lane place part 0) ≡ false → HasComeTo run old → ShowsSeen old lists → HasRun old new → StaysSo no_numbers old new
+pub forgets : (around after : Around) (run : Run) (lane place : ℕ) (said : List Reply) (q : Request) (part : EventPart) (lists : Lists) (old new : Seen) (ended : Option Reply) → CanRefuse around run place q part refusal.NoMemory ended no_numbers → HasComeTo run old → ShowsSeen old lists → HasRun old new → StaysSo no_numbers old new
     → ((given : Reply) → ended ≡ Some given → IsReplyOf q said given) → (ended ≡ Some (reply.Refused refusal.Stopped) → ⊥)
     → DidBy around after run lane place said q lists old new did.Quiet ended (refusal_event lane place part refusal.NoMemory ended no_numbers (told_calls new.history)) None
-forgets around after run lane place said q part lists old new ended can unpins come shows h s replied other =
-    did_unstepped around after run lane place said q part lists old new refusal.NoMemory ended did.Quiet no_numbers can (refused_comes run lane place part refusal.NoMemory ended no_numbers old new unpins come s) (s.shown lists shows) s.grows refl memory_calm (refl, h.runs ∙ sym h.ran, h.leads lists) replied
+forgets around after run lane place said q part lists old new ended can come shows h s replied other =
+    did_unstepped around after run lane place said q part lists old new refusal.NoMemory ended did.Quiet no_numbers can (refused_comes run lane place part refusal.NoMemory ended no_numbers old new come s) (s.shown lists shows) s.grows refl memory_calm (refl, h.runs ∙ sym h.ran, h.leads lists) replied
     (memory_halts new.stopped h.runs ended other) (λ e. absurd (fall old.stopped e h.ran)) s.reads s.changes (λ x. absurd x)
 
 read_runs : Some (reply.Refused refusal.ReadFault) ≡ Some (reply.Refused refusal.Stopped) → ⊥
 read_runs e = let k : refusal.ReadFault ≡ refusal.Stopped = one_why refusal.ReadFault refusal.Stopped (one_reply (reply.Refused refusal.ReadFault) (reply.Refused refusal.Stopped) e) in cc k
 
 -- A read failed, and the request ends with that.
-pub misreads : (around after : Around) (run : Run) (lane place : ℕ) (said : List Reply) (q : Request) (part : EventPart) (lists : Lists) (old new : Seen) → CanRefuse around run place q part refusal.ReadFault (Some (reply.Refused refusal.ReadFault)) no_numbers → is_unpinning (event_of lane place part 0) ≡ false
+pub misreads : (around after : Around) (run : Run) (lane place : ℕ) (said : List Reply) (q : Request) (part : EventPart) (lists : Lists) (old new : Seen) → CanRefuse around run place q part refusal.ReadFault (Some (reply.Refused refusal.ReadFault)) no_numbers
     → HasComeTo run old → ShowsSeen old lists → old.stopped ≡ false → new.stopped ≡ false → ((lists : Lists) → Leads lists lists old new) → StaysSo no_numbers old new → Rose old.faults.reads new.faults.reads → IsReplyOf q said (reply.Refused refusal.ReadFault)
     → DidBy around after run lane place said q lists old new did.Quiet (Some (reply.Refused refusal.ReadFault)) (refusal_event lane place part refusal.ReadFault (Some (reply.Refused refusal.ReadFault)) no_numbers (told_calls new.history)) None
-misreads around after run lane place said q part lists old new can unpins come shows ran runs leads s rose is =
-    did_refused around after run lane place said q part lists old new refusal.ReadFault (Some (reply.Refused refusal.ReadFault)) None did.Quiet no_numbers can (refused_comes run lane place part refusal.ReadFault (Some (reply.Refused refusal.ReadFault)) no_numbers old new unpins come s) (s.shown lists shows) s.grows
+misreads around after run lane place said q part lists old new can come shows ran runs leads s rose is =
+    did_refused around after run lane place said q part lists old new refusal.ReadFault (Some (reply.Refused refusal.ReadFault)) None did.Quiet no_numbers can (refused_comes run lane place part refusal.ReadFault (Some (reply.Refused refusal.ReadFault)) no_numbers old new come s) (s.shown lists shows) s.grows
     (λ e. absurd (unstepped e)) refl refl (refl, runs ∙ sym ran, leads lists) (record {
       in_turn = λ some. absurd (unstepped some);
       replied = λ given e. subst (λ (r : Reply). IsReplyOf q said r) (one_reply (reply.Refused refusal.ReadFault) given e) is;
@@ -478,18 +506,18 @@ abbrev pub stopped_answer : Option Reply
 stopped_answer = Some (reply.Refused refusal.Stopped)
 
 -- A store that was stopped.
-pub stops_before : (around after : Around) (run : Run) (lane place : ℕ) (said : List Reply) (q : Request) (part : EventPart) (lists : Lists) (seen : Seen) → CanRefuse around run place q part refusal.Stopped stopped_answer no_numbers → is_unpinning (event_of lane place part 0) ≡ false → ((file : ℕ) → seen.used file ≡ false) → HasComeTo run seen → ShowsSeen seen lists
+pub stops_before : (around after : Around) (run : Run) (lane place : ℕ) (said : List Reply) (q : Request) (part : EventPart) (lists : Lists) (seen : Seen) → CanRefuse around run place q part refusal.Stopped stopped_answer no_numbers → HasComeTo run seen → ShowsSeen seen lists
     → IsReplyOf q said (reply.Refused refusal.Stopped) → seen.stopped ≡ true
     → DidBy around after run lane place said q lists seen seen did.Quiet stopped_answer (refusal_event lane place part refusal.Stopped stopped_answer no_numbers (told_calls seen.history)) None
-stops_before around after run lane place said q part lists seen can unpins unused come shows is stopped =
-    did_unstepped around after run lane place said q part lists seen seen refusal.Stopped stopped_answer did.Quiet no_numbers can (refused_comes run lane place part refusal.Stopped stopped_answer no_numbers seen seen unpins come (stays_itself seen unused)) shows (omega arith) refl stopped_calm (refl, refl, nothing lists seen)
+stops_before around after run lane place said q part lists seen can come shows is stopped =
+    did_unstepped around after run lane place said q part lists seen seen refusal.Stopped stopped_answer did.Quiet no_numbers can (refused_comes run lane place part refusal.Stopped stopped_answer no_numbers seen seen come (stays_itself seen)) shows (omega arith) refl stopped_calm (refl, refl, nothing lists seen)
     (λ given e. subst (λ (r : Reply). IsReplyOf q said r) (one_reply (reply.Refused refusal.Stopped) given e) is) (record { 0 = λ e. stopped; 1 = λ e. refl }) (λ e. refl) (omega arith) (omega arith) (λ x. absurd x)
 
 -- A change of the disk failed: it was no step, or would have been one (`went`).
-pub falls : (around after : Around) (run : Run) (lane place : ℕ) (said : List Reply) (q : Request) (part : EventPart) (lists : Lists) (old new : Seen) (how : Did) (drew : Highest) → CanRefuse around run place q part refusal.Stopped stopped_answer drew → is_unpinning (event_of lane place part 0) ≡ false → HasComeTo run old → StaysSo drew old new → ShowsSeen old lists
+pub falls : (around after : Around) (run : Run) (lane place : ℕ) (said : List Reply) (q : Request) (part : EventPart) (lists : Lists) (old new : Seen) (how : Did) (drew : Highest) → CanRefuse around run place q part refusal.Stopped stopped_answer drew → HasComeTo run old → StaysSo drew old new → ShowsSeen old lists
     → IsReplyOf q said (reply.Refused refusal.Stopped) → old.stopped ≡ false → new.stopped ≡ true → Rose old.faults.changes new.faults.changes
     → Went how q run lists lists (refusal_event lane place part refusal.Stopped stopped_answer drew (told_calls new.history)) None old new
     → DidBy around after run lane place said q lists old new how stopped_answer (refusal_event lane place part refusal.Stopped stopped_answer drew (told_calls new.history)) None
-falls around after run lane place said q part lists old new how drew can unpins come s shows is ran stopped rose went =
-    did_unstepped around after run lane place said q part lists old new refusal.Stopped stopped_answer how drew can (refused_comes run lane place part refusal.Stopped stopped_answer drew old new unpins come s) (s.shown lists shows) s.grows refl stopped_calm went
+falls around after run lane place said q part lists old new how drew can come s shows is ran stopped rose went =
+    did_unstepped around after run lane place said q part lists old new refusal.Stopped stopped_answer how drew can (refused_comes run lane place part refusal.Stopped stopped_answer drew old new come s) (s.shown lists shows) s.grows refl stopped_calm went
     (λ given e. subst (λ (r : Reply). IsReplyOf q said r) (one_reply (reply.Refused refusal.Stopped) given e) is) (record { 0 = λ e. stopped; 1 = λ e. refl }) (λ e. absurd (fall old.stopped e ran)) s.reads s.changes (λ x. rose)

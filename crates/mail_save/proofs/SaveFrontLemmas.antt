@@ -19,24 +19,27 @@ use Rattle.mdbox_base.specs.declared.progress.Did.TheVariants as did
 use Rattle.mdbox_base.specs.declared.replies.Refusal.TheVariants as refusal
 use Rattle.mdbox_base.specs.declared.requests.Request.TheVariants as request
 use Rattle.model_lists.specs.Lists.{Lists}
+use Rattle.model_meaning.specs.MapFits.{MapFits}
 use Rattle.model_meaning.specs.MapMeaning.{MapMeaning, map_applied, no_numbers, guid_file, instance_number, number_at, is_sealed}
 use Rattle.model_mime.specs.Parts.{parts_in}
-use Rattle.list_machine.specs.Run.{First, Compares, PlacesInstance, TakesFile, PlacesMessage, StoresRecord, Last, RunEvent, event_of, Run, and_then, own_events, given_by_others, drawn_of, drawn_also}
+use Rattle.list_machine.specs.Run.{First, Compares, PlacesInstance, TakesFile, PlacesMessage, StoresRecord, Last, RunEvent, event_of, Run, and_then, own_events, given_by_others, map_of, drawn_of, drawn_also, is_one_of}
 use Rattle.list_machine.specs.Machine.{first_refusal, refused_where, part_checks}
 use Rattle.journal.specs.Events.{Around, next_part, instances_found}
-use Rattle.journal.specs.Found.{FindsPlace, IsFreeFile, is_known_instance, took_file}
+use Rattle.journal.specs.Found.{FindsPlace, IsFreeFile, is_known_instance, is_taken}
 use Rattle.journal.proofs.OwnEventLemmas.{own_more}
 use Rattle.task_steps.specs.ExpungeStages.{one_due}
-use Rattle.task_steps.specs.Step.{Seen, ShowsSeen, was_given, HasComeTo, HasNotBegun, Steps}
+use Rattle.task_steps.specs.Step.{Seen, ShowsSeen, was_given, HasComeTo, FindsRoom, HasNotBegun}
 use Rattle.task_steps.proofs.SeenLemmas.{no_guids, is_new}
 use Rattle.journal.proofs.RunLemmas.{drawn_none}
+use Rattle.mail_save.specs.SaveSeen.{StepsWithRoom}
 use Rattle.mail_save.specs.SaveStages.{AreAttachedSoFar, HasAttached, IsTakingFile, IsPlacingMessage, IsStoringMessage, IsAddingMessage}
 use Rattle.mail_save.proofs.SaveRunLemmas.{attaches_next, found_in, part_after, takes_next, places_next, stores_next, taken_file, given_guid, found_rows}
-use Rattle.mail_save.proofs.SaveDidLemmas.{some_part, given_more, HasRun, KeepsTelling, TellsMore, comes_drawn, comes_stored, comes_to_more, tells_on, quiet_on}
+use Rattle.mail_save.proofs.SaveDidLemmas.{fall, or_none, some_part, given_more, HasRun, KeepsTelling, TellsMore, comes_drawn, comes_stored, comes_to_more, tells_on, quiet_on}
 
 -- ---- what an event finds
 
--- It knows how many parts of the message are to be detached; a candidate is known, and a file that has room may be taken.
+-- It knows how many parts of the message are to be detached; a candidate is known, and a file that has room may be taken and
+-- appended to.
 pub record SeesAround (octets : List ℕ) (around : Around) (seen : Seen) : Type 0 where
   pub parts : around.parts ≡ length (filter (λ part. part.detachable) (parts_in octets))
   pub candidate : (instance : InstRow) → around.candidate ≡ Some instance → seen.instances instance ≡ true
@@ -44,17 +47,32 @@ pub record SeesAround (octets : List ℕ) (around : Around) (seen : Seen) : Type
   pub known : (file : ℕ) → around.room ≡ Some file → seen.files file ≡ true
   pub unsealed : (file : ℕ) → around.room ≡ Some file → is_sealed seen.map file ≡ false
   pub undoomed : (file : ℕ) → around.room ≡ Some file → seen.doomed file ≡ false
+  pub unbarred : (file : ℕ) → around.room ≡ Some file → seen.barred file ≡ false
 
-pub finds_place : (octets : List ℕ) (around : Around) (run : Run) (seen : Seen) → SeesAround octets around seen → HasComeTo run seen → FindsPlace run around
-finds_place octets around run seen s come = record { candidate = by_candidate around.candidate refl; room = by_room around.room refl }
+not_so : (b : Bool) → (b ≡ true → ⊥) → b ≡ false
+not_so true f = absurd (f refl)
+not_so false f = refl
+
+pub finds_place : (octets : List ℕ) (around : Around) (run : Run) (seen : Seen) → SeesAround octets around seen → HasComeTo run seen → seen.stopped ≡ false → FindsRoom around run → FindsPlace run around
+finds_place octets around run seen s come runs free = record { candidate = by_candidate around.candidate refl; room = by_room around.room refl free; unbarred = by_bars around.room refl }
   where
     by_candidate : (o : Option InstRow) → around.candidate ≡ o → IfSome o (λ instance. is_known_instance run instance ≡ true)
     by_candidate None e = tt
-    by_candidate (Some instance) e = come.instances instance (s.candidate instance e)
+    by_candidate (Some instance) e = (come.keeps runs).instances instance ∙ s.candidate instance e
 
-    by_room : (o : Option ℕ) → around.room ≡ o → IfSome o (IsFreeFile run)
-    by_room None e = tt
-    by_room (Some file) e = record { some = s.some file e; known = come.files file (s.known file e); unsealed = ap (λ (m : MapMeaning). is_sealed m file) come.come.map_is ∙ s.unsealed file e; undoomed = come.doomed file ∙ s.undoomed file e }
+    by_room : (o : Option ℕ) → around.room ≡ o → IfSome o (λ file. is_taken run file ≡ false) → IfSome o (IsFreeFile run)
+    by_room None e untaken = tt
+    by_room (Some file) e untaken = record {
+      some = s.some file e;
+      known = come.files file (s.known file e);
+      untaken = untaken;
+      unsealed = ap (λ (m : MapMeaning). is_sealed m file) come.come.map_is ∙ s.unsealed file e;
+      undoomed = (come.keeps runs).doomed file ∙ s.undoomed file e;
+    }
+
+    by_bars : (o : Option ℕ) → around.room ≡ o → IfSome o (λ file. is_one_of run.barred file ≡ false)
+    by_bars None e = tt
+    by_bars (Some file) e = not_so (is_one_of run.barred file) (λ b. fall (seen.barred file) (come.barred file b) (s.unbarred file e))
 
 -- ---- the message is laid out
 
@@ -78,7 +96,7 @@ never_last around run place e = by_tests (nat_lt (length (instances_found place 
 
 pub begins_save : (around after : Around) (name : List ℕ) (time : ℕ) (octets : List ℕ) (old new : Seen) → SeesAround octets around old → KeepsMap old new → new.drawn ≡ old.drawn → KeepsTelling old new
     → ((run : Run) (lists : Lists) (event : RunEvent) → HasComeTo run old → ShowsSeen old lists → first_refusal run lists (part_checks run event (request.Deliver name time octets) First) ≡ None)
-    → Steps HasNotBegun (IsTakingFile []) around after (request.Deliver name time octets) old new did.Quiet None
+    → StepsWithRoom HasNotBegun (IsTakingFile []) around after (request.Deliver name time octets) old new did.Quiet None
 begins_save around after name time octets old new sees keeps drawn tells allowed = λ run lane place said lists come shows stood.
     let q = request.Deliver name time octets in
     let event : RunEvent = event_of lane place First (told_calls new.history) in
@@ -90,17 +108,18 @@ begins_save around after name time octets old new sees keeps drawn tells allowed
       ended_is = refl;
       unrefused = refl;
       finds = sees.parts;
-      found = finds_place octets around run old sees come;
-      part_is = ap (λ (es : List RunEvent). next_part around run q es) stood.0;
+      found = λ looked. finds_place octets around run old sees come keeps.run.ran (stood.1 keeps.run.ran);
+      part_is = ap (λ (es : List RunEvent). next_part around run q es) stood.0.0;
       allowed = allowed run lists event come shows;
       did = refl;
+      fits = All-nil (MapFits (map_of run));
       ends = record { 0 = λ h. absurd (h refl); 1 = λ h. absurd (never_last after (and_then run event) place h) };
       replied = tt;
     })
     refl keeps.run
-    (comes_to_more run event old new come (comes_drawn run event old new come keeps.map (drawn ∙ sym (drawn_none old.drawn)) keeps.run.grows refl refl) (λ uid. let e = keeps.due uid in omega (arith, e)) (record { pins = refl; unpins = refl; doomed = refl; removed = refl; gone = refl }) (tells_on event old new refl tells))
+    (comes_to_more run event old new come (comes_drawn run event old new come keeps.map (drawn ∙ sym (drawn_none old.drawn)) keeps.run.grows refl refl) (λ uid. let e = keeps.due uid in omega (arith, e)) (record { pins = refl; unpins = refl; doomed = refl; removed = refl; gone = refl }) (tells_on event old new refl refl refl tells))
     (no_guids run event refl) shows
-    (record { first = event; more = []; own_are = own_first place run event [] refl stood.0; laid = record { part = refl; did = refl }; attached = tt; found = refl }, stood.1)
+    (record { first = event; more = []; own_are = own_first place run event [] refl stood.0.0; laid = record { part = refl; did = refl }; attached = tt; found = refl }, stood.0.1)
 
 -- ---- an attachment is compared, or placed
 
@@ -128,11 +147,11 @@ found_more true candidate rows = refl
 found_more false candidate rows = append-nil rows
 
 pub compares_part : (around after : Around) (name : List ℕ) (time : ℕ) (octets : List ℕ) (rows : List InstRow) (candidate : InstRow) (alike : Bool) (old new : Seen) → SeesAround octets around old → around.candidate ≡ Some candidate → length rows < around.parts → KeepsMap old new → new.drawn ≡ old.drawn → KeepsTelling old new
-    → Steps (IsTakingFile rows) (IsTakingFile (found_with alike candidate rows)) around after (request.Deliver name time octets) old new did.Quiet None
+    → StepsWithRoom (IsTakingFile rows) (IsTakingFile (found_with alike candidate rows)) around after (request.Deliver name time octets) old new did.Quiet None
 compares_part around after name time octets rows candidate alike old new sees next left keeps drawn tells = λ run lane place said lists come shows stood.
     let q = request.Deliver name time octets in
     let event : RunEvent = record (event_of lane place Compares (told_calls new.history)) { compared = candidate ∷ []; equal = if alike then candidate ∷ [] else [] } in
-    let s = stood.0 in
+    let s = stood.0.0 in
     quiet_on around after run lane place said q lists old new event (IsTakingFile (found_with alike candidate rows))
     (record {
       lane_is = refl;
@@ -141,19 +160,20 @@ compares_part around after name time octets rows candidate alike old new sees ne
       ended_is = refl;
       unrefused = refl;
       finds = sees.parts;
-      found = finds_place octets around run old sees come;
+      found = λ looked. finds_place octets around run old sees come keeps.run.ran (stood.1 keeps.run.ran);
       part_is = attaches_next around run name time octets rows place left s ∙ ap (λ (o : Option InstRow). if is_some o then Some Compares else Some PlacesInstance) next;
       allowed = refl;
       did = (candidate, alike, next, refl);
+      fits = All-nil (MapFits (map_of run));
       ends = record { 0 = λ h. absurd (h refl); 1 = λ h. absurd (never_last after (and_then run event) place h) };
       replied = tt;
     })
     refl keeps.run
-    (comes_to_more run event old new come (comes_drawn run event old new come keeps.map (drawn ∙ sym (drawn_none old.drawn)) keeps.run.grows refl refl) (λ uid. let e = keeps.due uid in omega (arith, e)) (record { pins = refl; unpins = refl; doomed = refl; removed = refl; gone = refl }) (tells_on event old new refl tells))
+    (comes_to_more run event old new come (comes_drawn run event old new come keeps.map (drawn ∙ sym (drawn_none old.drawn)) keeps.run.grows refl refl) (λ uid. let e = keeps.due uid in omega (arith, e)) (record { pins = refl; unpins = refl; doomed = refl; removed = refl; gone = refl }) (tells_on event old new refl refl refl tells))
     (no_guids run event refl) shows (
       subst (λ (is : List InstRow). AreAttachedSoFar is (own_events place (and_then run event))) (found_more alike candidate rows)
           (attached_more rows (if alike then candidate ∷ [] else []) place run event refl (record { part = inl refl; did = refl }) (append-nil (if alike then candidate ∷ [] else [])) s),
-      stood.1,
+      stood.0.1,
     )
 
 -- the next running number
@@ -161,12 +181,12 @@ few_left : (drawn : ℕ) → drawn < 4294967294 → nat_le 4294967294 drawn ≡ 
 few_left drawn l = grind (arith, common_steps, l)
 
 pub places_part : (around after : Around) (name : List ℕ) (time : ℕ) (octets : List ℕ) (rows : List InstRow) (row : InstRow) (old new : Seen) → SeesAround octets around old → around.candidate ≡ None → length rows < around.parts → instance_number old.map.store row.id.0 ≡ old.drawn.instance + 1 → old.drawn.instance < 4294967294
-    → KeepsMap old new → new.drawn ≡ drawn_also old.drawn (record no_numbers { instance = 1 }) → ((event : RunEvent) → event.given ≡ [] → event.placed ≡ row ∷ [] → TellsMore event old new)
-    → Steps (IsTakingFile rows) (IsTakingFile (rows ++ row ∷ [])) around after (request.Deliver name time octets) old new did.Quiet None
+    → KeepsMap old new → new.drawn ≡ drawn_also old.drawn (record no_numbers { instance = 1 }) → ((event : RunEvent) → event.given ≡ [] → event.made ≡ [] → event.placed ≡ row ∷ [] → TellsMore event old new)
+    → StepsWithRoom (IsTakingFile rows) (IsTakingFile (rows ++ row ∷ [])) around after (request.Deliver name time octets) old new did.Quiet None
 places_part around after name time octets rows row old new sees none left number few keeps drawn tells = λ run lane place said lists come shows stood.
     let q = request.Deliver name time octets in
     let event : RunEvent = record (event_of lane place PlacesInstance (told_calls new.history)) { placed = row ∷ []; drew = record no_numbers { instance = 1 } } in
-    let s = stood.0 in
+    let s = stood.0.0 in
     let id : run.store ≡ old.map.store = ap (λ (m : MapMeaning). m.store) come.come.map_is in
     let same : (drawn_of run).instance ≡ old.drawn.instance = ap (λ (d : Highest). d.instance) come.come.drawn_is in
     quiet_on around after run lane place said q lists old new event (IsTakingFile (rows ++ row ∷ []))
@@ -177,29 +197,30 @@ places_part around after name time octets rows row old new sees none left number
       ended_is = refl;
       unrefused = refl;
       finds = sees.parts;
-      found = finds_place octets around run old sees come;
+      found = λ looked. finds_place octets around run old sees come keeps.run.ran (stood.1 keeps.run.ran);
       part_is = attaches_next around run name time octets rows place left s ∙ ap (λ (o : Option InstRow). if is_some o then Some Compares else Some PlacesInstance) none;
       allowed = ap (λ (b : Bool). option_or (refused_where b (refusal.StoreFull 4294967294)) None) (few_left (drawn_of run).instance (omega (arith, same, few)));
       did = (row, ap (λ (k : List ℕ). instance_number k row.id.0) id ∙ (number ∙ ap (λ (n : ℕ). n + 1) (sym same)), refl);
+      fits = All-nil (MapFits (map_of run));
       ends = record { 0 = λ h. absurd (h refl); 1 = λ h. absurd (never_last after (and_then run event) place h) };
       replied = tt;
     })
     refl keeps.run
-    (comes_to_more run event old new come (comes_drawn run event old new come keeps.map drawn keeps.run.grows refl refl) (λ uid. let e = keeps.due uid in omega (arith, e)) (record { pins = refl; unpins = refl; doomed = refl; removed = refl; gone = refl }) (tells event refl refl))
-    (no_guids run event refl) shows (attached_more rows (row ∷ []) place run event refl (record { part = inr refl; did = refl }) refl s, stood.1)
+    (comes_to_more run event old new come (comes_drawn run event old new come keeps.map drawn keeps.run.grows refl refl) (λ uid. let e = keeps.due uid in omega (arith, e)) (record { pins = refl; unpins = refl; doomed = refl; removed = refl; gone = refl }) (tells event refl refl refl))
+    (no_guids run event refl) shows (attached_more rows (row ∷ []) place run event refl (record { part = inr refl; did = refl }) refl s, stood.0.1)
 
 -- ---- a file is taken
 
-took_itself : (lane place : ℕ) (new : Bool) (drew : Highest) (file other calls : ℕ) → file ≡ other → took_file other (record (event_of lane place (TakesFile new) calls) { files = record { file = file; target = 0 } ∷ []; drew = drew }) ≡ true
-took_itself lane place new drew file other calls e = ap (λ (b : Bool). (b || (0 == other)) || false) (eq-eqb file other e)
+pub made_itself : (file other : ℕ) → file ≡ other → is_one_of (file ∷ []) other ≡ true
+made_itself file other e = ap (λ (b : Bool). b || false) (eq-eqb file other e)
 
 -- one that is there and has room
 pub takes_known : (around after : Around) (name : List ℕ) (time : ℕ) (octets : List ℕ) (rows : List InstRow) (file : ℕ) (old new : Seen) → SeesAround octets around old → length rows ≡ around.parts → around.room ≡ Some file → KeepsMap old new → new.drawn ≡ old.drawn → KeepsTelling old new
-    → Steps (IsTakingFile rows) (IsPlacingMessage rows file) around after (request.Deliver name time octets) old new did.Quiet None
+    → StepsWithRoom (IsTakingFile rows) (IsPlacingMessage rows file) around after (request.Deliver name time octets) old new did.Quiet None
 takes_known around after name time octets rows file old new sees all room keeps drawn tells = λ run lane place said lists come shows stood.
     let q = request.Deliver name time octets in
     let event : RunEvent = record (event_of lane place (TakesFile false) (told_calls new.history)) { files = record { file = file; target = 0 } ∷ [] } in
-    let s = stood.0 in
+    let s = stood.0.0 in
     quiet_on around after run lane place said q lists old new event (IsPlacingMessage rows file)
     (record {
       lane_is = refl;
@@ -208,29 +229,30 @@ takes_known around after name time octets rows file old new sees all room keeps 
       ended_is = refl;
       unrefused = refl;
       finds = sees.parts;
-      found = finds_place octets around run old sees come;
+      found = λ looked. finds_place octets around run old sees come keeps.run.ran (stood.1 keeps.run.ran);
       part_is = takes_next around run name time octets rows place all s ∙ ap (λ (r : Option ℕ). Some (TakesFile (is_none r))) room;
       allowed = refl;
       did = ap (λ (r : Option ℕ). record (event_of lane place (TakesFile false) (told_calls new.history)) { files = record { file = option_map_or (λ f. f) r ((drawn_of run).file + 1); target = 0 } ∷ [] }) (sym room);
+      fits = All-nil (MapFits (map_of run));
       ends = record { 0 = λ h. absurd (h refl); 1 = λ h. absurd (some_part PlacesMessage h) };
       replied = tt;
     })
     refl keeps.run
-    (comes_to_more run event old new come (comes_drawn run event old new come keeps.map (drawn ∙ sym (drawn_none old.drawn)) keeps.run.grows refl refl) (λ uid. let e = keeps.due uid in omega (arith, e)) (record { pins = refl; unpins = refl; doomed = refl; removed = refl; gone = refl }) (tells_on event old new refl tells))
+    (comes_to_more run event old new come (comes_drawn run event old new come keeps.map (drawn ∙ sym (drawn_none old.drawn)) keeps.run.grows refl refl) (λ uid. let e = keeps.due uid in omega (arith, e)) (record { pins = refl; unpins = refl; doomed = refl; removed = refl; gone = refl }) (tells_on event old new refl refl refl tells))
     (no_guids run event refl) shows
-    (record { front = own_events place run; second = event; own_are = own_first place run event (own_events place run) refl refl; attached = s; took = record { new = false; part = refl; did = refl } }, stood.1)
+    (record { front = own_events place run; second = event; own_are = own_first place run event (own_events place run) refl refl; attached = s; took = record { new = false; part = refl; did = refl } }, stood.0.1)
 
 -- a new one, with the next number
 next_fits : (drawn : ℕ) → drawn < 4294967294 → nat_lt 4294967294 (drawn + 1) ≡ false
 next_fits drawn l = grind (arith, common_steps, l)
 
 pub takes_new : (around after : Around) (name : List ℕ) (time : ℕ) (octets : List ℕ) (rows : List InstRow) (file : ℕ) (old new : Seen) → SeesAround octets around old → length rows ≡ around.parts → around.room ≡ None → file ≡ old.drawn.file + 1 → old.drawn.file < 4294967294 → KeepsMap old new → new.drawn ≡ drawn_also old.drawn (record no_numbers { file = 1 })
-    → ((event : RunEvent) → event.given ≡ [] → ((other : ℕ) → file ≡ other → took_file other event ≡ true) → TellsMore event old new)
-    → Steps (IsTakingFile rows) (IsPlacingMessage rows file) around after (request.Deliver name time octets) old new did.Quiet None
+    → ((event : RunEvent) → event.given ≡ [] → event.made ≡ file ∷ [] → event.placed ≡ [] → TellsMore event old new)
+    → StepsWithRoom (IsTakingFile rows) (IsPlacingMessage rows file) around after (request.Deliver name time octets) old new did.Quiet None
 takes_new around after name time octets rows file old new sees all room next few keeps drawn tells = λ run lane place said lists come shows stood.
     let q = request.Deliver name time octets in
-    let event : RunEvent = record (event_of lane place (TakesFile true) (told_calls new.history)) { files = record { file = file; target = 0 } ∷ []; drew = record no_numbers { file = 1 } } in
-    let s = stood.0 in
+    let event : RunEvent = record (event_of lane place (TakesFile true) (told_calls new.history)) { files = record { file = file; target = 0 } ∷ []; made = file ∷ []; drew = record no_numbers { file = 1 } } in
+    let s = stood.0.0 in
     let same : (drawn_of run).file ≡ old.drawn.file = ap (λ (d : Highest). d.file) come.come.drawn_is in
     let number : file ≡ (drawn_of run).file + 1 = next ∙ ap (λ (n : ℕ). n + 1) (sym same) in
     quiet_on around after run lane place said q lists old new event (IsPlacingMessage rows file)
@@ -241,19 +263,20 @@ takes_new around after name time octets rows file old new sees all room next few
       ended_is = refl;
       unrefused = refl;
       finds = sees.parts;
-      found = finds_place octets around run old sees come;
+      found = λ looked. finds_place octets around run old sees come keeps.run.ran (stood.1 keeps.run.ran);
       part_is = takes_next around run name time octets rows place all s ∙ ap (λ (r : Option ℕ). Some (TakesFile (is_none r))) room;
       allowed = ap (λ (b : Bool). option_or (refused_where b (refusal.StoreFull 4294967294)) None) (next_fits (drawn_of run).file (omega (arith, same, few)));
-      did = ap (λ (n : ℕ). record (event_of lane place (TakesFile true) (told_calls new.history)) { files = record { file = n; target = 0 } ∷ []; drew = record no_numbers { file = 1 } }) number
-          ∙ ap (λ (r : Option ℕ). record (event_of lane place (TakesFile true) (told_calls new.history)) { files = record { file = option_map_or (λ f. f) r ((drawn_of run).file + 1); target = 0 } ∷ []; drew = record no_numbers { file = 1 } }) (sym room);
+      did = ap (λ (n : ℕ). record (event_of lane place (TakesFile true) (told_calls new.history)) { files = record { file = n; target = 0 } ∷ []; made = n ∷ []; drew = record no_numbers { file = 1 } }) number
+          ∙ ap (λ (r : Option ℕ). record (event_of lane place (TakesFile true) (told_calls new.history)) { files = record { file = option_map_or (λ f. f) r ((drawn_of run).file + 1); target = 0 } ∷ []; made = ((drawn_of run).file + 1) ∷ []; drew = record no_numbers { file = 1 } }) (sym room);
+      fits = All-nil (MapFits (map_of run));
       ends = record { 0 = λ h. absurd (h refl); 1 = λ h. absurd (some_part PlacesMessage h) };
       replied = tt;
     })
     refl keeps.run
     (comes_to_more run event old new come (comes_drawn run event old new come keeps.map drawn keeps.run.grows refl refl) (λ uid. let e = keeps.due uid in omega (arith, e)) (record { pins = refl; unpins = refl; doomed = refl; removed = refl; gone = refl })
-    (tells event refl (λ other e. took_itself lane place true (record no_numbers { file = 1 }) file other (told_calls new.history) e)))
+    (tells event refl refl refl))
     (no_guids run event refl) shows
-    (record { front = own_events place run; second = event; own_are = own_first place run event (own_events place run) refl refl; attached = s; took = record { new = true; part = refl; did = refl } }, stood.1)
+    (record { front = own_events place run; second = event; own_are = own_first place run event (own_events place run) refl refl; attached = s; took = record { new = true; part = refl; did = refl } }, stood.0.1)
 
 -- ---- the message is placed
 
@@ -297,11 +320,11 @@ given_now run event guid is =
 
 pub places_message : (around after : Around) (name : List ℕ) (time : ℕ) (octets : List ℕ) (rows : List InstRow) (file : ℕ) (guid : List ℕ) (old new : Seen) → SeesAround octets around old → length guid ≡ 16 → IsOctets guid → guid_file old.map.store guid ≡ file → old.gave guid ≡ false → KeepsMap old new → new.drawn ≡ old.drawn
     → KeepsTelling old new → new.gave guid ≡ true
-    → Steps (IsPlacingMessage rows file) (IsStoringMessage rows file guid) around after (request.Deliver name time octets) old new did.Quiet None
+    → StepsWithRoom (IsPlacingMessage rows file) (IsStoringMessage rows file guid) around after (request.Deliver name time octets) old new did.Quiet None
 places_message around after name time octets rows file guid old new sees long each named fresh keeps drawn tells gave = λ run lane place said lists come shows stood.
     let q = request.Deliver name time octets in
     let event : RunEvent = record (event_of lane place PlacesMessage (told_calls new.history)) { given = guid ∷ [] } in
-    let s = stood.0 in
+    let s = stood.0.0 in
     let id : run.store ≡ old.map.store = ap (λ (m : MapMeaning). m.store) come.come.map_is in
     let own : guid_file run.store guid ≡ file = ap (λ (k : List ℕ). guid_file k guid) id ∙ named in
     let unknown : was_given run guid ≡ false = is_new run old guid come fresh in
@@ -313,16 +336,30 @@ places_message around after name time octets rows file guid old new sees long ea
       ended_is = refl;
       unrefused = refl;
       finds = sees.parts;
-      found = finds_place octets around run old sees come;
+      found = λ looked. finds_place octets around run old sees come keeps.run.ran (stood.1 keeps.run.ran);
       part_is = places_next around run name time octets rows file (own_events place run) s;
       allowed = refl;
       did = (guid, taken_file place run rows file s ∙ ap (λ (n : ℕ). Some n) (sym own), long, refl);
+      fits = All-nil (MapFits (map_of run));
       ends = record { 0 = λ h. absurd (h refl); 1 = λ h. absurd (some_part StoresRecord h) };
       replied = tt;
     })
     refl keeps.run
     (comes_to_more run event old new come (comes_drawn run event old new come keeps.map (drawn ∙ sym (drawn_none old.drawn)) keeps.run.grows refl refl) (λ uid. let e = keeps.due uid in omega (arith, e)) (record { pins = refl; unpins = refl; doomed = refl; removed = refl; gone = refl })
-    (record { pins = tells.pins; doomed = tells.doomed; used = tells.used; unused = tells.unused; gave = tells.gave; given = λ g some. by_guid g some; gone = tells.gone; files = λ f e. inl (tells.files f e); instances = λ i e. inl (tells.instances i e) }))
+    (record {
+      ran = tells.ran;
+      pins = tells.pins;
+      doomed = tells.doomed;
+      used = tells.used;
+      unused = λ f made. absurd (let k : false ≡ true = made in cc k);
+      barred = tells.barred;
+      gave = tells.gave;
+      given = λ g some. by_guid g some;
+      gone = tells.gone;
+      files = λ f e. inl (tells.files f e);
+      instances = λ i. tells.instances i ∙ sym (or_none (old.instances i));
+      ungone = λ i placed. absurd (let k : false ≡ true = placed in cc k);
+    }))
     (All-cons (λ (g : List ℕ). was_given run g ≡ false) guid [] unknown (All-nil (λ (g : List ℕ). was_given run g ≡ false))) shows (
       record { front = s.front; second = s.second; third = event; own_are = own_first place run event (s.front ++ s.second ∷ []) refl s.own_are ∙ append_assoc s.front (s.second ∷ []) (event ∷ []); attached = s.attached; took = s.took; placed = record { part = refl; did = refl } },
       own,
@@ -332,7 +369,7 @@ places_message around after name time octets rows file guid old new sees long ea
         given = given_now run event guid refl;
         once = subst (λ (gs : List (List ℕ)). All (λ other. other ≢ guid) gs) (sym (own_left place run event refl)) (none_by_others place guid run.events unknown);
       },
-      stood.1,
+      stood.0.1,
     )
   where
     or_nothing : (b : Bool) → (b || false) ≡ true → b ≡ true
@@ -356,14 +393,15 @@ stored_event lane place number f at long g is calls = record (event_of lane plac
   drew = record no_numbers { map = 1 };
 }
 
-pub stores_message : (around after : Around) (name : List ℕ) (time : ℕ) (octets : List ℕ) (rows : List InstRow) (file : ℕ) (guid : List ℕ) (uid size offset : ℕ) (old new : Seen) → SeesAround octets around old → uid ≡ old.drawn.map + 1 → old.drawn.map < 4294967294 → offset ≡ number_at 12 guid → HasRun old new
+pub stores_message : (around after : Around) (name : List ℕ) (time : ℕ) (octets : List ℕ) (rows : List InstRow) (file : ℕ) (guid : List ℕ) (uid size offset : ℕ) (old new : Seen) → SeesAround octets around old → uid ≡ old.drawn.map + 1 → old.drawn.map < 4294967294 → offset ≡ number_at 12 guid
+    → MapFits old.map (map_entry.S 0 1 (record { 0 = uid }) (record { 0 = file }) offset size (record { 0 = guid }) rows) → HasRun old new
     → new.map ≡ map_applied (map_entry.S 0 1 (record { 0 = uid }) (record { 0 = file }) offset size (record { 0 = guid }) rows) old.map → new.drawn ≡ drawn_also old.drawn (record no_numbers { map = 1 }) → ((other : ℕ) → new.due other ≡ old.due other + one_due uid other) → KeepsTelling old new
-    → Steps (IsStoringMessage rows file guid) (IsAddingMessage guid uid) around after (request.Deliver name time octets) old new did.Quiet None
-stores_message around after name time octets rows file guid uid size offset old new sees next few place_is h taken drawn due tells = λ run lane place said lists come shows stood.
+    → StepsWithRoom (IsStoringMessage rows file guid) (IsAddingMessage guid uid) around after (request.Deliver name time octets) old new did.Quiet None
+stores_message around after name time octets rows file guid uid size offset old new sees next few place_is fits h taken drawn due tells = λ run lane place said lists come shows stood.
     let q = request.Deliver name time octets in
     let entry = map_entry.S 0 1 (record { 0 = uid }) (record { 0 = file }) offset size (record { 0 = guid }) rows in
     let event : RunEvent = record (event_of lane place StoresRecord (told_calls new.history)) { map_entries = entry ∷ []; drew = record no_numbers { map = 1 } } in
-    let s = stood.0 in
+    let s = stood.0.0 in
     let same : (drawn_of run).map ≡ old.drawn.map = ap (λ (d : Highest). d.map) come.come.drawn_is in
     let number : uid ≡ (drawn_of run).map + 1 = next ∙ ap (λ (n : ℕ). n + 1) (sym same) in
     quiet_on around after run lane place said q lists old new event (IsAddingMessage guid uid)
@@ -374,7 +412,7 @@ stores_message around after name time octets rows file guid uid size offset old 
       ended_is = refl;
       unrefused = refl;
       finds = sees.parts;
-      found = finds_place octets around run old sees come;
+      found = λ looked. finds_place octets around run old sees come h.ran (stood.1 h.ran);
       part_is = stores_next around run name time octets rows file guid (own_events place run) s;
       allowed = ap (λ (b : Bool). option_or (refused_where b (refusal.StoreFull 4294967294)) None) (few_uids (drawn_of run).map (omega (arith, same, few)));
       did = (
@@ -382,15 +420,16 @@ stores_message around after name time octets rows file guid uid size offset old 
         size,
         given_guid place run rows file guid s,
         ap (λ (n : ℕ). stored_event lane place n file offset size guid rows (told_calls new.history)) number
-            ∙ (ap (λ (n : ℕ). stored_event lane place ((drawn_of run).map + 1) n offset size guid rows (told_calls new.history)) (sym stood.1)
+            ∙ (ap (λ (n : ℕ). stored_event lane place ((drawn_of run).map + 1) n offset size guid rows (told_calls new.history)) (sym stood.0.1)
             ∙ (ap (λ (n : ℕ). stored_event lane place ((drawn_of run).map + 1) (guid_file run.store guid) n size guid rows (told_calls new.history)) place_is
             ∙ ap (λ (is : List InstRow). stored_event lane place ((drawn_of run).map + 1) (guid_file run.store guid) (number_at 12 guid) size guid is (told_calls new.history)) (sym (found_rows place run rows file guid s)))),
       );
+      fits = All-cons (MapFits (map_of run)) entry [] (subst (λ (m : MapMeaning). MapFits m entry) (sym come.come.map_is) fits) (All-nil (MapFits (map_of run)));
       ends = record { 0 = λ h. absurd (h refl); 1 = λ h. absurd (some_part Last h) };
       replied = tt;
     })
     refl h
-    (comes_to_more run event old new come (comes_stored run event entry old new come taken drawn h.grows refl refl) (λ u. stored_due (old.due u) (new.due u) uid u (due u)) (record { pins = refl; unpins = refl; doomed = refl; removed = refl; gone = refl }) (tells_on event old new refl tells))
+    (comes_to_more run event old new come (comes_stored run event entry old new come taken drawn h.grows refl refl) (λ u. stored_due (old.due u) (new.due u) uid u (due u)) (record { pins = refl; unpins = refl; doomed = refl; removed = refl; gone = refl }) (tells_on event old new refl refl refl tells))
     (no_guids run event refl) shows (
       record {
         rows = rows;
@@ -406,10 +445,10 @@ stores_message around after name time octets rows file guid uid size offset old 
         stored = record { part = refl; entry = entry; raised = refl; did = refl };
       },
       record {
-        long = stood.2.long;
-        each = stood.2.each;
-        given = given_more run event guid ∙ ap (λ (b : Bool). b || false) stood.2.given;
-        once = subst (λ (gs : List (List ℕ)). All (λ other. other ≢ guid) gs) (sym (own_left place run event refl)) stood.2.once;
+        long = stood.0.2.long;
+        each = stood.0.2.each;
+        given = given_more run event guid ∙ ap (λ (b : Bool). b || false) stood.0.2.given;
+        once = subst (λ (gs : List (List ℕ)). All (λ other. other ≢ guid) gs) (sym (own_left place run event refl)) stood.0.2.once;
       },
-      stood.3,
+      stood.0.3,
     )

@@ -3,6 +3,7 @@ use Rattle.std.proofs.Common.{◌≡◌, ◌≤◌, ◌<◌, ◌+◌, ◌^◌, �
 use Rattle.std.specs.Prelude.{find, length, if◌then◌else◌, slice_get}
 use Rattle.std.specs.Option.{option_map, option_or}
 use Rattle.std.specs.Str.{bytes_eq}
+use Rattle.std.proofs.lemmas.List.Elements.{All-nil, All-cons}
 use Rattle.disk_model.specs.Disk.{told_calls, Grows}
 use Rattle.mdbox_base.specs.Streams.{Rose}
 use Rattle.mdbox_base.specs.declared.entries.BoxEntry.TheVariants as box_entry
@@ -18,26 +19,29 @@ use Rattle.mdbox_base.specs.declared.script.Half.TheVariants as half
 use Rattle.model_lists.specs.Lists.{Mailbox, Lists, refs_of}
 use Rattle.model_appends.specs.Appending.{lists_by, meanings_by}
 use Rattle.model_meaning.specs.BoxMeaning.{BoxMeaning}
+use Rattle.model_meaning.specs.MapFits.{MapFits}
 use Rattle.model_meaning.specs.MapMeaning.{MapBox, MapMeaning, map_applied, no_numbers}
 use Rattle.model_store.specs.Listing.{ShowLists, meaning_named}
 use Rattle.model_store.specs.Settled.{IsSettledFor, Leaves}
-use Rattle.list_machine.specs.Run.{Last, GivesBack, RunEvent, event_of, Run, and_then, own_events}
+use Rattle.list_machine.specs.Run.{Last, GivesBack, RunEvent, event_of, Run, and_then, map_of, own_events}
 use Rattle.list_machine.specs.Machine.{first_refusal, part_checks, is_step, IsDelivered, add_message}
 use Rattle.list_machine.proofs.MachineOrderLemmas.{answers_well}
 use Rattle.journal.specs.Journal.{halves_of, refusal_in, IsReplyOf}
-use Rattle.journal.specs.Events.{Around, adds_to, lowers}
+use Rattle.journal.specs.Events.{Around, MayMeet, adds_to, lowers}
+use Rattle.journal.specs.Found.{FindsPlace}
 use Rattle.journal.proofs.RunLemmas.{drawn_none}
 use Rattle.task_steps.specs.ExpungeStages.{one_due}
-use Rattle.task_steps.specs.Step.{Seen, ShowsSeen, HasComeTo, Steps}
+use Rattle.task_steps.specs.Step.{Seen, ShowsSeen, HasComeTo}
 use Rattle.task_steps.proofs.SeenLemmas.{no_guids}
-use Rattle.task_steps.proofs.OneEventLemmas.{never_more}
+use Rattle.task_steps.proofs.OneEventLemmas.{never_more, step_may}
 use Rattle.mail_save.specs.Events.{box_refusal}
+use Rattle.mail_save.specs.SaveSeen.{StepsWithRoom}
 use Rattle.mail_save.specs.SaveStages.{IsAddingMessage, IsLoweringCount, IsOwnGuid}
 use Rattle.mail_save.proofs.SaveRunLemmas.{adds_next, gives_back_behind, gives_back_next, given_before, held_stored, held_refused, saved_refusal, lowered_refusal}
 use Rattle.mail_save.proofs.SaveDidLemmas.{no_reply, some_reply, some_part, one_reply, unstepped, step_runs, HasRun, KeepsTelling, StaysSo, comes_drawn, comes_stored, comes_to_more, tells_on, refused_comes, CanRefuse, did_part, did_check, ends_well, forgets, falls, stops_before, stopped_answer, refusal_event, stands_by}
 use Rattle.mail_save.proofs.SaveFrontLemmas.{SeesAround, finds_place, own_first}
 use Rattle.mail_save.proofs.SaveListLemmas.{AddsTo, adds_to_box, box_checked, has_room, made_of}
-use Rattle.mail_save.proofs.SaveRefusedLemmas.{deliver, step_replied, lowering_why}
+use Rattle.mail_save.proofs.SaveRefusedLemmas.{deliver, never_looked, step_replied, lowering_why}
 
 -- ---- the mailbox that it is added to
 
@@ -115,16 +119,16 @@ shows_as : (new : Seen) (boxes : List MapBox) (meanings : List BoxMeaning) (list
 shows_as new boxes meanings lists b m h = subst (λ (bs : List MapBox). ShowLists bs new.meanings lists) (sym b) (subst (λ (ms : List BoxMeaning). ShowLists boxes ms lists) (sym m) h)
 
 pub saved_message : (around after : Around) (name : List ℕ) (time : ℕ) (octets : List ℕ) (guid : Guid) (held number : ℕ) (uid : Uid) (Stands : Run → ℕ → List Reply → Type 0) (old new : Seen) → SeesAround octets around old → IsInRange time octets → FindsBox name guid.0 uid.0 number old → AddsMessage name time octets guid.0 uid.0 number held old new
-    → Steps (IsAddingMessage guid.0 held) Stands around after (deliver name time octets) old new (did.Step half.Whole) (Some (reply.Saved uid guid))
+    → StepsWithRoom (IsAddingMessage guid.0 held) Stands around after (deliver name time octets) old new (did.Step half.Whole) (Some (reply.Saved uid guid))
 saved_message around after name time octets guid held number uid Stands old new sees range f a = λ run lane place said lists come shows stood.
     let q = deliver name time octets in
     let k = box_known name time octets guid.0 uid.0 number held old lists f shows in
     let ended = Some (reply.Saved uid guid) in
     let event : RunEvent = adding lane place k.mailbox time octets guid.0 held ended (told_calls new.history) in
     let left : Lists = delivered name time octets guid.0 uid.0 lists in
-    let s = stood.0 in
+    let s = stood.0.0 in
     let allowed = room_allows run name octets guid.0 time uid.0 number old lists event f shows.1 in
-    let made = is_delivered run lane place said name time octets guid.0 uid.0 number held old lists ended (told_calls new.history) f shows stood.1 k in (
+    let made = is_delivered run lane place said name time octets guid.0 uid.0 number held old lists ended (told_calls new.history) f shows stood.0.1 k in (
       (did_part around after run lane place said q lists left old new (did.Step half.Whole) ended ended event
           (record {
             lane_is = refl;
@@ -133,15 +137,16 @@ saved_message around after name time octets guid held number uid Stands old new 
             ended_is = refl;
             unrefused = refl;
             finds = sees.parts;
-            found = finds_place octets around run old sees come;
+            found = λ looked. finds_place octets around run old sees come a.ran (stood.1 a.ran);
             part_is = adds_next around run name time octets guid.0 held (own_events place run) s;
             allowed = allowed;
             did = (guid.0, given_before place run guid.0 held s, (k.mailbox, held, k.named, held_stored place run guid.0 held s, refl));
+            fits = All-nil (MapFits (map_of run));
             ends = record { 0 = λ e. refl; 1 = λ e g. some_reply (reply.Saved uid guid) g };
             replied = saved_refusal (own_events place run) guid.0 held event s refl;
           })
           (comes_to_more run event old new come (comes_drawn run event old new come a.map (a.drawn ∙ sym (drawn_none old.drawn)) a.grows refl refl) (λ other. ended_due (old.due other) (new.due other) held other (a.due other))
-          (record { pins = refl; unpins = refl; doomed = refl; removed = refl; gone = refl }) (tells_on event old new refl a.tells))
+          (record { pins = refl; unpins = refl; doomed = refl; removed = refl; gone = refl }) (tells_on event old new refl refl refl a.tells))
           (no_guids run event refl)
           (answers_well run lists q event (reply.Saved uid guid) left shows.0 (range.timed, range.small) (allowed, made), shows_as new old.map.boxes _ left (ap (λ (m : MapMeaning). m.boxes) a.map) a.taken k.shows)
           a.grows refl ((allowed, made), refl) (
@@ -153,8 +158,8 @@ saved_message around after name time octets guid held number uid Stands old new 
               settled = λ settled. subst (λ (ls : Lists). IsSettledFor ls new.history) k.by (a.settled lists settled);
             },
           )
-          (ends_well q said event ended ended (did.Step half.Whole) old new refl a.ran a.runs a.reads a.changes (λ x. x) (saved_runs uid guid) (λ some. ap (λ (r : List Reply). slice_get (halves_of q) (length r)) stood.2)
-          (λ given e. subst (λ (y : Reply). IsReplyOf q (said ++ reply.Saved uid guid ∷ []) y) (one_reply (reply.Saved uid guid) given e) (subst (λ (r : List Reply). IsReplyOf q (r ++ reply.Saved uid guid ∷ []) (reply.Saved uid guid)) (sym stood.2) refl)))).so,
+          (ends_well q said event ended ended (did.Step half.Whole) old new refl a.ran a.runs a.reads a.changes (λ x. x) (saved_runs uid guid) (λ some. ap (λ (r : List Reply). slice_get (halves_of q) (length r)) stood.0.2)
+          (λ given e. subst (λ (y : Reply). IsReplyOf q (said ++ reply.Saved uid guid ∷ []) y) (one_reply (reply.Saved uid guid) given e) (subst (λ (r : List Reply). IsReplyOf q (r ++ reply.Saved uid guid ∷ []) (reply.Saved uid guid)) (sym stood.0.2) refl)))).so,
       λ e. absurd (never_more _ e),
     )
 
@@ -168,36 +173,38 @@ pub record FailsToAdd (time : ℕ) (octets guid : List ℕ) (uid number held : �
   pub rose : Rose old.faults.changes new.faults.changes
   pub moments : (lists : Lists) → IsSettledFor lists old.history → Leaves lists (lists_by number octets (made_of octets (record { 0 = uid }) time (record { 0 = held }) (record { 0 = guid })) lists) old.history new.history
 
-add_stops : (around : Around) (run : Run) (place : ℕ) (name : List ℕ) (time : ℕ) (octets guid : List ℕ) (held : ℕ) (said : List Reply) (seen : Seen) → SeesAround octets around seen → HasComeTo run seen → IsAddingMessage guid held run place said → CanRefuse around run place (deliver name time octets) Last refusal.Stopped stopped_answer no_numbers
-add_stops around run place name time octets guid held said seen sees come stood = record {
+add_stops : (around : Around) (run : Run) (place : ℕ) (name : List ℕ) (time : ℕ) (octets guid : List ℕ) (held : ℕ) (said : List Reply) (seen : Seen) → SeesAround octets around seen → IsAddingMessage guid held run place said
+    → CanRefuse around run place (deliver name time octets) Last refusal.Stopped stopped_answer no_numbers
+add_stops around run place name time octets guid held said seen sees stood = record {
   finds = λ event. sees.parts;
-  found = λ event. finds_place octets around run seen sees come;
+  found = λ event is looked. absurd (never_looked event refusal.Stopped is refl looked);
   part_is = adds_next around run name time octets guid held (own_events place run) stood.0;
   memory = λ e. refl;
+  may = tt;
   ends = record { 0 = λ h. refl; 1 = λ h e. some_reply (reply.Refused refusal.Stopped) e };
   replied = λ given e. subst (λ (r : Reply). refusal_in r ≡ Some refusal.Stopped) (one_reply (reply.Refused refusal.Stopped) given e) refl;
   drawn = λ event. inl refl;
   undrawn = λ s. refl;
 }
 
-pub unsaved_stopped : (around after : Around) (name : List ℕ) (time : ℕ) (octets guid : List ℕ) (held : ℕ) (Stands : Run → ℕ → List Reply → Type 0) (seen : Seen) → SeesAround octets around seen → ((file : ℕ) → seen.used file ≡ false) → seen.stopped ≡ true
-    → Steps (IsAddingMessage guid held) Stands around after (deliver name time octets) seen seen did.Quiet stopped_answer
-unsaved_stopped around after name time octets guid held Stands seen sees unused stopped = λ run lane place said lists come shows stood. (
-  (stops_before around after run lane place said (deliver name time octets) Last lists seen (add_stops around run place name time octets guid held said seen sees come stood) refl unused come shows tt stopped).so,
+pub unsaved_stopped : (around after : Around) (name : List ℕ) (time : ℕ) (octets guid : List ℕ) (held : ℕ) (Stands : Run → ℕ → List Reply → Type 0) (seen : Seen) → SeesAround octets around seen → seen.stopped ≡ true
+    → StepsWithRoom (IsAddingMessage guid held) Stands around after (deliver name time octets) seen seen did.Quiet stopped_answer
+unsaved_stopped around after name time octets guid held Stands seen sees stopped = λ run lane place said lists come shows stood. (
+  (stops_before around after run lane place said (deliver name time octets) Last lists seen (add_stops around run place name time octets guid held said seen sees stood.0) come shows tt stopped).so,
   λ e. absurd (never_more _ e),
 )
 
 pub broken_save : (around after : Around) (name : List ℕ) (time : ℕ) (octets : List ℕ) (guid : Guid) (held number : ℕ) (uid : Uid) (Stands : Run → ℕ → List Reply → Type 0) (old new : Seen) → SeesAround octets around old → FindsBox name guid.0 uid.0 number old → FailsToAdd time octets guid.0 uid.0 number held old new
-    → Steps (IsAddingMessage guid.0 held) Stands around after (deliver name time octets) old new (did.Broken half.Whole) stopped_answer
+    → StepsWithRoom (IsAddingMessage guid.0 held) Stands around after (deliver name time octets) old new (did.Broken half.Whole) stopped_answer
 broken_save around after name time octets guid held number uid Stands old new sees f a = λ run lane place said lists come shows stood.
     let q = deliver name time octets in
     let k = box_known name time octets guid.0 uid.0 number held old lists f shows in
     let would : RunEvent = adding lane place k.mailbox time octets guid.0 held None (told_calls new.history) in
     let left : Lists = delivered name time octets guid.0 uid.0 lists in
-    let s = stood.0 in
+    let s = stood.0.0 in
     let allowed = room_allows run name octets guid.0 time uid.0 number old lists would f shows.1 in
-    let made = is_delivered run lane place said name time octets guid.0 uid.0 number held old lists None (told_calls new.history) f shows stood.1 k in (
-      (falls around after run lane place said q Last lists old new (did.Broken half.Whole) no_numbers (add_stops around run place name time octets guid.0 held said old sees come stood) refl come a.stays shows tt a.ran a.stopped a.rose (
+    let made = is_delivered run lane place said name time octets guid.0 uid.0 number held old lists None (told_calls new.history) f shows stood.0.1 k in (
+      (falls around after run lane place said q Last lists old new (did.Broken half.Whole) no_numbers (add_stops around run place name time octets guid.0 held said old sees stood.0) come a.stays shows tt a.ran a.stopped a.rose (
         record { refused = refl; unanswered = refl; ran = a.ran; stopped = a.stopped },
         refl,
         (
@@ -219,13 +226,14 @@ broken_save around after name time octets guid held number uid Stands old new se
 
 -- ---- it is refused, and goes on
 
-add_goes_on : (around : Around) (run : Run) (place : ℕ) (name : List ℕ) (time : ℕ) (octets guid : List ℕ) (held : ℕ) (said : List Reply) (why : Refusal) (seen : Seen) → SeesAround octets around seen → HasComeTo run seen → IsAddingMessage guid held run place said → (why ≡ refusal.Stopped → ⊥)
-    → CanRefuse around run place (deliver name time octets) Last why None no_numbers
-add_goes_on around run place name time octets guid held said why seen sees come stood other = record {
+add_goes_on : (around : Around) (run : Run) (place : ℕ) (name : List ℕ) (time : ℕ) (octets guid : List ℕ) (held : ℕ) (said : List Reply) (why : Refusal) (seen : Seen) → SeesAround octets around seen → IsAddingMessage guid held run place said → FindsPlace run around → (why ≡ refusal.Stopped → ⊥)
+    → MayMeet Last (deliver name time octets) why → CanRefuse around run place (deliver name time octets) Last why None no_numbers
+add_goes_on around run place name time octets guid held said why seen sees stood place_is other may = record {
   finds = λ event. sees.parts;
-  found = λ event. finds_place octets around run seen sees come;
+  found = λ event is looked. place_is;
   part_is = adds_next around run name time octets guid held (own_events place run) stood.0;
   memory = λ e. refl;
+  may = may;
   ends = record { 0 = λ h. absurd (h refl); 1 = λ h. absurd (some_part GivesBack (sym (gives_back_behind name time octets why other) ∙ h)) };
   replied = λ given e. absurd (no_reply given e);
   drawn = λ event. inl refl;
@@ -258,21 +266,21 @@ lowers_next place lane calls run guid held said why answer stood is cause =
     )
 
 pub refused_message : (around after : Around) (name : List ℕ) (time : ℕ) (octets guid : List ℕ) (held : ℕ) (why : Refusal) (old new : Seen) → SeesAround octets around old → is_step why ≡ true → box_refusal (meaning_named name old.map.boxes old.meanings) ≡ Some why → HasRun old new → StaysSo no_numbers old new
-    → Steps (IsAddingMessage guid held) (IsLoweringCount held why) around after (deliver name time octets) old new (did.Step half.Whole) None
+    → StepsWithRoom (IsAddingMessage guid held) (IsLoweringCount held why) around after (deliver name time octets) old new (did.Step half.Whole) None
 refused_message around after name time octets guid held why old new sees step refuses h stays = λ run lane place said lists come shows stood.
     let q = deliver name time octets in
     stands_by around after run lane place said q lists old new (did.Step half.Whole) None (refusal_event lane place Last why None no_numbers (told_calls new.history)) (Some (reply.Refused why)) (IsLoweringCount held why)
-    (did_check around after run lane place said q Last lists old new why None half.Whole (add_goes_on around run place name time octets guid held said why old sees come stood (step_runs why step)) (refused_comes run lane place Last why None no_numbers old new refl come stays) (h.shown lists shows) h.grows h.ran h.runs (h.leads lists) step refl
-    (ap (λ (r : List Reply). slice_get (half.Whole ∷ []) (length r)) stood.2) (λ event. box_checked run name old.map.boxes old.meanings lists [] shows.1 ∙ ap (λ (r : Option Refusal). option_or r None) refuses) (λ given e. absurd (no_reply given e)) (λ e. no_reply (reply.Refused refusal.Stopped) e) h.reads h.changes)
-    (λ goes_on. lowers_next place lane (told_calls new.history) run guid held said why (said ++ reply.Refused why ∷ []) stood (ap (λ (r : List Reply). r ++ reply.Refused why ∷ []) stood.2 ∙ sym (ap (λ (b : Bool). if b then reply.Refused why ∷ [] else []) step)) (inl step))
+    (did_check around after run lane place said q Last lists old new why None half.Whole (add_goes_on around run place name time octets guid held said why old sees stood.0 (finds_place octets around run old sees come h.ran (stood.1 h.ran)) (step_runs why step) (step_may Last q why step)) (refused_comes run lane place Last why None no_numbers old new come stays) (h.shown lists shows) h.grows h.ran h.runs (h.leads lists) step refl
+    (ap (λ (r : List Reply). slice_get (half.Whole ∷ []) (length r)) stood.0.2) (λ event. box_checked run name old.map.boxes old.meanings lists [] shows.1 ∙ ap (λ (r : Option Refusal). option_or r None) refuses) (λ given e. absurd (no_reply given e)) (λ e. no_reply (reply.Refused refusal.Stopped) e) h.reads h.changes)
+    (λ goes_on. lowers_next place lane (told_calls new.history) run guid held said why (said ++ reply.Refused why ∷ []) stood.0 (ap (λ (r : List Reply). r ++ reply.Refused why ∷ []) stood.0.2 ∙ sym (ap (λ (b : Bool). if b then reply.Refused why ∷ [] else []) step)) (inl step))
 
 pub forgotten_message : (around after : Around) (name : List ℕ) (time : ℕ) (octets guid : List ℕ) (held : ℕ) (old new : Seen) → SeesAround octets around old → HasRun old new → StaysSo no_numbers old new
-    → Steps (IsAddingMessage guid held) (IsLoweringCount held refusal.NoMemory) around after (deliver name time octets) old new did.Quiet None
+    → StepsWithRoom (IsAddingMessage guid held) (IsLoweringCount held refusal.NoMemory) around after (deliver name time octets) old new did.Quiet None
 forgotten_message around after name time octets guid held old new sees h stays = λ run lane place said lists come shows stood.
     let q = deliver name time octets in
     stands_by around after run lane place said q lists old new did.Quiet None (refusal_event lane place Last refusal.NoMemory None no_numbers (told_calls new.history)) None (IsLoweringCount held refusal.NoMemory)
-    (forgets around after run lane place said q Last lists old new None (add_goes_on around run place name time octets guid held said refusal.NoMemory old sees come stood (λ e. let k : refusal.NoMemory ≡ refusal.Stopped = e in cc k)) refl come shows h stays (λ given e. absurd (no_reply given e)) (λ e. no_reply (reply.Refused refusal.Stopped) e))
-    (λ goes_on. lowers_next place lane (told_calls new.history) run guid held said refusal.NoMemory said stood stood.2 (inr refl))
+    (forgets around after run lane place said q Last lists old new None (add_goes_on around run place name time octets guid held said refusal.NoMemory old sees stood.0 (finds_place octets around run old sees come h.ran (stood.1 h.ran)) (λ e. let k : refusal.NoMemory ≡ refusal.Stopped = e in cc k) tt) come shows h stays (λ given e. absurd (no_reply given e)) (λ e. no_reply (reply.Refused refusal.Stopped) e))
+    (λ goes_on. lowers_next place lane (told_calls new.history) run guid held said refusal.NoMemory said stood.0 stood.0.2 (inr refl))
 
 -- ---- it is given back
 
@@ -287,14 +295,14 @@ lowered_reply name time octets said why is (inl s) = subst (λ (l : List Reply).
 lowered_reply name time octets said why is (inr m) =
     subst (λ (w : Refusal). IsReplyOf (deliver name time octets) said (reply.Refused w)) (sym m) (is ∙ ap (λ (w : Refusal). if is_step w then reply.Refused w ∷ [] else []) m)
 
-pub lowers_count : (around after : Around) (name : List ℕ) (time : ℕ) (octets : List ℕ) (held : ℕ) (why : Refusal) (Stands : Run → ℕ → List Reply → Type 0) (old new : Seen) → SeesAround octets around old → HasRun old new → new.map ≡ map_applied (map_entry.D (record { 0 = held } ∷ [])) old.map → new.drawn ≡ old.drawn
+pub lowers_count : (around after : Around) (name : List ℕ) (time : ℕ) (octets : List ℕ) (held : ℕ) (why : Refusal) (Stands : Run → ℕ → List Reply → Type 0) (old new : Seen) → SeesAround octets around old → HasRun old new → MapFits old.map (map_entry.D (record { 0 = held } ∷ [])) → new.map ≡ map_applied (map_entry.D (record { 0 = held } ∷ [])) old.map → new.drawn ≡ old.drawn
     → ((other : ℕ) → new.due other + one_due held other ≡ old.due other) → KeepsTelling old new
-    → Steps (IsLoweringCount held why) Stands around after (deliver name time octets) old new did.Quiet (Some (reply.Refused why))
-lowers_count around after name time octets held why Stands old new sees h taken drawn due tells = λ run lane place said lists come shows stood.
+    → StepsWithRoom (IsLoweringCount held why) Stands around after (deliver name time octets) old new did.Quiet (Some (reply.Refused why))
+lowers_count around after name time octets held why Stands old new sees h fits taken drawn due tells = λ run lane place said lists come shows stood.
     let q = deliver name time octets in
     let event : RunEvent = giving_back lane place held why (told_calls new.history) in
-    let s = stood.0 in
-    let other = lowering_why why stood.2 in (
+    let s = stood.0.0 in
+    let other = lowering_why why stood.0.2 in (
       (did_part around after run lane place said q lists lists old new did.Quiet (Some (reply.Refused why)) None event
           (record {
             lane_is = refl;
@@ -303,17 +311,18 @@ lowers_count around after name time octets held why Stands old new sees h taken 
             ended_is = refl;
             unrefused = refl;
             finds = sees.parts;
-            found = finds_place octets around run old sees come;
+            found = λ looked. finds_place octets around run old sees come h.ran (stood.1 h.ran);
             part_is = gives_back_next around run name time octets held why (own_events place run) other s;
             allowed = refl;
             did = (held, held_refused place run held why s, refl);
+            fits = All-cons (MapFits (map_of run)) (map_entry.D (record { 0 = held } ∷ [])) [] (subst (λ (m : MapMeaning). MapFits m (map_entry.D (record { 0 = held } ∷ []))) (sym come.come.map_is) fits) (All-nil (MapFits (map_of run)));
             ends = record { 0 = λ e. refl; 1 = λ e f. some_reply (reply.Refused why) f };
             replied = lowered_refusal (own_events place run) held why event s refl;
           })
           (comes_to_more run event old new come (comes_stored run event (map_entry.D (record { 0 = held } ∷ [])) old new come taken (drawn ∙ sym (drawn_none old.drawn)) h.grows refl refl) (λ u. lowered_ends (old.due u) (new.due u) held u (due u))
-          (record { pins = refl; unpins = refl; doomed = refl; removed = refl; gone = refl }) (tells_on event old new refl tells))
+          (record { pins = refl; unpins = refl; doomed = refl; removed = refl; gone = refl }) (tells_on event old new refl refl refl tells))
           (no_guids run event refl) (h.shown lists shows) h.grows refl refl (refl, h.runs ∙ sym h.ran, h.leads lists)
           (ends_well q said event None (Some (reply.Refused why)) did.Quiet old new refl h.ran h.runs h.reads h.changes (λ x. x) (λ e. other (let k : reply.Refused why ≡ reply.Refused refusal.Stopped = cc e in cc k)) (λ some. absurd (unstepped some))
-          (λ given e. subst (λ (x : Reply). IsReplyOf q said x) (one_reply (reply.Refused why) given e) (lowered_reply name time octets said why stood.1 stood.2)))).so,
+          (λ given e. subst (λ (x : Reply). IsReplyOf q said x) (one_reply (reply.Refused why) given e) (lowered_reply name time octets said why stood.0.1 stood.0.2)))).so,
       λ e. absurd (never_more _ e),
     )

@@ -1,5 +1,5 @@
 -- Which instances a store knows, as an event sees it: also after some were held, let go, or placed.
-use Rattle.std.proofs.Common.{◌≡◌, ◌≤◌, ◌<◌, ◌+◌, ◌-◌, ◌==◌, ◌&&◌, ℕ, Bool, true, false, not, List, [], ◌∷◌, ◌++◌, ◌⊎◌, length, take, drop, Option, Some, None, refl, sym, ◌∙◌, ap, subst, append_assoc, append-nil, arith, inl, inr}
+use Rattle.std.proofs.Common.{◌≡◌, ◌≤◌, ◌<◌, ◌+◌, ◌-◌, ◌==◌, ◌&&◌, ◌||◌, ℕ, Bool, true, false, not, List, [], ◌∷◌, ◌++◌, ◌⊎◌, length, take, drop, Option, Some, None, refl, sym, ◌∙◌, ap, subst, append_assoc, append-nil, arith, inl, inr}
 use Rattle.std.specs.Prelude.{Contains, cond, nat_le, if◌then◌else◌}
 use Rattle.std.specs.Int.{w32, from_be_bytes, to_be_bytes}
 use Rattle.std.specs.Option.{option_map, option_map_or}
@@ -22,9 +22,10 @@ use Rattle.save_instances.specs.Attaching.{AttachingValue, candidate_for, candid
 use Rattle.sis_store.specs.Instances.{AreInstances, InstancesValue, after_placing, candidate_in, holders_in, instance_in, instance_placed, next_id, numbered_id, with_holders, with_instance}
 use Rattle.sis_store.specs.declared.instance.KnownInstance.{KnownInstance}
 use Rattle.sis_store.proofs.CandidateLemmas.{candidate_row}
-use Rattle.sis_store.proofs.IdLemmas.{all-with, instance-in}
-use Rattle.sis_store.proofs.KeysLemmas.{found-among}
+use Rattle.sis_store.proofs.IdLemmas.{all-with, instance-in, same_id}
+use Rattle.sis_store.proofs.KeysLemmas.{found-among, kept-placed}
 use Rattle.store_core.proofs.KnownInstanceLemmas.{row_held}
+use Rattle.store_core.proofs.PlacedInstanceLemmas.{new_known, next_is_new, still_known}
 use Rattle.store_core.specs.Knows.{knows_instance, may_be_gone}
 use Rattle.store_core.specs.StoreInstances.{AreInstancesKept}
 use Rattle.store_core.specs.Value.{StoreValue}
@@ -68,7 +69,7 @@ placed_among known new k among = All-contains (λ (x : KnownInstance). (x ≡ ne
 both_same : (a b : Bool) → a ≡ true → b ≡ true → (a && b) ≡ true
 both_same a b x y = rw (x, y) refl
 
-pub knows_placed : (value : InstancesValue) (hash : Hash) (size : ℕ) (row : InstRow) → AreInstances value → knows_in (after_placing hash size value).known row ≡ true
+knows_placed : (value : InstancesValue) (hash : Hash) (size : ℕ) (row : InstRow) → AreInstances value → knows_in (after_placing hash size value).known row ≡ true
     → (knows_in value.known row ≡ true) ⊎ (is_same_instance row (instance_placed value hash size).row ≡ true)
 knows_placed value hash size row are some = by_found (instance_in row.id (with_instance new value.known)) refl some
   where
@@ -89,6 +90,62 @@ knows_placed value hash size row are some = by_found (instance_in row.id (with_i
               let there : instance_in row.id value.known ≡ Some k = subst (λ (i : InstId). instance_in i value.known ≡ Some k) a.1 (instance-in value.known k are.rising before) in
               inl (ap (λ (o : Option KnownInstance). option_map_or (λ (x : KnownInstance). bytes_eq x.row.hash.0 row.hash.0) o false) there ∙ e)
         ]
+
+-- what was known is known still
+knows_still : (value : InstancesValue) (hash : Hash) (size : ℕ) (row : InstRow) → AreInstances value → value.highest < 4294967294 → AreInstances (after_placing hash size value) → knows_in value.known row ≡ true → knows_in (after_placing hash size value).known row ≡ true
+knows_still value hash size row are less later some = by_found (instance_in row.id value.known) refl some
+  where
+    new : KnownInstance
+    new = instance_placed value hash size
+
+    by_found : (o : Option KnownInstance) → instance_in row.id value.known ≡ o → option_map_or (λ (k : KnownInstance). bytes_eq k.row.hash.0 row.hash.0) o false ≡ true → knows_in (with_instance new value.known) row ≡ true
+    by_found None is e = absurd (let w : false ≡ true = e in cc w)
+    by_found (Some k) is e =
+        let a = found-among row.id value.known k is in
+        let there : Contains (with_instance new value.known) k = still_known value.known new k a.0 (next_is_new value k are less a.0) in
+        let found : instance_in row.id (with_instance new value.known) ≡ Some k = subst (λ (i : InstId). instance_in i (with_instance new value.known) ≡ Some k) a.1 (instance-in (with_instance new value.known) k later.rising there) in
+        ap (λ (o : Option KnownInstance). option_map_or (λ (x : KnownInstance). bytes_eq x.row.hash.0 row.hash.0) o false) found ∙ e
+
+both_parts : (a b : Bool) → (a && b) ≡ true → (a ≡ true) × (b ≡ true)
+both_parts true b e = (refl, e)
+both_parts false b e = absurd (let k : false ≡ true = e in cc k)
+
+-- and so is the new one
+knows_new : (value : InstancesValue) (hash : Hash) (size : ℕ) (row : InstRow) → AreInstances (after_placing hash size value) → is_same_instance row (instance_placed value hash size).row ≡ true → knows_in (after_placing hash size value).known row ≡ true
+knows_new value hash size row later same =
+    let new : KnownInstance = instance_placed value hash size in
+    let both = both_parts (bytes_eq row.hash.0 new.row.hash.0) (bytes_eq row.id.0 new.row.id.0) same in
+    let hashed : row.hash.0 ≡ new.row.hash.0 = (bytes_eq-Decides row.hash.0 new.row.hash.0).0 both.0 in
+    let id : new.row.id ≡ row.id = same_id new.row.id row.id (sym ((bytes_eq-Decides row.id.0 new.row.id.0).0 both.1)) in
+    let found : instance_in row.id (with_instance new value.known) ≡ Some new = subst (λ (i : InstId). instance_in i (with_instance new value.known) ≡ Some new) id (instance-in (with_instance new value.known) new later.rising (new_known value.known new)) in
+    ap (λ (o : Option KnownInstance). option_map_or (λ (x : KnownInstance). bytes_eq x.row.hash.0 row.hash.0) o false) found ∙ (bytes_eq-Decides new.row.hash.0 row.hash.0).1 (sym hashed)
+
+same_bool : (a b : Bool) → (a ≡ true → b ≡ true) → (b ≡ true → a ≡ true) → a ≡ b
+same_bool true b f g = sym (f refl)
+same_bool false true f g = g refl
+same_bool false false f g = refl
+
+pub knows_with : (value : InstancesValue) (hash : Hash) (size : ℕ) (row : InstRow) → AreInstances value → value.highest < 4294967294 → knows_in (after_placing hash size value).known row ≡ (knows_in value.known row || is_same_instance row (instance_placed value hash size).row)
+knows_with value hash size row are less =
+    same_bool (knows_in (after_placing hash size value).known row) (knows_in value.known row || is_same_instance row new.row) (λ e. either (knows_placed value hash size row are e)) (λ e. by_known (knows_in value.known row) refl e)
+  where
+    new : KnownInstance
+    new = instance_placed value hash size
+
+    later : AreInstances (after_placing hash size value)
+    later = kept-placed value new are less refl
+
+    or_true : (b : Bool) → (b || true) ≡ true
+    or_true true = refl
+    or_true false = refl
+
+    either : (knows_in value.known row ≡ true) ⊎ (is_same_instance row new.row ≡ true) → (knows_in value.known row || is_same_instance row new.row) ≡ true
+    either (inl e) = ap (λ (b : Bool). b || is_same_instance row new.row) e
+    either (inr e) = ap (λ (b : Bool). knows_in value.known row || b) e ∙ or_true (knows_in value.known row)
+
+    by_known : (b : Bool) → knows_in value.known row ≡ b → (b || is_same_instance row new.row) ≡ true → knows_in (after_placing hash size value).known row ≡ true
+    by_known true known e = knows_still value hash size row are less later known
+    by_known false known e = knows_new value hash size row later e
 
 -- ---- candidates
 
@@ -153,7 +210,7 @@ next_number store kept long few =
     subst (λ (s : List ℕ). instance_number s (next_id store.instances).0 ≡ store.drawn.instance + 1) kept.store
     (number_of_id store.instances.store (store.instances.highest + 1) (ap length kept.store ∙ long) (omega (arith, high, few)) ∙ omega (arith, high))
 
-above : (a b : ℕ) → a ≡ b + 1 → nat_le a b ≡ false
+pub above : (a b : ℕ) → a ≡ b + 1 → nat_le a b ≡ false
 above a b e = grind (arith, common_steps, e)
 
 -- none of its number was removed
@@ -169,13 +226,13 @@ gone_on old new row id more e = le_more (instance_number new.map.store row.id.0)
 
 -- ---- before and after an event
 
--- The store may have removed no less, and knows no more instances.
-pub record KnowsNoMore {D : Type 0} (old new : StoreValue D) : Type 0 where
+-- The store may have removed no less, and knows the same instances.
+pub record KnowsAlike {D : Type 0} (old new : StoreValue D) : Type 0 where
   pub drawn : old.drawn.instance ≤ new.drawn.instance
-  pub known : (row : InstRow) → knows_instance new row ≡ true → knows_instance old row ≡ true
+  pub known : (row : InstRow) → knows_instance new row ≡ knows_instance old row
 
-pub knows_same : {D : Type 0} → (old new : StoreValue D) → new.instances ≡ old.instances → new.drawn.instance ≡ old.drawn.instance → KnowsNoMore old new
+pub knows_same : {D : Type 0} → (old new : StoreValue D) → new.instances ≡ old.instances → new.drawn.instance ≡ old.drawn.instance → KnowsAlike old new
 knows_same old new same drawn = record {
   drawn = omega (arith, drawn);
-  known = λ row e. ap (λ (i : InstancesValue). knows_in i.known row) (sym same) ∙ e;
+  known = λ row. ap (λ (i : InstancesValue). knows_in i.known row) same;
 }

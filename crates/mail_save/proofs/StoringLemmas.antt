@@ -1,6 +1,7 @@
 -- What storing a record, and lowering its count, make of a store.
-use Rattle.std.proofs.Common.{◌≡◌, ◌≤◌, ◌+◌, ℕ, List, Option, Some, None, Ok, Err, inl, inr, refl, sym, ◌∙◌, ap, subst, arith}
+use Rattle.std.proofs.Common.{◌≡◌, ◌≤◌, ◌+◌, ℕ, List, [], Option, Some, None, Ok, Err, inl, inr, refl, sym, ◌∙◌, ap, subst, arith}
 use Rattle.std.specs.Prelude.{◌⊎◌, IfOk, IfErr, Result}
+use Rattle.std.proofs.lemmas.List.Elements.{All-nil, All-cons}
 use Rattle.disk_model.specs.Disk.{History, Between}
 use Rattle.disk_model.proofs.BetweenLemmas.{between-map}
 use Rattle.mdbox_base.specs.declared.entries.Highest.{Highest}
@@ -10,6 +11,7 @@ use Rattle.mdbox_base.specs.declared.ids.MapUid.{MapUid}
 use Rattle.mdbox_base.specs.declared.replies.Refusal.{Refusal}
 use Rattle.mdbox_base.specs.declared.replies.Refusal.TheVariants as refusal
 use Rattle.model_appends.specs.Amounts.{due_by}
+use Rattle.model_meaning.specs.MapFits.{HasRecord, MapFits}
 use Rattle.model_meaning.specs.MapMeaning.{MapRecord, MapMeaning, map_applied, record_at}
 use Rattle.model_store.specs.Settled.{files_of}
 use Rattle.model_store.specs.Stands.{StoresMessage}
@@ -40,15 +42,16 @@ given_change file old mid new same given =
     let whole : new ≡ record old { disk = mid.disk; map_log = mid.map_log; map = mid.map; files = record old.files { files = released_in file old.files.files }; drawn = mid.drawn; dues = mid.dues; stopped = mid.stopped } = given ∙ ap (giver_store file) same in
     subst (λ (v : StoreValue _). v ≡ record old { disk = v.disk; map_log = v.map_log; map = v.map; files = record old.files { files = released_in file old.files.files }; drawn = v.drawn; dues = v.dues; stopped = v.stopped }) (sym whole) refl
 
-pub stores_placed : {D : Type 0} → (at : SavedAt) (rows : List InstRow) (time size : ℕ) (uid : MapUid) (old mid new : StoreValue D) → uid.0 ≡ old.drawn.map + 1 → uid.0 ≤ 4294967294
+pub stores_placed : {D : Type 0} → (at : SavedAt) (rows : List InstRow) (time size : ℕ) (uid : MapUid) (old mid new : StoreValue D) → uid.0 ≡ old.drawn.map + 1 → uid.0 ≤ 4294967294 → MapFits old.map (entry_stored rows uid at)
     → mid.map ≡ map_applied (entry_stored rows uid at) old.map → record_at mid.map uid.0 ≡ Some (saved_row rows uid at)
     → mid.drawn ≡ record old.drawn { map = uid.0 }
     → ((other : ℕ) → due_at other mid ≡ due_by (entry_stored rows uid at) (λ k. due_at k old) other)
     → mid.map.boxes ≡ old.map.boxes → IsMapChange old mid → new ≡ giver_store at.file.0 mid → ((number : ℕ) → end_in number new.files.files ≡ end_in number mid.files.files)
     → StoresPlaced at rows time size (record { map_uid = uid; guid = at.guid; time = time; size = size }) old new
-stores_placed at rows time size uid old mid new next high taken there drawn due boxes same given ends = record {
+stores_placed at rows time size uid old mid new next high fits taken there drawn due boxes same given ends = record {
   uid_is = next;
   few = omega (arith, next, high);
+  fits = fits;
   guid_is = refl;
   time_is = refl;
   size_is = refl;
@@ -88,9 +91,10 @@ left_unadded old new same indexes dues = record {
   same = alone_as old new (record old { disk = new.disk; boxes = new.boxes; stopped = new.stopped }) (same ∙ ap (λ (n : List ℕ). record old { disk = new.disk; boxes = new.boxes; dues = n; stopped = new.stopped }) dues) refl;
 }
 
-pub lowers_record : {D : Type 0} → (uid : MapUid) (entry : MapEntry) (old new : StoreValue D) → entry ≡ entry_lowered uid → IsMapChange old new → new.map ≡ map_applied entry old.map → new.map.boxes ≡ old.map.boxes → new.drawn ≡ drawn_by entry old.drawn
+pub lowers_record : {D : Type 0} → (uid : MapUid) (entry : MapEntry) (old new : StoreValue D) → entry ≡ entry_lowered uid → HasRecord old.map uid.0 (λ row. 1 ≤ row.count) → IsMapChange old new → new.map ≡ map_applied entry old.map → new.map.boxes ≡ old.map.boxes → new.drawn ≡ drawn_by entry old.drawn
     → ((other : ℕ) → due_at other new ≡ due_by entry (λ k. due_at k old) other) → LowersRecord uid old new
-lowers_record uid entry old new is same taken boxes drawn due = record {
+lowers_record uid entry old new is there same taken boxes drawn due = record {
+  fits = (λ k within. absurd (omega (arith, within)), All-cons (λ (u : MapUid). HasRecord old.map u.0 (λ row. 1 ≤ row.count)) uid [] there (All-nil _));
   map = taken ∙ ap (λ (e : MapEntry). map_applied e old.map) is;
   due = λ other. due other ∙ ap (λ (e : MapEntry). due_by e (λ k. due_at k old) other) is;
   mailboxes = boxes;

@@ -18,6 +18,7 @@ use Rattle.model_appends.specs.Amounts.{due_by, due_by_box}
 use Rattle.model_appends.specs.Appending.{meanings_by}
 use Rattle.model_appends.specs.MapAppending.{stored_row}
 use Rattle.model_meaning.specs.BoxMeaning.{BoxMeaning}
+use Rattle.model_meaning.specs.MapFits.{MapFits}
 use Rattle.model_meaning.specs.MapMeaning.{MapRecord, map_applied, record_at}
 use Rattle.save_instances.specs.Attaching.{AttachingValue, candidate_held, found_let_go, next_attachment, next_candidate, nothing_found, part_row, with_compared, with_found}
 use Rattle.saved_message.specs.Laid.{IsLaid}
@@ -187,6 +188,7 @@ saved_row rows uid at = stored_row 0 1 uid at.file at.offset at.size at.guid row
 pub record StoresPlaced {D : Type 0} (at : SavedAt) (rows : List InstRow) (time size : ℕ) (added : Added) (old new : StoreValue D) : Type 0 where
   pub uid_is : added.map_uid.0 ≡ old.drawn.map + 1
   pub few : old.drawn.map < 4294967294
+  pub fits : MapFits old.map (entry_stored rows added.map_uid at)
   pub guid_is : added.guid ≡ at.guid
   pub time_is : added.time ≡ time
   pub size_is : added.size ≡ size
@@ -221,6 +223,7 @@ pub record AddsStored {D : Type 0} (name : List ℕ) (added : Added) (uid : Uid)
 
 -- The count of its record is lowered, and one less of it is due.
 pub record LowersRecord {D : Type 0} (uid : MapUid) (old new : StoreValue D) : Type 0 where
+  pub fits : MapFits old.map (entry_lowered uid)
   pub map : new.map ≡ map_applied (entry_lowered uid) old.map
   pub due : (other : ℕ) → due_at other new ≡ due_by (entry_lowered uid) (λ k. due_at k old) other
   pub mailboxes : new.map.boxes ≡ old.map.boxes

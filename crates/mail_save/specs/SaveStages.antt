@@ -30,7 +30,7 @@ pub record HasAttached (event : RunEvent) : Type 0 where
 pub record TookFile (file : ℕ) (event : RunEvent) : Type 0 where
   pub new : Bool
   pub part : event.part ≡ TakesFile new
-  pub did : event ≡ record (plain event) { files = record { file = file; target = 0 } ∷ []; drew = event.drew }
+  pub did : event ≡ record (plain event) { files = record { file = file; target = 0 } ∷ []; made = event.made; drew = event.drew }
 
 -- the event placed the message, and gave it this GUID
 pub record HasPlaced (guid : List ℕ) (event : RunEvent) : Type 0 where

@@ -8,15 +8,15 @@ use Rattle.std.proofs.lemmas.Bool.{cases_Bool, cond-false, or_from, true≢false
 use Rattle.std.proofs.lemmas.Option.{same_Some}
 use Rattle.std.proofs.lemmas.List.{length-take, get_or-take}
 use Rattle.std.proofs.lemmas.List.Elements.{All-take, All-append, All-from_get_or}
-use Rattle.disk_model.specs.Disk.{FileState, DiskState, History, MayHold, MayLeave, Reaches, Keeps, IfTold, IsImage, Between, after, change, written, half_written, synced, overlaid, covers, reading}
+use Rattle.disk_model.specs.Disk.{FileState, DiskState, History, EachImage, SameButFor, MayHold, MayLeave, Reaches, IsThere, Keeps, IfTold, IsImage, Between, after, change, written, half_written, synced, overlaid, covers, reading}
 use Rattle.disk_model.specs.declared.name.FileName.{FileName}
 use Rattle.disk_model.proofs.MomentLemmas.{if_told-map, if_told-both, if_told-all}
-use Rattle.disk_model.proofs.OneFileLemmas.{same_by_get, change-here}
+use Rattle.disk_model.proofs.OneFileLemmas.{IsAlong, Along, along-begins, along-goes_on, same_by_get, change-here}
 use Rattle.disk_model.proofs.ChangeAndSyncLemmas.{CanNow}
 use Rattle.disk_model.proofs.BetweenLemmas.{between-step, between-after, between-if}
 use Rattle.disk_model.proofs.FirmLemmas.{at_place, reading_from_there}
 use Rattle.disk_model.proofs.LeavingLemmas.{covers-before, overlaid-end}
-use Rattle.storage_files.specs.OnDisk.{IsAddedTo}
+use Rattle.storage_files.specs.OnDisk.{IsAddedTo, IsPieceAdded, IsSyncedFile}
 
 abbrev pub AreOctets : List ℕ → Type 0
 AreOctets text = All (λ octet. octet < 256) text
@@ -153,6 +153,81 @@ added-between name end from old mid new are s is1 is2 =
     between-after (IsWritten name end from) (IsWrittenSynced name end from) (λ disk. Unit {0}) (change name synced) old mid new (λ a b w t. change-here name synced b ∙ ap synced w) first (if_told-all _ mid (λ disk. tt)) is2 in
     between-if (IsWrittenSynced name end from) (λ a b. IsAddedTo from (a name) (b name)) (λ disk. Stands end (disk name)) old new
     (λ a b w st. let F : FileState → Type 0 = λ f. IsAddedTo from (a name) f in subst F (sym w) (added_file end from (a name) are st)) second s
+
+-- ---- a piece, without a sync
+
+piece_file : (end : ℕ) (from : List ℕ) (f : FileState) → Stands end f → IsPieceAdded from f (written end from f)
+piece_file end from f s = record {
+  before = f.octets;
+  read = reading_from_there f s.there;
+  reads = reading_from_there (written end from f) s.there ∙ ap Some (end_octets end from f s);
+  leaves = λ left. left;
+}
+
+pub piece-between : (name : FileName) (end : ℕ) (from : List ℕ) (old new : Option History) → IfTold old (λ disk. Stands end (disk name)) → new ≡ after (change name (written end from)) old
+    → Between (λ a b. IsPieceAdded from (a name) (b name)) old new
+piece-between name end from old new s is =
+    between-if (IsWritten name end from) (λ a b. IsPieceAdded from (a name) (b name)) (λ disk. Stands end (disk name)) old new
+    (λ a b w st. let F : FileState → Type 0 = λ f. IsPieceAdded from (a name) f in subst F (sym w) (piece_file end from (a name) st))
+    (between-step (IsWritten name end from) (change name (written end from)) old new is (λ disk. change-here name (written end from) disk)) s
+
+-- after the change alone
+pub changed_images : (name : FileName) (step half : FileState → FileState) (P : Option (List ℕ) → Type 0) (old mid : Option History) → CanNow name step half P old → mid ≡ after (change name step) old → EachImage (IsAlong name P old) old mid
+changed_images name step half P old mid can is =
+    (along-goes_on name P step old old mid (along-begins name P old (if_told-map _ _ old (λ disk c. c.before) can)) is (if_told-map _ _ old (λ disk c. c.changed) can)).each
+
+pub changed_others : (name : FileName) (step half : FileState → FileState) (P : Option (List ℕ) → Type 0) (old mid : Option History) → CanNow name step half P old → mid ≡ after (change name step) old → SameButFor name old mid
+changed_others name step half P old mid can is =
+    (along-goes_on name P step old old mid (along-begins name P old (if_told-map _ _ old (λ disk c. c.before) can)) is (if_told-map _ _ old (λ disk c. c.changed) can)).same
+
+-- ---- a sync alone
+
+abbrev pub L : FileName → Option History → Option (List ℕ) → Type 0
+L name old left = IfTold old (λ disk. MayLeave (disk name) left)
+
+synced_left : (f : FileState) → f.is_there ≡ true → MayLeave f (reading f) → (left : Option (List ℕ)) → MayLeave (synced f) left → ((left ≡ reading f) ⊎ ((left ≡ None) × MayLeave f None)) × MayLeave f left
+synced_left f there reads None (inl gone) = absurd (true≢false (sym there ∙ gone))
+synced_left f there reads None (inr loose) = (inr (refl, inr loose), inr loose)
+synced_left f there reads (Some o) h =
+    let least : length f.octets ≤ length o = h.least in
+    let greatest : length o ≤ length f.octets = h.greatest in
+    let same : o ≡ f.octets = same_by_get o f.octets (omega arith) (λ i below. h.same i below refl) in
+    let is : Some o ≡ reading f = ap Some same ∙ sym (reading_from_there f there) in
+    let F : Option (List ℕ) → Type 0 = MayLeave f in
+    (inl is, subst F (sym is) reads)
+
+pub sync-along : (name : FileName) (old : Option History) → IfTold old (λ disk. IsImage disk (λ n. reading (disk n))) → Along name (L name old) old old
+sync-along name None images = along-begins name (L name None) None tt
+sync-along name (Some old) images = along-begins name (L name (Some old)) (Some old) (λ left h. h)
+
+pub sync-holds : (name : FileName) (old : Option History) → IfTold old (λ disk. IsThere (disk name)) → IfTold old (λ disk. IsImage disk (λ n. reading (disk n))) → IfTold old (λ disk. (left : Option (List ℕ)) → MayLeave (synced (disk name)) left → L name old left)
+sync-holds name None there images = tt
+sync-holds name (Some old) there images = λ left h. (synced_left (old.now name) there (images name) left h).1
+
+pub synced-between : (name : FileName) (old new : Option History) → IfTold old (λ disk. IsThere (disk name)) → IfTold old (λ disk. IsImage disk (λ n. reading (disk n))) → new ≡ after (change name synced) old
+    → Between (λ a b. IsSyncedFile (a name) (b name)) old new
+synced-between name old new there images is =
+    between-if (λ a b. b name ≡ synced (a name)) (λ a b. IsSyncedFile (a name) (b name)) (λ disk. IsThere (disk name) × IsImage disk (λ n. reading (disk n))) old new
+    (λ a b w t. let F : FileState → Type 0 = λ f. IsSyncedFile (a name) f in subst F (sym w) (record { reads = refl; leaves = λ left h. (synced_left (a name) t.0 (t.1 name) left h).0 }))
+    (between-step (λ a b. b name ≡ synced (a name)) (change name synced) old new is (λ disk. change-here name synced disk)) (if_told-both (λ disk. IsThere (disk name)) (λ disk. IsImage disk (λ n. reading (disk n))) (λ disk. IsThere (disk name) × IsImage disk (λ n. reading (disk n))) old (λ disk a b. (a, b)) there images)
+
+synced_keeps : (text : List ℕ) (f g : FileState) → IsSyncedFile f g → reading f ≡ Some text → (MayLeave f None → ⊥) → MayLeave g (reading g) → Keeps g text
+synced_keeps text f g s reads firm own = record {
+  reads = s.reads ∙ reads;
+  leaves = λ left. (
+    λ h. elim (s.leaves left h) [
+      | inl is ↦ is ∙ reads
+      | inr none ↦ absurd (firm none.1)
+    ],
+    λ is. let F : Option (List ℕ) → Type 0 = MayLeave g in subst F (s.reads ∙ reads ∙ sym is) own,
+  );
+}
+
+pub synced-held : (name : FileName) (text : List ℕ) (old new : Option History) → Between (λ a b. IsSyncedFile (a name) (b name)) old new → IfTold new (λ disk. IsImage disk (λ n. reading (disk n)))
+    → IfTold old (λ now. (reading (now name) ≡ Some text) × (MayLeave (now name) None → ⊥)) → IfTold new (λ now. Keeps (now name) text)
+synced-held name text None new synced images h = let F : Option History → Type 0 = λ k. IfTold k (λ now. Keeps (now name) text) in subst F (sym synced) tt
+synced-held name text (Some old) None synced images h = elim synced [ ]
+synced-held name text (Some old) (Some new) synced images h = synced_keeps text (old.now name) (new.now name) synced h.0 h.1 (images name)
 
 -- what the calls ask
 

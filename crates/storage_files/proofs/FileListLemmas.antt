@@ -3,11 +3,14 @@ use Rattle.std.specs.Prelude.{is_some, not, remove, if◌then◌else◌}
 use Rattle.std.proofs.Common.{◌≡◌, ◌≢◌, inl, inr, ℕ, zero, suc, ◌<◌, ◌==◌, true, false, List, [], ◌∷◌, ◌++◌, length, slice_get, get_or, set, Option, Some, None, All, refl, sym, ◌∙◌, ap, subst, arith}
 use Rattle.std.specs.Option.{option_map, option_and_then, option_map_or}
 use Rattle.std.proofs.lemmas.Bool.{cases_Bool, cases_eq, cond-true, cond-false, eq-eqb, ne_eqb, true≢false}
-use Rattle.std.proofs.lemmas.List.Elements.{All-head, All-tail}
+use Rattle.std.proofs.lemmas.List.Elements.{All-nil, All-cons, All-head, All-tail}
 use Rattle.model_octets.proofs.PairLemmas.{pairs_head, pairs_tail}
 use Rattle.mdbox_base.specs.declared.ids.FileNo.{FileNo}
+use Rattle.std.proofs.lemmas.Option.{same_Some}
+use Rattle.storage_files.specs.declared.file.FileChange.{FileChange}
+use Rattle.storage_files.specs.declared.file.FileChange.TheVariants as change
 use Rattle.storage_files.specs.declared.file.MailFile.{MailFile}
-use Rattle.storage_files.specs.Files.{file_in, end_in, changed_in, without_file, ending_at, file_begun, is_taken_in}
+use Rattle.storage_files.specs.Files.{change_of, file_in, end_in, changed_in, without_file, ending_at, file_begun, is_taken_in}
 use Rattle.storage_files.proofs.SearchLemmas.{Rise, got}
 
 -- no file has this number
@@ -260,3 +263,27 @@ ends-unmade n m files unmade = elim (cases_eq m n) [
 -- a change of the file at a place
 pub changed-set : (files : List MailFile) (n at : ℕ) (step : MailFile → MailFile) (f d : MailFile) → Rise files → slice_get files at ≡ Some f → f.file.0 ≡ n → set files at (step (get_or files at d)) ≡ changed_in n step files
 changed-set files n at step f d rise e same = ap (λ (g : MailFile). set files at (step g)) (got files at f d e) ∙ changed-at files n at step f rise e same
+
+-- each file that is found under a number is the one
+pub each-found : (n : ℕ) (files : List MailFile) (f : MailFile) → Rise files → file_in n files ≡ Some f → All (λ g. g.file.0 ≡ n → g ≡ f) files
+each-found n [] f rise found = All-nil (λ g. g.file.0 ≡ n → g ≡ f)
+each-found n (x ∷ xs) f rise found = elim (cases_eq x.file.0 n) [
+  | inl same ↦
+      let here : file_in n (x ∷ xs) ≡ Some x = cond-true (x.file.0 == n) (Some x) (file_in n xs) (eq-eqb x.file.0 n same) in
+      let is : x ≡ f = same_Some x f (sym here ∙ found) in
+      All-cons (λ g. g.file.0 ≡ n → g ≡ f) x xs (λ e. is) (λ k d lt e. let l = pairs_head (λ a b. a.file.0 < b.file.0) x xs rise k d lt in absurd (omega (arith, l, e, same)))
+  | inr apart ↦
+      let behind : file_in n (x ∷ xs) ≡ file_in n xs = cond-false (x.file.0 == n) (Some x) (file_in n xs) (ne_eqb x.file.0 n apart) in
+      All-cons (λ g. g.file.0 ≡ n → g ≡ f) x xs (λ e. absurd (apart e)) (each-found n xs f (pairs_tail (λ a b. a.file.0 < b.file.0) x xs rise) (sym behind ∙ found))
+]
+
+-- no change is of the number
+pub numbers-kept : (how : FileChange) → KeepsNumber (change_of how)
+numbers-kept (change.Ends end) f = refl
+numbers-kept change.Taken f = refl
+numbers-kept change.Emptied f = refl
+numbers-kept change.GivenBack f = refl
+numbers-kept change.PlacingBegun f = refl
+numbers-kept change.PlacingEnded f = refl
+numbers-kept (change.Pins pins) f = refl
+numbers-kept change.Doomed f = refl

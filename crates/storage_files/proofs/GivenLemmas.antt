@@ -9,6 +9,10 @@ use Rattle.storage_files.specs.Files.{file_in, end_in, is_taken_in, changed_in, 
 use Rattle.storage_files.proofs.SearchLemmas.{Rise}
 use Rattle.storage_files.proofs.FileListLemmas.{file-none, file-found, file-here, file-begun}
 
+-- a file that is among them is found by its number
+pub contained-found : (n : ℕ) (files : List MailFile) (f : MailFile) → Rise files → Contains files f → f.file.0 ≡ n → file_in n files ≡ Some f
+contained-found n files f rise at same = file-found files n at.0 f rise (slice_get-get_or files at.0 f at.1 ∙ ap Some at.2) same
+
 pub given-known : (size n : ℕ) (files : List MailFile) (f : MailFile) → Rise files → Contains files f → f.file.0 ≡ n → MayBeTakenFor size f
     → (is_taken_in n (changed_in n (with_taken true) files) ≡ true) × ((end : ℕ) × (end_in n (changed_in n (with_taken true) files) ≡ Some end) × (end + size ≤ 10485760))
 given-known size n files f rise at same room =

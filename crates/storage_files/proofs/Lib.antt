@@ -6,3 +6,4 @@ pub mod FileListLemmas
 pub mod KnownLemmas
 pub mod OrderLemmas
 pub mod GivenLemmas
+pub mod UseLemmas

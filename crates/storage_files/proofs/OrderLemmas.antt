@@ -1,6 +1,6 @@
 -- Files stay in order.
 use Rattle.std.specs.Prelude.{AllPairs, not, is_some, if◌then◌else◌}
-use Rattle.std.proofs.Common.{◌≡◌, inl, inr, ℕ, ◌<◌, ◌≤◌, ◌==◌, true, List, [], ◌∷◌, ◌++◌, length, take, drop, map, Some, All, refl, sym, ◌∙◌, ap, subst, arith}
+use Rattle.std.proofs.Common.{◌≡◌, inl, inr, ℕ, ◌<◌, ◌≤◌, ◌==◌, true, false, List, [], ◌∷◌, ◌++◌, length, take, drop, map, get_or, Some, None, All, refl, sym, ◌∙◌, ap, subst, arith}
 use Rattle.std.specs.Option.{option_and_then}
 use Rattle.std.proofs.Math.Seq.{take-append_seam}
 use Rattle.std.proofs.lemmas.Bool.{cases_eq, eq-eqb, ne_eqb, cond-true, cond-false}
@@ -9,12 +9,12 @@ use Rattle.std.proofs.lemmas.List.Kept.{AllPairs-filter}
 use Rattle.model_octets.proofs.PairLemmas.{pairs_head, pairs_tail, pairs_map, all_map}
 use Rattle.storage_files.specs.declared.file.FileState.{FileState}
 use Rattle.storage_files.specs.declared.file.MailFile.{MailFile}
-use Rattle.storage_files.specs.Files.{AreFilesInOrder, IsThereOrBegun, file_in, end_in, changed_in, without_file, file_found}
+use Rattle.storage_files.specs.Files.{AreFilesInOrder, IsUsedFile, file_in, end_in, changed_in, without_file, file_found}
 use Rattle.storage_files.proofs.SearchLemmas.{Rise}
 use Rattle.storage_files.proofs.FileListLemmas.{KeepsNumber, number_kept}
 
 -- after a change of one that keeps numbers
-pub order-changed : (files : List MailFile) (highest spare : ℕ) (n : ℕ) (step : MailFile → MailFile) → KeepsNumber step → All (λ f. f.file.0 ≡ n → IsThereOrBegun (step f)) files
+pub order-changed : (files : List MailFile) (highest spare : ℕ) (n : ℕ) (step : MailFile → MailFile) → KeepsNumber step → All (λ f. f.file.0 ≡ n → IsUsedFile f → IsUsedFile (step f)) files
     → AreFilesInOrder (record { files = files; highest = highest; spare = spare }) → AreFilesInOrder (record { files = changed_in n step files; highest = highest; spare = spare })
 order-changed files highest spare n step keeps stays order = record {
   rising = pairs_map (λ a b. a.file.0 < b.file.0) (λ a b. a.file.0 < b.file.0) (λ f. if f.file.0 == n then step f else f)
@@ -22,14 +22,14 @@ order-changed files highest spare n step keeps stays order = record {
   below = all_map (λ f. f.file.0 ≤ highest) (λ f. f.file.0 ≤ highest) (λ f. if f.file.0 == n then step f else f)
       (λ a le. let x = number_kept n step a keeps in omega (arith, x, le)) files order.below;
   last = order.last;
-  begun = all_map (λ f. IsThereOrBegun f × (f.file.0 ≡ n → IsThereOrBegun (step f))) IsThereOrBegun (λ f. if f.file.0 == n then step f else f) kept files
-      (λ k d lt. (order.begun k d lt, stays k d lt));
+  used = all_map (λ f. IsUsedFile f × (f.file.0 ≡ n → IsUsedFile f → IsUsedFile (step f))) IsUsedFile (λ f. if f.file.0 == n then step f else f) kept files
+      (λ k d lt. (order.used k d lt, stays k d lt));
 }
   where
-    kept : (f : MailFile) → IsThereOrBegun f × (f.file.0 ≡ n → IsThereOrBegun (step f)) → IsThereOrBegun (if f.file.0 == n then step f else f)
+    kept : (f : MailFile) → IsUsedFile f × (f.file.0 ≡ n → IsUsedFile f → IsUsedFile (step f)) → IsUsedFile (if f.file.0 == n then step f else f)
     kept f h = elim (cases_eq f.file.0 n) [
-      | inl same ↦ subst IsThereOrBegun (sym (cond-true (f.file.0 == n) (step f) f (eq-eqb f.file.0 n same))) (h.1 same)
-      | inr apart ↦ subst IsThereOrBegun (sym (cond-false (f.file.0 == n) (step f) f (ne_eqb f.file.0 n apart))) h.0
+      | inl same ↦ subst IsUsedFile (sym (cond-true (f.file.0 == n) (step f) f (eq-eqb f.file.0 n same))) (h.1 same h.0)
+      | inr apart ↦ subst IsUsedFile (sym (cond-false (f.file.0 == n) (step f) f (ne_eqb f.file.0 n apart))) h.0
     ]
 
 -- a file with a number that has an end is there
@@ -58,15 +58,24 @@ order-without files highest spare n order = record {
   rising = AllPairs-filter (λ a b. a.file.0 < b.file.0) (λ f. not (f.file.0 == n)) files order.rising;
   below = All-filter (λ f. not (f.file.0 == n)) (λ f. f.file.0 ≤ highest) files order.below;
   last = order.last;
-  begun = All-filter (λ f. not (f.file.0 == n)) IsThereOrBegun files order.begun;
+  used = All-filter (λ f. not (f.file.0 == n)) IsUsedFile files order.used;
 }
 
 -- as an opening found them
+found_used : (s : FileState) → IsUsedFile (file_found s)
+found_used s = record {
+  there = inl refl;
+  pinned = λ some. refl;
+  emptied = λ e. absurd (cc (let f : false ≡ true = e in f));
+  doomed = λ e. absurd (cc (let f : false ≡ true = e in f));
+  placing = λ start e. absurd (cc (let f : None ≡ Some start = e in f));
+}
+
 pub order-found : (files : List FileState) (highest : ℕ) → AllPairs (λ a b. a.file.0 < b.file.0) files → All (λ f. f.file.0 ≤ highest) files → highest ≤ 4294967294
     → AreFilesInOrder (record { files = map file_found files; highest = highest; spare = 0 })
 order-found files highest rising below last = record {
   rising = pairs_map (λ a b. a.file.0 < b.file.0) (λ a b. a.file.0 < b.file.0) file_found (λ a b less. less) files rising;
   below = all_map (λ f. f.file.0 ≤ highest) (λ f. f.file.0 ≤ highest) file_found (λ a le. le) files below;
   last = last;
-  begun = All-map IsThereOrBegun file_found files (λ k d lt. inl refl);
+  used = All-map IsUsedFile file_found files (λ k d lt. found_used (get_or files k d));
 }

@@ -24,6 +24,23 @@ pub record IsAddedTo (octets : List ℕ) (old new : FileState) : Type 0 where
   pub reads : reading new ≡ Some (before ++ octets)
   pub leaves : (left : Option (List ℕ)) → MayLeave new left ↔ ((left ≡ Some (before ++ octets)) ⊎ ((left ≡ None) × MayLeave old None))
 
+-- A piece was added at the end of a file and isn't synced yet: the file reads it after the octets that it had, and a crash
+-- removes the file only if it could before.
+pub record IsPieceAdded (octets : List ℕ) (old new : FileState) : Type 0 where
+  pub before : List ℕ
+  pub read : reading old ≡ Some before
+  pub reads : reading new ≡ Some (before ++ octets)
+  pub leaves : MayLeave new None → MayLeave old None
+
+-- A file was synced: it reads as it did, and a crash leaves it so, or leaves none, if it could leave none before.
+pub record IsSyncedFile (old new : FileState) : Type 0 where
+  pub reads : reading new ≡ reading old
+  pub leaves : (left : Option (List ℕ)) → MayLeave new left → (left ≡ reading old) ⊎ ((left ≡ None) × MayLeave old None)
+
+-- an image has of this file what a crash could leave of it before
+abbrev pub IsLeftAsBefore : FileName → Option History → Files → Type 0
+IsLeftAsBefore name old image = IfTold old (λ disk. MayLeave (disk name) (image name))
+
 -- An image has nothing of this file, or no more octets than it could have before, or than are written.
 abbrev pub IsNewOrNone : FileName → ℕ → Option History → Files → Type 0
 IsNewOrNone name written old image = IfTold old (λ disk. IfSome (image name) (λ octets. length octets ≤ max (disk name).greatest written))

@@ -3,7 +3,7 @@ ghost use Rattle.std.specs.Prelude.{◌≡◌, ◌≤◌, length, take, drop, So
 ghost use Rattle.std.specs.Option.{option_map};
 ghost use Rattle.disk_model.specs.FaultCounts.{NoFault, ChangeFaultCounted, ReadFaultCounted};
 ghost use Rattle.disk_model.specs.Disk.{EachImage, OthersStay, SameButFor, Between, IfTold, IsThere, Keeps, reading, IsIdle};
-ghost use Rattle.storage_files.specs.OnDisk.{FrontStays, IsAddedTo, IsNewOrNone, OthersAreNamed, IsLeftOrNone, piece_read};
+ghost use Rattle.storage_files.specs.OnDisk.{FrontStays, IsAddedTo, IsPieceAdded, IsSyncedFile, IsLeftAsBefore, IsNewOrNone, OthersAreNamed, IsLeftOrNone, piece_read};
 
 use crate::error::DiskFault;
 use disk_model::{Disk, DiskError, FileName};
@@ -41,6 +41,39 @@ pub(crate) fn add_to<D: Disk>(
 {
     disk.write_at(name, end, octets)?;
     disk.sync(name)?; // from here on a crash leaves the octets
+    Ok(())
+}
+
+/// Adds octets at the end of a file, which is there, without a sync.
+pub(crate) fn write_on<D: Disk>(
+    disk: &mut D,
+    name: FileName,
+    end: u64,
+    octets: &[u8],
+) -> Result<(), DiskFault>
+    requires { IfTold (D.history disk.old) (λ now. option_map length (reading (now name)) ≡ Some end) }
+    ensures any_moment { EachImage (λ _ image. FrontStays name end (D.history disk.old) image × OthersStay name (D.history disk.old) image) (D.history disk.old) (D.history disk.new) }
+    ensures added { OnOk result (Between (λ old new. IsPieceAdded octets.now (old name) (new name)) (D.history disk.old) (D.history disk.new)) }
+    ensures others { OnOk result (SameButFor name (D.history disk.old) (D.history disk.new)) }
+    ensures fault { ChangeFaultCounted (IsErr result) (D.faults disk.old) (D.faults disk.new) }
+    ensures unread { (D.faults disk.new).reads ≡ (D.faults disk.old).reads }
+    ensures unfailed { OnOk result (NoFault (D.faults disk.old) (D.faults disk.new)) }
+{
+    disk.write_at(name, end, octets)?;
+    Ok(())
+}
+
+/// Syncs a file, which is there.
+pub(crate) fn sync<D: Disk>(disk: &mut D, name: FileName) -> Result<(), DiskFault>
+    requires { IfTold (D.history disk.old) (λ now. IsThere (now name)) }
+    ensures any_moment { EachImage (λ _ image. IsLeftAsBefore name (D.history disk.old) image × OthersStay name (D.history disk.old) image) (D.history disk.old) (D.history disk.new) }
+    ensures synced { OnOk result (Between (λ old new. IsSyncedFile (old name) (new name)) (D.history disk.old) (D.history disk.new)) }
+    ensures others { OnOk result (SameButFor name (D.history disk.old) (D.history disk.new)) }
+    ensures fault { ChangeFaultCounted (IsErr result) (D.faults disk.old) (D.faults disk.new) }
+    ensures unread { (D.faults disk.new).reads ≡ (D.faults disk.old).reads }
+    ensures unfailed { OnOk result (NoFault (D.faults disk.old) (D.faults disk.new)) }
+{
+    disk.sync(name)?;
     Ok(())
 }
 

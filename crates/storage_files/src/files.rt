@@ -1,11 +1,12 @@
 // The storage files of a store, and who has taken which.
-ghost use Rattle.std.specs.Prelude.{◌≡◌, ◌+◌, ◌<◌, ◌≤◌, ℕ, map, max, find, true, is_some, All, AllPairs, IfOk, OnOk, OnErr, IsOk};
+ghost use Rattle.std.specs.Prelude.{◌≡◌, ◌==◌, ◌+◌, ◌-◌, ◌<◌, ◌≤◌, ◌&&◌, ◌||◌, ℕ, map, max, find, true, is_some, Some, All, AllPairs, IfOk, OnOk, OnErr, IsOk};
 ghost use Rattle.std.specs.Option.{option_map};
+ghost use Rattle.storage_files.specs.declared.file.MailFile.{MailFile};
 ghost use Rattle.storage_files.specs.declared.file.Take.TheVariants as Take;
-ghost use Rattle.storage_files.specs.Files.{IsTakeFor, IsGiven, after_take, file_found, file_past, end_in, is_taken_in, released_in, without_file, changed_in, ending_at};
+ghost use Rattle.storage_files.specs.Files.{IsTakeFor, IsTakeNew, IsGiven, IsUsedFile, IsUntakenFile, after_take, change_of, file_found, file_in, file_past, end_in, is_taken_in, is_emptied_in, is_doomed_in, pins_in, place_begun_in, released_in, without_file, changed_in, to_empty, made_doomed, with_pins};
 
-use crate::file::{FileState, MailFile, Take};
-use crate::list::{find, greatest_with_room, leave_out, mark, place_past, set_end};
+use crate::file::{FileChange, FileState, MailFile, Take};
+use crate::list::{change, find, greatest_with_room, leave_out, place_past};
 use mdbox_base::{FileNo, NoMemory, Seq};
 use std::alloc::Global;
 use std::marker::Model;
@@ -52,7 +53,7 @@ impl MailFiles {
         })
     }
 
-    /// Numbers rise up to the drawn one, and each file is there or taken.
+    /// Numbers rise up to the drawn one, and each file is there or taken, and used as it may be.
     pub fn known_facts(&self)
         ensures { AreFilesInOrder self.now }
     {
@@ -89,8 +90,9 @@ impl MailFiles {
         ensures files { self.new ≡ after_take result self.old }
         ensures ends { (number : ℕ) → end_in number self.new.files ≡ end_in number self.old.files }
     {
+        self.known_facts();
         if let Some(file) = greatest_with_room(&self.files, size) {
-            mark(&mut self.files, file, true);
+            self.change(file, FileChange::Taken);
             return Take::Known(file);
         }
         if self.highest == LAST_FILE {
@@ -99,6 +101,111 @@ impl MailFiles {
         let file = FileNo(self.highest + 1);
         self.begin(file);
         Take::New(file)
+    }
+
+    /// Takes a new file, with the next number.
+    pub fn take_new(&mut self) -> Take
+        requires spare { 1 ≤ self.old.spare }
+        ensures take { IsTakeNew self.old result }
+        ensures given { IsGiven 0 self.new.files result }
+        ensures files { self.new ≡ after_take result self.old }
+        ensures ends { (number : ℕ) → end_in number self.new.files ≡ end_in number self.old.files }
+    {
+        self.known_facts();
+        if self.highest == LAST_FILE {
+            return Take::Full;
+        }
+        let file = FileNo(self.highest + 1);
+        self.begin(file);
+        Take::New(file)
+    }
+
+    /// The greatest number that was drawn.
+    pub fn drawn(&self) -> u32
+        ensures { result ≡ self.now.highest }
+    {
+        self.highest
+    }
+
+    /// Takes a file to empty it: what is still needed of it is copied elsewhere, and then it is removed. Nothing is added to
+    /// it meanwhile.
+    pub fn take_file(&mut self, file: FileNo)
+        requires free { (f : MailFile) × (file_in file.0 self.old.files ≡ Some f) × IsUntakenFile f }
+        ensures files { self.new ≡ record self.old { files = changed_in file.0 to_empty self.old.files } }
+        ensures ends { (number : ℕ) → end_in number self.new.files ≡ end_in number self.old.files }
+    {
+        self.known_facts();
+        self.change(file, FileChange::Emptied);
+    }
+
+    /// Pins a file once more, for a reader.
+    pub fn pin(&mut self, file: FileNo)
+        requires there { (end : ℕ) × (end_in file.0 self.old.files ≡ Some end) }
+        requires fewer { pins_in file.0 self.old.files < 4294967295 }
+        ensures files { self.new ≡ record self.old { files = changed_in file.0 (with_pins (pins_in file.0 self.old.files + 1)) self.old.files } }
+        ensures ends { (number : ℕ) → end_in number self.new.files ≡ end_in number self.old.files }
+    {
+        self.known_facts();
+        let pins = self.pins_of(file);
+        self.change(file, FileChange::Pins(pins + 1));
+    }
+
+    /// Gives a pin back, and answers whether the file may be removed now: it is doomed, and this was its last pin.
+    pub fn unpin(&mut self, file: FileNo) -> bool
+        requires pinned { 1 ≤ pins_in file.0 self.old.files }
+        ensures last { result ≡ (is_doomed_in file.0 self.old.files && pins_in file.0 self.old.files == 1) }
+        ensures files { self.new ≡ record self.old { files = changed_in file.0 (with_pins (pins_in file.0 self.old.files - 1)) self.old.files } }
+        ensures ends { (number : ℕ) → end_in number self.new.files ≡ end_in number self.old.files }
+    {
+        self.known_facts();
+        let pins = self.pins_of(file);
+        let is_last = self.is_doomed(file) && pins == 1;
+        self.change(file, FileChange::Pins(pins - 1));
+        is_last
+    }
+
+    /// Dooms a file that was taken to be emptied, and answers whether it may be removed now, since it has no pin. Nobody has
+    /// taken it any more.
+    pub fn doom(&mut self, file: FileNo) -> bool
+        requires emptied { is_emptied_in file.0 self.old.files ≡ true }
+        ensures unpinned { result ≡ (pins_in file.0 self.old.files == 0) }
+        ensures files { self.new ≡ record self.old { files = changed_in file.0 made_doomed self.old.files } }
+        ensures ends { (number : ℕ) → end_in number self.new.files ≡ end_in number self.old.files }
+    {
+        self.known_facts();
+        let is_unpinned = self.pins_of(file) == 0;
+        self.change(file, FileChange::Doomed);
+        is_unpinned
+    }
+
+    /// Whether the file is doomed: it is removed as soon as it has no pin.
+    pub fn is_doomed(&self, file: FileNo) -> bool
+        ensures { result ≡ is_doomed_in file.0 self.now.files }
+    {
+        match find(&self.files, file) {
+            Some(f) => f.doomed,
+            None => false,
+        }
+    }
+
+    /// How many pins the file has.
+    pub fn pins_of(&self, file: FileNo) -> u32
+        ensures { result ≡ pins_in file.0 self.now.files }
+    {
+        match find(&self.files, file) {
+            Some(f) => f.pins,
+            None => 0,
+        }
+    }
+
+    /// Where the octets begin that are being placed in the file in pieces, if some are.
+    pub(crate) fn begun_of(&self, file: FileNo) -> Option<u64>
+        ensures { result ≡ place_begun_in file.0 self.now.files }
+    {
+        match find(&self.files, file) {
+            Some(f) => f.begun,
+            None => None,
+        }
     }
 
     /// Adds a file that somebody is about to make.
@@ -114,19 +221,25 @@ impl MailFiles {
             sealed: false,
             barred: false,
             taken: true,
+            begun: None,
+            emptied: false,
+            pins: 0,
+            doomed: false,
         });
         self.highest = file.0;
         self.spare -= 1;
     }
 
-    /// Gives a file back. One that was not made is no file any more; its number stays drawn.
+    /// Gives a file back; placing in pieces ends, and what was placed stays. One that was not made is no file any more; its
+    /// number stays drawn.
     pub fn release(&mut self, file: FileNo)
-        requires taken { is_taken_in file.0 self.old.files ≡ true }
+        requires taken { (is_taken_in file.0 self.old.files || is_emptied_in file.0 self.old.files) ≡ true }
         ensures files { self.new ≡ record self.old { files = released_in file.0 self.old.files } }
         ensures ends { (number : ℕ) → end_in number self.new.files ≡ end_in number self.old.files }
     {
+        self.known_facts();
         if self.end_of(file).is_some() {
-            mark(&mut self.files, file, false);
+            self.change(file, FileChange::GivenBack);
         } else {
             leave_out(&mut self.files, file);
         }
@@ -150,21 +263,22 @@ impl MailFiles {
         first_made(&self.files[place_past(&self.files, after)..])
     }
 
-    /// Whether somebody has taken the file.
+    /// Whether somebody has taken the file, to add to it or to empty it.
     pub fn is_taken(&self, file: FileNo) -> bool
-        ensures { result ≡ is_taken_in file.0 self.now.files }
+        ensures { result ≡ (is_taken_in file.0 self.now.files || is_emptied_in file.0 self.now.files) }
     {
         match find(&self.files, file) {
-            Some(f) => f.taken,
+            Some(f) => f.taken || f.emptied,
             None => false,
         }
     }
 
-    /// Sets where a file ends.
-    pub(crate) fn set_end(&mut self, file: FileNo, end: u64)
-        ensures { self.new ≡ record self.old { files = changed_in file.0 (ending_at end) self.old.files } }
+    /// Changes what is known of a file.
+    pub(crate) fn change(&mut self, file: FileNo, how: FileChange)
+        requires { All (λ f. f.file.0 ≡ file.0 → IsUsedFile f → IsUsedFile (change_of how f)) self.old.files }
+        ensures { self.new ≡ record self.old { files = changed_in file.0 (change_of how) self.old.files } }
     {
-        set_end(&mut self.files, file, end);
+        change(&mut self.files, file, how);
     }
 
     /// Forgets a file.
@@ -187,6 +301,10 @@ fn known(alloc: Global, files: &[FileState]) -> Result<Vec<MailFile>, NoMemory>
             sealed: f.sealed,
             barred: f.barred,
             taken: false,
+            begun: None,
+            emptied: false,
+            pins: 0,
+            doomed: false,
         })?;
     }
     Ok(made)

@@ -1,9 +1,9 @@
 // Storage files in order of number, and the look-ups among them.
 ghost use Rattle.std.specs.Prelude.{◌≡◌, ◌≢◌, ◌+◌, ◌<◌, ◌≤◌, true, false, length, take, drop, slice_get, All, AllPairs, Contains, Some, IfSome, IsNone, vec_len, vec_capacity};
 ghost use Rattle.storage_files.specs.declared.file.MailFile.{MailFile};
-ghost use Rattle.storage_files.specs.Files.{MayBeTakenFor, is_number_past, file_in, changed_in, with_taken, ending_at, without_file};
+ghost use Rattle.storage_files.specs.Files.{MayBeTakenFor, is_number_past, file_in, change_of, changed_in, without_file};
 
-use crate::file::{FULL, MailFile};
+use crate::file::{FULL, FileChange, MailFile};
 use mdbox_base::FileNo;
 
 /// The file with this number.
@@ -17,23 +17,14 @@ pub(crate) fn find(files: &[MailFile], file: FileNo) -> Option<MailFile>
     }
 }
 
-/// Marks the file with this number as taken, or as not taken.
-pub(crate) fn mark(files: &mut [MailFile], file: FileNo, taken: bool)
+/// Changes what is known of the file with this number.
+pub(crate) fn change(files: &mut [MailFile], file: FileNo, how: FileChange)
     requires rising { AllPairs (λ a b. a.file.0 < b.file.0) files.old }
-    ensures { files.new ≡ changed_in file.0 (with_taken taken) files.old }
+    ensures { files.new ≡ changed_in file.0 (change_of how) files.old }
 {
     if let Some(at) = place_of(files, file) {
-        files[at].taken = taken;
-    }
-}
-
-/// Sets where the file with this number ends.
-pub(crate) fn set_end(files: &mut [MailFile], file: FileNo, end: u64)
-    requires rising { AllPairs (λ a b. a.file.0 < b.file.0) files.old }
-    ensures { files.new ≡ changed_in file.0 (ending_at end) files.old }
-{
-    if let Some(at) = place_of(files, file) {
-        files[at].end = Some(end);
+        let f = files[at];
+        files[at] = how.of(f);
     }
 }
 

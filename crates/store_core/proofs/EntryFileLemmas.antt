@@ -11,7 +11,7 @@ use Rattle.mdbox_base.specs.declared.entries.MapEntry.TheVariants as entry
 use Rattle.model_meaning.specs.MapMeaning.{MapRecord, MapMeaning, map_applied, record_made, record_changed, record_dropped, record_rules, has_map_uid, is_own, number_at, sealed_by}
 use Rattle.model_meaning.proofs.KeptRowLemmas.{kept_all, kept_rows}
 use Rattle.storage_files.specs.declared.file.MailFile.{MailFile}
-use Rattle.storage_files.specs.Files.{FilesValue}
+use Rattle.storage_files.specs.Files.{FilesValue, is_doomed_in}
 use Rattle.store_core.specs.Files.{EndsBehind, LiesBelowEnd, AreFilesKept, StayThere}
 
 -- entries that leave each record where it is, and seal nothing
@@ -66,27 +66,6 @@ none_sealed (entry.T cs) files l = refl
 none_sealed (entry.P f t ms us) files l = absurd l
 none_sealed (entry.E f) files l = absurd l
 
--- ---- below the ends
-
-below_same : (store : List ℕ) (files : List MailFile) (a b : MapRecord) → IsSamePlace a b → LiesBelowEnd store files a → LiesBelowEnd store files b
-below_same store files a b s l =
-    let region : EndsBehind b.file (a.offset + a.size) files = subst (λ (n : ℕ). EndsBehind n (a.offset + a.size) files) (sym s.file) l.region in
-    let moved : EndsBehind b.file (b.offset + a.size) files = subst (λ (n : ℕ). EndsBehind b.file (n + a.size) files) (sym s.offset) region in
-    record {
-      region = subst (λ (n : ℕ). EndsBehind b.file (b.offset + n) files) (sym s.size) moved;
-      guid = subst (λ (g : List ℕ). is_own store g ≡ true → EndsBehind (number_at 8 g) (number_at 12 g + 1) files) (sym s.guid) l.guid;
-    }
-
-pub kept_applied : (files : FilesValue) (drawn later : Highest) (m : MapMeaning) (e : MapEntry) → LeavesPlaces e → later.file ≡ drawn.file → All (LiesBelowEnd m.store files.files) (record_made e) → AreFilesKept files drawn m → AreFilesKept files later (map_applied e m)
-kept_applied files drawn later m e l same made k = record {
-  highest = k.highest ∙ sym same;
-  numbered = k.numbered;
-  taken = k.taken;
-  sealed = λ number f found is. k.sealed number f found (sym (ap (λ (ns : List ℕ). list_any (λ n. n == number) ns) (none_sealed e m.sealed l)) ∙ is);
-  below = All-append (LiesBelowEnd m.store files.files) (kept_rows record_rules e m.records) (record_made e)
-      (kept_all record_rules e m.records (LiesBelowEnd m.store files.files) (LiesBelowEnd m.store files.files) (λ row b. below_same m.store files.files row (record_changed e row) (place_same e row l) b) k.below) made;
-}
-
 -- ---- regions are still there
 
 any_append : (p : MapRecord → Bool) (xs ys : List MapRecord) → list_any p xs ≡ true → list_any p (xs ++ ys) ≡ true
@@ -103,6 +82,32 @@ any_kept e n (row ∷ rows) l =
     ap (λ (rs : List MapRecord). list_any (λ r. r.file == n) (map (record_changed e) rs)) (cond-true (not (record_dropped e row)) (row ∷ filter (λ r. not (record_dropped e r)) rows) (filter (λ r. not (record_dropped e r)) rows) stays)
     ∙ ap (λ (k : ℕ). (k == n) || list_any (λ r. r.file == n) (kept_rows record_rules e rows)) (place_same e row l).file
     ∙ ap (λ (t : Bool). (row.file == n) || t) (any_kept e n rows l)
+
+-- ---- below the ends
+
+below_same : (store : List ℕ) (files : List MailFile) (a b : MapRecord) → IsSamePlace a b → LiesBelowEnd store files a → LiesBelowEnd store files b
+below_same store files a b s l =
+    let region : EndsBehind b.file (a.offset + a.size) files = subst (λ (n : ℕ). EndsBehind n (a.offset + a.size) files) (sym s.file) l.region in
+    let moved : EndsBehind b.file (b.offset + a.size) files = subst (λ (n : ℕ). EndsBehind b.file (n + a.size) files) (sym s.offset) region in
+    record {
+      region = subst (λ (n : ℕ). EndsBehind b.file (b.offset + n) files) (sym s.size) moved;
+      guid = subst (λ (g : List ℕ). is_own store g ≡ true → EndsBehind (number_at 8 g) (number_at 12 g + 1) files) (sym s.guid) l.guid;
+      undoomed = subst (λ (n : ℕ). is_doomed_in n files ≡ false) (sym s.file) l.undoomed;
+    }
+
+pub kept_applied : (files : FilesValue) (drawn later : Highest) (m : MapMeaning) (e : MapEntry) → LeavesPlaces e → later.file ≡ drawn.file → All (LiesBelowEnd m.store files.files) (record_made e) → AreFilesKept files drawn m → AreFilesKept files later (map_applied e m)
+kept_applied files drawn later m e l same made k = record {
+  highest = k.highest ∙ sym same;
+  numbered = k.numbered;
+  taken = k.taken;
+  sealed = λ number f found is. k.sealed number f found (sym (ap (λ (ns : List ℕ). list_any (λ n. n == number) ns) (none_sealed e m.sealed l)) ∙ is);
+  pinned = λ number f found is. elim (k.pinned number f found is) [
+    | inl doomed ↦ inl doomed
+    | inr has ↦ inr (any_append (λ row. row.file == number) (kept_rows record_rules e m.records) (record_made e) (any_kept e number m.records l ∙ has))
+  ];
+  below = All-append (LiesBelowEnd m.store files.files) (kept_rows record_rules e m.records) (record_made e)
+      (kept_all record_rules e m.records (LiesBelowEnd m.store files.files) (LiesBelowEnd m.store files.files) (λ row b. below_same m.store files.files row (record_changed e row) (place_same e row l) b) k.below) made;
+}
 
 pub stay_applied : (files : List MailFile) (m : MapMeaning) (e : MapEntry) (disk : DiskState) → LeavesPlaces e → StayThere files m.records disk → StayThere files (map_applied e m).records disk
 stay_applied files m e disk l stay = λ number f found grows there. elim (stay number f found grows there) [

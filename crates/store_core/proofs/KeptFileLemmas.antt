@@ -1,7 +1,8 @@
 -- What a store keeps of its storage files, over what is done to one of them.
 use Rattle.std.specs.Prelude.{◌⊎◌, Contains, slice_get}
 use Rattle.std.proofs.Common.{inl, inr, ◌≡◌, ◌≢◌, ◌<◌, ◌≤◌, ◌+◌, ℕ, Bool, true, false, List, [], ◌∷◌, ◌++◌, Option, Some, None, All, refl, sym, ◌∙◌, ap, subst, arith, slice_index_or}
-use Rattle.std.specs.Prelude.{is_some, if◌then◌else◌}
+use Rattle.std.specs.Prelude.{is_some, if◌then◌else◌, ◌==◌}
+use Rattle.std.specs.List.{list_any}
 use Rattle.std.specs.Option.{option_map, option_map_or, option_and_then}
 use Rattle.std.proofs.lemmas.Bool.{cases_eq, false≢true}
 use Rattle.std.proofs.lemmas.Option.{same_Some, slice_get-get_or}
@@ -10,10 +11,10 @@ use Rattle.mdbox_base.specs.declared.entries.Highest.{Highest}
 use Rattle.mdbox_base.specs.declared.ids.FileNo.{FileNo}
 use Rattle.model_meaning.specs.MapMeaning.{MapRecord, MapMeaning, number_at, guid_file}
 use Rattle.storage_files.specs.declared.file.MailFile.{MailFile}
-use Rattle.storage_files.specs.Files.{FilesValue, AreFilesInOrder, MayBeTakenFor, file_in, end_in, is_taken_in, changed_in, without_file, released_in, ending_at, with_taken, file_begun}
+use Rattle.storage_files.specs.Files.{FilesValue, AreFilesInOrder, MayBeTakenFor, file_in, end_in, is_taken_in, is_doomed_in, changed_in, without_file, released_in, ending_at, with_taken, given_back, file_begun}
 use Rattle.storage_files.proofs.FileListLemmas.{KeepsNumber, file-none, file-found, file-here, file-other, file-gone, file-without, file-begun, file-before_begun, ends-here}
 use Rattle.storage_files.proofs.KnownLemmas.{taken-there}
-use Rattle.store_core.specs.Files.{MayGrow, EndsBehind, LiesBelowEnd, AreFilesKept}
+use Rattle.store_core.specs.Files.{MayGrow, EndsBehind, LiesBelowEnd, ArePinsOfRecords, AreFilesKept}
 use Rattle.store_core.proofs.HighestFileLemmas.{NamesUpTo, sealed_low, guid_low}
 
 -- ---- a file that was there before
@@ -24,6 +25,7 @@ pub record CameFrom (files : List MailFile) (number : ℕ) (now : MailFile) : Ty
   pub found : file_in number files ≡ Some was
   pub sealed : now.sealed ≡ was.sealed
   pub barred : now.barred ≡ was.barred
+  pub doomed : now.doomed ≡ was.doomed
   pub taken : now.taken ≡ true → (was.taken ≡ true) ⊎ MayGrow was
   pub ends : (end : ℕ) → was.end ≡ Some end → (later : ℕ) × (now.end ≡ Some later) × (end ≤ later)
 
@@ -31,10 +33,10 @@ abbrev pub CameAll : List MailFile → List MailFile → Type 0
 CameAll old new = (number : ℕ) (now : MailFile) → file_in number new ≡ Some now → CameFrom old number now
 
 pub grew : (files : List MailFile) (number : ℕ) (now : MailFile) → (c : CameFrom files number now) → MayGrow now → MayGrow c.was
-grew files number now c g = record { unsealed = sym c.sealed ∙ g.unsealed; unbarred = sym c.barred ∙ g.unbarred }
+grew files number now c g = record { unsealed = sym c.sealed ∙ g.unsealed; unbarred = sym c.barred ∙ g.unbarred; undoomed = sym c.doomed ∙ g.undoomed }
 
 grows_on : (files : List MailFile) (number : ℕ) (now : MailFile) → (c : CameFrom files number now) → MayGrow c.was → MayGrow now
-grows_on files number now c g = record { unsealed = c.sealed ∙ g.unsealed; unbarred = c.barred ∙ g.unbarred }
+grows_on files number now c g = record { unsealed = c.sealed ∙ g.unsealed; unbarred = c.barred ∙ g.unbarred; undoomed = c.doomed ∙ g.undoomed }
 
 behind_on : (number place : ℕ) (old new : List MailFile) → CameAll old new → EndsBehind number place old → EndsBehind number place new
 behind_on number place old new came b = λ f found grows.
@@ -45,34 +47,47 @@ behind_on number place old new came b = λ f found grows.
     let far : e.0 ≤ l.0 = l.2 in
     (l.0, l.1, omega (arith, near, far))
 
+-- a file in which records lie isn't doomed
+undoomed_on : (old new : List MailFile) (number : ℕ) → CameAll old new → is_doomed_in number old ≡ false → is_doomed_in number new ≡ false
+undoomed_on old new number came un = by_found (file_in number new) refl
+  where
+    by_found : (o : Option MailFile) → file_in number new ≡ o → option_map_or (λ f. f.doomed) (file_in number new) false ≡ false
+    by_found None is = ap (λ (o : Option MailFile). option_map_or (λ f. f.doomed) o false) is
+    by_found (Some now) is =
+        let c = came number now is in
+        ap (λ (o : Option MailFile). option_map_or (λ f. f.doomed) o false) is ∙ c.doomed ∙ sym (ap (λ (o : Option MailFile). option_map_or (λ f. f.doomed) o false) c.found) ∙ un
+
 below_on : (store : List ℕ) (old new : List MailFile) (row : MapRecord) → CameAll old new → LiesBelowEnd store old row → LiesBelowEnd store new row
 below_on store old new row came b = record {
   region = behind_on row.file (row.offset + row.size) old new came b.region;
   guid = λ own. behind_on (number_at 8 row.guid) (number_at 12 row.guid + 1) old new came (b.guid own);
+  undoomed = undoomed_on old new row.file came b.undoomed;
 }
 
 taken_on : (old : FilesValue) (drawn : Highest) (m : MapMeaning) (number : ℕ) (now : MailFile) → AreFilesKept old drawn m → (c : CameFrom old.files number now) → now.taken ≡ true → MayGrow now
 taken_on old drawn m number now k c is = grows_on old.files number now c (elim (c.taken is) [ inl t ↦ k.taken number c.was c.found t | inr g ↦ g ])
 
-pub kept_on : (old new : FilesValue) (drawn : Highest) (m : MapMeaning) → CameAll old.files new.files → new.highest ≡ old.highest → AreFilesKept old drawn m → AreFilesKept new drawn m
-kept_on old new drawn m came same k = record {
+pub kept_on : (old new : FilesValue) (drawn : Highest) (m : MapMeaning) → CameAll old.files new.files → new.highest ≡ old.highest → ArePinsOfRecords new.files m.records → AreFilesKept old drawn m → AreFilesKept new drawn m
+kept_on old new drawn m came same pinned k = record {
   highest = same ∙ k.highest;
   numbered = λ number f found. let c = came number f found in k.numbered number c.was c.found;
   taken = λ number f found is. taken_on old drawn m number f k (came number f found) is;
   sealed = λ number f found is. let c = came number f found in c.sealed ∙ k.sealed number c.was c.found is;
+  pinned = pinned;
   below = All-weaker (LiesBelowEnd m.store old.files) (LiesBelowEnd m.store new.files) (λ row b. below_on m.store old.files new.files row came b) m.records k.below;
 }
 
 -- ---- what was done
 
 pub came_itself : (files : List MailFile) (number : ℕ) (now : MailFile) → file_in number files ≡ Some now → CameFrom files number now
-came_itself files number now found = record { was = now; found = found; sealed = refl; barred = refl; taken = λ t. inl t; ends = λ end is. (end, is, omega arith) }
+came_itself files number now found = record { was = now; found = found; sealed = refl; barred = refl; doomed = refl; taken = λ t. inl t; ends = λ end is. (end, is, omega arith) }
 
 -- a step that keeps the number and the marks, and moves no end back
 pub record IsStep (n : ℕ) (step : MailFile → MailFile) (files : List MailFile) : Type 0 where
   pub number : KeepsNumber step
   pub sealed : (f : MailFile) → (step f).sealed ≡ f.sealed
   pub barred : (f : MailFile) → (step f).barred ≡ f.barred
+  pub doomed : (f : MailFile) → (step f).doomed ≡ f.doomed
   pub taken : (f : MailFile) → file_in n files ≡ Some f → (step f).taken ≡ true → (f.taken ≡ true) ⊎ MayGrow f
   pub ends : (f : MailFile) (end : ℕ) → file_in n files ≡ Some f → f.end ≡ Some end → (later : ℕ) × ((step f).end ≡ Some later) × (end ≤ later)
 
@@ -83,7 +98,7 @@ stepped step (Some f) now e = (f, refl, let w : Some (step f) ≡ Some now = e i
 came_here : (n : ℕ) (step : MailFile → MailFile) (files : List MailFile) (now : MailFile) → IsStep n step files → file_in n (changed_in n step files) ≡ Some now → CameFrom files n now
 came_here n step files now s found =
     let was = stepped step (file_in n files) now (sym (file-here n step files s.number) ∙ found) in
-    subst (CameFrom files n) was.2 (record { was = was.0; found = was.1; sealed = s.sealed was.0; barred = s.barred was.0; taken = s.taken was.0 was.1; ends = λ end is. s.ends was.0 end was.1 is })
+    subst (CameFrom files n) was.2 (record { was = was.0; found = was.1; sealed = s.sealed was.0; barred = s.barred was.0; doomed = s.doomed was.0; taken = s.taken was.0 was.1; ends = λ end is. s.ends was.0 end was.1 is })
 
 pub came_changed : (n : ℕ) (step : MailFile → MailFile) (files : List MailFile) → IsStep n step files → CameAll files (changed_in n step files)
 came_changed n step files s = λ number now found. elim (cases_eq number n) [
@@ -91,7 +106,7 @@ came_changed n step files s = λ number now found. elim (cases_eq number n) [
   | inr apart ↦ came_itself files number now (sym (file-other n number step files s.number apart) ∙ found)
 ]
 
-came_without : (n : ℕ) (files : List MailFile) → CameAll files (without_file n files)
+pub came_without : (n : ℕ) (files : List MailFile) → CameAll files (without_file n files)
 came_without n files = λ number now found. elim (cases_eq number n) [
   | inl same ↦
       let gone : file_in number (without_file n files) ≡ None = subst (λ (k : ℕ). file_in k (without_file n files) ≡ None) (sym same) (file-gone n files) in
@@ -102,9 +117,46 @@ came_without n files = λ number now found. elim (cases_eq number n) [
 pub came_released : (n : ℕ) (files : List MailFile) → CameAll files (released_in n files)
 came_released n files = by_test (is_some (end_in n files))
   where
-    by_test : (t : Bool) → CameAll files (if t then changed_in n (with_taken false) files else without_file n files)
-    by_test true = came_changed n (with_taken false) files (record { number = λ f. refl; sealed = λ f. refl; barred = λ f. refl; taken = λ f at t. absurd (false≢true t); ends = λ f end at is. (end, is, omega arith) })
+    by_test : (t : Bool) → CameAll files (if t then changed_in n given_back files else without_file n files)
+    by_test true = came_changed n given_back files (record { number = λ f. refl; sealed = λ f. refl; barred = λ f. refl; doomed = λ f. refl; taken = λ f at t. absurd (false≢true t); ends = λ f end at is. (end, is, omega arith) })
     by_test false = came_without n files
+
+-- ---- pinned files have regions
+
+-- a step after which a file is pinned only if it was, or has a region
+pub pins_changed : (n : ℕ) (step : MailFile → MailFile) (files : List MailFile) (rows : List MapRecord) → KeepsNumber step → ((f : MailFile) → (step f).doomed ≡ f.doomed)
+    → ((f : MailFile) → file_in n files ≡ Some f → 1 ≤ (step f).pins → (1 ≤ f.pins) ⊎ (list_any (λ row. row.file == n) rows ≡ true)) → ArePinsOfRecords files rows → ArePinsOfRecords (changed_in n step files) rows
+pins_changed n step files rows keeps doomed more k = λ number now found pinned. elim (cases_eq number n) [
+  | inl same ↦
+      let was = stepped step (file_in n files) now (sym (file-here n step files keeps) ∙ subst (λ (i : ℕ). file_in i (changed_in n step files) ≡ Some now) same found) in
+      elim (more was.0 was.1 (subst (λ (g : MailFile). 1 ≤ g.pins) (sym was.2) pinned)) [
+        | inl before ↦ elim (k n was.0 was.1 before) [
+          | inl is ↦ inl (ap (λ (g : MailFile). g.doomed) (sym was.2) ∙ doomed was.0 ∙ is)
+          | inr has ↦ inr (subst (λ (i : ℕ). list_any (λ row. row.file == i) rows ≡ true) (sym same) has)
+        ]
+        | inr has ↦ inr (subst (λ (i : ℕ). list_any (λ row. row.file == i) rows ≡ true) (sym same) has)
+      ]
+  | inr apart ↦ k number now (sym (file-other n number step files keeps apart) ∙ found) pinned
+]
+
+-- one that keeps the pins
+pub pins_kept : (n : ℕ) (step : MailFile → MailFile) (files : List MailFile) (rows : List MapRecord) → KeepsNumber step → ((f : MailFile) → (step f).doomed ≡ f.doomed) → ((f : MailFile) → (step f).pins ≡ f.pins) → ArePinsOfRecords files rows → ArePinsOfRecords (changed_in n step files) rows
+pins_kept n step files rows keeps doomed pins k = pins_changed n step files rows keeps doomed (λ f at more. inl (let e = pins f in omega (arith, e, more))) k
+
+pub pins_without : (n : ℕ) (files : List MailFile) (rows : List MapRecord) → ArePinsOfRecords files rows → ArePinsOfRecords (without_file n files) rows
+pins_without n files rows k = λ number now found pinned. elim (cases_eq number n) [
+  | inl same ↦
+      let gone : file_in number (without_file n files) ≡ None = subst (λ (i : ℕ). file_in i (without_file n files) ≡ None) (sym same) (file-gone n files) in
+      absurd (let w : None ≡ Some now = sym gone ∙ found in cc w)
+  | inr apart ↦ k number now (sym (file-without n number files apart) ∙ found) pinned
+]
+
+pub pins_released : (n : ℕ) (files : List MailFile) (rows : List MapRecord) → ArePinsOfRecords files rows → ArePinsOfRecords (released_in n files) rows
+pins_released n files rows k = by_test (is_some (end_in n files))
+  where
+    by_test : (t : Bool) → ArePinsOfRecords (if t then changed_in n given_back files else without_file n files) rows
+    by_test true = pins_kept n given_back files rows (λ f. refl) (λ f. refl) (λ f. refl) k
+    by_test false = pins_without n files rows k
 
 -- a file of which this is known
 pub record HasFile (n end : ℕ) (files : List MailFile) : Type 0 where
@@ -132,6 +184,7 @@ came_longer n end more files is = came_changed n (ending_at (end + more)) files 
   number = λ f. refl;
   sealed = λ f. refl;
   barred = λ f. refl;
+  doomed = λ f. refl;
   taken = λ f at t. inl t;
   ends = λ f old at e.
       let same : old ≡ end = same_Some _ _ (sym e ∙ sym (ap (option_and_then (λ g. g.end)) at) ∙ is) in
@@ -144,6 +197,7 @@ came_made n end files none = came_changed n (ending_at end) files (record {
   number = λ f. refl;
   sealed = λ f. refl;
   barred = λ f. refl;
+  doomed = λ f. refl;
   taken = λ f at t. inl t;
   ends = λ f old at e. absurd (let w : None ≡ Some old = sym none ∙ ap (option_and_then (λ g. g.end)) at ∙ e in cc w);
 })
@@ -154,10 +208,11 @@ came_taken size n value f order at same room = came_changed n (with_taken true) 
   number = λ g. refl;
   sealed = λ g. refl;
   barred = λ g. refl;
+  doomed = λ g. refl;
   taken = λ g found t.
       let get : slice_get value.files at.0 ≡ Some f = slice_get-get_or value.files at.0 f at.1 ∙ ap Some at.2 in
       let is : f ≡ g = one_file (file_in n value.files) f g (file-found value.files n at.0 f order.rising get same) found in
-      inr (subst MayGrow is (record { unsealed = room.unsealed; unbarred = room.unbarred }));
+      inr (subst MayGrow is (record { unsealed = room.free.unsealed; unbarred = room.free.unbarred; undoomed = room.free.free.undoomed }));
   ends = λ g end found e. (end, e, omega arith);
 })
 
@@ -179,6 +234,12 @@ behind_begun file files number place none apart b = λ f found grows. elim (begu
 pub none_begun : (file : FileNo) (value : FilesValue) → AreFilesInOrder value → file.0 ≡ value.highest + 1 → file_in file.0 value.files ≡ None
 none_begun file value order next = file-none file.0 value.files (λ k d lt e. let l = order.below k d lt in omega (arith, l, e, next))
 
+undoomed_begun : (file : FileNo) (files : List MailFile) (number : ℕ) → file_in file.0 files ≡ None → is_doomed_in number files ≡ false → is_doomed_in number (files ++ file_begun file ∷ []) ≡ false
+undoomed_begun file files number none un = elim (cases_eq number file.0) [
+  | inl same ↦ ap (λ (k : ℕ). is_doomed_in k (files ++ file_begun file ∷ [])) same ∙ ap (λ (o : Option MailFile). option_map_or (λ f. f.doomed) o false) (file-begun file files none)
+  | inr apart ↦ ap (λ (o : Option MailFile). option_map_or (λ f. f.doomed) o false) (file-before_begun file number files apart) ∙ un
+]
+
 pub kept_begun : (old : FilesValue) (file : FileNo) (spare : ℕ) (drawn : Highest) (m : MapMeaning) → AreFilesInOrder old → file.0 ≡ old.highest + 1 → old.highest < 4294967294 → m.highest.file ≤ drawn.file → All (λ row. row.file ≤ m.highest.file) m.records → NamesUpTo m
     → AreFilesKept old drawn m → AreFilesKept (record { files = old.files ++ file_begun file ∷ []; highest = file.0; spare = spare }) (record drawn { file = file.0 }) m
 kept_begun old file spare drawn m order next last up rows names k =
@@ -191,12 +252,16 @@ kept_begun old file spare drawn m order next last up rows names k =
         | inr before ↦ k.numbered number f before
       ];
       taken = λ number f found is. elim (begun_or_before file old.files number f none found) [
-        | inl begun ↦ subst MayGrow begun.1 (record { unsealed = refl; unbarred = refl })
+        | inl begun ↦ subst MayGrow begun.1 (record { unsealed = refl; unbarred = refl; undoomed = refl })
         | inr before ↦ k.taken number f before is
       ];
       sealed = λ number f found is. elim (begun_or_before file old.files number f none found) [
         | inl begun ↦ let l : number ≤ m.highest.file = sealed_low m number names is in let e : number ≡ file.0 = begun.0 in absurd (omega (arith, l, e, next, high, up))
         | inr before ↦ k.sealed number f before is
+      ];
+      pinned = λ number f found is. elim (begun_or_before file old.files number f none found) [
+        | inl begun ↦ absurd (let l : 1 ≤ 0 = subst (λ (g : MailFile). 1 ≤ g.pins) (sym begun.1) is in omega (arith, l))
+        | inr before ↦ k.pinned number f before is
       ];
       below = λ at d lt.
           let row : MapRecord = slice_index_or m.records at d in
@@ -208,6 +273,7 @@ kept_begun old file spare drawn m order next last up rows names k =
             guid = λ own. behind_begun file old.files (number_at 8 row.guid) (number_at 12 row.guid + 1) none (λ e.
                 let l : number_at 8 row.guid ≤ m.highest.file = guid_low m.store row.guid m.highest.file named own (λ same. absurd (omega (arith, same, e, next, last))) in
                 absurd (omega (arith, l, e, next, high, up))) (b.guid own);
+            undoomed = undoomed_begun file old.files row.file none b.undoomed;
           };
     }
 

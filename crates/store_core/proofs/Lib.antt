@@ -4,6 +4,7 @@ pub mod CountingLemmas
 pub mod DueChangeLemmas
 pub mod DueLemmas
 pub mod EntryFileLemmas
+pub mod EntryRoomLemmas
 pub mod HighestFileLemmas
 pub mod HolderLemmas
 pub mod InstanceAppendLemmas
@@ -23,10 +24,13 @@ pub mod MapDueLemmas
 pub mod NamingCallLemmas
 pub mod NamingLemmas
 pub mod PickingLemmas
+pub mod PieceLemmas
 pub mod PlacedInstanceLemmas
 pub mod PlacedKeepingLemmas
 pub mod PlacingLemmas
+pub mod RemovalLemmas
 pub mod RoomLemmas
 pub mod ShownLemmas
 pub mod StoreFileLemmas
 pub mod UnnamedLogLemmas
+pub mod UsedFileLemmas

@@ -44,18 +44,18 @@ Own disk = IsImage disk (files_of disk)
 region_itself : (octets : List ℕ) (row : MapRecord) → row.offset + row.size ≤ length octets → IsSameRegion (Some octets) (Some octets) row
 region_itself octets row le = record { first = octets; second = octets; in_first = refl; in_second = refl; first_holds = le; second_holds = le; same = refl }
 
-region_holds : (o : Option (List ℕ)) (octets : List ℕ) (row : MapRecord) → IsSameRegion o (Some octets) row → row.offset + row.size ≤ length octets
+pub region_holds : (o : Option (List ℕ)) (octets : List ℕ) (row : MapRecord) → IsSameRegion o (Some octets) row → row.offset + row.size ≤ length octets
 region_holds o octets row h =
     let is : h.second ≡ octets = let w : Some octets ≡ Some h.second = h.in_second in cc w in
     subst (λ (x : List ℕ). row.offset + row.size ≤ length x) is h.second_holds
 
-part_behind : (size offset : ℕ) (x y : List ℕ) → offset + size ≤ length x → take size (drop offset (x ++ y)) ≡ take size (drop offset x)
+pub part_behind : (size offset : ℕ) (x y : List ℕ) → offset + size ≤ length x → take size (drop offset (x ++ y)) ≡ take size (drop offset x)
 part_behind size offset x y le =
     ap (take size) (drop-append-le offset x y (omega (arith, le)))
     ∙ take-append-le size (drop offset x) y (let l = length-drop offset x in omega (arith, le, l))
 
 -- it stays where octets are added
-region_grown : (o : Option (List ℕ)) (x y : List ℕ) (row : MapRecord) → IsSameRegion o (Some x) row → IsSameRegion o (Some (x ++ y)) row
+pub region_grown : (o : Option (List ℕ)) (x y : List ℕ) (row : MapRecord) → IsSameRegion o (Some x) row → IsSameRegion o (Some (x ++ y)) row
 region_grown o x y row h =
     let le : row.offset + row.size ≤ length x = region_holds o x row h in
     let is : h.second ≡ x = let w : Some x ≡ Some h.second = h.in_second in cc w in
@@ -69,11 +69,11 @@ region_grown o x y row h =
       same = part_behind row.size row.offset x y le ∙ ap (λ (z : List ℕ). take row.size (drop row.offset z)) (sym is) ∙ h.same;
     }
 
-region_nowhere : (o : Option (List ℕ)) (row : MapRecord) → IsSameRegion o None row → ⊥
+pub region_nowhere : (o : Option (List ℕ)) (row : MapRecord) → IsSameRegion o None row → ⊥
 region_nowhere o row h = absurd (let w : None ≡ Some h.second = h.in_second in cc w)
 
 -- it stands in a file where it stands in the file's front
-region_untaken : (end : ℕ) (o i : Option (List ℕ)) (row : MapRecord) → IsSameRegion o (option_map (take end) i) row → IsSameRegion o i row
+pub region_untaken : (end : ℕ) (o i : Option (List ℕ)) (row : MapRecord) → IsSameRegion o (option_map (take end) i) row → IsSameRegion o i row
 region_untaken end o None row h = absurd (region_nowhere o row h)
 region_untaken end o (Some x) row h = subst (λ (z : List ℕ). IsSameRegion o (Some z) row) (take-append-drop end x) (region_grown o (take end x) (drop end x) row h)
 
@@ -101,7 +101,7 @@ regions_left disk lists s n left own may =
     (carries_alike g m (files_of disk) image (s.alike image (left_image name disk left (files_of disk) may (λ other apart. own other))) name)
 
 -- an image that has the regions of one file, and of the others what a crash may leave, is safe
-mail_safe : (disk : DiskState) (lists : Lists) (s : IsSettled disk lists) (n : ℕ) (image : Files) → Own disk → LeftBut (file.Mail n) disk image
+pub mail_safe : (disk : DiskState) (lists : Lists) (s : IsSettled disk lists) (n : ℕ) (image : Files) → Own disk → LeftBut (file.Mail n) disk image
     → All (λ row. row.file ≡ n → IsSameRegion (reading (disk (file.Mail n))) (image (file.Mail n)) row) (map_meaning s.store s.entries).records → Safe image lists
 mail_safe disk lists s n image own left regions =
     let g : ℕ = s.safe.stands.map_log.generation in

@@ -266,7 +266,7 @@ placed_store hash id old new v disk instances drawn s runs change is = subst (λ
   boxes_are = s.boxes_are;
   counts = s.counts;
   drawn = record { file = s.drawn.file; map = s.drawn.map; instance = (let l : v.map.highest.instance ≤ v.drawn.instance = s.drawn.instance in omega (arith, l)); mailbox = s.drawn.mailbox };
-  files = record { highest = s.files.highest; taken = s.files.taken; sealed = s.files.sealed; numbered = s.files.numbered; below = s.files.below };
+  files = record { highest = s.files.highest; numbered = s.files.numbered; taken = s.files.taken; sealed = s.files.sealed; pinned = s.files.pinned; below = s.files.below };
   root_name = s.root_name;
   root_head = s.root_head;
   map_name = s.map_name;
@@ -469,7 +469,7 @@ stopped_store old new v disk instances s = record {
   boxes_are = s.boxes_are;
   counts = s.counts;
   drawn = record { file = s.drawn.file; map = s.drawn.map; instance = (let l : v.map.highest.instance ≤ v.drawn.instance = s.drawn.instance in omega (arith, l)); mailbox = s.drawn.mailbox };
-  files = record { highest = s.files.highest; taken = s.files.taken; sealed = s.files.sealed; numbered = s.files.numbered; below = s.files.below };
+  files = record { highest = s.files.highest; numbered = s.files.numbered; taken = s.files.taken; sealed = s.files.sealed; pinned = s.files.pinned; below = s.files.below };
   root_name = s.root_name;
   root_head = s.root_head;
   map_name = s.map_name;

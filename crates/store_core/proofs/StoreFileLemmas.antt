@@ -29,16 +29,16 @@ use Rattle.model_appends.specs.Appending.{LeavesAsRead}
 use Rattle.storage_files.specs.declared.file.MailFile.{MailFile}
 use Rattle.storage_files.specs.declared.file.Take.{Take}
 use Rattle.storage_files.specs.declared.file.Take.TheVariants.{Known, New, Full}
-use Rattle.storage_files.specs.Files.{FilesValue, AreFilesInOrder, IsTakeFor, after_take, file_in, end_in, file_begun, ending_at, released_in}
+use Rattle.storage_files.specs.Files.{FilesValue, AreFilesInOrder, IsTakeFor, after_take, file_in, end_in, file_begun, ending_at, with_taken, released_in}
 use Rattle.storage_files.specs.OnDisk.{IsAsKnown, FrontStays, IsAddedTo, IsNewOrNone, OthersAreNamed}
 use Rattle.store_core.specs.Dues.{KeepsStored}
-use Rattle.store_core.specs.Files.{MayGrow, AreFilesKept, StayThere, EndsWith}
+use Rattle.store_core.specs.Files.{MayGrow, ArePinsOfRecords, AreFilesKept, StayThere, EndsWith}
 use Rattle.store_core.specs.Value.{StoreValue}
 use Rattle.store_core.specs.Running.{AreBoxLogs, ReadBoxLogs, IsRunning, IsUpTo, HasEntryRoom, IsStore}
 use Rattle.store_core.specs.declared.store.OpenBox.{OpenBox}
 use Rattle.store_core.proofs.BoxAppendLemmas.{store_sound}
 use Rattle.store_core.proofs.HighestFileLemmas.{NamesUpTo, names_up_to}
-use Rattle.store_core.proofs.KeptFileLemmas.{with_change, CameAll, HasFile, came_longer, came_made, came_taken, came_released, grew, kept_on, kept_begun, none_begun, begun_or_before}
+use Rattle.store_core.proofs.KeptFileLemmas.{with_change, CameAll, HasFile, came_longer, came_made, came_taken, came_released, grew, pins_kept, pins_released, kept_on, kept_begun, none_begun, begun_or_before}
 use Rattle.store_core.proofs.MailChangeLemmas.{Own, MailChange, mail_added, mail_made, mail_same, region_firm, added_as_read, opens_on, root_on, settled_on, stored_on, front_safe, absent_safe}
 
 -- ---- files that no crash takes away
@@ -255,9 +255,9 @@ store_with h v files drawn up kept ends stay s = record {
 }
 
 -- taken or given back
-pub store_came : {D : Type 0} → (h : Option History) (v : StoreValue D) (files : FilesValue) → CameAll v.files.files files.files → files.highest ≡ v.files.highest → ((number : ℕ) → end_in number files.files ≡ end_in number v.files.files) → IsStore h v → IsStore h (record v { files = files })
-store_came h v files came high ends s =
-    store_with h v files v.drawn s.drawn (kept_on v.files files v.drawn v.map came high s.files) ends
+pub store_came : {D : Type 0} → (h : Option History) (v : StoreValue D) (files : FilesValue) → CameAll v.files.files files.files → files.highest ≡ v.files.highest → ArePinsOfRecords files.files v.map.records → ((number : ℕ) → end_in number files.files ≡ end_in number v.files.files) → IsStore h v → IsStore h (record v { files = files })
+store_came h v files came high pinned ends s =
+    store_with h v files v.drawn s.drawn (kept_on v.files files v.drawn v.map came high pinned s.files) ends
     (λ stay known. if_told-map (StayThere v.files.files v.map.records) (StayThere files.files v.map.records) h (λ disk k. stay_before v.files.files files.files v.map.records disk came k) stay) s
 
 -- or begun
@@ -386,7 +386,7 @@ placed_store n offset octets old new v disk files s runs own ends is same added 
     (store_on n old new v disk later s runs (change_added n octets old new own same added)
     (λ number. subst (λ (f : FilesValue). IsAsKnown f.files number new) is (still number (r.files_known number)))
     (stay_placed v.files.files later.files v.map.records n octets old new came same added r.files_stay)
-    (kept_on v.files later v.drawn v.map came refl s.files))
+    (kept_on v.files later v.drawn v.map came refl (pins_kept n (ending_at (offset + length octets)) v.files.files v.map.records (λ f. refl) (λ f. refl) (λ f. refl) s.files.pinned) s.files))
 
 pub made_store : {D : Type 0} → (n : ℕ) (header : List ℕ) (old new : Option History) (v : StoreValue D) (disk : D) (files : FilesValue) → IsStore old v → v.stopped ≡ false → IfTold old Own → end_in n v.files.files ≡ None
     → files ≡ with_change n (ending_at (length header)) v.files → OthersAreNamed (file.Mail n) old new → IfTold new (λ now. Keeps (now (file.Mail n)) header)
@@ -399,14 +399,14 @@ made_store n header old new v disk files s runs own none is same keeps still =
     (store_on n old new v disk later s runs (change_made n old new own (absent_there n v.files.files old none (r.files_known n)) same)
     (λ number. subst (λ (f : FilesValue). IsAsKnown f.files number new) is (still number (r.files_known number)))
     (stay_new v.files.files later.files v.map.records n header old new came same keeps r.files_stay)
-    (kept_on v.files later v.drawn v.map came refl s.files))
+    (kept_on v.files later v.drawn v.map came refl (pins_kept n (ending_at (length header)) v.files.files v.map.records (λ f. refl) (λ f. refl) (λ f. refl) s.files.pinned) s.files))
 
 -- a file that is given back
 pub released_store : {D : Type 0} → (h : Option History) (v : StoreValue D) (files : FilesValue) (n : ℕ) → files ≡ record v.files { files = released_in n v.files.files } → ((number : ℕ) → end_in number files.files ≡ end_in number v.files.files)
     → IsStore h v → IsStore h (record v { files = files })
 released_store h v files n is ends s =
     subst (λ (f : FilesValue). IsStore h (record v { files = f })) (sym is)
-    (store_came h v (record v.files { files = released_in n v.files.files }) (came_released n v.files.files) refl (λ number. subst (λ (f : FilesValue). end_in number f.files ≡ end_in number v.files.files) is (ends number)) s)
+    (store_came h v (record v.files { files = released_in n v.files.files }) (came_released n v.files.files) refl (pins_released n v.files.files v.map.records s.files.pinned) (λ number. subst (λ (f : FilesValue). end_in number f.files ≡ end_in number v.files.files) is (ends number)) s)
 
 -- a new file, whose number is drawn
 pub new_store : {D : Type 0} → (h : Option History) (v : StoreValue D) (files : FilesValue) (size : ℕ) (file_no : FileNo) → AreFilesInOrder v.files → IsTakeFor size v.files (New file_no) → files ≡ after_take (New file_no) v.files
@@ -420,7 +420,7 @@ pub known_store : {D : Type 0} → (h : Option History) (v : StoreValue D) (file
     → ((number : ℕ) → end_in number files.files ≡ end_in number v.files.files) → IsStore h v → IsStore h (record v { files = files })
 known_store h v files size (Known file_no) other order is after ends s =
     subst (λ (f : FilesValue). IsStore h (record v { files = f })) (sym after)
-    (store_came h v (after_take (Known file_no) v.files) (came_taken size file_no.0 v.files is.0 order is.1 (ap (λ (f : FileNo). f.0) is.2) is.3) refl
+    (store_came h v (after_take (Known file_no) v.files) (came_taken size file_no.0 v.files is.0 order is.1 (ap (λ (f : FileNo). f.0) is.2) is.3) refl (pins_kept file_no.0 (with_taken true) v.files.files v.map.records (λ f. refl) (λ f. refl) (λ f. refl) s.files.pinned)
     (λ number. subst (λ (f : FilesValue). end_in number f.files ≡ end_in number v.files.files) after (ends number)) s)
 known_store h v files size (New file_no) other order is after ends s = absurd (other file_no refl)
 known_store h v files size Full other order is after ends s = subst (λ (f : FilesValue). IsStore h (record v { files = f })) (sym after) s

@@ -6,6 +6,7 @@ pub mod Knows
 pub mod MadeLogs
 pub mod MapAppend
 pub mod PlaceStops
+pub mod Removing
 pub mod Running
 pub mod StoreInstances
 pub mod Value

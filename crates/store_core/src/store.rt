@@ -42,6 +42,7 @@ mod append_map;
 mod boxes;
 mod files;
 mod instances;
+mod using;
 
 /// A mailbox of an open store: its log, and what that means.
 #[derive(Drop)]

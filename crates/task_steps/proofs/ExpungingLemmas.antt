@@ -10,7 +10,8 @@ use Rattle.mdbox_base.specs.declared.replies.Reply.TheVariants as reply
 use Rattle.mdbox_base.specs.declared.requests.Request.TheVariants as request
 use Rattle.model_lists.specs.Lists.{Mailbox, Lists}
 use Rattle.model_meaning.specs.BoxMeaning.{BoxMeaning}
-use Rattle.model_meaning.specs.MapMeaning.{MapRecord}
+use Rattle.model_meaning.specs.MapFits.{MapFits}
+use Rattle.model_meaning.specs.MapMeaning.{MapRecord, MapMeaning}
 use Rattle.list_machine.specs.Run.{First, RunEvent, Run, and_then}
 use Rattle.journal.specs.Journal.{halves_of, IsReplyOf}
 use Rattle.list_machine.specs.Machine.{mailbox_named, expunge, first_refusal, part_checks}
@@ -71,7 +72,7 @@ removing around after run lane place said name uid lists old meanings history fa
         shown = shows;
         makes = k.0;
         found = tt;
-        come = comes_to_on run event old (behind_box old meanings row.uid history faults) come k.0.come (λ uid. box_due row.uid uid (old.due uid)) (record { pins = refl; unpins = refl; doomed = refl; removed = refl; given = refl; gone = refl }) (record { pins = λ file. refl; doomed = λ file. refl; used = λ file. refl; gave = λ guid. refl; gone = λ instance. refl; files = λ file. refl; instances = λ instance. refl });
+        come = comes_to_on run event old (behind_box old meanings row.uid history faults) come k.0.come (λ uid. box_due row.uid uid (old.due uid)) (record { pins = refl; unpins = refl; doomed = refl; removed = refl; given = refl; placed = refl; gone = refl }) (record { ran = λ e. e; pins = λ file. refl; doomed = λ file. refl; used = λ file. refl; barred = λ file. refl; gave = λ guid. refl; gone = λ instance. refl; files = λ file. refl; instances = λ instance. refl });
         gives = no_guids run event refl;
         went = (refl, refl, runs, leads);
         grows = grows;
@@ -89,17 +90,17 @@ removing around after run lane place said name uid lists old meanings history fa
 
 -- The count is lowered: no step, and the request ends with what its step said.
 pub lowering_ends : (around after : Around) (run : Run) (lane place : ℕ) (said : List Reply) (name : List ℕ) (uid : Uid) (lists : Lists) (old : Seen) (owed : ℕ) (due : ℕ → ℕ) (history : Option History) (faults : Faults)
-    → HasComeTo run old → StandsAtStage (ToLower owed) run place said → old.stopped ≡ false → ((uid : ℕ) → due uid + one_due owed uid ≡ old.due uid) → ShowsSeen (behind_lowering old owed due history faults) lists → Leads lists lists old (behind_lowering old owed due history faults) → Grows old.history history → old.faults.reads ≤ faults.reads → old.faults.changes ≤ faults.changes
+    → HasComeTo run old → StandsAtStage (ToLower owed) run place said → old.stopped ≡ false → MapFits old.map (entry.D (record { 0 = owed } ∷ [])) → ((uid : ℕ) → due uid + one_due owed uid ≡ old.due uid) → ShowsSeen (behind_lowering old owed due history faults) lists → Leads lists lists old (behind_lowering old owed due history faults) → Grows old.history history → old.faults.reads ≤ faults.reads → old.faults.changes ≤ faults.changes
     → DidEvent around after run lane place said (request.Expunge name uid) lists old (behind_lowering old owed due history faults) did.Quiet (Some reply.Done)
 unfolding lowering_makes
-lowering_ends around after run lane place said name uid lists old owed due history faults come stage runs owes shows leads grows reads changes = record {
+lowering_ends around after run lane place said name uid lists old owed due history faults come stage runs fits owes shows leads grows reads changes = record {
   left = lists;
   shown = shows;
-  makes = lowering_makes around after run lane place name uid lists old.map old.drawn (told_calls old.history) (told_calls history) owed come.come grows stage.0;
+  makes = lowering_makes around after run lane place name uid lists old.map old.drawn (told_calls old.history) (told_calls history) owed come.come grows stage.0 (subst (λ (m : MapMeaning). MapFits m (entry.D (record { 0 = owed } ∷ []))) (sym come.come.map_is) fits);
   found = tt;
   come = comes_to_on run (lowering lane place owed (told_calls history)) old (behind_lowering old owed due history faults) come
       (comes_on_with run (lowering lane place owed (told_calls history)) (entry.D (record { 0 = owed } ∷ [])) old.map old.drawn (told_calls old.history) come.come grows refl)
-      (λ uid. lowering_due owed uid (due uid) (old.due uid) (owes uid)) (record { pins = refl; unpins = refl; doomed = refl; removed = refl; given = refl; gone = refl }) (record { pins = λ file. refl; doomed = λ file. refl; used = λ file. refl; gave = λ guid. refl; gone = λ instance. refl; files = λ file. refl; instances = λ instance. refl });
+      (λ uid. lowering_due owed uid (due uid) (old.due uid) (owes uid)) (record { pins = refl; unpins = refl; doomed = refl; removed = refl; given = refl; placed = refl; gone = refl }) (record { ran = λ e. e; pins = λ file. refl; doomed = λ file. refl; used = λ file. refl; barred = λ file. refl; gave = λ guid. refl; gone = λ instance. refl; files = λ file. refl; instances = λ instance. refl });
   gives = no_guids run (lowering lane place owed (told_calls history)) refl;
   went = (refl, refl, leads);
   grows = grows;

@@ -2,9 +2,10 @@
 use Rattle.std.proofs.Common.{inl, inr, ◌⊎◌, ◌≡◌, ◌<◌, ◌≤◌, ◌+◌, ◌-◌, ◌^◌, ◌==◌, ℕ, Bool, true, false, cond, List, [], ◌∷◌, ◌++◌, Option, Some, None, refl, sym, ◌∙◌, ap, subst, arith, All, map}
 use Rattle.std.specs.Prelude.{◌≢◌, zero, suc, min, nat_lt, take, is_some, length, filter, count_by, slice_get, nat_le}
 use Rattle.std.proofs.lemmas.Grind.{common_steps}
-use Rattle.std.proofs.Math.Seq.{take-append_seam}
+use Rattle.std.proofs.Math.Seq.{take-length, take-append_seam}
 use Rattle.std.proofs.lemmas.List.{append-nil, length-append, map-append, take-append-le}
-use Rattle.std.proofs.lemmas.List.Elements.{All-nil, All-cons, All-append, All-weaker, filter-append}
+use Rattle.std.proofs.lemmas.Option.{slice_get_within}
+use Rattle.std.proofs.lemmas.List.Elements.{All-nil, All-cons, All-head, All-tail, All-push, All-append, All-weaker, filter-append}
 use Rattle.std.proofs.lemmas.List.Sums.{sum_by-append, sum_by-cons}
 use Rattle.disk_model.specs.Disk.{Files, DiskState, History, IsImage, EachImage, calls, state_at, told_calls}
 use Rattle.mdbox_base.specs.Streams.{Rose}
@@ -19,7 +20,7 @@ use Rattle.model_lists.specs.Lists.{Lists}
 use Rattle.list_machine.specs.Run.{RunEvent, Run, before, and_then}
 use Rattle.journal.specs.Journal.{Requests, half_of, halves_of, JournalStep, IsStep, AreSteps, left_by, IsLegal, Broken, no_broken, as_if, AreBroken, Reached, HasReply, RoseBy, steps_of, IsFirstPart}
 use Rattle.mdbox_base.specs.declared.script.Half.{Half}
-use Rattle.journal.proofs.JournalLemmas.{steps_within}
+use Rattle.journal.proofs.JournalLemmas.{steps_within, get_more}
 use Rattle.journal.specs.GoesOn.{broken_by, AllMayCome}
 use Rattle.journal.proofs.LegalLemmas.{legal_faults}
 use Rattle.journal.proofs.ReachedLemmas.{reached_last, reached_quiet, reached_step}
@@ -27,13 +28,13 @@ use Rattle.journal.proofs.BrokenLemmas.{broken_is, none_failed, failure_is, fail
 use Rattle.journal.proofs.StoppedLemmas.{stopped_is_replied}
 use Rattle.journal.specs.Events.{Around, DidPart, is_faulted}
 use Rattle.journal.specs.Makes.{StepOf, WouldDo, WouldMake, lists_before, steps_made}
-use Rattle.journal.proofs.MakesLemmas.{made_is_step, legal_by_task}
+use Rattle.journal.proofs.MakesLemmas.{made_is_step, legal_by_task, lists_before_more, all_kept, last_or_before}
 use Rattle.model_store.specs.Safe.{Safe}
 use Rattle.model_store.proofs.SettledLemmas.{settled_safe}
-use Rattle.model_store.specs.Settled.{Leaves, IsSettledFor}
+use Rattle.model_store.specs.Settled.{Leaves, IsSettled, IsSettledFor}
 use Rattle.mdbox_base.specs.declared.progress.Did.{Did}
 use Rattle.mdbox_base.specs.declared.progress.Did.TheVariants as did
-use Rattle.task_steps.specs.Serves.{IsReached, Serves, IsTurn}
+use Rattle.task_steps.specs.Serves.{IsReached, NoneStopped, WasAt, AreTimely, Serves, IsTurn}
 
 -- ---- what an event adds to the journal
 
@@ -50,6 +51,16 @@ left_made run request start journal event (Some answer) left s = left_push start
 
 unmade : (run : Run) (request : Request) (journal : List JournalStep) (event : RunEvent) (answer : Option Reply) (left : Lists) → answer ≡ None → journal_by run request journal event answer left ≡ journal
 unmade run request journal event answer left e = ap (λ (a : Option Reply). journal_by run request journal event a left) e ∙ append-nil journal
+
+made_within : (run : Run) (request : Request) (journal : List JournalStep) (event : RunEvent) (answer : Option Reply) (left : Lists) → All (λ s. s.event < length run.events) journal
+    → All (λ s. s.event < length run.events + 1) (journal_by run request journal event answer left)
+made_within run request journal event None left within = All-append (λ (s : JournalStep). s.event < length run.events + 1) journal [] (All-weaker (λ (s : JournalStep). s.event < length run.events) (λ (s : JournalStep). s.event < length run.events + 1) (λ s h. omega (arith, h)) journal within) (All-nil _)
+made_within run request journal event (Some answer) left within =
+    All-push (λ (s : JournalStep). s.event < length run.events + 1) journal _ (All-weaker (λ (s : JournalStep). s.event < length run.events) (λ (s : JournalStep). s.event < length run.events + 1) (λ s h. omega (arith, h)) journal within) (omega arith)
+
+-- the lists before an event that is behind all steps
+all_before : (start : Lists) (journal : List JournalStep) (n : ℕ) → All (λ s. s.event < n) journal → lists_before start journal n ≡ left_by start journal
+all_before start journal n within = ap (λ (steps : List JournalStep). left_by start steps) (all_kept journal n within)
 
 -- ---- a step may come
 
@@ -253,7 +264,8 @@ record Kept (start : Lists) (script : Requests) (run : Run) (journal : List Jour
   pub reads : RoseBy (count_by is_faulted run.events) began.faults.reads now.faults.reads
   pub changes : began.faults.changes ≤ now.faults.changes
   pub halted : (i : ℕ) → HasReply replies i (reply.Refused refusal.Stopped) → now.stopped ≡ true
-  pub unrefused : now.stopped ≡ false → All (λ event. event.refused ≢ Some refusal.Stopped) run.events
+  pub stopped_by : now.stopped ≡ true → NoneStopped run.events → ⊥
+  pub unrefused : now.stopped ≡ false → NoneStopped run.events
 
 -- the event and what it did, told apart
 record Told (start : Lists) (script : Requests) (run : Run) (journal : List JournalStep) (replies : List (Option Reply)) (began now new : Seen) (request : Request) (event : RunEvent) (answer : Option Reply) (left : Lists) (did : Did) : Type 0 where
@@ -263,6 +275,7 @@ record Told (start : Lists) (script : Requests) (run : Run) (journal : List Jour
   pub within : All (λ s. s.event < length run.events) journal
   pub still : now.stopped ≡ true → new ≡ record now { pins = new.pins }
   pub faults : FaultsGrow (IsFault did) now.faults new.faults
+  pub moments : All (λ e. e.moment ≤ told_calls now.history) run.events
 
 -- the run goes on from one with this journal and these broken steps, and what the broken ones would have done follows too
 abbrev Going : Lists → Requests → Run → List JournalStep → Broken → Run → List JournalStep → List (Option Reply) → Seen → Seen → Type 0
@@ -299,6 +312,85 @@ step_reached start run request journal began now new event (Some answer) left so
     made : JournalStep
     made = record { lane = event.lane; request = event.request; half = half_of request event.part; event = length run.events; answer = answer; left = left }
 
+-- ---- moments
+
+-- the states of the moments before an event stay
+same_states : (lists left : Lists) (now new : Seen) → Leaves lists left now.history new.history → (m : ℕ) (state : DiskState) → m ≤ told_calls now.history → WasAt new.history m state → WasAt now.history m state
+same_states lists left now new leaves m state le is = by_old now.history new.history leaves le is
+  where
+    by_old : (a b : Option History) → Leaves lists left a b → m ≤ told_calls a → WasAt b m state → WasAt a m state
+    by_old None b e le is = subst (λ (h : Option History). WasAt h m state) e is
+    by_old (Some a) None e le is = absurd e
+    by_old (Some a) (Some b) e le is = sym (e.same m le) ∙ is
+
+front_unrefused : (events : List RunEvent) (event : RunEvent) → NoneStopped (events ++ event ∷ []) → NoneStopped events
+front_unrefused [] event h = All-nil _
+front_unrefused (x ∷ xs) event h = All-cons (λ (e : RunEvent). e.refused ≢ Some refusal.Stopped) x xs (All-head (λ (e : RunEvent). e.refused ≢ Some refusal.Stopped) x (xs ++ event ∷ []) h)
+    (front_unrefused xs event (All-tail (λ (e : RunEvent). e.refused ≢ Some refusal.Stopped) x (xs ++ event ∷ []) h))
+
+last_unrefused : (events : List RunEvent) (event : RunEvent) → NoneStopped (events ++ event ∷ []) → event.refused ≡ Some refusal.Stopped → ⊥
+last_unrefused [] event h = All-head (λ (e : RunEvent). e.refused ≢ Some refusal.Stopped) event [] h
+last_unrefused (x ∷ xs) event h = last_unrefused xs event (All-tail (λ (e : RunEvent). e.refused ≢ Some refusal.Stopped) x (xs ++ event ∷ []) h)
+
+-- at the moment of the last event the disk is in its present state
+now_settled : (lists : Lists) (history : Option History) (m : ℕ) (state : DiskState) → m ≡ told_calls history → WasAt history m state → IsSettledFor lists history → IsSettled state lists
+now_settled lists None m state at is settled = absurd settled
+now_settled lists (Some h) m state at is settled = let only = state_at-only h m state (omega (arith, at)) is in subst (λ (d : DiskState). IsSettled d lists) (sym only.1) settled
+
+moment_at : (events : List RunEvent) (n : ℕ) (event : RunEvent) (calls : ℕ) → All (λ e. e.moment ≤ calls) events → slice_get events n ≡ Some event → event.moment ≤ calls
+moment_at [] zero event calls all there = absurd (cc there)
+moment_at [] (suc n) event calls all there = absurd (cc there)
+moment_at (x ∷ xs) zero event calls all there = subst (λ (e : RunEvent). e.moment ≤ calls) (one x event there) (All-head (λ (e : RunEvent). e.moment ≤ calls) x xs all)
+  where
+    one : (a b : RunEvent) → Some a ≡ Some b → a ≡ b
+    one a b e = cc e
+moment_at (x ∷ xs) (suc n) event calls all there = moment_at xs n event calls (All-tail (λ (e : RunEvent). e.moment ≤ calls) x xs all) there
+
+-- The events are timely with one more, where the states before it stay, and the disk is settled behind it unless the store stopped.
+timely_on : (start : Lists) (run : Run) (request : Request) (journal : List JournalStep) (now new : Seen) (event : RunEvent) (answer : Option Reply) (left : Lists) → All (λ s. s.event < length run.events) journal
+    → All (λ e. e.moment ≤ told_calls now.history) run.events → event.moment ≡ told_calls new.history → AreTimely start run journal now.history
+    → ((m : ℕ) (state : DiskState) → m ≤ told_calls now.history → WasAt new.history m state → WasAt now.history m state)
+    → (NoneStopped (run.events ++ event ∷ []) → IsSettledFor (left_by start (journal_by run request journal event answer left)) new.history)
+    → AreTimely start (and_then run event) (journal_by run request journal event answer left) new.history
+timely_on start run request journal now new event answer left within moments at timely same settled n found state there last_then none is = by_place (last_or_before run event found n there)
+  where
+    by_place : (slice_get run.events n ≡ Some found) ⊎ ((n ≡ length run.events) × (found ≡ event)) → IsSettled state (lists_before start (journal_by run request journal event answer left) (n + 1))
+    by_place (inl before) =
+        let lt = slice_get_within run.events n found before in
+        subst (λ (ls : Lists). IsSettled state ls) (lists_before_more run request event answer left start journal (n + 1) (omega (arith, lt)))
+        (timely n found state before (λ k later lt there. last_then k later lt (get_more run.events (event ∷ []) k later there)) (subst (λ (es : List RunEvent). NoneStopped es) (take-append-le (n + 1) run.events (event ∷ []) (omega (arith, lt))) none)
+        (same found.moment state (moment_at run.events n found (told_calls now.history) moments before) is))
+    by_place (inr last) =
+        let whole : take (n + 1) (run.events ++ event ∷ []) ≡ run.events ++ event ∷ [] =
+        let all = length-append run.events (event ∷ []) in
+        ap (λ (k : ℕ). take k (run.events ++ event ∷ [])) (let e : n + 1 ≡ length (run.events ++ event ∷ []) = omega (arith, all, last.0) in e) ∙ take-length (run.events ++ event ∷ []) in
+        let free : NoneStopped (run.events ++ event ∷ []) = subst (λ (es : List RunEvent). NoneStopped es) whole none in
+        let here : IsSettled state (left_by start (journal_by run request journal event answer left)) = now_settled (left_by start (journal_by run request journal event answer left)) new.history found.moment state (ap (λ (e : RunEvent). e.moment) last.1 ∙ at) is (settled free) in
+        subst (λ (ls : Lists). IsSettled state ls) (sym (all_before start (journal_by run request journal event answer left) (n + 1) (let w = made_within run request journal event answer left within in All-weaker (λ (s : JournalStep). s.event < length run.events + 1) (λ (s : JournalStep). s.event < n + 1) (λ s h. omega (arith, h, last.0)) _ w))) here
+
+quiet_timely : (start : Lists) (run : Run) (request : Request) (journal : List JournalStep) (now new : Seen) (event : RunEvent) (answer : Option Reply) (left : Lists) → answer ≡ None → All (λ s. s.event < length run.events) journal
+    → All (λ e. e.moment ≤ told_calls now.history) run.events → event.moment ≡ told_calls new.history → AreTimely start run journal now.history
+    → ((m : ℕ) (state : DiskState) → m ≤ told_calls now.history → WasAt new.history m state → WasAt now.history m state)
+    → (NoneStopped (run.events ++ event ∷ []) → IsSettledFor (left_by start journal) new.history) → AreTimely start (and_then run event) journal new.history
+quiet_timely start run request journal now new event answer left none within moments at timely same settled =
+    subst (λ (j : List JournalStep). AreTimely start (and_then run event) j new.history) (unmade run request journal event answer left none)
+    (timely_on start run request journal now new event answer left within moments at timely same
+    (λ free. subst (λ (j : List JournalStep). IsSettledFor (left_by start j) new.history) (sym (unmade run request journal event answer left none)) (settled free)))
+
+failed_timely : (start : Lists) (run : Run) (request : Request) (journal : List JournalStep) (now new : Seen) (event : RunEvent) (answer : Option Reply) (left : Lists) → All (λ s. s.event < length run.events) journal
+    → All (λ e. e.moment ≤ told_calls now.history) run.events → event.moment ≡ told_calls new.history → AreTimely start run journal now.history
+    → ((m : ℕ) (state : DiskState) → m ≤ told_calls now.history → WasAt new.history m state → WasAt now.history m state)
+    → event.refused ≡ Some refusal.Stopped → answer ≡ None → AreTimely start (and_then run event) journal new.history
+failed_timely start run request journal now new event answer left within moments at timely same refused none =
+    quiet_timely start run request journal now new event answer left none within moments at timely same (λ free. absurd (last_unrefused run.events event free refused))
+
+-- a store that stops with an event refused it so
+falls_so : (request : Request) (run : Run) (lists left : Lists) (event : RunEvent) (answer : Option Reply) (now new : Seen) (how : Did) → Went how request run lists left event answer now new → now.stopped ≡ false → new.stopped ≡ true → event.refused ≡ Some refusal.Stopped
+falls_so request run lists left event answer now new did.Quiet w ran e = absurd (fall new.stopped e (w.1 ∙ ran))
+falls_so request run lists left event answer now new (did.Step half) w ran e = absurd (fall new.stopped e w.2)
+falls_so request run lists left event answer now new did.Failed w ran e = w.0.refused
+falls_so request run lists left event answer now new (did.Broken half) w ran e = w.0.refused
+
 quiet_on : (start : Lists) (script : Requests) (run : Run) (journal : List JournalStep) (broken : Broken) (replies : List (Option Reply)) (began now new : Seen) (request : Request) (event : RunEvent) (answer : Option Reply) (left : Lists) → Serves start script run journal broken replies began now
     → Told start script run journal replies began now new request event answer left did.Quiet → answer ≡ None → new.stopped ≡ now.stopped → Leads (left_by start journal) (left_by start journal) now new → Going start script run journal broken (and_then run event) (journal_by run request journal event answer left) replies began new
 quiet_on start script run journal broken replies began now new request event answer left s t none same leads = (
@@ -311,6 +403,12 @@ quiet_on start script run journal broken replies began now new request event ans
     crash at true e = still_images start run journal broken began now new event t.within (ap (λ (x : Seen). x.history) (t.still e)) (s.crash at)
     crash at false e = quiet_images start run journal broken began now new event t.within (s.crash at) (leads.stops (s.settled e at))
 
+    timely : IsSettledFor start began.history → (b : Bool) → now.stopped ≡ b → AreTimely start (and_then run event) journal new.history
+    timely at true e = quiet_timely start run request journal now new event answer left none t.within t.moments t.moment_is (s.timely at) (λ m state le is. subst (λ (h : Option History). WasAt h m state) (ap (λ (x : Seen). x.history) (t.still e)) is)
+        (λ free. absurd (s.stopped_by e (front_unrefused run.events event free)))
+    timely at false e = quiet_timely start run request journal now new event answer left none t.within t.moments t.moment_is (s.timely at) (same_states (left_by start journal) (left_by start journal) now new (leads.stops (s.settled e at)))
+        (λ free. leads.settled (s.settled e at))
+
     all : Kept start script (and_then run event) journal replies began new → Serves start script (and_then run event) journal broken replies began new
     all k = record {
       legal = k.legal;
@@ -321,12 +419,14 @@ quiet_on start script run journal broken replies began now new request event ans
       broken_is = broken_stays run script start journal broken event s.within s.broken_is;
       of_failure = failure_still run event broken s.within s.of_failure;
       crash = λ at. crash at now.stopped refl;
+      timely = λ at. timely at now.stopped refl;
       unbroken = λ e. s.unbroken (sym same ∙ e);
       settled = λ e at. leads.settled (s.settled (sym same ∙ e) at);
       reads = k.reads;
       changes = k.changes;
       fell = λ e. rose_later began.faults.changes now.faults.changes new.faults.changes (s.fell (sym same ∙ e)) t.faults.changes;
       halted = k.halted;
+      stopped_by = k.stopped_by;
       unrefused = k.unrefused;
     }
 
@@ -344,12 +444,15 @@ step_on start script run journal broken replies began now new request event answ
     of_failure = none_failed (and_then run event);
     crash = λ at. step_reached start run request journal began now new event answer left some t.within t.moment_is
         (subst (λ (b : Broken). EachImage (IsReached start run journal b) began.history now.history) (s.unbroken ran) (s.crash at)) (leads.stops (s.settled ran at)) (leads.settled (s.settled ran at));
+    timely = λ at. timely_on start run request journal now new event answer left t.within t.moments t.moment_is (s.timely at) (same_states (left_by start journal) left now new (leads.stops (s.settled ran at)))
+        (λ none. subst (λ (ls : Lists). IsSettledFor ls new.history) (sym (left_made run request start journal event answer left t.made)) (leads.settled (s.settled ran at)));
     unbroken = λ e. refl;
     settled = λ e at. subst (λ (ls : Lists). IsSettledFor ls new.history) (sym (left_made run request start journal event answer left t.made)) (leads.settled (s.settled ran at));
     reads = t.kept.reads;
     changes = t.kept.changes;
     fell = λ e. absurd (fall new.stopped e runs);
     halted = t.kept.halted;
+    stopped_by = t.kept.stopped_by;
     unrefused = t.kept.unrefused;
   },
   λ d. none_would script start (and_then run event) (journal_by run request journal event answer left),
@@ -373,12 +476,14 @@ failed_on start script run journal broken replies began now new request event an
       broken_is = broken_stays run script start journal broken event s.within s.broken_is;
       of_failure = failure_still run event broken s.within s.of_failure;
       crash = λ at. quiet_images start run journal broken began now new event t.within (s.crash at) (stops (s.settled f.ran at));
+      timely = λ at. failed_timely start run request journal now new event answer left t.within t.moments t.moment_is (s.timely at) (same_states (left_by start journal) (left_by start journal) now new (stops (s.settled f.ran at))) f.refused f.unanswered;
       unbroken = λ e. absurd (fall new.stopped f.stopped e);
       settled = λ e at. absurd (fall new.stopped f.stopped e);
       reads = k.reads;
       changes = k.changes;
       fell = λ e. rose_now began.faults.changes now.faults.changes new.faults.changes s.changes (t.faults.rose tt);
       halted = k.halted;
+      stopped_by = k.stopped_by;
       unrefused = k.unrefused;
     }
 
@@ -422,12 +527,14 @@ broken_on start script run journal broken replies began now new lane place reque
       broken_is = broken_is run script start journal event w.would (told_calls now.history) step is_step;
       of_failure = failure_is run event w.would (told_calls now.history) step (s.unrefused f.ran) s.come.come.moments f.refused w.lane_is w.request_is w.part_is refl;
       crash = crash;
+      timely = λ at. failed_timely start run request journal now new event answer left t.within t.moments t.moment_is (s.timely at) (same_states (left_by start journal) w.left now new (stops (s.settled f.ran at))) f.refused f.unanswered;
       unbroken = λ e. absurd (fall new.stopped f.stopped e);
       settled = λ e at. absurd (fall new.stopped f.stopped e);
       reads = k.reads;
       changes = k.changes;
       fell = λ e. rose_now began.faults.changes now.faults.changes new.faults.changes s.changes (t.faults.rose fault);
       halted = k.halted;
+      stopped_by = k.stopped_by;
       unrefused = k.unrefused;
     }
 
@@ -470,7 +577,14 @@ serves_on start script run journal broken replies began now new around after lan
     stops : d.makes.event.refused ≡ Some refusal.Stopped → new.stopped ≡ true
     stops why = d.ends.halts.0 (sym d.makes.ended_is ∙ stopped_is_replied around after run (left_by start journal) request d.makes.event d.makes.is_event why)
 
-    unrefused : new.stopped ≡ false → All (λ event. event.refused ≢ Some refusal.Stopped) (run.events ++ d.makes.event ∷ [])
+    stopped_by : new.stopped ≡ true → NoneStopped (run.events ++ d.makes.event ∷ []) → ⊥
+    stopped_by e none = by_old now.stopped refl
+      where
+        by_old : (b : Bool) → now.stopped ≡ b → ⊥
+        by_old true was = s.stopped_by was (front_unrefused run.events d.makes.event none)
+        by_old false ran = last_unrefused run.events d.makes.event none (falls_so request run (left_by start journal) d.left d.makes.event d.makes.answer now new how d.went ran e)
+
+    unrefused : new.stopped ≡ false → NoneStopped (run.events ++ d.makes.event ∷ [])
     unrefused e = All-append (λ (x : RunEvent). x.refused ≢ Some refusal.Stopped) run.events (d.makes.event ∷ []) (s.unrefused (ran_on now new e d.ends.still))
         (All-cons (λ (x : RunEvent). x.refused ≢ Some refusal.Stopped) d.makes.event [] (λ why. fall new.stopped (stops why) e) (All-nil _))
 
@@ -491,9 +605,11 @@ serves_on start script run journal broken replies began now new around after lan
         reads = reads_more run.events d.makes.event began.faults.reads now.faults.reads new.faults.reads s.reads d.ends.faults.reads d.ends.reads;
         changes = (let a = s.changes in let b = d.ends.faults.changes in omega (arith, a, b));
         halted = halted;
+        stopped_by = stopped_by;
         unrefused = unrefused;
       };
       moment_is = d.makes.moment_is;
+      moments = s.come.come.moments;
       made = d.makes.made;
       within = steps_within run script start journal s.legal.steps;
       still = d.ends.still;

@@ -12,11 +12,12 @@ use Rattle.mdbox_base.specs.declared.replies.Reply.{Reply}
 use Rattle.mdbox_base.specs.declared.replies.Reply.TheVariants as reply
 use Rattle.model_lists.specs.Lists.{Lists}
 use Rattle.model_meaning.specs.MapMeaning.{MapMeaning}
-use Rattle.list_machine.specs.Run.{First, RunEvent, event_of, Run, and_then, own_events}
+use Rattle.list_machine.specs.Run.{EventPart, First, RunEvent, event_of, Run, and_then, own_events}
 use Rattle.list_machine.specs.Machine.{PartAnswers, is_step}
 use Rattle.journal.specs.Journal.{half_of, halves_of, IsReplyOf}
 use Rattle.journal.specs.Events.{Around, next_part, behind_event}
-use Rattle.journal.specs.Events.{Finds, has_memory, last_refusal}
+use Rattle.std.proofs.lemmas.List.Elements.{All-nil}
+use Rattle.journal.specs.Events.{Finds, MayMeet, has_memory, reads_octets, last_refusal}
 use Rattle.journal.specs.Found.{AgreesWithRun}
 use Rattle.journal.specs.Makes.{HasCome, Makes}
 use Rattle.journal.proofs.RunLemmas.{comes_on}
@@ -37,6 +38,7 @@ pub record IsPlain (q : Request) : Type 0 where
   pub found : (around : Around) (run : Run) (event : RunEvent) → AgreesWithRun around run q event First
   pub finds : (around : Around) (event : RunEvent) → Finds around q event
   pub memory : has_memory First q ≡ false
+  pub reads : reads_octets First q ≡ false
   pub behind : (after : Around) (run : Run) (event : RunEvent) (why : Refusal) → behind_event after run q event (Some why) ≡ None
   pub half_is : half_of q First ≡ half.Whole
   pub halves_are : halves_of q ≡ half.Whole ∷ []
@@ -45,7 +47,7 @@ abbrev pub refused_event : ℕ → ℕ → Refusal → ℕ → RunEvent
 refused_event lane place why calls = record (event_of lane place First calls) { refused = Some why; reply = Some (reply.Refused why) }
 
 pub refused_leaves : (lane place : ℕ) (why : Refusal) (calls : ℕ) → LeavesFiles (refused_event lane place why calls)
-refused_leaves lane place why calls = record { pins = refl; unpins = refl; doomed = refl; removed = refl; given = refl; gone = refl }
+refused_leaves lane place why calls = record { pins = refl; unpins = refl; doomed = refl; removed = refl; given = refl; placed = refl; gone = refl }
 
 pub next_first : (around : Around) (run : Run) (q : Request) (own : List RunEvent) → own ≡ [] → next_part around run q own ≡ Some First
 next_first around run q own e = ap (λ (es : List RunEvent). next_part around run q es) e
@@ -66,13 +68,19 @@ some_refusal r e = cc e
 pub one_refusal : (a b : Refusal) → Some a ≡ Some b → a ≡ b
 one_refusal a b e = cc e
 
+-- a refusal that is a step may be met by any part
+pub step_may : (part : EventPart) (q : Request) (why : Refusal) → is_step why ≡ true → MayMeet part q why
+step_may part q refusal.ReadFault s = absurd (let k : false ≡ true = s in cc k)
+step_may part q (refusal.Damaged file offset) s = absurd (let k : false ≡ true = s in cc k)
+step_may part q why s = tt
+
 pub no_step : (why r : Refusal) → is_step why ≡ false → Some why ≡ Some r → is_step r ≡ true → ⊥
 no_step why r none e s = let k : false ≡ true = sym none ∙ (ap is_step (one_refusal why r e) ∙ s) in cc k
 
 -- an event that was refused for lack of memory or by a stopped store
-unfoldable pub unmade : (around after : Around) (run : Run) (lane place : ℕ) (q : Request) (old : Lists) (m m_then : MapMeaning) (drawn : Highest) (calls calls_then : ℕ) (why : Refusal) → m_then ≡ m → IsPlain q → HasCome run m drawn calls → calls ≤ calls_then → own_events place run ≡ [] → is_step why ≡ false
+unfoldable pub unmade : (around after : Around) (run : Run) (lane place : ℕ) (q : Request) (old : Lists) (m m_then : MapMeaning) (drawn : Highest) (calls calls_then : ℕ) (why : Refusal) → m_then ≡ m → IsPlain q → HasCome run m drawn calls → calls ≤ calls_then → own_events place run ≡ [] → is_step why ≡ false → MayMeet First q why
     → Makes around after run lane place q old old m_then drawn calls_then (Some (reply.Refused why))
-unmade around after run lane place q old m m_then drawn calls calls_then why map_is plain come le own none = record {
+unmade around after run lane place q old m m_then drawn calls calls_then why map_is plain come le own none may = record {
   event = refused_event lane place why calls_then;
   lane_is = refl;
   request_is = refl;
@@ -85,9 +93,11 @@ unmade around after run lane place q old m m_then drawn calls calls_then why map
     undone = λ r e. (refl, λ s. refl);
     drew = λ h. inl refl;
     memory = λ e. plain.memory;
+    may = may;
     replied = refusal_last (own_events place run) (refused_event lane place why calls_then) own;
     allowed = λ e. absurd (some_refusal why e);
     did = λ e. absurd (some_refusal why e);
+    fits = All-nil _;
     ends = record { 0 = λ e. plain.behind after (and_then run (refused_event lane place why calls_then)) (refused_event lane place why calls_then) why; 1 = λ e f. some_given (reply.Refused why) f };
   };
   answer = None;
@@ -112,9 +122,11 @@ refused around after run lane place q old m drawn calls why plain come own step 
     undone = λ r e. (refl, λ s. refl);
     drew = λ h. inl refl;
     memory = λ e. plain.memory;
+    may = step_may First q why step;
     replied = refusal_last (own_events place run) (refused_event lane place why calls) own;
     allowed = λ e. absurd (some_refusal why e);
     did = λ e. absurd (some_refusal why e);
+    fits = All-nil _;
     ends = record { 0 = λ e. plain.behind after (and_then run (refused_event lane place why calls)) (refused_event lane place why calls) why; 1 = λ e f. some_given (reply.Refused why) f };
   };
   answer = Some (reply.Refused why);
@@ -149,13 +161,13 @@ still_faults F f never = record { reads = omega arith; changes = omega arith; ro
 
 -- stopped or lack of memory: the request ends, and nothing was done
 pub does_nothing : (around after : Around) (run : Run) (lane place : ℕ) (said : List Reply) (q : Request) (lists : Lists) (seen : Seen) (why : Refusal) → IsPlain q → HasComeTo run seen → ShowsSeen seen lists → HasNotBegun run place said
-    → is_step why ≡ false → IsReplyOf q [] (reply.Refused why) → (why ≡ refusal.ReadFault → ⊥) → ((Some (reply.Refused why) ≡ Some (reply.Refused refusal.Stopped)) ↔ (seen.stopped ≡ true))
+    → is_step why ≡ false → IsReplyOf q [] (reply.Refused why) → MayMeet First q why → ((Some (reply.Refused why) ≡ Some (reply.Refused refusal.Stopped)) ↔ (seen.stopped ≡ true))
     → DidEvent around after run lane place said q lists seen seen did.Quiet (Some (reply.Refused why))
 unfolding unmade
-does_nothing around after run lane place said q lists seen why plain come shows stage none is calm halts = record {
+does_nothing around after run lane place said q lists seen why plain come shows stage none is may halts = record {
   left = lists;
   shown = shows;
-  makes = unmade around after run lane place q lists seen.map seen.map seen.drawn (told_calls seen.history) (told_calls seen.history) why refl plain come.come (omega arith) stage.0 none;
+  makes = unmade around after run lane place q lists seen.map seen.map seen.drawn (told_calls seen.history) (told_calls seen.history) why refl plain come.come (omega arith) stage.0 none may;
   found = plain.found around run (refused_event lane place why (told_calls seen.history));
   come = comes_to_still run (refused_event lane place why (told_calls seen.history)) seen come (comes_on run (refused_event lane place why (told_calls seen.history)) seen.map seen.drawn (told_calls seen.history) come.come (omega arith) refl refl) (λ uid. refl) (refused_leaves lane place why (told_calls seen.history));
   gives = no_guids run (refused_event lane place why (told_calls seen.history)) refl;
@@ -166,7 +178,7 @@ does_nothing around after run lane place said q lists seen why plain come shows 
     replied = first_reply q said None (reply.Refused why) stage.1 is;
     halts = halts;
     still = λ e. refl;
-    reads = λ e. absurd (calm (one_refusal why refusal.ReadFault e));
+    reads = λ e. absurd (let k : false ≡ true = sym plain.reads ∙ subst (λ (r : Refusal). MayMeet First q r) (one_refusal why refusal.ReadFault e) may in cc k);
     faults = still_faults (IsFault did.Quiet) seen.faults (λ x. x);
   };
 }
@@ -223,12 +235,6 @@ memory_is stopped runs = record { 0 = λ e. absurd (apart e); 1 = λ e. absurd (
 
 pub when_stopped : (stopped : Bool) → stopped ≡ true → (Some (reply.Refused refusal.Stopped) ≡ Some (reply.Refused refusal.Stopped)) ↔ (stopped ≡ true)
 when_stopped stopped e = record { 0 = λ k. e; 1 = λ k. refl }
-
-pub not_reading : refusal.Stopped ≡ refusal.ReadFault → ⊥
-not_reading e = cc e
-
-pub not_reading_memory : refusal.NoMemory ≡ refusal.ReadFault → ⊥
-not_reading_memory e = cc e
 
 pub not_true : (b : Bool) → (b ≡ true → ⊥) → b ≡ false
 not_true true f = absurd (f refl)

@@ -1,6 +1,6 @@
 -- An event that ends its request; turns and stages as events go on.
 use Rattle.std.proofs.Common.{inr, ◌≡◌, ◌<◌, ◌≤◌, ◌==◌, ℕ, Bool, true, false, cond, List, [], ◌∷◌, ◌++◌, Option, Some, None, refl, sym, ◌∙◌, ap, subst, arith, All, map}
-use Rattle.std.specs.Prelude.{◌≢◌, length, filter, count_by, slice_get}
+use Rattle.std.specs.Prelude.{zero, suc, ◌≢◌, length, filter, count_by, slice_get}
 use Rattle.std.proofs.lemmas.Grind.{common_steps}
 use Rattle.std.proofs.lemmas.List.{append-nil, map-append}
 use Rattle.std.proofs.lemmas.List.Elements.{All-nil, All-head, All-tail, All-push, filter-append}
@@ -159,7 +159,9 @@ reply_on start script run journal broken next replies given_also began now new a
   broken_is = t.broken_is;
   of_failure = t.of_failure;
   crash = t.crash;
+  timely = t.timely;
   unbroken = t.unbroken;
+  stopped_by = t.stopped_by;
   unrefused = t.unrefused;
   settled = t.settled;
   reads = t.reads;
@@ -209,11 +211,18 @@ reply_on start script run journal broken next replies given_also began now new a
 
 -- ---- the beginning
 
+none_there : (events : List RunEvent) (n : ℕ) (event : RunEvent) → events ≡ [] → slice_get events n ≡ Some event → ⊥
+none_there events n event empty there = none_at n event (sym (ap (λ (es : List RunEvent). slice_get es n) empty) ∙ there)
+  where
+    none_at : (n : ℕ) (event : RunEvent) → slice_get [] n ≡ Some event → ⊥
+    none_at zero event e = cc e
+    none_at (suc n) event e = cc e
+
 -- A store that isn't stopped serves from the lists that it shows, before any event.
 pub serves_start : (start : Lists) (script : Requests) (run : Run) (replies : List (Option Reply)) (now : Seen) → run.events ≡ [] → HasComeTo run now → ShowsSeen now start → now.stopped ≡ false
     → ((i : ℕ) (given : Reply) → HasReply replies i given → ⊥) → count_by is_read_fault replies ≡ 0 → Serves start script run [] no_broken replies now now
-serves_start start script run replies now empty come shows runs none zero = record {
-  legal = legal_start start script run replies now.faults empty none zero;
+serves_start start script run replies now empty come shows runs none faultless = record {
+  legal = legal_start start script run replies now.faults empty none faultless;
   begins = record { map_is = at_start.map_is; drawn_is = at_start.drawn_is; moments = All-nil _ };
   come = come;
   shown = shows;
@@ -221,7 +230,9 @@ serves_start start script run replies now empty come shows runs none zero = reco
   broken_is = tt;
   of_failure = none_failed run;
   crash = λ at. begins now.history at;
+  timely = λ at n event state there. absurd (none_there run.events n event empty there);
   unbroken = λ e. refl;
+  stopped_by = λ e. absurd (fall now.stopped e runs);
   unrefused = λ e. subst (λ (es : List RunEvent). All (λ event. event.refused ≢ Some refusal.Stopped) es) (sym empty) (All-nil _);
   settled = λ e at. at;
   reads = subst (λ (es : List RunEvent). RoseBy (count_by is_faulted es) now.faults.reads now.faults.reads) (sym empty) (omega arith);

@@ -16,12 +16,12 @@ use Rattle.mdbox_base.specs.declared.entries.MapEntry.{MapEntry}
 use Rattle.model_meaning.specs.MapMeaning.{named_instances, is_sealed, seals}
 use Rattle.model_meaning.proofs.SealedLemmas.{sealed_is}
 use Rattle.list_machine.specs.Run.{RunEvent, Run, Pin, before, and_then, entries_of, map_of, own_events, given_by_others, is_one_of, is_unpinning, has_unpinned, is_pinned, is_doomed}
-use Rattle.journal.specs.Found.{took_file, is_known_file, is_same_instance, is_known_instance}
+use Rattle.journal.specs.Found.{is_known_file, is_same_instance, is_known_instance}
 use Rattle.journal.proofs.RunLemmas.{entries_more}
 use Rattle.journal.specs.Events.{begun_in, ended_in, due_of, number_drawn, number_of, until_doomed, was_pinned}
 use Rattle.journal.specs.Makes.{HasCome}
 use Rattle.journal.proofs.OwnEventLemmas.{own_more, own_other}
-use Rattle.task_steps.specs.Step.{Seen, was_given, pins_of, was_used, was_gone, HasComeTo, GivesNew, IsKept, HasNotBegun}
+use Rattle.task_steps.specs.Step.{Seen, was_given, pins_of, was_used, was_gone, KeepsTasks, HasComeTo, GivesNew, IsKept, HasNotBegun}
 use Rattle.task_steps.specs.Tells.{LeavesFiles, TellsSame}
 
 or_none : (b : Bool) → (b || false) ≡ b
@@ -138,9 +138,9 @@ sealed_still run event file e =
 
 pub file_still_known : (run : Run) (event : RunEvent) (file : ℕ) → event.removed ≡ [] → is_known_file run file ≡ true → is_known_file (and_then run event) file ≡ true
 file_still_known run event file none e =
-    stays_there (list_any (λ row. row.file == file) (map_of (before 0 run)).records) (is_sealed (map_of run) file) (list_any (took_file file) run.events) (list_any (λ e. is_one_of e.removed file) run.events)
-    (list_any (λ row. row.file == file) (map_of (before 0 run)).records) (is_sealed (map_of (and_then run event)) file) (list_any (took_file file) (run.events ++ event ∷ [])) (list_any (λ e. is_one_of e.removed file) (run.events ++ event ∷ []))
-    refl (sealed_still run event file) (any_more (took_file file) run.events event) (any_still (λ (e : RunEvent). is_one_of e.removed file) run.events event (ap (λ (fs : List ℕ). is_one_of fs file) none)) e
+    stays_there (list_any (λ row. row.file == file) (map_of (before 0 run)).records) (is_sealed (map_of run) file) (list_any (λ e. is_one_of e.made file) run.events) (list_any (λ e. is_one_of e.removed file) run.events)
+    (list_any (λ row. row.file == file) (map_of (before 0 run)).records) (is_sealed (map_of (and_then run event)) file) (list_any (λ e. is_one_of e.made file) (run.events ++ event ∷ [])) (list_any (λ e. is_one_of e.removed file) (run.events ++ event ∷ []))
+    refl (sealed_still run event file) (any_more (λ (e : RunEvent). is_one_of e.made file) run.events event) (any_still (λ (e : RunEvent). is_one_of e.removed file) run.events event (ap (λ (fs : List ℕ). is_one_of fs file) none)) e
 
 pub instance_still_known : (run : Run) (event : RunEvent) (instance : InstRow) → event.gone ≡ [] → is_known_instance run instance ≡ true → is_known_instance (and_then run event) instance ≡ true
 instance_still_known run event instance none e =
@@ -148,14 +148,37 @@ instance_still_known run event instance none e =
     (list_any (is_same_instance instance) (named_instances (map_of (before 0 run)))) false (list_any (λ e. list_any (is_same_instance instance) e.placed) (run.events ++ event ∷ [])) (list_any (λ e. list_any (is_same_instance instance) e.gone) (run.events ++ event ∷ []))
     refl (λ k. k) (any_more (λ (e : RunEvent). list_any (is_same_instance instance) e.placed) run.events event) (any_still (λ (e : RunEvent). list_any (is_same_instance instance) e.gone) run.events event (ap (λ (is : List InstRow). list_any (is_same_instance instance) is) none)) e
 
+pub placed_still : (run : Run) (event : RunEvent) (instance : InstRow) → event.placed ≡ [] → event.gone ≡ [] → is_known_instance (and_then run event) instance ≡ is_known_instance run instance
+placed_still run event instance none stay =
+    ap (λ (b : Bool). (list_any (is_same_instance instance) (named_instances (map_of (before 0 run))) || b) && not (list_any (λ (e : RunEvent). list_any (is_same_instance instance) e.gone) (run.events ++ event ∷ [])))
+    (any_still (λ (e : RunEvent). list_any (is_same_instance instance) e.placed) run.events event (ap (λ (is : List InstRow). list_any (is_same_instance instance) is) none))
+    ∙ ap (λ (b : Bool). (list_any (is_same_instance instance) (named_instances (map_of (before 0 run))) || list_any (λ (e : RunEvent). list_any (is_same_instance instance) e.placed) run.events) && not b)
+    (any_still (λ (e : RunEvent). list_any (is_same_instance instance) e.gone) run.events event (ap (λ (is : List InstRow). list_any (is_same_instance instance) is) stay))
+
 pub gone_still : (run : Run) (event : RunEvent) (instance : InstRow) → event.gone ≡ [] → was_gone (and_then run event) instance ≡ was_gone run instance
 gone_still run event instance none = any_still (λ (e : RunEvent). list_any (is_same_instance instance) e.gone) run.events event (ap (λ (is : List InstRow). list_any (is_same_instance instance) is) none)
 
--- an event that took a file makes it known, unless one removed it
-pub file_now_known : (run : Run) (event : RunEvent) (file : ℕ) → event.removed ≡ [] → took_file file event ≡ true → list_any (λ e. is_one_of e.removed file) run.events ≡ false → is_known_file (and_then run event) file ≡ true
-file_now_known run event file none took stays =
-    by_tests (list_any (λ row. row.file == file) (map_of (before 0 run)).records) (is_sealed (map_of (and_then run event)) file) (list_any (took_file file) (run.events ++ event ∷ [])) (list_any (λ (e : RunEvent). is_one_of e.removed file) (run.events ++ event ∷ []))
-    (any_push (took_file file) run.events event ∙ (ap (λ (b : Bool). list_any (took_file file) run.events || b) took ∙ or_true (list_any (took_file file) run.events)))
+-- an event that places instances makes known those and no other, if none was removed before
+pub places_known : (run : Run) (event : RunEvent) (instance : InstRow) → event.gone ≡ [] → was_gone run instance ≡ false → is_known_instance (and_then run event) instance ≡ (is_known_instance run instance || list_any (is_same_instance instance) event.placed)
+places_known run event instance none stays =
+    by_tests (list_any (is_same_instance instance) (named_instances (map_of (before 0 run)))) (list_any (λ (e : RunEvent). list_any (is_same_instance instance) e.placed) run.events) (list_any (is_same_instance instance) event.placed)
+    (list_any (λ (e : RunEvent). list_any (is_same_instance instance) e.placed) (run.events ++ event ∷ [])) (was_gone run instance) (was_gone (and_then run event) instance)
+    (any_push (λ (e : RunEvent). list_any (is_same_instance instance) e.placed) run.events event) stays (gone_still run event instance none ∙ stays)
+  where
+    by_tests : (first before now placed gone gone_on : Bool) → placed ≡ (before || now) → gone ≡ false → gone_on ≡ false → ((first || placed) && not gone_on) ≡ (((first || before) && not gone) || now)
+    by_tests true before now placed gone gone_on p g k = (ap (λ (b : Bool). not b) k) ∙ sym (ap (λ (b : Bool). not b || now) g)
+    by_tests false true now placed gone gone_on p g k = (ap (λ (b : Bool). b && not gone_on) p ∙ ap (λ (b : Bool). not b) k) ∙ sym (ap (λ (b : Bool). not b || now) g)
+    by_tests false false now placed gone gone_on p g k = (ap (λ (b : Bool). b && not gone_on) p ∙ ap (λ (b : Bool). now && not b) k) ∙ and_true now
+      where
+        and_true : (b : Bool) → (b && true) ≡ b
+        and_true true = refl
+        and_true false = refl
+
+-- an event that made a file makes it known, unless one removed it
+pub file_now_known : (run : Run) (event : RunEvent) (file : ℕ) → event.removed ≡ [] → is_one_of event.made file ≡ true → list_any (λ e. is_one_of e.removed file) run.events ≡ false → is_known_file (and_then run event) file ≡ true
+file_now_known run event file none made stays =
+    by_tests (list_any (λ row. row.file == file) (map_of (before 0 run)).records) (is_sealed (map_of (and_then run event)) file) (list_any (λ (e : RunEvent). is_one_of e.made file) (run.events ++ event ∷ [])) (list_any (λ (e : RunEvent). is_one_of e.removed file) (run.events ++ event ∷ []))
+    (any_push (λ (e : RunEvent). is_one_of e.made file) run.events event ∙ (ap (λ (b : Bool). list_any (λ (e : RunEvent). is_one_of e.made file) run.events || b) made ∙ or_true (list_any (λ (e : RunEvent). is_one_of e.made file) run.events)))
     (any_still (λ (e : RunEvent). is_one_of e.removed file) run.events event (ap (λ (fs : List ℕ). is_one_of fs file) none) ∙ stays)
   where
     or_true : (b : Bool) → (b || true) ≡ true
@@ -184,29 +207,38 @@ instance_now_known run event instance none put stays =
 
 -- ---- the store
 
+-- what is due in a run of one event more
+pub due_more : (run : Run) (event : RunEvent) (uid old new : ℕ) → sum_by (begun_in uid) run.events ≡ old + sum_by (ended_in uid) run.events → new + ended_in uid event ≡ old + begun_in uid event
+    → sum_by (begun_in uid) (run.events ++ event ∷ []) ≡ new + sum_by (ended_in uid) (run.events ++ event ∷ [])
+due_more run event uid old new h d =
+    let a = sum_push (begun_in uid) run.events event in
+    let b = sum_push (ended_in uid) run.events event in
+    omega (arith, a, b, h, d)
+
 -- A run that has come to a store comes on with an event that leaves files and GUIDs: what is due rose and fell as it says.
 pub comes_to_on : (run : Run) (event : RunEvent) (old new : Seen) → HasComeTo run old → HasCome (and_then run event) new.map new.drawn (told_calls new.history) → ((uid : ℕ) → new.due uid + ended_in uid event ≡ old.due uid + begun_in uid event)
     → LeavesFiles event → TellsSame old new → HasComeTo (and_then run event) new
 comes_to_on run event old new h come due leaves same = record {
   come = come;
-  due = λ uid.
-      let a = sum_push (begun_in uid) run.events event in
-      let b = sum_push (ended_in uid) run.events event in
-      let c = h.due uid in
-      let d = due uid in
-      omega (arith, a, b, c, d);
-  pins = λ file. pins_still run event file leaves.pins leaves.unpins ∙ (h.pins file ∙ sym (same.pins file));
-  doomed = λ file. doomed_still run event file leaves.doomed leaves.removed ∙ (h.doomed file ∙ sym (same.doomed file));
+  keeps = λ runs. keeps_on (h.keeps (same.ran runs));
   used = λ file e. same.used file ∙ h.used file (sym (used_still run event file leaves.doomed leaves.removed) ∙ e);
+  barred = λ file e. same.barred file ∙ h.barred file e;
   gave = λ guid e. same.gave guid ∙ h.gave guid (sym (given_still run event guid leaves.given) ∙ e);
   gone = λ instance e. same.gone instance ∙ h.gone instance (sym (gone_still run event instance leaves.gone) ∙ e);
   files = λ file e. file_still_known run event file leaves.removed (h.files file (sym (same.files file) ∙ e));
-  instances = λ instance e. instance_still_known run event instance leaves.gone (h.instances instance (sym (same.instances instance) ∙ e));
 }
+  where
+    keeps_on : KeepsTasks run old → KeepsTasks (and_then run event) new
+    keeps_on k = record {
+      due = λ uid. due_more run event uid (old.due uid) (new.due uid) (k.due uid) (due uid);
+      pins = λ file. pins_still run event file leaves.pins leaves.unpins ∙ (k.pins file ∙ sym (same.pins file));
+      doomed = λ file. doomed_still run event file leaves.doomed leaves.removed ∙ (k.doomed file ∙ sym (same.doomed file));
+      instances = λ instance. placed_still run event instance leaves.placed leaves.gone ∙ (k.instances instance ∙ sym (same.instances instance));
+    }
 
 -- a store tells the same as itself
 pub tells_itself : (seen : Seen) → TellsSame seen seen
-tells_itself seen = record { pins = λ file. refl; doomed = λ file. refl; used = λ file. refl; gave = λ guid. refl; gone = λ instance. refl; files = λ file. refl; instances = λ instance. refl }
+tells_itself seen = record { ran = λ runs. runs; pins = λ file. refl; doomed = λ file. refl; used = λ file. refl; barred = λ file. refl; gave = λ guid. refl; gone = λ instance. refl; files = λ file. refl; instances = λ instance. refl }
 
 -- It does so with an event that leaves all.
 pub comes_to_still : (run : Run) (event : RunEvent) (seen : Seen) → HasComeTo run seen → HasCome (and_then run event) seen.map seen.drawn (told_calls seen.history) → ((uid : ℕ) → begun_in uid event ≡ ended_in uid event) → LeavesFiles event
@@ -217,8 +249,8 @@ pub no_guids : (run : Run) (event : RunEvent) → event.given ≡ [] → GivesNe
 no_guids run event none = subst (λ (gs : List (List ℕ)). All (λ guid. was_given run guid ≡ false) gs) (sym none) (All-nil _)
 
 -- what is due of a record in the run is what the store says
-pub due_is : (run : Run) (seen : Seen) (uid : ℕ) → HasComeTo run seen → due_of run uid ≡ seen.due uid
-due_is run seen uid h = let e = h.due uid in omega (arith, e)
+pub due_is : (run : Run) (seen : Seen) (uid : ℕ) → HasComeTo run seen → seen.stopped ≡ false → due_of run uid ≡ seen.due uid
+due_is run seen uid h runs = let e = (h.keeps runs).due uid in omega (arith, e)
 
 neither : (told there : Bool) → (told ≡ true → there ≡ true) → there ≡ false → told ≡ false
 neither true there h none = absurd (let k : true ≡ false = sym (h refl) ∙ none in cc k)
@@ -237,8 +269,8 @@ never_gone run seen instance h none = neither (was_gone run instance) (seen.gone
 pub places_new : (run : Run) (event : RunEvent) (seen : Seen) (instance : InstRow) → HasComeTo run seen → seen.gone instance ≡ false → event.gone ≡ [] → list_any (is_same_instance instance) event.placed ≡ true → is_known_instance (and_then run event) instance ≡ true
 places_new run event seen instance h free none put = instance_now_known run event instance none put (never_gone run seen instance h free)
 
-pub pinned_as : (run : Run) (seen : Seen) (file : ℕ) → HasComeTo run seen → is_pinned run file ≡ nat_lt 0 (seen.pins file)
-pinned_as run seen file h = pinned_is run file ∙ ap (λ (n : ℕ). nat_lt 0 n) (h.pins file)
+pub pinned_as : (run : Run) (seen : Seen) (file : ℕ) → HasComeTo run seen → seen.stopped ≡ false → is_pinned run file ≡ nat_lt 0 (seen.pins file)
+pinned_as run seen file h runs = pinned_is run file ∙ ap (λ (n : ℕ). nat_lt 0 n) ((h.keeps runs).pins file)
 
 -- ---- what a stage may read
 

@@ -1,31 +1,49 @@
 -- What the events since the beginning have made of a store.
 use Rattle.journal.specs.Events.{is_faulted, Around}
-use Rattle.std.specs.Prelude.{◌≡◌, ◌≢◌, ◌≤◌, ◌<◌, ℕ, count_by, true, false, List, [], All, Option, Some, None, length, slice_get}
-use Rattle.disk_model.specs.Disk.{Files, EachImage}
+use Rattle.std.specs.Prelude.{◌≡◌, ◌≢◌, ◌≤◌, ◌<◌, ◌+◌, ℕ, count_by, true, false, List, [], All, Option, Some, None, length, slice_get, take}
+use Rattle.disk_model.specs.Disk.{Files, DiskState, History, EachImage, state_at}
 use Rattle.mdbox_base.specs.Streams.{Rose}
 use Rattle.mdbox_base.specs.declared.requests.Request.{Request}
 use Rattle.mdbox_base.specs.declared.replies.Refusal.TheVariants as refusal
 use Rattle.mdbox_base.specs.declared.replies.Reply.{Reply}
 use Rattle.mdbox_base.specs.declared.replies.Reply.TheVariants as reply
 use Rattle.model_lists.specs.Lists.{Lists}
-use Rattle.list_machine.specs.Run.{Run, before}
+use Rattle.list_machine.specs.Run.{RunEvent, Run, before}
 use Rattle.journal.specs.Journal.{Requests, JournalStep, left_by, IsLegal, Broken, no_broken, AreBroken, IsOfFailure, Reached, HasReply, RoseBy, steps_of}
 use Rattle.journal.specs.Found.{AgreeWithRun}
-use Rattle.journal.specs.Makes.{HasCome, AreNextEvents}
+use Rattle.journal.specs.Makes.{HasCome, AreNextEvents, lists_before}
 use Rattle.model_store.specs.Safe.{Safe}
-use Rattle.model_store.specs.Settled.{IsSettledFor}
+use Rattle.model_store.specs.Settled.{IsSettled, IsSettledFor}
 use Rattle.task_steps.specs.Step.{Seen, ShowsSeen, HasComeTo}
 
 -- At this moment the image is safe for lists that a crash may leave.
 abbrev pub IsReached : Lists → Run → List JournalStep → Broken → ℕ → Files → Type 0
 IsReached start run journal broken m image = (lists : Lists) × Reached start run journal broken m lists × Safe image lists
 
+-- no event was refused by a stopped store
+abbrev pub NoneStopped : List RunEvent → Type 0
+NoneStopped events = All (λ event. event.refused ≢ Some refusal.Stopped) events
+
+-- the disk was in this state after so many calls
+abbrev pub WasAt : Option History → ℕ → DiskState → Type 0
+WasAt None calls state = ⊥
+WasAt (Some history) calls state = state_at history calls ≡ Some state
+
+-- The moment of an event is that at which the disk came to what its step left: then the disk was settled for the lists of the
+-- steps up to it, unless the store had stopped. Of events of one moment this is said of the last.
+abbrev pub IsLastThen : Run → ℕ → RunEvent → Type 0
+IsLastThen run n event = (k : ℕ) (later : RunEvent) → n < k → slice_get run.events k ≡ Some later → later.moment ≢ event.moment
+
+abbrev pub AreTimely : Lists → Run → List JournalStep → Option History → Type 0
+AreTimely start run journal history = (n : ℕ) (event : RunEvent) (state : DiskState) → slice_get run.events n ≡ Some event → IsLastThen run n event
+    → NoneStopped (take (n + 1) run.events) → WasAt history event.moment state → IsSettled state (lists_before start journal (n + 1))
+
 -- A run of events, from these lists and from a store as it was seen then: the run began with the
 -- map and the numbers drawn of that store, the journal and the replies are legal, the run has
 -- come to the store, which shows what the journal left; a store that is stopped replied so, and no other. Of a disk that was
--- settled at the start each image since is safe for lists that are reached; unless the store is stopped, no step is broken,
--- no event was refused as by one that is, and the disk is settled for the present lists. Broken steps are those of the append
--- that stopped the store.
+-- settled at the start each image since is safe for lists that are reached, and at the moment of each event before the store
+-- stopped it was settled for what the steps up to it left; unless the store is stopped, no step is broken, no event was refused
+-- as by one that is, and the disk is settled for the present lists. Broken steps are those of the append that stopped the store.
 pub record Serves (start : Lists) (script : Requests) (run : Run) (journal : List JournalStep) (broken : Broken) (replies : List (Option Reply)) (began now : Seen) : Type 0 where
   pub legal : IsLegal start script run journal replies began.faults now.faults
   pub begins : HasCome (before 0 run) began.map began.drawn 0
@@ -35,8 +53,10 @@ pub record Serves (start : Lists) (script : Requests) (run : Run) (journal : Lis
   pub broken_is : AreBroken run script start journal broken
   pub of_failure : IsOfFailure run broken
   pub crash : IsSettledFor start began.history → EachImage (IsReached start run journal broken) began.history now.history
+  pub timely : IsSettledFor start began.history → AreTimely start run journal now.history
   pub unbroken : now.stopped ≡ false → broken ≡ no_broken
-  pub unrefused : now.stopped ≡ false → All (λ event. event.refused ≢ Some refusal.Stopped) run.events
+  pub stopped_by : now.stopped ≡ true → NoneStopped run.events → ⊥
+  pub unrefused : now.stopped ≡ false → NoneStopped run.events
   pub settled : now.stopped ≡ false → IsSettledFor start began.history → IsSettledFor (left_by start journal) now.history
   pub reads : RoseBy (count_by is_faulted run.events) began.faults.reads now.faults.reads
   pub changes : began.faults.changes ≤ now.faults.changes

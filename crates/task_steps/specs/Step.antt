@@ -1,6 +1,7 @@
 -- What an event of a task did: to the journal, to the disk, and by what its request ended.
 use Rattle.std.specs.Prelude.{◌≡◌, ◌≢◌, ◌≤◌, ◌↔◌, ◌+◌, ◌==◌, ◌||◌, ◌++◌, ◌∷◌, ℕ, Bool, true, false, List, [], All, flat_map, sum_by, count_by, length, if◌then◌else◌, slice_get, Option, Some, None, is_some}
 use Rattle.std.specs.List.{list_any}
+use Rattle.std.specs.Option.{IfSome}
 use Rattle.std.specs.Str.{bytes_eq}
 use Rattle.disk_model.specs.Disk.{History, Faults}
 use Rattle.mdbox_base.specs.Streams.{Rose}
@@ -17,7 +18,7 @@ use Rattle.model_store.specs.Listing.{ShowLists}
 use Rattle.list_machine.specs.Run.{RunEvent, Run, and_then, own_events, is_one_of, has_unpinned, is_doomed}
 use Rattle.journal.specs.Journal.{half_of, halves_of, IsReplyOf}
 use Rattle.journal.specs.Events.{Around, begun_in, ended_in}
-use Rattle.journal.specs.Found.{AgreesWithRun, is_known_file, is_same_instance, is_known_instance}
+use Rattle.journal.specs.Found.{AgreesWithRun, is_known_file, is_taken, is_same_instance, is_known_instance}
 use Rattle.journal.specs.Makes.{HasCome, WouldMake, Makes}
 use Rattle.disk_model.specs.Disk.{told_calls, Grows}
 use Rattle.model_store.specs.Settled.{Leaves}
@@ -31,8 +32,9 @@ use Rattle.mdbox_base.specs.declared.progress.Progress.TheVariants as progress
 
 -- What is seen of a store: what its map and the logs of its mailboxes mean, the numbers drawn, what its disk tells, the
 -- faults counted, and whether it is stopped. Then what it keeps of its tasks: how much is due of each record, how many pins
--- each file has, which files are doomed, and which are no new ones, that it may have doomed or removed; the GUIDs that it may
--- have given; the instances that it may have removed; and the files and instances that it knows to be there.
+-- each file has, which files are doomed, which are no new ones, that it may have doomed or removed, and which may have been
+-- barred; the GUIDs that it may have given; the instances that it may have removed; the files that it knows to be there, and the
+-- instances that are.
 pub record Seen : Type 0 where
   pub map : MapMeaning
   pub meanings : List BoxMeaning
@@ -44,6 +46,7 @@ pub record Seen : Type 0 where
   pub pins : ℕ → ℕ
   pub doomed : ℕ → Bool
   pub used : ℕ → Bool
+  pub barred : ℕ → Bool
   pub gave : List ℕ → Bool
   pub gone : InstRow → Bool
   pub files : ℕ → Bool
@@ -69,19 +72,25 @@ was_used run file = list_any (λ e. is_one_of e.doomed file || is_one_of e.remov
 abbrev pub was_gone : Run → InstRow → Bool
 was_gone run instance = list_any (λ e. list_any (is_same_instance instance) e.gone) run.events
 
--- The run has come to where the store stands. Its entries, numbers and moments are the store's; of each record as much began
--- as ended and is due; its files are pinned and doomed as the store has them; events used files, gave GUIDs and removed
--- instances only if the store may have; and the files and instances that the store knows are there as far as the run tells.
-pub record HasComeTo (run : Run) (seen : Seen) : Type 0 where
-  pub come : HasCome run seen.map seen.drawn (told_calls seen.history)
+-- What a store that runs keeps of its tasks, as a run says it: of each record as much began as ended and is due, and files are
+-- pinned and doomed, and instances there, as the store has them.
+pub record KeepsTasks (run : Run) (seen : Seen) : Type 0 where
   pub due : (uid : ℕ) → sum_by (begun_in uid) run.events ≡ seen.due uid + sum_by (ended_in uid) run.events
   pub pins : (file : ℕ) → pins_of run file ≡ seen.pins file
   pub doomed : (file : ℕ) → is_doomed run file ≡ seen.doomed file
+  pub instances : (instance : InstRow) → is_known_instance run instance ≡ seen.instances instance
+
+-- The run has come to where the store stands. Its entries, numbers and moments are the store's; unless it is stopped, it keeps of
+-- its tasks what the run says; files were barred, events used files, gave GUIDs and removed instances only if the store may have;
+-- and the files that the store knows are there as far as the run tells.
+pub record HasComeTo (run : Run) (seen : Seen) : Type 0 where
+  pub come : HasCome run seen.map seen.drawn (told_calls seen.history)
+  pub keeps : seen.stopped ≡ false → KeepsTasks run seen
   pub used : (file : ℕ) → was_used run file ≡ true → seen.used file ≡ true
+  pub barred : (file : ℕ) → is_one_of run.barred file ≡ true → seen.barred file ≡ true
   pub gave : (guid : List ℕ) → was_given run guid ≡ true → seen.gave guid ≡ true
   pub gone : (instance : InstRow) → was_gone run instance ≡ true → seen.gone instance ≡ true
   pub files : (file : ℕ) → seen.files file ≡ true → is_known_file run file ≡ true
-  pub instances : (instance : InstRow) → seen.instances instance ≡ true → is_known_instance run instance ≡ true
 
 -- ---- the disk
 
@@ -166,6 +175,11 @@ abbrev pub Steps : (Run → ℕ → List Reply → Type 0) → (Run → ℕ → 
 Steps Stood Stands around after request old new did ended =
     (run : Run) (lane place : ℕ) (said : List Reply) (lists : Lists) → HasComeTo run old → ShowsSeen old lists → Stood run place said
     → (d : DidEvent around after run lane place said request lists old new did ended) × (ended ≡ None → Stands (and_then run d.makes.event) place (and_told said d.makes.answer))
+
+-- No request has taken the file in which a delivery finds room. A store doesn't say who has taken its files, so a task that takes
+-- one does as its clause says only where this holds.
+abbrev pub FindsRoom : Around → Run → Type 0
+FindsRoom around run = IfSome around.room (λ file. is_taken run file ≡ false)
 
 abbrev pub ended_by : Progress → Option Reply
 ended_by progress.More = None

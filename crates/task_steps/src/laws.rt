@@ -16,6 +16,8 @@ ghost use Rattle.mdbox_base.specs.declared.ids.Uid.{Uid};
 ghost use Rattle.mdbox_base.specs.declared.replies.Reply.TheVariants as reply;
 ghost use Rattle.mdbox_base.specs.declared.requests.Request.TheVariants as request;
 ghost use Rattle.model_meaning.specs.BoxMeaning.{BoxMeaning};
+ghost use Rattle.mdbox_base.specs.declared.entries.MapEntry.TheVariants as entry;
+ghost use Rattle.model_meaning.specs.MapFits.{MapFits};
 ghost use Rattle.model_meaning.specs.MapMeaning.{MapRecord};
 ghost use Rattle.list_machine.specs.Machine.{mailbox_named, expunge, first_refusal, part_checks};
 ghost use Rattle.journal.specs.Stages.{Stage, ToRemove, ToLower, removal};
@@ -74,12 +76,13 @@ pub fn stages_are_kept()
 
 /// What a store says of a run that has come to it.
 pub fn stores_tell()
-    ensures due { (run : Run) (seen : Seen) (uid : ℕ) → HasComeTo run seen → due_of run uid ≡ seen.due uid }
+    ensures due { (run : Run) (seen : Seen) (uid : ℕ) → HasComeTo run seen → seen.stopped ≡ false → due_of run uid ≡ seen.due uid }
     ensures new_guid { (run : Run) (seen : Seen) (guid : List ℕ) → HasComeTo run seen → seen.gave guid ≡ false → was_given run guid ≡ false }
-    ensures pinned { (run : Run) (seen : Seen) (file : ℕ) → HasComeTo run seen → is_pinned run file ≡ nat_lt 0 (seen.pins file) }
+    ensures pinned { (run : Run) (seen : Seen) (file : ℕ) → HasComeTo run seen → seen.stopped ≡ false → is_pinned run file ≡ nat_lt 0 (seen.pins file) }
     ensures unused { (run : Run) (seen : Seen) (file : ℕ) → HasComeTo run seen → seen.used file ≡ false → was_used run file ≡ false }
     // A new file is doomed: it was pinned then as it is now.
     ensures dooms { (run : Run) (event : RunEvent) (file : ℕ) → was_used run file ≡ false → is_one_of event.doomed file ≡ true → event.removed ≡ [] → (was_pinned (and_then run event) file ≡ is_pinned (and_then run event) file) × (is_doomed (and_then run event) file ≡ true) }
+    ensures instances { (run : Run) (seen : Seen) (instance : InstRow) → HasComeTo run seen → seen.stopped ≡ false → is_known_instance run instance ≡ seen.instances instance }
     // An event places an instance that none can have removed: it is there, and so it stays with every event that removes none.
     ensures placed { (run : Run) (event : RunEvent) (seen : Seen) (instance : InstRow) → HasComeTo run seen → seen.gone instance ≡ false → event.gone ≡ [] → list_any (is_same_instance instance) event.placed ≡ true → is_known_instance (and_then run event) instance ≡ true }
     ensures known { (run : Run) (event : RunEvent) (instance : InstRow) → event.gone ≡ [] → is_known_instance run instance ≡ true → is_known_instance (and_then run event) instance ≡ true }
@@ -103,7 +106,7 @@ pub fn expunges_step_twice()
         → mailbox_named name lists ≡ Some mailbox → IsRecord run lists name uid.0 row → ShowsSeen (behind_box old meanings row.uid history faults) (expunge name uid.0 lists) → Leads lists (expunge name uid.0 lists) old (behind_box old meanings row.uid history faults) → Grows old.history history → old.faults.reads ≤ faults.reads → old.faults.changes ≤ faults.changes
         → (d : DidEvent around after run lane place said (request.Expunge name uid) lists old (behind_box old meanings row.uid history faults) (did.Step half.Whole) None) × StandsAtStage (ToLower row.uid) (and_then run d.makes.event) place (and_told said d.makes.answer) }
     ensures lowering { (around after : Around) (run : Run) (lane place : ℕ) (said : List Reply) (name : List ℕ) (uid : Uid) (lists : Lists) (old : Seen) (owed : ℕ) (due : ℕ → ℕ) (history : Option History) (faults : Faults)
-        → HasComeTo run old → StandsAtStage (ToLower owed) run place said → old.stopped ≡ false → ((uid : ℕ) → due uid + one_due owed uid ≡ old.due uid) → ShowsSeen (behind_lowering old owed due history faults) lists → Leads lists lists old (behind_lowering old owed due history faults) → Grows old.history history → old.faults.reads ≤ faults.reads → old.faults.changes ≤ faults.changes
+        → HasComeTo run old → StandsAtStage (ToLower owed) run place said → old.stopped ≡ false → MapFits old.map (entry.D (record { 0 = owed } ∷ [])) → ((uid : ℕ) → due uid + one_due owed uid ≡ old.due uid) → ShowsSeen (behind_lowering old owed due history faults) lists → Leads lists lists old (behind_lowering old owed due history faults) → Grows old.history history → old.faults.reads ≤ faults.reads → old.faults.changes ≤ faults.changes
         → DidEvent around after run lane place said (request.Expunge name uid) lists old (behind_lowering old owed due history faults) did.Quiet (Some reply.Done) }
     ensures kept { (stage : Stage) → IsKept (StandsAtStage stage) }
 {}

@@ -91,7 +91,9 @@ fn what_a_crash_leaves(rt: HostRuntime) -> Result<(), Fail> {
         }
         Ok(())
     })?;
-    files.remove_file(&mut disk, FileNo(1))?;
+    if files.pins_of(FileNo(1)) == 0 {
+        files.remove_file(&mut disk, FileNo(1))?;
+    }
     assert_eq!(rt; disk.length(NAME), Err(DiskError::Absent));
     assert_eq!(rt; files.end_of(FileNo(1)), None);
     Ok(())

@@ -1,5 +1,5 @@
 // The storage files of a store: who takes which, and what is written to them and read.
-ghost use Rattle.std.specs.Prelude.{◌≡◌, ◌↔◌, ◌≤◌, ◌+◌, ℕ, List, length, take, drop, max, true, false, Some, None, IfOk, OnOk, OnErr, IsOk, IsErr};
+ghost use Rattle.std.specs.Prelude.{◌≡◌, ◌↔◌, ◌≤◌, ◌+◌, ◌||◌, ℕ, List, length, take, drop, max, true, false, Some, None, IfOk, OnOk, OnErr, IsOk, IsErr};
 ghost use Rattle.disk_model.specs.Disk.{Between, Grows, IfTold, IsIdle, Keeps, SameButFor, reading};
 ghost use Rattle.disk_model.specs.FaultCounts.{NoFault, ChangeFaultCounted, ReadFaultCounted};
 ghost use Rattle.disk_model.specs.declared.name.FileName.TheVariants.{Mail};
@@ -7,7 +7,7 @@ ghost use Rattle.model_appends.specs.Appending.{LeavesAsRead};
 ghost use Rattle.model_lists.specs.Lists.{Lists};
 ghost use Rattle.model_meaning.specs.MapFits.{IsFree};
 ghost use Rattle.model_store.specs.Settled.{IsSettledFor, Leaves};
-ghost use Rattle.storage_files.specs.Files.{IsTakeFor, IsGiven, after_take, changed_in, end_in, ending_at, file_past, is_taken_in, released_in};
+ghost use Rattle.storage_files.specs.Files.{IsTakeFor, IsGiven, after_take, changed_in, end_in, ending_at, file_past, is_emptied_in, is_taken_in, released_in};
 ghost use Rattle.storage_files.specs.OnDisk.{IsAddedTo, OthersAreNamed, piece_read};
 ghost use Rattle.store_core.specs.Dues.{KeepsStored};
 ghost use Rattle.store_core.specs.Files.{IsNewPlace, EndsWith};
@@ -52,7 +52,7 @@ impl<D: Disk> Store<D> {
 
     /// Whether somebody has taken the storage file.
     pub fn is_taken(&self, file: FileNo) -> bool
-        ensures { result ≡ is_taken_in file.0 self.now.files.files }
+        ensures { result ≡ (is_taken_in file.0 self.now.files.files || is_emptied_in file.0 self.now.files.files) }
     {
         self.files.is_taken(file)
     }

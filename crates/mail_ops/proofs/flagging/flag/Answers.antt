@@ -5,42 +5,44 @@ use Rattle.box_index.specs.State.{BoxState}
 use Rattle.mdbox_base.specs.declared.replies.Refusal.TheVariants as refusal
 use Rattle.model_lists.specs.Lists.{Lists}
 use Rattle.model_store.specs.Settled.{IsSettledFor, Leaves}
-use Rattle.task_steps.proofs.OneEventLemmas.{does_nothing, does_refuse, never_more, when_stopped, not_true, ok_is_none, not_reading, leaves_none}
-use Rattle.mail_ops.specs.Task.{seen_beside}
-use Rattle.mail_ops.proofs.FlagEventLemmas.{flag_is_plain, flags_known, brings_none, due_kept, tells_same, flag_done, flag_broken, none_of, some_of}
+use Rattle.task_steps.proofs.OneEventLemmas.{does_nothing, does_refuse, never_more, when_stopped, not_true, ok_is_none, leaves_none}
+use Rattle.store_seen.specs.Seeing.{seen_of}
+use Rattle.store_seen.proofs.SeeingLemmas.{due_as_before}
+use Rattle.mail_ops.proofs.FlagEventLemmas.{flag_is_plain, flags_known, brings_none, flag_done, flag_broken, none_of, some_of}
 use Rattle.mail_ops.proofs.SettledFlagLemmas.{settled_by, counted_for, not_both}
+use Rattle.mail_ops.proofs.RemovalLemmas.{store_tells}
 use Rattle.mail_ops.proofs.KeptUidLemmas.{flags_left, logs_keep}
 use Rattle.mail_ops.proofs.flagging.flag.Goals as goal
 
 pub returns-then-stopped-clause-does : goal.returns-then-stopped-clause-does
-returns-then-stopped-clause-does g c = λ around after others run lane place said lists come shows stage. (
-  does_nothing around after run lane place said _ lists (seen_beside others c.args.store.now (g.D.Disk.history c.args.store.now.disk) (g.D.Disk.faults c.args.store.now.disk)) refusal.Stopped (flag_is_plain c.args.name.now c.args.uid c.args.flags) come shows stage refl tt not_reading (when_stopped c.args.store.now.stopped (sym c.stopped.ensures ∙ c.if-stopped.true)),
+returns-then-stopped-clause-does g c = λ around after pins run lane place said lists come shows stage. (
+  does_nothing around after run lane place said _ lists (seen_of pins c.args.store.now (g.D.Disk.history c.args.store.now.disk) (g.D.Disk.faults c.args.store.now.disk)) refusal.Stopped (flag_is_plain c.args.name.now c.args.uid c.args.flags) come shows stage refl tt tt (when_stopped c.args.store.now.stopped (sym c.stopped.ensures ∙ c.if-stopped.true)),
   λ e. absurd (never_more _ e),
 )
 
 pub returns-in_default-clause-does : goal.returns-in_default-clause-does
-returns-in_default-clause-does g c = λ around after others run lane place said lists come shows stage. (
-  does_refuse around after run lane place said _ lists (seen_beside others c.args.store.now (g.D.Disk.history c.args.store.now.disk) (g.D.Disk.faults c.args.store.now.disk)) refusal.NoMailbox (flag_is_plain c.args.name.now c.args.uid c.args.flags) come shows stage refl refl (sym c.stopped.ensures ∙ c.if-stopped.false)
+returns-in_default-clause-does g c = λ around after pins run lane place said lists come shows stage. (
+  does_refuse around after run lane place said _ lists (seen_of pins c.args.store.now (g.D.Disk.history c.args.store.now.disk) (g.D.Disk.faults c.args.store.now.disk)) refusal.NoMailbox (flag_is_plain c.args.name.now c.args.uid c.args.flags) come shows stage refl refl (sym c.stopped.ensures ∙ c.if-stopped.false)
       (λ event. c.flags_are_shown.ensures.no_mailbox run event _ _ lists c.args.name.now c.args.uid c.args.flags shows.1 (sym c.list_of.ensures ∙ ap (λ o. option_map (λ (i : BoxState). i.meaning) (option_copied o)) c.in_default.is)),
   λ e. absurd (never_more _ e),
 )
 
 pub returns-then-is_none-clause-does : goal.returns-then-is_none-clause-does
-returns-then-is_none-clause-does g c = λ around after others run lane place said lists come shows stage. (
-  does_refuse around after run lane place said _ lists (seen_beside others c.args.store.now (g.D.Disk.history c.args.store.now.disk) (g.D.Disk.faults c.args.store.now.disk)) refusal.NoMessage (flag_is_plain c.args.name.now c.args.uid c.args.flags) come shows stage refl refl (sym c.stopped.ensures ∙ c.if-stopped.false)
+returns-then-is_none-clause-does g c = λ around after pins run lane place said lists come shows stage. (
+  does_refuse around after run lane place said _ lists (seen_of pins c.args.store.now (g.D.Disk.history c.args.store.now.disk) (g.D.Disk.faults c.args.store.now.disk)) refusal.NoMessage (flag_is_plain c.args.name.now c.args.uid c.args.flags) come shows stage refl refl (sym c.stopped.ensures ∙ c.if-stopped.false)
       (λ event. c.flags_are_shown.ensures.no_message run event _ _ lists c.args.name.now c.args.uid c.args.flags c.in-Some.index.now.meaning shows.1 (sym c.list_of.ensures ∙ ap (λ o. option_map (λ (i : BoxState). i.meaning) (option_copied o)) c.in-Some.is) (none_of row_of c.find.result _ c.if-is_none.ensures c.find.ensures)),
   λ e. absurd (never_more _ e),
 )
 
 pub returns-in-Ok-clause-does : goal.returns-in-Ok-clause-does
-returns-in-Ok-clause-does g c = λ around after others run lane place said lists come shows stage. (
-  flag_done around after run lane place said lists c.args.name.now c.in-Some-number_of.number.0 c.args.uid c.args.flags c.bits.result (seen_beside others c.args.store.now (g.D.Disk.history c.args.store.now.disk) (g.D.Disk.faults c.args.store.now.disk)) (seen_beside others c.append_box.new.self (g.D.Disk.history c.append_box.new.self.disk) (g.D.Disk.faults c.append_box.new.self.disk)) come stage
+returns-in-Ok-clause-does g c = λ around after pins run lane place said lists come shows stage. (
+  flag_done around after run lane place said lists c.args.name.now c.in-Some-number_of.number.0 c.args.uid c.args.flags c.bits.result (seen_of pins c.args.store.now (g.D.Disk.history c.args.store.now.disk) (g.D.Disk.faults c.args.store.now.disk)) (seen_of pins c.append_box.new.self (g.D.Disk.history c.append_box.new.self.disk) (g.D.Disk.faults c.append_box.new.self.disk)) come stage
       (flags_known run _ _ lists c.args.name.now c.in-Some-number_of.number.0 c.args.uid c.args.flags c.bits.result c.in-Some.index.now.meaning (some_of row_of c.find.result _ c.if-is_none.ensures c.find.ensures).0 shows.0 shows.1 (sym c.list_of.ensures ∙ ap (λ o. option_map (λ (i : BoxState). i.meaning) (option_copied o)) c.in-Some.is) (some_of row_of c.find.result _ c.if-is_none.ensures c.find.ensures).1 c.in-Some-number_of.ensures.some.1 c.bits.ensures.same c.bits.ensures.flags)
       (record {
         map_is = ap (λ v. v.map) c.in-Ok.ensures.same;
         drawn_is = ap (λ v. v.drawn) c.in-Ok.ensures.same;
         due_is = λ other. c.in-Ok.ensures.due c.in-Some.index.now.meaning other (c.in-Some-number_of.ensures.some.0 ∙ (sym c.list_of.ensures ∙ ap (λ o. option_map (λ (i : BoxState). i.meaning) (option_copied o)) c.in-Some.is));
-        same = tells_same others c.args.store.now c.append_box.new.self _ _ _ _ (ap (λ v. v.map) c.in-Ok.ensures.same) (ap (λ v. v.drawn) c.in-Ok.ensures.same) (ap (λ v. v.files) c.in-Ok.ensures.same);
+        same = store_tells pins c.args.store.now c.append_box.new.self _ _ _ _ (λ runs. sym c.stopped.ensures ∙ c.if-stopped.false) (ap (λ v. v.map.store) c.in-Ok.ensures.same) (ap (λ v. v.drawn) c.in-Ok.ensures.same) (ap (λ v. v.files) c.in-Ok.ensures.same) (ap (λ v. v.instances) c.in-Ok.ensures.same);
         ran = sym c.stopped.ensures ∙ c.if-stopped.false;
         grows = c.in-Ok.ensures.grows;
         moments = λ ls. c.in-Ok.ensures.any_moment ls [] (brings_none c.args.store.now.map c.args.uid c.bits.result [] (g.D.Disk.history c.args.store.now.disk));
@@ -52,14 +54,14 @@ returns-in-Ok-clause-does g c = λ around after others run lane place said lists
 )
 
 pub returns-in-Err-Stopped-clause-does : goal.returns-in-Err-Stopped-clause-does
-returns-in-Err-Stopped-clause-does g c = λ around after others run lane place said lists come shows stage. (
-  flag_broken around after run lane place said lists c.args.name.now c.in-Some-number_of.number.0 c.args.uid c.args.flags c.bits.result (seen_beside others c.args.store.now (g.D.Disk.history c.args.store.now.disk) (g.D.Disk.faults c.args.store.now.disk)) (seen_beside others c.append_box.new.self (g.D.Disk.history c.append_box.new.self.disk) (g.D.Disk.faults c.append_box.new.self.disk)) come shows stage
+returns-in-Err-Stopped-clause-does g c = λ around after pins run lane place said lists come shows stage. (
+  flag_broken around after run lane place said lists c.args.name.now c.in-Some-number_of.number.0 c.args.uid c.args.flags c.bits.result (seen_of pins c.args.store.now (g.D.Disk.history c.args.store.now.disk) (g.D.Disk.faults c.args.store.now.disk)) (seen_of pins c.append_box.new.self (g.D.Disk.history c.append_box.new.self.disk) (g.D.Disk.faults c.append_box.new.self.disk)) come shows stage
       (flags_known run _ _ lists c.args.name.now c.in-Some-number_of.number.0 c.args.uid c.args.flags c.bits.result c.in-Some.index.now.meaning (some_of row_of c.find.result _ c.if-is_none.ensures c.find.ensures).0 shows.0 shows.1 (sym c.list_of.ensures ∙ ap (λ o. option_map (λ (i : BoxState). i.meaning) (option_copied o)) c.in-Some.is) (some_of row_of c.find.result _ c.if-is_none.ensures c.find.ensures).1 c.in-Some-number_of.ensures.some.1 c.bits.ensures.same c.bits.ensures.flags)
       (record {
         map_is = ap (λ v. v.map) c.in-Err-Stopped.ensures.same;
         drawn_is = ap (λ v. v.drawn) c.in-Err-Stopped.ensures.same;
-        due_is = λ other. due_kept c.args.store.now c.append_box.new.self other (ap (λ v. v.map) c.in-Err-Stopped.ensures.same) (c.in-Err-Stopped.ensures.untaken refl).1;
-        same = tells_same others c.args.store.now c.append_box.new.self _ _ _ _ (ap (λ v. v.map) c.in-Err-Stopped.ensures.same) (ap (λ v. v.drawn) c.in-Err-Stopped.ensures.same) (ap (λ v. v.files) c.in-Err-Stopped.ensures.same);
+        due_is = λ other. due_as_before c.args.store.now c.append_box.new.self other (ap (λ v. v.map) c.in-Err-Stopped.ensures.same) (c.in-Err-Stopped.ensures.untaken refl).1;
+        same = store_tells pins c.args.store.now c.append_box.new.self _ _ _ _ (λ runs. sym c.stopped.ensures ∙ c.if-stopped.false) (ap (λ v. v.map.store) c.in-Err-Stopped.ensures.same) (ap (λ v. v.drawn) c.in-Err-Stopped.ensures.same) (ap (λ v. v.files) c.in-Err-Stopped.ensures.same) (ap (λ v. v.instances) c.in-Err-Stopped.ensures.same);
         ran = sym c.stopped.ensures ∙ c.if-stopped.false;
         grows = c.in-Err-Stopped.ensures.grows;
         moments = λ ls. c.in-Err-Stopped.ensures.any_moment ls [] (brings_none c.args.store.now.map c.args.uid c.bits.result [] (g.D.Disk.history c.args.store.now.disk));

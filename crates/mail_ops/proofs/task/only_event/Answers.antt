@@ -4,20 +4,20 @@ use Rattle.task_steps.specs.Step.{HasNotBegun, Steps}
 use Rattle.model_store.specs.Settled.{IsSettledFor, Leaves}
 use Rattle.task_steps.proofs.OneEventLemmas.{leaves_none}
 use Rattle.mail_ops.specs.Requests.{Replies, lists_after, lists_by_reply}
-use Rattle.mail_ops.specs.Task.{seen_beside}
+use Rattle.store_seen.specs.Seeing.{seen_of}
 use Rattle.mail_ops.proofs.SettledFlagLemmas.{list_leaves_settled, uncounted, not_both}
 use Rattle.mail_ops.proofs.task.only_event.Goals as goal
 
 pub returns-in-List-clause-does : goal.returns-in-List-clause-does
-returns-in-List-clause-does g c = λ around after others.
-    subst (λ (q : Request). Steps HasNotBegun HasNotBegun around after q (seen_beside others c.args.store.now (g.D.Disk.history c.args.store.now.disk) (g.D.Disk.faults c.args.store.now.disk)) (seen_beside others c.args.store.now (g.D.Disk.history c.args.store.now.disk) (g.D.Disk.faults c.args.store.now.disk)) c.list.result.1 (Some c.list.result.0)) (sym c.in-List.is) (c.list.ensures.does around after others)
+returns-in-List-clause-does g c = λ around after pins.
+    subst (λ (q : Request). Steps HasNotBegun HasNotBegun around after q (seen_of pins c.args.store.now (g.D.Disk.history c.args.store.now.disk) (g.D.Disk.faults c.args.store.now.disk)) (seen_of pins c.args.store.now (g.D.Disk.history c.args.store.now.disk) (g.D.Disk.faults c.args.store.now.disk)) c.list.result.1 (Some c.list.result.0)) (sym c.in-List.is) (c.list.ensures.does around after pins)
 
 pub returns-in-List-clause-replies : goal.returns-in-List-clause-replies
 returns-in-List-clause-replies g c = subst (λ (q : Request). Replies q c.args.store.now c.args.store.now c.list.result.0) (sym c.in-List.is) c.list.ensures.replies
 
 pub returns-in-Flag-clause-does : goal.returns-in-Flag-clause-does
-returns-in-Flag-clause-does g c = λ around after others.
-    subst (λ (q : Request). Steps HasNotBegun HasNotBegun around after q (seen_beside others c.args.store.now (g.D.Disk.history c.args.store.now.disk) (g.D.Disk.faults c.args.store.now.disk)) (seen_beside others c.flag.new.store (g.D.Disk.history c.flag.new.store.disk) (g.D.Disk.faults c.flag.new.store.disk)) c.flag.result.1 (Some c.flag.result.0)) (sym c.in-Flag.is) (c.flag.ensures.does around after others)
+returns-in-Flag-clause-does g c = λ around after pins.
+    subst (λ (q : Request). Steps HasNotBegun HasNotBegun around after q (seen_of pins c.args.store.now (g.D.Disk.history c.args.store.now.disk) (g.D.Disk.faults c.args.store.now.disk)) (seen_of pins c.flag.new.store (g.D.Disk.history c.flag.new.store.disk) (g.D.Disk.faults c.flag.new.store.disk)) c.flag.result.1 (Some c.flag.result.0)) (sym c.in-Flag.is) (c.flag.ensures.does around after pins)
 
 pub returns-in-Flag-clause-replies : goal.returns-in-Flag-clause-replies
 returns-in-Flag-clause-replies g c = subst (λ (q : Request). Replies q c.args.store.now c.flag.new.store c.flag.result.0) (sym c.in-Flag.is) (λ why e. (c.flag.ensures.refused why e).0, c.flag.ensures.done)

@@ -10,7 +10,7 @@ returns-in-Ok-clause-settled g c = λ lists s. c.in-Ok.ensures.settled lists (su
 
 pub returns-in-Ok-clause-lowers : goal.returns-in-Ok-clause-lowers
 returns-in-Ok-clause-lowers g c =
-    lowers_record c.args.uid c.entry_of.result c.args.store.now c.append_map.new.self c.entry_of.ensures c.append_map.ensures.same c.in-Ok.ensures.taken c.append_map.ensures.mailboxes c.in-Ok.ensures.drawn c.in-Ok.ensures.due
+    lowers_record c.args.uid c.entry_of.result c.args.store.now c.append_map.new.self c.entry_of.ensures (c.known_dues.ensures c.args.uid.0 c.requires.due) c.append_map.ensures.same c.in-Ok.ensures.taken c.append_map.ensures.mailboxes c.in-Ok.ensures.drawn c.in-Ok.ensures.due
 
 pub returns-in-Err-Stopped-clause-alone : goal.returns-in-Err-Stopped-clause-alone
 returns-in-Err-Stopped-clause-alone g c = λ e.

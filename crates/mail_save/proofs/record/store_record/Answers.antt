@@ -24,7 +24,7 @@ append_map-requires-clause-drawn g c =
     (c.in-Some.ensures.some.0, file_drawn c.args.at c.args.store.now _ c.facts.ensures.store c.facts.ensures.files c.requires.placed, guid_drawn c.args.at c.args.store.now _ c.facts.ensures.store c.facts.ensures.files c.requires.placed)
 
 pub append_map-requires-clause-below : goal.append_map-requires-clause-below
-append_map-requires-clause-below g c = record_below c.in-Some.uid c.args.at c.args.rows c.args.store.now c.requires.placed c.requires.size
+append_map-requires-clause-below g c = record_below c.in-Some.uid c.args.at c.args.rows c.args.store.now _ c.facts.ensures.store c.requires.placed c.requires.size
 
 pub append_map-requires-clause-region : goal.append_map-requires-clause-region
 append_map-requires-clause-region g c =
@@ -72,7 +72,9 @@ returns-clause-stores g c = elim c.match-append_map.branch [
       rw (w.stored-is, w.store-is) (λ time size.
       let row = saved_row c.args.rows c.in-Some.uid c.args.at in
       let made = All-head (λ (r : MapRecord). record_at c.append_map.new.self.map r.uid ≡ Some r) row [] w.in-Ok.ensures.made in
-      stores_placed c.args.at c.args.rows time size c.in-Some.uid c.args.store.now c.append_map.new.self w.release-in-Ok.new.self c.in-Some.ensures.some.0 c.in-Some.ensures.some.1.high w.in-Ok.ensures.taken made w.in-Ok.ensures.drawn w.in-Ok.ensures.due
+      stores_placed c.args.at c.args.rows time size c.in-Some.uid c.args.store.now c.append_map.new.self w.release-in-Ok.new.self c.in-Some.ensures.some.0 c.in-Some.ensures.some.1.high
+      (record_fits c.in-Some.uid c.args.at c.args.rows c.args.store.now _ (c.known_rows_agree.ensures _ c.args.store.now c.args.rows c.facts.ensures.instances c.requires.instances.known) c.facts.ensures.store c.facts.ensures.files c.requires.placed c.requires.size c.in-Some.ensures.some.0 c.in-Some.ensures.some.1)
+      w.in-Ok.ensures.taken made w.in-Ok.ensures.drawn w.in-Ok.ensures.due
       c.append_map.ensures.mailboxes c.append_map.ensures.same w.release-in-Ok.ensures.same w.release-in-Ok.ensures.ends)
   | in-Err-Stopped w ↦ rw w.stored-is tt
   | in-Err-NoMemory w ↦ rw w.stored-is tt

@@ -24,3 +24,6 @@ returns-clause-known c = instance_still_known
 
 pub returns-clause-on : goal.returns-clause-on
 returns-clause-on c = comes_to_on
+
+pub returns-clause-instances : goal.returns-clause-instances
+returns-clause-instances c = λ run seen instance h runs. (h.keeps runs).instances instance

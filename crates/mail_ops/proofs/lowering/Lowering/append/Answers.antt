@@ -4,7 +4,9 @@ use Rattle.model_logs.specs.Entries.{MapInRange}
 use Rattle.store_core.specs.MapAppend.{IsReadyToStore, drawn_by}
 use Rattle.store_core.specs.Value.{indexes_of}
 use Rattle.task_steps.proofs.OneEventLemmas.{not_true, ok_is_none}
+use Rattle.model_meaning.specs.MapFits.{MapFits}
 use Rattle.mail_ops.specs.Appends.{MapTook, lowering_of}
+use Rattle.mail_ops.proofs.LoweringLemmas.{one_lowered_fits}
 use Rattle.mail_ops.proofs.lowering.Lowering.append.Goals as goal
 
 pub append_map-requires-clause-range : goal.append_map-requires-clause-range
@@ -29,6 +31,7 @@ returns-in-Ok g c =
       };
       runs = not_true _ (λ e. ok_is_none _ (o.stopped.1 e));
       settled = λ lists s. o.settled lists synced s;
+      fits = subst (λ (e : MapEntry). MapFits c.args.store.now.map e) (sym is) (one_lowered_fits c.args.store.now.map _ (c.known_dues.ensures _ c.requires.due));
       taken = o.taken;
       due = o.due;
       spared = o.spared;

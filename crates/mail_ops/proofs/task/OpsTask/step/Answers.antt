@@ -9,7 +9,7 @@ use Rattle.mail_ops.proofs.StageLemmas.{only_event}
 use Rattle.mail_ops.proofs.task.OpsTask.step.Goals as goal
 
 pub returns-clause-does : goal.returns-clause-does
-returns-clause-does g c = λ around after others. only_event _ _ around after _ _ _ _ _ _ (ap (λ v. v.request) c.self.view_is) (c.only_event-reply.ensures.does around after others)
+returns-clause-does g c = λ around after pins. only_event _ _ around after _ _ _ _ _ _ (ap (λ v. v.request) c.self.view_is) (c.only_event-reply.ensures.does around after pins)
 
 pub returns-clause-moves : goal.returns-clause-moves
 returns-clause-moves g c = moves_as _ _ _ c.only_event-reply.ensures.due

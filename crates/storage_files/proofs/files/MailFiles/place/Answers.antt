@@ -5,8 +5,9 @@ use Rattle.disk_model.specs.declared.name.FileName.TheVariants.{Mail}
 use Rattle.std.specs.Option.{option_map}
 use Rattle.storage_files.specs.OnDisk.{FrontStays}
 use Rattle.storage_files.proofs.AddLemmas.{held-on}
-use Rattle.storage_files.specs.Files.{ending_at}
+use Rattle.storage_files.specs.Files.{IsUsedFile, ending_at}
 use Rattle.storage_files.proofs.FileListLemmas.{takers-kept}
+use Rattle.storage_files.proofs.UseLemmas.{of-found, found-ending, use_ending, more_end}
 use Rattle.storage_files.proofs.KnownLemmas.{taken-there, same-reads, added-length, known-ending}
 use Rattle.storage_files.proofs.files.MailFiles.place.Goals as goal
 
@@ -20,6 +21,12 @@ returns-clause-any_moment g c = λ end is.
     let e : c.unwrap-end.result ≡ end = same_Some _ _ (sym c.unwrap-end.ensures ∙ c.end_of.ensures ∙ is) in
     subst (λ (n : ℕ). EachImage (λ m image. FrontStays (Mail c.args.file.0) n (g.D.Disk.history c.args.disk.now) image × OthersStay (Mail c.args.file.0) (g.D.Disk.history c.args.disk.now) image) (g.D.Disk.history c.args.disk.now) (g.D.Disk.history c.add_to.new.disk)) e c.add_to.ensures.any_moment
 
+pub change-requires : goal.change-requires
+change-requires g c =
+    let f = found-ending c.args.file.0 c.args.self.now.files c.unwrap-end.result (sym (sym c.unwrap-end.ensures ∙ c.end_of.ensures)) in
+    of-found c.args.file.0 _ f.0 (λ f. IsUsedFile f → IsUsedFile (ending_at (c.unwrap-end.result + length c.args.octets.now) f)) c.known_facts.ensures.rising f.1
+    (use_ending f.0 (c.unwrap-end.result + length c.args.octets.now) (λ old is. more_end c.unwrap-end.result (length c.args.octets.now) old (sym f.2 ∙ is)))
+
 pub returns-clause-held : goal.returns-clause-held
 returns-clause-held g c = λ text keeps. held-on (Mail c.args.file.0) c.args.octets.now text _ _ c.in_ok-add_to.ensures.added keeps
 
@@ -28,8 +35,8 @@ returns-clause-still_known g c = λ number known.
     let there = taken-there c.args.self.now.files c.args.file.0 c.requires.taken in
     let end = sym c.unwrap-end.ensures ∙ c.end_of.ensures in
     let long = subst (λ o. IfTold (g.D.Disk.history c.args.disk.now) (λ disk. option_map length (reading (disk (Mail c.args.file.0))) ≡ o)) (sym end) c.requires.known in
-    rw c.set_end.ensures (known-ending c.args.file.0 (c.unwrap-end.result + length c.args.octets.now) c.args.self.now.files there.0 _ _ there.1 (same-reads c.args.file.0 _ _ c.in_ok-add_to.ensures.others)
+    rw c.change.ensures (known-ending c.args.file.0 (c.unwrap-end.result + length c.args.octets.now) c.args.self.now.files there.0 _ _ there.1 (same-reads c.args.file.0 _ _ c.in_ok-add_to.ensures.others)
     (added-length (Mail c.args.file.0) c.unwrap-end.result c.args.octets.now _ _ long c.in_ok-add_to.ensures.added) number known)
 
 pub returns-clause-taken : goal.returns-clause-taken
-returns-clause-taken g c = λ number. rw c.set_end.ensures (takers-kept c.args.file.0 number (ending_at (c.unwrap-end.result + length c.args.octets.now)) c.args.self.now.files (λ f. refl) (λ f. refl))
+returns-clause-taken g c = λ number. rw c.change.ensures (takers-kept c.args.file.0 number (ending_at (c.unwrap-end.result + length c.args.octets.now)) c.args.self.now.files (λ f. refl) (λ f. refl))

@@ -1,0 +1,38 @@
+use Rattle.std.proofs.Common.{◌≡◌, ℕ, ◌+◌, length, refl, sym, ◌∙◌, subst}
+use Rattle.std.proofs.lemmas.Option.{same_Some}
+use Rattle.std.specs.Option.{option_map}
+use Rattle.disk_model.specs.Disk.{EachImage, OthersStay, IfTold, reading}
+use Rattle.disk_model.specs.declared.name.FileName.TheVariants.{Mail}
+use Rattle.storage_files.specs.OnDisk.{FrontStays}
+use Rattle.storage_files.specs.Files.{IsUsedFile, ending_at}
+use Rattle.storage_files.proofs.FileListLemmas.{takers-kept}
+use Rattle.storage_files.proofs.KnownLemmas.{same-reads, known-ending}
+use Rattle.storage_files.proofs.UseLemmas.{of-found, found-ending, use_ending, more_end, piece-length}
+use Rattle.storage_files.proofs.files.MailFiles.add_piece.Goals as goal
+
+pub returns-in_err-write_on-clause-any_moment : goal.returns-in_err-write_on-clause-any_moment
+returns-in_err-write_on-clause-any_moment g c = λ end is.
+    let e : c.unwrap-end.result ≡ end = same_Some _ _ (sym c.unwrap-end.ensures ∙ c.end_of.ensures ∙ is) in
+    subst (λ (n : ℕ). EachImage (λ m image. FrontStays (Mail c.args.file.0) n (g.D.Disk.history c.args.disk.now) image × OthersStay (Mail c.args.file.0) (g.D.Disk.history c.args.disk.now) image) (g.D.Disk.history c.args.disk.now) (g.D.Disk.history c.write_on.new.disk)) e c.write_on.ensures.any_moment
+
+pub returns-clause-any_moment : goal.returns-clause-any_moment
+returns-clause-any_moment g c = λ end is.
+    let e : c.unwrap-end.result ≡ end = same_Some _ _ (sym c.unwrap-end.ensures ∙ c.end_of.ensures ∙ is) in
+    subst (λ (n : ℕ). EachImage (λ m image. FrontStays (Mail c.args.file.0) n (g.D.Disk.history c.args.disk.now) image × OthersStay (Mail c.args.file.0) (g.D.Disk.history c.args.disk.now) image) (g.D.Disk.history c.args.disk.now) (g.D.Disk.history c.write_on.new.disk)) e c.write_on.ensures.any_moment
+
+pub change-requires : goal.change-requires
+change-requires g c =
+    let f = found-ending c.args.file.0 c.args.self.now.files c.unwrap-end.result (sym (sym c.unwrap-end.ensures ∙ c.end_of.ensures)) in
+    of-found c.args.file.0 _ f.0 (λ f. IsUsedFile f → IsUsedFile (ending_at (c.unwrap-end.result + length c.args.octets.now) f)) c.known_facts.ensures.rising f.1
+    (use_ending f.0 (c.unwrap-end.result + length c.args.octets.now) (λ old is. more_end c.unwrap-end.result (length c.args.octets.now) old (sym f.2 ∙ is)))
+
+pub returns-clause-still_known : goal.returns-clause-still_known
+returns-clause-still_known g c = λ number known.
+    let end = sym (sym c.unwrap-end.ensures ∙ c.end_of.ensures) in
+    let f = found-ending c.args.file.0 c.args.self.now.files c.unwrap-end.result end in
+    let long = subst (λ o. IfTold (g.D.Disk.history c.args.disk.now) (λ disk. option_map length (reading (disk (Mail c.args.file.0))) ≡ o)) end c.requires.known in
+    rw c.change.ensures (known-ending c.args.file.0 (c.unwrap-end.result + length c.args.octets.now) c.args.self.now.files f.0 _ _ f.1 (same-reads c.args.file.0 _ _ c.in_ok-write_on.ensures.others)
+    (piece-length (Mail c.args.file.0) c.unwrap-end.result c.args.octets.now _ _ long c.in_ok-write_on.ensures.added) number known)
+
+pub returns-clause-taken : goal.returns-clause-taken
+returns-clause-taken g c = λ number. rw c.change.ensures (takers-kept c.args.file.0 number (ending_at (c.unwrap-end.result + length c.args.octets.now)) c.args.self.now.files (λ f. refl) (λ f. refl))
