@@ -1,6 +1,8 @@
 // The steps of the list machine, one after another.
 use crate::line_text::{push_digits, push_line};
-use mdbox_base::{BoxNo, Guid, ListRow, Name, NoMemory, Octets, Refusal, Reply, Uid, flags_of, name_of};
+use mdbox_base::{
+    BoxNo, Guid, ListRow, Name, NoMemory, Octets, Refusal, Reply, Uid, flags_of, name_of,
+};
 use plain_lists::{PlainLists, PlainMailbox, PlainMessage};
 use std::alloc::Global;
 
