@@ -24,7 +24,7 @@ use Rattle.task_claims.specs.Claims.{ClaimsNothing, Due, Emptied, Held, Made, Mo
 use Rattle.task_claims.specs.Leaving.{LeavesOthers, SameButCounts, but_count}
 use Rattle.task_claims.proofs.CountedLemmas.{same_map}
 use Rattle.task_claims.proofs.RestLemmas.{rest_leaves}
-use Rattle.mail_ops.specs.Claims.{logs_made, make_claims}
+use Rattle.mail_ops.specs.Claims.{own_log_of, make_claims}
 use Rattle.mail_ops.specs.Making.{IsReadyToMake, KeepsAllButLogs, MakeAnswers, MakesLog, NamesMail}
 use Rattle.mail_ops.specs.declared.event.NotDone.TheVariants as not_done
 use Rattle.mail_ops.specs.declared.making.MakeStage.{MakeStage}
@@ -114,13 +114,13 @@ refs_of_new ms guid =
 pub record MakeChanges {D : Type 0} (now next : MakeStage) (old new : StoreValue D) : Type 0 where
   pub same : SameButCounts old.map new.map
   pub refs : (guid : List ℕ) → references_to new guid ≡ references_to old guid
-  pub logs : (number : ℕ) → one_if (has_made_log number new) + logs_made now number ≡ one_if (has_made_log number old) + logs_made next number
+  pub logs : (number : ℕ) → one_if (has_made_log number new) + own_log_of now number ≡ one_if (has_made_log number old) + own_log_of next number
 
 nothing_changed : {D : Type 0} → (now : MakeStage) (old new : StoreValue D) → new.map ≡ old.map → new.boxes ≡ old.boxes → new.made ≡ old.made → MakeChanges now now old new
 nothing_changed now old new map_is boxes made = record {
   same = same_map old.map new.map map_is;
   refs = λ guid. ap (λ (bs : List OpenBox). refs_in (indexes_of bs) guid) boxes;
-  logs = λ number. ap (λ (bs : List OpenBox). one_if (list_any (HasNumber number) bs) + logs_made now number) made;
+  logs = λ number. ap (λ (bs : List OpenBox). one_if (list_any (HasNumber number) bs) + own_log_of now number) made;
 }
 
 log_removed : {D : Type 0} → (number : BoxNo) (old new : StoreValue D) → new ≡ record old { disk = new.disk; made = without_box number.0 old.made } → has_made_log number.0 old ≡ true → MakeChanges (make_stage.Naming number) make_stage.First old new
