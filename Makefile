@@ -1,6 +1,6 @@
 # The toolchain's `rt` proves, builds and tests everything.
 
-.PHONY: all demo check index bench install uninstall clean
+.PHONY: all demo check cases index bench install uninstall clean
 
 PREFIX = /usr/local
 
@@ -24,6 +24,10 @@ demo: all
 # The gate: every proof, every edit that must fail, every test and program, and the names and the levels of crates.
 check:
 	.ci/run
+
+# The cases of the whole program, without any proof: docs/testing.md.
+cases:
+	tools/cases
 
 # Writes the lists of files in the crates' READMEs, and the index of definitions in docs/model.md.
 index:

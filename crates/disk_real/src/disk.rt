@@ -2,9 +2,11 @@
 ghost use Rattle.std.specs.Prelude.{None, Some, Ok, ◌≡◌, ◌↔◌, ◌≤◌, ◌<◌, ◌^◌, ◌+◌, length, drop, IfOk, IfSome, OnOk, IsOk, IsErr, IsErrOf};
 ghost use Rattle.disk_model.specs.Disk.{ReadCause, ChangeCause, IsPast};
 ghost use Rattle.disk_model.specs.declared.error.DiskError.TheVariants.{Absent};
+ghost use Rattle.disk_real.specs.declared.lock.Lock.TheVariants.{Unasked};
 ghost use Rattle.disk_real.specs.Counts.{real_counts_of, real_faults_of, after_read, after_change, IsSpoiled, IsRealRead, IsRealChange};
 
 use crate::folder::StoreFolder;
+use crate::lock::TRIES;
 use disk_model::{Disk, DiskError, FileName};
 use std::io;
 
@@ -23,15 +25,27 @@ pub struct RealDisk {
 }
 
 impl RealDisk {
-    /// The files of the current folder. Nothing is looked at until the first call.
+    /// The files of the current folder. Nothing is looked at until the first call. It waits for 30 seconds for another process
+    /// that has the store.
     pub fn of(rt: HostRuntime) -> RealDisk
         ensures counts { real_counts_of result ≡ record { calls = 0; reads = 0; changes = 0 } }
         ensures reads { (⟦<RealDisk as Disk>⟧.faults result).reads ≡ 0 }
         ensures changes { (⟦<RealDisk as Disk>⟧.faults result).changes ≡ 0 }
         ensures sound { IsSpoiled result → ⊥ }
     {
+        RealDisk::asking(rt, TRIES)
+    }
+
+    /// The same, which asks so many times for the store's lock, every 10 milliseconds, before it is refused.
+    pub fn asking(rt: HostRuntime, tries: u32) -> RealDisk
+        ensures tries { result.folder.lock ≡ Unasked tries }
+        ensures counts { real_counts_of result ≡ record { calls = 0; reads = 0; changes = 0 } }
+        ensures reads { (⟦<RealDisk as Disk>⟧.faults result).reads ≡ 0 }
+        ensures changes { (⟦<RealDisk as Disk>⟧.faults result).changes ≡ 0 }
+        ensures sound { IsSpoiled result → ⊥ }
+    {
         RealDisk {
-            folder: StoreFolder::of(rt),
+            folder: StoreFolder::of(rt, tries),
             calls: 0,
             failed_reads: 0,
             failed_changes: 0,

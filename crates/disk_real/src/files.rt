@@ -1,6 +1,7 @@
 // The files of the current folder by their paths.
-ghost use Rattle.std.specs.Prelude.{◌≡◌, Ok, Some, IfOk, IfSome, string_bytes};
+ghost use Rattle.std.specs.Prelude.{◌≡◌, ◌↔◌, Ok, Some, IsTrue, IfOk, IfSome, string_bytes};
 ghost use Rattle.file_paths.specs.Paths.{path_text, IsStoreFile};
+ghost use Rattle.disk_real.specs.Absence.{IsAbsence};
 
 use crate::open_files::OpenFile;
 use disk_model::{FileName, same_file};
@@ -26,7 +27,10 @@ pub(crate) fn if_there<T: Drop>(answer: io::Result<T>) -> io::Result<Option<T>>
     }
 }
 
-fn is_missing(kind: ErrorKind) -> bool {
+/// Whether an error of this kind says that there is no such file.
+fn is_missing(kind: ErrorKind) -> bool
+    ensures { IsTrue result ↔ IsAbsence kind }
+{
     matches!(
         kind,
         ErrorKind::NotFound | ErrorKind::NotADirectory | ErrorKind::FilesystemLoop
@@ -61,7 +65,9 @@ pub(crate) fn is_plain(rt: &HostRuntime, path: &str) -> io::Result<bool> {
 }
 
 /// Opens a plain file to read it and, where that is allowed, to write it. None where there is none.
-pub(crate) fn open_file(rt: &HostRuntime, name: FileName) -> io::Result<Option<OpenFile>> {
+pub(crate) fn open_file(rt: &HostRuntime, name: FileName) -> io::Result<Option<OpenFile>>
+    ensures { IfOk result (λ found. IfSome found (λ file. file.name ≡ name)) }
+{
     let Some(path) = if_there(path_of(rt, name))? else {
         return Ok(None);
     };
@@ -77,7 +83,9 @@ pub(crate) fn open_file(rt: &HostRuntime, name: FileName) -> io::Result<Option<O
 
 /// Makes a file, empty, in a folder that is there. A plain file that stands there is emptied; what else has its name is left
 /// alone, and is an error.
-pub(crate) fn make_file(rt: &HostRuntime, name: FileName) -> io::Result<OpenFile> {
+pub(crate) fn make_file(rt: &HostRuntime, name: FileName) -> io::Result<OpenFile>
+    ensures { IfOk result (λ file. (file.name ≡ name) × (file.length ≡ 0)) }
+{
     let path = path_of(rt, name)?;
     let is_there = is_plain(rt, path.as_str())?;
     let file = OpenOptions::new()

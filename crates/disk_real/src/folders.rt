@@ -1,7 +1,10 @@
 // Folders of the store's files in the current folder.
-ghost use Rattle.std.specs.Prelude.{◌≡◌, [], true, false, All, IfOk, OnOk, OnErr};
+ghost use Rattle.std.specs.Prelude.{◌≡◌, [], true, false, All, IsOk, IfOk, IfErr, IfSome, OnOk, OnErr};
 ghost use Rattle.std.specs.BTreeSet.{insert_key};
+ghost use Rattle.std.specs.declared.io.ErrorKind.TheVariants.{AlreadyExists};
+ghost use Rattle.std.specs.IoError.{error_kind};
 ghost use Rattle.file_paths.specs.Paths.{IsStoreFile};
+ghost use Rattle.disk_real.specs.Folders.{IsNoted, KeepsNoted, folder_above, folder_of};
 
 use crate::files::{if_there, is_plain};
 use crate::names::Names;
@@ -34,7 +37,9 @@ pub(crate) enum Folder {
 
 impl Folder {
     /// The folder that a file stands in.
-    pub(crate) fn of(name: FileName) -> Folder {
+    pub(crate) fn of(name: FileName) -> Folder
+        ensures { result ≡ folder_of name }
+    {
         match name {
             FileName::Root | FileName::Map(_) | FileName::Mail(_) => Folder::Storage,
             FileName::Box(_, _) => Folder::Mailboxes,
@@ -43,7 +48,9 @@ impl Folder {
     }
 
     /// The folder that this one stands in. None of the current folder.
-    fn above(self) -> Option<Folder> {
+    fn above(self) -> Option<Folder>
+        ensures { result ≡ folder_above self }
+    {
         match self {
             Folder::Top => None,
             Folder::Storage | Folder::Mailboxes | Folder::Attachments => Some(Folder::Top),
@@ -87,14 +94,18 @@ impl Folders {
     /// Notes that a name in a folder is about to change.
     pub(crate) fn note(&mut self, folder: Folder) -> io::Result<()>
         ensures first { self.new.is_first ≡ self.old.is_first }
-        ensures noted { OnOk result (self.new.changed.keys ≡ insert_key ⟦<Folder as Ord>⟧.cmp self.old.changed.keys folder) }
+        ensures noted { OnOk result (IsNoted ⟦<Folder as Ord>⟧.cmp self.new.changed folder) }
+        ensures keeps { KeepsNoted ⟦<Folder as Ord>⟧.cmp self.old.changed self.new.changed }
+        ensures exactly { OnOk result (self.new.changed.keys ≡ insert_key ⟦<Folder as Ord>⟧.cmp self.old.changed.keys folder) }
     {
         self.changed.insert(folder)?;
         Ok(())
     }
 
     /// Makes a folder and those above it, where they aren't there.
-    pub(crate) fn make(&mut self, rt: &HostRuntime, folder: Folder) -> io::Result<()> {
+    pub(crate) fn make(&mut self, rt: &HostRuntime, folder: Folder) -> io::Result<()>
+        ensures { KeepsNoted ⟦<Folder as Ord>⟧.cmp self.old.changed self.new.changed }
+    {
         let above = folder.above();
         let way = [above.and_then(Folder::above), above, Some(folder)];
         for folder in way.into_iter().flatten() {
@@ -103,10 +114,25 @@ impl Folders {
         Ok(())
     }
 
-    /// Makes a folder, where it isn't there: a name in the one above it.
-    fn make_one(&mut self, rt: &HostRuntime, folder: Folder) -> io::Result<()> {
+    /// Makes a folder, where it isn't there.
+    fn make_one(&mut self, rt: &HostRuntime, folder: Folder) -> io::Result<()>
+        ensures { KeepsNoted ⟦<Folder as Ord>⟧.cmp self.old.changed self.new.changed }
+    {
         let path = folder.path(rt.alloc())?;
-        match DirBuilder::new().mode(FOLDER_MODE).create(rt, &path) {
+        self.note_made(
+            folder,
+            DirBuilder::new().mode(FOLDER_MODE).create(rt, &path),
+        )
+    }
+
+    /// Notes what the system answered to the making of a folder. One that it made is a name in the folder above; one that was
+    /// there is none.
+    fn note_made(&mut self, folder: Folder, answer: io::Result<()>) -> io::Result<()>
+        ensures made { OnOk result (IsOk answer → IfSome (folder_above folder) (IsNoted ⟦<Folder as Ord>⟧.cmp self.new.changed)) }
+        ensures failed { IfErr answer (λ error. OnOk result (error_kind error ≡ AlreadyExists)) }
+        ensures keeps { KeepsNoted ⟦<Folder as Ord>⟧.cmp self.old.changed self.new.changed }
+    {
+        match answer {
             Ok(()) => match folder.above() {
                 Some(above) => self.note(above),
                 None => Ok(()),

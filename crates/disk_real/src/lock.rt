@@ -5,16 +5,17 @@ use std::os::unix::fs::OpenOptionsExt;
 use std::time::Duration;
 use std::{io, thread};
 
-/// How many milliseconds pass until the lock is asked for again, and how often it is asked for: for 30 seconds.
+/// How many milliseconds pass until the lock is asked for again.
 const PAUSE: u64 = 10;
 
-const TRIES: u32 = 3000;
+/// How often the lock is asked for: for 30 seconds.
+pub(crate) const TRIES: u32 = 3000;
 
 /// The lock of a store, which one process has at a time.
 #[derive(Drop)]
 pub(crate) enum Lock {
-    /// Not asked for yet.
-    Unasked,
+    /// Not asked for yet, and how often it will be.
+    Unasked(u32),
     /// This process has the store while the file is open.
     Held(File),
     /// Another process kept it for too long, or the system failed. It isn't asked for again.
@@ -23,21 +24,21 @@ pub(crate) enum Lock {
 
 impl Lock {
     /// Asks for the lock of the current folder's store, and waits for another process that has it.
-    pub(crate) fn ask(rt: &HostRuntime) -> Lock {
-        match locked_file(rt) {
+    pub(crate) fn ask(rt: &HostRuntime, tries: u32) -> Lock {
+        match locked_file(rt, tries) {
             Ok(file) => Lock::Held(file),
             Err(_) => Lock::Refused,
         }
     }
 }
 
-fn locked_file(rt: &HostRuntime) -> io::Result<File> {
+fn locked_file(rt: &HostRuntime, tries: u32) -> io::Result<File> {
     let file = OpenOptions::new()
         .write(true)
         .create(true)
         .mode(FILE_MODE)
         .open(rt, "mdbox.lock")?;
-    for _ in 0..TRIES {
+    for _ in 0..tries {
         match file.try_lock() {
             Ok(()) => return Ok(file),
             Err(TryLockError::WouldBlock) => thread::sleep(rt, Duration::from_millis(PAUSE)),

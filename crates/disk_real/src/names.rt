@@ -1,10 +1,11 @@
 // A set of names of files.
-ghost use Rattle.std.specs.Prelude.{◌≡◌, [], All, OnOk, OnErr};
+ghost use Rattle.std.specs.Prelude.{◌≡◌, [], All, IfOk, OnOk, OnErr};
 ghost use Rattle.std.specs.BTreeMap.{is_at};
 ghost use Rattle.std.specs.Set.{remove_key};
 ghost use Rattle.std.specs.BTreeSet.{contains, insert_key};
 ghost use Rattle.file_paths.specs.Paths.{IsStoreFile};
 ghost use Rattle.disk_real.specs.Names.{IsNextIn};
+ghost use Rattle.disk_real.specs.Folders.{listed_names, with_name, without_name};
 
 use disk_model::FileName;
 use std::alloc::Global;
@@ -62,4 +63,24 @@ impl Names {
             .next()
             .copied()
     }
+}
+
+/// The list of names with one more, where the list is known.
+pub(crate) fn with_name(known: Option<Names>, name: FileName) -> io::Result<Option<Names>>
+    ensures { IfOk result (λ now. listed_names now ≡ with_name ⟦<FileName as Ord>⟧.cmp name known) }
+{
+    let Some(mut names) = known else {
+        return Ok(None);
+    };
+    names.put(name)?;
+    Ok(Some(names))
+}
+
+/// The list of names without this one, where the list is known.
+pub(crate) fn without_name(known: Option<Names>, name: FileName) -> Option<Names>
+    ensures { listed_names result ≡ without_name ⟦<FileName as Ord>⟧.cmp name known }
+{
+    let mut names = known?;
+    names.take(name);
+    Some(names)
 }

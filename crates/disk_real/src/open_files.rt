@@ -1,5 +1,6 @@
 // Files that are open.
-ghost use Rattle.std.specs.Prelude.{◌≡◌, ◌≢◌, ◌≤◌, ◌<◌, ◌^◌, ◌+◌, length, drop, vec_len, All, IfOk, IfSome, OnOk};
+ghost use Rattle.std.specs.Prelude.{◌≡◌, ◌≢◌, ◌≤◌, ◌<◌, ◌^◌, ◌+◌, max, true, false, length, drop, vec_len, All, IfOk, IfSome, OnOk};
+ghost use Rattle.disk_real.specs.OpenFiles.{IsKeptOpen};
 
 use disk_model::{FileName, same_file};
 use std::alloc::Global;
@@ -17,13 +18,20 @@ pub(crate) struct OpenFile {
     name: FileName,
     file: File,
     length: u64,
+    /// Whether it was synced since it was opened.
+    is_synced: bool,
 }
 
 impl OpenFile {
     pub(crate) fn of(name: FileName, file: File, length: u64) -> OpenFile
-        ensures { (result.name ≡ name) × (result.length ≡ length) }
+        ensures { (result.name ≡ name) × (result.length ≡ length) × (result.is_synced ≡ false) }
     {
-        OpenFile { name, file, length }
+        OpenFile {
+            name,
+            file,
+            length,
+            is_synced: false,
+        }
     }
 
     pub(crate) fn length(&self) -> u64
@@ -49,6 +57,7 @@ impl OpenFile {
         ensures name { self.new.name ≡ self.old.name }
         ensures fits { OnOk result (offset + length from.now < 2 ^ 64) }
         ensures reaches { OnOk result (offset ≤ self.old.length) }
+        ensures length { OnOk result (self.new.length ≡ max self.old.length (offset + length from.now)) }
     {
         self.check_reaches(offset)?;
         let Some(end) = offset.checked_add(from.len() as u64) else {
@@ -71,8 +80,13 @@ impl OpenFile {
     }
 
     /// Syncs the file's octets and its length.
-    pub(crate) fn sync(&self) -> io::Result<()> {
-        self.file.sync_all()
+    pub(crate) fn sync(&mut self) -> io::Result<()>
+        ensures synced { OnOk result (self.new.is_synced ≡ true) }
+        ensures same { (self.new.name ≡ self.old.name) × (self.new.length ≡ self.old.length) }
+    {
+        self.file.sync_all()?;
+        self.is_synced = true;
+        Ok(())
     }
 
     fn check_reaches(&self, length: u64) -> io::Result<()>
@@ -111,7 +125,9 @@ impl OpenFiles {
     }
 
     /// Keeps a file open, and closes the one that wasn't used for longest, where there are too many.
-    pub(crate) fn keep(&mut self, file: OpenFile) {
+    pub(crate) fn keep(&mut self, file: OpenFile)
+        ensures { IsKeptOpen self.old.files.items file self.new.files.items }
+    {
         if self.files.len() >= MOST {
             let _ = self.files.remove(0);
         }

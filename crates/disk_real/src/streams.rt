@@ -1,8 +1,9 @@
 // Standard input, output and error. A call that the system fails is counted; none is tried again.
-ghost use Rattle.std.specs.Prelude.{None, ◌≡◌};
+ghost use Rattle.std.specs.Prelude.{None, Ok, ◌≡◌, ◌↔◌, ◌<◌, ◌≤◌, ◌⊎◌, IsOk, IsErr, IfOk};
+ghost use Rattle.mdbox_base.specs.Streams.{next_count};
 
 use mdbox_base::{Sink, SinkFault, Source, SourceFault};
-use std::io::{Read, Write};
+use std::io::{self, Read, Write};
 use std::rt::Stdin;
 
 /// Standard input.
@@ -19,6 +20,23 @@ impl StdSource {
     {
         StdSource { stdin, faults: 0 }
     }
+
+    /// What an answer of the system to a read means. Errors are counted.
+    fn took(&mut self, answer: io::Result<usize>) -> Result<usize, SourceFault>
+        ensures value { IfOk answer (λ count. result ≡ Ok count) }
+        ensures failed { IsErr result ↔ IsErr answer }
+        ensures risen { IsErr result → self.new.faults ≡ next_count self.old.faults }
+        ensures same { IsOk result → self.new.faults ≡ self.old.faults }
+        ensures counted { self.old.faults ≤ self.new.faults }
+    {
+        match answer {
+            Ok(count) => Ok(count),
+            Err(_) => {
+                self.faults = self.faults.saturating_add(1);
+                Err(SourceFault)
+            }
+        }
+    }
 }
 
 impl Source for StdSource {
@@ -27,13 +45,8 @@ impl Source for StdSource {
     ghost faults = { λ source. source.faults };
 
     fn take(&mut self, into: &mut [u8]) -> Result<usize, SourceFault> {
-        match self.stdin.read(into) {
-            Ok(count) => Ok(count),
-            Err(_) => {
-                self.faults = self.faults.saturating_add(1);
-                Err(SourceFault)
-            }
-        }
+        let answer = self.stdin.read(into);
+        self.took(answer)
     }
 }
 
@@ -51,6 +64,24 @@ impl<W: Write> StdSink<W> {
     {
         StdSink { stream, faults: 0 }
     }
+
+    /// What an answer of the system to a write of so many octets means. Errors are counted, and so is an answer that nothing
+    /// of a text was taken: such a stream would be asked forever.
+    fn gave(&mut self, answer: io::Result<usize>, octets: usize) -> Result<usize, SinkFault>
+        ensures value { IfOk result (λ count. answer ≡ Ok count) }
+        ensures failed { IsErr result ↔ IsErr answer ⊎ (answer ≡ Ok 0) × (0 < octets) }
+        ensures risen { IsErr result → self.new.faults ≡ next_count self.old.faults }
+        ensures same { IsOk result → self.new.faults ≡ self.old.faults }
+        ensures counted { self.old.faults ≤ self.new.faults }
+    {
+        match answer {
+            Ok(count) if count > 0 || octets == 0 => Ok(count),
+            _ => {
+                self.faults = self.faults.saturating_add(1);
+                Err(SinkFault)
+            }
+        }
+    }
 }
 
 impl<W: Write> Sink for StdSink<W> {
@@ -59,13 +90,7 @@ impl<W: Write> Sink for StdSink<W> {
     ghost faults = { λ sink. sink.faults };
 
     fn give(&mut self, from: &[u8]) -> Result<usize, SinkFault> {
-        match self.stream.write(from) {
-            Ok(count) if count > 0 || from.is_empty() => Ok(count),
-            // A stream that takes nothing of a text would be asked forever.
-            _ => {
-                self.faults = self.faults.saturating_add(1);
-                Err(SinkFault)
-            }
-        }
+        let answer = self.stream.write(from);
+        self.gave(answer, from.len())
     }
 }

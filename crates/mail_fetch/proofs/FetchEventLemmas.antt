@@ -1,11 +1,14 @@
 -- The events of a fetch, which read the disk at most.
 use Rattle.std.proofs.Common.{◌≡◌, ◌≤◌, ◌+◌, ℕ, Bool, true, false, List, [], ◌∷◌, ◌++◌, Option, Some, None, refl, sym, ◌∙◌, ap, subst, arith, inl}
 use Rattle.std.specs.Prelude.{◌≢◌, ◌↔◌, ◌⊎◌, length, slice_get, sum_by, if◌then◌else◌}
+use Rattle.std.specs.Option.{IfSome}
+use Rattle.std.proofs.lemmas.List.Elements.{All-nil}
 use Rattle.std.proofs.lemmas.List.Sums.{sum_by-append, sum_by-cons}
 use Rattle.disk_model.specs.Disk.{History, Faults, DiskState, IsIdle, told_calls, Grows}
 use Rattle.disk_model.proofs.IdleLemmas.{idle-images}
 use Rattle.mdbox_base.specs.Streams.{Rose}
 use Rattle.mdbox_base.specs.declared.entries.Highest.{Highest}
+use Rattle.mdbox_base.specs.declared.entries.InstRow.{InstRow}
 use Rattle.mdbox_base.specs.declared.ids.Uid.{Uid}
 use Rattle.mdbox_base.specs.declared.progress.Did.{Did}
 use Rattle.mdbox_base.specs.declared.progress.Did.TheVariants as did
@@ -24,12 +27,12 @@ use Rattle.model_store.proofs.SettledLemmas.{settled_safe}
 use Rattle.list_machine.specs.Run.{EventPart, First, ReadsPiece, Unpins, RunEvent, event_of, Run, and_then, own_events}
 use Rattle.list_machine.specs.Machine.{PartAnswers, first_refusal, part_checks, is_step}
 use Rattle.journal.specs.Journal.{halves_of, IsReplyOf}
-use Rattle.journal.specs.Events.{Around, DidPart, IsRecord, next_part, behind_event, piece_left, plain, IsRepliedBy, is_step_part, makes_step, begun_in, ended_in, pieces_to_read}
+use Rattle.journal.specs.Events.{Around, DidPart, IsRecord, MayMeet, next_part, behind_event, piece_left, plain, IsRepliedBy, is_step_part, makes_step, begun_in, ended_in, pieces_to_read}
 use Rattle.journal.specs.Makes.{HasCome, Makes}
 use Rattle.journal.proofs.RunLemmas.{comes_on}
 use Rattle.task_steps.specs.Step.{Seen, ShowsSeen, HasComeTo, Leads, IsFault, DidEvent, HasNotBegun, pins_of, and_told}
-use Rattle.task_steps.proofs.SeenLemmas.{comes_to_still, no_guids, doomed_still, used_still, given_still, gone_still, file_still_known, instance_still_known}
-use Rattle.task_steps.proofs.OneEventLemmas.{next_first, refusal_last, some_refusal, one_refusal, some_given, no_step, nothing, first_reply, still_faults}
+use Rattle.task_steps.proofs.SeenLemmas.{comes_to_still, no_guids, doomed_still, used_still, given_still, gone_still, file_still_known, placed_still}
+use Rattle.task_steps.proofs.OneEventLemmas.{next_first, step_may, refusal_last, some_refusal, one_refusal, some_given, no_step, nothing, first_reply, still_faults}
 use Rattle.mail_fetch.specs.Events.{NoChangeFault}
 
 -- ---- a store behind an event that reads
@@ -66,23 +69,28 @@ sum_push f xs x = let h = sum_by-append f xs (x ∷ []) in let k = sum_by-cons f
 
 -- A run comes on with an event that may pin or unpin, and does nothing else.
 pub comes_with_pins : (run : Run) (event : RunEvent) (old : Seen) (history : Option History) (faults : Faults) (pins : ℕ → ℕ) → HasComeTo run old → HasCome (and_then run event) old.map old.drawn (told_calls history)
-    → ((uid : ℕ) → begun_in uid event ≡ ended_in uid event) → event.doomed ≡ [] → event.removed ≡ [] → event.given ≡ [] → event.gone ≡ [] → ((file : ℕ) → pins_of (and_then run event) file ≡ pins file)
+    → ((uid : ℕ) → begun_in uid event ≡ ended_in uid event) → event.doomed ≡ [] → event.removed ≡ [] → event.given ≡ [] → event.placed ≡ [] → event.gone ≡ [] → (old.stopped ≡ false → (file : ℕ) → pins_of (and_then run event) file ≡ pins file)
     → HasComeTo (and_then run event) (behind_reading old history faults pins)
-comes_with_pins run event old history faults pins h come due doomed removed given gone pinned = record {
+comes_with_pins run event old history faults pins h come due doomed removed given placed gone pinned = record {
   come = come;
-  due = λ uid.
-      let a = sum_push (begun_in uid) run.events event in
-      let b = sum_push (ended_in uid) run.events event in
-      let c = h.due uid in
-      let d = due uid in
-      omega (arith, a, b, c, d);
-  pins = pinned;
-  doomed = λ file. doomed_still run event file doomed removed ∙ h.doomed file;
+  keeps = λ runs.
+      let k = h.keeps runs in
+      record {
+        due = λ uid.
+            let a = sum_push (begun_in uid) run.events event in
+            let b = sum_push (ended_in uid) run.events event in
+            let c = k.due uid in
+            let d = due uid in
+            omega (arith, a, b, c, d);
+        pins = pinned runs;
+        doomed = λ file. doomed_still run event file doomed removed ∙ k.doomed file;
+        instances = λ instance. placed_still run event instance placed gone ∙ k.instances instance;
+      };
   used = λ file e. h.used file (sym (used_still run event file doomed removed) ∙ e);
+  barred = h.barred;
   gave = λ guid e. h.gave guid (sym (given_still run event guid given) ∙ e);
   gone = λ instance e. h.gone instance (sym (gone_still run event instance gone) ∙ e);
   files = λ file e. file_still_known run event file removed (h.files file e);
-  instances = λ instance e. instance_still_known run event instance gone (h.instances instance e);
 }
 
 -- ---- what an event is, beside what it did
@@ -108,13 +116,13 @@ pub never_none : (b : Bool) → (if b then Some ReadsPiece else Some Unpins) ≡
 never_none true e = cc e
 never_none false e = cc e
 
-abbrev pub pin_event : ℕ → ℕ → ℕ → ℕ → ℕ → RunEvent
-pin_event lane place file pieces calls = record (event_of lane place First calls) { pins = record { file = file; pieces = pieces } ∷ [] }
+abbrev pub pin_event : ℕ → ℕ → ℕ → ℕ → List InstRow → ℕ → RunEvent
+pin_event lane place file pieces instances calls = record (event_of lane place First calls) { pins = record { file = file; pieces = pieces; instances = instances } ∷ [] }
 
 unfoldable pub pin_makes : (around after : Around) (run : Run) (lane place : ℕ) (name : List ℕ) (uid : Uid) (lists : Lists) (m : MapMeaning) (drawn : Highest) (before calls : ℕ) (entry : MapRecord) (octets : List ℕ) → HasCome run m drawn before → before ≤ calls → own_events place run ≡ []
     → IsRecord run lists name uid.0 entry → ((event : RunEvent) → PartAnswers run event lists (request.Fetch name uid) First (reply.Fetched octets) lists) → Makes around after run lane place (request.Fetch name uid) lists lists m drawn calls None
 pin_makes around after run lane place name uid lists m drawn before calls entry octets come le own is_record answers = record {
-  event = pin_event lane place entry.file (pieces_to_read entry) calls;
+  event = pin_event lane place entry.file (pieces_to_read entry) entry.instances calls;
   lane_is = refl;
   request_is = refl;
   moment_is = refl;
@@ -126,15 +134,17 @@ pin_makes around after run lane place name uid lists m drawn before calls entry 
     undone = λ r e. absurd (no_refusal r e);
     drew = λ h. absurd (h refl);
     memory = λ e. absurd (no_refusal refusal.NoMemory e);
+    may = tt;
+    fits = All-nil _;
     replied = tt;
-    allowed = λ e. (answers (pin_event lane place entry.file (pieces_to_read entry) calls)).0;
+    allowed = λ e. (answers (pin_event lane place entry.file (pieces_to_read entry) entry.instances calls)).0;
     did = λ e. (entry, is_record, refl);
-    ends = record { 0 = λ h. absurd (h refl); 1 = λ e h. never_none (piece_left place (and_then run (pin_event lane place entry.file (pieces_to_read entry) calls))) e };
+    ends = record { 0 = λ h. absurd (h refl); 1 = λ e h. never_none (piece_left place (and_then run (pin_event lane place entry.file (pieces_to_read entry) entry.instances calls))) e };
   };
   answer = Some (reply.Fetched octets);
   is_told = refl;
-  made = (answers (pin_event lane place entry.file (pieces_to_read entry) calls), refl);
-  come = comes_on run (pin_event lane place entry.file (pieces_to_read entry) calls) m drawn before come le refl refl;
+  made = (answers (pin_event lane place entry.file (pieces_to_read entry) entry.instances calls), refl);
+  come = comes_on run (pin_event lane place entry.file (pieces_to_read entry) entry.instances calls) m drawn before come le refl refl;
 }
 
 fall : (b : Bool) → b ≡ true → b ≡ false → ⊥
@@ -150,8 +160,8 @@ in_turn name uid said none = ap (λ (s : List Reply). slice_get (halves_of (requ
 -- The first event pins the file of the record: a step that answers the octets of the message.
 pub did_pin : (around after : Around) (run : Run) (lane place : ℕ) (said : List Reply) (name : List ℕ) (uid : Uid) (lists : Lists) (old : Seen) (history : Option History) (faults : Faults) (pins : ℕ → ℕ) (entry : MapRecord) (octets : List ℕ) → HasComeTo run old → ShowsSeen old lists → HasNotBegun run place said
     → old.stopped ≡ false → IsIdle old.history history → NoChangeFault old.faults faults → IsRecord run lists name uid.0 entry → ((event : RunEvent) → PartAnswers run event lists (request.Fetch name uid) First (reply.Fetched octets) lists)
-    → ((file : ℕ) → pins_of (and_then run (pin_event lane place entry.file (pieces_to_read entry) (told_calls history))) file ≡ pins file)
-    → DidSo around after run lane place said (request.Fetch name uid) lists old (behind_reading old history faults pins) (did.Step half.Whole) None (pin_event lane place entry.file (pieces_to_read entry) (told_calls history)) (Some (reply.Fetched octets))
+    → (old.stopped ≡ false → (file : ℕ) → pins_of (and_then run (pin_event lane place entry.file (pieces_to_read entry) entry.instances (told_calls history))) file ≡ pins file)
+    → DidSo around after run lane place said (request.Fetch name uid) lists old (behind_reading old history faults pins) (did.Step half.Whole) None (pin_event lane place entry.file (pieces_to_read entry) entry.instances (told_calls history)) (Some (reply.Fetched octets))
 unfolding pin_makes
 did_pin around after run lane place said name uid lists old history faults pins entry octets come shows stage runs idle none is_record answers pinned = record {
   so = record {
@@ -159,7 +169,7 @@ did_pin around after run lane place said name uid lists old history faults pins 
     shown = shows;
     makes = pin_makes around after run lane place name uid lists old.map old.drawn (told_calls old.history) (told_calls history) entry octets come.come (idle_grows old.history history idle) stage.0 is_record answers;
     found = tt;
-    come = comes_with_pins run event old history faults pins come (comes_on run event old.map old.drawn (told_calls old.history) come.come (idle_grows old.history history idle) refl refl) (λ other. refl) refl refl refl refl pinned;
+    come = comes_with_pins run event old history faults pins come (comes_on run event old.map old.drawn (told_calls old.history) come.come (idle_grows old.history history idle) refl refl) (λ other. refl) refl refl refl refl refl pinned;
     gives = no_guids run event refl;
     went = (refl, refl, runs, idle_leads lists old history faults pins idle);
     grows = idle_grows old.history history idle;
@@ -177,7 +187,7 @@ did_pin around after run lane place said name uid lists old history faults pins 
 }
   where
     event : RunEvent
-    event = pin_event lane place entry.file (pieces_to_read entry) (told_calls history)
+    event = pin_event lane place entry.file (pieces_to_read entry) entry.instances (told_calls history)
 
 -- ---- a first event that is refused
 
@@ -199,6 +209,8 @@ refuse_makes around after run lane place name uid lists m drawn calls why come o
     undone = λ r e. (refl, λ s. refl);
     drew = λ h. inl refl;
     memory = λ e. refl;
+    may = step_may First (request.Fetch name uid) why step;
+    fits = All-nil _;
     replied = refusal_last (own_events place run) (fetch_event First lane place (Some why) (Some (reply.Refused why)) calls) own;
     allowed = λ e. absurd (some_refusal why e);
     did = λ e. absurd (some_refusal why e);
@@ -210,9 +222,9 @@ refuse_makes around after run lane place name uid lists m drawn calls why come o
   come = comes_on run (fetch_event First lane place (Some why) (Some (reply.Refused why)) calls) m drawn calls come (omega arith) refl refl;
 }
 
-unfoldable pub unmade_makes : (around after : Around) (run : Run) (lane place : ℕ) (name : List ℕ) (uid : Uid) (lists : Lists) (m : MapMeaning) (drawn : Highest) (calls : ℕ) (why : Refusal) → HasCome run m drawn calls → own_events place run ≡ [] → is_step why ≡ false
+unfoldable pub unmade_makes : (around after : Around) (run : Run) (lane place : ℕ) (name : List ℕ) (uid : Uid) (lists : Lists) (m : MapMeaning) (drawn : Highest) (calls : ℕ) (why : Refusal) → HasCome run m drawn calls → own_events place run ≡ [] → is_step why ≡ false → MayMeet First (request.Fetch name uid) why
     → Makes around after run lane place (request.Fetch name uid) lists lists m drawn calls (Some (reply.Refused why))
-unmade_makes around after run lane place name uid lists m drawn calls why come own none = record {
+unmade_makes around after run lane place name uid lists m drawn calls why come own none may = record {
   event = fetch_event First lane place (Some why) (Some (reply.Refused why)) calls;
   lane_is = refl;
   request_is = refl;
@@ -225,6 +237,8 @@ unmade_makes around after run lane place name uid lists m drawn calls why come o
     undone = λ r e. (refl, λ s. refl);
     drew = λ h. inl refl;
     memory = λ e. refl;
+    may = may;
+    fits = All-nil _;
     replied = refusal_last (own_events place run) (fetch_event First lane place (Some why) (Some (reply.Refused why)) calls) own;
     allowed = λ e. absurd (some_refusal why e);
     did = λ e. absurd (some_refusal why e);
@@ -255,7 +269,7 @@ did_refuse around after run lane place said name uid lists seen why come shows s
   shown = shows;
   makes = refuse_makes around after run lane place name uid lists seen.map seen.drawn (told_calls seen.history) why come.come stage.0 step (answers event);
   found = tt;
-  come = comes_to_still run event seen come (comes_on run event seen.map seen.drawn (told_calls seen.history) come.come (omega arith) refl refl) (λ other. refl) (record { pins = refl; unpins = refl; doomed = refl; removed = refl; given = refl; gone = refl });
+  come = comes_to_still run event seen come (comes_on run event seen.map seen.drawn (told_calls seen.history) come.come (omega arith) refl refl) (λ other. refl) (record { pins = refl; unpins = refl; doomed = refl; removed = refl; given = refl; placed = refl; gone = refl });
   gives = no_guids run event refl;
   went = (refl, refl, runs, nothing lists seen);
   grows = omega arith;
@@ -274,15 +288,15 @@ did_refuse around after run lane place said name uid lists seen why come shows s
 
 -- by a stopped store, or for lack of memory
 pub did_nothing : (around after : Around) (run : Run) (lane place : ℕ) (said : List Reply) (name : List ℕ) (uid : Uid) (lists : Lists) (seen : Seen) (why : Refusal) → HasComeTo run seen → ShowsSeen seen lists → HasNotBegun run place said → is_step why ≡ false
-    → IsReplyOf (request.Fetch name uid) [] (reply.Refused why) → (why ≡ refusal.ReadFault → ⊥) → ((Some (reply.Refused why) ≡ Some (reply.Refused refusal.Stopped)) ↔ (seen.stopped ≡ true))
+    → IsReplyOf (request.Fetch name uid) [] (reply.Refused why) → MayMeet First (request.Fetch name uid) why → ((Some (reply.Refused why) ≡ Some (reply.Refused refusal.Stopped)) ↔ (seen.stopped ≡ true))
     → DidEvent around after run lane place said (request.Fetch name uid) lists seen seen did.Quiet (Some (reply.Refused why))
 unfolding unmade_makes
-did_nothing around after run lane place said name uid lists seen why come shows stage none is calm halts = record {
+did_nothing around after run lane place said name uid lists seen why come shows stage none is may halts = record {
   left = lists;
   shown = shows;
-  makes = unmade_makes around after run lane place name uid lists seen.map seen.drawn (told_calls seen.history) why come.come stage.0 none;
+  makes = unmade_makes around after run lane place name uid lists seen.map seen.drawn (told_calls seen.history) why come.come stage.0 none may;
   found = tt;
-  come = comes_to_still run event seen come (comes_on run event seen.map seen.drawn (told_calls seen.history) come.come (omega arith) refl refl) (λ other. refl) (record { pins = refl; unpins = refl; doomed = refl; removed = refl; given = refl; gone = refl });
+  come = comes_to_still run event seen come (comes_on run event seen.map seen.drawn (told_calls seen.history) come.come (omega arith) refl refl) (λ other. refl) (record { pins = refl; unpins = refl; doomed = refl; removed = refl; given = refl; placed = refl; gone = refl });
   gives = no_guids run event refl;
   went = (refl, refl, nothing lists seen);
   grows = omega arith;
@@ -291,7 +305,7 @@ did_nothing around after run lane place said name uid lists seen why come shows 
     replied = first_reply (request.Fetch name uid) said None (reply.Refused why) stage.1 is;
     halts = halts;
     still = λ e. refl;
-    reads = λ e. absurd (calm (one_refusal why refusal.ReadFault e));
+    reads = λ e. absurd (let k : false ≡ true = subst (λ (r : Refusal). MayMeet First (request.Fetch name uid) r) (one_refusal why refusal.ReadFault e) may in cc k);
     faults = still_faults (IsFault did.Quiet) seen.faults (λ x. x);
   };
 }
@@ -331,10 +345,10 @@ late_memory None late e = cc e
 late_memory (Some why) late e = late.1 (let same : why ≡ refusal.NoMemory = cc e in same)
 
 unfoldable pub late_makes : (around after : Around) (run : Run) (lane place : ℕ) (name : List ℕ) (uid : Uid) (lists : Lists) (m : MapMeaning) (drawn : Highest) (before calls : ℕ) (part : EventPart) (refused : Option Refusal) (ended : Option Reply) → IsLatePart name uid part → HasCome run m drawn before → before ≤ calls
-    → next_part around run (request.Fetch name uid) (own_events place run) ≡ Some part → IsLateRefusal refused
+    → next_part around run (request.Fetch name uid) (own_events place run) ≡ Some part → IsLateRefusal refused → IfSome refused (MayMeet part (request.Fetch name uid))
     → ((ended ≢ None) ↔ (behind_event after (and_then run (fetch_event part lane place refused ended calls)) (request.Fetch name uid) (fetch_event part lane place refused ended calls) refused ≡ None))
     → IsRepliedBy (own_events place run ++ fetch_event part lane place refused ended calls ∷ []) ended → Makes around after run lane place (request.Fetch name uid) lists lists m drawn calls ended
-late_makes around after run lane place name uid lists m drawn before calls part refused ended late come le next unstep ends replied = record {
+late_makes around after run lane place name uid lists m drawn before calls part refused ended late come le next unstep may ends replied = record {
   event = fetch_event part lane place refused ended calls;
   lane_is = refl;
   request_is = refl;
@@ -347,6 +361,8 @@ late_makes around after run lane place name uid lists m drawn before calls part 
     undone = λ r e. (refl, λ s. refl);
     drew = λ h. inl refl;
     memory = λ e. absurd (late_memory refused unstep e);
+    may = may;
+    fits = All-nil _;
     allowed = λ e. ap (first_refusal run lists) (late.checks run (fetch_event part lane place refused ended calls));
     did = λ e. late.did around run lists (fetch_event part lane place refused ended calls) (ap (λ (r : Option Refusal). fetch_event part lane place r ended calls) e);
     ends = ends;
@@ -360,20 +376,20 @@ late_makes around after run lane place name uid lists m drawn before calls part 
 
 -- An event behind the first one: no step.
 pub did_late : (around after : Around) (run : Run) (lane place : ℕ) (said : List Reply) (name : List ℕ) (uid : Uid) (lists : Lists) (old : Seen) (history : Option History) (faults : Faults) (pins : ℕ → ℕ) (part : EventPart) (refused : Option Refusal) (ended : Option Reply) → IsLatePart name uid part
-    → HasComeTo run old → ShowsSeen old lists → IsIdle old.history history → NoChangeFault old.faults faults → next_part around run (request.Fetch name uid) (own_events place run) ≡ Some part → IsLateRefusal refused
+    → HasComeTo run old → ShowsSeen old lists → IsIdle old.history history → NoChangeFault old.faults faults → next_part around run (request.Fetch name uid) (own_events place run) ≡ Some part → IsLateRefusal refused → IfSome refused (MayMeet part (request.Fetch name uid))
     → ((ended ≢ None) ↔ (behind_event after (and_then run (fetch_event part lane place refused ended (told_calls history))) (request.Fetch name uid) (fetch_event part lane place refused ended (told_calls history)) refused ≡ None))
     → IsRepliedBy (own_events place run ++ fetch_event part lane place refused ended (told_calls history) ∷ []) ended
     → ((given : Reply) → ended ≡ Some given → IsReplyOf (request.Fetch name uid) said given) → ((ended ≡ Some (reply.Refused refusal.Stopped)) ↔ (old.stopped ≡ true)) → (old.stopped ≡ true → behind_reading old history faults pins ≡ old)
-    → (refused ≡ Some refusal.ReadFault → Rose old.faults.reads faults.reads) → ((file : ℕ) → pins_of (and_then run (fetch_event part lane place refused ended (told_calls history))) file ≡ pins file)
+    → (refused ≡ Some refusal.ReadFault → Rose old.faults.reads faults.reads) → (old.stopped ≡ false → (file : ℕ) → pins_of (and_then run (fetch_event part lane place refused ended (told_calls history))) file ≡ pins file)
     → DidSo around after run lane place said (request.Fetch name uid) lists old (behind_reading old history faults pins) did.Quiet ended (fetch_event part lane place refused ended (told_calls history)) None
 unfolding late_makes
-did_late around after run lane place said name uid lists old history faults pins part refused ended late come shows idle none next unstep ends replied given halts still reads pinned = record {
+did_late around after run lane place said name uid lists old history faults pins part refused ended late come shows idle none next unstep may ends replied given halts still reads pinned = record {
   so = record {
     left = lists;
     shown = shows;
-    makes = late_makes around after run lane place name uid lists old.map old.drawn (told_calls old.history) (told_calls history) part refused ended late come.come (idle_grows old.history history idle) next unstep ends replied;
+    makes = late_makes around after run lane place name uid lists old.map old.drawn (told_calls old.history) (told_calls history) part refused ended late come.come (idle_grows old.history history idle) next unstep may ends replied;
     found = tt;
-    come = comes_with_pins run event old history faults pins come (comes_on run event old.map old.drawn (told_calls old.history) come.come (idle_grows old.history history idle) refl refl) (λ other. refl) refl refl refl refl pinned;
+    come = comes_with_pins run event old history faults pins come (comes_on run event old.map old.drawn (told_calls old.history) come.come (idle_grows old.history history idle) refl refl) (λ other. refl) refl refl refl refl refl pinned;
     gives = no_guids run event refl;
     went = (refl, refl, idle_leads lists old history faults pins idle);
     grows = idle_grows old.history history idle;

@@ -1,11 +1,11 @@
 -- Which part of a fetch comes next, by its own events.
 use Rattle.std.proofs.Common.{◌≡◌, ◌≤◌, ◌<◌, ◌==◌, ◌&&◌, ◌||◌, ℕ, Bool, true, false, not, cond, List, [], ◌∷◌, ◌++◌, ◌⊎◌, length, Option, Some, None, refl, sym, ◌∙◌, ap, subst, arith, inl, inr, All}
-use Rattle.std.specs.Prelude.{sum_by, count_by, filter, nat_lt, if◌then◌else◌}
+use Rattle.std.specs.Prelude.{sum_by, count_by, filter, is_none, nat_lt, if◌then◌else◌}
 use Rattle.std.specs.List.{list_any}
 use Rattle.std.specs.Option.{option_or}
 use Rattle.std.proofs.lemmas.Bool.{eqb-true}
 use Rattle.std.proofs.lemmas.Grind.{common_steps}
-use Rattle.std.proofs.lemmas.List.Elements.{All-cons, All-nil, All-head, All-tail, All-append}
+use Rattle.std.proofs.lemmas.List.Elements.{All-cons, All-nil, All-head, All-tail, All-append, All-weaker}
 use Rattle.std.proofs.lemmas.List.Sums.{sum_by-cons}
 use Rattle.mdbox_base.specs.declared.ids.Uid.{Uid}
 use Rattle.mdbox_base.specs.declared.replies.Refusal.{Refusal}
@@ -13,7 +13,7 @@ use Rattle.mdbox_base.specs.declared.replies.Refusal.TheVariants as refusal
 use Rattle.mdbox_base.specs.declared.replies.Reply.{Reply}
 use Rattle.mdbox_base.specs.declared.requests.Request.{Request}
 use Rattle.mdbox_base.specs.declared.requests.Request.TheVariants as request
-use Rattle.list_machine.specs.Run.{EventPart, First, ReadsPiece, Unpins, RunEvent, Run, Pin, own_events, is_unpinning, has_unpinned, is_doomed, is_pinned}
+use Rattle.list_machine.specs.Run.{EventPart, First, ReadsPiece, Unpins, RunEvent, Run, Pin, own_events, is_unpinning, is_unpinning_part, has_unpinned, is_doomed, is_pinned}
 use Rattle.journal.specs.Journal.{refusal_in}
 use Rattle.journal.specs.Events.{Around, next_part, behind_event, behind_fetch, behind_refused, is_piece, piece_left, leaves_doomed, last_refusal}
 use Rattle.mail_fetch.proofs.OwnPinLemmas.{pins_at_all, own_pins}
@@ -108,7 +108,7 @@ left_by_counts from own behind place run h read is =
     pinned : sum_by pieces_pinned (h.pin ∷ behind) ≡ pieces_left (parts_to_read from)
     pinned =
         let a = sum_by-cons pieces_pinned h.pin behind in
-        let here : pieces_pinned h.pin ≡ pieces_left (parts_to_read from) = ap (λ (ps : List Pin). sum_by (λ (p : Pin). p.pieces) ps) h.pins ∙ (let k = sum_by-cons (λ (p : Pin). p.pieces) (record { file = from.file.0; pieces = pieces_left (parts_to_read from) }) [] in omega (arith, k)) in
+        let here : pieces_pinned h.pin ≡ pieces_left (parts_to_read from) = ap (λ (ps : List Pin). sum_by (λ (p : Pin). p.pieces) ps) h.pins ∙ (let k = sum_by-cons (λ (p : Pin). p.pieces) (record { file = from.file.0; pieces = pieces_left (parts_to_read from); instances = from.instances }) [] in omega (arith, k)) in
         let rest = no_pieces behind (none_pinned None behind read) in
         omega (arith, a, here, rest)
 
@@ -194,8 +194,12 @@ no_unpin : (es : List RunEvent) → All (λ e. is_unpinning e ≡ false) es → 
 no_unpin [] h = refl
 no_unpin (e ∷ es) h = ap (λ (b : Bool). b || list_any is_unpinning es) (All-head (λ (x : RunEvent). is_unpinning x ≡ false) e es h) ∙ no_unpin es (All-tail (λ (x : RunEvent). is_unpinning x ≡ false) e es h)
 
-part_keeps : (e : RunEvent) (part : EventPart) → e.part ≡ part → is_unpinning (record e { part = part }) ≡ false → is_unpinning e ≡ false
-part_keeps e part is keeps = ap (λ (p : EventPart). is_unpinning (record e { part = p })) is ∙ keeps
+and_none : (b : Bool) → (b && false) ≡ false
+and_none true = refl
+and_none false = refl
+
+part_keeps : (e : RunEvent) (part : EventPart) → e.part ≡ part → is_unpinning_part part ≡ false → is_unpinning e ≡ false
+part_keeps e part is keeps = ap (λ (p : EventPart). is_none e.refused && is_unpinning_part p) is ∙ (ap (λ (b : Bool). is_none e.refused && b) keeps ∙ and_none (is_none e.refused))
 
 piece_keeps : (refused : Option Refusal) (es : List RunEvent) → All (ReadPiece refused) es → All (λ e. is_unpinning e ≡ false) es
 piece_keeps refused [] h = All-nil (λ (e : RunEvent). is_unpinning e ≡ false)
@@ -208,7 +212,7 @@ none_unpinned from own behind place run h keep is =
     ap (λ (es : List RunEvent). list_any is_unpinning es) (is ∙ h.own_are) ∙ no_unpin (h.pin ∷ behind) (All-cons (λ (x : RunEvent). is_unpinning x ≡ false) h.pin behind (part_keeps h.pin First h.part refl) keep)
 
 pub one_pinned : (from : StoredAt) (own behind : List RunEvent) (other : ℕ) → (h : HasPinned from own behind) → All (λ e. e.pins ≡ []) behind → sum_by (pins_at_all other) own ≡ one_pin from.file.0 other
-one_pinned from own behind other h none = ap (sum_by (pins_at_all other)) h.own_are ∙ own_pins from.file.0 (pieces_left (parts_to_read from)) other h.pin behind h.pins none
+one_pinned from own behind other h none = ap (sum_by (pins_at_all other)) h.own_are ∙ own_pins from.file.0 (pieces_left (parts_to_read from)) other from.instances h.pin behind h.pins none
 
 -- what is known of the pins as it unpins
 pub record HoldsPin (from : StoredAt) (place : ℕ) (run : Run) : Type 0 where
@@ -227,14 +231,34 @@ holds_pin from given place run (inr (why, front, last, given_is, may, h, read, r
       (All-append (λ (x : RunEvent). x.pins ≡ []) front (last ∷ []) (none_pinned None front read) (All-cons (λ (x : RunEvent). x.pins ≡ []) last [] refused.pinned (All-nil (λ (x : RunEvent). x.pins ≡ []))));
 }
 
--- a file that nobody doomed isn't removed
-pub none_doomed : (request : ℕ) (run : Run) → ((file : ℕ) → is_doomed run file ≡ false) → leaves_doomed request run ≡ false
-none_doomed request run none = each_event (own_events request run)
+-- its own events pin no other file
+pub own_files : (from : StoredAt) (given : Reply) (place : ℕ) (run : Run) → UnpinsNext from given (own_events place run) → All (λ e. All (λ p. p.file ≡ from.file.0) e.pins) (own_events place run)
+own_files from given place run h = elim h [
+  | inl (fetched, (behind, p, read, many)) ↦ pins_of_file from (own_events place run) behind p (none_pinned None behind read)
+  | inr (why, front, last, given_is, may, p, read, refused) ↦ pins_of_file from (own_events place run) (front ++ last ∷ []) p
+      (All-append (λ (x : RunEvent). x.pins ≡ []) front (last ∷ []) (none_pinned None front read) (All-cons (λ (x : RunEvent). x.pins ≡ []) last [] refused.pinned (All-nil (λ (x : RunEvent). x.pins ≡ []))))
+]
   where
-    each_pin : (ps : List Pin) → list_any (λ p. is_doomed run p.file && not (is_pinned run p.file)) ps ≡ false
-    each_pin [] = refl
-    each_pin (p ∷ ps) = ap (λ (b : Bool). (b && not (is_pinned run p.file)) || list_any (λ (x : Pin). is_doomed run x.file && not (is_pinned run x.file)) ps) (none p.file) ∙ each_pin ps
+    pins_of_file : (from : StoredAt) (own behind : List RunEvent) → HasPinned from own behind → All (λ e. e.pins ≡ []) behind → All (λ e. All (λ p. p.file ≡ from.file.0) e.pins) own
+    pins_of_file from own behind p none =
+        let Q : Pin → Type 0 = λ x. x.file ≡ from.file.0 in
+        let P : RunEvent → Type 0 = λ e. All Q e.pins in
+        subst (All P) (sym p.own_are)
+        (All-cons P p.pin behind (subst (All Q) (sym p.pins) (All-cons Q (record { file = from.file.0; pieces = pieces_left (parts_to_read from); instances = from.instances }) [] refl (All-nil Q)))
+        (All-weaker (λ (e : RunEvent). e.pins ≡ []) P (λ e n. subst (All Q) (sym n) (All-nil Q)) behind none))
 
-    each_event : (es : List RunEvent) → list_any (λ e. list_any (λ p. is_doomed run p.file && not (is_pinned run p.file)) e.pins) es ≡ false
-    each_event [] = refl
-    each_event (e ∷ es) = ap (λ (b : Bool). b || list_any (λ (x : RunEvent). list_any (λ (p : Pin). is_doomed run p.file && not (is_pinned run p.file)) x.pins) es) (each_pin e.pins) ∙ each_event es
+-- a file that isn't doomed isn't removed
+pub none_doomed : (request file : ℕ) (run : Run) → All (λ e. All (λ p. p.file ≡ file) e.pins) (own_events request run) → is_doomed run file ≡ false → leaves_doomed request run ≡ false
+none_doomed request file run own none = each_event (own_events request run) own
+  where
+    each_pin : (ps : List Pin) → All (λ p. p.file ≡ file) ps → list_any (λ p. is_doomed run p.file && not (is_pinned run p.file)) ps ≡ false
+    each_pin [] all = refl
+    each_pin (p ∷ ps) all =
+        ap (λ (b : Bool). (b && not (is_pinned run p.file)) || list_any (λ (x : Pin). is_doomed run x.file && not (is_pinned run x.file)) ps) (ap (is_doomed run) (All-head (λ (x : Pin). x.file ≡ file) p ps all) ∙ none)
+        ∙ each_pin ps (All-tail (λ (x : Pin). x.file ≡ file) p ps all)
+
+    each_event : (es : List RunEvent) → All (λ e. All (λ p. p.file ≡ file) e.pins) es → list_any (λ e. list_any (λ p. is_doomed run p.file && not (is_pinned run p.file)) e.pins) es ≡ false
+    each_event [] all = refl
+    each_event (e ∷ es) all =
+        ap (λ (b : Bool). b || list_any (λ (x : RunEvent). list_any (λ (p : Pin). is_doomed run p.file && not (is_pinned run p.file)) x.pins) es) (each_pin e.pins (All-head (λ (x : RunEvent). All (λ p. p.file ≡ file) x.pins) e es all))
+        ∙ each_event es (All-tail (λ (x : RunEvent). All (λ p. p.file ≡ file) x.pins) e es all)

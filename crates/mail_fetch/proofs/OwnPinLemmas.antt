@@ -6,6 +6,7 @@ use Rattle.std.proofs.lemmas.Bool.{eq-eqb, eqb-true}
 use Rattle.std.proofs.lemmas.List.Elements.{All-head, All-tail}
 use Rattle.std.proofs.lemmas.List.Folds.{list_any-append}
 use Rattle.std.proofs.lemmas.List.Sums.{sum_by-append, sum_by-cons}
+use Rattle.mdbox_base.specs.declared.entries.InstRow.{InstRow}
 use Rattle.list_machine.specs.Run.{RunEvent, Run, Pin, and_then, own_events, is_unpinning, has_unpinned}
 use Rattle.journal.proofs.OwnEventLemmas.{own_more, own_other}
 use Rattle.task_steps.specs.Step.{pins_of}
@@ -45,16 +46,16 @@ unpinned_same request run event none = by_test (event.request == request) refl
 
 -- ---- the first event of a fetch pins
 
-pub pins_begin : (run : Run) (event : RunEvent) (file pieces other : ℕ) → is_unpinning event ≡ false → has_unpinned event.request run ≡ false → event.pins ≡ record { file = file; pieces = pieces } ∷ [] → pins_of (and_then run event) other ≡ pins_of run other + one_pin file other
-pins_begin run event file pieces other none own pinned =
+pub pins_begin : (run : Run) (event : RunEvent) (file pieces other : ℕ) (instances : List InstRow) → is_unpinning event ≡ false → has_unpinned event.request run ≡ false → event.pins ≡ record { file = file; pieces = pieces; instances = instances } ∷ [] → pins_of (and_then run event) other ≡ pins_of run other + one_pin file other
+pins_begin run event file pieces other instances none own pinned =
     let more = sum_more (pins_left (and_then run event) other) run.events event in
     let same = sum_equal (pins_left (and_then run event) other) (pins_left run other) run.events (λ e. ap (λ (b : Bool). cond b 0 (count_by (λ (p : Pin). p.file == other) e.pins)) (unpinned_same e.request run event none)) in
     let here : pins_left (and_then run event) other event ≡ count_by (λ (p : Pin). p.file == other) event.pins = ap (λ (b : Bool). cond b 0 (count_by (λ (p : Pin). p.file == other) event.pins)) (unpinned_same event.request run event none ∙ own) in
     let one : count_by (λ (p : Pin). p.file == other) event.pins ≡ one_pin file other = ap (λ (ps : List Pin). count_by (λ (p : Pin). p.file == other) ps) pinned ∙ counted (file == other) in
     omega (arith, more, same, here, one)
   where
-    counted : (b : Bool) → sum_by (λ (p : Pin). if p.file == other then 1 else 0) (record { file = file; pieces = pieces } ∷ []) ≡ (if file == other then 1 else 0)
-    counted b = let k = sum_by-cons (λ (p : Pin). if p.file == other then 1 else 0) (record { file = file; pieces = pieces }) [] in omega (arith, k)
+    counted : (b : Bool) → sum_by (λ (p : Pin). if p.file == other then 1 else 0) (record { file = file; pieces = pieces; instances = instances } ∷ []) ≡ (if file == other then 1 else 0)
+    counted b = let k = sum_by-cons (λ (p : Pin). if p.file == other then 1 else 0) (record { file = file; pieces = pieces; instances = instances }) [] in omega (arith, k)
 
 -- ---- the last one unpins
 
@@ -87,15 +88,15 @@ abbrev pub pins_at_all : ℕ → RunEvent → ℕ
 pins_at_all file e = count_by (λ p. p.file == file) e.pins
 
 -- pins of one file, and events behind it that pin none
-pub own_pins : (file pieces other : ℕ) (pin : RunEvent) (behind : List RunEvent) → pin.pins ≡ record { file = file; pieces = pieces } ∷ [] → All (λ e. e.pins ≡ []) behind → sum_by (pins_at_all other) (pin ∷ behind) ≡ one_pin file other
-own_pins file pieces other pin behind pinned none =
+pub own_pins : (file pieces other : ℕ) (instances : List InstRow) (pin : RunEvent) (behind : List RunEvent) → pin.pins ≡ record { file = file; pieces = pieces; instances = instances } ∷ [] → All (λ e. e.pins ≡ []) behind → sum_by (pins_at_all other) (pin ∷ behind) ≡ one_pin file other
+own_pins file pieces other instances pin behind pinned none =
     let a = sum_by-cons (pins_at_all other) pin behind in
     let one : pins_at_all other pin ≡ one_pin file other = ap (λ (ps : List Pin). count_by (λ (p : Pin). p.file == other) ps) pinned ∙ counted in
     let rest = no_pins behind none in
     omega (arith, a, one, rest)
   where
-    counted : sum_by (λ (p : Pin). if p.file == other then 1 else 0) (record { file = file; pieces = pieces } ∷ []) ≡ (if file == other then 1 else 0)
-    counted = let k = sum_by-cons (λ (p : Pin). if p.file == other then 1 else 0) (record { file = file; pieces = pieces }) [] in omega (arith, k)
+    counted : sum_by (λ (p : Pin). if p.file == other then 1 else 0) (record { file = file; pieces = pieces; instances = instances } ∷ []) ≡ (if file == other then 1 else 0)
+    counted = let k = sum_by-cons (λ (p : Pin). if p.file == other then 1 else 0) (record { file = file; pieces = pieces; instances = instances }) [] in omega (arith, k)
 
     no_pins : (es : List RunEvent) → All (λ e. e.pins ≡ []) es → sum_by (pins_at_all other) es ≡ 0
     no_pins [] h = refl

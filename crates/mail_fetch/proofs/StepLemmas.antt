@@ -2,12 +2,13 @@
 use Rattle.std.proofs.Common.{◌≡◌, ◌≤◌, ◌<◌, ◌+◌, ℕ, Bool, true, false, cond, List, [], ◌∷◌, ◌++◌, length, Option, Some, None, refl, sym, ◌∙◌, ap, subst, arith, inl, inr, length-append}
 use Rattle.std.specs.Prelude.{All, ◌⊎◌, is_some, if◌then◌else◌}
 use Rattle.std.specs.List.{list_any}
-use Rattle.std.specs.Option.{option_map_or, option_or}
+use Rattle.std.specs.Option.{IfSome, option_map_or, option_or}
 use Rattle.std.proofs.lemmas.List.Elements.{All-nil, All-push}
 use Rattle.std.proofs.lemmas.Bool.{eq-eqb, ne_eqb, cases_lt}
 use Rattle.disk_model.specs.Disk.{DiskState, History, Faults, Files, IfTold, IsIdle, told_calls}
 use Rattle.disk_model.proofs.IdleLemmas.{idle-begins}
 use Rattle.mdbox_base.specs.Streams.{Rose}
+use Rattle.mdbox_base.specs.declared.entries.InstRow.{InstRow}
 use Rattle.mdbox_base.specs.declared.entries.MapEntry.{MapEntry}
 use Rattle.mdbox_base.specs.declared.ids.Uid.{Uid}
 use Rattle.mdbox_base.specs.declared.progress.Did.{Did}
@@ -34,13 +35,14 @@ use Rattle.model_store.proofs.StandsLemmas.{map_same}
 use Rattle.list_machine.specs.Run.{First, ReadsPiece, Unpins, RemovesFile, Pin, RunEvent, Run, and_then, own_events, is_unpinning, has_unpinned}
 use Rattle.list_machine.specs.Machine.{PartAnswers, is_step}
 use Rattle.journal.specs.Journal.{refusal_in, IsReplyOf}
-use Rattle.journal.specs.Events.{Around, behind_event, piece_left, leaves_doomed, last_refusal, pieces_to_read}
+use Rattle.journal.specs.Events.{Around, MayMeet, behind_event, piece_left, leaves_doomed, last_refusal, pieces_to_read}
 use Rattle.journal.proofs.OwnEventLemmas.{own_more, own_other}
+use Rattle.storage_files.specs.Files.{is_doomed_in}
 use Rattle.store_core.specs.Running.{IsStore}
 use Rattle.store_core.specs.Value.{StoreValue, indexes_of, list_named}
 use Rattle.task_steps.specs.Step.{Seen, ShowsSeen, HasComeTo, IsKept, ended_by}
 use Rattle.task_steps.proofs.SeenLemmas.{pins_still, doomed_still, not_begun_stays}
-use Rattle.task_steps.proofs.OneEventLemmas.{when_stopped, memory_is, not_reading, not_reading_memory, some_given, never_more}
+use Rattle.task_steps.proofs.OneEventLemmas.{when_stopped, memory_is, some_given, never_more}
 use Rattle.mail_fetch.specs.Clause.{ReadsSafe, StepsOnSafe}
 use Rattle.mail_fetch.specs.Events.{fetch_refusal, IsBegun, IsStoredBy, IsPinned, IsPieceRead, next_piece, with_piece, NoChangeFault}
 use Rattle.mail_fetch.specs.Parts.{left_after, parts_to_read, pieces_left}
@@ -53,7 +55,7 @@ use Rattle.mail_fetch.specs.declared.task.FetchStage.TheVariants as stage
 use Rattle.mail_fetch.proofs.InstanceLemmas.{named_each, pieces_told}
 use Rattle.mail_fetch.proofs.OwnPinLemmas.{pins_begin, pins_end}
 use Rattle.mail_fetch.proofs.PartLemmas.{pieces_after}
-use Rattle.mail_fetch.proofs.FetchPartLemmas.{last_with, next_reads, next_unpins, unpins_by, holds_pin, none_doomed}
+use Rattle.mail_fetch.proofs.FetchPartLemmas.{last_with, next_reads, next_unpins, unpins_by, holds_pin, own_files, none_doomed}
 use Rattle.mail_fetch.proofs.FetchEventLemmas.{behind_reading, DidSo, stands_so, did_refuse, did_nothing, pin_event, did_pin, fetch_event, IsLateRefusal, piece_is_late, unpin_is_late, did_late}
 use Rattle.mail_fetch.proofs.RecordLemmas.{shown_by, no_mailbox, no_message, is_fetched, by_guid, stored_by}
 use Rattle.mail_fetch.proofs.StoredRegionLemmas.{front_more, true_reply}
@@ -93,20 +95,29 @@ stopped_reply said name uid given e = subst (λ (r : Reply). IsReplyOf (request.
 pub stopped_steps : {D : Type 0} → (around after : Around) (others : ℕ → ℕ) (name : List ℕ) (uid : Uid) (now : FetchStage) (store : StoreValue D) (history : Option History) (faults : Faults) → HasPieceLeft now → store.stopped ≡ true
     → StepsOnSafe (IsAtFetch now (seen_with_pins others now store history faults)) (IsAtFetch now (seen_with_pins others now store history faults)) around after (request.Fetch name uid) (seen_with_pins others now store history faults) (seen_with_pins others now store history faults) did.Quiet (Some (reply.Refused refusal.Stopped))
 stopped_steps around after others name uid stage.First store history faults left stopped = λ run lane place said lists come shows safe stood. (
-  did_nothing around after run lane place said name uid lists (seen_with_pins others stage.First store history faults) refusal.Stopped come shows stood refl tt not_reading (when_stopped store.stopped stopped),
+  did_nothing around after run lane place said name uid lists (seen_with_pins others stage.First store history faults) refusal.Stopped come shows stood refl tt tt (when_stopped store.stopped stopped),
   λ e. absurd (never_more _ e),
 )
 stopped_steps around after others name uid (stage.Reading region) store history faults left stopped = λ run lane place said lists come shows safe stood.
     let seen = seen_with_pins others (stage.Reading region) store history faults in (
       (did_late around after run lane place said name uid lists seen history faults seen.pins ReadsPiece (Some refusal.Stopped) (Some (reply.Refused refusal.Stopped)) (piece_is_late name uid) come shows (idle-begins history) (record { reads = omega arith; changes = refl })
-          (next_reads around name uid run place (pieces_left region.left) region.from stood.0 left.0) (refl, λ e. absurd (let k : refusal.Stopped ≡ refusal.NoMemory = e in cc k))
+          (next_reads around name uid run place (pieces_left region.left) region.from stood.0 left.0) (refl, λ e. absurd (let k : refusal.Stopped ≡ refusal.NoMemory = e in cc k)) tt
           (record { 0 = λ e. refl; 1 = λ e f. some_given (reply.Refused refusal.Stopped) f })
           (last_with (own_events place run) (fetch_event ReadsPiece lane place (Some refusal.Stopped) (Some (reply.Refused refusal.Stopped)) (told_calls history)))
           (stopped_reply said name uid) (when_stopped store.stopped stopped) (λ e. refl) (λ e. absurd (let k : refusal.Stopped ≡ refusal.ReadFault = cc e in cc k))
-          (λ file. pins_still run (fetch_event ReadsPiece lane place (Some refusal.Stopped) (Some (reply.Refused refusal.Stopped)) (told_calls history)) file refl refl ∙ come.pins file)).so,
+          (λ runs. absurd (fall store.stopped stopped runs))).so,
       λ e. absurd (never_more _ e),
     )
-stopped_steps around after others name uid (stage.Unpinning from given) store history faults left stopped = λ run lane place said lists come shows safe stood. absurd (fall store.stopped stopped stood.2)
+stopped_steps around after others name uid (stage.Unpinning from given) store history faults left stopped = λ run lane place said lists come shows safe stood.
+    let seen = seen_with_pins others (stage.Unpinning from given) store history faults in (
+      (did_late around after run lane place said name uid lists seen history faults seen.pins Unpins (Some refusal.Stopped) (Some (reply.Refused refusal.Stopped)) (unpin_is_late name uid) come shows (idle-begins history) (record { reads = omega arith; changes = refl })
+          (next_unpins around name uid run place from given stood.0) (refl, λ e. absurd (let k : refusal.Stopped ≡ refusal.NoMemory = e in cc k)) tt
+          (record { 0 = λ e. refl; 1 = λ e f. some_given (reply.Refused refusal.Stopped) f })
+          (last_with (own_events place run) (fetch_event Unpins lane place (Some refusal.Stopped) (Some (reply.Refused refusal.Stopped)) (told_calls history)))
+          (stopped_reply said name uid) (when_stopped store.stopped stopped) (λ e. refl) (λ e. absurd (let k : refusal.Stopped ≡ refusal.ReadFault = cc e in cc k))
+          (λ runs. absurd (fall store.stopped stopped runs))).so,
+      λ e. absurd (never_more _ e),
+    )
 
 -- ---- the first event
 
@@ -133,13 +144,13 @@ first_refused around after others name uid store history faults why step is runs
 -- no memory
 first_memory : {D : Type 0} → (around after : Around) (others : ℕ → ℕ) (name : List ℕ) (uid : Uid) (store : StoreValue D) (history : Option History) (faults : Faults) → store.stopped ≡ false → FirstClause around after others name uid store history faults stage.First (progress.Done (reply.Refused refusal.NoMemory)) did.Quiet
 first_memory around after others name uid store history faults runs = λ run lane place said lists come shows safe stood. (
-  did_nothing around after run lane place said name uid lists (seen_with_pins others stage.First store history faults) refusal.NoMemory come shows stood refl refl not_reading_memory (memory_is store.stopped runs),
+  did_nothing around after run lane place said name uid lists (seen_with_pins others stage.First store history faults) refusal.NoMemory come shows stood refl refl tt (memory_is store.stopped runs),
   λ e. absurd (never_more _ e),
 )
 
 -- pinned
-abbrev one_pinned_for : ℕ → ℕ → List Pin
-one_pinned_for file pieces = record { file = file; pieces = pieces } ∷ []
+abbrev one_pinned_for : ℕ → List InstRow → ℕ → List Pin
+one_pinned_for file instances pieces = record { file = file; pieces = pieces; instances = instances } ∷ []
 
 none_read : (n : ℕ) → length {A = RunEvent} [] + n ≡ n
 none_read n = omega arith
@@ -155,14 +166,14 @@ first_pinned around after others name uid store history faults row entry is runs
     let shown = shown_by store.map.boxes (indexes_of store.boxes) lists name uid.0 stored.mailbox row shows.1 stored.named stored.listed in
     let guid : row.guid ≡ shown.message.guid = ap (λ (r : ListRow). r.guid.0) shown.same in
     let found : record_of store.map shown.message.guid ≡ Some entry = by_guid store.map row.map_uid entry shown.message.guid (store_is_sound history store is) stored.stored (stored.same ∙ guid) in
-    let event = pin_event lane place entry.file (pieces_to_read entry) (told_calls history) in
+    let event = pin_event lane place entry.file (pieces_to_read entry) entry.instances (told_calls history) in
     let unpinned : has_unpinned place run ≡ false = ap (λ (es : List RunEvent). list_any is_unpinning es) stood.0 in
     stands_so around after run lane place said (request.Fetch name uid) lists seen (seen_with_pins others (stage.Reading (unread (stored_at row entry))) store history faults) (did.Step half.Whole) None event (Some (reply.Fetched shown.message.octets))
     (IsAtFetch (stage.Reading (unread (stored_at row entry))) (seen_with_pins others (stage.Reading (unread (stored_at row entry))) store history faults))
     (did_pin around after run lane place said name uid lists seen history faults (λ file. others file + one_pin entry.file file) entry shown.message.octets come shows stood runs (idle-begins history) (record { reads = omega arith; changes = refl })
     (shown.message, shown.there, ap (λ (m : MapMeaning). record_of m shown.message.guid) come.come.map_is ∙ found)
     (λ e. is_fetched run e store.map.boxes (indexes_of store.boxes) lists name uid stored.mailbox row shows.1 stored.named shown)
-    (λ file. let a = pins_begin run event entry.file (pieces_to_read entry) file refl unpinned refl in let b = come.pins file in omega (arith, a, b)))
+    (λ ran file. let a = pins_begin run event entry.file (pieces_to_read entry) file entry.instances refl unpinned refl in let b = (come.keeps ran).pins file in omega (arith, a, b)))
     (λ goes_on. (
       (
         [],
@@ -171,7 +182,7 @@ first_pinned around after others name uid store history faults row entry is runs
           own_are = own_more place run event (eq-eqb place place refl) ∙ ap (λ (es : List RunEvent). es ++ event ∷ []) stood.0;
           part = refl;
           unrefused = refl;
-          pins = ap (λ (n : ℕ). one_pinned_for entry.file n) (sym (pieces_told row entry));
+          pins = ap (λ (n : ℕ). one_pinned_for entry.file entry.instances n) (sym (pieces_told row entry));
         },
         All-nil (ReadPiece None),
         none_read (pieces_left (parts_to_read (stored_at row entry))),
@@ -249,6 +260,24 @@ piece_late (Some (refusal.StoreFull n)) h = absurd h
 piece_late (Some refusal.NoMemory) h = absurd h
 piece_late (Some refusal.Stopped) h = absurd h
 
+piece_may : (name : List ℕ) (uid : Uid) (refused : Option Refusal) → IsPieceRefused refused → IfSome refused (MayMeet ReadsPiece (request.Fetch name uid))
+piece_may name uid None h = tt
+piece_may name uid (Some refusal.ReadFault) h = refl
+piece_may name uid (Some (refusal.Damaged file offset)) h = refl
+piece_may name uid (Some refusal.NoMailbox) h = absurd h
+piece_may name uid (Some refusal.Exists) h = absurd h
+piece_may name uid (Some refusal.NoMessage) h = absurd h
+piece_may name uid (Some (refusal.TooManyCopies n)) h = absurd h
+piece_may name uid (Some (refusal.MailboxFull n)) h = absurd h
+piece_may name uid (Some (refusal.TooManyMailboxes n)) h = absurd h
+piece_may name uid (Some (refusal.StoreFull n)) h = absurd h
+piece_may name uid (Some refusal.NoMemory) h = absurd h
+piece_may name uid (Some refusal.Stopped) h = absurd h
+
+reading_keeps : (lane place : ℕ) (refused : Option Refusal) (ended : Option Reply) (calls : ℕ) → is_unpinning (fetch_event ReadsPiece lane place refused ended calls) ≡ false
+reading_keeps lane place None ended calls = refl
+reading_keeps lane place (Some why) ended calls = refl
+
 goes_on_behind : (after : Around) (run : Run) (name : List ℕ) (uid : Uid) (lane place : ℕ) (refused : Option Refusal) (calls : ℕ) → IsPieceRefused refused
     → behind_event after (and_then run (fetch_event ReadsPiece lane place refused None calls)) (request.Fetch name uid) (fetch_event ReadsPiece lane place refused None calls) refused ≡ None → ⊥
 goes_on_behind after run name uid lane place None calls h e = never_none (piece_left place (and_then run (fetch_event ReadsPiece lane place None None calls))) e
@@ -268,10 +297,10 @@ read_did : (around after : Around) (run : Run) (lane place : ℕ) (said : List R
     → NoChangeFault old.faults faults → old.stopped ≡ false → HasReadAllBut region.from (pieces_left region.left) (own_events place run) → 0 < pieces_left region.left → IsPieceRefused refused → (refused ≡ Some refusal.ReadFault → Rose old.faults.reads faults.reads)
     → DidSo around after run lane place said (request.Fetch name uid) lists old (behind_reading old history faults old.pins) did.Quiet None (fetch_event ReadsPiece lane place refused None (told_calls history)) None
 read_did around after run lane place said name uid lists old history faults region refused come shows idle none runs read left may rose =
-    did_late around after run lane place said name uid lists old history faults old.pins ReadsPiece refused None (piece_is_late name uid) come shows idle none (next_reads around name uid run place (pieces_left region.left) region.from read left) (piece_late refused may)
+    did_late around after run lane place said name uid lists old history faults old.pins ReadsPiece refused None (piece_is_late name uid) come shows idle none (next_reads around name uid run place (pieces_left region.left) region.from read left) (piece_late refused may) (piece_may name uid refused may)
     (record { 0 = λ h. absurd (h refl); 1 = λ e. absurd (goes_on_behind after run name uid lane place refused (told_calls history) may e) }) tt (λ given e. absurd (no_reply given e))
     (record { 0 = λ e. absurd (no_reply (reply.Refused refusal.Stopped) e); 1 = λ e. absurd (fall old.stopped e runs) }) (λ e. absurd (fall old.stopped e runs)) rose
-    (λ file. pins_still run (fetch_event ReadsPiece lane place refused None (told_calls history)) file refl refl ∙ come.pins file)
+    (λ ran file. pins_still run (fetch_event ReadsPiece lane place refused None (told_calls history)) file refl (reading_keeps lane place refused None (told_calls history)) ∙ (come.keeps ran).pins file)
 
 -- its own events with one more
 one_piece_more : (from : StoredAt) (own behind : List RunEvent) (event : RunEvent) (more : List RunEvent) → HasPinned from own behind → more ≡ own ++ event ∷ [] → HasPinned from more (behind ++ event ∷ [])
@@ -337,7 +366,6 @@ piece_last around after others name uid region store disk history then_history f
         record { part = refl; pinned = refl; refused_is = refl },
       ),
       (stood.1.0, stood.1.1, true_is stood.1.0 (stood.1.2 runs)),
-      runs,
     ))
 
 -- the last piece of the message that is stored there
@@ -361,7 +389,6 @@ piece_whole around after others name uid region store disk history then_history 
         ),
       ),
       (stood.1.0, stood.1.1, true_is stood.1.0 (stood.1.2 runs)),
-      runs,
     ))
 
 piece_to : {D : Type 0} → (around after : Around) (others : ℕ → ℕ) (name : List ℕ) (uid : Uid) (region : RegionValue) (store new : StoreValue D) (history then_history : Option History) (faults then_faults : Faults) (a b : FetchStage) → new ≡ record store { disk = new.disk } → b ≡ a
@@ -410,19 +437,21 @@ not_stopped : (octets : List ℕ) (given : Reply) → IsTrueReply octets given �
 not_stopped octets given (inl is) e = let k : reply.Fetched octets ≡ reply.Refused refusal.Stopped = sym is ∙ (let w : given ≡ reply.Refused refusal.Stopped = cc e in w) in cc k
 not_stopped octets given (inr is) e = let k : reply.Refused refusal.ReadFault ≡ reply.Refused refusal.Stopped = sym is ∙ (let w : given ≡ reply.Refused refusal.Stopped = cc e in w) in let w : refusal.ReadFault ≡ refusal.Stopped = cc k in cc w
 
-pub unpin_steps : {D : Type 0} → (around after : Around) (others : ℕ → ℕ) (name : List ℕ) (uid : Uid) (from : StoredAt) (given : Reply) (store : StoreValue D) (history : Option History) (faults : Faults) → store.stopped ≡ false
+pub unpin_steps : {D : Type 0} → (around after : Around) (others : ℕ → ℕ) (name : List ℕ) (uid : Uid) (from : StoredAt) (given : Reply) (store : StoreValue D) (history : Option History) (faults : Faults) → store.stopped ≡ false → is_doomed_in from.file.0 store.files.files ≡ false
     → StepsOnSafe (IsAtFetch (stage.Unpinning from given) (seen_with_pins others (stage.Unpinning from given) store history faults)) (IsAtFetch stage.First (seen_with_pins others stage.First store history faults)) around after (request.Fetch name uid)
     (seen_with_pins others (stage.Unpinning from given) store history faults) (seen_with_pins others stage.First store history faults) did.Quiet (Some given)
-unpin_steps around after others name uid from given store history faults runs = λ run lane place said lists come shows safe stood.
+unpin_steps around after others name uid from given store history faults runs undoomed = λ run lane place said lists come shows safe stood.
     let seen = seen_with_pins others (stage.Unpinning from given) store history faults in
     let event = fetch_event Unpins lane place None (Some given) (told_calls history) in
-    let pin = holds_pin from given place run stood.0 in (
-      (did_late around after run lane place said name uid lists seen history faults (λ file. others file + 0) Unpins None (Some given) (unpin_is_late name uid) come shows (idle-begins history) (record { reads = omega arith; changes = refl }) (next_unpins around name uid run place from given stood.0) tt
-          (record { 0 = λ h. ends_here (leaves_doomed place (and_then run event)) (none_doomed place (and_then run event) (λ file. doomed_still run event file refl refl ∙ come.doomed file)); 1 = λ e f. some_given given f })
+    let pin = holds_pin from given place run stood.0 in
+    let own_still : All (λ e. All (λ p. p.file ≡ from.file.0) e.pins) (own_events place (and_then run event)) =
+    subst (All (λ e. All (λ p. p.file ≡ from.file.0) e.pins)) (sym (own_more place run event (eq-eqb place place refl))) (All-push (λ (e : RunEvent). All (λ (p : Pin). p.file ≡ from.file.0) e.pins) (own_events place run) event (own_files from given place run stood.0) (All-nil (λ (p : Pin). p.file ≡ from.file.0))) in (
+      (did_late around after run lane place said name uid lists seen history faults (λ file. others file + 0) Unpins None (Some given) (unpin_is_late name uid) come shows (idle-begins history) (record { reads = omega arith; changes = refl }) (next_unpins around name uid run place from given stood.0) tt tt
+          (record { 0 = λ h. ends_here (leaves_doomed place (and_then run event)) (none_doomed place from.file.0 (and_then run event) own_still (doomed_still run event from.file.0 refl refl ∙ ((come.keeps runs).doomed from.file.0 ∙ undoomed))); 1 = λ e f. some_given given f })
           (last_with (own_events place run) event ∙ (none_or (last_refusal (own_events place run)) ∙ unpins_by from given (own_events place run) stood.0))
           (λ r e. subst (λ (x : Reply). IsReplyOf (request.Fetch name uid) said x) (let k : given ≡ r = cc e in k) (true_reply_of name uid stood.1.0 given said stood.1.1 stood.1.2))
           (record { 0 = λ e. absurd (not_stopped stood.1.0 given stood.1.2 e); 1 = λ e. absurd (fall store.stopped e runs) }) (λ e. absurd (fall store.stopped e runs)) (λ e. absurd (let k : None ≡ Some refusal.ReadFault = e in cc k))
-          (λ file. let a = pins_end run event file (one_pin from.file.0 file) refl pin.none (pin.one file) in let b = come.pins file in omega (arith, a, b))).so,
+          (λ ran file. let a = pins_end run event file (one_pin from.file.0 file) refl pin.none (pin.one file) in let b = (come.keeps ran).pins file in omega (arith, a, b))).so,
       λ e. absurd (never_more _ e),
     )
   where
@@ -438,4 +467,4 @@ fetch_stays (stage.Reading region) seen = λ run place said event other gives st
     (subst (HasReadAllBut region.from (pieces_left region.left)) (sym same) stood.0, stood.1)
 fetch_stays (stage.Unpinning from given) seen = λ run place said event other gives stood.
     let same = own_other place run event (ne_eqb event.request place other) in
-    (subst (UnpinsNext from given) (sym same) stood.0, stood.1, stood.2)
+    (subst (UnpinsNext from given) (sym same) stood.0, stood.1)

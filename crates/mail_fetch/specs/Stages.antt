@@ -27,13 +27,14 @@ pub record ReadPiece (refused : Option Refusal) (event : RunEvent) : Type 0 wher
   pub pinned : event.pins ≡ []
   pub refused_is : event.refused ≡ refused
 
--- The first of its own events pinned the file, for as many pieces as the region and the instances have. These are those behind it.
+-- The first of its own events pinned the file and the instances, for as many pieces as the region and the instances have. These
+-- are those behind it.
 pub record HasPinned (from : StoredAt) (own behind : List RunEvent) : Type 0 where
   pub pin : RunEvent
   pub own_are : own ≡ pin ∷ behind
   pub part : pin.part ≡ First
   pub unrefused : pin.refused ≡ None
-  pub pins : pin.pins ≡ record { file = from.file.0; pieces = pieces_left (parts_to_read from) } ∷ []
+  pub pins : pin.pins ≡ record { file = from.file.0; pieces = pieces_left (parts_to_read from); instances = from.instances } ∷ []
 
 -- it has read all pieces but so many
 abbrev pub HasReadAllBut : StoredAt → ℕ → List RunEvent → Type 0
@@ -76,10 +77,10 @@ IsTrueReply octets given = (given ≡ reply.Fetched octets) ⊎ (given ≡ reply
 
 -- Where the task stands, as a store is seen: what is true of the run, for the place of its request, and of the answers of its
 -- steps. The first event has answered the octets of the message as it was listed then, and the disk still stores them, unless the
--- store is stopped. A store that another task stopped before this one unpins isn't covered.
+-- store is stopped.
 abbrev pub IsAtFetch : FetchStage → Seen → Run → ℕ → List Reply → Type 0
 IsAtFetch stage.First seen run place said = HasNotBegun run place said
 IsAtFetch (stage.Reading region) seen run place said =
     HasReadAllBut region.from (pieces_left region.left) (own_events place run) × ((octets : List ℕ) × (said ≡ reply.Fetched octets ∷ []) × (seen.stopped ≡ false → Reading (IsFrontOfStored region octets) seen.history))
 IsAtFetch (stage.Unpinning from given) seen run place said =
-    UnpinsNext from given (own_events place run) × ((octets : List ℕ) × (said ≡ reply.Fetched octets ∷ []) × IsTrueReply octets given) × (seen.stopped ≡ false)
+    UnpinsNext from given (own_events place run) × ((octets : List ℕ) × (said ≡ reply.Fetched octets ∷ []) × IsTrueReply octets given)

@@ -1,7 +1,7 @@
 -- The storage files that an opening found, as the store keeps them.
 use Rattle.std.specs.Prelude.{find}
 use Rattle.std.proofs.Common.{◌≡◌, ◌<◌, ◌≤◌, ◌+◌, ◌==◌, ◌&&◌, ◌||◌, nat_le, inl, inr, ℕ, Bool, true, false, List, [], ◌∷◌, length, map, get_or, Option, Some, None, All, refl, sym, ◌∙◌, ap, subst, arith}
-use Rattle.std.specs.Option.{option_map}
+use Rattle.std.specs.Option.{option_map, option_map_or}
 use Rattle.std.specs.List.{list_any}
 use Rattle.std.proofs.lemmas.Bool.{cases_Bool, cond-true, cond-false, eq-eqb, true≢false, false≢true}
 use Rattle.std.proofs.lemmas.Grind.{common_steps}
@@ -14,7 +14,7 @@ use Rattle.mdbox_base.specs.declared.entries.Highest.{Highest}
 use Rattle.model_meaning.specs.MapMeaning.{MapRecord, MapMeaning, is_own, number_at, is_sealed}
 use Rattle.model_meaning.specs.Sound.{IsSoundMap}
 use Rattle.model_octets.proofs.PairLemmas.{found_holds}
-use Rattle.storage_files.specs.Files.{FilesValue, file_in, file_found}
+use Rattle.storage_files.specs.Files.{FilesValue, file_in, file_found, is_doomed_in}
 use Rattle.storage_files.specs.OnDisk.{IsAsKnown}
 use Rattle.storage_files.specs.declared.file.FileState.{FileState}
 use Rattle.storage_files.specs.declared.file.MailFile.{MailFile}
@@ -112,6 +112,15 @@ guid_below m history states k d lt found own = λ f e g.
 each_below : (m : MapMeaning) (k : ℕ) (d : MapRecord) → k < length m.records → (get_or m.records k d).offset + (get_or m.records k d).size ≤ end_of m (get_or m.records k d).file
 each_below m k d lt = end_by m (get_or m.records k d).file k d lt refl
 
+undoomed_found : (m : MapMeaning) (history : Option History) (states : List FileState) (number : ℕ) → AreFilesFound m history states → is_doomed_in number (map file_found states) ≡ false
+undoomed_found m history states number found = by_search (file_in number (map file_found states)) refl
+  where
+    by_search : (o : Option MailFile) → file_in number (map file_found states) ≡ o → option_map_or (λ f. f.doomed) (file_in number (map file_found states)) false ≡ false
+    by_search None is = ap (λ (o : Option MailFile). option_map_or (λ f. f.doomed) o false) is
+    by_search (Some f) is =
+        let w = was_found m states number f found.marks is in
+        ap (λ (o : Option MailFile). option_map_or (λ f. f.doomed) o false) is ∙ ap (λ (x : MailFile). x.doomed) w.is
+
 files_kept : (m : MapMeaning) (history : Option History) (files : FilesValue) (drawn : Highest) → IsSoundMap m → m.highest.file ≡ drawn.file → IsFoundFiles m history files → AreFilesKept files drawn m
 files_kept m history files drawn sound highest found =
     subst (λ (v : FilesValue). AreFilesKept v drawn m) (sym found.is) (record {
@@ -123,9 +132,13 @@ files_kept m history files drawn sound highest found =
       sealed = λ number f e is.
           let w = was_found m found.states number f found.found.marks e in
           ap (λ (x : MailFile). x.sealed) w.is ∙ w.marks.0 ∙ ap (is_sealed m) w.has_number ∙ is;
+      pinned = λ number f e pinned.
+          let w = was_found m found.states number f found.found.marks e in
+          absurd (let l : 1 ≤ 0 = subst (λ (x : MailFile). 1 ≤ x.pins) w.is pinned in omega (arith, l));
       below = λ k d lt. record {
         region = region_below m history found.states (get_or m.records k d) found.found (each_below m k d lt);
         guid = guid_below m history found.states k d lt found.found;
+        undoomed = undoomed_found m history found.states (get_or m.records k d).file found.found;
       };
     })
 

@@ -1,4 +1,5 @@
 pub mod CheckedLemmas
+pub mod ClosedStoreLemmas
 pub mod FaultLemmas
 pub mod FirstFilesLemmas
 pub mod FirstLogsLemmas

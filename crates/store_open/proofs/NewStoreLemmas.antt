@@ -103,7 +103,7 @@ new_store alloc disk store box o instances new is l number index one =
       boxes_are = ap (λ (i : _). i ∷ []) index;
       counts = tt;
       drawn = record { file = omega arith; map = omega arith; instance = omega arith; mailbox = omega arith };
-      files = record { highest = refl; numbered = λ number f e. absurd (no_file_in number f e); taken = λ number f e taken. absurd (no_file_in number f e); sealed = λ number f e is. absurd (no_file_in number f e); below = All-nil (LiesBelowEnd store []) };
+      files = record { highest = refl; numbered = λ number f e. absurd (no_file_in number f e); taken = λ number f e taken. absurd (no_file_in number f e); sealed = λ number f e is. absurd (no_file_in number f e); pinned = λ number f e is. absurd (no_file_in number f e); below = All-nil (LiesBelowEnd store []) };
       root_name = l.root_name;
       root_head = l.root_head_is;
       map_name = l.map_name;

@@ -1,9 +1,13 @@
 -- What the opening of a store answers, and what it leaves.
-use Rattle.std.specs.Prelude.{◌≡◌, ℕ, List, map, Option, Result, Ok, Err, ⊤}
+use Rattle.std.specs.Prelude.{◌≡◌, ℕ, List, map, All, Option, Some, Result, Ok, Err, ⊤}
 use Rattle.disk_model.specs.Disk.{DiskState, History, Between, IfTold, reading}
 use Rattle.disk_model.specs.declared.name.FileName.TheVariants as file
 use Rattle.mdbox_base.specs.declared.entries.BoxEntry.{BoxEntry}
 use Rattle.mdbox_base.specs.declared.entries.MapEntry.{MapEntry}
+use Rattle.gate_log.specs.Log.{log_text}
+use Rattle.model_kept.specs.Kept.{MailIsKept}
+use Rattle.model_logs.specs.declared.log_head.LogHead.{LogHead}
+use Rattle.model_logs.specs.LogFile.{HeadFits, EntryFits}
 use Rattle.model_meaning.specs.BoxMeaning.{BoxMeaning, box_meaning}
 use Rattle.model_meaning.specs.MapMeaning.{MapMeaning, map_meaning}
 use Rattle.model_meaning.specs.SameMeaning.{MeansSame}
@@ -12,6 +16,7 @@ use Rattle.model_store.specs.Settled.{files_of}
 use Rattle.model_store.specs.GoodLogs.{AreGoodLogs}
 use Rattle.model_store.specs.Opening.{HasNoEntry, Opens, IsDamaged}
 use Rattle.store_core.specs.Value.{StoreValue}
+use Rattle.store_sweep.specs.Wanted.{HasNothingToSweep}
 use Rattle.store_open.specs.declared.error.OpenError.{OpenError}
 use Rattle.store_open.specs.declared.error.OpenError.TheVariants.{NoStore, StoreWhole, MailFiles, Damaged, DiskFault, NoMemory}
 use Rattle.store_open.specs.declared.error.OpenRefused.{OpenRefused}
@@ -33,6 +38,29 @@ pub record IsOpenedAs (old : Option History) (m : MapMeaning) (meanings : List B
 -- Whatever store the files open with, its files carry over all that it reads.
 abbrev pub StoreCarries : Option History → Option History → Type 0
 StoreCarries = Between (λ old new. (store : List ℕ) (entries : List MapEntry) (logs : List (List BoxEntry)) (o : Opens (files_of old) store entries logs) → CarryOver o.passed.map_log.generation (map_meaning store entries) (files_of old) (files_of new))
+
+-- Whatever store the files open with, its storage files and instances stay at each moment.
+abbrev pub KeepsOpenedMail : Option History → Option History → Type 0
+KeepsOpenedMail old new = (store : List ℕ) (entries : List MapEntry) (logs : List (List BoxEntry)) → IfTold old (λ was. Opens (files_of was) store entries logs) → MailIsKept (map_meaning store entries) old new
+
+-- a log of some entries, which ends in a closed gate
+pub record IsClosedLog (octets : Option (List ℕ)) : Type 0 where
+  pub head : LogHead
+  pub entries : List (List ℕ)
+  pub head_fits : HeadFits head
+  pub entries_fit : All EntryFits entries
+  pub is : octets ≡ Some (log_text head entries)
+
+-- The files open, each log in force ends in a closed gate, and beside the logs nothing is to be swept.
+pub record IsClosedWell (disk : DiskState) : Type 0 where
+  pub store : List ℕ
+  pub entries : List MapEntry
+  pub logs : List (List BoxEntry)
+  pub opens : Opens (files_of disk) store entries logs
+  pub root_log : IsClosedLog (reading (disk file.Root))
+  pub map_log : IsClosedLog (reading (disk (file.Map opens.passed.map_log.generation)))
+  pub box_logs : All (λ box. IsClosedLog (reading (disk (file.Box box.number box.generation)))) (map_meaning store entries).boxes
+  pub nothing : HasNothingToSweep opens.passed.map_log.generation (map_meaning store entries) disk
 
 -- Why a store was not opened: its root log has no entry; or its files are damaged, and this is the place; or the device
 -- failed, or there was no memory.

@@ -13,8 +13,8 @@ ghost use Rattle.store_core.specs.StoreInstances.{HasKnownInstances};
 ghost use Rattle.store_files.specs.Found.{IsFoundFiles};
 ghost use Rattle.store_instances.specs.FoundInstances.{IsFoundInstances};
 ghost use Rattle.store_open.specs.Making.{IdleUnless};
-ghost use Rattle.store_open.specs.Opened.{Opening, IsOpenedAs, StoreCarries, IsOpeningError, IsFaulted, disk_of};
-ghost use Rattle.store_sweep.specs.Moments.{NoFailedChange};
+ghost use Rattle.store_open.specs.Opened.{Opening, IsOpenedAs, StoreCarries, KeepsOpenedMail, IsClosedWell, IsOpeningError, IsFaulted, disk_of};
+ghost use Rattle.store_sweep.specs.Moments.{NoFailedChange, IdleIf};
 ghost use Rattle.store_sweep.specs.Swept.{IsSwept};
 
 use crate::error::{OpenError, OpenRefused};
@@ -69,6 +69,13 @@ pub fn open_store<D: Disk>(alloc: Global, disk: D, lanes: u32) -> Result<Store<D
     // At every moment, whatever fails, each image of a settled disk is safe for the same lists.
     ensures any_moment { (lists : Lists) → IsSettledFor lists (D.history disk) → EachImage (λ _ image. Safe image lists) (D.history disk) (D.history (disk_of result)) }
 
+    // At every moment, whatever fails and whether the disk is settled or not, each image has of the storage files and instances
+    // what a crash could leave of them at the beginning: of a sealed file all of it, of another as far as the end of each region.
+    ensures mail_stays { KeepsOpenedMail (D.history disk) (D.history (disk_of result)) }
+
+    // A store that was closed well is left as it is, whatever fails.
+    ensures closed_well { IdleIf IsClosedWell (D.history disk) (D.history (disk_of result)) }
+
     ensures refused { IfErr result (λ refused. IsOpeningError (D.history disk) refused.error) }
     ensures idle { IfErr result (λ refused. (refused.error ≡ OpenError.DiskFault → ⊥) → IsIdle (D.history disk) (D.history refused.disk)) }
 
@@ -105,6 +112,8 @@ fn open_logs<D: Disk>(alloc: Global, disk: &mut D) -> Result<OpenParts, OpenErro
     ensures carried { NoFailedChange (IsErrOf result OpenError.DiskFault) (D.faults disk.old) (D.faults disk.new) → StoreCarries (D.history disk.old) (D.history disk.new) }
     ensures swept { IfOk result (λ opened. (generation : ℕ) × (opened.logs.map_log.name ≡ file.Map generation) × IsSwept generation opened.logs.map.meaning (D.history disk.old) (D.history disk.new)) }
     ensures any_moment { (lists : Lists) → IsSettledFor lists (D.history disk.old) → EachImage (λ _ image. Safe image lists) (D.history disk.old) (D.history disk.new) }
+    ensures mail_stays { KeepsOpenedMail (D.history disk.old) (D.history disk.new) }
+    ensures closed_well { IdleIf IsClosedWell (D.history disk.old) (D.history disk.new) }
     ensures refused { IfErr result (IsOpeningError (D.history disk.old)) }
     ensures idle { IfErr result (λ error. (error ≡ OpenError.DiskFault → ⊥) → IsIdle (D.history disk.old) (D.history disk.new)) }
     ensures untouched { IdleUnless Opening (D.history disk.old) (D.history disk.new) }

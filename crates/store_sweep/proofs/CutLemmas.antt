@@ -95,7 +95,7 @@ shortened_length n end old mid new reaches is synced_is =
 
 -- ---- the length that was read
 
-length_of : (f : FileState) (n : ℕ) → option_map length (reading f) ≡ Some n → IsThere f × (length f.octets ≡ n)
+pub length_of : (f : FileState) (n : ℕ) → option_map length (reading f) ≡ Some n → IsThere f × (length f.octets ≡ n)
 length_of f n e = elim (cases_Bool f.is_there) [
   | inl there ↦ (there, same_Some _ _ (sym (ap (option_map length) (reads_there f there)) ∙ e))
   | inr gone ↦ absurd (let none : reading f ≡ None = cond-false f.is_there (Some f.octets) None gone in let s : None ≡ Some n = sym (ap (option_map length) none) ∙ e in cc)

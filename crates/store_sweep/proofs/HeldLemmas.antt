@@ -58,13 +58,13 @@ image_carries g m found disk image k is = each_name g m found image (λ name. le
 apart_box : (n o : ℕ) (box : MapBox) → ((box.number == n) && (box.generation == o)) ≡ false → box.number ≡ n → box.generation ≡ o → ⊥
 apart_box n o box fails a b = true≢false (sym (and_from (box.number == n) (box.generation == o) (eq-eqb box.number n a) (eq-eqb box.generation o b)) ∙ fails)
 
-apart_row : (n : ℕ) (row : MapRecord) → (row.file == n) ≡ false → row.file ≡ n → ⊥
+pub apart_row : (n : ℕ) (row : MapRecord) → (row.file == n) ≡ false → row.file ≡ n → ⊥
 apart_row n row fails a = true≢false (sym (eq-eqb row.file n a) ∙ fails)
 
 bytes_same : (a b : List ℕ) → a ≡ b → bytes_eq a b ≡ true
 bytes_same a b e = (bytes_eq-Decides a b).1 e
 
-apart_inst : (hash id : List ℕ) (inst : InstRow) → (bytes_eq inst.hash.0 hash && bytes_eq inst.id.0 id) ≡ false → inst.hash.0 ≡ hash → inst.id.0 ≡ id → ⊥
+pub apart_inst : (hash id : List ℕ) (inst : InstRow) → (bytes_eq inst.hash.0 hash && bytes_eq inst.id.0 id) ≡ false → inst.hash.0 ≡ hash → inst.id.0 ≡ id → ⊥
 apart_inst hash id inst fails a b = true≢false (sym (and_from (bytes_eq inst.hash.0 hash) (bytes_eq inst.id.0 id) (bytes_same inst.hash.0 hash a) (bytes_same inst.id.0 id b)) ∙ fails)
 
 -- nothing is asked of such a file

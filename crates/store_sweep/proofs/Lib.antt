@@ -8,10 +8,12 @@ pub mod FirmRegionLemmas
 pub mod FittedLemmas
 pub mod HeldLemmas
 pub mod HeldStoreLemmas
+pub mod IdleSweepLemmas
 pub mod KnownFileLemmas
 pub mod LogsInForceLemmas
 pub mod RepairLemmas
 pub mod ScanLemmas
+pub mod StayLemmas
 pub mod SweepLemmas
 pub mod SweepStepLemmas
 pub mod WalkLemmas

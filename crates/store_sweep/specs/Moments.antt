@@ -1,7 +1,7 @@
 -- What the calls of a sweep leave of a store.
 use Rattle.std.specs.Prelude.{◌≡◌, ◌⊎◌, ℕ, Bool, true, false, List, length, take, Option}
 use Rattle.mdbox_base.specs.Streams.{Rose}
-use Rattle.disk_model.specs.Disk.{Files, FileState, History, Faults, Between, IfTold, IsTold, IsThere, EachImage, Keeps, reading}
+use Rattle.disk_model.specs.Disk.{Files, FileState, DiskState, History, Faults, Between, IfTold, IsTold, IsThere, IsIdle, EachImage, Keeps, reading}
 use Rattle.disk_model.specs.declared.name.FileName.{FileName}
 use Rattle.disk_model.specs.declared.name.FileName.TheVariants as file
 use Rattle.model_meaning.specs.MapMeaning.{MapMeaning, is_sealed}
@@ -14,6 +14,10 @@ use Rattle.store_sweep.specs.Wanted.{is_wanted}
 -- nothing.
 abbrev pub NoFailedChange : Type 0 → Faults → Faults → Type 0
 NoFailedChange fault old new = fault → Rose old.changes new.changes → ⊥
+
+-- where this holds of a disk at the beginning, nothing has changed
+abbrev pub IdleIf : (DiskState → Type 0) → Option History → Option History → Type 0
+IdleIf P old new = IfTold old (λ now. P now → IsIdle old new)
 
 -- Where the disk holds the store, each image of each moment carries over what was found.
 abbrev pub ImagesCarry : ℕ → MapMeaning → Option History → Option History → Type 0

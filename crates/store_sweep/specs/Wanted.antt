@@ -2,7 +2,7 @@
 use Rattle.std.specs.Prelude.{◌≡◌, ◌+◌, ◌==◌, ◌&&◌, ◌||◌, ◌≤◌, ℕ, Bool, true, false, List, length, All}
 use Rattle.std.specs.List.{list_any}
 use Rattle.std.specs.Str.{bytes_eq}
-use Rattle.disk_model.specs.Disk.{FileState}
+use Rattle.disk_model.specs.Disk.{FileState, DiskState, IsThere}
 use Rattle.disk_model.specs.declared.name.FileName.{FileName}
 use Rattle.disk_model.specs.declared.name.FileName.TheVariants as file
 use Rattle.model_meaning.specs.MapMeaning.{MapRecord, MapMeaning, is_sealed}
@@ -36,3 +36,12 @@ EndBy m number end = All (λ row. row.file ≡ number → row.offset + row.size 
 abbrev pub EndsByLastRegion : MapMeaning → FileName → FileState → Type 0
 EndsByLastRegion m (file.Mail number) f = is_sealed m number ≡ false → length f.octets ≤ end_of m number
 EndsByLastRegion m other f = Unit {0}
+
+-- a file is there that the store doesn't need and that isn't sealed
+abbrev pub HasStray : ℕ → MapMeaning → DiskState → Type 0
+HasStray generation m disk = (name : FileName) × IsThere (disk name) × (is_wanted generation m name ≡ false)
+
+-- Beside its logs nothing is to be swept: no such file is there, and each storage file ends with its last region.
+pub record HasNothingToSweep (generation : ℕ) (m : MapMeaning) (disk : DiskState) : Type 0 where
+  pub only : HasStray generation m disk → ⊥
+  pub ends : (name : FileName) → IsThere (disk name) → EndsByLastRegion m name (disk name)

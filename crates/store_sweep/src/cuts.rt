@@ -4,11 +4,12 @@ ghost use Rattle.disk_model.specs.FaultCounts.{NoFault, ChangeFaultCounted, AnyF
 ghost use Rattle.disk_model.specs.Disk.{IfTold, IsThere, Reaches, SameButFor};
 ghost use Rattle.disk_model.specs.declared.name.FileName.{FileName};
 ghost use Rattle.disk_model.specs.declared.name.FileName.TheVariants as file;
+ghost use Rattle.model_kept.specs.Kept.{MailIsKept};
 ghost use Rattle.model_meaning.specs.MapMeaning.{MapMeaning, is_sealed};
 ghost use Rattle.disk_model.specs.Name.{is_log};
 ghost use Rattle.store_files.specs.Regions.{end_of};
 ghost use Rattle.store_sweep.specs.Wanted.{EndBy, EndsByLastRegion};
-ghost use Rattle.store_sweep.specs.Moments.{NoFailedChange, ImagesCarry, KeepsStore, SameWhere, SameThere, AreFitted};
+ghost use Rattle.store_sweep.specs.Moments.{NoFailedChange, ImagesCarry, KeepsStore, SameWhere, SameThere, AreFitted, IdleIf};
 
 use crate::wanted::end_of;
 use disk_model::{Disk, DiskError, FileName, known_range};
@@ -28,6 +29,8 @@ pub fn cut_files<D: Disk>(disk: &mut D, map: &MapIndex) -> Result<(), DiskFault>
     ensures mail { OnOk result (AreFitted map.now.meaning (D.history disk.old) (D.history disk.new)) }
     ensures there { OnOk result (SameThere (D.history disk.old) (D.history disk.new)) }
     ensures cut { OnOk result (IfTold (D.history disk.new) (λ now. (name : FileName) → IsThere (now name) → EndsByLastRegion map.now.meaning name (now name))) }
+    ensures mail_stays { MailIsKept map.now.meaning (D.history disk.old) (D.history disk.new) }
+    ensures idle { IdleIf (λ now. (name : FileName) → IsThere (now name) → EndsByLastRegion map.now.meaning name (now name)) (D.history disk.old) (D.history disk.new) }
     ensures fault { AnyFaultCounted (IsErr result) (D.faults disk.old) (D.faults disk.new) }
     ensures unfailed { OnOk result (NoFault (D.faults disk.old) (D.faults disk.new)) }
 {
@@ -52,6 +55,8 @@ fn fit_file<D: Disk>(disk: &mut D, name: FileName, map: &MapIndex) -> Result<(),
     ensures there { OnOk result (SameThere (D.history disk.old) (D.history disk.new)) }
     ensures others { OnOk result (SameButFor name (D.history disk.old) (D.history disk.new)) }
     ensures cut { OnOk result (IfTold (D.history disk.new) (λ now. IsThere (now name) → EndsByLastRegion map.now.meaning name (now name))) }
+    ensures mail_stays { MailIsKept map.now.meaning (D.history disk.old) (D.history disk.new) }
+    ensures idle { IdleIf (λ now. IsThere (now name) → EndsByLastRegion map.now.meaning name (now name)) (D.history disk.old) (D.history disk.new) }
     ensures fault { AnyFaultCounted (IsErr result) (D.faults disk.old) (D.faults disk.new) }
     ensures unfailed { OnOk result (NoFault (D.faults disk.old) (D.faults disk.new)) }
 {
@@ -73,6 +78,8 @@ fn cut_behind<D: Disk>(disk: &mut D, number: u32, end: u64) -> Result<(), DiskFa
     ensures there { OnOk result (SameThere (D.history disk.old) (D.history disk.new)) }
     ensures others { OnOk result (SameButFor (file.Mail number) (D.history disk.old) (D.history disk.new)) }
     ensures cut { OnOk result (IfTold (D.history disk.new) (λ now. IsThere (now (file.Mail number)) → length (now (file.Mail number)).octets ≤ end)) }
+    ensures mail_stays { (m : MapMeaning) → is_sealed m number ≡ false → EndBy m number end → MailIsKept m (D.history disk.old) (D.history disk.new) }
+    ensures idle { IdleIf (λ now. IsThere (now (file.Mail number)) → length (now (file.Mail number)).octets ≤ end) (D.history disk.old) (D.history disk.new) }
     ensures fault { AnyFaultCounted (IsErr result) (D.faults disk.old) (D.faults disk.new) }
     ensures unfailed { OnOk result (NoFault (D.faults disk.old) (D.faults disk.new)) }
 {
@@ -98,6 +105,7 @@ fn shorten<D: Disk>(disk: &mut D, number: u32, end: u64) -> Result<(), DiskFault
     ensures there { OnOk result (SameThere (D.history disk.old) (D.history disk.new)) }
     ensures others { OnOk result (SameButFor (file.Mail number) (D.history disk.old) (D.history disk.new)) }
     ensures cut { OnOk result (IfTold (D.history disk.new) (λ now. length (now (file.Mail number)).octets ≤ end)) }
+    ensures mail_stays { (m : MapMeaning) → is_sealed m number ≡ false → EndBy m number end → MailIsKept m (D.history disk.old) (D.history disk.new) }
     ensures fault { ChangeFaultCounted (IsErr result) (D.faults disk.old) (D.faults disk.new) }
     ensures unfailed { OnOk result (NoFault (D.faults disk.old) (D.faults disk.new)) }
 {

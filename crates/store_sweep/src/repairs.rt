@@ -3,6 +3,8 @@ ghost use Rattle.std.specs.Prelude.{◌≡◌, ◌<◌, ◌≤◌, ◌+◌, ◌+
 ghost use Rattle.std.specs.List.{All, AllZip};
 ghost use Rattle.disk_model.specs.FaultCounts.{NoFault, ChangeFaultCounted};
 ghost use Rattle.disk_model.specs.Disk.{IfTold};
+ghost use Rattle.gate_log.specs.State.{IsWholeLog};
+ghost use Rattle.model_kept.specs.Kept.{MailIsKept};
 ghost use Rattle.store_sweep.specs.Moments.{ImagesCarry, KeepsStore, SameWhere, SameThere};
 ghost use Rattle.store_sweep.specs.Boxes.{found_logs, opened_logs, HaveIndexes};
 ghost use Rattle.store_sweep.specs.Repaired.{StandsFound, IsRepaired, AreLogsOfBoxes, is_outside};
@@ -32,6 +34,8 @@ pub fn repair_boxes<D: Disk>(
     ensures opened { OnOk result (AllZip (IsRepaired (D.history disk.old) (D.history disk.new)) (found_logs found.items) (opened_logs opened.new.items)) }
     ensures there { OnOk result (SameThere (D.history disk.old) (D.history disk.new)) }
     ensures others { OnOk result (SameWhere (is_outside (found_logs found.items)) (D.history disk.old) (D.history disk.new)) }
+    ensures mail_stays { MailIsKept map.now.meaning (D.history disk.old) (D.history disk.new) }
+    ensures untouched { All IsWholeLog (found_logs found.items) → disk.new ≡ disk.old }
     ensures fault { ChangeFaultCounted (IsErr result) (D.faults disk.old) (D.faults disk.new) }
     ensures unfailed { OnOk result (NoFault (D.faults disk.old) (D.faults disk.new)) }
 {

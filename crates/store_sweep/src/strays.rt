@@ -3,8 +3,9 @@ ghost use Rattle.std.specs.Prelude.{◌≡◌, true, false, IfOk, OnOk, IsErr};
 ghost use Rattle.disk_model.specs.FaultCounts.{NoFault, ChangeFaultCounted, AnyFaultCounted};
 ghost use Rattle.disk_model.specs.Disk.{IfTold, IsThere, SameButFor, SameState};
 ghost use Rattle.disk_model.specs.declared.name.FileName.{FileName};
-ghost use Rattle.store_sweep.specs.Wanted.{is_wanted};
-ghost use Rattle.store_sweep.specs.Moments.{NoFailedChange, ImagesCarry, KeepsStore, SameWhere};
+ghost use Rattle.model_kept.specs.Kept.{MailIsKept};
+ghost use Rattle.store_sweep.specs.Wanted.{is_wanted, HasStray};
+ghost use Rattle.store_sweep.specs.Moments.{NoFailedChange, ImagesCarry, KeepsStore, SameWhere, IdleIf};
 
 use crate::wanted::is_wanted;
 use disk_model::{Disk, FileName, known_range};
@@ -23,6 +24,9 @@ pub fn remove_strays<D: Disk>(
     ensures same { OnOk result (SameWhere (is_wanted generation map.now.meaning) (D.history disk.old) (D.history disk.new)) }
     ensures none { IfOk result (λ removed. removed ≡ false → SameState (D.history disk.old) (D.history disk.new)) }
     ensures gone { OnOk result (IfTold (D.history disk.new) (λ now. (name : FileName) → IsThere (now name) → is_wanted generation map.now.meaning name ≡ true)) }
+    ensures mail_stays { MailIsKept map.now.meaning (D.history disk.old) (D.history disk.new) }
+    ensures some { IfOk result (λ removed. removed ≡ true → IfTold (D.history disk.old) (HasStray generation map.now.meaning)) }
+    ensures idle { IdleIf (λ now. HasStray generation map.now.meaning now → ⊥) (D.history disk.old) (D.history disk.new) }
     ensures fault { AnyFaultCounted (IsErr result) (D.faults disk.old) (D.faults disk.new) }
     ensures unfailed { OnOk result (NoFault (D.faults disk.old) (D.faults disk.new)) }
 {
@@ -48,6 +52,9 @@ fn remove_stray<D: Disk>(
     ensures others { OnOk result (SameButFor name (D.history disk.old) (D.history disk.new)) }
     ensures none { IfOk result (λ removed. removed ≡ false → SameState (D.history disk.old) (D.history disk.new)) }
     ensures gone { OnOk result (IfTold (D.history disk.new) (λ now. IsThere (now name) → is_wanted generation map.now.meaning name ≡ true)) }
+    ensures mail_stays { MailIsKept map.now.meaning (D.history disk.old) (D.history disk.new) }
+    ensures some { IfOk result (λ removed. removed ≡ true → is_wanted generation map.now.meaning name ≡ false) }
+    ensures untouched { is_wanted generation map.now.meaning name ≡ true → disk.new ≡ disk.old }
     ensures fault { ChangeFaultCounted (IsErr result) (D.faults disk.old) (D.faults disk.new) }
     ensures unfailed { OnOk result (NoFault (D.faults disk.old) (D.faults disk.new)) }
 {

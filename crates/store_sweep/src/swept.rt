@@ -8,12 +8,14 @@ ghost use Rattle.disk_model.specs.declared.name.FileName.TheVariants as file;
 ghost use Rattle.model_lists.specs.Lists.{Lists};
 ghost use Rattle.model_store.specs.Safe.{Safe};
 ghost use Rattle.model_store.specs.Settled.{IsSettledFor};
-ghost use Rattle.store_sweep.specs.Moments.{NoFailedChange, ImagesCarry, KeepsStore, SameWhere, SameThere, KeepsWanted, LogStays, AreFitted, NamesSynced};
+ghost use Rattle.gate_log.specs.State.{IsWholeLog};
+ghost use Rattle.model_kept.specs.Kept.{MailIsKept};
+ghost use Rattle.store_sweep.specs.Moments.{NoFailedChange, ImagesCarry, KeepsStore, SameWhere, SameThere, KeepsWanted, LogStays, AreFitted, NamesSynced, IdleIf};
 ghost use Rattle.store_sweep.specs.Boxes.{found_logs, opened_logs, HaveIndexes};
 ghost use Rattle.store_sweep.specs.Repaired.{StandsFound, IsRepaired, AreLogsOfBoxes, is_outside};
 ghost use Rattle.store_sweep.specs.Swept.{OpensWith, FilesCarry, IsOpened, IsSwept};
 ghost use Rattle.disk_model.specs.Name.{is_log};
-ghost use Rattle.store_sweep.specs.Wanted.{is_wanted, EndsByLastRegion};
+ghost use Rattle.store_sweep.specs.Wanted.{is_wanted, EndsByLastRegion, HasNothingToSweep};
 
 use crate::cuts::cut_files;
 use crate::repairs::repair_boxes;
@@ -36,6 +38,8 @@ fn clear<D: Disk>(disk: &mut D, generation: u32, map: &MapIndex) -> Result<(), D
     ensures names { OnOk result (NamesSynced generation map.now.meaning (D.history disk.old) (D.history disk.new)) }
     ensures gone { OnOk result (IfTold (D.history disk.new) (λ now. (name : FileName) → IsThere (now name) → is_wanted generation map.now.meaning name ≡ true)) }
     ensures cut { OnOk result (IfTold (D.history disk.new) (λ now. (name : FileName) → IsThere (now name) → EndsByLastRegion map.now.meaning name (now name))) }
+    ensures mail_stays { MailIsKept map.now.meaning (D.history disk.old) (D.history disk.new) }
+    ensures idle { IdleIf (HasNothingToSweep generation map.now.meaning) (D.history disk.old) (D.history disk.new) }
     ensures fault { AnyFaultCounted (IsErr result) (D.faults disk.old) (D.faults disk.new) }
     ensures unfailed { OnOk result (NoFault (D.faults disk.old) (D.faults disk.new)) }
 {
@@ -73,6 +77,8 @@ fn repair_logs<D: Disk>(
     ensures root_log { IfOk result (λ logs. IsRepaired (D.history disk.old) (D.history disk.new) root_log logs.0) }
     ensures map_log { IfOk result (λ logs. IsRepaired (D.history disk.old) (D.history disk.new) map_log logs.1) }
     ensures box_logs { OnOk result (AllZip (IsRepaired (D.history disk.old) (D.history disk.new)) (found_logs boxes.items) (opened_logs opened.new.items)) }
+    ensures mail_stays { MailIsKept map.now.meaning (D.history disk.old) (D.history disk.new) }
+    ensures untouched { All IsWholeLog (root_log ∷ map_log ∷ found_logs boxes.items) → disk.new ≡ disk.old }
     ensures fault { ChangeFaultCounted (IsErr result) (D.faults disk.old) (D.faults disk.new) }
     ensures unfailed { OnOk result (NoFault (D.faults disk.old) (D.faults disk.new)) }
 {
@@ -101,6 +107,13 @@ pub fn sweep<D: Disk>(
 
     // At every moment of the call, whatever fails, each image of a settled disk is safe for the same lists.
     ensures any_moment { (lists : Lists) → IsSettledFor lists (D.history disk.old) → EachImage (λ _ image. Safe image lists) (D.history disk.old) (D.history disk.new) }
+
+    // At every moment, whatever fails, each image has of the storage files and instances what a crash could leave of them at
+    // the beginning: of a sealed file all of it, of another as far as the end of each region.
+    ensures mail_stays { MailIsKept checked.map.meaning (D.history disk.old) (D.history disk.new) }
+
+    // A disk on which nothing is to be swept is left as it is, whatever fails.
+    ensures idle { All IsWholeLog (checked.root_log ∷ checked.map_log ∷ found_logs checked.boxes) → IdleIf (HasNothingToSweep checked.generation checked.map.meaning) (D.history disk.old) (D.history disk.new) }
 
     // Whatever is answered, where no change failed a settled disk is settled for the same lists again, and of any disk what the
     // store reads is carried over.

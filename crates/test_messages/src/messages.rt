@@ -10,7 +10,7 @@ pub const FORM: LineForm = LineForm {
     crlf: true,
 };
 
-/// What stands behind the first line of each message, up to its parts.
+/// What stands after the first line of each message, up to its parts.
 const HEADER: &[u8] =
     b"MIME-Version: 1.0\r\nContent-Type: multipart/mixed; boundary=\"b1\"\r\n\r\n";
 
@@ -31,7 +31,7 @@ pub fn with_attachment(alloc: Global, from: &[u8], text: &[u8]) -> Result<Octets
 }
 
 /// 180,000 octets, of which the octet at i is i modulo 251.
-pub fn pdf_octets(alloc: Global) -> Result<Vec<u8>, NoMemory> {
+fn pdf_octets(alloc: Global) -> Result<Vec<u8>, NoMemory> {
     let mut octets = Vec::new(alloc);
     for i in 0..180_000u32 {
         octets.push((i % 251) as u8)?;
@@ -43,12 +43,6 @@ pub fn pdf_octets(alloc: Global) -> Result<Vec<u8>, NoMemory> {
 pub fn pdf_text(alloc: Global) -> Result<Octets, NoMemory> {
     let octets = pdf_octets(alloc)?;
     write_lines(alloc, FORM, octets.as_slice())
-}
-
-/// The message of 246,549 octets with this attachment, from this sender.
-pub fn pdf_message(alloc: Global, from: &[u8]) -> Result<Octets, NoMemory> {
-    let text = pdf_text(alloc)?;
-    with_attachment(alloc, from, text.as_slice())
 }
 
 /// The same characters, but the second line and the last one have 72.
@@ -92,37 +86,5 @@ pub fn with_parts(alloc: Global, parts: &[&[u8]]) -> Result<Octets, NoMemory> {
         message.push_all(b"\r\n")?;
     }
     message.push_all(b"--b1--\r\n")?;
-    Ok(message)
-}
-
-/// The message of this part, and of so many others of one letter behind it.
-pub fn with_small_parts(alloc: Global, first: &[u8], others: u32) -> Result<Octets, NoMemory> {
-    let mut message = Octets::empty(alloc);
-    message.push_all(b"From: a@example.org\r\n")?;
-    message.push_all(HEADER)?;
-    message.push_all(PART)?;
-    message.push_all(first)?;
-    for _ in 0..others {
-        message.push_all(b"\r\n")?;
-        message.push_all(PART)?;
-        message.push_all(b"b")?;
-    }
-    message.push_all(b"\r\n--b1--\r\n")?;
-    Ok(message)
-}
-
-/// A text of no coding in so many multiparts, one in another. The message is the outermost.
-pub fn nested(alloc: Global, multiparts: u32, text: &[u8]) -> Result<Octets, Fail> {
-    let mut message = Octets::empty(alloc);
-    for level in 0..multiparts {
-        let boundary = format!(in alloc; "b{level}")?;
-        message.push_all(b"Content-Type: multipart/mixed; boundary=\"")?;
-        message.push_all(boundary.as_bytes())?;
-        message.push_all(b"\"\r\n\r\n--")?;
-        message.push_all(boundary.as_bytes())?;
-        message.push_all(b"\r\n")?;
-    }
-    message.push_all(b"Content-Type: application/octet-stream\r\n\r\n")?;
-    message.push_all(text)?;
     Ok(message)
 }

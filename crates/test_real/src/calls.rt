@@ -136,3 +136,59 @@ pub(crate) fn each_call_is_counted(rt: &impl Abort, host: HostRuntime) -> Result
     assert_eq!(rt; disk.moment(), 4);
     Ok(())
 }
+
+/// A disk that asks a few times for the lock of a store that another has fails at each call, and changes nothing. It doesn't
+/// ask again.
+pub(crate) fn a_held_store_is_left_alone(rt: &impl Abort, host: HostRuntime) -> Result<(), Fail> {
+    let mut first = RealDisk::of(host);
+    first.make(FileName::Root)?;
+    first.write_at(FileName::Root, 0, b"abc")?;
+    first.sync(FileName::Root)?;
+    let mut second = RealDisk::asking(host, 2);
+    let failed = Err(DiskError::Failed);
+    assert_eq!(rt; second.length(FileName::Root), Err(DiskError::Failed));
+    assert_eq!(rt; second.write_at(FileName::Root, 0, b"xyz"), failed);
+    assert_eq!(rt; second.cut(FileName::Root, 1), failed);
+    assert_eq!(rt; second.make(FileName::Root), failed);
+    assert_eq!(rt; second.remove(FileName::Root), failed);
+    assert_eq!(rt; second.sync_names(), failed);
+    let mut into = *b"---";
+    assert_eq!(rt; first.read_at(FileName::Root, 0, &mut into), Ok(3));
+    assert_eq!(rt; into, *b"abc");
+    first.remove(FileName::Root)?;
+    drop(first);
+    assert_eq!(rt; second.length(FileName::Root), Err(DiskError::Failed));
+    Ok(())
+}
+
+/// What a write inside a file, one at its end, and a cut leave is what the same disk tells afterwards, and what a second one
+/// finds in the file.
+pub(crate) fn a_second_disk_reads_the_same(rt: &impl Abort, host: HostRuntime) -> Result<(), Fail> {
+    {
+        let mut disk = RealDisk::of(host);
+        disk.make(FileName::Root)?;
+        disk.write_at(FileName::Root, 0, b"abcdefgh")?;
+        disk.write_at(FileName::Root, 2, b"x")?;
+        reads(rt, &mut disk, b"abxdefgh")?;
+        disk.write_at(FileName::Root, 8, b"i")?;
+        reads(rt, &mut disk, b"abxdefghi")?;
+        disk.cut(FileName::Root, 5)?;
+        reads(rt, &mut disk, b"abxde")?;
+    }
+    let mut disk = RealDisk::of(host);
+    reads(rt, &mut disk, b"abxde")?;
+    disk.remove(FileName::Root)?;
+    Ok(())
+}
+
+/// The root log has these octets and no more.
+fn reads(rt: &impl Abort, disk: &mut RealDisk, octets: &[u8]) -> Result<(), Fail> {
+    let mut into = [0; 16];
+    assert_eq!(rt; disk.length(FileName::Root), Ok(octets.len() as u64));
+    assert_eq!(rt;
+        disk.read_at(FileName::Root, 0, &mut into),
+        Ok(octets.len())
+    );
+    assert!(rt; into.starts_with(octets));
+    Ok(())
+}

@@ -19,6 +19,8 @@ fn real_files(rt: HostRuntime) -> Result<(), Fail> {
     calls::each_call_on_each_kind(&rt, rt)?;
     calls::names_stay_in_order(&rt, rt)?;
     calls::a_second_disk_waits(&rt, rt)?;
+    calls::a_held_store_is_left_alone(&rt, rt)?;
+    calls::a_second_disk_reads_the_same(&rt, rt)?;
     calls::nothing_changes_after_a_failure(&rt, rt)?;
     calls::each_call_is_counted(&rt, rt)?;
     strange::others_are_no_files(&rt, rt)?;

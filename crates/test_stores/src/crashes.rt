@@ -4,7 +4,7 @@ use std::alloc::Global;
 use std::test::Fail;
 
 /// What a crash may leave of the writes since the last syncs.
-pub const CHOICES: [Choice; 4] = [Choice::Old, Choice::New, Choice::Torn(1), Choice::Torn(255)];
+const CHOICES: [Choice; 4] = [Choice::Old, Choice::New, Choice::Torn(1), Choice::Torn(255)];
 
 /// Tries each disk that a crash can leave when this many of its calls had run, or more. The test is told how many, and what
 /// was left of the writes.

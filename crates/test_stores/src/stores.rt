@@ -1,8 +1,5 @@
 // Whole stores as octets.
-use crate::entries::{
-    ADDS_COPY, ADDS_FIRST, ADDS_SECOND, FLAGS_FIRST, MAKES_INBOX, NAMES_MAP_LOG, RAISES_FIRST,
-    STORES_FIRST, STORES_SECOND,
-};
+use crate::entries::NAMES_MAP_LOG;
 use crate::files::put_unsynced;
 use crate::logs::{BOX_HEAD, MAP_HEAD, ROOT_HEAD, log_octets};
 use disk_mem::MemDisk;
@@ -38,22 +35,6 @@ impl StoreFiles {
             inbox: log_octets(alloc, BOX_HEAD, inbox)?,
             mail,
         })
-    }
-
-    /// A store with one message. The records of its map log are at 26 and 46, that of INBOX at 26.
-    pub fn one_message(alloc: Global) -> Result<StoreFiles, NoMemory> {
-        StoreFiles::with(alloc, &[MAKES_INBOX, STORES_FIRST], &[ADDS_FIRST], 105)
-    }
-
-    /// A store with three messages: two that were stored, and a copy of the first. The records of its map log are at 26, 46,
-    /// 89 and 132, those of INBOX at 26, 69, 112 and 123.
-    pub fn three_messages(alloc: Global) -> Result<StoreFiles, NoMemory> {
-        StoreFiles::with(
-            alloc,
-            &[MAKES_INBOX, STORES_FIRST, STORES_SECOND, RAISES_FIRST],
-            &[ADDS_FIRST, ADDS_SECOND, FLAGS_FIRST, ADDS_COPY],
-            199,
-        )
     }
 
     /// Puts the files, by two calls each and not synced.

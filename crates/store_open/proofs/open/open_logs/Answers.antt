@@ -4,11 +4,10 @@ use Rattle.disk_model.specs.Disk.{IsIdle}
 use Rattle.disk_model.proofs.FaultCountLemmas.{no_fault-then}
 use Rattle.disk_model.proofs.IdleLemmas.{idle-then}
 use Rattle.gate_log.specs.State.{LogState}
-use Rattle.model_meaning.specs.MapMeaning.{MapMeaning}
+use Rattle.model_meaning.specs.MapMeaning.{MapMeaning, map_meaning}
 use Rattle.model_meaning.specs.Sound.{IsSoundMap}
 use Rattle.store_files.specs.Found.{IsFoundFiles}
 use Rattle.store_sweep.specs.Swept.{IsSwept}
-use Rattle.store_open.specs.Opened.{Opening}
 use Rattle.store_open.proofs.IdleUnlessLemmas.{stays, has_it, opening}
 use Rattle.store_open.proofs.CheckedLemmas.{names_are, all_stand, opens_at, opens_with, checked_since}
 use Rattle.store_open.proofs.FoundFileLemmas.{has_files, found_on, found_back}
@@ -16,6 +15,10 @@ use Rattle.store_open.proofs.FoundInstanceLemmas.{instances_opened, found_as, on
 use Rattle.store_open.proofs.OpenStoreLemmas.{indexes_are, opened_store, opened_as, id_is, room_is, store_is}
 use Rattle.store_open.proofs.SweptStoreLemmas.{idle_settled, idle_safe, swept_safe, swept_since, carries-idle, carries-swept, shown}
 use Rattle.store_open.proofs.FaultLemmas.{fault_is, none_swept}
+use Rattle.model_kept.proofs.KeptLemmas.{kept_idle, kept_then}
+use Rattle.store_sweep.proofs.IdleSweepLemmas.{idle_if}
+use Rattle.store_open.specs.Opened.{Opening, IsClosedWell}
+use Rattle.store_open.proofs.ClosedStoreLemmas.{mail_of_opened, closed_sweep}
 use Rattle.store_open.proofs.open.open_logs.Goals as goal
 
 -- what the search for files begins with
@@ -229,3 +232,57 @@ returns-in_err-files-clause-idle g c =
 pub returns-clause-room : goal.returns-clause-room
 returns-clause-room g c = room_is c.in_ok-checked.checked c.in_ok-logs.logs c.in_ok-room.room.boxes c.in_ok-room.room.records c.in_ok-logs.ensures.same.1 c.in_ok-logs.ensures.same.2
     (ap (λ r. r.boxes) c.in_ok-room.ensures ∙ c.boxes.ensures) (ap (λ r. r.records) c.in_ok-room.ensures ∙ c.rows.ensures)
+
+pub returns-in_err-checked-clause-mail_stays : goal.returns-in_err-checked-clause-mail_stays
+returns-in_err-checked-clause-mail_stays g c = λ store entries logs opens. kept_idle (map_meaning store entries) _ _ c.in_err-checked.ensures.idle
+
+pub returns-in_err-checked-clause-closed_well : goal.returns-in_err-checked-clause-closed_well
+returns-in_err-checked-clause-closed_well g c = idle_if IsClosedWell _ _ c.in_err-checked.ensures.idle
+
+pub returns-in_err-boxes-clause-mail_stays : goal.returns-in_err-boxes-clause-mail_stays
+returns-in_err-boxes-clause-mail_stays g c = λ store entries logs opens. kept_idle (map_meaning store entries) _ _ c.in_ok-checked.ensures.idle
+
+pub returns-in_err-boxes-clause-closed_well : goal.returns-in_err-boxes-clause-closed_well
+returns-in_err-boxes-clause-closed_well g c = idle_if IsClosedWell _ _ c.in_ok-checked.ensures.idle
+
+pub returns-in_err-room-clause-mail_stays : goal.returns-in_err-room-clause-mail_stays
+returns-in_err-room-clause-mail_stays g c = λ store entries logs opens. kept_idle (map_meaning store entries) _ _ c.in_ok-checked.ensures.idle
+
+pub returns-in_err-room-clause-closed_well : goal.returns-in_err-room-clause-closed_well
+returns-in_err-room-clause-closed_well g c = idle_if IsClosedWell _ _ c.in_ok-checked.ensures.idle
+
+pub returns-in_err-instances-clause-mail_stays : goal.returns-in_err-instances-clause-mail_stays
+returns-in_err-instances-clause-mail_stays g c = λ store entries logs opens. kept_idle (map_meaning store entries) _ _ c.in_ok-checked.ensures.idle
+
+pub returns-in_err-instances-clause-closed_well : goal.returns-in_err-instances-clause-closed_well
+returns-in_err-instances-clause-closed_well g c = idle_if IsClosedWell _ _ c.in_ok-checked.ensures.idle
+
+pub returns-in_err-files-clause-mail_stays : goal.returns-in_err-files-clause-mail_stays
+returns-in_err-files-clause-mail_stays g c = λ store entries logs opens. kept_idle (map_meaning store entries) _ _ (idle-then _ _ _ c.in_ok-checked.ensures.idle c.in_err-files.ensures.idle)
+
+pub returns-in_err-files-clause-closed_well : goal.returns-in_err-files-clause-closed_well
+returns-in_err-files-clause-closed_well g c = idle_if IsClosedWell _ _ (idle-then _ _ _ c.in_ok-checked.ensures.idle c.in_err-files.ensures.idle)
+
+pub returns-in_err-logs-clause-mail_stays : goal.returns-in_err-logs-clause-mail_stays
+returns-in_err-logs-clause-mail_stays g c =
+    let k = c.in_ok-checked.ensures.checked in
+    let idle = idle-then _ _ _ c.in_ok-checked.ensures.idle c.in_ok-files.ensures.idle in
+    mail_of_opened c.in_ok-checked.checked.map.meaning c.in_ok-checked.checked.id.0 k.1 k.2 _ _ k.3.map_is k.3.opens
+    (kept_then c.in_ok-checked.checked.map.meaning _ _ _ (g.met.D.Disk.reads_image c.find_files.new.disk) (kept_idle c.in_ok-checked.checked.map.meaning _ _ idle) c.in_err-logs.ensures.mail_stays)
+
+pub returns-clause-mail_stays : goal.returns-clause-mail_stays
+returns-clause-mail_stays g c =
+    let k = c.in_ok-checked.ensures.checked in
+    let idle = idle-then _ _ _ c.in_ok-checked.ensures.idle c.in_ok-files.ensures.idle in
+    mail_of_opened c.in_ok-checked.checked.map.meaning c.in_ok-checked.checked.id.0 k.1 k.2 _ _ k.3.map_is k.3.opens
+    (kept_then c.in_ok-checked.checked.map.meaning _ _ _ (g.met.D.Disk.reads_image c.find_files.new.disk) (kept_idle c.in_ok-checked.checked.map.meaning _ _ idle) c.in_ok-logs.ensures.mail_stays)
+
+pub returns-in_err-logs-clause-closed_well : goal.returns-in_err-logs-clause-closed_well
+returns-in_err-logs-clause-closed_well g c =
+    let k = c.in_ok-checked.ensures.checked in
+    closed_sweep c.in_ok-checked.checked k.0 k.1 k.2 _ _ _ _ c.in_ok-checked.ensures.idle c.in_ok-files.ensures.idle k.3 c.in_err-logs.ensures.idle
+
+pub returns-clause-closed_well : goal.returns-clause-closed_well
+returns-clause-closed_well g c =
+    let k = c.in_ok-checked.ensures.checked in
+    closed_sweep c.in_ok-checked.checked k.0 k.1 k.2 _ _ _ _ c.in_ok-checked.ensures.idle c.in_ok-files.ensures.idle k.3 c.in_ok-logs.ensures.idle

@@ -18,3 +18,9 @@ returns-in-Err-clause-settled_again g c = λ none lists s. c.in-Err.ensures.sett
 
 pub of-requires-clause-instances : goal.of-requires-clause-instances
 of-requires-clause-instances g c = c.in-Ok.ensures.known c.args.lanes c.requires.lanes.0 c.requires.lanes.1
+
+pub returns-in-Ok-clause-mail_stays : goal.returns-in-Ok-clause-mail_stays
+returns-in-Ok-clause-mail_stays g c = rw c.of.ensures.store c.in-Ok.ensures.mail_stays
+
+pub returns-in-Ok-clause-closed_well : goal.returns-in-Ok-clause-closed_well
+returns-in-Ok-clause-closed_well g c = rw c.of.ensures.store c.in-Ok.ensures.closed_well

@@ -14,6 +14,10 @@ use Rattle.store_sweep.proofs.FittedLemmas.{fitted-begins, fitted-then, fitted-g
 use Rattle.store_sweep.proofs.FaultLemmas.{name_since, none_since, read_ok}
 use Rattle.disk_model.proofs.FaultCountLemmas.{no_fault-then}
 use Rattle.std.proofs.lemmas.Bool.{false≢true}
+use Rattle.disk_model.proofs.IdleLemmas.{idle-begins}
+use Rattle.model_kept.proofs.KeptLemmas.{kept_begins, kept_unchanged}
+use Rattle.store_sweep.proofs.StayLemmas.{walk_stays}
+use Rattle.store_sweep.proofs.IdleSweepLemmas.{idle_if, idle_walk, idle_unchanged}
 use Rattle.store_sweep.proofs.cuts.cut_files.Goals as goal
 
 pub loop-name-init : goal.loop-name-init
@@ -24,6 +28,8 @@ loop-name-init g c = record {
   mail = fitted-begins c.args.map.now.meaning (g.D.Disk.history c.args.disk.now);
   there = there-begins (g.D.Disk.history c.args.disk.now);
   cut = if_told-all _ (g.D.Disk.history c.args.disk.now) (λ disk. passed_logs c.args.map.now.meaning 4294967295 4294967295 disk);
+  mail_stays = kept_begins c.args.map.now.meaning (g.D.Disk.history c.args.disk.now);
+  idle = idle_if _ _ _ (idle-begins (g.D.Disk.history c.args.disk.now));
   in_range = (lit< tt, lit< tt);
   faults = refl;
 }
@@ -54,6 +60,8 @@ loop-name-preserved g c = record {
   cut = walk_more (EndsByLastRegion c.args.map.now.meaning) c.loop-name.last c.in-Some.name _ _ _ c.in_ok-name.ensures.state
       (let F : Option FileName → Type 0 = λ n. IfTold (g.D.Disk.history c.loop-name.disk) (IsNext ghosts.cmp c.loop-name.last n) in subst F c.in-Some.is c.in_ok-name.ensures.next)
       c.loop-name.invariant.cut c.in_ok-fit_file.ensures.others c.in_ok-fit_file.ensures.cut;
+  mail_stays = walk_stays c.args.map.now.meaning _ _ _ _ c.loop-name.invariant.mail_stays (g.met.D.Disk.reads_image c.next_name.new.self) c.in_ok-name.ensures.state c.in_ok-fit_file.ensures.mail_stays;
+  idle = idle_walk _ _ _ _ _ _ (λ disk ends. ends c.in-Some.name) c.loop-name.invariant.idle c.in_ok-name.ensures.state c.in_ok-fit_file.ensures.idle;
   in_range = c.known_range.ensures;
   faults = no_fault-then _ _ _ c.loop-name.invariant.faults (no_fault-then _ _ _ (read_ok c.in_ok-name.field-0 _ _ c.in_ok-name.ensures.cause) c.in_ok-fit_file.ensures.unfailed);
 }
@@ -109,3 +117,27 @@ returns-in-Inst-clause-cut g c =
     mails_end c.args.map.now.meaning c.loop-name.last c.in-Some.name _ _ _ _ c.in_ok-name.ensures.state
     (let F : Option FileName → Type 0 = λ n. IfTold (g.D.Disk.history c.loop-name.disk) (IsNext ghosts.cmp c.loop-name.last n) in subst F c.in-Some.is c.in_ok-name.ensures.next)
     c.in-Inst.is c.loop-name.invariant.cut
+
+pub returns-in_err-name-clause-mail_stays : goal.returns-in_err-name-clause-mail_stays
+returns-in_err-name-clause-mail_stays g c = kept_unchanged c.args.map.now.meaning _ _ _ c.loop-name.invariant.mail_stays c.in_err-name.ensures.state
+
+pub returns-in_err-fit_file-clause-mail_stays : goal.returns-in_err-fit_file-clause-mail_stays
+returns-in_err-fit_file-clause-mail_stays g c = walk_stays c.args.map.now.meaning _ _ _ _ c.loop-name.invariant.mail_stays (g.met.D.Disk.reads_image c.next_name.new.self) c.in_ok-name.ensures.state c.in_err-fit_file.ensures.mail_stays
+
+pub returns-clause-mail_stays : goal.returns-clause-mail_stays
+returns-clause-mail_stays g c = kept_unchanged c.args.map.now.meaning _ _ _ c.loop-name.invariant.mail_stays c.in_ok-name.ensures.state
+
+pub returns-in-Inst-clause-mail_stays : goal.returns-in-Inst-clause-mail_stays
+returns-in-Inst-clause-mail_stays g c = kept_unchanged c.args.map.now.meaning _ _ _ c.loop-name.invariant.mail_stays c.in_ok-name.ensures.state
+
+pub returns-in_err-name-clause-idle : goal.returns-in_err-name-clause-idle
+returns-in_err-name-clause-idle g c = idle_unchanged _ _ _ _ c.loop-name.invariant.idle c.in_err-name.ensures.state
+
+pub returns-in_err-fit_file-clause-idle : goal.returns-in_err-fit_file-clause-idle
+returns-in_err-fit_file-clause-idle g c = idle_walk _ _ _ _ _ _ (λ disk ends. ends c.in-Some.name) c.loop-name.invariant.idle c.in_ok-name.ensures.state c.in_err-fit_file.ensures.idle
+
+pub returns-clause-idle : goal.returns-clause-idle
+returns-clause-idle g c = idle_unchanged _ _ _ _ c.loop-name.invariant.idle c.in_ok-name.ensures.state
+
+pub returns-in-Inst-clause-idle : goal.returns-in-Inst-clause-idle
+returns-in-Inst-clause-idle g c = idle_unchanged _ _ _ _ c.loop-name.invariant.idle c.in_ok-name.ensures.state

@@ -1,4 +1,4 @@
-use Rattle.std.proofs.Common.{ℕ, sym, subst}
+use Rattle.std.proofs.Common.{ℕ, sym, subst, ◌∙◌}
 use Rattle.disk_model.proofs.OneFileLemmas.{same-begins}
 use Rattle.disk_model.proofs.MomentLemmas.{if_told-all}
 use Rattle.disk_model.specs.Name.{is_log}
@@ -6,6 +6,9 @@ use Rattle.store_sweep.specs.Wanted.{EndBy}
 use Rattle.store_sweep.proofs.CutLemmas.{end_by, fits_anyway}
 use Rattle.store_sweep.proofs.SweepStepLemmas.{images_now, keeps_now, where_now}
 use Rattle.store_sweep.proofs.FittedLemmas.{fitted-begins, there-begins}
+use Rattle.disk_model.proofs.IdleLemmas.{idle-begins}
+use Rattle.model_kept.proofs.KeptLemmas.{kept_begins}
+use Rattle.store_sweep.proofs.IdleSweepLemmas.{idle_if, idle_weaker, fits_mail}
 use Rattle.store_sweep.proofs.cuts.fit_file.Goals as goal
 
 pub returns-in_default-clause-images : goal.returns-in_default-clause-images
@@ -50,3 +53,27 @@ returns-then-is_sealed-clause-mail g c = fitted-begins c.args.map.now.meaning (g
 pub returns-in_err-cut_behind-clause-keeps : goal.returns-in_err-cut_behind-clause-keeps
 returns-in_err-cut_behind-clause-keeps g c = λ none generation.
     c.in_err-cut_behind.ensures.keeps (λ err. none c.from_residual.ensures.0) generation c.args.map.now.meaning (let F : ℕ → Type 0 = λ end. EndBy c.args.map.now.meaning c.in-Mail.number end in subst F (sym c.end_of.ensures) (end_by c.args.map.now.meaning c.in-Mail.number))
+
+pub returns-in_default-clause-mail_stays : goal.returns-in_default-clause-mail_stays
+returns-in_default-clause-mail_stays g c = kept_begins c.args.map.now.meaning (g.D.Disk.history c.args.disk.now)
+
+pub returns-then-is_sealed-clause-mail_stays : goal.returns-then-is_sealed-clause-mail_stays
+returns-then-is_sealed-clause-mail_stays g c = kept_begins c.args.map.now.meaning (g.D.Disk.history c.args.disk.now)
+
+pub returns-in_err-cut_behind-clause-mail_stays : goal.returns-in_err-cut_behind-clause-mail_stays
+returns-in_err-cut_behind-clause-mail_stays g c = c.in_err-cut_behind.ensures.mail_stays c.args.map.now.meaning (sym c.is_sealed.ensures ∙ c.if-is_sealed.false) (let F : ℕ → Type 0 = λ end. EndBy c.args.map.now.meaning c.in-Mail.number end in subst F (sym c.end_of.ensures) (end_by c.args.map.now.meaning c.in-Mail.number))
+
+pub returns-clause-mail_stays : goal.returns-clause-mail_stays
+returns-clause-mail_stays g c = c.in_ok-cut_behind.ensures.mail_stays c.args.map.now.meaning (sym c.is_sealed.ensures ∙ c.if-is_sealed.false) (let F : ℕ → Type 0 = λ end. EndBy c.args.map.now.meaning c.in-Mail.number end in subst F (sym c.end_of.ensures) (end_by c.args.map.now.meaning c.in-Mail.number))
+
+pub returns-in_default-clause-idle : goal.returns-in_default-clause-idle
+returns-in_default-clause-idle g c = idle_if _ _ _ (idle-begins (g.D.Disk.history c.args.disk.now))
+
+pub returns-then-is_sealed-clause-idle : goal.returns-then-is_sealed-clause-idle
+returns-then-is_sealed-clause-idle g c = idle_if _ _ _ (idle-begins (g.D.Disk.history c.args.disk.now))
+
+pub returns-in_err-cut_behind-clause-idle : goal.returns-in_err-cut_behind-clause-idle
+returns-in_err-cut_behind-clause-idle g c = idle_weaker _ _ _ _ (λ disk ends. fits_mail c.args.map.now.meaning c.args.name c.in-Mail.number _ c.in-Mail.is (sym c.is_sealed.ensures ∙ c.if-is_sealed.false) c.end_of.ensures disk ends) c.in_err-cut_behind.ensures.idle
+
+pub returns-clause-idle : goal.returns-clause-idle
+returns-clause-idle g c = idle_weaker _ _ _ _ (λ disk ends. fits_mail c.args.map.now.meaning c.args.name c.in-Mail.number _ c.in-Mail.is (sym c.is_sealed.ensures ∙ c.if-is_sealed.false) c.end_of.ensures disk ends) c.in_ok-cut_behind.ensures.idle

@@ -1,5 +1,6 @@
 use Rattle.store_sweep.proofs.CutLemmas.{cut_fails, sync_fails, shortened_images, shortened_keeps, sync_there, shortened_there, shortened_others, shortened_length}
 use Rattle.store_sweep.proofs.FittedLemmas.{fitted-shortened}
+use Rattle.store_sweep.proofs.StayLemmas.{cut_fails_stays, sync_fails_stays, shortened_stays}
 use Rattle.store_sweep.proofs.cuts.shorten.Goals as goal
 
 pub sync-requires : goal.sync-requires
@@ -28,3 +29,12 @@ returns-clause-cut g c = shortened_length c.args.number c.args.end (g.D.Disk.his
 
 pub returns-clause-mail : goal.returns-clause-mail
 returns-clause-mail g c = λ m unsealed is. fitted-shortened m c.args.number c.args.end _ _ _ unsealed is c.in_ok-cut.ensures.state c.in_ok-sync.ensures.state
+
+pub returns-in_err-cut-clause-mail_stays : goal.returns-in_err-cut-clause-mail_stays
+returns-in_err-cut-clause-mail_stays g c = λ m unsealed ends. cut_fails_stays m c.args.number c.args.end _ _ unsealed ends c.requires (g.met.D.Disk.reads_image c.args.disk.now) c.in_err-cut.ensures.failed
+
+pub returns-in_err-sync-clause-mail_stays : goal.returns-in_err-sync-clause-mail_stays
+returns-in_err-sync-clause-mail_stays g c = λ m unsealed ends. sync_fails_stays m c.args.number c.args.end _ _ _ unsealed ends c.requires (g.met.D.Disk.reads_image c.args.disk.now) c.in_ok-cut.ensures.state c.in_err-sync.ensures.failed
+
+pub returns-clause-mail_stays : goal.returns-clause-mail_stays
+returns-clause-mail_stays g c = λ m unsealed ends. shortened_stays m c.args.number c.args.end _ _ _ unsealed ends c.requires (g.met.D.Disk.reads_image c.args.disk.now) (g.met.D.Disk.reads_image c.cut.new.self) c.in_ok-cut.ensures.state c.in_ok-sync.ensures.state

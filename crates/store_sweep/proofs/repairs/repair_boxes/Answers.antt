@@ -18,6 +18,8 @@ use Rattle.disk_model.proofs.FaultCountLemmas.{no_fault-then, change_fault-none}
 use Rattle.store_sweep.proofs.FaultLemmas.{change_since}
 use Rattle.store_sweep.proofs.FittedLemmas.{there-begins, there-then}
 use Rattle.store_sweep.proofs.RepairLemmas.{repaired_there}
+use Rattle.model_kept.proofs.KeptLemmas.{kept_begins}
+use Rattle.store_sweep.proofs.StayLemmas.{box_stays, whole_log}
 use Rattle.store_sweep.proofs.repairs.repair_boxes.Goals as goal
 
 pub loop-checked-init : goal.loop-checked-init
@@ -31,6 +33,8 @@ loop-checked-init g c = record {
   numbers = ap (map (λ (b : OpenBox). b.number.0)) c.requires.empty.0;
   indexes = ap (map (λ (b : OpenBox). b.index)) c.requires.empty.0;
   items = ap length c.requires.empty.0;
+  mail_stays = kept_begins c.args.map.now.meaning (g.D.Disk.history c.args.disk.now);
+  untouched = λ whole. refl;
   len = c.requires.empty.1;
   capacity = omega arith;
   there = there-begins (g.D.Disk.history c.args.disk.now);
@@ -77,6 +81,8 @@ loop-checked-preserved g c =
           ∙ ap (λ (k : ℕ). map (λ (b : MapBox). b.number) (take k c.args.map.now.meaning.boxes)) (sym (length-append c.loop-checked.yielded (c.in-Some.checked ∷ [])));
       indexes = indexes_more c.loop-checked.yielded c.in-Some.checked c.loop-checked.opened.items _ _ c.push_box.ensures.items refl c.loop-checked.invariant.indexes;
       items = let l = ap length c.push_box.ensures.items in let i = c.loop-checked.invariant.items in omega (arith, l, i, length-append {A = OpenBox}, length-append {A = CheckedBox});
+      mail_stays = box_stays c.args.map.now.meaning (found_logs c.loop-checked.yielded) c.in-Some.checked.log _ _ _ next c.loop-checked.invariant.mail_stays (g.met.D.Disk.reads_image c.loop-checked.disk) c.in_ok-log.ensures.others_stay;
+      untouched = λ all. (c.in_ok-log.ensures.untouched (whole_log (found_logs c.loop-checked.yielded) c.in-Some.checked.log _ (found_logs c.args.found.items) logs all)).1 ∙ c.loop-checked.invariant.untouched all;
       len = one_longer c.loop-checked.yielded c.in-Some.checked _ _ c.push_box.ensures.len c.loop-checked.invariant.len;
       capacity = omega (arith, c.loop-checked.invariant.capacity, c.push_box.ensures.capacity);
       there = there-then _ _ _ c.loop-checked.invariant.there (repaired_there c.in-Some.checked.log c.in_ok-log.log stands.0 _ _ stands.1 c.in_ok-log.ensures.others r);
@@ -121,3 +127,22 @@ returns-clause-indexes g c =
       numbers = c.loop-checked.invariant.numbers ∙ fold_over (map (λ (b : MapBox). b.number)) c.args.map.now.meaning.boxes (length c.loop-checked.yielded) (omega (arith, l));
       indexes = c.loop-checked.invariant.indexes ∙ ap (map (λ (b : CheckedBox). b.index)) e;
     }
+
+pub returns-in_err-log-clause-mail_stays : goal.returns-in_err-log-clause-mail_stays
+returns-in_err-log-clause-mail_stays g c =
+    let whole = whole_next c.loop-checked.yielded c.in-Some.checked _ _ c.args.found.items c.in-Some.ensures.steps.0 c.loop-checked.invariant.whole in
+    let logs = logs_whole c.loop-checked.yielded c.in-Some.checked _ c.args.found.items whole in
+    let next : Next c.args.map.now.meaning (found_logs c.loop-checked.yielded) c.in-Some.checked.log = next_log c.args.map.now.meaning (found_logs c.args.found.items) (found_logs c.loop-checked.yielded) c.in-Some.checked.log _ c.known_facts.ensures.boxes.rising c.requires.logs logs in
+    box_stays c.args.map.now.meaning (found_logs c.loop-checked.yielded) c.in-Some.checked.log _ _ _ next c.loop-checked.invariant.mail_stays (g.met.D.Disk.reads_image c.loop-checked.disk) c.in_err-log.ensures.others_stay
+
+pub returns-clause-mail_stays : goal.returns-clause-mail_stays
+returns-clause-mail_stays g c = c.loop-checked.invariant.mail_stays
+
+pub returns-in_err-log-clause-untouched : goal.returns-in_err-log-clause-untouched
+returns-in_err-log-clause-untouched g c =
+    let whole = whole_next c.loop-checked.yielded c.in-Some.checked _ _ c.args.found.items c.in-Some.ensures.steps.0 c.loop-checked.invariant.whole in
+    let logs = logs_whole c.loop-checked.yielded c.in-Some.checked _ c.args.found.items whole in
+    λ all. (c.in_err-log.ensures.untouched (whole_log (found_logs c.loop-checked.yielded) c.in-Some.checked.log _ (found_logs c.args.found.items) logs all)).1 ∙ c.loop-checked.invariant.untouched all
+
+pub returns-clause-untouched : goal.returns-clause-untouched
+returns-clause-untouched g c = c.loop-checked.invariant.untouched

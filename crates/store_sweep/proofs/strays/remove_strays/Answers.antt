@@ -12,6 +12,11 @@ use Rattle.std.proofs.lemmas.Bool.{or_parts}
 use Rattle.disk_model.proofs.IdleLemmas.{same_state-begins, same_state-then, same_state-unchanged}
 use Rattle.disk_model.proofs.FaultCountLemmas.{no_fault-then}
 use Rattle.store_sweep.proofs.FaultLemmas.{name_since, read_ok}
+use Rattle.disk_model.proofs.IdleLemmas.{idle-begins}
+use Rattle.model_kept.proofs.KeptLemmas.{kept_begins, kept_unchanged}
+use Rattle.std.proofs.lemmas.Bool.{false≢true}
+use Rattle.store_sweep.proofs.StayLemmas.{walk_stays}
+use Rattle.store_sweep.proofs.IdleSweepLemmas.{idle_if, idle_same_by, idle_unchanged, stray_walk, stray_so_far}
 use Rattle.store_sweep.proofs.strays.remove_strays.Goals as goal
 
 pub loop-name-init : goal.loop-name-init
@@ -20,6 +25,9 @@ loop-name-init g c = record {
   same = where_now (is_wanted c.args.generation c.args.map.now.meaning) (g.D.Disk.history c.args.disk.now);
   gone = if_told-all _ (g.D.Disk.history c.args.disk.now) (λ disk. passed_none (λ (name : FileName) (f : FileState). is_wanted c.args.generation c.args.map.now.meaning name ≡ true) disk);
   none = λ e. same_state-begins (g.D.Disk.history c.args.disk.now);
+  mail_stays = kept_begins c.args.map.now.meaning (g.D.Disk.history c.args.disk.now);
+  some = λ e. absurd (false≢true e);
+  idle = idle_if _ _ _ (idle-begins (g.D.Disk.history c.args.disk.now));
   in_range = tt;
   faults = refl;
 }
@@ -50,6 +58,9 @@ loop-name-preserved g c = record {
   none = λ e.
       let parts = or_parts c.loop-name.removed c.in_ok-removed.field-0 e in
       same_state-then _ _ _ (same_state-unchanged _ _ _ (c.loop-name.invariant.none parts.0) c.in_ok-name.ensures.state) (c.in_ok-removed.ensures.none parts.1);
+  mail_stays = walk_stays c.args.map.now.meaning _ _ _ _ c.loop-name.invariant.mail_stays (g.met.D.Disk.reads_image c.next_name.new.self) c.in_ok-name.ensures.state c.in_ok-removed.ensures.mail_stays;
+  some = λ e. stray_so_far c.args.generation c.args.map.now.meaning c.loop-name.last c.in-Some.name c.loop-name.removed c.in_ok-removed.field-0 _ _ c.loop-name.invariant.some c.loop-name.invariant.none (let F : Option FileName → Type 0 = λ n. IfTold (g.D.Disk.history c.loop-name.disk) (IsNext ghosts.cmp c.loop-name.last n) in subst F c.in-Some.is c.in_ok-name.ensures.next) c.in_ok-removed.ensures.some e;
+  idle = stray_walk c.args.generation c.args.map.now.meaning c.loop-name.last c.in-Some.name _ _ _ _ c.loop-name.invariant.idle c.in_ok-name.ensures.state (let F : Option FileName → Type 0 = λ n. IfTold (g.D.Disk.history c.loop-name.disk) (IsNext ghosts.cmp c.loop-name.last n) in subst F c.in-Some.is c.in_ok-name.ensures.next) (λ wanted. idle_same_by (g.D.Disk.history) _ _ (c.in_ok-removed.ensures.untouched wanted));
   in_range = c.known_range.ensures;
   faults = no_fault-then _ _ _ c.loop-name.invariant.faults (no_fault-then _ _ _ (read_ok c.in_ok-name.field-0 _ _ c.in_ok-name.ensures.cause) c.in_ok-removed.ensures.unfailed);
 }
@@ -77,3 +88,24 @@ returns-in_err-name-clause-keeps g c = λ none.
 pub returns-clause-keeps : goal.returns-clause-keeps
 returns-clause-keeps g c = λ none.
     keeps_where c.args.generation c.args.map.now.meaning _ _ (where_then (is_wanted c.args.generation c.args.map.now.meaning) _ _ _ c.loop-name.invariant.same (where_unchanged (is_wanted c.args.generation c.args.map.now.meaning) _ _ c.in_ok-name.ensures.state))
+
+pub returns-in_err-name-clause-mail_stays : goal.returns-in_err-name-clause-mail_stays
+returns-in_err-name-clause-mail_stays g c = kept_unchanged c.args.map.now.meaning _ _ _ c.loop-name.invariant.mail_stays c.in_err-name.ensures.state
+
+pub returns-in_err-removed-clause-mail_stays : goal.returns-in_err-removed-clause-mail_stays
+returns-in_err-removed-clause-mail_stays g c = walk_stays c.args.map.now.meaning _ _ _ _ c.loop-name.invariant.mail_stays (g.met.D.Disk.reads_image c.next_name.new.self) c.in_ok-name.ensures.state c.in_err-removed.ensures.mail_stays
+
+pub returns-clause-mail_stays : goal.returns-clause-mail_stays
+returns-clause-mail_stays g c = kept_unchanged c.args.map.now.meaning _ _ _ c.loop-name.invariant.mail_stays c.in_ok-name.ensures.state
+
+pub returns-clause-some : goal.returns-clause-some
+returns-clause-some g c = c.loop-name.invariant.some
+
+pub returns-in_err-name-clause-idle : goal.returns-in_err-name-clause-idle
+returns-in_err-name-clause-idle g c = idle_unchanged _ _ _ _ c.loop-name.invariant.idle c.in_err-name.ensures.state
+
+pub returns-in_err-removed-clause-idle : goal.returns-in_err-removed-clause-idle
+returns-in_err-removed-clause-idle g c = stray_walk c.args.generation c.args.map.now.meaning c.loop-name.last c.in-Some.name _ _ _ _ c.loop-name.invariant.idle c.in_ok-name.ensures.state (let F : Option FileName → Type 0 = λ n. IfTold (g.D.Disk.history c.loop-name.disk) (IsNext ghosts.cmp c.loop-name.last n) in subst F c.in-Some.is c.in_ok-name.ensures.next) (λ wanted. idle_same_by (g.D.Disk.history) _ _ (c.in_err-removed.ensures.untouched wanted))
+
+pub returns-clause-idle : goal.returns-clause-idle
+returns-clause-idle g c = idle_unchanged _ _ _ _ c.loop-name.invariant.idle c.in_ok-name.ensures.state

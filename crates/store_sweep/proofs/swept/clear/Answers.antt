@@ -6,6 +6,8 @@ use Rattle.store_sweep.proofs.SweepStepLemmas.{images_fails_still}
 use Rattle.store_sweep.proofs.FittedLemmas.{fitted-then, fitted-where, fitted-named, there-then, there-back, there-named, kept-then, kept-where, kept-there, names-unneeded, names-named}
 use Rattle.store_sweep.proofs.FaultLemmas.{none_since}
 use Rattle.std.proofs.lemmas.Bool.{false≢true}
+use Rattle.model_kept.proofs.KeptLemmas.{kept_then, kept_fails_still, kept_named}
+use Rattle.store_sweep.proofs.IdleSweepLemmas.{idle_parts, idle_weaker, no_stray}
 use Rattle.store_sweep.proofs.swept.clear.Goals as goal
 
 pub returns-in_err-cut_files-clause-images : goal.returns-in_err-cut_files-clause-images
@@ -85,3 +87,33 @@ pub returns-in_err-cut_files-clause-keeps : goal.returns-in_err-cut_files-clause
 returns-in_err-cut_files-clause-keeps g c = λ none.
     cut_keeps c.args.generation c.args.map.now.meaning _ _ _ c.in_ok-removed.ensures.same
     (c.in_err-cut_files.ensures.keeps (none_since (g.D.Disk.faults c.args.disk.now) (g.D.Disk.faults c.remove_strays.new.disk) (g.D.Disk.faults c.cut_files.new.disk) c.in_ok-removed.ensures.unfailed c.from_residual-in_err-cut_files.ensures.0 none) c.args.generation)
+
+pub returns-in_err-removed-clause-mail_stays : goal.returns-in_err-removed-clause-mail_stays
+returns-in_err-removed-clause-mail_stays g c = c.in_err-removed.ensures.mail_stays
+
+pub returns-in_err-cut_files-clause-mail_stays : goal.returns-in_err-cut_files-clause-mail_stays
+returns-in_err-cut_files-clause-mail_stays g c = kept_then c.args.map.now.meaning _ _ _ (g.met.D.Disk.reads_image c.remove_strays.new.disk) c.in_ok-removed.ensures.mail_stays c.in_err-cut_files.ensures.mail_stays
+
+pub returns-then-not-removed-clause-mail_stays : goal.returns-then-not-removed-clause-mail_stays
+returns-then-not-removed-clause-mail_stays g c = kept_then c.args.map.now.meaning _ _ _ (g.met.D.Disk.reads_image c.remove_strays.new.disk) c.in_ok-removed.ensures.mail_stays c.in_ok-cut_files.ensures.mail_stays
+
+pub returns-in_err-sync_names-clause-mail_stays : goal.returns-in_err-sync_names-clause-mail_stays
+returns-in_err-sync_names-clause-mail_stays g c = kept_fails_still c.args.map.now.meaning _ _ _ (kept_then c.args.map.now.meaning _ _ _ (g.met.D.Disk.reads_image c.remove_strays.new.disk) c.in_ok-removed.ensures.mail_stays c.in_ok-cut_files.ensures.mail_stays) c.in_err-sync_names.ensures.failed
+
+pub returns-clause-mail_stays : goal.returns-clause-mail_stays
+returns-clause-mail_stays g c = kept_then c.args.map.now.meaning _ _ _ (g.met.D.Disk.reads_image c.cut_files.new.disk) (kept_then c.args.map.now.meaning _ _ _ (g.met.D.Disk.reads_image c.remove_strays.new.disk) c.in_ok-removed.ensures.mail_stays c.in_ok-cut_files.ensures.mail_stays) (kept_named c.args.map.now.meaning _ _ c.in_ok-sync_names.ensures.state)
+
+pub returns-in_err-removed-clause-idle : goal.returns-in_err-removed-clause-idle
+returns-in_err-removed-clause-idle g c = idle_weaker _ _ _ _ (λ disk nothing. nothing.only) c.in_err-removed.ensures.idle
+
+pub returns-in_err-cut_files-clause-idle : goal.returns-in_err-cut_files-clause-idle
+returns-in_err-cut_files-clause-idle g c = idle_parts _ _ _ _ _ (λ disk nothing. nothing.ends) (idle_weaker _ _ _ _ (λ disk nothing. nothing.only) c.in_ok-removed.ensures.idle) c.in_err-cut_files.ensures.idle
+
+pub returns-then-not-removed-clause-idle : goal.returns-then-not-removed-clause-idle
+returns-then-not-removed-clause-idle g c = idle_parts _ _ _ _ _ (λ disk nothing. nothing.ends) (idle_weaker _ _ _ _ (λ disk nothing. nothing.only) c.in_ok-removed.ensures.idle) c.in_ok-cut_files.ensures.idle
+
+pub returns-in_err-sync_names-clause-idle : goal.returns-in_err-sync_names-clause-idle
+returns-in_err-sync_names-clause-idle g c = no_stray c.args.generation c.args.map.now.meaning _ _ _ (λ disk nothing. nothing.only) (c.in_ok-removed.ensures.some c.if-not-removed.false)
+
+pub returns-clause-idle : goal.returns-clause-idle
+returns-clause-idle g c = no_stray c.args.generation c.args.map.now.meaning _ _ _ (λ disk nothing. nothing.only) (c.in_ok-removed.ensures.some c.if-not-removed.false)

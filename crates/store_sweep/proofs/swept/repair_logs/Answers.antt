@@ -4,6 +4,12 @@ use Rattle.store_sweep.proofs.LogsInForceLemmas.{found_of, log_images, log_keeps
 use Rattle.store_sweep.proofs.FittedLemmas.{there-then}
 use Rattle.store_sweep.proofs.RepairLemmas.{repaired_there}
 use Rattle.store_sweep.specs.Boxes.{found_logs, opened_logs}
+use Rattle.std.proofs.Common.{◌∷◌, refl, ◌∙◌}
+use Rattle.std.proofs.lemmas.List.Elements.{All-head, All-tail}
+use Rattle.disk_model.specs.declared.name.FileName.TheVariants as file
+use Rattle.gate_log.specs.State.{IsWholeLog}
+use Rattle.model_kept.proofs.KeptLemmas.{kept_then}
+use Rattle.store_sweep.proofs.StayLemmas.{repair_stays}
 use Rattle.store_sweep.proofs.swept.repair_logs.Goals as goal
 
 pub repair-requires : goal.repair-requires
@@ -103,3 +109,27 @@ returns-clause-there g c =
     there-then _ _ _
     (there-then _ _ _ (repaired_there c.args.root_log _ root.0 _ _ root.1 c.in_ok-root_log.ensures.others r) (repaired_there c.args.map_log _ map.0 _ _ map.1 c.in_ok-map_log.ensures.others s))
     c.in_ok-repair_boxes.ensures.there
+
+pub returns-in_err-root_log-clause-mail_stays : goal.returns-in_err-root_log-clause-mail_stays
+returns-in_err-root_log-clause-mail_stays g c = repair_stays c.args.map.now.meaning c.args.root_log file.Root _ _ c.requires.root.0 refl c.in_err-root_log.ensures.others_stay
+
+pub returns-in_err-map_log-clause-mail_stays : goal.returns-in_err-map_log-clause-mail_stays
+returns-in_err-map_log-clause-mail_stays g c = kept_then c.args.map.now.meaning _ _ _ (g.met.D.Disk.reads_image c.repair.new.disk) (repair_stays c.args.map.now.meaning c.args.root_log file.Root _ _ c.requires.root.0 refl c.in_ok-root_log.ensures.others_stay) (repair_stays c.args.map.now.meaning c.args.map_log (file.Map c.requires.map_log.0.0) _ _ c.requires.map_log.0.1 refl c.in_err-map_log.ensures.others_stay)
+
+pub returns-in_err-repair_boxes-clause-mail_stays : goal.returns-in_err-repair_boxes-clause-mail_stays
+returns-in_err-repair_boxes-clause-mail_stays g c = kept_then c.args.map.now.meaning _ _ _ (g.met.D.Disk.reads_image c.repair-2.new.disk) (kept_then c.args.map.now.meaning _ _ _ (g.met.D.Disk.reads_image c.repair.new.disk) (repair_stays c.args.map.now.meaning c.args.root_log file.Root _ _ c.requires.root.0 refl c.in_ok-root_log.ensures.others_stay) (repair_stays c.args.map.now.meaning c.args.map_log (file.Map c.requires.map_log.0.0) _ _ c.requires.map_log.0.1 refl c.in_ok-map_log.ensures.others_stay)) c.in_err-repair_boxes.ensures.mail_stays
+
+pub returns-clause-mail_stays : goal.returns-clause-mail_stays
+returns-clause-mail_stays g c = kept_then c.args.map.now.meaning _ _ _ (g.met.D.Disk.reads_image c.repair-2.new.disk) (kept_then c.args.map.now.meaning _ _ _ (g.met.D.Disk.reads_image c.repair.new.disk) (repair_stays c.args.map.now.meaning c.args.root_log file.Root _ _ c.requires.root.0 refl c.in_ok-root_log.ensures.others_stay) (repair_stays c.args.map.now.meaning c.args.map_log (file.Map c.requires.map_log.0.0) _ _ c.requires.map_log.0.1 refl c.in_ok-map_log.ensures.others_stay)) c.in_ok-repair_boxes.ensures.mail_stays
+
+pub returns-in_err-root_log-clause-untouched : goal.returns-in_err-root_log-clause-untouched
+returns-in_err-root_log-clause-untouched g c = λ all. (c.in_err-root_log.ensures.untouched (All-head IsWholeLog c.args.root_log (c.args.map_log ∷ found_logs c.args.boxes.items) all)).1
+
+pub returns-in_err-map_log-clause-untouched : goal.returns-in_err-map_log-clause-untouched
+returns-in_err-map_log-clause-untouched g c = λ all. (c.in_err-map_log.ensures.untouched (All-head IsWholeLog c.args.map_log (found_logs c.args.boxes.items) (All-tail IsWholeLog c.args.root_log (c.args.map_log ∷ found_logs c.args.boxes.items) all))).1 ∙ (c.in_ok-root_log.ensures.untouched (All-head IsWholeLog c.args.root_log (c.args.map_log ∷ found_logs c.args.boxes.items) all)).1
+
+pub returns-in_err-repair_boxes-clause-untouched : goal.returns-in_err-repair_boxes-clause-untouched
+returns-in_err-repair_boxes-clause-untouched g c = λ all. c.in_err-repair_boxes.ensures.untouched (All-tail IsWholeLog c.args.map_log (found_logs c.args.boxes.items) (All-tail IsWholeLog c.args.root_log (c.args.map_log ∷ found_logs c.args.boxes.items) all)) ∙ ((c.in_ok-map_log.ensures.untouched (All-head IsWholeLog c.args.map_log (found_logs c.args.boxes.items) (All-tail IsWholeLog c.args.root_log (c.args.map_log ∷ found_logs c.args.boxes.items) all))).1 ∙ (c.in_ok-root_log.ensures.untouched (All-head IsWholeLog c.args.root_log (c.args.map_log ∷ found_logs c.args.boxes.items) all)).1)
+
+pub returns-clause-untouched : goal.returns-clause-untouched
+returns-clause-untouched g c = λ all. c.in_ok-repair_boxes.ensures.untouched (All-tail IsWholeLog c.args.map_log (found_logs c.args.boxes.items) (All-tail IsWholeLog c.args.root_log (c.args.map_log ∷ found_logs c.args.boxes.items) all)) ∙ ((c.in_ok-map_log.ensures.untouched (All-head IsWholeLog c.args.map_log (found_logs c.args.boxes.items) (All-tail IsWholeLog c.args.root_log (c.args.map_log ∷ found_logs c.args.boxes.items) all))).1 ∙ (c.in_ok-root_log.ensures.untouched (All-head IsWholeLog c.args.root_log (c.args.map_log ∷ found_logs c.args.boxes.items) all)).1)

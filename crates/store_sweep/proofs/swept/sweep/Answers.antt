@@ -11,6 +11,11 @@ use Rattle.store_sweep.specs.Boxes.{found_logs}
 use Rattle.store_sweep.proofs.FaultLemmas.{none_since}
 use Rattle.store_sweep.proofs.swept.sweep.Given.{Over}
 use Rattle.store_sweep.proofs.swept.sweep.Goals.{In_ok-root_log}
+use Rattle.std.proofs.Common.{List, All, sym, subst}
+use Rattle.gate_log.specs.State.{IsWholeLog}
+use Rattle.model_kept.proofs.KeptLemmas.{kept_then}
+use Rattle.store_checks.specs.declared.mailbox.CheckedBox.{CheckedBox}
+use Rattle.store_sweep.proofs.IdleSweepLemmas.{idle_if, idle_parts, idle_same_by}
 use Rattle.store_sweep.proofs.swept.sweep.Goals as goal
 
 pub returns-in_err-root_log-clause-any_moment : goal.returns-in_err-root_log-clause-any_moment
@@ -86,3 +91,21 @@ returns-clause-swept g c =
           (strays_stay c.args.checked.generation c.args.checked.map.meaning c.args.checked.root_log c.args.checked.map_log (found_logs c.args.checked.boxes) _ _ c.requires.root.0 c.requires.map_log.0 c.requires.box_logs (rw c.into_vec-boxes.ensures at c.in_ok-root_log.ensures.others))
           c.in_ok-clear.ensures.names;
     }
+
+pub returns-in_err-root_log-clause-mail_stays : goal.returns-in_err-root_log-clause-mail_stays
+returns-in_err-root_log-clause-mail_stays g c = c.in_err-root_log.ensures.mail_stays
+
+pub returns-in_err-clear-clause-mail_stays : goal.returns-in_err-clear-clause-mail_stays
+returns-in_err-clear-clause-mail_stays g c = kept_then c.args.checked.map.meaning _ _ _ (g.met.D.Disk.reads_image c.repair_logs.new.disk) c.in_ok-root_log.ensures.mail_stays c.in_err-clear.ensures.mail_stays
+
+pub returns-clause-mail_stays : goal.returns-clause-mail_stays
+returns-clause-mail_stays g c = kept_then c.args.checked.map.meaning _ _ _ (g.met.D.Disk.reads_image c.repair_logs.new.disk) c.in_ok-root_log.ensures.mail_stays c.in_ok-clear.ensures.mail_stays
+
+pub returns-in_err-root_log-clause-idle : goal.returns-in_err-root_log-clause-idle
+returns-in_err-root_log-clause-idle g c = λ all. idle_if _ _ _ (idle_same_by g.D.Disk.history _ _ (c.in_err-root_log.ensures.untouched (subst (λ (boxes : List CheckedBox). All IsWholeLog (c.args.checked.root_log ∷ c.args.checked.map_log ∷ found_logs boxes)) (sym c.into_vec-boxes.ensures) all)))
+
+pub returns-in_err-clear-clause-idle : goal.returns-in_err-clear-clause-idle
+returns-in_err-clear-clause-idle g c = λ all. idle_parts _ _ _ _ _ (λ disk nothing. nothing) (idle_if _ _ _ (idle_same_by g.D.Disk.history _ _ (c.in_ok-root_log.ensures.untouched (subst (λ (boxes : List CheckedBox). All IsWholeLog (c.args.checked.root_log ∷ c.args.checked.map_log ∷ found_logs boxes)) (sym c.into_vec-boxes.ensures) all)))) c.in_err-clear.ensures.idle
+
+pub returns-clause-idle : goal.returns-clause-idle
+returns-clause-idle g c = λ all. idle_parts _ _ _ _ _ (λ disk nothing. nothing) (idle_if _ _ _ (idle_same_by g.D.Disk.history _ _ (c.in_ok-root_log.ensures.untouched (subst (λ (boxes : List CheckedBox). All IsWholeLog (c.args.checked.root_log ∷ c.args.checked.map_log ∷ found_logs boxes)) (sym c.into_vec-boxes.ensures) all)))) c.in_ok-clear.ensures.idle

@@ -1,0 +1,52 @@
+// One run of the program.
+use crate::streams::Streams;
+use disk_mem::{Choice, MemDisk};
+use disk_model::Disk;
+use mdbox_base::{NoMemory, Octets};
+use mdbox_top::{Status, mdbox_run};
+use std::alloc::Global;
+
+/// The words of a run, and its input.
+#[derive(Clone, Copy)]
+pub struct Run<'x> {
+    pub words: &'x [String],
+    pub input: &'x [u8],
+}
+
+/// Runs the program once, and answers the disk after it, and its status. It promises nothing, so that no caller's proof sees what
+/// the program promises.
+pub fn perform<D: Disk>(
+    alloc: Global,
+    disk: D,
+    words: &[String],
+    streams: &mut Streams,
+) -> (D, u8) {
+    let (Status(status), disk) = mdbox_run(
+        alloc,
+        words,
+        disk,
+        &mut streams.input,
+        &mut streams.output,
+        &mut streams.errors,
+        &mut streams.clock,
+    );
+    (disk, status)
+}
+
+/// A copy of a disk, at rest, with all that was written to it.
+pub fn copy_of(alloc: Global, disk: &MemDisk) -> Result<MemDisk, NoMemory> {
+    disk.image(alloc, disk.calls(), Choice::New)
+}
+
+/// What runs with these words print, one after another.
+pub fn watched(alloc: Global, disk: MemDisk, watches: &[Vec<String>]) -> Result<Octets, NoMemory> {
+    let mut disk = disk;
+    let mut text = Octets::empty(alloc);
+    for words in watches {
+        let mut streams = Streams::sound(alloc, b"")?;
+        let (left, _) = perform(alloc, disk, words.as_slice(), &mut streams);
+        disk = left;
+        text.push_all(streams.printed())?;
+    }
+    Ok(text)
+}

@@ -1,0 +1,58 @@
+// What lines have said for the runs to come.
+use crate::streams::Fails;
+use std::alloc::Global;
+
+/// What lines have said for the runs of a case.
+#[derive(Drop)]
+pub struct Setting {
+    /// The words of the runs that are looked at after a crash.
+    pub watches: Vec<Vec<String>>,
+    /// What these may print beside what they print before the run and after it.
+    pub between: Vec<u8>,
+    /// The calls that fail in the next run.
+    pub fails: Fails,
+    /// The call of the disk that fails in the next run, 0 for none.
+    pub disk_fails: u64,
+    /// Whether the output takes one octet a call in the next run.
+    pub narrow: bool,
+    /// Whether the files are those of the folder.
+    pub real: bool,
+}
+
+impl Setting {
+    /// Nothing is said.
+    pub fn none(alloc: Global) -> Setting {
+        Setting {
+            watches: Vec::new(alloc),
+            between: Vec::new(alloc),
+            fails: Fails::NONE,
+            disk_fails: 0,
+            narrow: false,
+            real: false,
+        }
+    }
+
+    /// Says which call of the next run fails. False if it isn't written so.
+    pub fn fail(&mut self, text: &str) -> bool {
+        let (word, number) = text.split_once(' ').unwrap_or((text, ""));
+        let Ok(number) = number.parse::<u64>() else {
+            return false;
+        };
+        match word {
+            "disk" => self.disk_fails = number,
+            "input" => self.fails.input = number,
+            "output" => self.fails.output = number,
+            "errors" => self.fails.errors = number,
+            "clock" => self.fails.clock = number,
+            _ => return false,
+        }
+        true
+    }
+
+    /// Forgets what was said for one run.
+    pub fn end_run(&mut self) {
+        self.fails = Fails::NONE;
+        self.disk_fails = 0;
+        self.narrow = false;
+    }
+}

@@ -1,0 +1,60 @@
+// A run of the program that ends with an exit.
+ghost use Rattle.std.specs.Prelude.{◌≡◌, ◌≤◌, ◌↔◌, map, string_bytes, IfOk, IsErr};
+ghost use Rattle.std.specs.Process.{exit_status};
+ghost use Rattle.mdbox_top.specs.Run.{Ends, RunOutcome};
+ghost use Rattle.piece_writer.specs.Pieces.{WritesOrFaults};
+ghost use Rattle.request_text.specs.Commands.{Says, SayNothing};
+ghost use Rattle.request_text.specs.Outcomes.{status_of, error_text};
+ghost use Rattle.request_text.specs.declared.command.Command.{Command};
+ghost use Rattle.request_text.specs.declared.outcome.Outcome.TheVariants as outcome;
+
+use disk_model::Disk;
+use mdbox_base::{Clock, NoMemory, Sink, Source};
+use mdbox_top::{Status, mdbox_run};
+use request_text::{Outcome, report};
+use std::alloc::Global;
+use std::process::ExitCode;
+
+/// Runs the words, or tells that there was no memory for them, and ends with that status.
+pub fn run<D: Disk, I: Source, O: Sink, E: Sink, C: Clock>(
+    alloc: Global,
+    words: Result<Vec<String>, NoMemory>,
+    disk: D,
+    input: &mut I,
+    output: &mut O,
+    errors: &mut E,
+    clock: &mut C,
+) -> (ExitCode, D)
+    // The status is that of the run.
+    ensures run { IfOk words (λ given. (command : Command) → Says (map string_bytes given.items) command
+        → RunOutcome (Ends command (I.left input.old) (C.time clock.old) (O.held output.old) (O.held output.new) (D.history disk) (D.history result.1) (D.faults disk) (D.faults result.1)) (exit_status result.0) (E.held errors.old) (E.faults errors.old) (E.held errors.new) (E.faults errors.new)) }
+    ensures usage { IfOk words (λ given. (exit_status result.0 ≡ 2) ↔ SayNothing (map string_bytes given.items)) }
+    ensures known { exit_status result.0 ≤ 8 }
+
+    // Without memory for the words that is told, and nothing else happens.
+    ensures memory { IsErr words → (exit_status result.0 ≡ 5) × WritesOrFaults (E.held errors.old) (E.faults errors.old) (error_text outcome.NoMemory) (E.held errors.new) (E.faults errors.new) }
+    ensures untouched { IsErr words → (input.new ≡ input.old) × (output.new ≡ output.old) × (clock.new ≡ clock.old) × (result.1 ≡ disk) }
+{
+    match words {
+        Ok(words) => {
+            let (status, disk) = mdbox_run(
+                alloc,
+                words.as_slice(),
+                disk,
+                input,
+                output,
+                errors,
+                clock,
+            );
+            (exit_of(status), disk)
+        }
+        Err(NoMemory) => (exit_of(report(alloc, errors, Outcome::NoMemory)), disk),
+    }
+}
+
+/// The exit of this status.
+pub fn exit_of(status: Status) -> ExitCode
+    ensures { exit_status result ≡ status.0 }
+{
+    ExitCode::from(status.0)
+}

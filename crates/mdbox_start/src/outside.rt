@@ -1,0 +1,32 @@
+// The program over what the system gives.
+ghost use Rattle.std.specs.Prelude.{◌≤◌};
+ghost use Rattle.std.specs.Process.{exit_status};
+
+use crate::exits::run;
+use crate::words::words_of;
+use disk_real::{RealDisk, StdClock, StdSink, StdSource};
+use std::env;
+use std::process::ExitCode;
+
+/// Runs the words after the program's name on standard input, output and errors, the system's clock and the files of the
+/// current folder, and ends with the status of that run.
+pub fn start(rt: HostRuntime) -> ExitCode
+    ensures { exit_status result ≤ 8 }
+{
+    let words = words_of(rt.alloc(), env::args(&rt));
+    let disk = RealDisk::of(rt);
+    let mut input = StdSource::of(rt.stdin());
+    let mut output = StdSink::of(rt.stdout());
+    let mut errors = StdSink::of(rt.stderr());
+    let mut clock = StdClock::of(rt);
+    let (exit, _) = run(
+        rt.alloc(),
+        words,
+        disk,
+        &mut input,
+        &mut output,
+        &mut errors,
+        &mut clock,
+    );
+    exit
+}

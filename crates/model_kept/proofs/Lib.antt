@@ -1,0 +1,2 @@
+pub mod CutFileLemmas
+pub mod KeptLemmas

@@ -1,0 +1,144 @@
+// The steps of the list machine, one after another.
+use crate::line_text::{push_digits, push_line};
+use mdbox_base::{
+    BoxNo, Guid, ListRow, Name, NoMemory, Octets, Refusal, Reply, Uid, flags_of, name_of,
+};
+use plain_lists::{PlainLists, PlainMailbox, PlainMessage};
+use std::alloc::Global;
+
+const GUID: Guid = Guid(*b"\x00\x11\x22\x33\x44\x55\x66\x77\0\0\0\x01\0\0\0\x10");
+
+/// Lists of an INBOX with one message of these octets, UID 1, no flags, received at 1,694,498,816.
+pub fn with_message(alloc: Global, octets: &[u8]) -> Result<Option<PlainLists>, NoMemory> {
+    let (Some(flags), Some(name)) = (flags_of(0), name_of(alloc, b"INBOX")?) else {
+        return Ok(None);
+    };
+    let message = PlainMessage {
+        uid: Uid(1),
+        flags,
+        time: 1_694_498_816,
+        guid: GUID,
+        octets: Octets::of(Vec::from_slice(alloc, octets)?),
+    };
+    let inbox = PlainMailbox {
+        number: BoxNo(1),
+        name,
+        next_uid: 2,
+        messages: vec![in alloc; message]?,
+    };
+    Ok(Some(PlainLists::of(vec![in alloc; inbox]?)))
+}
+
+/// Does a step, and tells its reply. False if it isn't written as it is to be.
+pub fn step(
+    alloc: Global,
+    lists: &mut PlainLists,
+    out: &mut String,
+    line: &str,
+) -> Result<bool, NoMemory> {
+    let (word, line) = line.split_once(' ').unwrap_or((line, ""));
+    let (name, line) = line.split_once(' ').unwrap_or((line, ""));
+    let Some(name) = name_of(alloc, name.as_bytes())? else {
+        return Ok(false);
+    };
+    let reply = match word {
+        "make" => Some(lists.make(alloc, name)?),
+        "list" => Some(lists.list(alloc, &name)?),
+        _ => of_message(alloc, lists, word, &name, line)?,
+    };
+    match reply {
+        Some(reply) => {
+            push_reply(alloc, out, &reply)?;
+            Ok(true)
+        }
+        None => Ok(false),
+    }
+}
+
+/// A step that names a message. None if it isn't written as it is to be.
+fn of_message(
+    alloc: Global,
+    lists: &mut PlainLists,
+    word: &str,
+    name: &Name,
+    line: &str,
+) -> Result<Option<Reply>, NoMemory> {
+    let (uid, line) = line.split_once(' ').unwrap_or((line, ""));
+    let Ok(uid) = uid.parse::<u32>() else {
+        return Ok(None);
+    };
+    match word {
+        "expunge" => Ok(Some(lists.expunge(name, Uid(uid)))),
+        "flag" => match line.parse::<u8>().ok().and_then(flags_of) {
+            Some(flags) => Ok(Some(lists.flag(name, Uid(uid), flags))),
+            None => Ok(None),
+        },
+        _ => to_target(alloc, lists, word, name, Uid(uid), line),
+    }
+}
+
+/// A step that names a target too.
+fn to_target(
+    alloc: Global,
+    lists: &mut PlainLists,
+    word: &str,
+    name: &Name,
+    uid: Uid,
+    line: &str,
+) -> Result<Option<Reply>, NoMemory> {
+    let (target, copied) = line.split_once(' ').unwrap_or((line, ""));
+    let Some(target) = name_of(alloc, target.as_bytes())? else {
+        return Ok(None);
+    };
+    match word {
+        "copy" => Ok(Some(lists.copy(alloc, name, uid, &target)?)),
+        "moved" => match copied.parse::<u32>() {
+            Ok(copied) => Ok(Some(lists.second_half(name, uid, &target, Uid(copied)))),
+            Err(_) => Ok(None),
+        },
+        _ => Ok(None),
+    }
+}
+
+fn push_reply(alloc: Global, out: &mut String, reply: &Reply) -> Result<(), NoMemory> {
+    match reply {
+        Reply::Done => push_line(out, "OK"),
+        Reply::Copied { uid } => {
+            let uid = uid.0;
+            let text = format!(in alloc; "OK {uid}")?;
+            push_line(out, text.as_str())
+        }
+        Reply::Moved { uid, gone } => {
+            let (uid, gone) = (uid.0, if *gone { " GONE" } else { "" });
+            let text = format!(in alloc; "OK {uid}{gone}")?;
+            push_line(out, text.as_str())
+        }
+        Reply::Listed(rows) => {
+            for row in rows.as_slice() {
+                push_row(alloc, out, row)?;
+            }
+            let count = rows.length();
+            let text = format!(in alloc; "{count} messages")?;
+            push_line(out, text.as_str())
+        }
+        Reply::Refused(refusal) => push_line(out, name_of_refusal(*refusal)),
+        _ => push_line(out, "another reply"),
+    }
+}
+
+fn push_row(alloc: Global, out: &mut String, row: &ListRow) -> Result<(), NoMemory> {
+    let (uid, flags) = (row.uid.0, row.flags.bits());
+    let (size, time) = (row.size, row.time);
+    let mut text = format!(in alloc; "{uid} {flags} {size} {time} ")?;
+    push_digits(&mut text, &row.guid.0)?;
+    push_line(out, text.as_str())
+}
+
+fn name_of_refusal(refusal: Refusal) -> &'static str {
+    match refusal {
+        Refusal::NoMailbox => "NO no mailbox",
+        Refusal::Exists => "NO exists",
+        Refusal::NoMessage => "NO no message",
+        _ => "NO another refusal",
+    }
+}
