@@ -119,9 +119,7 @@ impl Page {
         let Some(octets) = self.texts.octets(line)? else {
             return Ok(false);
         };
-        for _ in 0..count {
-            self.texts.add(name, octets.as_slice())?;
-        }
+        self.texts.add(name, octets.as_slice(), count)?;
         Ok(true)
     }
 
@@ -130,9 +128,10 @@ impl Page {
         let Some(octets) = self.texts.octets(line)? else {
             return Ok(false);
         };
-        self.texts.add(name, b"\x01")?;
-        self.texts.add(name, &(octets.len() as u64).to_be_bytes()[4..])?;
-        self.texts.add(name, octets.as_slice())?;
+        let mut entry = Vec::from_slice(self.alloc, b"\x01")?;
+        entry.extend_from_slice(&(octets.len() as u64).to_be_bytes()[4..])?;
+        entry.extend_from_slice(octets.as_slice())?;
+        self.texts.add(name, entry.as_slice(), 1)?;
         Ok(true)
     }
 

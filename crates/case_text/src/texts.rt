@@ -61,15 +61,22 @@ impl Texts {
         Ok(())
     }
 
-    /// Adds octets to those with this name, of which there may be none.
-    pub fn add(&mut self, name: &str, octets: &[u8]) -> Result<(), NoMemory> {
+    /// Adds octets so many times to those with this name, of which there may be none.
+    pub fn add(&mut self, name: &str, octets: &[u8], count: u64) -> Result<(), NoMemory> {
         for text in self.texts.iter_mut() {
             if text.name.as_str() == name {
-                text.octets.extend_from_slice(octets)?;
-                return Ok(());
+                return push_times(&mut text.octets, octets, count);
             }
         }
-        let octets = Vec::from_slice(self.alloc, octets)?;
-        self.set(name, octets)
+        let mut whole = Vec::new(self.alloc);
+        push_times(&mut whole, octets, count)?;
+        self.set(name, whole)
     }
+}
+
+fn push_times(whole: &mut Vec<u8>, octets: &[u8], count: u64) -> Result<(), NoMemory> {
+    for _ in 0..count {
+        whole.extend_from_slice(octets)?;
+    }
+    Ok(())
 }

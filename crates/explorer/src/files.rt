@@ -41,11 +41,7 @@ pub fn octets_of<D: Disk>(
 }
 
 /// Adds a line with the path of each file.
-pub fn push_paths<D: Disk>(
-    alloc: Global,
-    disk: &mut D,
-    out: &mut String,
-) -> Result<(), Trouble> {
+pub fn push_paths<D: Disk>(alloc: Global, disk: &mut D, out: &mut String) -> Result<(), Trouble> {
     let mut last = None;
     for _ in 0..MOST {
         let Some(name) = disk.next_name(last)? else {

@@ -4,8 +4,7 @@ use disk_model::DiskError;
 use mdbox_base::NoMemory;
 use std::alloc::{AllocError, AllocFailed};
 use std::error::Error;
-use std::fmt;
-use std::io;
+use std::{fmt, io};
 
 /// Why the cases can't go on.
 #[derive(Clone, Copy, Debug, PartialEq, Eq)]

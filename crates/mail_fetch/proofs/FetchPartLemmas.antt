@@ -5,7 +5,7 @@ use Rattle.std.specs.List.{list_any}
 use Rattle.std.specs.Option.{option_or}
 use Rattle.std.proofs.lemmas.Bool.{eqb-true}
 use Rattle.std.proofs.lemmas.Grind.{common_steps}
-use Rattle.std.proofs.lemmas.List.Elements.{All-cons, All-nil, All-head, All-tail, All-append}
+use Rattle.std.proofs.lemmas.List.Elements.{All-cons, All-nil, All-head, All-tail, All-append, All-weaker}
 use Rattle.std.proofs.lemmas.List.Sums.{sum_by-cons}
 use Rattle.mdbox_base.specs.declared.ids.Uid.{Uid}
 use Rattle.mdbox_base.specs.declared.replies.Refusal.{Refusal}
@@ -231,14 +231,34 @@ holds_pin from given place run (inr (why, front, last, given_is, may, h, read, r
       (All-append (λ (x : RunEvent). x.pins ≡ []) front (last ∷ []) (none_pinned None front read) (All-cons (λ (x : RunEvent). x.pins ≡ []) last [] refused.pinned (All-nil (λ (x : RunEvent). x.pins ≡ []))));
 }
 
--- a file that nobody doomed isn't removed
-pub none_doomed : (request : ℕ) (run : Run) → ((file : ℕ) → is_doomed run file ≡ false) → leaves_doomed request run ≡ false
-none_doomed request run none = each_event (own_events request run)
+-- its own events pin no other file
+pub own_files : (from : StoredAt) (given : Reply) (place : ℕ) (run : Run) → UnpinsNext from given (own_events place run) → All (λ e. All (λ p. p.file ≡ from.file.0) e.pins) (own_events place run)
+own_files from given place run h = elim h [
+  | inl (fetched, (behind, p, read, many)) ↦ pins_of_file from (own_events place run) behind p (none_pinned None behind read)
+  | inr (why, front, last, given_is, may, p, read, refused) ↦ pins_of_file from (own_events place run) (front ++ last ∷ []) p
+      (All-append (λ (x : RunEvent). x.pins ≡ []) front (last ∷ []) (none_pinned None front read) (All-cons (λ (x : RunEvent). x.pins ≡ []) last [] refused.pinned (All-nil (λ (x : RunEvent). x.pins ≡ []))))
+]
   where
-    each_pin : (ps : List Pin) → list_any (λ p. is_doomed run p.file && not (is_pinned run p.file)) ps ≡ false
-    each_pin [] = refl
-    each_pin (p ∷ ps) = ap (λ (b : Bool). (b && not (is_pinned run p.file)) || list_any (λ (x : Pin). is_doomed run x.file && not (is_pinned run x.file)) ps) (none p.file) ∙ each_pin ps
+    pins_of_file : (from : StoredAt) (own behind : List RunEvent) → HasPinned from own behind → All (λ e. e.pins ≡ []) behind → All (λ e. All (λ p. p.file ≡ from.file.0) e.pins) own
+    pins_of_file from own behind p none =
+        let Q : Pin → Type 0 = λ x. x.file ≡ from.file.0 in
+        let P : RunEvent → Type 0 = λ e. All Q e.pins in
+        subst (All P) (sym p.own_are)
+        (All-cons P p.pin behind (subst (All Q) (sym p.pins) (All-cons Q (record { file = from.file.0; pieces = pieces_left (parts_to_read from); instances = from.instances }) [] refl (All-nil Q)))
+        (All-weaker (λ (e : RunEvent). e.pins ≡ []) P (λ e n. subst (All Q) (sym n) (All-nil Q)) behind none))
 
-    each_event : (es : List RunEvent) → list_any (λ e. list_any (λ p. is_doomed run p.file && not (is_pinned run p.file)) e.pins) es ≡ false
-    each_event [] = refl
-    each_event (e ∷ es) = ap (λ (b : Bool). b || list_any (λ (x : RunEvent). list_any (λ (p : Pin). is_doomed run p.file && not (is_pinned run p.file)) x.pins) es) (each_pin e.pins) ∙ each_event es
+-- a file that isn't doomed isn't removed
+pub none_doomed : (request file : ℕ) (run : Run) → All (λ e. All (λ p. p.file ≡ file) e.pins) (own_events request run) → is_doomed run file ≡ false → leaves_doomed request run ≡ false
+none_doomed request file run own none = each_event (own_events request run) own
+  where
+    each_pin : (ps : List Pin) → All (λ p. p.file ≡ file) ps → list_any (λ p. is_doomed run p.file && not (is_pinned run p.file)) ps ≡ false
+    each_pin [] all = refl
+    each_pin (p ∷ ps) all =
+        ap (λ (b : Bool). (b && not (is_pinned run p.file)) || list_any (λ (x : Pin). is_doomed run x.file && not (is_pinned run x.file)) ps) (ap (is_doomed run) (All-head (λ (x : Pin). x.file ≡ file) p ps all) ∙ none)
+        ∙ each_pin ps (All-tail (λ (x : Pin). x.file ≡ file) p ps all)
+
+    each_event : (es : List RunEvent) → All (λ e. All (λ p. p.file ≡ file) e.pins) es → list_any (λ e. list_any (λ p. is_doomed run p.file && not (is_pinned run p.file)) e.pins) es ≡ false
+    each_event [] all = refl
+    each_event (e ∷ es) all =
+        ap (λ (b : Bool). b || list_any (λ (x : RunEvent). list_any (λ (p : Pin). is_doomed run p.file && not (is_pinned run p.file)) x.pins) es) (each_pin e.pins (All-head (λ (x : RunEvent). All (λ p. p.file ≡ file) x.pins) e es all))
+        ∙ each_event es (All-tail (λ (x : RunEvent). All (λ p. p.file ≡ file) x.pins) e es all)

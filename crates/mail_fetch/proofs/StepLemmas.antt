@@ -37,6 +37,7 @@ use Rattle.list_machine.specs.Machine.{PartAnswers, is_step}
 use Rattle.journal.specs.Journal.{refusal_in, IsReplyOf}
 use Rattle.journal.specs.Events.{Around, MayMeet, behind_event, piece_left, leaves_doomed, last_refusal, pieces_to_read}
 use Rattle.journal.proofs.OwnEventLemmas.{own_more, own_other}
+use Rattle.storage_files.specs.Files.{is_doomed_in}
 use Rattle.store_core.specs.Running.{IsStore}
 use Rattle.store_core.specs.Value.{StoreValue, indexes_of, list_named}
 use Rattle.task_steps.specs.Step.{Seen, ShowsSeen, HasComeTo, IsKept, ended_by}
@@ -54,7 +55,7 @@ use Rattle.mail_fetch.specs.declared.task.FetchStage.TheVariants as stage
 use Rattle.mail_fetch.proofs.InstanceLemmas.{named_each, pieces_told}
 use Rattle.mail_fetch.proofs.OwnPinLemmas.{pins_begin, pins_end}
 use Rattle.mail_fetch.proofs.PartLemmas.{pieces_after}
-use Rattle.mail_fetch.proofs.FetchPartLemmas.{last_with, next_reads, next_unpins, unpins_by, holds_pin, none_doomed}
+use Rattle.mail_fetch.proofs.FetchPartLemmas.{last_with, next_reads, next_unpins, unpins_by, holds_pin, own_files, none_doomed}
 use Rattle.mail_fetch.proofs.FetchEventLemmas.{behind_reading, DidSo, stands_so, did_refuse, did_nothing, pin_event, did_pin, fetch_event, IsLateRefusal, piece_is_late, unpin_is_late, did_late}
 use Rattle.mail_fetch.proofs.RecordLemmas.{shown_by, no_mailbox, no_message, is_fetched, by_guid, stored_by}
 use Rattle.mail_fetch.proofs.StoredRegionLemmas.{front_more, true_reply}
@@ -436,15 +437,17 @@ not_stopped : (octets : List ℕ) (given : Reply) → IsTrueReply octets given �
 not_stopped octets given (inl is) e = let k : reply.Fetched octets ≡ reply.Refused refusal.Stopped = sym is ∙ (let w : given ≡ reply.Refused refusal.Stopped = cc e in w) in cc k
 not_stopped octets given (inr is) e = let k : reply.Refused refusal.ReadFault ≡ reply.Refused refusal.Stopped = sym is ∙ (let w : given ≡ reply.Refused refusal.Stopped = cc e in w) in let w : refusal.ReadFault ≡ refusal.Stopped = cc k in cc w
 
-pub unpin_steps : {D : Type 0} → (around after : Around) (others : ℕ → ℕ) (name : List ℕ) (uid : Uid) (from : StoredAt) (given : Reply) (store : StoreValue D) (history : Option History) (faults : Faults) → store.stopped ≡ false
+pub unpin_steps : {D : Type 0} → (around after : Around) (others : ℕ → ℕ) (name : List ℕ) (uid : Uid) (from : StoredAt) (given : Reply) (store : StoreValue D) (history : Option History) (faults : Faults) → store.stopped ≡ false → is_doomed_in from.file.0 store.files.files ≡ false
     → StepsOnSafe (IsAtFetch (stage.Unpinning from given) (seen_with_pins others (stage.Unpinning from given) store history faults)) (IsAtFetch stage.First (seen_with_pins others stage.First store history faults)) around after (request.Fetch name uid)
     (seen_with_pins others (stage.Unpinning from given) store history faults) (seen_with_pins others stage.First store history faults) did.Quiet (Some given)
-unpin_steps around after others name uid from given store history faults runs = λ run lane place said lists come shows safe stood.
+unpin_steps around after others name uid from given store history faults runs undoomed = λ run lane place said lists come shows safe stood.
     let seen = seen_with_pins others (stage.Unpinning from given) store history faults in
     let event = fetch_event Unpins lane place None (Some given) (told_calls history) in
-    let pin = holds_pin from given place run stood.0 in (
+    let pin = holds_pin from given place run stood.0 in
+    let own_still : All (λ e. All (λ p. p.file ≡ from.file.0) e.pins) (own_events place (and_then run event)) =
+    subst (All (λ e. All (λ p. p.file ≡ from.file.0) e.pins)) (sym (own_more place run event (eq-eqb place place refl))) (All-push (λ (e : RunEvent). All (λ (p : Pin). p.file ≡ from.file.0) e.pins) (own_events place run) event (own_files from given place run stood.0) (All-nil (λ (p : Pin). p.file ≡ from.file.0))) in (
       (did_late around after run lane place said name uid lists seen history faults (λ file. others file + 0) Unpins None (Some given) (unpin_is_late name uid) come shows (idle-begins history) (record { reads = omega arith; changes = refl }) (next_unpins around name uid run place from given stood.0) tt tt
-          (record { 0 = λ h. ends_here (leaves_doomed place (and_then run event)) (none_doomed place (and_then run event) (λ file. doomed_still run event file refl refl ∙ (come.keeps runs).doomed file)); 1 = λ e f. some_given given f })
+          (record { 0 = λ h. ends_here (leaves_doomed place (and_then run event)) (none_doomed place from.file.0 (and_then run event) own_still (doomed_still run event from.file.0 refl refl ∙ ((come.keeps runs).doomed from.file.0 ∙ undoomed))); 1 = λ e f. some_given given f })
           (last_with (own_events place run) event ∙ (none_or (last_refusal (own_events place run)) ∙ unpins_by from given (own_events place run) stood.0))
           (λ r e. subst (λ (x : Reply). IsReplyOf (request.Fetch name uid) said x) (let k : given ≡ r = cc e in k) (true_reply_of name uid stood.1.0 given said stood.1.1 stood.1.2))
           (record { 0 = λ e. absurd (not_stopped stood.1.0 given stood.1.2 e); 1 = λ e. absurd (fall store.stopped e runs) }) (λ e. absurd (fall store.stopped e runs)) (λ e. absurd (let k : None ≡ Some refusal.ReadFault = e in cc k))

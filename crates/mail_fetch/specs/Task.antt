@@ -1,5 +1,5 @@
 -- What a caller sees of a fetch, and of the store that it works on.
-use Rattle.std.specs.Prelude.{◌+◌, ◌<◌, ◌==◌, ℕ, false, List, All, Option, sum_by, if◌then◌else◌}
+use Rattle.std.specs.Prelude.{◌≡◌, ◌+◌, ◌<◌, ◌==◌, ℕ, false, List, All, Option, sum_by, if◌then◌else◌}
 use Rattle.disk_model.specs.Disk.{History, Faults}
 use Rattle.mdbox_base.specs.declared.ids.Uid.{Uid}
 use Rattle.mdbox_base.specs.declared.progress.Did.{Did}
@@ -12,6 +12,7 @@ use Rattle.mdbox_base.specs.declared.script.Half.TheVariants as half
 use Rattle.model_meaning.specs.MapMeaning.{MapMeaning}
 use Rattle.list_machine.specs.Machine.{is_step}
 use Rattle.journal.specs.Events.{pieces_to_read}
+use Rattle.storage_files.specs.Files.{is_doomed_in}
 use Rattle.store_core.specs.Value.{StoreValue}
 use Rattle.store_seen.specs.Seeing.{seen_of}
 use Rattle.task_steps.specs.Step.{Seen}
@@ -55,6 +56,11 @@ abbrev pub KnowsPinned : {D : Type 0} → FetchStage → StoreValue D → Type 0
 KnowsPinned (stage.Reading region) store = All (λ part. KnowsSource store.instances.known part.source) region.left
 KnowsPinned other store = Unit {0}
 
+-- No purge has doomed the file that the task unpins next. Else it would be this task's to remove the file, if no other pins it.
+abbrev pub UnpinsUndoomed : {D : Type 0} → FetchStage → StoreValue D → Type 0
+UnpinsUndoomed (stage.Unpinning from given) store = is_doomed_in from.file.0 store.files.files ≡ false
+UnpinsUndoomed other store = Unit {0}
+
 -- how many pins of a file are the task's own
 abbrev pub one_pin : ℕ → ℕ → ℕ
 one_pin pinned file = if pinned == file then 1 else 0
@@ -67,4 +73,4 @@ pins_at (stage.Unpinning from given) file = one_pin from.file.0 file
 -- A store as an event of a fetch sees it, with what its disk tells and the faults that it has counted: so many pins of each
 -- file are other tasks', and those of this stage are its own.
 abbrev pub seen_with_pins : {D : Type 0} → (ℕ → ℕ) → FetchStage → StoreValue D → Option History → Faults → Seen
-seen_with_pins others now store history faults = record (seen_of store history faults) { pins = λ file. others file + pins_at now file }
+seen_with_pins others now store history faults = seen_of (λ file. others file + pins_at now file) store history faults

@@ -13,7 +13,7 @@ ghost use Rattle.mail_fetch.specs.Failed.{HasFailedRead};
 ghost use Rattle.mail_fetch.specs.Events.{FetchesNext, IsBegun, IsPieceRead, NoChangeFault};
 ghost use Rattle.mail_fetch.specs.Parts.{KnowsSource};
 ghost use Rattle.mail_fetch.specs.Stages.{IsAtFetch};
-ghost use Rattle.mail_fetch.specs.Task.{HasPieceLeft, KnowsPinned, events_left, fetch_did, seen_with_pins};
+ghost use Rattle.mail_fetch.specs.Task.{HasPieceLeft, KnowsPinned, UnpinsUndoomed, events_left, fetch_did, seen_with_pins};
 ghost use Rattle.mail_fetch.specs.declared.task.FetchStage.TheVariants as stage;
 
 use crate::first::pin;
@@ -81,8 +81,8 @@ impl FetchTask {
     pub fn step<D: Disk>(&mut self, store: &mut Store<D>) -> Progress
         requires known { KnowsPinned self.old.stage store.old }
         // Of every run that has come to the store, and of lists for which its files are safe: which event it was, what it
-        // answered, and what a crash may leave. Other tasks have any pins.
-        ensures does { (around after : Around) (others : ℕ → ℕ) → StepsOnSafe (IsAtFetch self.old.stage (seen_with_pins others self.old.stage store.old (D.history store.old.disk) (D.faults store.old.disk))) (IsAtFetch self.new.stage (seen_with_pins others self.new.stage store.new (D.history store.new.disk) (D.faults store.new.disk))) around after (request.Fetch self.old.name self.old.uid) (seen_with_pins others self.old.stage store.old (D.history store.old.disk) (D.faults store.old.disk)) (seen_with_pins others self.new.stage store.new (D.history store.new.disk) (D.faults store.new.disk)) self.new.did (ended_by result) }
+        // answered, and what a crash may leave. Other tasks have any pins. No purge has doomed the file that is unpinned.
+        ensures does { (around after : Around) (others : ℕ → ℕ) → UnpinsUndoomed self.old.stage store.old → StepsOnSafe (IsAtFetch self.old.stage (seen_with_pins others self.old.stage store.old (D.history store.old.disk) (D.faults store.old.disk))) (IsAtFetch self.new.stage (seen_with_pins others self.new.stage store.new (D.history store.new.disk) (D.faults store.new.disk))) around after (request.Fetch self.old.name self.old.uid) (seen_with_pins others self.old.stage store.old (D.history store.old.disk) (D.faults store.old.disk)) (seen_with_pins others self.new.stage store.new (D.history store.new.disk) (D.faults store.new.disk)) self.new.did (ended_by result) }
 
         // What was read, and what is replied, over every disk.
         ensures replies { FetchesNext self.old.name self.old.uid.0 self.old.stage self.new.stage result store.old (D.history store.old.disk) (D.faults store.old.disk) (D.faults store.new.disk) }

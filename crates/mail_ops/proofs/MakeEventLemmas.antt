@@ -1,8 +1,8 @@
 -- The events of a make that name no mailbox, by the clause of a step.
 use Rattle.std.proofs.lemmas.List.Elements.{All-nil}
 use Rattle.std.proofs.Common.{◌≡◌, ◌≤◌, ◌<◌, ◌+◌, ◌&&◌, ℕ, Bool, true, false, List, [], ◌∷◌, ◌++◌, Option, Some, None, refl, sym, ◌∙◌, ap, subst, arith, inr}
-use Rattle.std.specs.Prelude.{◌≢◌, ◌↔◌, nat_le, nat_lt, length, slice_get, is_some}
-use Rattle.std.specs.Option.{option_map_or}
+use Rattle.std.specs.Prelude.{◌≢◌, ◌↔◌, nat_le, nat_lt, length, slice_get, is_none, is_some}
+use Rattle.std.specs.Option.{IfSome, option_map_or}
 use Rattle.std.proofs.lemmas.Grind.{common_steps}
 use Rattle.std.proofs.lemmas.List.{append-nil}
 use Rattle.std.proofs.lemmas.List.Elements.{All-push, All-weaker}
@@ -23,7 +23,7 @@ use Rattle.model_meaning.specs.MapMeaning.{MapMeaning, is_own, map_meaning, no_n
 use Rattle.list_machine.specs.Run.{EventPart, First, Last, StartsOver, RunEvent, event_of, Run, and_then, entries_of, own_events, map_of, drawn_also, is_unpinning}
 use Rattle.list_machine.specs.Machine.{first_refusal, make_checks, is_step}
 use Rattle.journal.specs.Journal.{halves_of, half_of, refusal_in, IsReplyOf}
-use Rattle.journal.specs.Events.{Around, has_memory, is_overtaken, next_part, behind_event, behind_make, makes_step, IsRepliedBy}
+use Rattle.journal.specs.Events.{MayMeet, Around, has_memory, is_overtaken, next_part, behind_event, behind_make, makes_step, IsRepliedBy}
 use Rattle.journal.specs.Makes.{HasCome}
 use Rattle.journal.proofs.RunLemmas.{drawn_more, entries_more}
 use Rattle.storage_files.specs.Files.{FilesValue, end_in}
@@ -31,7 +31,7 @@ use Rattle.store_core.specs.Knows.{may_have_given}
 use Rattle.store_core.specs.Value.{StoreValue, indexes_of}
 use Rattle.task_steps.specs.Step.{Seen, ShowsSeen, HasComeTo, Leads, Steps, Went, EndsRequest}
 use Rattle.task_steps.specs.Tells.{TellsSame}
-use Rattle.task_steps.proofs.OneEventLemmas.{leaves_none, never_more, memory_is, one_refusal, some_refusal}
+use Rattle.task_steps.proofs.OneEventLemmas.{step_may, leaves_none, never_more, memory_is, one_refusal, some_refusal}
 use Rattle.task_steps.proofs.SeenLemmas.{comes_to_on, no_guids}
 use Rattle.mail_ops.specs.MakeStages.{IsToMakeLog, HasMadeLog}
 use Rattle.mail_ops.specs.Making.{IsAtMake, naming_refusal, making_refusal, with_drawn_box, RemovesLog, IsStoppedSo, ChangesDisk, HasChangedDisk, FellChanging, same_lists, MadeLogSo, CanBeNamed}
@@ -39,7 +39,7 @@ use Rattle.store_seen.specs.Seeing.{seen_of}
 use Rattle.mail_ops.specs.declared.making.MakeStage.{MakeStage}
 use Rattle.mail_ops.specs.declared.making.MakeStage.TheVariants as stage
 use Rattle.mail_ops.proofs.EventLemmas.{DidBy, stands_by, fall, no_refusal, no_reply, some_reply, one_reply, last_with, StaysSo, comes_along, memory_calm, CanRefuse, did_refused, did_unstepped, did_stop, did_fall, did_check, did_part, ends_well}
-use Rattle.store_seen.proofs.SeeingLemmas.{due_as_before}
+use Rattle.store_seen.proofs.SeeingLemmas.{due_as_before, tells_as_before}
 use Rattle.mail_ops.proofs.FlagEventLemmas.{shown_on}
 use Rattle.mail_ops.proofs.MakeCheckLemmas.{naming_checked, making_checked, naming_steps, making_steps}
 use Rattle.mail_ops.proofs.MakeStageLemmas.{first_next, naming_part, naming_next, makes_log_then, starts_over_then}
@@ -203,6 +203,10 @@ drawn_then run event old new come d moment entries drew =
     (subst (λ (n : Highest). HasCome (and_then run event) old.map n (told_calls new.history)) (ap (λ (x : Highest). drawn_also old.drawn x) drew ∙ (one_drawn old.drawn ∙ sym d.drawn))
     (subst (λ (n : ℕ). HasCome (and_then run event) old.map (drawn_also old.drawn event.drew) n) moment (comes_drawing run event old.map old.drawn (told_calls old.history) come.come later entries)))
 
+drawn_unpins : (refused : Option Refusal) → (is_none refused && false) ≡ false
+drawn_unpins None = refl
+drawn_unpins (Some why) = refl
+
 -- A first event that drew a number, whether it was refused then or not; no step.
 did_drawing : (around after : Around) (run : Run) (lane place : ℕ) (said : List Reply) (name : List ℕ) (lists : Lists) (old new : Seen) (how : Did) (refused : Option Refusal) (ended : Option Reply) → IsToMakeLog run place said → HasComeTo run old → DrawsSo old new → ShowsSeen new lists
     → ((r : Refusal) → refused ≡ Some r → is_step r ≡ false) → IfSome refused (MayMeet First (request.Make name)) → (refused ≡ None → first_refusal run lists (make_checks name First) ≡ None)
@@ -240,7 +244,7 @@ did_drawing around after run lane place said name lists old new how refused ende
       made = refl;
       come = comes;
     };
-    come = comes_to_on run event old new come comes (λ uid. let e = d.due uid in omega (arith, e)) (record { pins = refl; unpins = refl; doomed = refl; removed = refl; given = refl; placed = refl; gone = refl }) d.tells;
+    come = comes_to_on run event old new come comes (λ uid. let e = d.due uid in omega (arith, e)) (record { pins = refl; unpins = drawn_unpins refused; doomed = refl; removed = refl; given = refl; placed = refl; gone = refl }) d.tells;
     gives = no_guids run event refl;
     went = went;
     grows = d.grows;
@@ -344,7 +348,7 @@ making_done name number old new before after began then ran m = λ around behind
     stands_by around behind run lane place said (request.Make name) lists seen later did.Quiet None event None (IsAtMake (stage.Naming number))
     (did_drawing around behind run lane place said name lists seen later did.Quiet None None stood come
     (draws_of pins old new before after began then (λ runs. ran) map_is drawn_is (ap (λ (s : StoreValue _). s.files) same) (ap (λ (s : StoreValue _). s.instances) same) (ap (λ (s : StoreValue _). s.dues) same) m.disk.change.grows (let r = m.disk.change.reads in omega (arith, r)) m.disk.change.changes)
-    (shows_of pins old new before after began then lists map_is (ap (λ (s : StoreValue _). s.boxes) same) shows) (λ r e. absurd (no_refusal r e)) (λ e. making_checked pins before began run name old lists shows.1 come ∙ m.free)
+    (shows_of pins old new before after began then lists map_is (ap (λ (s : StoreValue _). s.boxes) same) shows) (λ r e. absurd (no_refusal r e)) tt (λ e. making_checked pins before began run name old lists shows.1 come ∙ m.free)
     (record { 0 = λ h. absurd (h refl); 1 = λ h. absurd (makes_on (is_overtaken (and_then run event) place) h) }) tt refl (refl, runs ∙ sym ran, leads_of pins old new before after began then lists m.disk)
     (ends_well (request.Make name) said event None None did.Quiet seen later refl ran runs (let r = m.disk.change.reads in omega (arith, r)) m.disk.change.changes (λ x. x) (λ e. no_reply (reply.Refused refusal.Stopped) e) (λ some. absurd (let k : false ≡ true = some in cc k)) (λ given e. absurd (no_reply given e))))
     (λ goes_on. makes_log_then run event place said number.0 stood refl refl refl refl (m.log.next ∙ ap (λ (d : Highest). d.mailbox + 1) (sym come.come.drawn_is)))

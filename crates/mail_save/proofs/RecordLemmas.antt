@@ -2,7 +2,7 @@
 use Rattle.std.proofs.Common.{◌≡◌, ◌≤◌, ◌+◌, ◌==◌, ◌&&◌, ℕ, Bool, true, false, not, inl, inr, List, [], ◌∷◌, Option, Some, None, All, refl, sym, ◌∙◌, ap, subst, arith, length}
 use Rattle.std.specs.Prelude.{AllPairs, if◌then◌else◌}
 use Rattle.std.specs.List.{AllByRecursion}
-use Rattle.std.specs.Option.{option_map, option_and_then}
+use Rattle.std.specs.Option.{option_map, option_map_or, option_and_then}
 use Rattle.std.proofs.lemmas.Bool.{cases_eq, cond-false, ne_eqb}
 use Rattle.std.proofs.lemmas.List.Elements.{All-nil, All-cons, All-head, All-tail, recursion_from_All}
 use Rattle.disk_model.specs.Disk.{Files, History, IfTold}
@@ -19,6 +19,7 @@ use Rattle.model_store.specs.Safe.{LiesInFile}
 use Rattle.model_store.specs.Settled.{files_of}
 use Rattle.storage_files.specs.Files.{AreFilesInOrder, end_in, file_in}
 use Rattle.storage_files.specs.OnDisk.{IsAsKnown}
+use Rattle.storage_files.proofs.KnownLemmas.{taken-there}
 use Rattle.storage_files.specs.declared.file.MailFile.{MailFile}
 use Rattle.store_core.specs.Files.{EndsBehind, LiesBelowEnd}
 use Rattle.store_core.specs.MapAppend.{IsReadyToStore}
@@ -86,14 +87,16 @@ record_fits uid at instances store history agree is order held some drawn number
 ends_behind : (number place end : ℕ) (files : List MailFile) → end_in number files ≡ Some end → place ≤ end → EndsBehind number place files
 ends_behind number place end files ends low = λ f found grows. (end, sym (ap (option_and_then (λ f. f.end)) found) ∙ ends, low)
 
-pub record_below : {D : Type 0} (uid : MapUid) (at : SavedAt) (instances : List InstRow) (store : StoreValue D) → HoldsRegion at store → 1 ≤ at.size
+pub record_below : {D : Type 0} (uid : MapUid) (at : SavedAt) (instances : List InstRow) (store : StoreValue D) (history : Option History) → IsStore history store → HoldsRegion at store → 1 ≤ at.size
     → All (LiesBelowEnd store.map.store store.files.files) (stored_row 0 1 uid at.file at.offset at.size at.guid instances ∷ [])
-record_below uid at instances store held some =
+record_below uid at instances store history is held some =
+    let there = taken-there store.files.files at.file.0 held.taken in
     let inside = held.inside in
     let offset = held.guid_offset in
     All-cons (LiesBelowEnd store.map.store store.files.files) (stored_row 0 1 uid at.file at.offset at.size at.guid instances) [] (record {
       region = ends_behind at.file.0 (at.offset + at.size) held.end store.files.files held.ends inside;
       guid = λ own. subst (λ (n : ℕ). EndsBehind n (number_at 12 at.guid.0 + 1) store.files.files) (sym held.guid_file) (ends_behind at.file.0 (number_at 12 at.guid.0 + 1) held.end store.files.files held.ends (omega (arith, inside, offset, some)));
+      undoomed = ap (λ (o : Option MailFile). option_map_or (λ f. f.doomed) o false) there.1 ∙ (is.files.taken at.file.0 there.0 there.1 (sym (ap (λ (o : Option MailFile). option_map_or (λ f. f.taken) o false) there.1) ∙ held.taken)).undoomed;
     }) (All-nil (LiesBelowEnd store.map.store store.files.files))
 
 -- ---- in its file

@@ -20,7 +20,7 @@ use Rattle.mdbox_base.specs.declared.replies.Reply.TheVariants as reply
 use Rattle.mdbox_base.specs.declared.requests.Request.TheVariants as request
 use Rattle.mdbox_base.specs.declared.script.Half.TheVariants as half
 use Rattle.model_meaning.specs.MapMeaning.{MapMeaning, no_numbers}
-use Rattle.list_machine.specs.Run.{Compares, PlacesInstance, RunEvent}
+use Rattle.list_machine.specs.Run.{Compares, PlacesInstance, RunEvent, is_one_of}
 use Rattle.list_machine.specs.Machine.{is_step}
 use Rattle.journal.specs.Events.{Around}
 use Rattle.journal.specs.Found.{is_same_instance}
@@ -30,9 +30,10 @@ use Rattle.sis_store.specs.Instances.{next_id}
 use Rattle.storage_files.specs.Files.{end_in}
 use Rattle.store_core.specs.Knows.{knows_instance}
 use Rattle.store_core.specs.Value.{StoreValue, indexes_of}
+use Rattle.store_seen.specs.Seeing.{seen_of}
 use Rattle.mail_save.specs.Events.{instance_refusal}
 use Rattle.mail_save.specs.SaveEffects.{AttachesNext, AttachesNone, ComparesNext, NamesFound, PlacesNext}
-use Rattle.mail_save.specs.SaveSeen.{HasItsParts, IsAtSave, StepsWithRoom, around_saving, count_detachable, may_be_barred, seen_saving}
+use Rattle.mail_save.specs.SaveSeen.{HasItsParts, IsAtSave, StepsWithRoom, around_saving, count_detachable}
 use Rattle.mail_save.specs.SaveStages.{IsTakingFile}
 use Rattle.mail_save.specs.Task.{FaultsAt, IsAttachRefusal, failing_did, stopped_reply}
 use Rattle.mail_save.specs.declared.first.SavedParts.{SavedParts}
@@ -43,7 +44,7 @@ use Rattle.mail_save.proofs.SaveDidLemmas.{or_none, step_calm, step_runs, HasRun
 use Rattle.mail_save.proofs.SaveFrontLemmas.{SeesAround, compares_part, found_with, places_part}
 use Rattle.mail_save.proofs.SaveRefusedLemmas.{checked_save, comparing_at, ends_comparing, ends_placing_instance, fallen_save, forgotten_save, full_instances, placing_instance_at, unread_save}
 use Rattle.mail_save.proofs.SaveStepLemmas.{fell_by, memory_runs, memory_unread, more_differs, not_stopped, refused_differs, same_changes, same_reads, equal_reads, step_did, uid_full, untold_faults}
-use Rattle.mail_save.proofs.SaveStoreLemmas.{bars_same, candidate_runs, drawn_instance, due_stays, gave_on, has_run, same_ends, sees_around, stays_so, tells_store}
+use Rattle.mail_save.proofs.SaveStoreLemmas.{TellsFiles, tells_same, drawn_instance, due_stays, gave_on, has_run, same_ends, sees_around, stays_so, tells_store}
 use Rattle.mail_save.proofs.SeenInstanceLemmas.{gone_on, knows_compared, knows_in, knows_with, knows_same, next_not_gone, next_number}
 
 -- ---- an attachment is left
@@ -62,26 +63,26 @@ found_by true candidate drawn attaching = refl
 found_by false candidate drawn attaching = refl
 
 -- what a step of a stage that goes on by finding an instance says
-abbrev pub AttachingSteps : {D : Type 0} → SavedParts → AttachingValue → AttachingValue → List ℕ → ℕ → List ℕ → StoreValue D → StoreValue D → Option History → Option History → Faults → Faults → Type 0
-AttachingSteps parts attaching more name time octets old new before after began faulted =
-    (behind : Around) → StepsWithRoom (IsTakingFile attaching.found) (IsTakingFile more.found) (around_saving octets (stage.Attaching parts attaching) old) behind (request.Deliver name time octets) (seen_saving old before began) (seen_saving new after faulted) did.Quiet None
+abbrev pub AttachingSteps : {D : Type 0} → (pins : ℕ → ℕ) → SavedParts → AttachingValue → AttachingValue → List ℕ → ℕ → List ℕ → StoreValue D → StoreValue D → Option History → Option History → Faults → Faults → Type 0
+AttachingSteps pins parts attaching more name time octets old new before after began faulted =
+    (behind : Around) → StepsWithRoom (IsTakingFile attaching.found) (IsTakingFile more.found) (around_saving octets (stage.Attaching parts attaching) old) behind (request.Deliver name time octets) (seen_of pins old before began) (seen_of pins new after faulted) did.Quiet None
 
-compares_more : {D : Type 0} → (parts : SavedParts) (attaching more : AttachingValue) (next : SaveStage) (name : List ℕ) (time size : ℕ) (octets : List ℕ) (how : Did) (old new : StoreValue D) (before after : Option History) (began faulted : Faults)
-    → EventOf (stage.Attaching parts attaching) next name time size octets progress.More how old new before after began faulted → ComparesNext attaching more old new → AttachingSteps parts attaching more name time octets old new before after began faulted
-compares_more parts attaching more next name time size octets how old new before after began faulted e c = λ behind.
+compares_more : {D : Type 0} → (pins : ℕ → ℕ) (parts : SavedParts) (attaching more : AttachingValue) (next : SaveStage) (name : List ℕ) (time size : ℕ) (octets : List ℕ) (how : Did) (old new : StoreValue D) (before after : Option History) (began faulted : Faults)
+    → EventOf (stage.Attaching parts attaching) next name time size octets progress.More how old new before after began faulted → ComparesNext attaching more old new → AttachingSteps pins parts attaching more name time octets old new before after began faulted
+compares_more pins parts attaching more next name time size octets how old new before after began faulted e c = λ behind.
     let runs = not_stopped new.stopped (progress.More ≡ stopped_reply) e.stopped more_differs in
     let map = ap (λ (v : StoreValue _). v.map) c.same in
     let found : more.found ≡ found_with c.alike c.candidate attaching.found = ap (λ (a : AttachingValue). a.found) c.more_is ∙ found_by c.alike c.candidate old.instances.highest attaching in
-    subst (λ (rows : List InstRow). StepsWithRoom (IsTakingFile attaching.found) (IsTakingFile rows) (around_saving octets (stage.Attaching parts attaching) old) behind (request.Deliver name time octets) (seen_saving old before began) (seen_saving new after faulted) did.Quiet None) (sym found)
-    (compares_part (around_saving octets (stage.Attaching parts attaching) old) behind name time octets attaching.found c.candidate c.alike (seen_saving old before began) (seen_saving new after faulted) (sees_around octets (stage.Attaching parts attaching) old before began e.is e.order e.ids)
-    (candidate_runs parts attaching old e.ran ∙ c.next) (is_left parts attaching octets e.left.1 e.parts)
+    subst (λ (rows : List InstRow). StepsWithRoom (IsTakingFile attaching.found) (IsTakingFile rows) (around_saving octets (stage.Attaching parts attaching) old) behind (request.Deliver name time octets) (seen_of pins old before began) (seen_of pins new after faulted) did.Quiet None) (sym found)
+    (compares_part (around_saving octets (stage.Attaching parts attaching) old) behind name time octets attaching.found c.candidate c.alike (seen_of pins old before began) (seen_of pins new after faulted) (sees_around pins octets (stage.Attaching parts attaching) old before began e.is e.order e.ids)
+    (c.next) (is_left parts attaching octets e.left.1 e.parts)
     (record {
-      run = has_run old new before after began faulted e.ran runs (ap (λ (m : MapMeaning). m.boxes) map) (ap (λ (v : StoreValue _). indexes_of v.boxes) c.same) e.moments (e.rests runs) e.grows e.faults;
+      run = has_run pins old new before after began faulted e.ran runs (ap (λ (m : MapMeaning). m.boxes) map) (ap (λ (v : StoreValue _). indexes_of v.boxes) c.same) e.moments (e.rests runs) e.grows e.faults;
       map = map;
       due = λ uid. due_stays old new uid map (ap (λ (v : StoreValue _). v.dues) c.same);
     })
     (ap (λ (v : StoreValue _). v.drawn) c.same)
-    (tells_store old new before after began faulted e.ran (ap (λ (m : MapMeaning). m.store) map) (let d = ap (λ (v : StoreValue _). v.drawn.file) c.same in omega (arith, d)) (same_ends old new (bars_same old new (let d = ap (λ (v : StoreValue _). v.drawn.file) c.same in omega (arith, d)) (ap (λ (v : StoreValue _). v.files.files) c.same)) (λ n. ap (λ (v : StoreValue _). end_in n v.files.files) c.same))
+    (tells_store pins old new before after began faulted e.ran (ap (λ (m : MapMeaning). m.store) map) (let d = ap (λ (v : StoreValue _). v.drawn.file) c.same in omega (arith, d)) (same_ends old new (tells_same old new (let d = ap (λ (v : StoreValue _). v.drawn.file) c.same in omega (arith, d)) (ap (λ (v : StoreValue _). v.files.files) c.same)) (λ n. ap (λ (v : StoreValue _). end_in n v.files.files) c.same))
     (record {
       drawn = let d = ap (λ (v : StoreValue _). v.drawn.instance) c.same in omega (arith, d);
       known = λ row. ap (λ (v : StoreValue _). knows_in v.instances.known row) c.same ∙ knows_compared row c.candidate c.alike old.instances.known;
@@ -112,14 +113,14 @@ among_list row one placed is = ap (list_any (is_same_instance row)) is ∙ or_no
 none_given : (guid : List ℕ) (given : List (List ℕ)) → given ≡ [] → list_any (bytes_eq guid) given ≡ true → ⊥
 none_given guid given none some = let k : false ≡ true = sym (ap (list_any (bytes_eq guid)) none) ∙ some in cc k
 
-places_more : {D : Type 0} → (parts : SavedParts) (attaching more : AttachingValue) (next : SaveStage) (name : List ℕ) (time size : ℕ) (octets : List ℕ) (how : Did) (old new : StoreValue D) (before after : Option History) (began faulted : Faults)
-    → EventOf (stage.Attaching parts attaching) next name time size octets progress.More how old new before after began faulted → PlacesNext attaching more old new → AttachingSteps parts attaching more name time octets old new before after began faulted
-places_more parts attaching more next name time size octets how old new before after began faulted e p = λ behind.
-    subst (λ (rows : List InstRow). StepsWithRoom (IsTakingFile attaching.found) (IsTakingFile rows) (around_saving octets (stage.Attaching parts attaching) old) behind (request.Deliver name time octets) (seen_saving old before began) (seen_saving new after faulted) did.Quiet None) (sym (ap (λ (a : AttachingValue). a.found) p.more_is))
-    (places_part (around_saving octets (stage.Attaching parts attaching) old) behind name time octets attaching.found row (seen_saving old before began) (seen_saving new after faulted) (sees_around octets (stage.Attaching parts attaching) old before began e.is e.order e.ids)
-    (candidate_runs parts attaching old e.ran ∙ p.compared) (is_left parts attaching octets e.left.1 e.parts) (next_number old e.kept e.id_long few) few
+places_more : {D : Type 0} → (pins : ℕ → ℕ) (parts : SavedParts) (attaching more : AttachingValue) (next : SaveStage) (name : List ℕ) (time size : ℕ) (octets : List ℕ) (how : Did) (old new : StoreValue D) (before after : Option History) (began faulted : Faults)
+    → EventOf (stage.Attaching parts attaching) next name time size octets progress.More how old new before after began faulted → PlacesNext attaching more old new → AttachingSteps pins parts attaching more name time octets old new before after began faulted
+places_more pins parts attaching more next name time size octets how old new before after began faulted e p = λ behind.
+    subst (λ (rows : List InstRow). StepsWithRoom (IsTakingFile attaching.found) (IsTakingFile rows) (around_saving octets (stage.Attaching parts attaching) old) behind (request.Deliver name time octets) (seen_of pins old before began) (seen_of pins new after faulted) did.Quiet None) (sym (ap (λ (a : AttachingValue). a.found) p.more_is))
+    (places_part (around_saving octets (stage.Attaching parts attaching) old) behind name time octets attaching.found row (seen_of pins old before began) (seen_of pins new after faulted) (sees_around pins octets (stage.Attaching parts attaching) old before began e.is e.order e.ids)
+    (p.compared) (is_left parts attaching octets e.left.1 e.parts) (next_number old e.kept e.id_long few) few
     (record {
-      run = has_run old new before after began faulted e.ran runs (ap (λ (m : MapMeaning). m.boxes) map) (ap (λ (v : StoreValue _). indexes_of v.boxes) p.same) e.moments (e.rests runs) e.grows e.faults;
+      run = has_run pins old new before after began faulted e.ran runs (ap (λ (m : MapMeaning). m.boxes) map) (ap (λ (v : StoreValue _). indexes_of v.boxes) p.same) e.moments (e.rests runs) e.grows e.faults;
       map = map;
       due = λ uid. due_stays old new uid map (ap (λ (v : StoreValue _). v.dues) p.same);
     })
@@ -127,14 +128,14 @@ places_more parts attaching more next name time size octets how old new before a
     (λ event none unmade placed. record {
       ran = λ k. e.ran;
       pins = λ n. refl;
-      doomed = λ n. refl;
-      used = λ n k. k;
-      unused = λ n k. refl;
-      barred = (same_ends old new bars ends).barred;
-      gave = λ guid k. gave_on old new guid id (let d = ap (λ (h : Highest). h.file) drawn in omega (arith, d)) (same_ends old new bars ends).gave k;
+      doomed = files.doomed;
+      used = files.used;
+      unused = λ n k. absurd (let w : false ≡ true = sym (ap (λ (fs : List ℕ). is_one_of fs n) unmade) ∙ k in cc w);
+      barred = files.barred;
+      gave = λ guid k. gave_on old new guid id (let d = ap (λ (h : Highest). h.file) drawn in omega (arith, d)) (same_ends old new files ends).gave k;
       given = λ guid some. absurd (none_given guid event.given none some);
       gone = λ i k. gone_on old new i id (let d = ap (λ (h : Highest). h.instance) drawn in omega (arith, d)) k;
-      files = λ n there. inl ((same_ends old new bars ends).known n there);
+      files = λ n there. inl ((same_ends old new files ends).known n there);
       instances = λ i.
           ap (λ (v : StoreValue _). knows_in v.instances.known i) p.same
           ∙ (knows_with old.instances p.part.hash (length p.part.octets) i e.ids (let high = e.kept.highest in omega (arith, high, few)) ∙ ap (λ (b : Bool). knows_instance old i || b) (sym (among_list i row event.placed placed)));
@@ -162,39 +163,39 @@ places_more parts attaching more next name time size octets how old new before a
     ends : (n : ℕ) → end_in n new.files.files ≡ end_in n old.files.files
     ends n = ap (λ (v : StoreValue _). end_in n v.files.files) p.same
 
-    bars : (n : ℕ) → may_be_barred old n ≡ true → may_be_barred new n ≡ true
-    bars = bars_same old new (let d = ap (λ (v : StoreValue _). v.drawn.file) p.same in omega (arith, d)) (ap (λ (v : StoreValue _). v.files.files) p.same)
+    files : TellsFiles old new
+    files = tells_same old new (let d = ap (λ (v : StoreValue _). v.drawn.file) p.same in omega (arith, d)) (ap (λ (v : StoreValue _). v.files.files) p.same)
 
 -- ---- the event goes on
 
-attaches_more : {D : Type 0} → (parts : SavedParts) (attaching more : AttachingValue) (next : SaveStage) (name : List ℕ) (time size : ℕ) (octets : List ℕ) (how : Did) (old new : StoreValue D) (before after : Option History) (began faulted : Faults)
-    → EventOf (stage.Attaching parts attaching) next name time size octets progress.More how old new before after began faulted → AttachesNext attaching more old new → AttachingSteps parts attaching more name time octets old new before after began faulted
-attaches_more parts attaching more next name time size octets how old new before after began faulted e (inl c) = compares_more parts attaching more next name time size octets how old new before after began faulted e c
-attaches_more parts attaching more next name time size octets how old new before after began faulted e (inr p) = places_more parts attaching more next name time size octets how old new before after began faulted e p
+attaches_more : {D : Type 0} → (pins : ℕ → ℕ) (parts : SavedParts) (attaching more : AttachingValue) (next : SaveStage) (name : List ℕ) (time size : ℕ) (octets : List ℕ) (how : Did) (old new : StoreValue D) (before after : Option History) (began faulted : Faults)
+    → EventOf (stage.Attaching parts attaching) next name time size octets progress.More how old new before after began faulted → AttachesNext attaching more old new → AttachingSteps pins parts attaching more name time octets old new before after began faulted
+attaches_more pins parts attaching more next name time size octets how old new before after began faulted e (inl c) = compares_more pins parts attaching more next name time size octets how old new before after began faulted e c
+attaches_more pins parts attaching more next name time size octets how old new before after began faulted e (inr p) = places_more pins parts attaching more next name time size octets how old new before after began faulted e p
 
-pub attaching_on : {D : Type 0} → (parts laid : SavedParts) (attaching more : AttachingValue) (name : List ℕ) (time size : ℕ) (octets : List ℕ) (how : Did) (old new : StoreValue D) (before after : Option History) (began faulted : Faults)
+pub attaching_on : {D : Type 0} → (pins : ℕ → ℕ) (parts laid : SavedParts) (attaching more : AttachingValue) (name : List ℕ) (time size : ℕ) (octets : List ℕ) (how : Did) (old new : StoreValue D) (before after : Option History) (began faulted : Faults)
     → EventOf (stage.Attaching parts attaching) (stage.Attaching laid more) name time size octets progress.More how old new before after began faulted → AttachesNext attaching more old new
-    → DeliveryClause octets (stage.Attaching parts attaching) (stage.Attaching laid more) name time progress.More how old new before after began faulted
-attaching_on parts laid attaching more name time size octets how old new before after began faulted e found =
-    with_did octets (stage.Attaching parts attaching) (stage.Attaching laid more) name time progress.More how did.Quiet old new before after began faulted e.did_is
-    (attaches_more parts attaching more (stage.Attaching laid more) name time size octets how old new before after began faulted e found)
+    → DeliveryClause pins octets (stage.Attaching parts attaching) (stage.Attaching laid more) name time progress.More how old new before after began faulted
+attaching_on pins parts laid attaching more name time size octets how old new before after began faulted e found =
+    with_did pins octets (stage.Attaching parts attaching) (stage.Attaching laid more) name time progress.More how did.Quiet old new before after began faulted e.did_is
+    (attaches_more pins parts attaching more (stage.Attaching laid more) name time size octets how old new before after began faulted e found)
 
 -- each attachment has its instance
-pub attaching_whole : {D : Type 0} → (parts named : SavedParts) (attaching more : AttachingValue) (name : List ℕ) (time size : ℕ) (octets : List ℕ) (how : Did) (old new : StoreValue D) (before after : Option History) (began faulted : Faults)
+pub attaching_whole : {D : Type 0} → (pins : ℕ → ℕ) (parts named : SavedParts) (attaching more : AttachingValue) (name : List ℕ) (time size : ℕ) (octets : List ℕ) (how : Did) (old new : StoreValue D) (before after : Option History) (began faulted : Faults)
     → EventOf (stage.Attaching parts attaching) (stage.Taking named) name time size octets progress.More how old new before after began faulted → AttachesNext attaching more old new → NamesFound more.found parts named
-    → DeliveryClause octets (stage.Attaching parts attaching) (stage.Taking named) name time progress.More how old new before after began faulted
-attaching_whole parts named attaching more name time size octets how old new before after began faulted e found names =
-    with_did octets (stage.Attaching parts attaching) (stage.Taking named) name time progress.More how did.Quiet old new before after began faulted e.did_is
-    (λ behind. subst (λ (rows : List InstRow). StepsWithRoom (IsTakingFile attaching.found) (IsTakingFile rows) (around_saving octets (stage.Attaching parts attaching) old) behind (request.Deliver name time octets) (seen_saving old before began) (seen_saving new after faulted) did.Quiet None) (sym names.rows)
-    (attaches_more parts attaching more (stage.Taking named) name time size octets how old new before after began faulted e found behind))
+    → DeliveryClause pins octets (stage.Attaching parts attaching) (stage.Taking named) name time progress.More how old new before after began faulted
+attaching_whole pins parts named attaching more name time size octets how old new before after began faulted e found names =
+    with_did pins octets (stage.Attaching parts attaching) (stage.Taking named) name time progress.More how did.Quiet old new before after began faulted e.did_is
+    (λ behind. subst (λ (rows : List InstRow). StepsWithRoom (IsTakingFile attaching.found) (IsTakingFile rows) (around_saving octets (stage.Attaching parts attaching) old) behind (request.Deliver name time octets) (seen_of pins old before began) (seen_of pins new after faulted) did.Quiet None) (sym names.rows)
+    (attaches_more pins parts attaching more (stage.Taking named) name time size octets how old new before after began faulted e found behind))
 
 -- ---- it is refused
 
 -- a store of which the disk alone may have changed
-stays_told : {D : Type 0} → (old new : StoreValue D) (before after : Option History) (began faulted : Faults) → old.stopped ≡ false → new ≡ record old { disk = new.disk } → Grows before after → began.reads ≤ faulted.reads → began.changes ≤ faulted.changes → StaysSo no_numbers (seen_saving old before began) (seen_saving new after faulted)
-stays_told old new before after began faulted ran same grows reads changes =
-    stays_so no_numbers old new before after began faulted ran (ap (λ (v : StoreValue _). v.map) same) (ap (λ (v : StoreValue _). v.drawn) same ∙ sym (drawn_none old.drawn)) (ap (λ (v : StoreValue _). v.dues) same) (ap (λ (v : StoreValue _). indexes_of v.boxes) same)
-    (let d = ap (λ (v : StoreValue _). v.drawn.file) same in omega (arith, d)) (same_ends old new (bars_same old new (let d = ap (λ (v : StoreValue _). v.drawn.file) same in omega (arith, d)) (ap (λ (v : StoreValue _). v.files.files) same)) (λ n. ap (λ (v : StoreValue _). end_in n v.files.files) same)) (knows_same old new (ap (λ (v : StoreValue _). v.instances) same) (ap (λ (v : StoreValue _). v.drawn.instance) same)) grows reads changes
+stays_told : {D : Type 0} → (pins : ℕ → ℕ) (old new : StoreValue D) (before after : Option History) (began faulted : Faults) → old.stopped ≡ false → new ≡ record old { disk = new.disk } → Grows before after → began.reads ≤ faulted.reads → began.changes ≤ faulted.changes → StaysSo no_numbers (seen_of pins old before began) (seen_of pins new after faulted)
+stays_told pins old new before after began faulted ran same grows reads changes =
+    stays_so pins no_numbers old new before after began faulted ran (ap (λ (v : StoreValue _). v.map) same) (ap (λ (v : StoreValue _). v.drawn) same ∙ sym (drawn_none old.drawn)) (ap (λ (v : StoreValue _). v.dues) same) (ap (λ (v : StoreValue _). indexes_of v.boxes) same)
+    (let d = ap (λ (v : StoreValue _). v.drawn.file) same in omega (arith, d)) (same_ends old new (tells_same old new (let d = ap (λ (v : StoreValue _). v.drawn.file) same in omega (arith, d)) (ap (λ (v : StoreValue _). v.files.files) same)) (λ n. ap (λ (v : StoreValue _). end_in n v.files.files) same)) (knows_same old new (ap (λ (v : StoreValue _). v.instances) same) (ap (λ (v : StoreValue _). v.drawn.instance) same)) grows reads changes
 
 equal_changes : (began faulted : Faults) → faulted.changes ≡ began.changes → began.changes ≤ faulted.changes
 equal_changes began faulted e = omega (arith, e)
@@ -202,13 +203,13 @@ equal_changes began faulted e = omega (arith, e)
 read_runs : (why : Refusal) → why ≡ refusal.ReadFault → why ≡ refusal.Stopped → ⊥
 read_runs why is e = let k : refusal.ReadFault ≡ refusal.Stopped = sym is ∙ e in cc k
 
-pub attaching_refused : {D : Type 0} → (parts : SavedParts) (attaching : AttachingValue) (why : Refusal) (name : List ℕ) (time size : ℕ) (octets : List ℕ) (how : Did) (old new : StoreValue D) (before after : Option History) (began faulted : Faults)
+pub attaching_refused : {D : Type 0} → (pins : ℕ → ℕ) (parts : SavedParts) (attaching : AttachingValue) (why : Refusal) (name : List ℕ) (time size : ℕ) (octets : List ℕ) (how : Did) (old new : StoreValue D) (before after : Option History) (began faulted : Faults)
     → EventOf (stage.Attaching parts attaching) stage.Ended name time size octets (progress.Done (reply.Refused why)) how old new before after began faulted → AttachesNone attaching why old new
-    → DeliveryClause octets (stage.Attaching parts attaching) stage.Ended name time (progress.Done (reply.Refused why)) how old new before after began faulted
-attaching_refused parts attaching why name time size octets how old new before after began faulted e none = by_candidate (next_candidate attaching old.instances) refl e.replies
+    → DeliveryClause pins octets (stage.Attaching parts attaching) stage.Ended name time (progress.Done (reply.Refused why)) how old new before after began faulted
+attaching_refused pins parts attaching why name time size octets how old new before after began faulted e none = by_candidate (next_candidate attaching old.instances) refl e.replies
   where
-    sees : SeesAround octets (around_saving octets (stage.Attaching parts attaching) old) (seen_saving old before began)
-    sees = sees_around octets (stage.Attaching parts attaching) old before began e.is e.order e.ids
+    sees : SeesAround octets (around_saving octets (stage.Attaching parts attaching) old) (seen_of pins old before began)
+    sees = sees_around pins octets (stage.Attaching parts attaching) old before began e.is e.order e.ids
 
     left : length attaching.found < count_detachable octets
     left = is_left parts attaching octets e.left.1 e.parts
@@ -216,44 +217,44 @@ attaching_refused parts attaching why name time size octets how old new before a
     runs : (why ≡ refusal.Stopped → ⊥) → new.stopped ≡ false
     runs other = not_stopped new.stopped (progress.Done (reply.Refused why) ≡ stopped_reply) e.stopped (refused_differs why other)
 
-    goes : (why ≡ refusal.Stopped → ⊥) → faulted ≡ began → new ≡ record old { disk = new.disk } → HasRun (seen_saving old before began) (seen_saving new after faulted)
-    goes other calm same = has_run old new before after began faulted e.ran (runs other) (ap (λ (v : StoreValue _). v.map.boxes) same) (ap (λ (v : StoreValue _). indexes_of v.boxes) same) e.moments (e.rests (runs other)) e.grows calm
+    goes : (why ≡ refusal.Stopped → ⊥) → faulted ≡ began → new ≡ record old { disk = new.disk } → HasRun (seen_of pins old before began) (seen_of pins new after faulted)
+    goes other calm same = has_run pins old new before after began faulted e.ran (runs other) (ap (λ (v : StoreValue _). v.map.boxes) same) (ap (λ (v : StoreValue _). indexes_of v.boxes) same) e.moments (e.rests (runs other)) e.grows calm
 
-    unread : (candidate : InstRow) → next_candidate attaching old.instances ≡ Some candidate → why ≡ refusal.ReadFault → DeliveryClause octets (stage.Attaching parts attaching) stage.Ended name time (progress.Done (reply.Refused why)) how old new before after began faulted
+    unread : (candidate : InstRow) → next_candidate attaching old.instances ≡ Some candidate → why ≡ refusal.ReadFault → DeliveryClause pins octets (stage.Attaching parts attaching) stage.Ended name time (progress.Done (reply.Refused why)) how old new before after began faulted
     unread candidate next is =
         let fault : ReadFaultCounted (Unit {0}) began faulted = subst (λ (w : Refusal). FaultsAt (progress.Done (reply.Refused w)) began faulted) is e.faults in
         let made : AttachesNone attaching refusal.ReadFault old new = subst (λ (w : Refusal). AttachesNone attaching w old new) is none in
         let run = runs (read_runs why is) in
-        with_did octets (stage.Attaching parts attaching) stage.Ended name time (progress.Done (reply.Refused why)) how did.Quiet old new before after began faulted (e.did_is ∙ ap failing_did is)
-        (subst (λ (w : Refusal). DeliveryClause octets (stage.Attaching parts attaching) stage.Ended name time (progress.Done (reply.Refused w)) did.Quiet old new before after began faulted) (sym is)
-        (λ behind. unread_save (around_saving octets (stage.Attaching parts attaching) old) behind name time octets Compares (IsTakingFile attaching.found) (IsAtSave stage.Ended) (seen_saving old before began) (seen_saving new after faulted) sees (ends_comparing name time octets)
-        (comparing_at (around_saving octets (stage.Attaching parts attaching) old) name time octets attaching.found candidate left (candidate_runs parts attaching old e.ran ∙ next)) refl e.ran run (λ lists. record { stops = λ t. e.moments lists t; settled = λ t. e.rests run lists t })
-        (stays_told old new before after began faulted e.ran made.1 e.grows fault.reads (equal_changes began faulted fault.changes)) (fault.rose tt)))
+        with_did pins octets (stage.Attaching parts attaching) stage.Ended name time (progress.Done (reply.Refused why)) how did.Quiet old new before after began faulted (e.did_is ∙ ap failing_did is)
+        (subst (λ (w : Refusal). DeliveryClause pins octets (stage.Attaching parts attaching) stage.Ended name time (progress.Done (reply.Refused w)) did.Quiet old new before after began faulted) (sym is)
+        (λ behind. unread_save (around_saving octets (stage.Attaching parts attaching) old) behind name time octets Compares (IsTakingFile attaching.found) (IsAtSave stage.Ended) (seen_of pins old before began) (seen_of pins new after faulted) sees (ends_comparing name time octets)
+        (comparing_at (around_saving octets (stage.Attaching parts attaching) old) name time octets attaching.found candidate left (next)) refl e.ran run (λ lists. record { stops = λ t. e.moments lists t; settled = λ t. e.rests run lists t })
+        (stays_told pins old new before after began faulted e.ran made.1 e.grows fault.reads (equal_changes began faulted fault.changes)) (fault.rose tt)))
 
-    full : next_candidate attaching old.instances ≡ None → why ≡ refusal.StoreFull 4294967294 → nat_le 4294967294 old.drawn.instance ≡ true → DeliveryClause octets (stage.Attaching parts attaching) stage.Ended name time (progress.Done (reply.Refused why)) how old new before after began faulted
+    full : next_candidate attaching old.instances ≡ None → why ≡ refusal.StoreFull 4294967294 → nat_le 4294967294 old.drawn.instance ≡ true → DeliveryClause pins octets (stage.Attaching parts attaching) stage.Ended name time (progress.Done (reply.Refused why)) how old new before after began faulted
     full next is used =
         let made : AttachesNone attaching (refusal.StoreFull 4294967294) old new = subst (λ (w : Refusal). AttachesNone attaching w old new) is none in
         let step : is_step why ≡ true = ap is_step is in
         let other = step_runs why step in
         let calm = untold_faults why began faulted other (step_calm why step) e.faults in
-        with_did octets (stage.Attaching parts attaching) stage.Ended name time (progress.Done (reply.Refused why)) how (did.Step half.Whole) old new before after began faulted (e.did_is ∙ step_did why step)
-        (λ behind. checked_save (around_saving octets (stage.Attaching parts attaching) old) behind name time octets PlacesInstance (IsTakingFile attaching.found) (IsAtSave stage.Ended) why (seen_saving old before began) (seen_saving new after faulted) sees (ends_placing_instance name time octets)
-        (placing_instance_at (around_saving octets (stage.Attaching parts attaching) old) name time octets attaching.found left (candidate_runs parts attaching old e.ran ∙ next)) (λ run place said stood. stood.1) step
-        (λ run lists event come shows. full_instances name time octets (seen_saving old before began) used run lists event come shows ∙ ap (λ (w : Refusal). Some w) (sym is))
-        (goes other calm made.1) (stays_told old new before after began faulted e.ran made.1 e.grows (same_reads began faulted calm) (same_changes began faulted calm)))
+        with_did pins octets (stage.Attaching parts attaching) stage.Ended name time (progress.Done (reply.Refused why)) how (did.Step half.Whole) old new before after began faulted (e.did_is ∙ step_did why step)
+        (λ behind. checked_save (around_saving octets (stage.Attaching parts attaching) old) behind name time octets PlacesInstance (IsTakingFile attaching.found) (IsAtSave stage.Ended) why (seen_of pins old before began) (seen_of pins new after faulted) sees (ends_placing_instance name time octets)
+        (placing_instance_at (around_saving octets (stage.Attaching parts attaching) old) name time octets attaching.found left (next)) (λ run place said stood. stood.1) step
+        (λ run lists event come shows. full_instances name time octets (seen_of pins old before began) used run lists event come shows ∙ ap (λ (w : Refusal). Some w) (sym is))
+        (goes other calm made.1) (stays_told pins old new before after began faulted e.ran made.1 e.grows (same_reads began faulted calm) (same_changes began faulted calm)))
 
-    forgotten : next_candidate attaching old.instances ≡ None → why ≡ refusal.NoMemory → DeliveryClause octets (stage.Attaching parts attaching) stage.Ended name time (progress.Done (reply.Refused why)) how old new before after began faulted
+    forgotten : next_candidate attaching old.instances ≡ None → why ≡ refusal.NoMemory → DeliveryClause pins octets (stage.Attaching parts attaching) stage.Ended name time (progress.Done (reply.Refused why)) how old new before after began faulted
     forgotten next m =
         let made : AttachesNone attaching refusal.NoMemory old new = subst (λ (w : Refusal). AttachesNone attaching w old new) m none in
         let other : why ≡ refusal.Stopped → ⊥ = λ k. memory_runs (sym m ∙ k) in
         let calm = untold_faults why began faulted other (memory_unread why m) e.faults in
-        with_did octets (stage.Attaching parts attaching) stage.Ended name time (progress.Done (reply.Refused why)) how did.Quiet old new before after began faulted (e.did_is ∙ ap failing_did m)
-        (subst (λ (w : Refusal). DeliveryClause octets (stage.Attaching parts attaching) stage.Ended name time (progress.Done (reply.Refused w)) did.Quiet old new before after began faulted) (sym m)
-        (λ behind. forgotten_save (around_saving octets (stage.Attaching parts attaching) old) behind name time octets PlacesInstance (IsTakingFile attaching.found) (IsAtSave stage.Ended) (seen_saving old before began) (seen_saving new after faulted) sees (ends_placing_instance name time octets)
-        (placing_instance_at (around_saving octets (stage.Attaching parts attaching) old) name time octets attaching.found left (candidate_runs parts attaching old e.ran ∙ next)) refl (λ run place said stood. stood.1) (goes other calm made.1)
-        (stays_told old new before after began faulted e.ran made.1 e.grows (same_reads began faulted calm) (same_changes began faulted calm))))
+        with_did pins octets (stage.Attaching parts attaching) stage.Ended name time (progress.Done (reply.Refused why)) how did.Quiet old new before after began faulted (e.did_is ∙ ap failing_did m)
+        (subst (λ (w : Refusal). DeliveryClause pins octets (stage.Attaching parts attaching) stage.Ended name time (progress.Done (reply.Refused w)) did.Quiet old new before after began faulted) (sym m)
+        (λ behind. forgotten_save (around_saving octets (stage.Attaching parts attaching) old) behind name time octets PlacesInstance (IsTakingFile attaching.found) (IsAtSave stage.Ended) (seen_of pins old before began) (seen_of pins new after faulted) sees (ends_placing_instance name time octets)
+        (placing_instance_at (around_saving octets (stage.Attaching parts attaching) old) name time octets attaching.found left (next)) refl (λ run place said stood. stood.1) (goes other calm made.1)
+        (stays_told pins old new before after began faulted e.ran made.1 e.grows (same_reads began faulted calm) (same_changes began faulted calm))))
 
-    fell : next_candidate attaching old.instances ≡ None → why ≡ refusal.Stopped → DeliveryClause octets (stage.Attaching parts attaching) stage.Ended name time (progress.Done (reply.Refused why)) how old new before after began faulted
+    fell : next_candidate attaching old.instances ≡ None → why ≡ refusal.Stopped → DeliveryClause pins octets (stage.Attaching parts attaching) stage.Ended name time (progress.Done (reply.Refused why)) how old new before after began faulted
     fell next is =
         let made : AttachesNone attaching refusal.Stopped old new = subst (λ (w : Refusal). AttachesNone attaching w old new) is none in
         let fault = fell_by why began faulted is e.faults in
@@ -261,16 +262,16 @@ attaching_refused parts attaching why name time size octets how old new before a
         let stop : progress.Done (reply.Refused why) ≡ stopped_reply = ap (λ (w : Refusal). progress.Done (reply.Refused w)) is in
         let drawn = ap (λ (v : StoreValue _). v.drawn) k in
         let number = ap (λ (h : Highest). h.instance) drawn in
-        with_did octets (stage.Attaching parts attaching) stage.Ended name time (progress.Done (reply.Refused why)) how did.Failed old new before after began faulted (e.did_is ∙ ap failing_did is)
-        (subst (λ (w : Refusal). DeliveryClause octets (stage.Attaching parts attaching) stage.Ended name time (progress.Done (reply.Refused w)) did.Failed old new before after began faulted) (sym is)
-        (λ behind. fallen_save (around_saving octets (stage.Attaching parts attaching) old) behind name time octets PlacesInstance (IsTakingFile attaching.found) (IsAtSave stage.Ended) (record no_numbers { instance = 1 }) (seen_saving old before began) (seen_saving new after faulted) sees (ends_placing_instance name time octets)
-        (placing_instance_at (around_saving octets (stage.Attaching parts attaching) old) name time octets attaching.found left (candidate_runs parts attaching old e.ran ∙ next)) (λ run event. inr refl)
-        (stays_so (record no_numbers { instance = 1 }) old new before after began faulted e.ran (ap (λ (v : StoreValue _). v.map) k) (drawn ∙ drawn_instance old.drawn) (ap (λ (v : StoreValue _). v.dues) k) (ap (λ (v : StoreValue _). indexes_of v.boxes) k)
-        (let d = ap (λ (h : Highest). h.file) drawn in omega (arith, d)) (same_ends old new (bars_same old new (let d = ap (λ (v : StoreValue _). v.drawn.file) k in omega (arith, d)) (ap (λ (v : StoreValue _). v.files.files) k)) (λ n. ap (λ (v : StoreValue _). end_in n v.files.files) k))
+        with_did pins octets (stage.Attaching parts attaching) stage.Ended name time (progress.Done (reply.Refused why)) how did.Failed old new before after began faulted (e.did_is ∙ ap failing_did is)
+        (subst (λ (w : Refusal). DeliveryClause pins octets (stage.Attaching parts attaching) stage.Ended name time (progress.Done (reply.Refused w)) did.Failed old new before after began faulted) (sym is)
+        (λ behind. fallen_save (around_saving octets (stage.Attaching parts attaching) old) behind name time octets PlacesInstance (IsTakingFile attaching.found) (IsAtSave stage.Ended) (record no_numbers { instance = 1 }) (seen_of pins old before began) (seen_of pins new after faulted) sees (ends_placing_instance name time octets)
+        (placing_instance_at (around_saving octets (stage.Attaching parts attaching) old) name time octets attaching.found left (next)) (λ run event. inr refl)
+        (stays_so pins (record no_numbers { instance = 1 }) old new before after began faulted e.ran (ap (λ (v : StoreValue _). v.map) k) (drawn ∙ drawn_instance old.drawn) (ap (λ (v : StoreValue _). v.dues) k) (ap (λ (v : StoreValue _). indexes_of v.boxes) k)
+        (let d = ap (λ (h : Highest). h.file) drawn in omega (arith, d)) (same_ends old new (tells_same old new (let d = ap (λ (v : StoreValue _). v.drawn.file) k in omega (arith, d)) (ap (λ (v : StoreValue _). v.files.files) k)) (λ n. ap (λ (v : StoreValue _). end_in n v.files.files) k))
         (record { drawn = omega (arith, number); known = λ row. ap (λ (v : StoreValue _). knows_in v.instances.known row) k }) e.grows (equal_reads began faulted fault.reads) fault.changes)
         e.ran (e.stopped.0 stop) (fault.rose tt) (λ lists t. e.moments lists t)))
 
-    by_candidate : (o : Option InstRow) → next_candidate attaching old.instances ≡ o → IsAttachRefusal o old.drawn.instance why → DeliveryClause octets (stage.Attaching parts attaching) stage.Ended name time (progress.Done (reply.Refused why)) how old new before after began faulted
+    by_candidate : (o : Option InstRow) → next_candidate attaching old.instances ≡ o → IsAttachRefusal o old.drawn.instance why → DeliveryClause pins octets (stage.Attaching parts attaching) stage.Ended name time (progress.Done (reply.Refused why)) how old new before after began faulted
     by_candidate (Some candidate) next is = unread candidate next is
     by_candidate None next (inl used) = let u = uid_full (nat_le 4294967294 old.drawn.instance) why used in full next u.1 u.0
     by_candidate None next (inr (some, inl is)) = fell next is

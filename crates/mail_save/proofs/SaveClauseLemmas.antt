@@ -21,9 +21,10 @@ use Rattle.store_core.specs.Running.{IsStore}
 use Rattle.store_core.specs.StoreInstances.{AreInstancesKept}
 use Rattle.store_core.specs.Value.{StoreValue}
 use Rattle.task_steps.specs.Step.{Seen, HasComeTo, FindsRoom, Leads, Fell, Went, EndsRequest, DidEvent, Steps, ended_by}
+use Rattle.store_seen.specs.Seeing.{seen_of}
 use Rattle.mail_save.specs.Ready.{IsReadyToSave}
 use Rattle.mail_save.specs.SaveEffects.{LetsGo}
-use Rattle.mail_save.specs.SaveSeen.{HasItsParts, IsAtSave, StepsWithRoom, around_saving, seen_saving}
+use Rattle.mail_save.specs.SaveSeen.{HasItsParts, IsAtSave, StepsWithRoom, around_saving}
 use Rattle.mail_save.specs.Task.{FaultsAt, HasLeft, MomentsAt, RepliesAt, RestsAt, saved_did, stopped_reply}
 use Rattle.mail_save.specs.declared.task.SaveStage.{SaveStage}
 use Rattle.mail_save.proofs.SaveDidLemmas.{fall}
@@ -54,13 +55,13 @@ pub record EventOf {D : Type 0} (now next : SaveStage) (name : List ℕ) (time s
   pub faults : FaultsAt answer began faulted
   pub grows : Grows before after
 
-abbrev pub DeliveryClause : {D : Type 0} → List ℕ → SaveStage → SaveStage → List ℕ → ℕ → Progress → Did → StoreValue D → StoreValue D → Option History → Option History → Faults → Faults → Type 0
-DeliveryClause octets now next name time answer how old new before after began faulted =
-    (behind : Around) → StepsWithRoom (IsAtSave now) (IsAtSave next) (around_saving octets now old) behind (request.Deliver name time octets) (seen_saving old before began) (seen_saving new after faulted) how (ended_by answer)
+abbrev pub DeliveryClause : {D : Type 0} → (pins : ℕ → ℕ) → List ℕ → SaveStage → SaveStage → List ℕ → ℕ → Progress → Did → StoreValue D → StoreValue D → Option History → Option History → Faults → Faults → Type 0
+DeliveryClause pins octets now next name time answer how old new before after began faulted =
+    (behind : Around) → StepsWithRoom (IsAtSave now) (IsAtSave next) (around_saving octets now old) behind (request.Deliver name time octets) (seen_of pins old before began) (seen_of pins new after faulted) how (ended_by answer)
 
-pub with_did : {D : Type 0} → (octets : List ℕ) (now next : SaveStage) (name : List ℕ) (time : ℕ) (answer : Progress) (how known : Did) (old new : StoreValue D) (before after : Option History) (began faulted : Faults) → how ≡ known
-    → DeliveryClause octets now next name time answer known old new before after began faulted → DeliveryClause octets now next name time answer how old new before after began faulted
-with_did octets now next name time answer how known old new before after began faulted same = subst (λ (h : Did). DeliveryClause octets now next name time answer h old new before after began faulted) (sym same)
+pub with_did : {D : Type 0} → (pins : ℕ → ℕ) (octets : List ℕ) (now next : SaveStage) (name : List ℕ) (time : ℕ) (answer : Progress) (how known : Did) (old new : StoreValue D) (before after : Option History) (began faulted : Faults) → how ≡ known
+    → DeliveryClause pins octets now next name time answer known old new before after began faulted → DeliveryClause pins octets now next name time answer how old new before after began faulted
+with_did pins octets now next name time answer how known old new before after began faulted same = subst (λ (h : Did). DeliveryClause pins octets now next name time answer h old new before after began faulted) (sym same)
 
 -- ---- instances are let go
 
@@ -126,11 +127,11 @@ abbrev let_go_of : {D : Type 0} → List InstRow → StoreValue D → StoreValue
 let_go_of found store = record store { instances = record store.instances { known = found_let_go found store.instances.known } }
 
 -- It is the same event where these instances are let go as it ends.
-pub lets_go_does : {D : Type 0} → (octets : List ℕ) (now next : SaveStage) (name : List ℕ) (time : ℕ) (answer : Progress) (how : Did) (old left new : StoreValue D) (before after : Option History) (began faulted : Faults) (found : List InstRow) → old.stopped ≡ false → LetsGo found left new
-    → DeliveryClause octets now next name time answer how old left before after began faulted → DeliveryClause octets now next name time answer how old new before after began faulted
-lets_go_does octets now next name time answer how old left new before after began faulted found ran gone does =
-    subst (λ (n : StoreValue _). DeliveryClause octets now next name time answer how old n before after began faulted) (sym gone)
-    (λ behind. steps_as (λ run place said. IsAtSave now run place said × FindsRoom (around_saving octets now old) run) (IsAtSave next) (around_saving octets now old) behind (request.Deliver name time octets) (seen_saving old before began) (seen_saving left after faulted) how (ended_by answer)
+pub lets_go_does : {D : Type 0} → (pins : ℕ → ℕ) (octets : List ℕ) (now next : SaveStage) (name : List ℕ) (time : ℕ) (answer : Progress) (how : Did) (old left new : StoreValue D) (before after : Option History) (began faulted : Faults) (found : List InstRow) → old.stopped ≡ false → LetsGo found left new
+    → DeliveryClause pins octets now next name time answer how old left before after began faulted → DeliveryClause pins octets now next name time answer how old new before after began faulted
+lets_go_does pins octets now next name time answer how old left new before after began faulted found ran gone does =
+    subst (λ (n : StoreValue _). DeliveryClause pins octets now next name time answer how old n before after began faulted) (sym gone)
+    (λ behind. steps_as (λ run place said. IsAtSave now run place said × (old.stopped ≡ false → FindsRoom (around_saving octets now old) run)) (IsAtSave next) (around_saving octets now old) behind (request.Deliver name time octets) (seen_of pins old before began) (seen_of pins left after faulted) how (ended_by answer)
     (λ row. knows_instance (let_go_of found left) row) ran (λ row. knows_let_go row found left.instances.known) (does behind))
 
 -- ---- the store in front of that

@@ -205,7 +205,7 @@ did_part around after run lane place said q lists left old new how ended answer 
         undone = λ r e. absurd (no_refusal r (sym does.unrefused ∙ e));
         drew = λ h. absurd (h does.unrefused);
         memory = λ e. absurd (no_refusal refusal.NoMemory (sym does.unrefused ∙ e));
-        may = subst (λ (r : Option Refusal). IfSome r (MayMeet event.part)) (sym does.unrefused) tt;
+        may = subst (λ (r : Option Refusal). IfSome r (MayMeet event.part q)) (sym does.unrefused) tt;
         allowed = λ e. does.allowed;
         did = λ e. does.did;
         fits = does.fits;
@@ -256,10 +256,10 @@ replied_by own event why (Some given) e h = last_with own event why e ∙ sym (h
 -- A part of a request can be refused by this, having drawn these numbers; its request ends with it or goes on.
 pub record CanRefuse (around : Around) (run : Run) (place : ℕ) (q : Request) (part : EventPart) (why : Refusal) (ended : Option Reply) (drew : Highest) : Type 0 where
   pub finds : (event : RunEvent) → Finds around q event
-  pub found : (event : RunEvent) → AgreesWithRun around run q event part
+  pub found : (event : RunEvent) → event.refused ≡ Some why → AgreesWithRun around run q event part
   pub part_is : next_part around run q (own_events place run) ≡ Some part
   pub memory : why ≡ refusal.NoMemory → has_memory part q ≡ false
-  pub may : MayMeet part why
+  pub may : MayMeet part q why
   pub ends : (ended ≢ None) ↔ (behind_refused q part why ≡ None)
   pub replied : (given : Reply) → ended ≡ Some given → refusal_in given ≡ Some why
   pub drawn : (event : RunEvent) → (drew ≡ no_numbers) ⊎ (drew ≡ draws run event q part)
@@ -275,7 +275,7 @@ did_refused around after run lane place said q part lists old new why ended answ
   so = record {
     left = lists;
     shown = shows;
-    found = can.found event;
+    found = can.found event refl;
     makes = record {
       event = event;
       lane_is = refl;
@@ -292,7 +292,7 @@ did_refused around after run lane place said q part lists old new why ended answ
         may = can.may;
         allowed = λ e. absurd (some_refusal why e);
         did = λ e. absurd (some_refusal why e);
-        fits = All-nil _;
+        fits = All-nil (MapFits (map_of run));
         ends = can.ends;
         replied = replied_by (own_events place run) event why ended refl can.replied;
       };
@@ -437,11 +437,11 @@ pub record StaysSo (drew : Highest) (old new : Seen) : Type 0 where
   pub reads : old.faults.reads ≤ new.faults.reads
   pub changes : old.faults.changes ≤ new.faults.changes
 
-pub refused_comes : (run : Run) (lane place : ℕ) (part : EventPart) (why : Refusal) (ended : Option Reply) (drew : Highest) (old new : Seen) → is_unpinning (event_of lane place part 0) ≡ false → HasComeTo run old → StaysSo drew old new
+pub refused_comes : (run : Run) (lane place : ℕ) (part : EventPart) (why : Refusal) (ended : Option Reply) (drew : Highest) (old new : Seen) → HasComeTo run old → StaysSo drew old new
     → HasComeTo (and_then run (refusal_event lane place part why ended drew (told_calls new.history))) new
-refused_comes run lane place part why ended drew old new unpins come s =
+refused_comes run lane place part why ended drew old new come s =
     let event : RunEvent = refusal_event lane place part why ended drew (told_calls new.history) in
-    comes_to_more run event old new come (comes_drawn run event old new come s.map s.drawn s.grows refl refl) (λ uid. let e = s.due uid in omega (arith, e)) (record { pins = refl; unpins = unpins; doomed = refl; removed = refl; gone = refl }) (tells_on event old new refl refl refl s.tells)
+    comes_to_more run event old new come (comes_drawn run event old new come s.map s.drawn s.grows refl refl) (λ uid. let e = s.due uid in omega (arith, e)) (record { pins = refl; unpins = refl; doomed = refl; removed = refl; gone = refl }) (tells_on event old new refl refl refl s.tells)
 
 pub stays_itself : (seen : Seen) → StaysSo no_numbers seen seen
 stays_itself seen = record {
@@ -477,22 +477,22 @@ memory_halts : (b : Bool) → b ≡ false → (ended : Option Reply) → (ended 
 memory_halts b runs ended other = record { 0 = λ e. absurd (other e); 1 = λ e. absurd (fall b e runs) }
 
 -- Out of memory.
-pub forgets : (around after : Around) (run : Run) (lane place : ℕ) (said : List Reply) (q : Request) (part : EventPart) (lists : Lists) (old new : Seen) (ended : Option Reply) → CanRefuse around run place q part refusal.NoMemory ended no_numbers → is_unpinning (event_of lane place part 0) ≡ false → HasComeTo run old → ShowsSeen old lists → HasRun old new → StaysSo no_numbers old new
+pub forgets : (around after : Around) (run : Run) (lane place : ℕ) (said : List Reply) (q : Request) (part : EventPart) (lists : Lists) (old new : Seen) (ended : Option Reply) → CanRefuse around run place q part refusal.NoMemory ended no_numbers → HasComeTo run old → ShowsSeen old lists → HasRun old new → StaysSo no_numbers old new
     → ((given : Reply) → ended ≡ Some given → IsReplyOf q said given) → (ended ≡ Some (reply.Refused refusal.Stopped) → ⊥)
     → DidBy around after run lane place said q lists old new did.Quiet ended (refusal_event lane place part refusal.NoMemory ended no_numbers (told_calls new.history)) None
-forgets around after run lane place said q part lists old new ended can unpins come shows h s replied other =
-    did_unstepped around after run lane place said q part lists old new refusal.NoMemory ended did.Quiet no_numbers can (refused_comes run lane place part refusal.NoMemory ended no_numbers old new unpins come s) (s.shown lists shows) s.grows refl memory_calm (refl, h.runs ∙ sym h.ran, h.leads lists) replied
+forgets around after run lane place said q part lists old new ended can come shows h s replied other =
+    did_unstepped around after run lane place said q part lists old new refusal.NoMemory ended did.Quiet no_numbers can (refused_comes run lane place part refusal.NoMemory ended no_numbers old new come s) (s.shown lists shows) s.grows refl memory_calm (refl, h.runs ∙ sym h.ran, h.leads lists) replied
     (memory_halts new.stopped h.runs ended other) (λ e. absurd (fall old.stopped e h.ran)) s.reads s.changes (λ x. absurd x)
 
 read_runs : Some (reply.Refused refusal.ReadFault) ≡ Some (reply.Refused refusal.Stopped) → ⊥
 read_runs e = let k : refusal.ReadFault ≡ refusal.Stopped = one_why refusal.ReadFault refusal.Stopped (one_reply (reply.Refused refusal.ReadFault) (reply.Refused refusal.Stopped) e) in cc k
 
 -- A read failed, and the request ends with that.
-pub misreads : (around after : Around) (run : Run) (lane place : ℕ) (said : List Reply) (q : Request) (part : EventPart) (lists : Lists) (old new : Seen) → CanRefuse around run place q part refusal.ReadFault (Some (reply.Refused refusal.ReadFault)) no_numbers → is_unpinning (event_of lane place part 0) ≡ false
+pub misreads : (around after : Around) (run : Run) (lane place : ℕ) (said : List Reply) (q : Request) (part : EventPart) (lists : Lists) (old new : Seen) → CanRefuse around run place q part refusal.ReadFault (Some (reply.Refused refusal.ReadFault)) no_numbers
     → HasComeTo run old → ShowsSeen old lists → old.stopped ≡ false → new.stopped ≡ false → ((lists : Lists) → Leads lists lists old new) → StaysSo no_numbers old new → Rose old.faults.reads new.faults.reads → IsReplyOf q said (reply.Refused refusal.ReadFault)
     → DidBy around after run lane place said q lists old new did.Quiet (Some (reply.Refused refusal.ReadFault)) (refusal_event lane place part refusal.ReadFault (Some (reply.Refused refusal.ReadFault)) no_numbers (told_calls new.history)) None
-misreads around after run lane place said q part lists old new can unpins come shows ran runs leads s rose is =
-    did_refused around after run lane place said q part lists old new refusal.ReadFault (Some (reply.Refused refusal.ReadFault)) None did.Quiet no_numbers can (refused_comes run lane place part refusal.ReadFault (Some (reply.Refused refusal.ReadFault)) no_numbers old new unpins come s) (s.shown lists shows) s.grows
+misreads around after run lane place said q part lists old new can come shows ran runs leads s rose is =
+    did_refused around after run lane place said q part lists old new refusal.ReadFault (Some (reply.Refused refusal.ReadFault)) None did.Quiet no_numbers can (refused_comes run lane place part refusal.ReadFault (Some (reply.Refused refusal.ReadFault)) no_numbers old new come s) (s.shown lists shows) s.grows
     (λ e. absurd (unstepped e)) refl refl (refl, runs ∙ sym ran, leads lists) (record {
       in_turn = λ some. absurd (unstepped some);
       replied = λ given e. subst (λ (r : Reply). IsReplyOf q said r) (one_reply (reply.Refused refusal.ReadFault) given e) is;
@@ -506,18 +506,18 @@ abbrev pub stopped_answer : Option Reply
 stopped_answer = Some (reply.Refused refusal.Stopped)
 
 -- A store that was stopped.
-pub stops_before : (around after : Around) (run : Run) (lane place : ℕ) (said : List Reply) (q : Request) (part : EventPart) (lists : Lists) (seen : Seen) → CanRefuse around run place q part refusal.Stopped stopped_answer no_numbers → is_unpinning (event_of lane place part 0) ≡ false → HasComeTo run seen → ShowsSeen seen lists
+pub stops_before : (around after : Around) (run : Run) (lane place : ℕ) (said : List Reply) (q : Request) (part : EventPart) (lists : Lists) (seen : Seen) → CanRefuse around run place q part refusal.Stopped stopped_answer no_numbers → HasComeTo run seen → ShowsSeen seen lists
     → IsReplyOf q said (reply.Refused refusal.Stopped) → seen.stopped ≡ true
     → DidBy around after run lane place said q lists seen seen did.Quiet stopped_answer (refusal_event lane place part refusal.Stopped stopped_answer no_numbers (told_calls seen.history)) None
-stops_before around after run lane place said q part lists seen can unpins come shows is stopped =
-    did_unstepped around after run lane place said q part lists seen seen refusal.Stopped stopped_answer did.Quiet no_numbers can (refused_comes run lane place part refusal.Stopped stopped_answer no_numbers seen seen unpins come (stays_itself seen)) shows (omega arith) refl stopped_calm (refl, refl, nothing lists seen)
+stops_before around after run lane place said q part lists seen can come shows is stopped =
+    did_unstepped around after run lane place said q part lists seen seen refusal.Stopped stopped_answer did.Quiet no_numbers can (refused_comes run lane place part refusal.Stopped stopped_answer no_numbers seen seen come (stays_itself seen)) shows (omega arith) refl stopped_calm (refl, refl, nothing lists seen)
     (λ given e. subst (λ (r : Reply). IsReplyOf q said r) (one_reply (reply.Refused refusal.Stopped) given e) is) (record { 0 = λ e. stopped; 1 = λ e. refl }) (λ e. refl) (omega arith) (omega arith) (λ x. absurd x)
 
 -- A change of the disk failed: it was no step, or would have been one (`went`).
-pub falls : (around after : Around) (run : Run) (lane place : ℕ) (said : List Reply) (q : Request) (part : EventPart) (lists : Lists) (old new : Seen) (how : Did) (drew : Highest) → CanRefuse around run place q part refusal.Stopped stopped_answer drew → is_unpinning (event_of lane place part 0) ≡ false → HasComeTo run old → StaysSo drew old new → ShowsSeen old lists
+pub falls : (around after : Around) (run : Run) (lane place : ℕ) (said : List Reply) (q : Request) (part : EventPart) (lists : Lists) (old new : Seen) (how : Did) (drew : Highest) → CanRefuse around run place q part refusal.Stopped stopped_answer drew → HasComeTo run old → StaysSo drew old new → ShowsSeen old lists
     → IsReplyOf q said (reply.Refused refusal.Stopped) → old.stopped ≡ false → new.stopped ≡ true → Rose old.faults.changes new.faults.changes
     → Went how q run lists lists (refusal_event lane place part refusal.Stopped stopped_answer drew (told_calls new.history)) None old new
     → DidBy around after run lane place said q lists old new how stopped_answer (refusal_event lane place part refusal.Stopped stopped_answer drew (told_calls new.history)) None
-falls around after run lane place said q part lists old new how drew can unpins come s shows is ran stopped rose went =
-    did_unstepped around after run lane place said q part lists old new refusal.Stopped stopped_answer how drew can (refused_comes run lane place part refusal.Stopped stopped_answer drew old new unpins come s) (s.shown lists shows) s.grows refl stopped_calm went
+falls around after run lane place said q part lists old new how drew can come s shows is ran stopped rose went =
+    did_unstepped around after run lane place said q part lists old new refusal.Stopped stopped_answer how drew can (refused_comes run lane place part refusal.Stopped stopped_answer drew old new come s) (s.shown lists shows) s.grows refl stopped_calm went
     (λ given e. subst (λ (r : Reply). IsReplyOf q said r) (one_reply (reply.Refused refusal.Stopped) given e) is) (record { 0 = λ e. stopped; 1 = λ e. refl }) (λ e. absurd (fall old.stopped e ran)) s.reads s.changes (λ x. rose)

@@ -39,11 +39,10 @@ use Rattle.mail_save.proofs.SaveDidLemmas.{fall, or_none, some_part, given_more,
 -- ---- what an event finds
 
 -- It knows how many parts of the message are to be detached; a candidate is known, and a file that has room may be taken and
--- appended to. A stopped store has neither.
+-- appended to.
 pub record SeesAround (octets : List ℕ) (around : Around) (seen : Seen) : Type 0 where
   pub parts : around.parts ≡ length (filter (λ part. part.detachable) (parts_in octets))
-  pub candidate : (instance : InstRow) → around.candidate ≡ Some instance → (seen.stopped ≡ false) × (seen.instances instance ≡ true)
-  pub runs : (file : ℕ) → around.room ≡ Some file → seen.stopped ≡ false
+  pub candidate : (instance : InstRow) → around.candidate ≡ Some instance → seen.instances instance ≡ true
   pub some : (file : ℕ) → around.room ≡ Some file → 1 ≤ file
   pub known : (file : ℕ) → around.room ≡ Some file → seen.files file ≡ true
   pub unsealed : (file : ℕ) → around.room ≡ Some file → is_sealed seen.map file ≡ false
@@ -54,12 +53,12 @@ not_so : (b : Bool) → (b ≡ true → ⊥) → b ≡ false
 not_so true f = absurd (f refl)
 not_so false f = refl
 
-pub finds_place : (octets : List ℕ) (around : Around) (run : Run) (seen : Seen) → SeesAround octets around seen → HasComeTo run seen → FindsRoom around run → FindsPlace run around
-finds_place octets around run seen s come free = record { candidate = by_candidate around.candidate refl; room = by_room around.room refl free; unbarred = by_bars around.room refl }
+pub finds_place : (octets : List ℕ) (around : Around) (run : Run) (seen : Seen) → SeesAround octets around seen → HasComeTo run seen → seen.stopped ≡ false → FindsRoom around run → FindsPlace run around
+finds_place octets around run seen s come runs free = record { candidate = by_candidate around.candidate refl; room = by_room around.room refl free; unbarred = by_bars around.room refl }
   where
     by_candidate : (o : Option InstRow) → around.candidate ≡ o → IfSome o (λ instance. is_known_instance run instance ≡ true)
     by_candidate None e = tt
-    by_candidate (Some instance) e = let c = s.candidate instance e in (come.keeps c.0).instances instance ∙ c.1
+    by_candidate (Some instance) e = (come.keeps runs).instances instance ∙ s.candidate instance e
 
     by_room : (o : Option ℕ) → around.room ≡ o → IfSome o (λ file. is_taken run file ≡ false) → IfSome o (IsFreeFile run)
     by_room None e untaken = tt
@@ -68,7 +67,7 @@ finds_place octets around run seen s come free = record { candidate = by_candida
       known = come.files file (s.known file e);
       untaken = untaken;
       unsealed = ap (λ (m : MapMeaning). is_sealed m file) come.come.map_is ∙ s.unsealed file e;
-      undoomed = (come.keeps (s.runs file e)).doomed file ∙ s.undoomed file e;
+      undoomed = (come.keeps runs).doomed file ∙ s.undoomed file e;
     }
 
     by_bars : (o : Option ℕ) → around.room ≡ o → IfSome o (λ file. is_one_of run.barred file ≡ false)
@@ -109,11 +108,11 @@ begins_save around after name time octets old new sees keeps drawn tells allowed
       ended_is = refl;
       unrefused = refl;
       finds = sees.parts;
-      found = finds_place octets around run old sees come stood.1;
+      found = λ looked. finds_place octets around run old sees come keeps.run.ran (stood.1 keeps.run.ran);
       part_is = ap (λ (es : List RunEvent). next_part around run q es) stood.0.0;
       allowed = allowed run lists event come shows;
       did = refl;
-      fits = All-nil _;
+      fits = All-nil (MapFits (map_of run));
       ends = record { 0 = λ h. absurd (h refl); 1 = λ h. absurd (never_last after (and_then run event) place h) };
       replied = tt;
     })
@@ -161,11 +160,11 @@ compares_part around after name time octets rows candidate alike old new sees ne
       ended_is = refl;
       unrefused = refl;
       finds = sees.parts;
-      found = finds_place octets around run old sees come stood.1;
+      found = λ looked. finds_place octets around run old sees come keeps.run.ran (stood.1 keeps.run.ran);
       part_is = attaches_next around run name time octets rows place left s ∙ ap (λ (o : Option InstRow). if is_some o then Some Compares else Some PlacesInstance) next;
       allowed = refl;
       did = (candidate, alike, next, refl);
-      fits = All-nil _;
+      fits = All-nil (MapFits (map_of run));
       ends = record { 0 = λ h. absurd (h refl); 1 = λ h. absurd (never_last after (and_then run event) place h) };
       replied = tt;
     })
@@ -198,11 +197,11 @@ places_part around after name time octets rows row old new sees none left number
       ended_is = refl;
       unrefused = refl;
       finds = sees.parts;
-      found = finds_place octets around run old sees come stood.1;
+      found = λ looked. finds_place octets around run old sees come keeps.run.ran (stood.1 keeps.run.ran);
       part_is = attaches_next around run name time octets rows place left s ∙ ap (λ (o : Option InstRow). if is_some o then Some Compares else Some PlacesInstance) none;
       allowed = ap (λ (b : Bool). option_or (refused_where b (refusal.StoreFull 4294967294)) None) (few_left (drawn_of run).instance (omega (arith, same, few)));
       did = (row, ap (λ (k : List ℕ). instance_number k row.id.0) id ∙ (number ∙ ap (λ (n : ℕ). n + 1) (sym same)), refl);
-      fits = All-nil _;
+      fits = All-nil (MapFits (map_of run));
       ends = record { 0 = λ h. absurd (h refl); 1 = λ h. absurd (never_last after (and_then run event) place h) };
       replied = tt;
     })
@@ -230,11 +229,11 @@ takes_known around after name time octets rows file old new sees all room keeps 
       ended_is = refl;
       unrefused = refl;
       finds = sees.parts;
-      found = finds_place octets around run old sees come stood.1;
+      found = λ looked. finds_place octets around run old sees come keeps.run.ran (stood.1 keeps.run.ran);
       part_is = takes_next around run name time octets rows place all s ∙ ap (λ (r : Option ℕ). Some (TakesFile (is_none r))) room;
       allowed = refl;
       did = ap (λ (r : Option ℕ). record (event_of lane place (TakesFile false) (told_calls new.history)) { files = record { file = option_map_or (λ f. f) r ((drawn_of run).file + 1); target = 0 } ∷ [] }) (sym room);
-      fits = All-nil _;
+      fits = All-nil (MapFits (map_of run));
       ends = record { 0 = λ h. absurd (h refl); 1 = λ h. absurd (some_part PlacesMessage h) };
       replied = tt;
     })
@@ -264,12 +263,12 @@ takes_new around after name time octets rows file old new sees all room next few
       ended_is = refl;
       unrefused = refl;
       finds = sees.parts;
-      found = finds_place octets around run old sees come stood.1;
+      found = λ looked. finds_place octets around run old sees come keeps.run.ran (stood.1 keeps.run.ran);
       part_is = takes_next around run name time octets rows place all s ∙ ap (λ (r : Option ℕ). Some (TakesFile (is_none r))) room;
       allowed = ap (λ (b : Bool). option_or (refused_where b (refusal.StoreFull 4294967294)) None) (next_fits (drawn_of run).file (omega (arith, same, few)));
       did = ap (λ (n : ℕ). record (event_of lane place (TakesFile true) (told_calls new.history)) { files = record { file = n; target = 0 } ∷ []; made = n ∷ []; drew = record no_numbers { file = 1 } }) number
           ∙ ap (λ (r : Option ℕ). record (event_of lane place (TakesFile true) (told_calls new.history)) { files = record { file = option_map_or (λ f. f) r ((drawn_of run).file + 1); target = 0 } ∷ []; made = ((drawn_of run).file + 1) ∷ []; drew = record no_numbers { file = 1 } }) (sym room);
-      fits = All-nil _;
+      fits = All-nil (MapFits (map_of run));
       ends = record { 0 = λ h. absurd (h refl); 1 = λ h. absurd (some_part PlacesMessage h) };
       replied = tt;
     })
@@ -337,11 +336,11 @@ places_message around after name time octets rows file guid old new sees long ea
       ended_is = refl;
       unrefused = refl;
       finds = sees.parts;
-      found = finds_place octets around run old sees come stood.1;
+      found = λ looked. finds_place octets around run old sees come keeps.run.ran (stood.1 keeps.run.ran);
       part_is = places_next around run name time octets rows file (own_events place run) s;
       allowed = refl;
       did = (guid, taken_file place run rows file s ∙ ap (λ (n : ℕ). Some n) (sym own), long, refl);
-      fits = All-nil _;
+      fits = All-nil (MapFits (map_of run));
       ends = record { 0 = λ h. absurd (h refl); 1 = λ h. absurd (some_part StoresRecord h) };
       replied = tt;
     })
@@ -413,7 +412,7 @@ stores_message around after name time octets rows file guid uid size offset old 
       ended_is = refl;
       unrefused = refl;
       finds = sees.parts;
-      found = finds_place octets around run old sees come stood.1;
+      found = λ looked. finds_place octets around run old sees come h.ran (stood.1 h.ran);
       part_is = stores_next around run name time octets rows file guid (own_events place run) s;
       allowed = ap (λ (b : Bool). option_or (refused_where b (refusal.StoreFull 4294967294)) None) (few_uids (drawn_of run).map (omega (arith, same, few)));
       did = (
@@ -425,7 +424,7 @@ stores_message around after name time octets rows file guid uid size offset old 
             ∙ (ap (λ (n : ℕ). stored_event lane place ((drawn_of run).map + 1) (guid_file run.store guid) n size guid rows (told_calls new.history)) place_is
             ∙ ap (λ (is : List InstRow). stored_event lane place ((drawn_of run).map + 1) (guid_file run.store guid) (number_at 12 guid) size guid is (told_calls new.history)) (sym (found_rows place run rows file guid s)))),
       );
-      fits = All-cons (MapFits (map_of run)) entry [] (subst (λ (m : MapMeaning). MapFits m entry) (sym come.come.map_is) fits) (All-nil _);
+      fits = All-cons (MapFits (map_of run)) entry [] (subst (λ (m : MapMeaning). MapFits m entry) (sym come.come.map_is) fits) (All-nil (MapFits (map_of run)));
       ends = record { 0 = λ h. absurd (h refl); 1 = λ h. absurd (some_part Last h) };
       replied = tt;
     })

@@ -28,9 +28,10 @@ use Rattle.list_machine.specs.Machine.{first_refusal, part_checks, is_step, IsDe
 use Rattle.list_machine.proofs.MachineOrderLemmas.{answers_well}
 use Rattle.journal.specs.Journal.{halves_of, refusal_in, IsReplyOf}
 use Rattle.journal.specs.Events.{Around, MayMeet, adds_to, lowers}
+use Rattle.journal.specs.Found.{FindsPlace}
 use Rattle.journal.proofs.RunLemmas.{drawn_none}
 use Rattle.task_steps.specs.ExpungeStages.{one_due}
-use Rattle.task_steps.specs.Step.{Seen, ShowsSeen, HasComeTo, FindsRoom}
+use Rattle.task_steps.specs.Step.{Seen, ShowsSeen, HasComeTo}
 use Rattle.task_steps.proofs.SeenLemmas.{no_guids}
 use Rattle.task_steps.proofs.OneEventLemmas.{never_more, step_may}
 use Rattle.mail_save.specs.Events.{box_refusal}
@@ -40,7 +41,7 @@ use Rattle.mail_save.proofs.SaveRunLemmas.{adds_next, gives_back_behind, gives_b
 use Rattle.mail_save.proofs.SaveDidLemmas.{no_reply, some_reply, some_part, one_reply, unstepped, step_runs, HasRun, KeepsTelling, StaysSo, comes_drawn, comes_stored, comes_to_more, tells_on, refused_comes, CanRefuse, did_part, did_check, ends_well, forgets, falls, stops_before, stopped_answer, refusal_event, stands_by}
 use Rattle.mail_save.proofs.SaveFrontLemmas.{SeesAround, finds_place, own_first}
 use Rattle.mail_save.proofs.SaveListLemmas.{AddsTo, adds_to_box, box_checked, has_room, made_of}
-use Rattle.mail_save.proofs.SaveRefusedLemmas.{deliver, step_replied, lowering_why}
+use Rattle.mail_save.proofs.SaveRefusedLemmas.{deliver, never_looked, step_replied, lowering_why}
 
 -- ---- the mailbox that it is added to
 
@@ -136,11 +137,11 @@ saved_message around after name time octets guid held number uid Stands old new 
             ended_is = refl;
             unrefused = refl;
             finds = sees.parts;
-            found = finds_place octets around run old sees come stood.1;
+            found = λ looked. finds_place octets around run old sees come a.ran (stood.1 a.ran);
             part_is = adds_next around run name time octets guid.0 held (own_events place run) s;
             allowed = allowed;
             did = (guid.0, given_before place run guid.0 held s, (k.mailbox, held, k.named, held_stored place run guid.0 held s, refl));
-            fits = All-nil _;
+            fits = All-nil (MapFits (map_of run));
             ends = record { 0 = λ e. refl; 1 = λ e g. some_reply (reply.Saved uid guid) g };
             replied = saved_refusal (own_events place run) guid.0 held event s refl;
           })
@@ -172,11 +173,11 @@ pub record FailsToAdd (time : ℕ) (octets guid : List ℕ) (uid number held : �
   pub rose : Rose old.faults.changes new.faults.changes
   pub moments : (lists : Lists) → IsSettledFor lists old.history → Leaves lists (lists_by number octets (made_of octets (record { 0 = uid }) time (record { 0 = held }) (record { 0 = guid })) lists) old.history new.history
 
-add_stops : (around : Around) (run : Run) (place : ℕ) (name : List ℕ) (time : ℕ) (octets guid : List ℕ) (held : ℕ) (said : List Reply) (seen : Seen) → SeesAround octets around seen → HasComeTo run seen → IsAddingMessage guid held run place said → FindsRoom around run
+add_stops : (around : Around) (run : Run) (place : ℕ) (name : List ℕ) (time : ℕ) (octets guid : List ℕ) (held : ℕ) (said : List Reply) (seen : Seen) → SeesAround octets around seen → IsAddingMessage guid held run place said
     → CanRefuse around run place (deliver name time octets) Last refusal.Stopped stopped_answer no_numbers
-add_stops around run place name time octets guid held said seen sees come stood free = record {
+add_stops around run place name time octets guid held said seen sees stood = record {
   finds = λ event. sees.parts;
-  found = λ event. finds_place octets around run seen sees come free;
+  found = λ event is looked. absurd (never_looked event refusal.Stopped is refl looked);
   part_is = adds_next around run name time octets guid held (own_events place run) stood.0;
   memory = λ e. refl;
   may = tt;
@@ -189,7 +190,7 @@ add_stops around run place name time octets guid held said seen sees come stood 
 pub unsaved_stopped : (around after : Around) (name : List ℕ) (time : ℕ) (octets guid : List ℕ) (held : ℕ) (Stands : Run → ℕ → List Reply → Type 0) (seen : Seen) → SeesAround octets around seen → seen.stopped ≡ true
     → StepsWithRoom (IsAddingMessage guid held) Stands around after (deliver name time octets) seen seen did.Quiet stopped_answer
 unsaved_stopped around after name time octets guid held Stands seen sees stopped = λ run lane place said lists come shows stood. (
-  (stops_before around after run lane place said (deliver name time octets) Last lists seen (add_stops around run place name time octets guid held said seen sees come stood.0 stood.1) refl come shows tt stopped).so,
+  (stops_before around after run lane place said (deliver name time octets) Last lists seen (add_stops around run place name time octets guid held said seen sees stood.0) come shows tt stopped).so,
   λ e. absurd (never_more _ e),
 )
 
@@ -203,7 +204,7 @@ broken_save around after name time octets guid held number uid Stands old new se
     let s = stood.0.0 in
     let allowed = room_allows run name octets guid.0 time uid.0 number old lists would f shows.1 in
     let made = is_delivered run lane place said name time octets guid.0 uid.0 number held old lists None (told_calls new.history) f shows stood.0.1 k in (
-      (falls around after run lane place said q Last lists old new (did.Broken half.Whole) no_numbers (add_stops around run place name time octets guid.0 held said old sees come stood.0 stood.1) refl come a.stays shows tt a.ran a.stopped a.rose (
+      (falls around after run lane place said q Last lists old new (did.Broken half.Whole) no_numbers (add_stops around run place name time octets guid.0 held said old sees stood.0) come a.stays shows tt a.ran a.stopped a.rose (
         record { refused = refl; unanswered = refl; ran = a.ran; stopped = a.stopped },
         refl,
         (
@@ -225,11 +226,11 @@ broken_save around after name time octets guid held number uid Stands old new se
 
 -- ---- it is refused, and goes on
 
-add_goes_on : (around : Around) (run : Run) (place : ℕ) (name : List ℕ) (time : ℕ) (octets guid : List ℕ) (held : ℕ) (said : List Reply) (why : Refusal) (seen : Seen) → SeesAround octets around seen → HasComeTo run seen → IsAddingMessage guid held run place said → FindsRoom around run → (why ≡ refusal.Stopped → ⊥)
-    → MayMeet Last why → CanRefuse around run place (deliver name time octets) Last why None no_numbers
-add_goes_on around run place name time octets guid held said why seen sees come stood free other may = record {
+add_goes_on : (around : Around) (run : Run) (place : ℕ) (name : List ℕ) (time : ℕ) (octets guid : List ℕ) (held : ℕ) (said : List Reply) (why : Refusal) (seen : Seen) → SeesAround octets around seen → IsAddingMessage guid held run place said → FindsPlace run around → (why ≡ refusal.Stopped → ⊥)
+    → MayMeet Last (deliver name time octets) why → CanRefuse around run place (deliver name time octets) Last why None no_numbers
+add_goes_on around run place name time octets guid held said why seen sees stood place_is other may = record {
   finds = λ event. sees.parts;
-  found = λ event. finds_place octets around run seen sees come free;
+  found = λ event is looked. place_is;
   part_is = adds_next around run name time octets guid held (own_events place run) stood.0;
   memory = λ e. refl;
   may = may;
@@ -269,7 +270,7 @@ pub refused_message : (around after : Around) (name : List ℕ) (time : ℕ) (oc
 refused_message around after name time octets guid held why old new sees step refuses h stays = λ run lane place said lists come shows stood.
     let q = deliver name time octets in
     stands_by around after run lane place said q lists old new (did.Step half.Whole) None (refusal_event lane place Last why None no_numbers (told_calls new.history)) (Some (reply.Refused why)) (IsLoweringCount held why)
-    (did_check around after run lane place said q Last lists old new why None half.Whole (add_goes_on around run place name time octets guid held said why old sees come stood.0 stood.1 (step_runs why step) (step_may Last why step)) (refused_comes run lane place Last why None no_numbers old new refl come stays) (h.shown lists shows) h.grows h.ran h.runs (h.leads lists) step refl
+    (did_check around after run lane place said q Last lists old new why None half.Whole (add_goes_on around run place name time octets guid held said why old sees stood.0 (finds_place octets around run old sees come h.ran (stood.1 h.ran)) (step_runs why step) (step_may Last q why step)) (refused_comes run lane place Last why None no_numbers old new come stays) (h.shown lists shows) h.grows h.ran h.runs (h.leads lists) step refl
     (ap (λ (r : List Reply). slice_get (half.Whole ∷ []) (length r)) stood.0.2) (λ event. box_checked run name old.map.boxes old.meanings lists [] shows.1 ∙ ap (λ (r : Option Refusal). option_or r None) refuses) (λ given e. absurd (no_reply given e)) (λ e. no_reply (reply.Refused refusal.Stopped) e) h.reads h.changes)
     (λ goes_on. lowers_next place lane (told_calls new.history) run guid held said why (said ++ reply.Refused why ∷ []) stood.0 (ap (λ (r : List Reply). r ++ reply.Refused why ∷ []) stood.0.2 ∙ sym (ap (λ (b : Bool). if b then reply.Refused why ∷ [] else []) step)) (inl step))
 
@@ -278,7 +279,7 @@ pub forgotten_message : (around after : Around) (name : List ℕ) (time : ℕ) (
 forgotten_message around after name time octets guid held old new sees h stays = λ run lane place said lists come shows stood.
     let q = deliver name time octets in
     stands_by around after run lane place said q lists old new did.Quiet None (refusal_event lane place Last refusal.NoMemory None no_numbers (told_calls new.history)) None (IsLoweringCount held refusal.NoMemory)
-    (forgets around after run lane place said q Last lists old new None (add_goes_on around run place name time octets guid held said refusal.NoMemory old sees come stood.0 stood.1 (λ e. let k : refusal.NoMemory ≡ refusal.Stopped = e in cc k) tt) refl come shows h stays (λ given e. absurd (no_reply given e)) (λ e. no_reply (reply.Refused refusal.Stopped) e))
+    (forgets around after run lane place said q Last lists old new None (add_goes_on around run place name time octets guid held said refusal.NoMemory old sees stood.0 (finds_place octets around run old sees come h.ran (stood.1 h.ran)) (λ e. let k : refusal.NoMemory ≡ refusal.Stopped = e in cc k) tt) come shows h stays (λ given e. absurd (no_reply given e)) (λ e. no_reply (reply.Refused refusal.Stopped) e))
     (λ goes_on. lowers_next place lane (told_calls new.history) run guid held said refusal.NoMemory said stood.0 stood.0.2 (inr refl))
 
 -- ---- it is given back
@@ -310,11 +311,11 @@ lowers_count around after name time octets held why Stands old new sees h fits t
             ended_is = refl;
             unrefused = refl;
             finds = sees.parts;
-            found = finds_place octets around run old sees come stood.1;
+            found = λ looked. finds_place octets around run old sees come h.ran (stood.1 h.ran);
             part_is = gives_back_next around run name time octets held why (own_events place run) other s;
             allowed = refl;
             did = (held, held_refused place run held why s, refl);
-            fits = All-cons (MapFits (map_of run)) (map_entry.D (record { 0 = held } ∷ [])) [] (subst (λ (m : MapMeaning). MapFits m (map_entry.D (record { 0 = held } ∷ []))) (sym come.come.map_is) fits) (All-nil _);
+            fits = All-cons (MapFits (map_of run)) (map_entry.D (record { 0 = held } ∷ [])) [] (subst (λ (m : MapMeaning). MapFits m (map_entry.D (record { 0 = held } ∷ []))) (sym come.come.map_is) fits) (All-nil (MapFits (map_of run)));
             ends = record { 0 = λ e. refl; 1 = λ e f. some_reply (reply.Refused why) f };
             replied = lowered_refusal (own_events place run) held why event s refl;
           })

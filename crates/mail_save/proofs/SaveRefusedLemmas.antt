@@ -15,11 +15,12 @@ use Rattle.mdbox_base.specs.declared.requests.Request.TheVariants as request
 use Rattle.mdbox_base.specs.declared.script.Half.TheVariants as half
 use Rattle.model_lists.specs.Lists.{Lists}
 use Rattle.model_meaning.specs.MapMeaning.{no_numbers}
-use Rattle.list_machine.specs.Run.{EventPart, First, Compares, PlacesInstance, TakesFile, PlacesMessage, StoresRecord, GivesBack, RunEvent, event_of, Run, own_events, is_unpinning, drawn_of}
+use Rattle.list_machine.specs.Run.{EventPart, First, Compares, PlacesInstance, TakesFile, PlacesMessage, StoresRecord, GivesBack, RunEvent, Run, own_events, drawn_of}
 use Rattle.list_machine.specs.Machine.{first_refusal, refused_where, part_checks, is_step}
 use Rattle.journal.specs.Journal.{refusal_in, IsReplyOf}
 use Rattle.journal.specs.Events.{Around, MayMeet, next_part, behind_refused, has_memory, reads_octets, draws}
-use Rattle.task_steps.specs.Step.{Seen, ShowsSeen, HasComeTo, FindsRoom, HasNotBegun, Leads, Stops}
+use Rattle.journal.specs.Found.{FindsPlace, has_looked}
+use Rattle.task_steps.specs.Step.{Seen, ShowsSeen, HasComeTo, HasNotBegun, Leads, Stops}
 use Rattle.task_steps.proofs.OneEventLemmas.{never_more, step_may}
 use Rattle.mail_save.specs.SaveSeen.{StepsWithRoom}
 use Rattle.mail_save.specs.SaveStages.{IsTakingFile, IsPlacingMessage, IsStoringMessage, IsLoweringCount}
@@ -35,38 +36,41 @@ deliver name time octets = request.Deliver name time octets
 -- a part behind whose refusal the request ends
 pub record EndsRefused (name : List ℕ) (time : ℕ) (octets : List ℕ) (part : EventPart) : Type 0 where
   pub ends : (why : Refusal) → behind_refused (deliver name time octets) part why ≡ None
-  pub pinless : (lane place : ℕ) → is_unpinning (event_of lane place part 0) ≡ false
 
 pub ends_first : (name : List ℕ) (time : ℕ) (octets : List ℕ) → EndsRefused name time octets First
-ends_first name time octets = record { ends = λ why. refl; pinless = λ lane place. refl }
+ends_first name time octets = record { ends = λ why. refl }
 
 pub ends_taking : (name : List ℕ) (time : ℕ) (octets : List ℕ) (new : Bool) → EndsRefused name time octets (TakesFile new)
-ends_taking name time octets new = record { ends = λ why. refl; pinless = λ lane place. refl }
+ends_taking name time octets new = record { ends = λ why. refl }
 
 pub ends_comparing : (name : List ℕ) (time : ℕ) (octets : List ℕ) → EndsRefused name time octets Compares
-ends_comparing name time octets = record { ends = λ why. refl; pinless = λ lane place. refl }
+ends_comparing name time octets = record { ends = λ why. refl }
 
 pub ends_placing_instance : (name : List ℕ) (time : ℕ) (octets : List ℕ) → EndsRefused name time octets PlacesInstance
-ends_placing_instance name time octets = record { ends = λ why. refl; pinless = λ lane place. refl }
+ends_placing_instance name time octets = record { ends = λ why. refl }
 
 pub ends_placing : (name : List ℕ) (time : ℕ) (octets : List ℕ) → EndsRefused name time octets PlacesMessage
-ends_placing name time octets = record { ends = λ why. refl; pinless = λ lane place. refl }
+ends_placing name time octets = record { ends = λ why. refl }
 
 pub ends_storing : (name : List ℕ) (time : ℕ) (octets : List ℕ) → EndsRefused name time octets StoresRecord
-ends_storing name time octets = record { ends = λ why. refl; pinless = λ lane place. refl }
+ends_storing name time octets = record { ends = λ why. refl }
 
 pub ends_giving : (name : List ℕ) (time : ℕ) (octets : List ℕ) → EndsRefused name time octets GivesBack
-ends_giving name time octets = record { ends = λ why. refl; pinless = λ lane place. refl }
+ends_giving name time octets = record { ends = λ why. refl }
+
+-- a refusal by which nothing was found
+pub never_looked : (event : RunEvent) (why : Refusal) → event.refused ≡ Some why → has_looked (Some why) ≡ false → has_looked event.refused ≡ true → ⊥
+never_looked event why is none looked = let k : true ≡ false = sym looked ∙ (ap has_looked is ∙ none) in cc k
 
 replies_why : (why : Refusal) (given : Reply) → Some (reply.Refused why) ≡ Some given → refusal_in given ≡ Some why
 replies_why why given e = subst (λ (r : Reply). refusal_in r ≡ Some why) (one_reply (reply.Refused why) given e) refl
 
-pub refuses_part : (around : Around) (run : Run) (place : ℕ) (name : List ℕ) (time : ℕ) (octets : List ℕ) (part : EventPart) (why : Refusal) (drew : Highest) (seen : Seen) → SeesAround octets around seen → HasComeTo run seen → FindsRoom around run → EndsRefused name time octets part → next_part around run (deliver name time octets) (own_events place run) ≡ Some part
-    → (why ≡ refusal.NoMemory → has_memory part (deliver name time octets) ≡ false) → MayMeet part why → ((event : RunEvent) → (drew ≡ no_numbers) ⊎ (drew ≡ draws run event (deliver name time octets) part)) → (is_step why ≡ true → drew ≡ no_numbers)
+pub refuses_part : (around : Around) (run : Run) (place : ℕ) (name : List ℕ) (time : ℕ) (octets : List ℕ) (part : EventPart) (why : Refusal) (drew : Highest) (seen : Seen) → SeesAround octets around seen → (has_looked (Some why) ≡ true → FindsPlace run around) → EndsRefused name time octets part → next_part around run (deliver name time octets) (own_events place run) ≡ Some part
+    → (why ≡ refusal.NoMemory → has_memory part (deliver name time octets) ≡ false) → MayMeet part (deliver name time octets) why → ((event : RunEvent) → (drew ≡ no_numbers) ⊎ (drew ≡ draws run event (deliver name time octets) part)) → (is_step why ≡ true → drew ≡ no_numbers)
     → CanRefuse around run place (deliver name time octets) part why (Some (reply.Refused why)) drew
-refuses_part around run place name time octets part why drew seen sees come free ends next memory may drawn undrawn = record {
+refuses_part around run place name time octets part why drew seen sees found ends next memory may drawn undrawn = record {
   finds = λ event. sees.parts;
-  found = λ event. finds_place octets around run seen sees come free;
+  found = λ event is looked. found (sym (ap has_looked is) ∙ looked);
   part_is = next;
   memory = memory;
   may = may;
@@ -101,7 +105,7 @@ pub stopped_save : (around after : Around) (name : List ℕ) (time : ℕ) (octet
     → StepsWithRoom Stood Stands around after (deliver name time octets) seen seen did.Quiet stopped_answer
 stopped_save around after name time octets part Stood Stands seen sees ends at stopped = λ run lane place said lists come shows stood. (
   (stops_before around after run lane place said (deliver name time octets) part lists seen
-      (refuses_part around run place name time octets part refusal.Stopped no_numbers seen sees come stood.1 ends (at.next run place said stood.0) (stopped_memory _) tt (nothing_drawn run (deliver name time octets) part) (λ s. refl)) (ends.pinless lane place) come shows tt stopped).so,
+      (refuses_part around run place name time octets part refusal.Stopped no_numbers seen sees (λ looked. absurd (let k : false ≡ true = looked in cc k)) ends (at.next run place said stood.0) (stopped_memory _) tt (nothing_drawn run (deliver name time octets) part) (λ s. refl)) come shows tt stopped).so,
   λ e. absurd (never_more _ e),
 )
 
@@ -110,7 +114,7 @@ pub fallen_save : (around after : Around) (name : List ℕ) (time : ℕ) (octets
     → StepsWithRoom Stood Stands around after (deliver name time octets) old new did.Failed stopped_answer
 fallen_save around after name time octets part Stood Stands drew old new sees ends at drawn stays ran stopped rose stops = λ run lane place said lists come shows stood. (
   (falls around after run lane place said (deliver name time octets) part lists old new did.Failed drew
-      (refuses_part around run place name time octets part refusal.Stopped drew old sees come stood.1 ends (at.next run place said stood.0) (stopped_memory _) tt (drawn run) (λ s. absurd (let k : false ≡ true = s in cc k))) (ends.pinless lane place) come stays shows tt ran stopped rose
+      (refuses_part around run place name time octets part refusal.Stopped drew old sees (λ looked. absurd (let k : false ≡ true = looked in cc k)) ends (at.next run place said stood.0) (stopped_memory _) tt (drawn run) (λ s. absurd (let k : false ≡ true = s in cc k))) come stays shows tt ran stopped rose
       (record { refused = refl; unanswered = refl; ran = ran; stopped = stopped }, stops lists)).so,
   λ e. absurd (never_more _ e),
 )
@@ -121,7 +125,7 @@ pub forgotten_save : (around after : Around) (name : List ℕ) (time : ℕ) (oct
     → StepsWithRoom Stood Stands around after (deliver name time octets) old new did.Quiet (Some (reply.Refused refusal.NoMemory))
 forgotten_save around after name time octets part Stood Stands old new sees ends at memory silent h stays = λ run lane place said lists come shows stood. (
   (forgets around after run lane place said (deliver name time octets) part lists old new (Some (reply.Refused refusal.NoMemory))
-      (refuses_part around run place name time octets part refusal.NoMemory no_numbers old sees come stood.1 ends (at.next run place said stood.0) (λ e. memory) tt (nothing_drawn run (deliver name time octets) part) (λ s. refl)) (ends.pinless lane place) come shows h stays
+      (refuses_part around run place name time octets part refusal.NoMemory no_numbers old sees (λ looked. absurd (let k : false ≡ true = looked in cc k)) ends (at.next run place said stood.0) (λ e. memory) tt (nothing_drawn run (deliver name time octets) part) (λ s. refl)) come shows h stays
       (memory_replied name time octets said (silent run place said stood.0)) memory_unstopped).so,
   λ e. absurd (never_more _ e),
 )
@@ -131,11 +135,11 @@ unread_memory e = cc e
 
 -- a read failed
 pub unread_save : (around after : Around) (name : List ℕ) (time : ℕ) (octets : List ℕ) (part : EventPart) (Stood Stands : Run → ℕ → List Reply → Type 0) (old new : Seen) → SeesAround octets around old → EndsRefused name time octets part → IsNextAt Stood around (deliver name time octets) part
-    → reads_octets part ≡ true → old.stopped ≡ false → new.stopped ≡ false → ((lists : Lists) → Leads lists lists old new) → StaysSo no_numbers old new → Rose old.faults.reads new.faults.reads
+    → reads_octets part (deliver name time octets) ≡ true → old.stopped ≡ false → new.stopped ≡ false → ((lists : Lists) → Leads lists lists old new) → StaysSo no_numbers old new → Rose old.faults.reads new.faults.reads
     → StepsWithRoom Stood Stands around after (deliver name time octets) old new did.Quiet (Some (reply.Refused refusal.ReadFault))
 unread_save around after name time octets part Stood Stands old new sees ends at reads ran runs leads stays rose = λ run lane place said lists come shows stood. (
   (misreads around after run lane place said (deliver name time octets) part lists old new
-      (refuses_part around run place name time octets part refusal.ReadFault no_numbers old sees come stood.1 ends (at.next run place said stood.0) (λ e. absurd (unread_memory e)) reads (nothing_drawn run (deliver name time octets) part) (λ s. refl)) (ends.pinless lane place) come shows ran runs leads stays rose tt).so,
+      (refuses_part around run place name time octets part refusal.ReadFault no_numbers old sees (λ looked. absurd (let k : false ≡ true = looked in cc k)) ends (at.next run place said stood.0) (λ e. absurd (unread_memory e)) reads (nothing_drawn run (deliver name time octets) part) (λ s. refl)) come shows ran runs leads stays rose tt).so,
   λ e. absurd (never_more _ e),
 )
 
@@ -160,8 +164,8 @@ checked_save around after name time octets part Stood Stands why old new sees en
     let q = deliver name time octets in
     let none = silent run place said stood.0 in (
       (did_check around after run lane place said q part lists old new why (Some (reply.Refused why)) half.Whole
-          (refuses_part around run place name time octets part why no_numbers old sees come stood.1 ends (at.next run place said stood.0) (λ e. absurd (let k : true ≡ false = sym step ∙ ap is_step e in cc k)) (step_may part why step) (nothing_drawn run q part) (λ s. refl))
-          (refused_comes run lane place part why (Some (reply.Refused why)) no_numbers old new (ends.pinless lane place) come stays) (h.shown lists shows) h.grows h.ran h.runs (h.leads lists) step refl
+          (refuses_part around run place name time octets part why no_numbers old sees (λ looked. finds_place octets around run old sees come h.ran (stood.1 h.ran)) ends (at.next run place said stood.0) (λ e. absurd (let k : true ≡ false = sym step ∙ ap is_step e in cc k)) (step_may part q why step) (nothing_drawn run q part) (λ s. refl))
+          (refused_comes run lane place part why (Some (reply.Refused why)) no_numbers old new come stays) (h.shown lists shows) h.grows h.ran h.runs (h.leads lists) step refl
           (ap (λ (s : List Reply). slice_get (half.Whole ∷ []) (length s)) none) (λ event. refuses run lists event come shows)
           (λ given e. subst (λ (r : Reply). IsReplyOf q (said ++ reply.Refused why ∷ []) r) (one_reply (reply.Refused why) given e) (subst (λ (s : List Reply). IsReplyOf q (s ++ reply.Refused why ∷ []) (reply.Refused why)) (sym none) (step_replied name time octets why step)))
           (λ e. step_runs why step (let r : reply.Refused why ≡ reply.Refused refusal.Stopped = cc e in cc r)) h.reads h.changes).so,

@@ -32,17 +32,20 @@ pub true_lt : (a b : ℕ) → a < b → nat_lt a b ≡ true
 true_lt a b l = grind (arith, common_steps, l)
 
 pub room_taken : (size : ℕ) (f : MailFile) → has_room_for size f ≡ true → MayBeTakenFor size f
-room_taken size f e = by_end f.end f.taken f.sealed f.barred refl refl refl refl e
+room_taken size f e = by_end f.end f.taken f.emptied f.doomed f.sealed f.barred refl refl refl refl refl refl e
   where
-    by_end : (o : Option ℕ) (t s b : Bool) → f.end ≡ o → f.taken ≡ t → f.sealed ≡ s → f.barred ≡ b → (option_map_or (λ end. nat_le (end + size) 10485760) o false && not (t || (s || b))) ≡ true → MayBeTakenFor size f
-    by_end None t s b p q r u k = absurd (let z : false ≡ true = k in cc z)
-    by_end (Some end) false false false p q r u k = record { end = end; ends = p; room = true_le (end + size) 10485760 (both_true (nat_le (end + size) 10485760) true k).0; free = q; unsealed = r; unbarred = u }
-    by_end (Some end) true s b p q r u k = absurd (let z : false ≡ true = (both_true (nat_le (end + size) 10485760) false k).1 in cc z)
-    by_end (Some end) false true b p q r u k = absurd (let z : false ≡ true = (both_true (nat_le (end + size) 10485760) false k).1 in cc z)
-    by_end (Some end) false false true p q r u k = absurd (let z : false ≡ true = (both_true (nat_le (end + size) 10485760) false k).1 in cc z)
+    by_end : (o : Option ℕ) (t m d s b : Bool) → f.end ≡ o → f.taken ≡ t → f.emptied ≡ m → f.doomed ≡ d → f.sealed ≡ s → f.barred ≡ b → (option_map_or (λ end. nat_le (end + size) 10485760) o false && not (t || (m || (d || (s || b))))) ≡ true → MayBeTakenFor size f
+    by_end None t m d s b p q v w r u k = absurd (let z : false ≡ true = k in cc z)
+    by_end (Some end) false false false false false p q v w r u k =
+        record { end = end; ends = p; room = true_le (end + size) 10485760 (both_true (nat_le (end + size) 10485760) true k).0; free = record { free = record { untaken = q; unemptied = v; undoomed = w }; unsealed = r; unbarred = u } }
+    by_end (Some end) true m d s b p q v w r u k = absurd (let z : false ≡ true = (both_true (nat_le (end + size) 10485760) false k).1 in cc z)
+    by_end (Some end) false true d s b p q v w r u k = absurd (let z : false ≡ true = (both_true (nat_le (end + size) 10485760) false k).1 in cc z)
+    by_end (Some end) false false true s b p q v w r u k = absurd (let z : false ≡ true = (both_true (nat_le (end + size) 10485760) false k).1 in cc z)
+    by_end (Some end) false false false true b p q v w r u k = absurd (let z : false ≡ true = (both_true (nat_le (end + size) 10485760) false k).1 in cc z)
+    by_end (Some end) false false false false true p q v w r u k = absurd (let z : false ≡ true = (both_true (nat_le (end + size) 10485760) false k).1 in cc z)
 
 pub taken_room : (size : ℕ) (f : MailFile) → MayBeTakenFor size f → has_room_for size f ≡ true
-taken_room size f m = rw (m.ends, m.free, m.unsealed, m.unbarred) (ap (λ (b : Bool). b && true) (le_true (m.end + size) 10485760 m.room))
+taken_room size f m = rw (m.ends, m.free.free.untaken, m.free.free.unemptied, m.free.free.undoomed, m.free.unsealed, m.free.unbarred) (ap (λ (b : Bool). b && true) (le_true (m.end + size) 10485760 m.room))
 
 unless : (size : ℕ) (f : MailFile) → (MayBeTakenFor size f → ⊥) → has_room_for size f ≡ false
 unless size f none = by_test (has_room_for size f) refl

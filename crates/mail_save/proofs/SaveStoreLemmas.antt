@@ -1,6 +1,6 @@
 -- A store before and after an event of a delivery, as the event sees it.
 use Rattle.std.proofs.Common.{◌≡◌, ◌≤◌, ◌<◌, ◌+◌, ◌-◌, ◌^◌, ◌==◌, ◌&&◌, ◌||◌, ℕ, Bool, true, false, not, List, [], ◌∷◌, ◌++◌, length, Option, Some, None, refl, sym, ◌∙◌, ap, subst, arith, inl, inr}
-use Rattle.std.specs.Prelude.{◌/◌, ◌%◌, nat_le, nat_lt, is_some, All, if◌then◌else◌, cond}
+use Rattle.std.specs.Prelude.{◌/◌, ◌%◌, nat_le, nat_lt, is_none, is_some, ◌≢◌, All, if◌then◌else◌, cond}
 use Rattle.std.specs.Int.{w32, to_be_bytes}
 use Rattle.std.specs.Option.{option_map, option_map_or, option_and_then}
 use Rattle.std.proofs.lemmas.Bool.{cases_eq, eq-eqb, ne_eqb, cond-false}
@@ -20,9 +20,8 @@ use Rattle.model_meaning.specs.MapMeaning.{MapBox, MapMeaning, no_numbers, is_ow
 use Rattle.model_store.specs.Listing.{ShowLists}
 use Rattle.model_store.specs.Settled.{IsSettledFor, Leaves}
 use Rattle.list_machine.specs.Run.{drawn_also}
-use Rattle.save_instances.specs.Attaching.{AttachingValue, next_candidate}
-use Rattle.storage_files.specs.Files.{AreFilesInOrder, changed_in, end_in, ending_at, file_begun, file_in, released_in, with_taken, without_file}
-use Rattle.storage_files.proofs.FileListLemmas.{KeepsNumber, file-before_begun, file-gone, file-here, file-other, file-without}
+use Rattle.storage_files.specs.Files.{AreFilesInOrder, changed_in, end_in, ending_at, file_begun, file_in, given_back, is_doomed_in, released_in, with_taken, without_file}
+use Rattle.storage_files.proofs.FileListLemmas.{KeepsNumber, file-before_begun, file-begun, file-here, file-other}
 use Rattle.storage_files.specs.declared.file.MailFile.{MailFile}
 use Rattle.saved_message.specs.Region.{guid_of_place}
 use Rattle.sis_store.specs.Instances.{AreInstances}
@@ -30,11 +29,11 @@ use Rattle.store_core.specs.Dues.{due_at, number_beside}
 use Rattle.store_core.specs.Knows.{knows_instance, may_have_given}
 use Rattle.store_core.specs.Running.{IsStore}
 use Rattle.store_core.specs.Value.{StoreValue, indexes_of}
+use Rattle.store_seen.specs.Seeing.{may_be_barred, may_be_used, seen_of}
 use Rattle.task_steps.specs.ExpungeStages.{one_due}
 use Rattle.task_steps.specs.Step.{ShowsSeen}
 use Rattle.mail_save.specs.SaveEffects.{AreEndsSame}
-use Rattle.mail_save.specs.SaveSeen.{seen_saving, around_saving, candidate_at, may_be_barred, room_among, room_at}
-use Rattle.mail_save.specs.declared.first.SavedParts.{SavedParts}
+use Rattle.mail_save.specs.SaveSeen.{around_saving, candidate_at, room_at}
 use Rattle.mail_save.specs.declared.task.SaveStage.{SaveStage}
 use Rattle.mail_save.specs.declared.task.SaveStage.TheVariants as stage
 use Rattle.mail_save.proofs.PlaceLemmas.{own_place, file_of_place, offset_of_place}
@@ -45,47 +44,27 @@ use Rattle.mail_save.proofs.SeenInstanceLemmas.{KnowsAlike, candidate_known, gon
 
 -- ---- what it finds
 
--- what is found by a store that isn't stopped
-found_running : {X : Type 0} → (stopped : Bool) (o : Option X) (x : X) → (if stopped then None else o) ≡ Some x → (stopped ≡ false) × (o ≡ Some x)
-found_running true o x e = absurd (let k : None ≡ Some x = e in cc k)
-found_running false o x e = (refl, e)
-
-running_finds : {X : Type 0} → (stopped : Bool) (o : Option X) → stopped ≡ false → (if stopped then None else o) ≡ o
-running_finds stopped o runs = ap (λ (b : Bool). if b then None else o) runs
-
-pub candidate_runs : {D : Type 0} → (parts : SavedParts) (attaching : AttachingValue) (store : StoreValue D) → store.stopped ≡ false → candidate_at (stage.Attaching parts attaching) store ≡ next_candidate attaching store.instances
-candidate_runs parts attaching store runs = running_finds store.stopped (next_candidate attaching store.instances) runs
-
-pub candidate_none : {D : Type 0} → (parts : SavedParts) (attaching : AttachingValue) (store : StoreValue D) → store.stopped ≡ true → candidate_at (stage.Attaching parts attaching) store ≡ None
-candidate_none parts attaching store stopped = ap (λ (b : Bool). if b then None else next_candidate attaching store.instances) stopped
-
-pub room_runs : {D : Type 0} → (parts : SavedParts) (store : StoreValue D) → store.stopped ≡ false → room_at (stage.Taking parts) store ≡ room_among (length parts.laid.region) store.files.files
-room_runs parts store runs = running_finds store.stopped (room_among (length parts.laid.region) store.files.files) runs
-
-pub room_known : {D : Type 0} → (now : SaveStage) (store : StoreValue D) (file : ℕ) → AreFilesInOrder store.files → room_at now store ≡ Some file → (size : ℕ) × RoomIs size file store.files.files × (store.stopped ≡ false)
-room_known (stage.Taking parts) store file order e =
-    let k = found_running store.stopped (room_among (length parts.laid.region) store.files.files) file e in
-    (length parts.laid.region, room_is (length parts.laid.region) file store.files.files order.rising k.1, k.0)
+pub room_known : {D : Type 0} → (now : SaveStage) (store : StoreValue D) (file : ℕ) → AreFilesInOrder store.files → room_at now store ≡ Some file → (size : ℕ) × RoomIs size file store.files.files
+room_known (stage.Taking parts) store file order e = (length parts.laid.region, room_is (length parts.laid.region) file store.files.files order.rising e)
 room_known now store file order e = absurd (let k : None ≡ Some file = e in cc k)
 
 never_both : (b : Bool) → (b ≡ true → ⊥) → b ≡ false
 never_both true f = absurd (f refl)
 never_both false f = refl
 
-pub candidate_seen : {D : Type 0} → (now : SaveStage) (store : StoreValue D) (instance : InstRow) → AreInstances store.instances → candidate_at now store ≡ Some instance → (store.stopped ≡ false) × (knows_instance store instance ≡ true)
-candidate_seen (stage.Attaching parts attaching) store instance ids e = let k = found_running store.stopped (next_candidate attaching store.instances) instance e in (k.0, candidate_known attaching store.instances instance ids k.1)
+pub candidate_seen : {D : Type 0} → (now : SaveStage) (store : StoreValue D) (instance : InstRow) → AreInstances store.instances → candidate_at now store ≡ Some instance → knows_instance store instance ≡ true
+candidate_seen (stage.Attaching parts attaching) store instance ids e = candidate_known attaching store.instances instance ids e
 candidate_seen now store instance ids e = absurd (let k : None ≡ Some instance = e in cc k)
 
-pub sees_around : {D : Type 0} → (octets : List ℕ) (now : SaveStage) (store : StoreValue D) (history : Option History) (faults : Faults) → IsStore history store → AreFilesInOrder store.files → AreInstances store.instances → SeesAround octets (around_saving octets now store) (seen_saving store history faults)
-sees_around octets now store history faults is order ids = record {
+pub sees_around : {D : Type 0} → (pins : ℕ → ℕ) (octets : List ℕ) (now : SaveStage) (store : StoreValue D) (history : Option History) (faults : Faults) → IsStore history store → AreFilesInOrder store.files → AreInstances store.instances → SeesAround octets (around_saving octets now store) (seen_of pins store history faults)
+sees_around pins octets now store history faults is order ids = record {
   parts = refl;
   candidate = λ instance e. candidate_seen now store instance ids e;
-  runs = λ file e. (room_known now store file order e).2;
   some = λ file e. let r = room_known now store file order e in is.files.numbered file r.1.f r.1.found;
   known = λ file e. let r = room_known now store file order e in ap (λ (o : Option MailFile). is_some (option_and_then (λ f. f.end) o)) r.1.found ∙ ap (λ (o : Option ℕ). is_some o) r.1.has.ends;
-  unsealed = λ file e. let r = room_known now store file order e in never_both (is_sealed store.map file) (λ k. fall r.1.f.sealed (is.files.sealed file r.1.f r.1.found k) r.1.has.unsealed);
-  undoomed = λ file e. refl;
-  unbarred = λ file e. let r = room_known now store file order e in ap (λ (o : Option MailFile). nat_le file store.drawn.file && option_map_or (λ f. f.barred) o true) r.1.found ∙ (ap (λ (b : Bool). nat_le file store.drawn.file && b) r.1.has.unbarred ∙ none_both (nat_le file store.drawn.file));
+  unsealed = λ file e. let r = room_known now store file order e in never_both (is_sealed store.map file) (λ k. fall r.1.f.sealed (is.files.sealed file r.1.f r.1.found k) r.1.has.free.unsealed);
+  undoomed = λ file e. let r = room_known now store file order e in ap (λ (o : Option MailFile). option_map_or (λ f. f.doomed) o false) r.1.found ∙ r.1.has.free.free.undoomed;
+  unbarred = λ file e. let r = room_known now store file order e in ap (λ (o : Option MailFile). nat_le file store.drawn.file && option_map_or (λ f. f.barred) o true) r.1.found ∙ (ap (λ (b : Bool). nat_le file store.drawn.file && b) r.1.has.free.unbarred ∙ none_both (nat_le file store.drawn.file));
 }
   where
     none_both : (b : Bool) → (b && false) ≡ false
@@ -98,76 +77,114 @@ sees_around octets now store history faults is order ids = record {
 abbrev pub is_before : ℕ → Option ℕ → Bool
 is_before offset end = option_map_or (λ e. nat_lt offset e) end true
 
--- What a storage file that was drawn has before its end, it has still; no file is there that wasn't; and one that may be barred stays so.
-pub record EndsGoOn {D : Type 0} (old new : StoreValue D) : Type 0 where
+-- ---- which are barred, doomed, or may be used
+
+-- All that the value tells of files but their ends stays: files that may be barred or used, and those that are doomed.
+pub record TellsFiles {D : Type 0} (old new : StoreValue D) : Type 0 where
   pub barred : (n : ℕ) → may_be_barred old n ≡ true → may_be_barred new n ≡ true
+  pub used : (n : ℕ) → may_be_used old n ≡ true → may_be_used new n ≡ true
+  pub doomed : (n : ℕ) → is_doomed_in n new.files.files ≡ is_doomed_in n old.files.files
+
+-- the file is barred, or not there; and it is doomed, or doesn't end
+abbrev bars : Option MailFile → Bool
+bars o = option_map_or (λ f. f.barred) o true
+
+abbrev uses : Option MailFile → Bool
+uses o = option_map_or (λ f. f.doomed || is_none f.end) o true
+
+abbrev dooms : Option MailFile → Bool
+dooms o = option_map_or (λ f. f.doomed) o false
+
+both_so : (a b : Bool) → a ≡ true → b ≡ true → (a && b) ≡ true
+both_so a b x y = rw (x, y) refl
+
+drawn_on : (drawn later : ℕ) (before now : Bool) (n : ℕ) → drawn ≤ later → (n ≤ drawn → before ≡ true → now ≡ true) → (nat_le n drawn && before) ≡ true → (nat_le n later && now) ≡ true
+drawn_on drawn later before now n more stays e =
+    let k = both_true (nat_le n drawn) before e in
+    let le : n ≤ drawn = true_le n drawn k.0 in
+    both_so (nat_le n later) now (le_true n later (omega (arith, le, more))) (stays le k.1)
+
+tells_by : {D : Type 0} → (old new : StoreValue D) → old.drawn.file ≤ new.drawn.file → ((n : ℕ) → n ≤ old.drawn.file → bars (file_in n old.files.files) ≡ true → bars (file_in n new.files.files) ≡ true)
+    → ((n : ℕ) → n ≤ old.drawn.file → uses (file_in n old.files.files) ≡ true → uses (file_in n new.files.files) ≡ true) → ((n : ℕ) → dooms (file_in n new.files.files) ≡ dooms (file_in n old.files.files)) → TellsFiles old new
+tells_by old new more barred used doomed = record {
+  barred = λ n e. drawn_on old.drawn.file new.drawn.file (bars (file_in n old.files.files)) (bars (file_in n new.files.files)) n more (barred n) e;
+  used = λ n e. drawn_on old.drawn.file new.drawn.file (uses (file_in n old.files.files)) (uses (file_in n new.files.files)) n more (used n) e;
+  doomed = doomed;
+}
+
+-- where files are as they were
+pub tells_same : {D : Type 0} → (old new : StoreValue D) → old.drawn.file ≤ new.drawn.file → new.files.files ≡ old.files.files → TellsFiles old new
+tells_same old new more same = tells_by old new more (λ n le e. ap (λ (fs : List MailFile). bars (file_in n fs)) same ∙ e) (λ n le e. ap (λ (fs : List MailFile). uses (file_in n fs)) same ∙ e) (λ n. ap (λ (fs : List MailFile). dooms (file_in n fs)) same)
+
+-- a change of one file of which this stays
+value_changed : (value : Option MailFile → Bool) (n m : ℕ) (step : MailFile → MailFile) (files : List MailFile) → KeepsNumber step → ((f : MailFile) → file_in n files ≡ Some f → value (Some (step f)) ≡ value (Some f)) → value (file_in m (changed_in n step files)) ≡ value (file_in m files)
+value_changed value n m step files keeps stays = elim (cases_eq m n) [
+  | inl same ↦ subst (λ (k : ℕ). value (file_in k (changed_in n step files)) ≡ value (file_in k files)) (sym same) (ap value (file-here n step files keeps) ∙ by_file (file_in n files) refl)
+  | inr apart ↦ ap value (file-other n m step files keeps apart)
+]
+  where
+    by_file : (o : Option MailFile) → file_in n files ≡ o → value (option_map step o) ≡ value o
+    by_file None e = refl
+    by_file (Some f) e = stays f e
+
+pub tells_changed : {D : Type 0} → (old new : StoreValue D) (file : ℕ) (step : MailFile → MailFile) → old.drawn.file ≤ new.drawn.file → new.files.files ≡ changed_in file step old.files.files → KeepsNumber step → ((f : MailFile) → (step f).barred ≡ f.barred) → ((f : MailFile) → (step f).doomed ≡ f.doomed)
+    → ((f : MailFile) → file_in file old.files.files ≡ Some f → is_none (step f).end ≡ is_none f.end) → TellsFiles old new
+tells_changed old new file step more is keeps barred doomed ended = tells_by old new more
+    (λ n le e. ap (λ (fs : List MailFile). bars (file_in n fs)) is ∙ (value_changed bars file n step old.files.files keeps (λ f at. barred f) ∙ e))
+    (λ n le e. ap (λ (fs : List MailFile). uses (file_in n fs)) is ∙ (value_changed uses file n step old.files.files keeps (λ f at. ap (λ (b : Bool). b || is_none (step f).end) (doomed f) ∙ ap (λ (b : Bool). f.doomed || b) (ended f at)) ∙ e))
+    (λ n. ap (λ (fs : List MailFile). dooms (file_in n fs)) is ∙ value_changed dooms file n step old.files.files keeps (λ f at. doomed f))
+
+pub tells_taken : {D : Type 0} → (old new : StoreValue D) (file : ℕ) → old.drawn.file ≤ new.drawn.file → new.files.files ≡ changed_in file (with_taken true) old.files.files → TellsFiles old new
+tells_taken old new file more is = tells_changed old new file (with_taken true) more is (λ f. refl) (λ f. refl) (λ f. refl) (λ f at. refl)
+
+-- of a file that ended before
+end_is : (n end : ℕ) (files : List MailFile) (f : MailFile) → end_in n files ≡ Some end → file_in n files ≡ Some f → f.end ≡ Some end
+end_is n end files f ends at = sym (ap (λ (o : Option MailFile). option_and_then (λ g. g.end) o) at) ∙ ends
+
+pub tells_ended : {D : Type 0} → (old new : StoreValue D) (file from to : ℕ) → old.drawn.file ≤ new.drawn.file → end_in file old.files.files ≡ Some from → new.files.files ≡ changed_in file (ending_at to) old.files.files → TellsFiles old new
+tells_ended old new file from to more ends is = tells_changed old new file (ending_at to) more is (λ f. refl) (λ f. refl) (λ f. refl) (λ f at. sym (ap (λ (o : Option ℕ). is_none o) (end_is file from old.files.files f ends at)))
+
+pub tells_released : {D : Type 0} → (old new : StoreValue D) (file end : ℕ) → old.drawn.file ≤ new.drawn.file → end_in file old.files.files ≡ Some end → new.files.files ≡ released_in file old.files.files → TellsFiles old new
+tells_released old new file end more ends is =
+    tells_changed old new file given_back more (is ∙ ap (λ (o : Option ℕ). if is_some o then changed_in file given_back old.files.files else without_file file old.files.files) ends) (λ f. refl) (λ f. refl) (λ f. refl) (λ f at. refl)
+
+-- where a new one was begun, or made
+begun_alike : (value : Option MailFile → Bool) (file : FileNo) (m : ℕ) (files : List MailFile) → m ≢ file.0 → value (file_in m (files ++ file_begun file ∷ [])) ≡ value (file_in m files)
+begun_alike value file m files apart = ap value (file-before_begun file m files apart)
+
+dooms_begun : (file : FileNo) (m : ℕ) (files : List MailFile) → file_in file.0 files ≡ None → dooms (file_in m (files ++ file_begun file ∷ [])) ≡ dooms (file_in m files)
+dooms_begun file m files none = elim (cases_eq m file.0) [
+  | inl same ↦ subst (λ (k : ℕ). dooms (file_in k (files ++ file_begun file ∷ [])) ≡ dooms (file_in k files)) (sym same) (ap dooms (file-begun file files none) ∙ sym (ap dooms none))
+  | inr apart ↦ begun_alike dooms file m files apart
+]
+
+pub tells_begun : {D : Type 0} → (old new : StoreValue D) (file : FileNo) → file_in file.0 old.files.files ≡ None → file.0 ≡ old.drawn.file + 1 → old.drawn.file ≤ new.drawn.file → new.files.files ≡ old.files.files ++ file_begun file ∷ [] → TellsFiles old new
+tells_begun old new file none next more is = tells_by old new more
+    (λ n le e. ap (λ (fs : List MailFile). bars (file_in n fs)) is ∙ (begun_alike bars file n old.files.files (λ same. omega (arith, same, next, le)) ∙ e))
+    (λ n le e. ap (λ (fs : List MailFile). uses (file_in n fs)) is ∙ (begun_alike uses file n old.files.files (λ same. omega (arith, same, next, le)) ∙ e))
+    (λ n. ap (λ (fs : List MailFile). dooms (file_in n fs)) is ∙ dooms_begun file n old.files.files none)
+
+pub tells_made : {D : Type 0} → (old new : StoreValue D) (file : FileNo) (end : ℕ) → file_in file.0 old.files.files ≡ None → file.0 ≡ old.drawn.file + 1 → old.drawn.file ≤ new.drawn.file → new.files.files ≡ changed_in file.0 (ending_at end) (old.files.files ++ file_begun file ∷ []) → TellsFiles old new
+tells_made old new file end none next more is = tells_by old new more
+    (λ n le e. made bars n (λ same. omega (arith, same, next, le)) ∙ e)
+    (λ n le e. made uses n (λ same. omega (arith, same, next, le)) ∙ e)
+    (λ n. ap (λ (fs : List MailFile). dooms (file_in n fs)) is ∙ (value_changed dooms file.0 n (ending_at end) (old.files.files ++ file_begun file ∷ []) (λ f. refl) (λ f at. refl) ∙ dooms_begun file n old.files.files none))
+  where
+    made : (value : Option MailFile → Bool) (n : ℕ) → n ≢ file.0 → value (file_in n new.files.files) ≡ value (file_in n old.files.files)
+    made value n apart = ap (λ (fs : List MailFile). value (file_in n fs)) is ∙ (ap value (file-other file.0 n (ending_at end) (old.files.files ++ file_begun file ∷ []) (λ f. refl) apart) ∙ begun_alike value file n old.files.files apart)
+
+-- What a storage file that was drawn has before its end, it has still, and no file is there that wasn't. All else that is told of files
+-- stays.
+pub record EndsGoOn {D : Type 0} (old new : StoreValue D) : Type 0 where
+  pub tells : TellsFiles old new
   pub gave : (n offset : ℕ) → n ≤ old.drawn.file → is_before offset (end_in n old.files.files) ≡ true → is_before offset (end_in n new.files.files) ≡ true
   pub known : (n : ℕ) → is_some (end_in n new.files.files) ≡ true → is_some (end_in n old.files.files) ≡ true
 
-pub same_ends : {D : Type 0} → (old new : StoreValue D) → ((n : ℕ) → may_be_barred old n ≡ true → may_be_barred new n ≡ true) → AreEndsSame old new → EndsGoOn old new
-same_ends old new barred same = record { barred = barred; gave = λ n offset le e. ap (λ (o : Option ℕ). is_before offset o) (same n) ∙ e; known = λ n e. ap (λ (o : Option ℕ). is_some o) (sym (same n)) ∙ e }
+pub same_ends : {D : Type 0} → (old new : StoreValue D) → TellsFiles old new → AreEndsSame old new → EndsGoOn old new
+same_ends old new tells same = record { tells = tells; gave = λ n offset le e. ap (λ (o : Option ℕ). is_before offset o) (same n) ∙ e; known = λ n e. ap (λ (o : Option ℕ). is_some o) (sym (same n)) ∙ e }
 
 all_true : (a b c : Bool) → a ≡ true → b ≡ true → c ≡ true → (a && (b && c)) ≡ true
 all_true a b c x y z = rw (x, y, z) refl
-
--- ---- which may be barred
-
--- the file is barred, or not there
-abbrev bars : ℕ → List MailFile → Bool
-bars n files = option_map_or (λ f. f.barred) (file_in n files) true
-
-barred_on : {D : Type 0} → (old new : StoreValue D) → old.drawn.file ≤ new.drawn.file → ((n : ℕ) → n ≤ old.drawn.file → bars n old.files.files ≡ true → bars n new.files.files ≡ true) → (n : ℕ) → may_be_barred old n ≡ true → may_be_barred new n ≡ true
-barred_on old new more stays n e =
-    let k = both_true (nat_le n old.drawn.file) (bars n old.files.files) e in
-    let le : n ≤ old.drawn.file = true_le n old.drawn.file k.0 in
-    both (nat_le n new.drawn.file) (bars n new.files.files) (le_true n new.drawn.file (omega (arith, le, more))) (stays n le k.1)
-  where
-    both : (a b : Bool) → a ≡ true → b ≡ true → (a && b) ≡ true
-    both a b x y = rw (x, y) refl
-
--- where files are as they were
-pub bars_same : {D : Type 0} → (old new : StoreValue D) → old.drawn.file ≤ new.drawn.file → new.files.files ≡ old.files.files → (n : ℕ) → may_be_barred old n ≡ true → may_be_barred new n ≡ true
-bars_same old new more same = barred_on old new more (λ n le e. ap (bars n) same ∙ e)
-
--- where one has changed
-bars_changed : (n m : ℕ) (step : MailFile → MailFile) (files : List MailFile) → KeepsNumber step → ((f : MailFile) → (step f).barred ≡ f.barred) → bars m (changed_in n step files) ≡ bars m files
-bars_changed n m step files keeps barred = elim (cases_eq m n) [
-  | inl same ↦ subst (λ (k : ℕ). bars k (changed_in n step files) ≡ bars k files) (sym same) (ap (λ (o : Option MailFile). option_map_or (λ f. f.barred) o true) (file-here n step files keeps) ∙ by_file (file_in n files))
-  | inr apart ↦ ap (λ (o : Option MailFile). option_map_or (λ f. f.barred) o true) (file-other n m step files keeps apart)
-]
-  where
-    by_file : (o : Option MailFile) → option_map_or (λ f. f.barred) (option_map step o) true ≡ option_map_or (λ f. f.barred) o true
-    by_file None = refl
-    by_file (Some f) = barred f
-
-pub bars_ended : {D : Type 0} → (old new : StoreValue D) (file end : ℕ) → old.drawn.file ≤ new.drawn.file → new.files.files ≡ changed_in file (ending_at end) old.files.files → (n : ℕ) → may_be_barred old n ≡ true → may_be_barred new n ≡ true
-bars_ended old new file end more is = barred_on old new more (λ n le e. ap (bars n) is ∙ (bars_changed file n (ending_at end) old.files.files (λ f. refl) (λ f. refl) ∙ e))
-
-pub bars_taken : {D : Type 0} → (old new : StoreValue D) (file : ℕ) → old.drawn.file ≤ new.drawn.file → new.files.files ≡ changed_in file (with_taken true) old.files.files → (n : ℕ) → may_be_barred old n ≡ true → may_be_barred new n ≡ true
-bars_taken old new file more is = barred_on old new more (λ n le e. ap (bars n) is ∙ (bars_changed file n (with_taken true) old.files.files (λ f. refl) (λ f. refl) ∙ e))
-
-bars_without : (n m : ℕ) (files : List MailFile) → bars m files ≡ true → bars m (without_file n files) ≡ true
-bars_without n m files e = elim (cases_eq m n) [
-  | inl same ↦ subst (λ (k : ℕ). bars k (without_file n files) ≡ true) (sym same) (ap (λ (o : Option MailFile). option_map_or (λ f. f.barred) o true) (file-gone n files))
-  | inr apart ↦ ap (λ (o : Option MailFile). option_map_or (λ f. f.barred) o true) (file-without n m files apart) ∙ e
-]
-
-pub bars_released : {D : Type 0} → (old new : StoreValue D) (file : ℕ) → old.drawn.file ≤ new.drawn.file → new.files.files ≡ released_in file old.files.files → (n : ℕ) → may_be_barred old n ≡ true → may_be_barred new n ≡ true
-bars_released old new file more is = barred_on old new more (λ n le e. ap (bars n) is ∙ by_test n e (is_some (end_in file old.files.files)))
-  where
-    by_test : (n : ℕ) → bars n old.files.files ≡ true → (b : Bool) → bars n (if b then changed_in file (with_taken false) old.files.files else without_file file old.files.files) ≡ true
-    by_test n e true = bars_changed file n (with_taken false) old.files.files (λ f. refl) (λ f. refl) ∙ e
-    by_test n e false = bars_without file n old.files.files e
-
--- where a new one was begun, and made
-pub bars_begun : {D : Type 0} → (old new : StoreValue D) (file : FileNo) → file.0 ≡ old.drawn.file + 1 → old.drawn.file ≤ new.drawn.file → new.files.files ≡ old.files.files ++ file_begun file ∷ [] → (n : ℕ) → may_be_barred old n ≡ true → may_be_barred new n ≡ true
-bars_begun old new file next more is = barred_on old new more (λ n le e. ap (bars n) is ∙ (ap (λ (o : Option MailFile). option_map_or (λ f. f.barred) o true) (file-before_begun file n old.files.files (λ same. omega (arith, same, next, le))) ∙ e))
-
-pub bars_made : {D : Type 0} → (old new : StoreValue D) (file : FileNo) (end : ℕ) → file.0 ≡ old.drawn.file + 1 → old.drawn.file ≤ new.drawn.file → new.files.files ≡ changed_in file.0 (ending_at end) (old.files.files ++ file_begun file ∷ []) → (n : ℕ) → may_be_barred old n ≡ true → may_be_barred new n ≡ true
-bars_made old new file end next more is = barred_on old new more (λ n le e.
-    ap (bars n) is
-    ∙ (bars_changed file.0 n (ending_at end) (old.files.files ++ file_begun file ∷ []) (λ f. refl) (λ f. refl)
-    ∙ (ap (λ (o : Option MailFile). option_map_or (λ f. f.barred) o true) (file-before_begun file n old.files.files (λ same. omega (arith, same, next, le))) ∙ e)))
 
 -- ---- which GUIDs were given
 
@@ -179,13 +196,13 @@ gave_on old new guid id more ends e =
     let le : number_at 8 guid ≤ old.drawn.file = true_le (number_at 8 guid) old.drawn.file b.0 in
     all_true (is_own new.map.store guid) (nat_le (number_at 8 guid) new.drawn.file) (is_before (number_at 12 guid) (end_in (number_at 8 guid) new.files.files)) (ap (λ (s : List ℕ). is_own s guid) id ∙ a.0) (le_true (number_at 8 guid) new.drawn.file (omega (arith, le, more))) (ends (number_at 8 guid) (number_at 12 guid) le b.1)
 
-pub tells_store : {D : Type 0} → (old new : StoreValue D) (before after : Option History) (began faulted : Faults) → old.stopped ≡ false → new.map.store ≡ old.map.store → old.drawn.file ≤ new.drawn.file → EndsGoOn old new → KnowsAlike old new → KeepsTelling (seen_saving old before began) (seen_saving new after faulted)
-tells_store old new before after began faulted ran id more ends knows = record {
+pub tells_store : {D : Type 0} → (pins : ℕ → ℕ) (old new : StoreValue D) (before after : Option History) (began faulted : Faults) → old.stopped ≡ false → new.map.store ≡ old.map.store → old.drawn.file ≤ new.drawn.file → EndsGoOn old new → KnowsAlike old new → KeepsTelling (seen_of pins old before began) (seen_of pins new after faulted)
+tells_store pins old new before after began faulted ran id more ends knows = record {
   ran = λ runs. ran;
   pins = λ file. refl;
-  doomed = λ file. refl;
-  used = λ file e. e;
-  barred = λ file e. ends.barred file e;
+  doomed = λ file. ends.tells.doomed file;
+  used = λ file e. ends.tells.used file e;
+  barred = λ file e. ends.tells.barred file e;
   gave = λ guid e. gave_on old new guid id more ends.gave e;
   gone = λ instance e. gone_on old new instance id knows.drawn e;
   files = λ file e. ends.known file e;
@@ -194,16 +211,16 @@ tells_store old new before after began faulted ran id more ends knows = record {
 
 -- ---- a store that goes on, or not
 
-pub shows_on : {D : Type 0} → (old new : StoreValue D) (before after : Option History) (began faulted : Faults) (lists : Lists) → new.map.boxes ≡ old.map.boxes → indexes_of new.boxes ≡ indexes_of old.boxes → ShowsSeen (seen_saving old before began) lists → ShowsSeen (seen_saving new after faulted) lists
-shows_on old new before after began faulted lists boxes indexes shows =
+pub shows_on : {D : Type 0} → (pins : ℕ → ℕ) (old new : StoreValue D) (before after : Option History) (began faulted : Faults) (lists : Lists) → new.map.boxes ≡ old.map.boxes → indexes_of new.boxes ≡ indexes_of old.boxes → ShowsSeen (seen_of pins old before began) lists → ShowsSeen (seen_of pins new after faulted) lists
+shows_on pins old new before after began faulted lists boxes indexes shows =
     (shows.0, subst (λ (bs : List MapBox). ShowLists bs (indexes_of new.boxes) lists) (sym boxes) (subst (λ (ms : List BoxMeaning). ShowLists old.map.boxes ms lists) (sym indexes) shows.1))
 
-pub has_run : {D : Type 0} → (old new : StoreValue D) (before after : Option History) (began faulted : Faults) → old.stopped ≡ false → new.stopped ≡ false → new.map.boxes ≡ old.map.boxes → indexes_of new.boxes ≡ indexes_of old.boxes → ((lists : Lists) → IsSettledFor lists before → Leaves lists lists before after)
-    → ((lists : Lists) → IsSettledFor lists before → IsSettledFor lists after) → Grows before after → faulted ≡ began → HasRun (seen_saving old before began) (seen_saving new after faulted)
-has_run old new before after began faulted ran runs boxes indexes moments rests grows same = record {
+pub has_run : {D : Type 0} → (pins : ℕ → ℕ) (old new : StoreValue D) (before after : Option History) (began faulted : Faults) → old.stopped ≡ false → new.stopped ≡ false → new.map.boxes ≡ old.map.boxes → indexes_of new.boxes ≡ indexes_of old.boxes → ((lists : Lists) → IsSettledFor lists before → Leaves lists lists before after)
+    → ((lists : Lists) → IsSettledFor lists before → IsSettledFor lists after) → Grows before after → faulted ≡ began → HasRun (seen_of pins old before began) (seen_of pins new after faulted)
+has_run pins old new before after began faulted ran runs boxes indexes moments rests grows same = record {
   ran = ran;
   runs = runs;
-  shown = λ lists shows. shows_on old new before after began faulted lists boxes indexes shows;
+  shown = λ lists shows. shows_on pins old new before after began faulted lists boxes indexes shows;
   leads = λ lists. record { stops = λ s. moments lists s; settled = λ s. rests lists s };
   grows = grows;
   reads = let e = ap (λ (f : Faults). f.reads) same in omega (arith, e);
@@ -213,14 +230,14 @@ has_run old new before after began faulted ran runs boxes indexes moments rests 
 pub due_stays : {D : Type 0} → (old new : StoreValue D) (uid : ℕ) → new.map ≡ old.map → new.dues ≡ old.dues → due_at uid new ≡ due_at uid old
 due_stays old new uid map dues = ap (λ (m : MapMeaning). number_beside uid m.records new.dues) map ∙ ap (number_beside uid old.map.records) dues
 
-pub stays_so : {D : Type 0} → (drew : Highest) (old new : StoreValue D) (before after : Option History) (began faulted : Faults) → old.stopped ≡ false → new.map ≡ old.map → new.drawn ≡ drawn_also old.drawn drew → new.dues ≡ old.dues → indexes_of new.boxes ≡ indexes_of old.boxes → old.drawn.file ≤ new.drawn.file → EndsGoOn old new → KnowsAlike old new → Grows before after
-    → began.reads ≤ faulted.reads → began.changes ≤ faulted.changes → StaysSo drew (seen_saving old before began) (seen_saving new after faulted)
-stays_so drew old new before after began faulted ran map drawn dues indexes more ends knows grows reads changes = record {
+pub stays_so : {D : Type 0} → (pins : ℕ → ℕ) (drew : Highest) (old new : StoreValue D) (before after : Option History) (began faulted : Faults) → old.stopped ≡ false → new.map ≡ old.map → new.drawn ≡ drawn_also old.drawn drew → new.dues ≡ old.dues → indexes_of new.boxes ≡ indexes_of old.boxes → old.drawn.file ≤ new.drawn.file → EndsGoOn old new → KnowsAlike old new → Grows before after
+    → began.reads ≤ faulted.reads → began.changes ≤ faulted.changes → StaysSo drew (seen_of pins old before began) (seen_of pins new after faulted)
+stays_so pins drew old new before after began faulted ran map drawn dues indexes more ends knows grows reads changes = record {
   map = map;
   drawn = drawn;
   due = λ uid. due_stays old new uid map dues;
-  tells = tells_store old new before after began faulted ran (ap (λ (m : MapMeaning). m.store) map) more ends knows;
-  shown = λ lists shows. shows_on old new before after began faulted lists (ap (λ (m : MapMeaning). m.boxes) map) indexes shows;
+  tells = tells_store pins old new before after began faulted ran (ap (λ (m : MapMeaning). m.store) map) more ends knows;
+  shown = λ lists shows. shows_on pins old new before after began faulted lists (ap (λ (m : MapMeaning). m.boxes) map) indexes shows;
   grows = grows;
   reads = reads;
   changes = changes;

@@ -210,7 +210,7 @@ next_number store kept long few =
     subst (λ (s : List ℕ). instance_number s (next_id store.instances).0 ≡ store.drawn.instance + 1) kept.store
     (number_of_id store.instances.store (store.instances.highest + 1) (ap length kept.store ∙ long) (omega (arith, high, few)) ∙ omega (arith, high))
 
-above : (a b : ℕ) → a ≡ b + 1 → nat_le a b ≡ false
+pub above : (a b : ℕ) → a ≡ b + 1 → nat_le a b ≡ false
 above a b e = grind (arith, common_steps, e)
 
 -- none of its number was removed

@@ -10,7 +10,7 @@ use Rattle.mdbox_base.specs.declared.replies.Refusal.TheVariants as refusal
 use Rattle.storage_files.specs.declared.file.MailFile.{MailFile}
 use Rattle.storage_files.specs.declared.file.Take.{Take}
 use Rattle.storage_files.specs.declared.file.Take.TheVariants.{Known, New, Full}
-use Rattle.storage_files.specs.Files.{AreFilesInOrder, IsTakeFor, IsGiven, MayBeTakenFor, after_take, changed_in, end_in, ending_at, file_begun, file_in, is_taken_in, released_in, with_taken, without_file}
+use Rattle.storage_files.specs.Files.{AreFilesInOrder, IsTakeFor, IsGiven, MayBeTakenFor, after_take, changed_in, end_in, ending_at, file_begun, file_in, given_back, is_taken_in, released_in, with_taken, without_file}
 use Rattle.storage_files.proofs.FileListLemmas.{file-found, file-other, file-without, file-begun, file-before_begun, ends-kept, ends-other, ends-here, ends-begun}
 use Rattle.storage_files.proofs.KnownLemmas.{taken-there}
 use Rattle.store_core.proofs.KeptFileLemmas.{none_begun}
@@ -41,7 +41,7 @@ drawn_still store high = ap (λ (n : ℕ). record store.drawn { file = n }) high
 -- ---- one that is there
 
 free_before : (size : ℕ) (file : FileNo) (files : List MailFile) (f : MailFile) → Contains files f → f.file ≡ file → MayBeTakenFor size f → ((at : ℕ) → slice_get files at ≡ Some f → file_in file.0 files ≡ Some f) → is_taken_in file.0 files ≡ false
-free_before size file files f at same room found = ap (λ (o : Option MailFile). option_map_or (λ g. g.taken) o false) (found at.0 (slice_get-get_or files at.0 f at.1 ∙ ap Some at.2)) ∙ room.free
+free_before size file files f at same room found = ap (λ (o : Option MailFile). option_map_or (λ g. g.taken) o false) (found at.0 (slice_get-get_or files at.0 f at.1 ∙ ap Some at.2)) ∙ room.free.free.untaken
 
 known_takes : {D : Type 0} → (header size : ℕ) (file : FileNo) (old : StoreValue D) → AreFilesInOrder old.files → old.files.highest ≡ old.drawn.file → IsTakeFor size (roomier_store old).files (Known file) → TakesFileFor header size file old (taker_store (Known file) (roomier_store old))
 known_takes header size file old order high is = record {
@@ -153,6 +153,6 @@ holds_new size end file store history is taken ends fits = record { some = file_
 pub released_others : (n m : ℕ) (files : List MailFile) → m ≢ n → is_taken_in m (released_in n files) ≡ is_taken_in m files
 released_others n m files apart = by_test (is_some (end_in n files))
   where
-    by_test : (t : Bool) → is_taken_in m (if t then changed_in n (with_taken false) files else without_file n files) ≡ is_taken_in m files
-    by_test true = taken_at m (changed_in n (with_taken false) files) files (file-other n m (with_taken false) files (λ f. refl) apart)
+    by_test : (t : Bool) → is_taken_in m (if t then changed_in n given_back files else without_file n files) ≡ is_taken_in m files
+    by_test true = taken_at m (changed_in n given_back files) files (file-other n m given_back files (λ f. refl) apart)
     by_test false = taken_at m (without_file n files) files (file-without n m files apart)

@@ -1,7 +1,6 @@
--- What an event of a delivery sees and finds, and where its task stands.
+-- What an event of a delivery finds, and where its task stands.
 use Rattle.std.specs.Prelude.{◌≡◌, ◌+◌, ◌&&◌, ◌||◌, nat_le, ℕ, Bool, true, false, not, List, [], ◌∷◌, length, filter, if◌then◌else◌, Option, Some, None}
 use Rattle.std.specs.Option.{option_map_or, option_or}
-use Rattle.disk_model.specs.Disk.{History, Faults}
 use Rattle.mdbox_base.specs.declared.entries.InstRow.{InstRow}
 use Rattle.mdbox_base.specs.declared.progress.Did.{Did}
 use Rattle.mdbox_base.specs.declared.replies.Reply.{Reply}
@@ -10,46 +9,18 @@ use Rattle.model_mime.specs.Parts.{parts_in}
 use Rattle.list_machine.specs.Run.{Run}
 use Rattle.journal.specs.Events.{Around}
 use Rattle.save_instances.specs.Attaching.{next_candidate}
-use Rattle.storage_files.specs.Files.{file_in}
 use Rattle.storage_files.specs.declared.file.MailFile.{MailFile}
-use Rattle.store_core.specs.Dues.{due_at}
-use Rattle.store_core.specs.Knows.{knows_file, knows_instance, may_be_gone, may_have_given}
-use Rattle.store_core.specs.Value.{StoreValue, indexes_of}
+use Rattle.store_core.specs.Value.{StoreValue}
 use Rattle.task_steps.specs.Step.{Seen, FindsRoom, HasNotBegun, Steps}
 use Rattle.mail_save.specs.SaveStages.{IsTakingFile, IsPlacingMessage, IsStoringMessage, IsAddingMessage, IsLoweringCount}
 use Rattle.mail_save.specs.declared.task.SaveStage.{SaveStage}
 use Rattle.mail_save.specs.declared.task.SaveStage.TheVariants as stage
 
--- a storage file that was drawn, and is barred or not there: it may have been barred as a run began
-abbrev pub may_be_barred : {D : Type 0} → StoreValue D → ℕ → Bool
-may_be_barred store number = nat_le number store.drawn.file && option_map_or (λ f. f.barred) (file_in number store.files.files) true
-
--- A store as an event sees it, with what its disk tells and the faults that it has counted. It shows no pins and no doomed files of
--- other tasks.
-abbrev pub seen_saving : {D : Type 0} → StoreValue D → Option History → Faults → Seen
-seen_saving store history faults = record {
-  map = store.map;
-  meanings = indexes_of store.boxes;
-  drawn = store.drawn;
-  history = history;
-  faults = faults;
-  stopped = store.stopped;
-  due = λ uid. due_at uid store;
-  pins = λ file. 0;
-  doomed = λ file. false;
-  used = λ file. false;
-  barred = λ file. may_be_barred store file;
-  gave = λ guid. may_have_given store guid;
-  gone = λ instance. may_be_gone store instance;
-  files = λ file. knows_file store file;
-  instances = λ instance. knows_instance store instance;
-}
-
 -- ---- what it finds
 
 -- a storage file has room for so many octets, and may be taken
 abbrev pub has_room_for : ℕ → MailFile → Bool
-has_room_for size f = option_map_or (λ end. nat_le (end + size) 10485760) f.end false && not (f.taken || (f.sealed || f.barred))
+has_room_for size f = option_map_or (λ end. nat_le (end + size) 10485760) f.end false && not (f.taken || (f.emptied || (f.doomed || (f.sealed || f.barred))))
 
 -- the last of those that do
 abbrev pub room_among : ℕ → List MailFile → Option ℕ
@@ -57,13 +28,13 @@ room_among size [] = None
 room_among size (f ∷ files) = option_or (room_among size files) (if has_room_for size f then Some f.file.0 else None)
 
 -- An event that goes on with an attachment finds the known instance to compare it with, if any is left; the one that takes a file
--- finds the one that has room, if any. No other finds anything, and none does in a store that is stopped.
+-- finds the one that has room, if any. No other finds anything.
 abbrev pub candidate_at : {D : Type 0} → SaveStage → StoreValue D → Option InstRow
-candidate_at (stage.Attaching parts attaching) store = if store.stopped then None else next_candidate attaching store.instances
+candidate_at (stage.Attaching parts attaching) store = next_candidate attaching store.instances
 candidate_at other store = None
 
 abbrev pub room_at : {D : Type 0} → SaveStage → StoreValue D → Option ℕ
-room_at (stage.Taking parts) store = if store.stopped then None else room_among (length parts.laid.region) store.files.files
+room_at (stage.Taking parts) store = room_among (length parts.laid.region) store.files.files
 room_at other store = None
 
 -- how many parts of a message can be detached
@@ -98,6 +69,6 @@ IsAtSave (stage.Adding added room) run place said = IsAddingMessage added.guid.0
 IsAtSave (stage.GivingBack uid why room) run place said = IsLoweringCount uid.0 why run place said
 IsAtSave stage.Ended run place said = ⊥
 
--- What a step says of every run in which no request has taken the storage file in which it finds room.
+-- What a step says of every run in which, unless the store was stopped, no request has taken the storage file in which it finds room.
 abbrev pub StepsWithRoom : (Run → ℕ → List Reply → Type 0) → (Run → ℕ → List Reply → Type 0) → Around → Around → Request → Seen → Seen → Did → Option Reply → Type 0
-StepsWithRoom Stood Stands around after = Steps (λ run place said. Stood run place said × FindsRoom around run) Stands around after
+StepsWithRoom Stood Stands around after request old = Steps (λ run place said. Stood run place said × (old.stopped ≡ false → FindsRoom around run)) Stands around after request old

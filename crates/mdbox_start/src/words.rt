@@ -29,7 +29,7 @@ fn after_name(alloc: Global, mut all: Args) -> Result<Vec<String>, NoMemory>
 {
     let _name = all.next();
     let mut words = Vec::new(alloc);
-    for word in all {
+    while let Some(word) = all.next() {
         words.push(word)?;
     }
     Ok(words)

@@ -135,10 +135,10 @@ unopened_may request.Counts why e = ap (λ (w : OpenError). status_of (opening_o
 unopened_may other why e = inr (inl (ap (λ (w : OpenError). status_of (opening_outcome w)) e))
 
 pub unopened_ends : (request : Request) (h : Option (List ℕ)) (old new : Option History) (began now : Faults) (why : OpenError) → IsUnopened why old new began now → RequestOutcome (ReplyTells request) request h h old new began now (opening_outcome why)
-unopened_ends request h old new began now why u = unopened (ReplyTells request) request h old new began now why u.cause u.idle u.untouched u.unfailed
+unopened_ends request h old new began now why u = unopened (ReplyTells request) request h old new began now why u.cause u.idle u.untouched u.stays u.unfailed
 
 pub unopened_leaves : (request : Request) (old new : Option History) (began now : Faults) (why : OpenError) → IsOpsRequest request → IsUnopened why old new began now → RequestMoments request old new
-unopened_leaves (request.List name) old new began now why ops u = u.moments
+unopened_leaves (request.List name) old new began now why ops u = record { safe = u.moments; stays = u.stays; closed_well = u.closed_well }
 unopened_leaves (request.Flag name uid flags) old new began now why ops u = λ lists at. each_image-map (λ _ image. Safe image lists) (λ _ image. Safe image lists ⊎ Safe image (set_flags name uid.0 flags lists)) old new (λ m image h. inl h) (u.moments lists at)
 unopened_leaves other old new began now why ops u = absurd ops
 

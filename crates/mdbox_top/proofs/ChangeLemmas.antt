@@ -26,10 +26,9 @@ use Rattle.task_steps.proofs.OneEventLemmas.{not_true}
 use Rattle.store_core.specs.Running.{IsStore}
 use Rattle.store_core.specs.Value.{StoreValue, indexes_of}
 use Rattle.mail_ops.specs.Making.{NamesMail}
-use Rattle.mail_ops.specs.Task.{seen_of}
 use Rattle.mdbox_top.specs.Changed.{lists_told, OpensUnchanged, ChangeMoments, AreOneOf, SafeForAmong, MomentsAmong}
 use Rattle.mdbox_top.specs.ChangeEvents.{IsWayTo, ServesAlone, ChangesAlone}
-use Rattle.mdbox_top.specs.UnderWay.{IsUnderWay}
+use Rattle.mdbox_top.specs.UnderWay.{IsUnderWay, seen_alone}
 use Rattle.mdbox_top.proofs.MailLemmas.{names_none, names_then}
 use Rattle.mdbox_top.proofs.ServedLemmas.{OpenedNow, comes, opening_begins}
 use Rattle.mdbox_top.proofs.ShownLemmas.{opens_again}
@@ -46,7 +45,7 @@ one_done a b e = cc e
 -- What an event of the task says: from where the task stood to where it stands, of the lists that it may make of others, and of
 -- those that it makes.
 pub record ChangeEvent {D : Type 0} (history : D → Option History) (faults : D → Faults) (Stood Stands : Run → ℕ → List Reply → Type 0) (request : Request) (may told : Lists → Lists) (s t : StoreValue D) (how : Did) (answer : Progress) : Type 0 where
-  pub does : (around after : Around) → Steps Stood Stands around after request (seen_of s (history s.disk) (faults s.disk)) (seen_of t (history t.disk) (faults t.disk)) how (ended_by answer)
+  pub does : (around after : Around) → Steps Stood Stands around after request (seen_alone s (history s.disk) (faults s.disk)) (seen_alone t (history t.disk) (faults t.disk)) how (ended_by answer)
   pub moments : (lists : Lists) → IsSettledFor lists (history s.disk) → Leaves lists (may lists) (history s.disk) (history t.disk)
   pub settled : t.stopped ≡ false → (lists : Lists) → IsSettledFor lists (history s.disk) → IsSettledFor (told lists) (history t.disk)
   pub mail : t.stopped ≡ s.stopped → NamesMail (history s.disk) (history t.disk)
@@ -116,10 +115,10 @@ so_far_on history faults Began Stood Stands request Among left next may told fir
     running = not_true t.stopped (λ e. more_done (reply.Refused refusal.Stopped) (event.stopped.1 e))
 
     from : Seen
-    from = seen_of s (history s.disk) (faults s.disk)
+    from = seen_alone s (history s.disk) (faults s.disk)
 
     to : Seen
-    to = seen_of t (history t.disk) (faults t.disk)
+    to = seen_alone t (history t.disk) (faults t.disk)
 
 -- ---- the end
 
@@ -146,10 +145,10 @@ so_far_serves history faults Began Stood Stands request Among tells left may tol
 }
   where
     from : Seen
-    from = seen_of s (history s.disk) (faults s.disk)
+    from = seen_alone s (history s.disk) (faults s.disk)
 
     to : Seen
-    to = seen_of t (history t.disk) (faults t.disk)
+    to = seen_alone t (history t.disk) (faults t.disk)
 
 -- And, if it isn't refused, the store shows the changed lists.
 pub so_far_ends : {D : Type 0} → (history : D → Option History) (faults : D → Faults) (Began Stood Stands : Run → ℕ → List Reply → Type 0) (request : Request) (Among : Lists → Lists → Type 0) (change left may told : Lists → Lists) (first s t : StoreValue D) (how : Did) (given : Reply)
@@ -174,18 +173,18 @@ so_far_ends history faults Began Stood Stands request Among change left may told
     }
   where
     from : Seen
-    from = seen_of s (history s.disk) (faults s.disk)
+    from = seen_alone s (history s.disk) (faults s.disk)
 
     to : Seen
-    to = seen_of t (history t.disk) (faults t.disk)
+    to = seen_alone t (history t.disk) (faults t.disk)
 
 -- ---- behind the opening
 
 -- From any lists that the opened store shows the request is under way.
 pub way_shown : {D : Type 0} → (Stands : Run → ℕ → List Reply → Type 0) (request : Request) (lists : Lists) (old mid : Option History) (began : Faults) (s : StoreValue D) → (o : OpenedNow old mid s) → AreWellFormed lists × ShowLists s.map.boxes (indexes_of s.boxes) lists
-    → Stands (beginning s.map o.store.entries) 0 [] → IsUnderWay Stands request lists (before_opening (seen_of s mid began) old) (seen_of s mid began) lists
+    → Stands (beginning s.map o.store.entries) 0 [] → IsUnderWay Stands request lists (before_opening (seen_alone s mid began) old) (seen_alone s mid began) lists
 way_shown Stands request lists old mid began s o shown stands =
-    way_begins Stands request lists s.map o.store.entries (seen_of s mid began) old (comes old mid began s o.store o.drawn o.free o.files) shown o.running o.drawn (o.safe lists) (o.settled_again lists) (opening_begins old mid s o) stands
+    way_begins Stands request lists s.map o.store.entries (seen_alone s mid began) old (comes old mid began s o) shown o.running o.drawn (o.safe lists) (o.settled_again lists) (opening_begins old mid s o) stands
 
 -- a store that is as it was opened
 pub opens_unchanged : {D : Type 0} → (old mid new : Option History) (s : StoreValue D) → OpenedNow old mid s → new ≡ mid → OpensUnchanged s.map (indexes_of s.boxes) old new

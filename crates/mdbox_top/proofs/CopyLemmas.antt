@@ -33,7 +33,6 @@ use Rattle.mail_ops.specs.Appends.{TakesIntoMap, lowering_of}
 use Rattle.mail_ops.specs.Copy.{IsAtCopy, copied_lists, copy_lists, lists_copied, IsReadyToCopy, CopyAnswers}
 use Rattle.mail_ops.specs.CopyStages.{answered_by}
 use Rattle.mail_ops.specs.Copying.{CopyPlace, copy_refusal, room_refusal, raising_of, IsRaiseRefusal, MayBeRaised}
-use Rattle.mail_ops.specs.Task.{seen_of}
 use Rattle.mail_ops.specs.declared.copy.CopyStage.{CopyStage}
 use Rattle.mail_ops.specs.declared.copy.CopyStage.TheVariants as stage
 use Rattle.mail_ops.proofs.CopyFirstLemmas.{no_room, place_free, too_many, few_copies, raise_steps}
@@ -48,6 +47,7 @@ use Rattle.mdbox_top.proofs.MailLemmas.{opened_mail}
 use Rattle.mdbox_top.proofs.ServedLemmas.{OpenedNow, way_opens}
 use Rattle.mdbox_top.proofs.ShownLemmas.{LogsShow, opens_again}
 use Rattle.mdbox_top.proofs.UnderWayLemmas.{before_opening}
+use Rattle.mdbox_top.specs.UnderWay.{seen_alone}
 
 -- ---- why it isn't copied
 
@@ -383,10 +383,10 @@ copy_tells name uid target given old mid new began now s t w = record {
     map = t.map;
     changed = indexes_of t.boxes;
     opened = opens_again new t w.later (copy_runs name uid target given old mid new began now s t w (copied_runs given u e));
-    shows = λ lists formed shows. (w.copies.changes.shows (copied_unrefused given u e) lists (before_opening (seen_of s mid began) old) (way_shown (IsAtCopy stage.First) (request.Copy name uid target) lists old mid began s w.opened (formed, shows) (refl, refl))).1;
+    shows = λ lists formed shows. (w.copies.changes.shows (copied_unrefused given u e) lists (before_opening (seen_alone s mid began) old) (way_shown (IsAtCopy stage.First) (request.Copy name uid target) lists old mid began s w.opened (formed, shows) (refl, refl))).1;
   };
   settled = λ running lists at. w.copies.changes.settled (copy_runs name uid target given old mid new began now s t w running) lists (w.opened.settled_again lists at);
-  mail = λ running. opened_mail old mid new s w.opened (w.copies.changes.mail (copy_runs name uid target given old mid new began now s t w running));
+  mail = opened_mail old mid new s given w.opened (λ running. w.copies.changes.mail (copy_runs name uid target given old mid new began now s t w running));
 }
 
 by_reply : (name : List ℕ) (uid : Uid) (target : List ℕ) (given : Reply) (lists : Lists) (new : Option History) → IsSettledFor (lists_told (request.Copy name uid target) given lists) new → IsSettledFor lists new ⊎ IsSettledFor (copied_lists name uid target lists) new
@@ -400,7 +400,7 @@ copy_rests name uid target given old mid new began now s t w = λ none lists at.
 pub copy_done : {D : Type 0} → (name : List ℕ) (uid : Uid) (target : List ℕ) (given : Reply) (old mid new : Option History) (began now : Faults) (s t : StoreValue D) → CopyingKnown name uid target given old mid new began now s t → LogsShow → IsDoneAlone (request.Copy name uid target) given old new began now
 copy_done name uid target given old mid new began now s t w show = record {
   tells = copy_tells name uid target given old mid new began now s t w;
-  serves = λ lists safe. w.copies.changes.served lists (before_opening (seen_of s mid began) old) (way_opens (IsAtCopy stage.First) (request.Copy name uid target) lists old mid began s w.opened show safe (refl, refl));
+  serves = λ lists safe. w.copies.changes.served lists (before_opening (seen_alone s mid began) old) (way_opens (IsAtCopy stage.First) (request.Copy name uid target) lists old mid began s w.opened show safe (refl, refl));
   moments = changed_moments (copied_lists name uid target) old mid new s w.opened w.copies.changes.moments;
   rests = copy_rests name uid target given old mid new began now s t w;
   faults = alone_faults given began now w.copies.calm w.copies.changes.fault w.copies.changes.unfailed;

@@ -20,7 +20,6 @@ use Rattle.journal.specs.Journal.{is_read_fault}
 use Rattle.task_steps.specs.Step.{Seen, HasNotBegun, Steps, ended_by}
 use Rattle.store_core.specs.Value.{StoreValue, indexes_of}
 use Rattle.mail_ops.specs.Counting.{counts_reply}
-use Rattle.mail_ops.specs.Task.{seen_of}
 use Rattle.mail_ops.proofs.CountingLemmas.{shown_many}
 use Rattle.request_text.specs.Outcomes.{status_of, reply_outcome}
 use Rattle.request_text.specs.declared.outcome.Outcome.{Outcome}
@@ -30,7 +29,7 @@ use Rattle.mdbox_top.specs.CountsRun.{counts_of, IsCountsReply, CountsOutcome}
 use Rattle.mdbox_top.specs.InputRun.{IsOneOf}
 use Rattle.mdbox_top.specs.OpeningOutcome.{opening_outcome}
 use Rattle.mdbox_top.specs.Served.{AreSafeFor, ServesRequest, FaultsByReply, ShowsReply}
-use Rattle.mdbox_top.specs.UnderWay.{IsUnderWay}
+use Rattle.mdbox_top.specs.UnderWay.{IsUnderWay, seen_alone}
 use Rattle.mdbox_top.proofs.RequestLemmas.{opening_number, request_status}
 use Rattle.mdbox_top.proofs.ServedLemmas.{OpenedNow, way_opens}
 use Rattle.mdbox_top.proofs.ShownLemmas.{LogsShow, opens_again, opened_shows}
@@ -42,7 +41,7 @@ IsCount m meanings given = (given ≡ counts_of m meanings) ⊎ (given ≡ reply
 
 -- What the step of its task says of a store, which it only reads.
 abbrev pub CountStep : {D : Type 0} → StoreValue D → Option History → Faults → Did → Progress → Type 0
-CountStep s history faults how answer = (around after : Around) → Steps HasNotBegun HasNotBegun around after request.Counts (seen_of s history faults) (seen_of s history faults) how (ended_by answer)
+CountStep s history faults how answer = (around after : Around) → Steps HasNotBegun HasNotBegun around after request.Counts (seen_alone s history faults) (seen_alone s history faults) how (ended_by answer)
 
 pub record CountAnswer {D : Type 0} (s : StoreValue D) (history : Option History) (faults : Faults) (how : Did) (answer : Progress) : Type 0 where
   pub does : CountStep s history faults how answer
@@ -106,7 +105,7 @@ counts_tells given old mid began s how w show = record {
 counts_served : {D : Type 0} → (lists : Lists) (given : Reply) (old mid : Option History) (began : Faults) (s : StoreValue D) (how : Did) → Counting given old mid began s how → LogsShow → is_read_fault (Some given) ≡ false → AreSafeFor lists old
     → ServesRequest request.Counts lists given began began old mid
 counts_served lists given old mid began s how w show unfaulted safe =
-    let from : Seen = seen_of s mid began in
+    let from : Seen = seen_alone s mid began in
     let first : Seen = before_opening from old in
     let u : IsUnderWay HasNotBegun request.Counts lists first from lists = way_opens HasNotBegun request.Counts lists old mid began s w.opened show safe (refl, refl) in
     let d = (w.does nothing_found nothing_found u.run 1 0 u.said lists u.goes.serves.come (way_shows HasNotBegun request.Counts lists lists first from u) u.stands).0 in
@@ -130,7 +129,7 @@ counts_done given old mid began s how w show =
     record {
       tells = l;
       serves = λ lists safe. counts_served lists given old mid began s how w show (counts_calm old mid given l) safe;
-      moments = w.opened.safe;
+      moments = record { safe = w.opened.safe; stays = w.opened.stays; closed_well = w.opened.closed_well };
       rests = λ none. (w.opened.settled_again, w.opened.carried);
       faults = counts_faults given began (counts_calm old mid given l) (counts_run old mid given l);
     }

@@ -27,11 +27,9 @@ use Rattle.task_steps.proofs.OneEventLemmas.{not_true}
 use Rattle.storage_files.specs.Files.{FilesValue}
 use Rattle.store_core.specs.Running.{IsStore}
 use Rattle.store_core.specs.Value.{StoreValue, indexes_of, list_named}
-use Rattle.mail_save.specs.SaveSeen.{seen_saving}
 use Rattle.saved_message.specs.Region.{guid_of_place, written_region}
 use Rattle.saved_message.specs.Saved.{ids_in}
 use Rattle.store_core.specs.StoreInstances.{HasKnownInstances}
-use Rattle.store_instances.specs.FoundInstances.{IsFoundInstances}
 use Rattle.store_open.specs.Opened.{IsOpenedAs}
 use Rattle.store_open.specs.declared.error.OpenError.{OpenError}
 use Rattle.store_open.specs.declared.error.OpenError.TheVariants as error
@@ -51,12 +49,13 @@ use Rattle.mdbox_top.specs.SavedMail.{LeavesDelivery, WroteMail}
 use Rattle.mdbox_top.proofs.ChangeLemmas.{opens_unchanged, moments_as}
 use Rattle.mdbox_top.proofs.CopyLemmas.{one_refusal}
 use Rattle.mdbox_top.proofs.InputLemmas.{long_told}
-use Rattle.mdbox_top.proofs.KnownFirstLemmas.{named_there, way_saves}
+use Rattle.mdbox_top.proofs.KnownFirstLemmas.{named_there}
 use Rattle.mdbox_top.proofs.RequestLemmas.{opening_number, shown_number, request_status, request_used, request_input, request_damage}
-use Rattle.mdbox_top.proofs.ServedLemmas.{OpenedNow}
+use Rattle.mdbox_top.proofs.ServedLemmas.{OpenedNow, way_opens}
 use Rattle.mdbox_top.proofs.ShownLemmas.{LogsShow, opens_again}
 use Rattle.mdbox_top.proofs.UnderWayLemmas.{before_opening}
 use Rattle.mdbox_top.proofs.WroteLemmas.{wrote_message}
+use Rattle.mdbox_top.specs.UnderWay.{seen_alone}
 
 -- ---- the end of a run
 
@@ -194,7 +193,6 @@ save_unopened_rests name time octets failed old new began now why h u = λ none 
 pub record DeliveringKnown {D : Type 0} (name : List ℕ) (time : ℕ) (octets : List ℕ) (prepared : Prepared) (given : Reply) (old mid new : Option History) (began now : Faults) (s t : StoreValue D) : Type 0 where
   pub opened : OpenedNow old mid s
   pub form : IsPrepared octets prepared
-  pub instances : IsFoundInstances s.map s.instances
   pub known : HasKnownInstances mid s
   pub later : IsStore new t
   pub saves : SavesAlone name time octets prepared s t mid new began now given
@@ -259,7 +257,7 @@ deliver_tells name time octets prepared given old mid new began now s t w = reco
   refused = λ why e. opens_unchanged old mid new s w.opened (w.back (w.saves.refused why (subst (λ (h : Highest). undelivered_cause (list_named s name) h ≡ Some why) (sym w.opened.drawn) e)));
   unsaved = λ why e running. opens_alike name time prepared new s t w.later (deliver_runs name time octets prepared given old mid new began now s t w (refused_runs given why e running)) w.opened.drawn (w.saves.unsaved why e running) (w.saves.left why e running);
   done = λ uid guid e. opens_saved name time octets prepared guid old mid new s t w.opened w.known w.later (deliver_runs name time octets prepared given old mid new began now s t w (saved_runs given uid guid e)) (w.saves.shows uid guid e) (w.saves.stored uid guid e).0 (w.saves.stored uid guid e).1;
-  mail = (w.opened.swept.0, mid, w.opened.swept.1, mail_left name time octets prepared given mid new began now s t w.saves);
+  mail = (w.opened.swept.0, mid, w.opened.swept.1, w.opened.stays, mail_left name time octets prepared given mid new began now s t w.saves);
   settled = λ running lists at. w.saves.settled (deliver_runs name time octets prepared given old mid new began now s t w running) lists (w.opened.settled_again lists at);
 }
 
@@ -278,7 +276,7 @@ one_safe name time octets lists some moment image (inr e) s = inr (some, e, s)
 pub deliver_done : {D : Type 0} → (name : List ℕ) (time : ℕ) (octets : List ℕ) (prepared : Prepared) (given : Reply) (old mid new : Option History) (began now : Faults) (s t : StoreValue D) → DeliveringKnown name time octets prepared given old mid new began now s t → LogsShow → IsDoneAlone (request.Deliver name time octets) given old new began now
 deliver_done name time octets prepared given old mid new began now s t w show = record {
   tells = deliver_tells name time octets prepared given old mid new began now s t w;
-  serves = λ lists safe. w.saves.served lists (before_opening (seen_saving s mid began) old) (way_saves HasNotBegun (request.Deliver name time octets) lists old mid began s w.opened w.instances show safe (refl, refl));
+  serves = λ lists safe. w.saves.served lists (before_opening (seen_alone s mid began) old) (way_opens HasNotBegun (request.Deliver name time octets) lists old mid began s w.opened show safe (refl, refl));
   moments = moments_as (AreAlongSave name time octets) (λ lists moment image. Safe image lists ⊎ ((some : Lists) × AreSaved name time octets lists some × Safe image some)) old mid new s w.opened w.saves.moments (λ lists moment image safe. inl safe) (λ lists some moment image a safe. one_safe name time octets lists some moment image a safe);
   rests = deliver_rests name time octets prepared given old mid new began now s t w;
   faults = w.saves.faults;

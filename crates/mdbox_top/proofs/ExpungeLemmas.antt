@@ -25,7 +25,6 @@ use Rattle.store_core.specs.Running.{IsStore}
 use Rattle.store_core.specs.Value.{StoreValue, indexes_of, list_named}
 use Rattle.mail_ops.specs.Expunging.{IsAtExpunge, expunge_lists, expunged_lists, ExpungeAnswers}
 use Rattle.mail_ops.specs.Messages.{missing_message}
-use Rattle.mail_ops.specs.Task.{seen_of}
 use Rattle.mail_ops.specs.declared.expunging.ExpungeStage.{ExpungeStage}
 use Rattle.mail_ops.specs.declared.expunging.ExpungeStage.TheVariants as stage
 use Rattle.mail_ops.proofs.MessageLemmas.{not_missing}
@@ -40,6 +39,7 @@ use Rattle.mdbox_top.proofs.MailLemmas.{opened_mail}
 use Rattle.mdbox_top.proofs.ServedLemmas.{OpenedNow, way_opens}
 use Rattle.mdbox_top.proofs.ShownLemmas.{LogsShow, opens_again}
 use Rattle.mdbox_top.proofs.UnderWayLemmas.{before_opening}
+use Rattle.mdbox_top.specs.UnderWay.{seen_alone}
 
 -- ---- replies
 
@@ -235,10 +235,10 @@ expunge_tells name uid given old mid new began now s t w = record {
     map = t.map;
     changed = indexes_of t.boxes;
     opened = opens_again new t w.later (expunge_runs name uid given old mid new began now s t w (done_runs given e));
-    shows = λ lists formed shows. (w.removes.changes.shows (done_unrefused given e) lists (before_opening (seen_of s mid began) old) (way_shown (IsAtExpunge stage.First) (request.Expunge name uid) lists old mid began s w.opened (formed, shows) (refl, refl))).1;
+    shows = λ lists formed shows. (w.removes.changes.shows (done_unrefused given e) lists (before_opening (seen_alone s mid began) old) (way_shown (IsAtExpunge stage.First) (request.Expunge name uid) lists old mid began s w.opened (formed, shows) (refl, refl))).1;
   };
   settled = λ running lists at. w.removes.changes.settled (expunge_runs name uid given old mid new began now s t w running) lists (w.opened.settled_again lists at);
-  mail = λ running. opened_mail old mid new s w.opened (w.removes.changes.mail (expunge_runs name uid given old mid new began now s t w running));
+  mail = opened_mail old mid new s given w.opened (λ running. w.removes.changes.mail (expunge_runs name uid given old mid new began now s t w running));
 }
 
 by_reply : (name : List ℕ) (uid : Uid) (given : Reply) (lists : Lists) (new : Option History) → IsSettledFor (lists_told (request.Expunge name uid) given lists) new → IsSettledFor lists new ⊎ IsSettledFor (lists_without name uid lists) new
@@ -252,7 +252,7 @@ expunge_rests name uid given old mid new began now s t w = λ none lists at.
 pub expunge_done : {D : Type 0} → (name : List ℕ) (uid : Uid) (given : Reply) (old mid new : Option History) (began now : Faults) (s t : StoreValue D) → Expunging name uid given old mid new began now s t → LogsShow → IsDoneAlone (request.Expunge name uid) given old new began now
 expunge_done name uid given old mid new began now s t w show = record {
   tells = expunge_tells name uid given old mid new began now s t w;
-  serves = λ lists safe. w.removes.changes.served lists (before_opening (seen_of s mid began) old) (way_opens (IsAtExpunge stage.First) (request.Expunge name uid) lists old mid began s w.opened show safe (refl, refl));
+  serves = λ lists safe. w.removes.changes.served lists (before_opening (seen_alone s mid began) old) (way_opens (IsAtExpunge stage.First) (request.Expunge name uid) lists old mid began s w.opened show safe (refl, refl));
   moments = changed_moments (lists_without name uid) old mid new s w.opened w.removes.changes.moments;
   rests = expunge_rests name uid given old mid new began now s t w;
   faults = alone_faults given began now (cause_calm (list_named s name) uid.0 given w.removes.given_is) w.removes.changes.fault w.removes.changes.unfailed;

@@ -31,6 +31,7 @@ use Rattle.list_machine.specs.Run.{EventPart, First, RunEvent, Run, before, own_
 use Rattle.journal.specs.Events.{Around, is_fault, is_faulted}
 use Rattle.journal.specs.Journal.{JournalStep, AreSteps, refusal_in, is_read_fault, steps_of}
 use Rattle.journal.specs.Makes.{StepOf}
+use Rattle.storage_files.specs.Files.{is_doomed_in}
 use Rattle.storage_files.specs.OnDisk.{piece_read}
 use Rattle.store_core.specs.Running.{IsStore}
 use Rattle.store_core.specs.Value.{StoreValue, list_named}
@@ -41,13 +42,13 @@ use Rattle.mail_fetch.specs.Failed.{HasFailedRead}
 use Rattle.mail_fetch.specs.Parts.{instance_part, left_after, parts_to_read, parts_read, pieces_left}
 use Rattle.mail_fetch.specs.Region.{stored_at, RegionValue, unread, IsReplyFor, damage_at}
 use Rattle.mail_fetch.specs.Stages.{IsAtFetch, IsTrueReply, UnpinsNext}
-use Rattle.mail_fetch.specs.Task.{FetchValue, seen_with_pins}
+use Rattle.mail_fetch.specs.Task.{FetchValue, UnpinsUndoomed, seen_with_pins}
 use Rattle.mail_fetch.specs.declared.parts.StoredAt.{StoredAt}
 use Rattle.mail_fetch.specs.declared.task.FetchStage.{FetchStage}
 use Rattle.mail_fetch.specs.declared.task.FetchStage.TheVariants as stage
 use Rattle.mail_fetch.proofs.StepViewLemmas.{StageClause}
 use Rattle.mail_fetch.proofs.PartLemmas.{reads_after, reads_none, reads_of_parts}
-use Rattle.mdbox_top.specs.FetchEvents.{seen_alone, FetchIsAt, TakesMessage, TakesServed}
+use Rattle.mdbox_top.specs.FetchEvents.{seen_fetching, FetchIsAt, TakesMessage, TakesServed}
 use Rattle.mdbox_top.specs.FetchRun.{message_read, IsFetchAnswer}
 use Rattle.mdbox_top.specs.Served.{FaultsByReply, missing_cause}
 use Rattle.mdbox_top.specs.UnderWay.{alone, IsUnderWay}
@@ -322,8 +323,8 @@ fetching_on history faults name uid first d e now next how running so event = re
   counted = faults_on name uid.0 now next (at_disk first d) (history d) (faults first.disk) (faults d) (faults e) running so.counted event.replies event.fault event.unfailed;
   knows = knows_on history faults name uid first d e now next running event.idle so.knows event.replies;
   served = λ lists seen u0 safe.
-      let from : Seen = seen_alone now (at_disk first d) (history d) (faults d) in
-      let to : Seen = seen_alone next (at_disk first e) (history e) (faults e) in
+      let from : Seen = seen_fetching now (at_disk first d) (history d) (faults d) in
+      let to : Seen = seen_fetching next (at_disk first e) (history e) (faults e) in
       let u = so.served lists seen u0 safe in
       let s = event.does nothing_found nothing_found (λ file. 0) u.run 1 0 u.said lists u.goes.serves.come (way_shows (IsAtFetch now from) (request.Fetch name uid) lists lists seen from u) (λ runs. reads_on lists (history first.disk) (history d) so.idle safe) u.stands in
       let v = way_goes_on (IsAtFetch now from) (IsAtFetch next to) (request.Fetch name uid) lists lists seen from to nothing_found nothing_found how u s.0 (s.1 refl) in
@@ -466,8 +467,8 @@ fault_seen name uid (stage.Unpinning from other) next given store old f g seen r
 pub served_ends : {D : Type 0} → (history : D → Option History) (faults : D → Faults) (name : List ℕ) (uid : Uid) (first : StoreValue D) (d e : D) (now next : FetchStage) (how : Did) (given : Reply) → first.stopped ≡ false → IsFetching history faults name uid first d now
     → FetchEvent history faults name uid first d e now next how (progress.Done given) → IsStore (history e) (at_disk first e) → TakesServed name uid first (history first.disk) (history e) (faults first.disk) (faults e) given
 served_ends history faults name uid first d e now next how given running so event k = λ lists seen u0 safe.
-    let from : Seen = seen_alone now (at_disk first d) (history d) (faults d) in
-    let to : Seen = seen_alone next (at_disk first e) (history e) (faults e) in
+    let from : Seen = seen_fetching now (at_disk first d) (history d) (faults d) in
+    let to : Seen = seen_fetching next (at_disk first e) (history e) (faults e) in
     let u = so.served lists seen u0 safe in
     let s = event.does nothing_found nothing_found (λ file. 0) u.run 1 0 u.said lists u.goes.serves.come (way_shows (IsAtFetch now from) (request.Fetch name uid) lists lists seen from u) (λ runs. reads_on lists (history first.disk) (history d) so.idle safe) u.stands in
     way_ends (IsAtFetch now from) (request.Fetch name uid) lists lists given seen from to nothing_found nothing_found how (at_disk first e) u k refl refl s.0
@@ -477,6 +478,12 @@ served_ends history faults name uid first d e now next how given running so even
     omega (arith, one, more))
 
 -- ---- from what a step says
+
+-- no file is doomed, so not that which is unpinned
+pub unpins_undoomed : {D : Type 0} → (now : FetchStage) (first s : StoreValue D) → s ≡ at_disk first s.disk → ((file : ℕ) → is_doomed_in file first.files.files ≡ false) → UnpinsUndoomed now s
+unpins_undoomed (stage.Unpinning from given) first s same none = ap (λ (v : StoreValue _). is_doomed_in from.file.0 v.files.files) same ∙ none from.file.0
+unpins_undoomed stage.First first s same none = tt
+unpins_undoomed (stage.Reading region) first s same none = tt
 
 -- What a step of the task says, of the store as it was and as it is.
 pub record StepSaid {D : Type 0} (history : D → Option History) (faults : D → Faults) (s t : StoreValue D) (task next : FetchValue) (answer : Progress) : Type 0 where

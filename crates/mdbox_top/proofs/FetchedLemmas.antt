@@ -3,7 +3,8 @@ use Rattle.std.specs.Prelude.{◌≡◌, ◌⊎◌, ℕ, false, List, Option, So
 use Rattle.std.proofs.Common.{refl, sym, ◌∙◌, subst, inl, inr}
 use Rattle.disk_model.specs.Disk.{History, Faults, IsIdle}
 use Rattle.disk_model.proofs.BetweenLemmas.{between-same}
-use Rattle.disk_model.proofs.MomentLemmas.{each_image-then}
+use Rattle.disk_model.proofs.IdleLemmas.{idle-then}
+use Rattle.disk_model.proofs.MomentLemmas.{each_image-then, if_told-map}
 use Rattle.mdbox_base.specs.declared.ids.Uid.{Uid}
 use Rattle.mdbox_base.specs.declared.replies.Refusal.{Refusal}
 use Rattle.mdbox_base.specs.declared.replies.Refusal.TheVariants as refusal
@@ -20,15 +21,14 @@ use Rattle.model_store.proofs.SettledLemmas.{safe_carried}
 use Rattle.model_store.proofs.StandsLemmas.{root_same}
 use Rattle.store_core.specs.Running.{IsStore}
 use Rattle.store_core.specs.Value.{StoreValue, indexes_of}
-use Rattle.store_open.specs.Opened.{IsOpenedAs, StoreCarries}
+use Rattle.store_open.specs.Opened.{IsOpenedAs, StoreCarries, IsClosedWell}
 use Rattle.store_open.proofs.SweptStoreLemmas.{idle_settled, idle_safe}
 use Rattle.mail_fetch.specs.Clause.{ReadsSafe}
 use Rattle.mail_fetch.specs.Events.{fetch_refusal}
 use Rattle.mail_fetch.specs.Stages.{IsAtFetch}
 use Rattle.mail_fetch.specs.declared.task.FetchStage.TheVariants as stage
-use Rattle.mail_ops.specs.Task.{seen_of}
 use Rattle.mdbox_top.specs.Alone.{IsDoneAlone}
-use Rattle.mdbox_top.specs.FetchEvents.{seen_alone, FetchIsAt, TakesMessage, TakesServed}
+use Rattle.mdbox_top.specs.FetchEvents.{seen_fetching, FetchIsAt, TakesMessage, TakesServed}
 use Rattle.mdbox_top.specs.FetchRun.{IsFetched, IsFetchReply}
 use Rattle.mdbox_top.specs.ListRun.{StaysSettled}
 use Rattle.mdbox_top.specs.Served.{AreSafeFor, FaultsByReply}
@@ -36,6 +36,8 @@ use Rattle.mdbox_top.proofs.FetchLemmas.{cause_of}
 use Rattle.mdbox_top.proofs.ServedLemmas.{OpenedNow, way_opens}
 use Rattle.mdbox_top.proofs.ShownLemmas.{LogsShow, opens_again}
 use Rattle.mdbox_top.proofs.UnderWayLemmas.{before_opening}
+use Rattle.mdbox_top.specs.UnderWay.{seen_alone}
+use Rattle.mdbox_top.proofs.MailLemmas.{mail_kept_on}
 
 -- files that carry over what the store reads are safe for the same lists
 carried_safe : (lists : Lists) (old new : Option History) → StoreCarries old new → AreSafeFor lists old → ReadsSafe lists new
@@ -52,8 +54,8 @@ carried_safe lists (Some h) (Some g) carry safe =
     }
 
 -- a fetch that has not begun is under way, behind the opening
-fetch_opens : {D : Type 0} → (name : List ℕ) (uid : Uid) (lists : Lists) (old mid : Option History) (began : Faults) (s : StoreValue D) → OpenedNow old mid s → LogsShow → AreSafeFor lists old → FetchIsAt stage.First name uid lists (before_opening (seen_of s mid began) old) s mid began
-fetch_opens name uid lists old mid began s o show safe = way_opens (IsAtFetch stage.First (seen_alone stage.First s mid began)) (request.Fetch name uid) lists old mid began s o show safe (refl, refl)
+fetch_opens : {D : Type 0} → (name : List ℕ) (uid : Uid) (lists : Lists) (old mid : Option History) (began : Faults) (s : StoreValue D) → OpenedNow old mid s → LogsShow → AreSafeFor lists old → FetchIsAt stage.First name uid lists (before_opening (seen_alone s mid began) old) s mid began
+fetch_opens name uid lists old mid began s o show safe = way_opens (IsAtFetch stage.First (seen_fetching stage.First s mid began)) (request.Fetch name uid) lists old mid began s o show safe (refl, refl)
 
 -- What is known of a fetch alone: of the opening of the store, and of the events of its task.
 pub record Fetching {D : Type 0} (name : List ℕ) (uid : Uid) (given : Reply) (old mid new : Option History) (began now : Faults) (s t : StoreValue D) : Type 0 where
@@ -74,7 +76,7 @@ fetched name uid given old mid new began now s t w show taken =
       entry = taken.entry;
       record_is = record { mailbox = k.mailbox; named = k.named; listed = k.listed; stored = k.stored; same = k.same };
       given_is = taken.given_is;
-      text = λ lists safe. taken.text lists (before_opening (seen_of s mid began) old) (fetch_opens name uid lists old mid began s w.opened show safe) (carried_safe lists old mid w.opened.carried safe);
+      text = λ lists safe. taken.text lists (before_opening (seen_alone s mid began) old) (fetch_opens name uid lists old mid began s w.opened show safe) (carried_safe lists old mid w.opened.carried safe);
     }
 
 stays_settled : {D : Type 0} → (old mid new : Option History) (s : StoreValue D) → OpenedNow old mid s → IsIdle mid new → StaysSettled old new
@@ -101,8 +103,12 @@ fetch_tells name uid given old mid new began now s t w show =
 pub fetch_done : {D : Type 0} → (name : List ℕ) (uid : Uid) (given : Reply) (old mid new : Option History) (began now : Faults) (s t : StoreValue D) → Fetching name uid given old mid new began now s t → LogsShow → IsDoneAlone (request.Fetch name uid) given old new began now
 fetch_done name uid given old mid new began now s t w show = record {
   tells = fetch_tells name uid given old mid new began now s t w show;
-  serves = λ lists safe. w.served lists (before_opening (seen_of s mid began) old) (fetch_opens name uid lists old mid began s w.opened show safe) (carried_safe lists old mid w.opened.carried safe);
-  moments = λ lists at. each_image-then (λ _ image. Safe image lists) old mid new (w.opened.safe lists at) (idle_safe lists mid new w.idle (w.opened.settled_again lists at));
+  serves = λ lists safe. w.served lists (before_opening (seen_alone s mid began) old) (fetch_opens name uid lists old mid began s w.opened show safe) (carried_safe lists old mid w.opened.carried safe);
+  moments = record {
+    safe = λ lists at. each_image-then (λ _ image. Safe image lists) old mid new (w.opened.safe lists at) (idle_safe lists mid new w.idle (w.opened.settled_again lists at));
+    stays = mail_kept_on old mid new w.opened.stays w.idle;
+    closed_well = if_told-map (λ disk. IsClosedWell disk → IsIdle old mid) (λ disk. IsClosedWell disk → IsIdle old new) old (λ disk still well. idle-then old mid new (still well) w.idle) w.opened.closed_well;
+  };
   rests = λ none. (stays_settled old mid new s w.opened w.idle, stays_carried old mid new s w.opened w.idle);
   faults = w.faults;
 }

@@ -31,6 +31,7 @@ use Rattle.mdbox_top.specs.FlagRun.{IsFlagAnswer, HasFlagged, IsFlagReply, FlagM
 use Rattle.mdbox_top.proofs.ServedLemmas.{Doing, comes}
 use Rattle.mdbox_top.proofs.UnderWayLemmas.{nothing_found, beginning}
 use Rattle.mdbox_top.proofs.ShownLemmas.{opens_again}
+use Rattle.mdbox_top.proofs.MailLemmas.{opened_mail}
 
 -- ---- what is replied
 
@@ -77,8 +78,8 @@ done_left run event lists left name uid flags (Some given) is step =
 flagged_shows : {D : Type 0} → (name : List ℕ) (uid : Uid) (flags : ℕ) (old mid new : Option History) (began now : Faults) (s t : StoreValue D) (how : Did) → Doing (request.Flag name uid flags) reply.Done old mid new began now s t how
     → (lists : Lists) → AreWellFormed lists → ShowLists s.map.boxes (indexes_of s.boxes) lists → ShowLists t.map.boxes (indexes_of t.boxes) (set_flags name uid.0 flags lists)
 flagged_shows name uid flags old mid new began now s t how w lists formed shows =
-    let d = w.did nothing_found nothing_found (beginning s.map w.store.entries) [] lists (comes old mid began s w.store w.drawn w.free w.files) (formed, shows) (refl, refl) in
-    subst (λ (ls : Lists). ShowLists t.map.boxes (indexes_of t.boxes) ls) (done_left (beginning s.map w.store.entries) d.makes.event lists d.left name uid flags d.makes.answer (d.ends.replied reply.Done refl) d.makes.made) d.shown.1
+    let d = w.did nothing_found nothing_found (beginning s.map w.opened.store.entries) [] lists (comes old mid began s w.opened) (formed, shows) (refl, refl) in
+    subst (λ (ls : Lists). ShowLists t.map.boxes (indexes_of t.boxes) ls) (done_left (beginning s.map w.opened.store.entries) d.makes.event lists d.left name uid flags d.makes.answer (d.ends.replied reply.Done refl) d.makes.made) d.shown.1
 
 has_flagged : {D : Type 0} → (name : List ℕ) (uid : Uid) (flags : ℕ) (given : Reply) (old mid new : Option History) (began now : Faults) (s t : StoreValue D) (how : Did) → Doing (request.Flag name uid flags) given old mid new began now s t how → t.stopped ≡ false → given ≡ reply.Done
     → HasFlagged name uid.0 flags s.map (indexes_of s.boxes) new
@@ -102,24 +103,24 @@ pub flag_tells : {D : Type 0} → (name : List ℕ) (uid : Uid) (flags : ℕ) (g
 flag_tells name uid flags given old mid new began now s t how w = record {
   m = s.map;
   meanings = indexes_of s.boxes;
-  opened = w.opened;
-  given_is = flag_answer name uid flags s t given w.running w.replies;
+  opened = w.opened.opened;
+  given_is = flag_answer name uid flags s t given w.opened.running w.replies;
   refused = λ why e.
-      let back : mid ≡ new = sym (w.unchanged (why, cause_is name uid.0 s w.running ∙ e)) in (
-        subst (λ (h : Option History). IsOpenedAs h s.map (indexes_of s.boxes)) back (opens_again mid s w.store w.running),
-        subst (λ (h : Option History). StoreCarries old h) back w.carried,
-        (w.swept.0, subst (λ (h : Option History). IsSwept w.swept.0 s.map old h) back w.swept.1),
+      let back : mid ≡ new = sym (w.unchanged (why, cause_is name uid.0 s w.opened.running ∙ e)) in (
+        subst (λ (h : Option History). IsOpenedAs h s.map (indexes_of s.boxes)) back (opens_again mid s w.opened.store w.opened.running),
+        subst (λ (h : Option History). StoreCarries old h) back w.opened.carried,
+        (w.opened.swept.0, subst (λ (h : Option History). IsSwept w.opened.swept.0 s.map old h) back w.opened.swept.1),
       );
   done = λ e. has_flagged name uid flags given old mid new began now s t how w (unstopped name uid flags given old mid new began now s t how w (done_runs given e)) e;
-  settled = λ running lists at. w.settled (unstopped name uid flags given old mid new began now s t how w running) lists (w.settled_again lists at);
-  mail = λ running. record { generation = w.swept.0; opened = mid; swept = w.swept.1; mail = w.mail (unstopped name uid flags given old mid new began now s t how w running) };
+  settled = λ running lists at. w.settled (unstopped name uid flags given old mid new began now s t how w running) lists (w.opened.settled_again lists at);
+  mail = opened_mail old mid new s given w.opened (λ running. w.mail (unstopped name uid flags given old mid new began now s t how w running));
 }
 
 pub flag_leaves : {D : Type 0} → (name : List ℕ) (uid : Uid) (flags : ℕ) (given : Reply) (old mid new : Option History) (began now : Faults) (s t : StoreValue D) (how : Did) → Doing (request.Flag name uid flags) given old mid new began now s t how → FlagMoments name uid flags old new
 flag_leaves name uid flags given old mid new began now s t how w = λ lists at.
     each_image-then (λ _ image. Safe image lists ⊎ Safe image (set_flags name uid.0 flags lists)) old mid new
-    (each_image-map (λ _ image. Safe image lists) (λ _ image. Safe image lists ⊎ Safe image (set_flags name uid.0 flags lists)) old mid (λ m image h. inl h) (w.safe lists at))
-    (w.moments lists (w.settled_again lists at))
+    (each_image-map (λ _ image. Safe image lists) (λ _ image. Safe image lists ⊎ Safe image (set_flags name uid.0 flags lists)) old mid (λ m image h. inl h) (w.opened.safe lists at))
+    (w.moments lists (w.opened.settled_again lists at))
 
 by_reply : (name : List ℕ) (uid : Uid) (flags : ℕ) (given : Reply) (lists : Lists) (new : Option History) → IsSettledFor (lists_by_reply (request.Flag name uid flags) given lists) new → IsSettledFor lists new ⊎ IsSettledFor (set_flags name uid.0 flags lists) new
 by_reply name uid flags reply.Done lists new s = inr s
@@ -128,4 +129,4 @@ by_reply name uid flags other lists new s = inl s
 pub flag_rests : {D : Type 0} → (name : List ℕ) (uid : Uid) (flags : ℕ) (given : Reply) (old mid new : Option History) (began now : Faults) (s t : StoreValue D) (how : Did) → Doing (request.Flag name uid flags) given old mid new began now s t how
     → FlagRests name uid flags (given ≡ reply.Refused refusal.Stopped) began now old new
 flag_rests name uid flags given old mid new began now s t how w = λ none lists at.
-    by_reply name uid flags given lists new (w.settled (unstopped name uid flags given old mid new began now s t how w (λ stopped. none stopped (w.fault.rose stopped))) lists (w.settled_again lists at))
+    by_reply name uid flags given lists new (w.settled (unstopped name uid flags given old mid new began now s t how w (λ stopped. none stopped (w.fault.rose stopped))) lists (w.opened.settled_again lists at))

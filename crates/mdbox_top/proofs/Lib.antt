@@ -16,8 +16,10 @@ pub mod MailLemmas
 pub mod MakeFileLemmas
 pub mod MakeLemmas
 pub mod MoveLemmas
+pub mod OpenedLemmas
 pub mod ReplyFaultLemmas
 pub mod RequestLemmas
+pub mod RoomLemmas
 pub mod RunLemmas
 pub mod SaveLemmas
 pub mod SavedFormLemmas

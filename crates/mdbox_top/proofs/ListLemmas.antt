@@ -1,7 +1,7 @@
 -- The reply to a listing.
 use Rattle.std.specs.Prelude.{◌≡◌, ◌⊎◌, ℕ, Bool, false, List, Option, Some, None, if◌then◌else◌}
 use Rattle.std.proofs.Common.{sym, ◌∙◌, ap, subst, inl, inr}
-use Rattle.disk_model.specs.Disk.{History, Faults, EachImage}
+use Rattle.disk_model.specs.Disk.{History, Faults}
 use Rattle.mdbox_base.specs.declared.progress.Did.{Did}
 use Rattle.mdbox_base.specs.declared.replies.Refusal.TheVariants as refusal
 use Rattle.mdbox_base.specs.declared.replies.Reply.{Reply}
@@ -9,7 +9,6 @@ use Rattle.mdbox_base.specs.declared.replies.Reply.TheVariants as reply
 use Rattle.mdbox_base.specs.declared.requests.Request.TheVariants as request
 use Rattle.model_meaning.specs.BoxMeaning.{BoxMeaning}
 use Rattle.model_store.specs.Listing.{listing_of}
-use Rattle.model_store.specs.Safe.{Safe}
 use Rattle.journal.specs.Journal.{is_read_fault}
 use Rattle.store_core.specs.Value.{StoreValue, indexes_of, list_named}
 use Rattle.store_open.specs.Opened.{IsOpenedAs, StoreCarries}
@@ -48,20 +47,21 @@ list_tells name given old mid new began now s t how w show answer =
     record {
       m = s.map;
       meanings = indexes_of s.boxes;
-      opened = w.opened;
-      again = subst (λ (h : Option History). IsOpenedAs h s.map (indexes_of s.boxes)) back (opens_again mid s w.store w.running);
-      given_is = listed name s t given w.running w.replies;
-      answers = λ run event lists safe. answers_safe name old s.map (indexes_of s.boxes) w.opened show answer run event lists safe;
-      settled = subst (λ (h : Option History). StaysSettled old h) back w.settled_again;
-      carried = subst (λ (h : Option History). StoreCarries old h) back w.carried;
-      swept = (w.swept.0, subst (λ (h : Option History). IsSwept w.swept.0 s.map old h) back w.swept.1);
+      opened = w.opened.opened;
+      again = subst (λ (h : Option History). IsOpenedAs h s.map (indexes_of s.boxes)) back (opens_again mid s w.opened.store w.opened.running);
+      given_is = listed name s t given w.opened.running w.replies;
+      answers = λ run event lists safe. answers_safe name old s.map (indexes_of s.boxes) w.opened.opened show answer run event lists safe;
+      settled = subst (λ (h : Option History). StaysSettled old h) back w.opened.settled_again;
+      carried = subst (λ (h : Option History). StoreCarries old h) back w.opened.carried;
+      swept = (w.opened.swept.0, subst (λ (h : Option History). IsSwept w.opened.swept.0 s.map old h) back w.opened.swept.1);
     }
 
 pub list_leaves : {D : Type 0} → (name : List ℕ) (given : Reply) (old mid new : Option History) (began now : Faults) (s t : StoreValue D) (how : Did) → Doing (request.List name) given old mid new began now s t how → ListMoments old new
-list_leaves name given old mid new began now s t how w = λ lists at. subst (λ (h : Option History). EachImage (λ _ image. Safe image lists) old h) (sym (w.unchanged tt)) (w.safe lists at)
+list_leaves name given old mid new began now s t how w =
+    subst (λ (h : Option History). ListMoments old h) (sym (w.unchanged tt)) (record { safe = w.opened.safe; stays = w.opened.stays; closed_well = w.opened.closed_well })
 
 pub list_rests : {D : Type 0} → (name : List ℕ) (given : Reply) (old mid new : Option History) (began now : Faults) (s t : StoreValue D) (how : Did) (failed : Type 0) → Doing (request.List name) given old mid new began now s t how → ListRests failed began now old new
 list_rests name given old mid new began now s t how failed w = λ none. (
-  subst (λ (h : Option History). StaysSettled old h) (sym (w.unchanged tt)) w.settled_again,
-  subst (λ (h : Option History). StoreCarries old h) (sym (w.unchanged tt)) w.carried,
+  subst (λ (h : Option History). StaysSettled old h) (sym (w.unchanged tt)) w.opened.settled_again,
+  subst (λ (h : Option History). StoreCarries old h) (sym (w.unchanged tt)) w.opened.carried,
 )

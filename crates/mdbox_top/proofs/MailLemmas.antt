@@ -2,9 +2,16 @@
 use Rattle.std.specs.Prelude.{◌≡◌, false, Option, Some, None}
 use Rattle.std.proofs.Common.{sym, ◌∙◌, ap, subst, inl, inr}
 use Rattle.std.proofs.lemmas.Bool.{cases_Bool, cond-true, cond-false}
-use Rattle.disk_model.specs.Disk.{FileState, History, named, no_file}
+use Rattle.disk_model.specs.Disk.{FileState, History, IfTold, IsIdle, IsImage, named, no_file}
+use Rattle.disk_model.proofs.MomentLemmas.{each_image-map, each_image-then, since-now}
 use Rattle.disk_model.specs.declared.name.FileName.TheVariants as file
+use Rattle.mdbox_base.specs.declared.replies.Refusal.TheVariants as refusal
+use Rattle.mdbox_base.specs.declared.replies.Reply.{Reply}
+use Rattle.mdbox_base.specs.declared.replies.Reply.TheVariants as reply
+use Rattle.model_kept.specs.Kept.{MailIsKept, MailStays}
+use Rattle.model_meaning.specs.MapMeaning.{MapMeaning, map_meaning}
 use Rattle.store_core.specs.Value.{StoreValue}
+use Rattle.store_open.specs.Opened.{KeepsOpenedMail}
 use Rattle.mail_ops.specs.Making.{IsSameOrNamed, NamesMail}
 use Rattle.mail_ops.proofs.KeptMailLemmas.{same_mail, mail_unnamed}
 use Rattle.mdbox_top.specs.Changed.{LeavesMail}
@@ -44,5 +51,17 @@ pub names_none : (history : Option History) → NamesMail history history
 names_none history = mail_unnamed history history (same_mail history)
 
 -- behind the opening
-pub opened_mail : {D : Type 0} → (old mid new : Option History) (s : StoreValue D) → OpenedNow old mid s → NamesMail mid new → LeavesMail s.map old new
-opened_mail old mid new s o mail = record { generation = o.swept.0; opened = mid; swept = o.swept.1; mail = mail }
+pub opened_mail : {D : Type 0} → (old mid new : Option History) (s : StoreValue D) → (given : Reply) → OpenedNow old mid s → ((given ≡ reply.Refused refusal.Stopped → ⊥) → NamesMail mid new) → LeavesMail s.map given old new
+opened_mail old mid new s given o mail = record { generation = o.swept.0; opened = mid; swept = o.swept.1; stays = o.stays; mail = mail }
+
+-- and they stay where nothing changes then
+kept_on : (m : MapMeaning) (old mid new : Option History) → MailIsKept m old mid → IsIdle mid new → MailIsKept m old new
+kept_on m None None new kept idle = idle.each
+kept_on m (Some o) None new kept idle = absurd kept
+kept_on m None (Some d) new kept idle = absurd (let k : Some d ≡ None = kept in cc k)
+kept_on m (Some o) (Some d) new kept idle =
+    each_image-then (λ _ image. MailStays m (Some o) image) (Some o) (Some d) new kept
+    (each_image-map (λ _ image. IfTold (Some d) (λ disk. IsImage disk image)) (λ _ image. MailStays m (Some o) image) (Some d) new (λ k image is. since-now (λ _ left. MailStays m (Some o) left) o d kept image is) idle.each)
+
+pub mail_kept_on : (old mid new : Option History) → KeepsOpenedMail old mid → IsIdle mid new → KeepsOpenedMail old new
+mail_kept_on old mid new kept idle = λ store entries logs opens. kept_on (map_meaning store entries) old mid new (kept store entries logs opens) idle

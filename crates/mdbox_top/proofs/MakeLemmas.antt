@@ -32,7 +32,6 @@ use Rattle.store_core.specs.Running.{IsStore}
 use Rattle.store_core.specs.Value.{StoreValue, indexes_of, list_named}
 use Rattle.mail_ops.specs.Event.{refusal_told}
 use Rattle.mail_ops.specs.Making.{IsAtMake, naming_refusal, making_refusal, make_lists, lists_by_make, with_mailbox, with_drawn_box, MakesLog, NamesLog, RemovesLog, IsLogNotMade, MakeAnswers}
-use Rattle.mail_ops.specs.Task.{seen_of}
 use Rattle.mail_ops.specs.declared.event.NotDone.{NotDone}
 use Rattle.mail_ops.specs.declared.event.NotDone.TheVariants as not_done
 use Rattle.mail_ops.specs.declared.making.MakeStage.{MakeStage}
@@ -52,6 +51,7 @@ use Rattle.mdbox_top.proofs.MakeFileLemmas.{unmade_files, removed_files, named_f
 use Rattle.mdbox_top.proofs.ServedLemmas.{OpenedNow, way_opens}
 use Rattle.mdbox_top.proofs.ShownLemmas.{LogsShow, opens_again}
 use Rattle.mdbox_top.proofs.UnderWayLemmas.{before_opening}
+use Rattle.mdbox_top.specs.UnderWay.{seen_alone}
 
 -- ---- replies
 
@@ -371,8 +371,7 @@ make_tells name given old mid new began now s t w =
           (subst (λ (m : MapMeaning). IsOpenedAs new m (indexes_of s.boxes ++ box_meaning [] ∷ [])) more.map_is
           (subst (λ (ms : List BoxMeaning). IsOpenedAs new t.map ms) more.indexes (opens_again new t w.later (make_runs name given old mid new began now s t w (done_runs given e)))));
       settled = λ running lists at. subst (λ (n : ℕ). IsSettledFor (lists_by_making n name given lists) new) next (w.makes.serves.settled (make_runs name given old mid new began now s t w running) lists (w.opened.settled_again lists at));
-      files = λ running.
-          record { generation = w.opened.swept.0; opened = mid; swept = w.opened.swept.1; mail = w.makes.serves.mail (make_runs name given old mid new began now s t w running); undone = λ undone. reads_alike w.opened.swept.0 (next_of s) s.map old mid new w.opened.swept.1 w.fresh (w.makes.files running undone) };
+      files = record { generation = w.opened.swept.0; opened = mid; swept = w.opened.swept.1; stays = w.opened.stays; mail = λ running. w.makes.serves.mail (make_runs name given old mid new began now s t w running); undone = λ running undone. reads_alike w.opened.swept.0 (next_of s) s.map old mid new w.opened.swept.1 w.fresh (w.makes.files running undone) };
     }
 
 abbrev SafeForMade : List ℕ → Option History → Lists → ℕ → Files → Type 0
@@ -404,7 +403,7 @@ make_rests name given old mid new began now s t w = λ none lists at.
 pub make_done : {D : Type 0} → (name : List ℕ) (given : Reply) (old mid new : Option History) (began now : Faults) (s t : StoreValue D) → MakingKnown name given old mid new began now s t → LogsShow → IsDoneAlone (request.Make name) given old new began now
 make_done name given old mid new began now s t w show = record {
   tells = make_tells name given old mid new began now s t w;
-  serves = λ lists safe. w.makes.serves.served lists (before_opening (seen_of s mid began) old) (way_opens (IsAtMake stage.First) (request.Make name) lists old mid began s w.opened show safe (record { unrefused = refl; unanswered = refl }, inl refl));
+  serves = λ lists safe. w.makes.serves.served lists (before_opening (seen_alone s mid began) old) (way_opens (IsAtMake stage.First) (request.Make name) lists old mid began s w.opened show safe (record { unrefused = refl; unanswered = refl }, inl refl));
   moments = make_leaves name given old mid new began now s t w;
   rests = make_rests name given old mid new began now s t w;
   faults = alone_faults given began now w.makes.calm w.makes.serves.fault w.makes.serves.unfailed;

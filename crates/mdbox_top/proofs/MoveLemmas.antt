@@ -30,7 +30,6 @@ use Rattle.mail_ops.specs.Copy.{copied_lists}
 use Rattle.mail_ops.specs.CopyStages.{answered_by}
 use Rattle.mail_ops.specs.Copying.{CopyPlace, raising_of, IsRaiseRefusal, MayBeRaised}
 use Rattle.mail_ops.specs.Moving.{IsAtMove, move_lists, lists_moved, IsReadyToMove, MoveAnswers}
-use Rattle.mail_ops.specs.Task.{seen_of}
 use Rattle.mail_ops.specs.declared.moving.MoveStage.{MoveStage}
 use Rattle.mail_ops.specs.declared.moving.MoveStage.TheVariants as stage
 use Rattle.mail_ops.proofs.CopyFirstLemmas.{raise_steps}
@@ -45,6 +44,7 @@ use Rattle.mdbox_top.proofs.MailLemmas.{opened_mail}
 use Rattle.mdbox_top.proofs.ServedLemmas.{OpenedNow, way_opens}
 use Rattle.mdbox_top.proofs.ShownLemmas.{LogsShow, opens_again}
 use Rattle.mdbox_top.proofs.UnderWayLemmas.{nothing_found, before_opening, way_shows}
+use Rattle.mdbox_top.specs.UnderWay.{seen_alone}
 
 -- ---- replies
 
@@ -247,7 +247,7 @@ copy_found : {D : Type 0} → (history : D → Option History) (faults : D → F
     → MoveEvent history faults name uid target (stage.Adding held) (stage.Removing still copied) s t how progress.More → MoveFound history faults name uid target first (stage.Removing still copied)
 copy_found history faults name uid target held still copied first s t how so event lists seen u0 none =
     let u = so.so_far.way lists seen u0 in
-    let d = event.does nothing_found nothing_found u.run 1 0 u.said lists u.goes.serves.come (way_shows (IsAtMove uid (stage.Adding held)) (request.Move name uid target) lists lists seen (seen_of s (history s.disk) (faults s.disk)) u) u.stands in
+    let d = event.does nothing_found nothing_found u.run 1 0 u.said lists u.goes.serves.come (way_shows (IsAtMove uid (stage.Adding held)) (request.Move name uid target) lists lists seen (seen_alone s (history s.disk) (faults s.disk)) u) u.stands in
     copied_from name uid target copied u.run d.0.makes.event d.0.makes.answer lists d.0.left (told_last u.said [] d.0.makes.answer (reply.Copied copied) u.stands.1 (d.1 refl).1) d.0.makes.made none
 
 was_next : {D : Type 0} → (name : List ℕ) (uid : ℕ) (target : List ℕ) (held : MapUid) (copied : Uid) (row : LogRow) (number : ℕ) (first s : StoreValue D) → HoldsRaised name uid target held first s → CopyPlace name uid target s row number copied.0 → WasNext name uid target copied first
@@ -377,7 +377,7 @@ gone_never : {D : Type 0} → (history : D → Option History) (faults : D → F
     → MoveEvent history faults name uid target (stage.Removing held copied) stage.First s t how (progress.Done (reply.Moved given true)) → given ≡ copied → (lists : Lists) (seen : Seen) → IsWayTo (IsAtMove uid stage.First) (request.Move name uid target) lists seen first (history first.disk) (faults first.disk) lists → ⊥
 gone_never history faults name uid target held copied given first s t how so event e lists seen u0 =
     let u = so.so_far.way lists seen u0 in
-    let d = event.does nothing_found nothing_found u.run 1 0 u.said (copied_lists name uid target lists) u.goes.serves.come (way_shows (IsAtMove uid (stage.Removing held copied)) (request.Move name uid target) lists (copied_lists name uid target lists) seen (seen_of s (history s.disk) (faults s.disk)) u) u.stands in
+    let d = event.does nothing_found nothing_found u.run 1 0 u.said (copied_lists name uid target lists) u.goes.serves.come (way_shows (IsAtMove uid (stage.Removing held copied)) (request.Move name uid target) lists (copied_lists name uid target lists) seen (seen_alone s (history s.disk) (faults s.disk)) u) u.stands in
     so.found lists seen u0 (copied_gone name uid target lists (gone_from name uid target given u.run d.0.makes.event d.0.makes.answer (copied_lists name uid target lists) d.0.left
     (told_last u.said (reply.Copied given ∷ []) d.0.makes.answer (reply.Moved given true) (u.stands.1 ∙ ap (λ (v : Uid). reply.Copied v ∷ []) (sym e)) (d.0.ends.replied (reply.Moved given true) refl)) d.0.makes.made))
 
@@ -462,7 +462,7 @@ move_shows : {D : Type 0} → (name : List ℕ) (uid : Uid) (target : List ℕ) 
     → (lists : Lists) → AreWellFormed lists → ShowLists s.map.boxes (indexes_of s.boxes) lists → ShowLists t.map.boxes (indexes_of t.boxes) (lists_behind name uid target gone lists)
 move_shows name uid target given old mid new began now s t w moved gone e lists formed shows =
     subst (λ (r : Reply). ShowLists t.map.boxes (indexes_of t.boxes) (lists_told (request.Move name uid target) r lists)) e
-    (w.moves.changes.shows (moved_unrefused given moved gone e) lists (before_opening (seen_of s mid began) old) (way_shown (IsAtMove uid stage.First) (request.Move name uid target) lists old mid began s w.opened (formed, shows) (refl, refl))).1
+    (w.moves.changes.shows (moved_unrefused given moved gone e) lists (before_opening (seen_alone s mid began) old) (way_shown (IsAtMove uid stage.First) (request.Move name uid target) lists old mid began s w.opened (formed, shows) (refl, refl))).1
 
 move_tells : {D : Type 0} → (name : List ℕ) (uid : Uid) (target : List ℕ) (given : Reply) (old mid new : Option History) (began now : Faults) (s t : StoreValue D) → MovingKnown name uid target given old mid new began now s t → LogsShow → IsMoveReply name uid target old new given
 move_tells name uid target given old mid new began now s t w show = record {
@@ -478,9 +478,9 @@ move_tells name uid target given old mid new began now s t w show = record {
     opened = opens_again new t w.later (move_runs name uid target given old mid new began now s t w (moved_runs given u gone e));
     shows = λ lists formed shows. move_shows name uid target given old mid new began now s t w u gone e lists formed shows;
   };
-  here = λ lists safe moved e. w.moves.here moved e lists (before_opening (seen_of s mid began) old) (way_opens (IsAtMove uid stage.First) (request.Move name uid target) lists old mid began s w.opened show safe (refl, refl));
+  here = λ lists safe moved e. w.moves.here moved e lists (before_opening (seen_alone s mid began) old) (way_opens (IsAtMove uid stage.First) (request.Move name uid target) lists old mid began s w.opened show safe (refl, refl));
   settled = λ running lists at. w.moves.changes.settled (move_runs name uid target given old mid new began now s t w running) lists (w.opened.settled_again lists at);
-  mail = λ running. opened_mail old mid new s w.opened (w.moves.changes.mail (move_runs name uid target given old mid new began now s t w running));
+  mail = opened_mail old mid new s given w.opened (λ running. w.moves.changes.mail (move_runs name uid target given old mid new began now s t w running));
 }
 
 by_reply : (name : List ℕ) (uid : Uid) (target : List ℕ) (given : Reply) (lists : Lists) (new : Option History) → IsSettledFor (lists_told (request.Move name uid target) given lists) new → IsSettledFor lists new ⊎ (IsSettledFor (copied_lists name uid target lists) new ⊎ IsSettledFor (moved_lists name uid target lists) new)
@@ -503,7 +503,7 @@ one_safe name uid target lists some moment image (inr (inr e)) s = inr (inr (sub
 pub move_done : {D : Type 0} → (name : List ℕ) (uid : Uid) (target : List ℕ) (given : Reply) (old mid new : Option History) (began now : Faults) (s t : StoreValue D) → MovingKnown name uid target given old mid new began now s t → LogsShow → IsDoneAlone (request.Move name uid target) given old new began now
 move_done name uid target given old mid new began now s t w show = record {
   tells = move_tells name uid target given old mid new began now s t w show;
-  serves = λ lists safe. w.moves.changes.served lists (before_opening (seen_of s mid began) old) (way_opens (IsAtMove uid stage.First) (request.Move name uid target) lists old mid began s w.opened show safe (refl, refl));
+  serves = λ lists safe. w.moves.changes.served lists (before_opening (seen_alone s mid began) old) (way_opens (IsAtMove uid stage.First) (request.Move name uid target) lists old mid began s w.opened show safe (refl, refl));
   moments = moments_as (AreAlongMove name uid target) (SafeAlong name uid target) old mid new s w.opened w.moves.changes.moments (λ lists moment image safe. inl safe) (λ lists some moment image a safe. one_safe name uid target lists some moment image a safe);
   rests = move_rests name uid target given old mid new began now s t w;
   faults = alone_faults given began now w.moves.calm w.moves.changes.fault w.moves.changes.unfailed;

@@ -14,7 +14,7 @@ use Rattle.model_store.specs.Settled.{files_of, IsSettledFor}
 use Rattle.model_store.proofs.OpeningLemmas.{no_store_or_opens, opens_or_damaged}
 use Rattle.model_store.proofs.OpeningSafeLemmas.{safe_opens}
 use Rattle.store_open.specs.Making.{IdleUnless}
-use Rattle.store_open.specs.Opened.{Opening, IsOpeningError}
+use Rattle.store_open.specs.Opened.{Opening, IsOpeningError, KeepsOpenedMail}
 use Rattle.store_open.specs.declared.error.OpenError.{OpenError}
 use Rattle.store_open.specs.declared.error.OpenError.TheVariants as error
 use Rattle.request_text.specs.Outcomes.{status_of, reply_outcome}
@@ -25,6 +25,8 @@ use Rattle.request_text.specs.declared.outcome.Outcome.TheVariants as outcome
 use Rattle.mdbox_top.specs.InputRun.{IsOneOf}
 use Rattle.mdbox_top.specs.OpeningOutcome.{opening_outcome}
 use Rattle.mdbox_top.specs.Served.{ShowsReply, RequestOutcome}
+use Rattle.model_kept.proofs.KeptLemmas.{kept_begins}
+use Rattle.model_meaning.specs.MapMeaning.{map_meaning}
 
 -- ---- how it ends
 
@@ -109,7 +111,7 @@ fault_number : (s : StoreRefusal) (why : OpenError) → outcome.StoreRefused s �
 fault_number s why e d = let f : 3 ≡ 6 = ap status_of e ∙ ap (λ (w : OpenError). status_of (opening_outcome w)) d in omega (arith, f)
 
 pub request_damage : (Tells : Option History → Option History → Reply → Type 0) (request : Request) (h k : Option (List ℕ)) (old new : Option History) (f g : Faults) (s : StoreRefusal) → RequestOutcome Tells request h k old new f g (outcome.StoreRefused s) → RequestOutcome Tells request h k old new f g outcome.NoMemory
-request_damage Tells request h k old new f g s (inl n) = inl (record { why = error.NoMemory; ended_is = refl; unprinted = n.unprinted; cause = tt; idle = λ other. n.idle (fault_number s n.why n.ended_is); untouched = n.untouched; unfailed = λ other. n.unfailed (fault_number s n.why n.ended_is) })
+request_damage Tells request h k old new f g s (inl n) = inl (record { why = error.NoMemory; ended_is = refl; unprinted = n.unprinted; cause = tt; idle = λ other. n.idle (fault_number s n.why n.ended_is); untouched = n.untouched; stays = n.stays; unfailed = λ other. n.unfailed (fault_number s n.why n.ended_is) })
 request_damage Tells request h k old new f g s (inr l) = absurd (shown_by 3 (shown_number _ l.given h k (outcome.StoreRefused s) l.printed) (inr (inl refl)))
 
 -- a settled disk has a store, which is damaged nowhere
@@ -134,9 +136,9 @@ request_status Tells request h k old new f g o (inl n) lists s = elim (settled_o
 request_status Tells request h k old new f g o (inr l) lists s = shown_number _ l.given h k o l.printed
 
 -- a store that was not opened
-pub unopened : (Tells : Option History → Option History → Reply → Type 0) (request : Request) (h : Option (List ℕ)) (old new : Option History) (f g : Faults) (why : OpenError) → IsOpeningError old why → ((why ≡ error.DiskFault → ⊥) → IsIdle old new) → IdleUnless Opening old new
+pub unopened : (Tells : Option History → Option History → Reply → Type 0) (request : Request) (h : Option (List ℕ)) (old new : Option History) (f g : Faults) (why : OpenError) → IsOpeningError old why → ((why ≡ error.DiskFault → ⊥) → IsIdle old new) → IdleUnless Opening old new → KeepsOpenedMail old new
     → ((why ≡ error.DiskFault → ⊥) → NoFault f g) → RequestOutcome Tells request h h old new f g (opening_outcome why)
-unopened Tells request h old new f g why cause idle untouched unfailed = inl (record { why = why; ended_is = refl; unprinted = refl; cause = cause; idle = idle; untouched = untouched; unfailed = unfailed })
+unopened Tells request h old new f g why cause idle untouched stays unfailed = inl (record { why = why; ended_is = refl; unprinted = refl; cause = cause; idle = idle; untouched = untouched; stays = stays; unfailed = unfailed })
 
 -- a store for which the disk was not asked, for out of memory
 unchanged : (old : Option History) → IdleUnless Opening old old
@@ -144,7 +146,7 @@ unchanged None = tt
 unchanged (Some now) = λ lacks. idle-begins (Some now)
 
 pub unasked : (Tells : Option History → Option History → Reply → Type 0) (request : Request) (h : Option (List ℕ)) (old : Option History) (f : Faults) → RequestOutcome Tells request h h old old f f outcome.NoMemory
-unasked Tells request h old f = unopened Tells request h old old f f error.NoMemory tt (λ other. idle-begins old) (unchanged old) (λ other. refl)
+unasked Tells request h old f = unopened Tells request h old old f f error.NoMemory tt (λ other. idle-begins old) (unchanged old) (λ store entries logs opens. kept_begins (map_meaning store entries) old) (λ other. refl)
 
 -- ---- a fault of the disk
 

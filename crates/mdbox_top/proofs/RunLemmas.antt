@@ -1,12 +1,15 @@
 -- How a run ends, by its command.
 use Rattle.std.specs.Prelude.{◌≡◌, ◌⊎◌, ℕ, List, [], ◌∷◌, Option, Some, None, refl}
 use Rattle.std.proofs.Common.{sym, ◌∙◌, ap, subst, inl, inr, arith}
-use Rattle.disk_model.specs.Disk.{History, Faults, EachImage}
+use Rattle.disk_model.specs.Disk.{History, Faults, EachImage, IsIdle}
 use Rattle.disk_model.proofs.IdleLemmas.{idle-begins}
-use Rattle.disk_model.proofs.MomentLemmas.{since-begins, each_image-map}
+use Rattle.disk_model.proofs.MomentLemmas.{since-begins, each_image-map, if_told-all}
 use Rattle.store_open.proofs.SweptStoreLemmas.{carries-idle}
+use Rattle.store_open.specs.Opened.{IsClosedWell}
 use Rattle.mdbox_base.specs.declared.requests.Request.TheVariants as request
+use Rattle.model_kept.proofs.KeptLemmas.{kept_begins}
 use Rattle.model_lists.specs.Lists.{Lists}
+use Rattle.model_meaning.specs.MapMeaning.{map_meaning}
 use Rattle.model_store.specs.Safe.{Safe}
 use Rattle.model_store.specs.Settled.{IsSettledFor}
 use Rattle.model_store.proofs.SettledLemmas.{settled_safe}
@@ -25,7 +28,7 @@ use Rattle.mdbox_top.specs.InputRun.{DumpPrints, DumpRefuses, LogDumpPrints, Log
 use Rattle.mdbox_top.specs.Run.{Ends, RunOutcome, Moments, Rests, HasStatus, MayHaveFailed}
 use Rattle.mdbox_top.proofs.InputLemmas.{dumps_apart, log_dumps_apart, input_status, shows_status}
 use Rattle.mdbox_top.proofs.InitLemmas.{init_status}
-use Rattle.mdbox_top.specs.ListRun.{IsListReply}
+use Rattle.mdbox_top.specs.ListRun.{IsListReply, ListMoments}
 use Rattle.mdbox_top.specs.FetchRun.{IsFetchReply}
 use Rattle.mdbox_top.specs.FlagRun.{IsFlagReply}
 use Rattle.mdbox_top.specs.Changed.{moved_lists}
@@ -274,10 +277,18 @@ still_safe : (lists : Lists) (h : Option History) → IsSettledFor lists h → E
 still_safe lists None s = absurd s
 still_safe lists (Some h) s = since-begins (λ _ image. Safe image lists) h (λ image is. settled_safe h.now lists image s is)
 
+-- a listing of which no call is made
+still_moments : (h : Option History) → ListMoments h h
+still_moments h = record {
+  safe = λ lists s. still_safe lists h s;
+  stays = λ store entries logs opens. kept_begins (map_meaning store entries) h;
+  closed_well = if_told-all (λ disk. IsClosedWell disk → IsIdle h h) h (λ disk well. idle-begins h);
+}
+
 pub named_still : (c : Command) → NamesMailbox c → (left : Option (List ℕ)) (told : Option ℕ) (h : Option History) → Moments c left told h h
 named_still (command.Deliver name) named left told h = inl refl
-named_still (command.List name) named left told h = λ lists s. still_safe lists h s
-named_still (command.Fetch name uid) named left told h = λ lists s. still_safe lists h s
+named_still (command.List name) named left told h = still_moments h
+named_still (command.Fetch name uid) named left told h = still_moments h
 named_still (command.Flag name uid flags) named left told h = λ lists s. each_image-map (λ _ image. Safe image lists) (λ _ image. Safe image lists ⊎ Safe image (set_flags name uid.0 flags lists)) h h (λ m image safe. inl safe) (still_safe lists h s)
 named_still (command.Expunge name uid) named left told h = λ lists s. each_image-map (λ _ image. Safe image lists) (λ _ image. Safe image lists ⊎ Safe image (lists_without name uid lists)) h h (λ m image safe. inl safe) (still_safe lists h s)
 named_still (command.Copy name uid target) named left told h = λ lists s. each_image-map (λ _ image. Safe image lists) (λ _ image. Safe image lists ⊎ Safe image (copied_lists name uid target lists)) h h (λ m image safe. inl safe) (still_safe lists h s)

@@ -39,7 +39,7 @@ use Rattle.model_store.specs.Stands.{HasInstances}
 use Rattle.list_machine.specs.Machine.{add_message}
 use Rattle.list_machine.specs.Run.{Run, and_then}
 use Rattle.journal.specs.Events.{Around}
-use Rattle.task_steps.specs.Step.{Seen, HasNotBegun, Steps, and_told, ended_by}
+use Rattle.task_steps.specs.Step.{FindsRoom, Seen, HasNotBegun, and_told, ended_by}
 use Rattle.task_steps.proofs.OneEventLemmas.{not_true}
 use Rattle.entry_steps.proofs.AppendListLemmas.{added_by}
 use Rattle.save_instances.specs.Attaching.{AttachingValue, found_let_go, next_attachment, next_candidate, part_row, with_compared, with_found}
@@ -66,7 +66,7 @@ use Rattle.mail_save.specs.MailFiles.{HasAppended, TakesWithHeader, ReadsSameMai
 use Rattle.mail_save.specs.Record.{entry_stored}
 use Rattle.mail_save.specs.SaveEffects.{AttachesNext, AttachesNone, LetsGo, TakesFileFor, TookAs, TakesNone, PlacesParts, StoresPlaced, StoresNone, AddsStored, LowersRecord, SaveEffects}
 use Rattle.mail_save.specs.Ready.{IsReadyToSave, IsRegionReady, delivered_lists, save_lists, lists_delivered}
-use Rattle.mail_save.specs.SaveSeen.{IsAtSave, around_saving, seen_saving}
+use Rattle.mail_save.specs.SaveSeen.{IsAtSave, StepsWithRoom, around_saving}
 use Rattle.mail_save.specs.Task.{FaultsAt, HasLeft, IsAttachRefusal, RepliesAt, Saves, stopped_reply}
 use Rattle.mail_save.specs.declared.add.Added.{Added}
 use Rattle.mail_save.specs.declared.first.SavedParts.{SavedParts}
@@ -74,15 +74,16 @@ use Rattle.mail_save.specs.declared.place.SavedAt.{SavedAt}
 use Rattle.mail_save.specs.declared.task.SaveStage.{SaveStage}
 use Rattle.mail_save.specs.declared.task.SaveStage.TheVariants as stage
 use Rattle.mdbox_top.specs.Changed.{saved_lists, lists_told, MomentsAmong}
-use Rattle.mdbox_top.specs.ChangeEvents.{IsAlike, ShowsChanged, AreAlongSave, StoresAlone, IsWayToSave, SavesAlone}
+use Rattle.mdbox_top.specs.ChangeEvents.{IsAlike, ShowsChanged, AreAlongSave, IsWayTo, StoresAlone, SavesAlone}
 use Rattle.mdbox_top.specs.DeliverRun.{attachment_octets, region_length, IsFileFor, IsSavedAs, IsSavedPlace, IsOutOfFiles, IsOutOfInstances, IsUncompared, IsDeliverAnswer, HasRecordMore, HasRecordLeft}
 use Rattle.mdbox_top.specs.SavedMail.{AddedMail, LeftMail, TookMail, WroteMail}
 use Rattle.mdbox_top.specs.Served.{FaultsByReply, ServesRequest}
-use Rattle.mdbox_top.specs.UnderWay.{IsUnderWay}
+use Rattle.mdbox_top.specs.UnderWay.{IsUnderWay, seen_alone}
 use Rattle.mdbox_top.proofs.ChangeLemmas.{more_done, one_done, still_among, moments_on}
 use Rattle.mdbox_top.proofs.CopyLemmas.{one_refusal, memory_runs, none_made}
 use Rattle.mdbox_top.proofs.FirstLemmas.{AreFirstKnown, firsts_let_go, firsts_named, firsts_on}
 use Rattle.mdbox_top.proofs.ReplyFaultLemmas.{fault_event, replied_faults}
+use Rattle.mdbox_top.proofs.RoomLemmas.{finds_room, of_one}
 use Rattle.mdbox_top.proofs.SavedFormLemmas.{AttachedAs, attached_as, attaching_parts, ready_instances}
 use Rattle.mdbox_top.proofs.WroteLemmas.{AreAmong, added_among, added_none, added_on, compares_attachment, instances_on, places_attachment, took_mail, wrote_mail, wrote_on}
 use Rattle.mdbox_top.proofs.UnderWayLemmas.{nothing_found, way_shows, way_goes_on, way_ends}
@@ -161,7 +162,8 @@ refused_lists stage.Ended name octets why lists = refl
 pub record SaveEvent {D : Type 0} (history : D → Option History) (faults : D → Faults) (name : List ℕ) (time : ℕ) (octets : List ℕ) (now next : SaveStage) (s t : StoreValue D) (how : Did) (answer : Progress) : Type 0 where
   pub around : Around
   pub after : Around
-  pub does : Steps (IsAtSave now) (IsAtSave next) around after (request.Deliver name time octets) (seen_saving s (history s.disk) (faults s.disk)) (seen_saving t (history t.disk) (faults t.disk)) how (ended_by answer)
+  pub does : StepsWithRoom (IsAtSave now) (IsAtSave next) around after (request.Deliver name time octets) (seen_alone s (history s.disk) (faults s.disk)) (seen_alone t (history t.disk) (faults t.disk)) how (ended_by answer)
+  pub finds : (run : Run) (said : List Reply) → All (λ e. e.request ≡ 0) run.events → IsAtSave now run 0 said → FindsRoom around run
   pub moments : (lists : Lists) → IsSettledFor lists (history s.disk) → Leaves lists (save_lists now name octets lists) (history s.disk) (history t.disk)
   pub settled : t.stopped ≡ false → (lists : Lists) → IsSettledFor lists (history s.disk) → IsSettledFor (lists_delivered now name octets answer lists) (history t.disk)
   pub stopped : (answer ≡ stopped_reply) ↔ (t.stopped ≡ true)
@@ -265,7 +267,7 @@ pub record IsSavingAlone {D : Type 0} (history : D → Option History) (faults :
   pub unfailed : NoFault (faults first.disk) (faults s.disk)
   pub moments : MomentsAmong (AreAlongSave name time octets) (history first.disk) (history s.disk)
   pub settled : (lists : Lists) → IsSettledFor lists (history first.disk) → IsSettledFor lists (history s.disk)
-  pub way : (lists : Lists) (seen : Seen) → IsWayToSave HasNotBegun (request.Deliver name time octets) lists seen first (history first.disk) (faults first.disk) lists → IsWayToSave (IsAtSave now) (request.Deliver name time octets) lists seen s (history s.disk) (faults s.disk) lists
+  pub way : (lists : Lists) (seen : Seen) → IsWayTo HasNotBegun (request.Deliver name time octets) lists seen first (history first.disk) (faults first.disk) lists → IsWayTo (IsAtSave now) (request.Deliver name time octets) lists seen s (history s.disk) (faults s.disk) lists
   pub knows : SaveKnows history name time octets prepared first s now
 
 pub saving_begins : {D : Type 0} → (history : D → Option History) (faults : D → Faults) (name : List ℕ) (time : ℕ) (octets : List ℕ) (prepared : Prepared) (first : StoreValue D) → IsPrepared octets prepared → first.stopped ≡ false
@@ -305,7 +307,7 @@ saving_by history faults name time octets prepared first s t now next how so eve
   settled = λ lists at. subst (λ (ls : Lists). IsSettledFor ls (history t.disk)) (more_lists now name octets lists) (event.settled running lists (so.settled lists at));
   way = λ lists seen u0.
       let u = so.way lists seen u0 in
-      let d = event.does u.run 1 0 u.said lists u.goes.serves.come (way_shows (IsAtSave now) asked lists lists seen from u) u.stands in
+      let d = event.does u.run 1 0 u.said lists u.goes.serves.come (way_shows (IsAtSave now) asked lists lists seen from u) (u.stands, λ runs. event.finds u.run u.said (of_one asked lists u.run u.journal u.broken seen from u.goes) u.stands) in
       let v = way_goes_on (IsAtSave now) (IsAtSave next) asked lists lists seen from to event.around event.after how u d.0 (d.1 refl) in
       let was : u.said ≡ [] = said_none now refusal.NoMemory u.run u.said u.stands (known_only history name time octets prepared first s now so.knows) in
       let is : and_told u.said d.0.makes.answer ≡ [] = said_none next refusal.NoMemory (and_then u.run d.0.makes.event) (and_told u.said d.0.makes.answer) (d.1 refl) (known_only history name time octets prepared first t next knows) in
@@ -320,10 +322,10 @@ saving_by history faults name time octets prepared first s t now next how so eve
     running = not_true t.stopped (λ e. more_done (reply.Refused refusal.Stopped) (event.stopped.1 e))
 
     from : Seen
-    from = seen_saving s (history s.disk) (faults s.disk)
+    from = seen_alone s (history s.disk) (faults s.disk)
 
     to : Seen
-    to = seen_saving t (history t.disk) (faults t.disk)
+    to = seen_alone t (history t.disk) (faults t.disk)
 
 -- ---- the first event
 
@@ -584,7 +586,7 @@ saving_on history faults name time octets prepared first s t now next how so eve
 
 -- what every event says that ends it
 pub record EndsSaving {D : Type 0} (name : List ℕ) (time : ℕ) (octets : List ℕ) (first t : StoreValue D) (old new : Option History) (began now : Faults) (given : Reply) : Type 0 where
-  pub served : (lists : Lists) (seen : Seen) → IsWayToSave HasNotBegun (request.Deliver name time octets) lists seen first old began lists → ServesRequest (request.Deliver name time octets) lists given seen.faults now seen.history new
+  pub served : (lists : Lists) (seen : Seen) → IsWayTo HasNotBegun (request.Deliver name time octets) lists seen first old began lists → ServesRequest (request.Deliver name time octets) lists given seen.faults now seen.history new
   pub moments : MomentsAmong (AreAlongSave name time octets) old new
   pub settled : t.stopped ≡ false → (lists : Lists) → IsSettledFor lists old → IsSettledFor (lists_told (request.Deliver name time octets) given lists) new
   pub halts : (given ≡ reply.Refused refusal.Stopped) ↔ (t.stopped ≡ true)
@@ -596,7 +598,7 @@ saving_ended : {D : Type 0} → (history : D → Option History) (faults : D →
 saving_ended history faults name time octets prepared first s t now next how given so event k told = record {
   served = λ lists seen u0.
       let u = so.way lists seen u0 in
-      let d = event.does u.run 1 0 u.said lists u.goes.serves.come (way_shows (IsAtSave now) asked lists lists seen from u) u.stands in
+      let d = event.does u.run 1 0 u.said lists u.goes.serves.come (way_shows (IsAtSave now) asked lists lists seen from u) (u.stands, λ runs. event.finds u.run u.said (of_one asked lists u.run u.journal u.broken seen from u.goes) u.stands) in
       way_ends (IsAtSave now) asked lists lists given seen from to event.around event.after how t u k refl refl d.0 (λ fault. fault_event event.around event.after u.run u.said asked from to how given d.0 fault);
   moments = λ lists at. moments_on (AreAlongSave name time octets) lists lists (save_lists now name octets lists) (history first.disk) (history s.disk) (history t.disk) (inl refl) (along history name time octets prepared first s now so.knows lists) (so.moments lists at) (event.moments lists (so.settled lists at));
   settled = λ runs lists at. subst (λ (ls : Lists). IsSettledFor ls (history t.disk)) (told lists) (event.settled runs lists (so.settled lists at));
@@ -608,10 +610,10 @@ saving_ended history faults name time octets prepared first s t now next how giv
     asked = request.Deliver name time octets
 
     from : Seen
-    from = seen_saving s (history s.disk) (faults s.disk)
+    from = seen_alone s (history s.disk) (faults s.disk)
 
     to : Seen
-    to = seen_saving t (history t.disk) (faults t.disk)
+    to = seen_alone t (history t.disk) (faults t.disk)
 
 -- what it replies where nothing refuses it
 abbrev FreeAnswer : Option BoxMeaning → List ℕ → ℕ → ℕ → ℕ → FilesValue → Reply → Type 0
@@ -974,7 +976,7 @@ pub record SaveSaid {D : Type 0} (history : D → Option History) (faults : D �
   pub moments : (lists : Lists) → IsSettledFor lists (history s.disk) → Leaves lists (save_lists now name octets lists) (history s.disk) (history t.disk)
   pub settled : t.stopped ≡ false → (lists : Lists) → IsSettledFor lists (history s.disk) → IsSettledFor (lists_delivered now name octets answer lists) (history t.disk)
   pub says : s.stopped ≡ false → Saves now next name time size answer how s t (history s.disk) (history t.disk) (faults s.disk) (faults t.disk)
-  pub does : Steps (IsAtSave now) (IsAtSave next) (around_saving octets now s) nothing_found (request.Deliver name time octets) (seen_saving s (history s.disk) (faults s.disk)) (seen_saving t (history t.disk) (faults t.disk)) how (ended_by answer)
+  pub does : StepsWithRoom (IsAtSave now) (IsAtSave next) (around_saving octets now s) nothing_found (request.Deliver name time octets) (seen_alone s (history s.disk) (faults s.disk)) (seen_alone t (history t.disk) (faults t.disk)) how (ended_by answer)
 
 -- of a task that has this name and time
 pub save_said_of : {D : Type 0} → (history : D → Option History) (faults : D → Faults) (name other : List ℕ) (time last size : ℕ) (octets : List ℕ) (now next : SaveStage) (s t : StoreValue D) (how : Did) (answer : Progress) → other ≡ name → last ≡ time
@@ -998,6 +1000,7 @@ save_event history faults name time size octets now next s t how answer runs sai
       around = around_saving octets now s;
       after = nothing_found;
       does = said.does;
+      finds = λ run said one at. finds_room octets now s run said one at;
       moments = said.moments;
       settled = said.settled;
       stopped = says.stopped;

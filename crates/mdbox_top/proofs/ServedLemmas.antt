@@ -1,7 +1,5 @@
 -- A request alone of one event: from the disk as it was before the opening to where its event left it.
-use Rattle.std.specs.Prelude.{◌≡◌, ◌==◌, ◌||◌, ◌↔◌, ℕ, Bool, false, true, List, [], map, find, is_some, option_and_then, if◌then◌else◌, Option, Some, None}
-use Rattle.std.specs.List.{list_any}
-use Rattle.std.specs.Option.{option_map}
+use Rattle.std.specs.Prelude.{◌≡◌, ◌↔◌, ℕ, false, true, List, [], Option, Some}
 use Rattle.std.proofs.Common.{refl, sym, ◌∙◌, ap, subst, append-nil}
 use Rattle.std.proofs.lemmas.List.Elements.{All-nil}
 use Rattle.disk_model.specs.Disk.{History, Faults, EachImage}
@@ -15,7 +13,7 @@ use Rattle.mdbox_base.specs.declared.replies.Reply.{Reply}
 use Rattle.mdbox_base.specs.declared.replies.Reply.TheVariants as reply
 use Rattle.mdbox_base.specs.declared.requests.Request.{Request}
 use Rattle.model_lists.specs.Lists.{Lists}
-use Rattle.model_meaning.specs.MapMeaning.{MapMeaning, map_meaning, is_sealed}
+use Rattle.model_meaning.specs.MapMeaning.{MapMeaning, map_meaning}
 use Rattle.model_meaning.specs.SameMeaning.{MeansSame}
 use Rattle.model_store.specs.Safe.{Safe}
 use Rattle.model_store.specs.Settled.{IsSettledFor, Leaves}
@@ -23,29 +21,27 @@ use Rattle.list_machine.specs.Run.{Run}
 use Rattle.journal.specs.Events.{Around}
 use Rattle.journal.specs.Journal.{is_read_fault}
 use Rattle.task_steps.specs.Step.{Seen, ShowsSeen, HasComeTo, HasNotBegun, DidEvent, Steps, ended_by}
-use Rattle.storage_files.specs.Files.{FilesValue, end_in, file_found}
-use Rattle.storage_files.specs.declared.file.FileState.{FileState}
-use Rattle.storage_files.specs.declared.file.MailFile.{MailFile}
-use Rattle.store_core.specs.Knows.{knows_file, is_told_of}
+use Rattle.storage_files.specs.Files.{AreFilesInOrder}
 use Rattle.store_core.specs.Keeping.{KeepsMail}
 use Rattle.store_core.specs.Running.{IsStore}
-use Rattle.store_files.specs.Found.{end_found, IsFoundFiles}
-use Rattle.store_files.specs.Regions.{end_of, last_end}
+use Rattle.store_files.specs.Found.{IsFoundFiles}
+use Rattle.store_instances.specs.FoundInstances.{IsFoundInstances}
 use Rattle.store_core.specs.Value.{none_due, StoreValue, indexes_of}
-use Rattle.store_open.specs.Opened.{IsOpenedAs, StoreCarries}
-use Rattle.store_sweep.proofs.KnownFileLemmas.{found_in}
+use Rattle.store_seen.proofs.SeeingLemmas.{comes_at_first}
+use Rattle.store_open.specs.Opened.{IsOpenedAs, StoreCarries, KeepsOpenedMail, IsClosedWell}
 use Rattle.store_sweep.specs.Swept.{IsSwept}
 use Rattle.mail_ops.proofs.KeptMailLemmas.{mail_unnamed}
-use Rattle.mail_ops.proofs.StageLemmas.{comes_at_first}
 use Rattle.mail_ops.specs.Making.{NamesMail}
 use Rattle.mail_ops.specs.Requests.{Replies, AppendsNothing, lists_after, lists_by_reply}
-use Rattle.mail_ops.specs.Task.{TaskValue, IsAt, seen_of}
+use Rattle.mail_ops.specs.Task.{TaskValue, IsAt}
 use Rattle.mail_ops.specs.declared.task.TaskStage.TheVariants as stage
 use Rattle.mdbox_top.specs.ListRun.{StaysSettled}
-use Rattle.mdbox_top.specs.Served.{AreSafeFor, RunBegins, ServesRequest}
-use Rattle.mdbox_top.specs.UnderWay.{IsUnderWay}
+use Rattle.mdbox_top.specs.Served.{AreSafeFor, RunBegins, ServesRequest, barred_files}
+use Rattle.mdbox_top.specs.UnderWay.{IsUnderWay, seen_alone}
+use Rattle.mdbox_top.proofs.OpenedLemmas.{bars_known, found_is_told, knows_named, none_doomed}
 use Rattle.mdbox_top.proofs.ShownLemmas.{LogsShow, opened_shows}
 use Rattle.mdbox_top.proofs.UnderWayLemmas.{nothing_found, beginning, before_opening, run_begins, way_begins, way_shows, way_ends}
+use Rattle.store_sweep.specs.Moments.{IdleIf}
 
 -- ---- the opening
 
@@ -55,54 +51,40 @@ pub record OpenedNow {D : Type 0} (old mid : Option History) (s : StoreValue D) 
   pub store : IsStore mid s
   pub drawn : s.drawn ≡ s.map.highest
   pub free : s.dues ≡ none_due s.map.records
+  pub order : AreFilesInOrder s.files
   pub files : IsFoundFiles s.map old s.files
+  pub instances : IsFoundInstances s.map s.instances
   pub running : s.stopped ≡ false
   pub safe : (lists : Lists) → IsSettledFor lists old → EachImage (λ _ image. Safe image lists) old mid
   pub settled_again : StaysSettled old mid
   pub carried : StoreCarries old mid
   pub swept : (generation : ℕ) × IsSwept generation s.map old mid
-
--- the map tells of each file that was found
-found_end : (number : ℕ) (states : List FileState) → end_in number (map file_found states) ≡ end_found number states
-found_end number states = ap (option_and_then (λ (f : MailFile). f.end)) (found_in number states) ∙ same (find (λ (s : FileState). s.file.0 == number) states)
-  where
-    same : (o : Option FileState) → option_and_then (λ (f : MailFile). f.end) (option_map file_found o) ≡ option_map (λ (s : FileState). s.end) o
-    same None = refl
-    same (Some s) = refl
-
-found_is_told : {D : Type 0} → (s : StoreValue D) (old : Option History) → IsFoundFiles s.map old s.files → (file : ℕ) → knows_file s file ≡ true → is_told_of s.map file ≡ true
-found_is_told s old f file there = by_seal (is_sealed s.map file) refl
-  where
-    end_is : end_in file s.files.files ≡ end_found file f.states
-    end_is = ap (λ (v : FilesValue). end_in file v.files) f.is ∙ found_end file f.states
-
-    or_true : (b : Bool) → (b || true) ≡ true
-    or_true true = refl
-    or_true false = refl
-
-    unsealed : (b : Bool) → (list_any (λ row. row.file == file) s.map.records) ≡ b → is_some (last_end s.map file) ≡ true → list_any (λ row. row.file == file) s.map.records ≡ true
-    unsealed true e some = e
-    unsealed false e some = absurd (let k : false ≡ true = sym (ap (λ (c : Bool). is_some (if c then Some (end_of s.map file) else None)) e) ∙ some in cc k)
-
-    by_seal : (b : Bool) → is_sealed s.map file ≡ b → is_told_of s.map file ≡ true
-    by_seal true e = ap (λ (b : Bool). list_any (λ row. row.file == file) s.map.records || b) e ∙ or_true (list_any (λ row. row.file == file) s.map.records)
-    by_seal false e =
-        let some : is_some (last_end s.map file) ≡ true = ap is_some (sym ((f.found.ends file).unsealed e)) ∙ (ap is_some (sym end_is) ∙ there) in
-        ap (λ (b : Bool). b || is_sealed s.map file) (unsealed (list_any (λ row. row.file == file) s.map.records) refl some)
+  pub stays : KeepsOpenedMail old mid
+  pub closed_well : IdleIf IsClosedWell old mid
 
 -- the run has come to it
-pub comes : {D : Type 0} → (old mid : Option History) (began : Faults) (s : StoreValue D) → (k : IsStore mid s) → s.drawn ≡ s.map.highest → s.dues ≡ none_due s.map.records → IsFoundFiles s.map old s.files → HasComeTo (beginning s.map k.entries) (seen_of s mid began)
-comes old mid began s k drawn free found = comes_at_first (beginning s.map k.entries) s mid began refl free (found_is_told s old found) (record { map_is = ap (map_meaning s.map.store) (append-nil k.entries) ∙ sym k.map_is; drawn_is = sym drawn; moments = All-nil _ })
+pub comes : {D : Type 0} → (old mid : Option History) (began : Faults) (s : StoreValue D) → (o : OpenedNow old mid s) → HasComeTo (beginning s.map o.store.entries) (seen_alone s mid began)
+comes old mid began s o =
+    comes_at_first (beginning s.map o.store.entries) s mid began
+    (record {
+      empty = refl;
+      free = o.free;
+      undoomed = λ file. none_doomed s old o.files file;
+      told = λ file e. found_is_told s old o.files file e;
+      named = λ instance. knows_named s o.instances instance;
+      barred = λ file e. bars_known s old o.order o.files o.store.files.highest file e;
+    })
+    (record { map_is = ap (map_meaning s.map.store) (append-nil o.store.entries) ∙ sym o.store.map_is; drawn_is = sym o.drawn; moments = All-nil _ })
 
 -- the run begins with the map log of the files
 pub opening_begins : {D : Type 0} → (old mid : Option History) (s : StoreValue D) → (o : OpenedNow old mid s) → RunBegins (beginning s.map o.store.entries) old
-opening_begins old mid s o = run_begins (beginning s.map o.store.entries) old o.opened.entries o.opened.logs o.opened.opens (subst (λ (n : MapMeaning). MeansSame (map_meaning s.map.store o.opened.entries) n) o.store.map_is o.opened.means)
+opening_begins old mid s o = run_begins (beginning s.map o.store.entries) old o.opened.entries o.opened.logs (ap barred_files o.store.map_is) o.opened.opens (subst (λ (n : MapMeaning). MeansSame (map_meaning s.map.store o.opened.entries) n) o.store.map_is o.opened.means)
 
 -- Behind the opening any request is under way, from the lists for which the files were safe.
 pub way_opens : {D : Type 0} → (Stands : Run → ℕ → List Reply → Type 0) (request : Request) (lists : Lists) (old mid : Option History) (began : Faults) (s : StoreValue D) → (o : OpenedNow old mid s) → LogsShow → AreSafeFor lists old → Stands (beginning s.map o.store.entries) 0 []
-    → IsUnderWay Stands request lists (before_opening (seen_of s mid began) old) (seen_of s mid began) lists
+    → IsUnderWay Stands request lists (before_opening (seen_alone s mid began) old) (seen_alone s mid began) lists
 way_opens Stands request lists old mid began s o show safe stands =
-    way_begins Stands request lists s.map o.store.entries (seen_of s mid began) old (comes old mid began s o.store o.drawn o.free o.files) (opened_shows lists old s o.opened show safe) o.running o.drawn (o.safe lists) (o.settled_again lists) (opening_begins old mid s o) stands
+    way_begins Stands request lists s.map o.store.entries (seen_alone s mid began) old (comes old mid began s o) (opened_shows lists old s o.opened show safe) o.running o.drawn (o.safe lists) (o.settled_again lists) (opening_begins old mid s o) stands
 
 -- ---- the request
 
@@ -115,18 +97,9 @@ DoesAlone request given old new how = (around after : Around) (run : Run) (said 
 -- What is known of a request alone: of the opening of the store, from the disk as it was, and of the step of the task that
 -- answered it, from the store as it was opened.
 pub record Doing {D : Type 0} (request : Request) (given : Reply) (old mid new : Option History) (began now : Faults) (s t : StoreValue D) (how : Did) : Type 0 where
-  pub opened : IsOpenedAs old s.map (indexes_of s.boxes)
-  pub store : IsStore mid s
-  pub drawn : s.drawn ≡ s.map.highest
-  pub free : s.dues ≡ none_due s.map.records
-  pub files : IsFoundFiles s.map old s.files
-  pub running : s.stopped ≡ false
-  pub safe : (lists : Lists) → IsSettledFor lists old → EachImage (λ _ image. Safe image lists) old mid
-  pub settled_again : StaysSettled old mid
-  pub carried : StoreCarries old mid
-  pub swept : (generation : ℕ) × IsSwept generation s.map old mid
+  pub opened : OpenedNow old mid s
   pub later : IsStore new t
-  pub did : DoesAlone request given (seen_of s mid began) (seen_of t new now) how
+  pub did : DoesAlone request given (seen_alone s mid began) (seen_alone t new now) how
   pub replies : Replies request s t given
   pub unchanged : AppendsNothing request s → new ≡ mid
   pub moments : (lists : Lists) → IsSettledFor lists mid → Leaves lists (lists_after request lists) mid new
@@ -136,29 +109,15 @@ pub record Doing {D : Type 0} (request : Request) (given : Reply) (old mid new :
   pub fault : ChangeFaultCounted (given ≡ reply.Refused refusal.Stopped) began now
   pub unfailed : (given ≡ reply.Refused refusal.Stopped → ⊥) → NoFault began now
 
-opening_of : {D : Type 0} → (request : Request) (given : Reply) (old mid new : Option History) (began now : Faults) (s t : StoreValue D) (how : Did) → Doing request given old mid new began now s t how → OpenedNow old mid s
-opening_of request given old mid new began now s t how w = record {
-  opened = w.opened;
-  store = w.store;
-  drawn = w.drawn;
-  free = w.free;
-  files = w.files;
-  running = w.running;
-  safe = w.safe;
-  settled_again = w.settled_again;
-  carried = w.carried;
-  swept = w.swept;
-}
-
 -- It is served, by the run with its event.
 pub request_served : {D : Type 0} → (request : Request) (lists : Lists) (given : Reply) (old mid new : Option History) (began now : Faults) (s t : StoreValue D) (how : Did) → Doing request given old mid new began now s t how → LogsShow
     → is_read_fault (Some given) ≡ false → AreSafeFor lists old → ServesRequest request lists given began now old new
 request_served request lists given old mid new began now s t how w show unfaulted safe =
-    let from : Seen = seen_of s mid began in
+    let from : Seen = seen_alone s mid began in
     let first : Seen = before_opening from old in
-    let u : IsUnderWay HasNotBegun request lists first from lists = way_opens HasNotBegun request lists old mid began s (opening_of request given old mid new began now s t how w) show safe (refl, refl) in
+    let u : IsUnderWay HasNotBegun request lists first from lists = way_opens HasNotBegun request lists old mid began s w.opened show safe (refl, refl) in
     let d = w.did nothing_found nothing_found u.run u.said lists u.goes.serves.come (way_shows HasNotBegun request lists lists first from u) u.stands in
-    way_ends HasNotBegun request lists lists given first from (seen_of t new now) nothing_found nothing_found how t u w.later refl refl d (λ e. absurd (let k : true ≡ false = sym e ∙ unfaulted in cc k))
+    way_ends HasNotBegun request lists lists given first from (seen_alone t new now) nothing_found nothing_found how t u w.later refl refl d (λ e. absurd (let k : true ≡ false = sym e ∙ unfaulted in cc k))
 
 -- ---- the step of its task
 
@@ -168,7 +127,7 @@ new_task request = record { request = request; stage = stage.First; did = did.Qu
 
 -- What the step of a task says of a store.
 pub record Stepped {D : Type 0} (history : D → Option History) (faults : D → Faults) (s t : StoreValue D) (next task : TaskValue) (answer : Progress) : Type 0 where
-  pub does : (around after : Around) → Steps (IsAt task.stage) (IsAt next.stage) around after task.request (seen_of s (history s.disk) (faults s.disk)) (seen_of t (history t.disk) (faults t.disk)) next.did (ended_by answer)
+  pub does : (around after : Around) → Steps (IsAt task.stage) (IsAt next.stage) around after task.request (seen_alone s (history s.disk) (faults s.disk)) (seen_alone t (history t.disk) (faults t.disk)) next.did (ended_by answer)
   pub moments : (lists : Lists) → IsSettledFor lists (history s.disk) → Leaves lists (lists_after task.request lists) (history s.disk) (history t.disk)
   pub settled : t.stopped ≡ false → (given : Reply) → answer ≡ progress.Done given → (lists : Lists) → IsSettledFor lists (history s.disk) → IsSettledFor (lists_by_reply task.request given lists) (history t.disk)
   pub mail : t.stopped ≡ s.stopped → KeepsMail (history s.disk) (history t.disk)
@@ -190,16 +149,7 @@ doing history faults request given old s t task next answer is done o k step =
     let same : now.replies.0 ≡ given = sym (done_one given now.replies.0 now.replies.1) in
     let fault = now.fault o.running in
     record {
-      opened = o.opened;
-      store = o.store;
-      drawn = o.drawn;
-      free = o.free;
-      files = o.files;
-      running = o.running;
-      safe = o.safe;
-      settled_again = o.settled_again;
-      carried = o.carried;
-      swept = o.swept;
+      opened = o;
       later = k;
       did = λ around after run said lists come shows begun. (now.does around after run 1 0 said lists come shows begun).0;
       replies = subst (λ (r : Reply). Replies request s t r) same now.replies.2;

@@ -34,7 +34,7 @@ use Rattle.task_steps.proofs.OneEventLemmas.{never_more, not_true}
 use Rattle.task_steps.proofs.ReplyingLemmas.{answers_more, turn_stays, reply_on, serves_start}
 use Rattle.store_core.specs.Running.{IsStore}
 use Rattle.store_core.specs.Value.{StoreValue}
-use Rattle.mdbox_top.specs.Served.{RunBegins, RunHasCome, ServesRequest}
+use Rattle.mdbox_top.specs.Served.{barred_files, RunBegins, RunHasCome, ServesRequest}
 use Rattle.mdbox_top.specs.UnderWay.{alone, GoesAlone, IsUnderWay}
 
 -- ---- one request
@@ -69,7 +69,7 @@ replied_also given = record { none_before = refl; here = refl; others = λ j oth
 
 -- the run as it begins
 abbrev pub beginning : MapMeaning → List MapEntry → Run
-beginning m entries = record { store = m.store; start = entries; opened = m.highest; events = [] }
+beginning m entries = record { store = m.store; start = entries; opened = m.highest; barred = barred_files m; events = [] }
 
 no_replies : (request : Request) (m : MapMeaning) (entries : List MapEntry) → AreReplies (alone request) (beginning m entries) (None ∷ [])
 no_replies request m entries = (refl, λ i l. there i l)
@@ -143,6 +143,7 @@ goes_ended request lists given run journal broken began now new around after how
         come = s2.come.come;
       };
       crash = s2.crash;
+      timely = s2.timely;
       settled = λ unstopped. s2.settled (runs unstopped);
     }
 
@@ -176,7 +177,9 @@ opened_serves request lists m entries seen old come shows running safe settled =
       broken_is = s.broken_is;
       of_failure = s.of_failure;
       crash = λ at. each_image-map (λ _ image. Safe image lists) (IsReached lists (beginning m entries) [] no_broken) old seen.history (λ moment image is. (lists, reached_last lists (beginning m entries) [] no_broken moment, is)) (safe at);
+      timely = λ at n event state e. absurd (let k : None ≡ Some event = e in cc k);
       unbroken = s.unbroken;
+      stopped_by = s.stopped_by;
       unrefused = s.unrefused;
       settled = λ e at. settled at;
       reads = s.reads;
@@ -265,9 +268,9 @@ way_goes_on Stood Stands request lists left began now new around after how u =
 
 -- ---- it ends
 
-pub run_begins : (run : Run) (old : Option History) (entries : List MapEntry) (logs : List (List BoxEntry)) → IfTold old (λ now. Opens (files_of now) run.store entries logs) → MeansSame (map_meaning run.store entries) (map_meaning run.store run.start) → RunBegins run old
-run_begins run None entries logs opens means = tt
-run_begins run (Some h) entries logs opens means = (entries, logs, opens, means)
+pub run_begins : (run : Run) (old : Option History) (entries : List MapEntry) (logs : List (List BoxEntry)) → run.barred ≡ barred_files (map_meaning run.store run.start) → IfTold old (λ now. Opens (files_of now) run.store entries logs) → MeansSame (map_meaning run.store entries) (map_meaning run.store run.start) → RunBegins run old
+run_begins run None entries logs barred opens means = (barred, tt)
+run_begins run (Some h) entries logs barred opens means = (barred, (entries, logs, opens, means))
 
 run_ends : (run : Run) (m : MapMeaning) (new : Option History) (entries : List MapEntry) (logs : List (List BoxEntry)) → IfTold new (λ now. Opens (files_of now) run.store entries logs) → m ≡ map_meaning run.store entries → RunHasCome run m new
 run_ends run m None entries logs opens is = tt

@@ -29,12 +29,10 @@ use Rattle.mail_ops.specs.Copy.{IsAtCopy, copied_lists}
 use Rattle.mail_ops.specs.Expunging.{IsAtExpunge}
 use Rattle.mail_ops.specs.Making.{IsAtMake, NamesMail, making_refusal, with_mailbox}
 use Rattle.mail_ops.specs.Moving.{IsAtMove}
-use Rattle.mail_ops.specs.Task.{seen_of}
 use Rattle.mail_ops.specs.declared.copy.CopyStage.TheVariants as copy_stage
 use Rattle.mail_ops.specs.declared.expunging.ExpungeStage.TheVariants as expunge_stage
 use Rattle.mail_ops.specs.declared.making.MakeStage.TheVariants as make_stage
 use Rattle.mail_ops.specs.declared.moving.MoveStage.TheVariants as move_stage
-use Rattle.mail_save.specs.SaveSeen.{seen_saving}
 use Rattle.model_store.specs.Stands.{HasInstances}
 use Rattle.saved_message.specs.Region.{written_region}
 use Rattle.saved_message.specs.Saved.{ids_in}
@@ -47,11 +45,11 @@ use Rattle.mdbox_top.specs.MakeRun.{lists_by_making}
 use Rattle.mdbox_top.specs.MoveRun.{AreAlongMove, IsMoveAnswer}
 use Rattle.mdbox_top.specs.SavedMail.{AddedMail, LeftMail, WroteMail}
 use Rattle.mdbox_top.specs.Served.{FaultsByReply, ServesRequest, missing_cause}
-use Rattle.mdbox_top.specs.UnderWay.{IsUnderWay}
+use Rattle.mdbox_top.specs.UnderWay.{IsUnderWay, seen_alone}
 
 -- A request alone is under way in this store, from these lists to those.
 abbrev pub IsWayTo : {D : Type 0} → (Run → ℕ → List Reply → Type 0) → Request → Lists → Seen → StoreValue D → Option History → Faults → Lists → Type 0
-IsWayTo Stands request lists began store history faults left = IsUnderWay Stands request lists began (seen_of store history faults) left
+IsWayTo Stands request lists began store history faults left = IsUnderWay Stands request lists began (seen_alone store history faults) left
 
 -- Of a request that had not begun, what its events did of a store that wasn't stopped: it was served; what a crash within it
 -- leaves, and for which lists the disk is settled, by those that its reply tells; what it leaves of storage files and instances;
@@ -70,7 +68,7 @@ pub record ServesAlone {D : Type 0} (Began : Run → ℕ → List Reply → Type
 -- call of the disk failed.
 pub record ChangesAlone {D : Type 0} (Began : Run → ℕ → List Reply → Type 0) (request : Request) (Among : Lists → Lists → Type 0) (change : Lists → Lists) (store later : StoreValue D) (old new : Option History) (began now : Faults) (given : Reply) : Type 0 where
   pub served : (lists : Lists) (seen : Seen) → IsWayTo Began request lists seen store old began lists → ServesRequest request lists given seen.faults now seen.history new
-  pub shows : ((why : Refusal) → given ≡ reply.Refused why → ⊥) → (lists : Lists) (seen : Seen) → IsWayTo Began request lists seen store old began lists → ShowsSeen (seen_of later new now) (change lists)
+  pub shows : ((why : Refusal) → given ≡ reply.Refused why → ⊥) → (lists : Lists) (seen : Seen) → IsWayTo Began request lists seen store old began lists → ShowsSeen (seen_alone later new now) (change lists)
   pub moments : MomentsAmong Among old new
   pub settled : later.stopped ≡ false → (lists : Lists) → IsSettledFor lists old → IsSettledFor (lists_told request given lists) new
   pub mail : later.stopped ≡ false → NamesMail old new
@@ -109,10 +107,6 @@ pub record StoresAlone {D : Type 0} (name : List ℕ) (time : ℕ) (prepared : P
   pub attachments : IfTold new (λ now. HasInstances (files_of now) rows (attachment_octets prepared.parts))
   pub once : IfTold new (AreFirstNamed rows later.map)
 
--- A delivery alone is under way in this store, from these lists to those.
-abbrev pub IsWayToSave : {D : Type 0} → (Run → ℕ → List Reply → Type 0) → Request → Lists → Seen → StoreValue D → Option History → Faults → Lists → Type 0
-IsWayToSave Stands request lists began store history faults left = IsUnderWay Stands request lists began (seen_saving store history faults) left
-
 -- What the events of a delivery did, of a message with this detached form.
 pub record SavesAlone {D : Type 0} (name : List ℕ) (time : ℕ) (octets : List ℕ) (prepared : Prepared) (store later : StoreValue D) (old new : Option History) (began now : Faults) (given : Reply) : Type 0 where
   pub given_is : IsDeliverAnswer (undelivered_cause (list_named store name) store.drawn) (list_named store name) store.map.store (region_length name time prepared) store.drawn.instance (length prepared.parts) store.files given
@@ -123,7 +117,7 @@ pub record SavesAlone {D : Type 0} (name : List ℕ) (time : ℕ) (octets : List
   pub leaves : (why : Refusal) → given ≡ reply.Refused why → (why ≡ refusal.Stopped → ⊥) → (rows : List InstRow) × LeftMail name time prepared rows old new
   pub shows : (uid : Uid) (guid : Guid) → given ≡ reply.Saved uid guid → ShowsChanged (saved_lists name time octets guid) store later
   pub stored : (uid : Uid) (guid : Guid) → given ≡ reply.Saved uid guid → (map_uid : MapUid) × StoresAlone name time prepared map_uid guid store later old new
-  pub served : (lists : Lists) (seen : Seen) → IsWayToSave HasNotBegun (request.Deliver name time octets) lists seen store old began lists → ServesRequest (request.Deliver name time octets) lists given seen.faults now seen.history new
+  pub served : (lists : Lists) (seen : Seen) → IsWayTo HasNotBegun (request.Deliver name time octets) lists seen store old began lists → ServesRequest (request.Deliver name time octets) lists given seen.faults now seen.history new
   pub moments : MomentsAmong (AreAlongSave name time octets) old new
   pub settled : later.stopped ≡ false → (lists : Lists) → IsSettledFor lists old → IsSettledFor (lists_told (request.Deliver name time octets) given lists) new
   pub halts : (given ≡ reply.Refused refusal.Stopped) ↔ (later.stopped ≡ true)

@@ -51,7 +51,7 @@ pub record IsCopyReply (name : List ℕ) (uid : Uid) (target : List ℕ) (old ne
   pub memory : given ≡ reply.Refused refusal.NoMemory → OpensAsBefore m meanings new
   pub done : (given_uid : Uid) → given ≡ reply.Copied given_uid → OpensChanged (copied_lists name uid target) m meanings new
   pub settled : (given ≡ reply.Refused refusal.Stopped → ⊥) → (lists : Lists) → IsSettledFor lists old → IsSettledFor (lists_told (request.Copy name uid target) given lists) new
-  pub mail : (given ≡ reply.Refused refusal.Stopped → ⊥) → LeavesMail m old new
+  pub mail : LeavesMail m given old new
 
 -- How `copy` ends: the reply is printed, which is `OK` with the UID of the copy, or why the message isn't copied, or
 -- `NO 17 memory`, or `NO 19 stopped`; or a prefix of it; or the store was not opened.

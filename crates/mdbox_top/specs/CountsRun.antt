@@ -41,7 +41,9 @@ pub record IsCountsReply (old new : Option History) (given : Reply) : Type 0 whe
 abbrev pub CountsOutcome : Option (List ℕ) → Option (List ℕ) → Option History → Option History → Faults → Faults → Outcome → Type 0
 CountsOutcome = RequestOutcome IsCountsReply request.Counts
 
--- A crash at any moment of a count leaves a disk that is safe for the lists for which it was settled, whatever fails.
+-- A crash at any moment of a count leaves a disk that is safe for the lists for which it was settled, whatever fails; and of any
+-- disk it leaves of storage files and instances what a crash could leave of them at the beginning. A store that was closed well is
+-- left as it is.
 abbrev pub CountsMoments : Option History → Option History → Type 0
 CountsMoments old new = ListMoments old new
 

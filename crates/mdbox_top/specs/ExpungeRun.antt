@@ -34,7 +34,7 @@ pub record IsExpungeReply (name : List ℕ) (uid : Uid) (old new : Option Histor
   pub refused : (why : Refusal) → given ≡ reply.Refused why → (why ≡ refusal.Stopped → ⊥) → OpensUnchanged m meanings old new
   pub done : given ≡ reply.Done → OpensChanged (lists_without name uid) m meanings new
   pub settled : (given ≡ reply.Refused refusal.Stopped → ⊥) → (lists : Lists) → IsSettledFor lists old → IsSettledFor (lists_told (request.Expunge name uid) given lists) new
-  pub mail : (given ≡ reply.Refused refusal.Stopped → ⊥) → LeavesMail m old new
+  pub mail : LeavesMail m given old new
 
 -- How `expunge` ends: the reply is printed, which is `OK`, or `NO 10 no mailbox` or `NO 12 no message` if there is none, or
 -- `NO 17 memory`, or `NO 19 stopped`; or a prefix of it; or the store was not opened.

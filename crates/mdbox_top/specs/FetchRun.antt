@@ -73,7 +73,9 @@ pub record IsFetchReply (name : List ℕ) (uid : Uid) (old new : Option History)
 abbrev pub FetchOutcome : List ℕ → Uid → Option (List ℕ) → Option (List ℕ) → Option History → Option History → Faults → Faults → Outcome → Type 0
 FetchOutcome name uid = RequestOutcome (IsFetchReply name uid) (request.Fetch name uid)
 
--- A crash at any moment of a fetch leaves a disk that is safe for the lists for which it was settled, whatever fails.
+-- A crash at any moment of a fetch leaves a disk that is safe for the lists for which it was settled, whatever fails; and of any
+-- disk it leaves of storage files and instances what a crash could leave of them at the beginning. A store that was closed well is
+-- left as it is.
 abbrev pub FetchMoments : Option History → Option History → Type 0
 FetchMoments old new = ListMoments old new
 

@@ -45,7 +45,7 @@ pub record IsFlagReply (name : List ℕ) (uid : Uid) (flags : ℕ) (old new : Op
   pub refused : (why : Refusal) → missing_cause (meaning_named name m.boxes meanings) uid.0 ≡ Some why → IsOpenedAs new m meanings × StoreCarries old new × ((generation : ℕ) × IsSwept generation m old new)
   pub done : given ≡ reply.Done → HasFlagged name uid.0 flags m meanings new
   pub settled : (given ≡ reply.Refused refusal.Stopped → ⊥) → (lists : Lists) → IsSettledFor lists old → IsSettledFor (lists_by_reply (request.Flag name uid flags) given lists) new
-  pub mail : (given ≡ reply.Refused refusal.Stopped → ⊥) → LeavesMail m old new
+  pub mail : LeavesMail m given old new
 
 -- How `flag` ends: the reply is printed, which is `OK`, or `NO 10 no mailbox` or `NO 12 no message` if there is none, or `NO 19
 -- stopped`; or a prefix of it; or the store was not opened.

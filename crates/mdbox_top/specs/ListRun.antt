@@ -13,8 +13,8 @@ use Rattle.model_meaning.specs.MapMeaning.{MapMeaning}
 use Rattle.model_store.specs.Listing.{meaning_named, listing_of}
 use Rattle.model_store.specs.Safe.{Safe}
 use Rattle.model_store.specs.Settled.{IsSettledFor}
-use Rattle.store_open.specs.Opened.{IsOpenedAs, StoreCarries}
-use Rattle.store_sweep.specs.Moments.{NoFailedChange}
+use Rattle.store_open.specs.Opened.{IsOpenedAs, StoreCarries, KeepsOpenedMail, IsClosedWell}
+use Rattle.store_sweep.specs.Moments.{NoFailedChange, IdleIf}
 use Rattle.store_sweep.specs.Swept.{IsSwept}
 use Rattle.request_text.specs.declared.outcome.Outcome.{Outcome}
 use Rattle.mdbox_top.specs.Served.{AreSafeFor, RequestOutcome}
@@ -42,9 +42,13 @@ pub record IsListReply (name : List ℕ) (old new : Option History) (given : Rep
 abbrev pub ListOutcome : List ℕ → Option (List ℕ) → Option (List ℕ) → Option History → Option History → Faults → Faults → Outcome → Type 0
 ListOutcome name = RequestOutcome (IsListReply name) (request.List name)
 
--- A crash at any moment of a listing leaves a disk that is safe for the lists for which it was settled, whatever fails.
-abbrev pub ListMoments : Option History → Option History → Type 0
-ListMoments old new = (lists : Lists) → IsSettledFor lists old → EachImage (λ _ image. Safe image lists) old new
+-- A crash at any moment of a listing leaves a disk that is safe for the lists for which it was settled, whatever fails; and of any
+-- disk it leaves of storage files and instances what a crash could leave of them at the beginning. A store that was closed well is
+-- left as it is.
+pub record ListMoments (old new : Option History) : Type 0 where
+  pub safe : (lists : Lists) → IsSettledFor lists old → EachImage (λ _ image. Safe image lists) old new
+  pub stays : KeepsOpenedMail old new
+  pub closed_well : IdleIf IsClosedWell old new
 
 -- If no change of the disk failed, a disk that was settled is settled again, and all that the store reads is carried over.
 abbrev pub ListRests : Type 0 → Faults → Faults → Option History → Option History → Type 0

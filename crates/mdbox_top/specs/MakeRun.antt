@@ -17,7 +17,7 @@ use Rattle.model_store.specs.Listing.{meaning_named}
 use Rattle.model_store.specs.Safe.{Safe}
 use Rattle.model_store.specs.Settled.{IsSettledFor}
 use Rattle.mail_ops.specs.Making.{NamesMail, with_mailbox}
-use Rattle.store_open.specs.Opened.{IsOpenedAs}
+use Rattle.store_open.specs.Opened.{IsOpenedAs, KeepsOpenedMail}
 use Rattle.store_sweep.specs.Moments.{NoFailedChange}
 use Rattle.store_sweep.specs.Swept.{IsSwept}
 use Rattle.request_text.specs.declared.outcome.Outcome.{Outcome}
@@ -47,15 +47,16 @@ lists_by_making number name given lists = lists
 abbrev pub ReadAlike : Option History → Option History → Type 0
 ReadAlike = Between (λ a b. (name : FileName) → reading (b name) ≡ reading (a name))
 
--- What is left of the files as the opening left them, which swept the disk: storage files and instances are as they were, but that
--- names may be synced. Unless it is done, each file reads as it did: so the log that was made is removed, and no other file was
--- made.
+-- The opening swept the disk, and storage files and instances stayed at each moment of it. Unless the store is stopped, they are as
+-- the opening left them, but that their names may be synced; and unless it is done, each file reads as it did then: so the log that
+-- was made is removed, and no other file was made.
 pub record LeavesOpened (m : MapMeaning) (given : Reply) (old new : Option History) : Type 0 where
   pub generation : ℕ
   pub opened : Option History
   pub swept : IsSwept generation m old opened
-  pub mail : NamesMail opened new
-  pub undone : (given ≡ reply.Done → ⊥) → ReadAlike opened new
+  pub stays : KeepsOpenedMail old opened
+  pub mail : (given ≡ reply.Refused refusal.Stopped → ⊥) → NamesMail opened new
+  pub undone : (given ≡ reply.Refused refusal.Stopped → ⊥) → (given ≡ reply.Done → ⊥) → ReadAlike opened new
 
 -- The reply to the making of a mailbox with this name, by what the logs mean from which the store opened. Where it is refused, the
 -- files open with the same logs, all that the store reads is carried over, and the disk was swept. Out of memory, they open with
@@ -72,7 +73,7 @@ pub record IsMakeReply (name : List ℕ) (old new : Option History) (given : Rep
   pub done : given ≡ reply.Done → OpensChanged (with_mailbox (next_mailbox m) name) m meanings new
   pub named : given ≡ reply.Done → IsOpenedAs new (with_next_named name m) (meanings ++ box_meaning [] ∷ [])
   pub settled : (given ≡ reply.Refused refusal.Stopped → ⊥) → (lists : Lists) → IsSettledFor lists old → IsSettledFor (lists_by_making (next_mailbox m) name given lists) new
-  pub files : (given ≡ reply.Refused refusal.Stopped → ⊥) → LeavesOpened m given old new
+  pub files : LeavesOpened m given old new
 
 -- How `make` ends: the reply is printed, which is `OK`, or why no mailbox is made, or `NO 17 memory`, or `NO 19 stopped`; or a
 -- prefix of it; or the store was not opened.

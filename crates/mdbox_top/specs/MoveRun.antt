@@ -51,7 +51,7 @@ pub record IsMoveReply (name : List ℕ) (uid : Uid) (target : List ℕ) (old ne
   pub done : (given_uid : Uid) (gone : Bool) → given ≡ reply.Moved given_uid gone → OpensChanged (lists_behind name uid target gone) m meanings new
   pub here : (lists : Lists) → AreSafeFor lists old → (moved : Uid) → given ≡ reply.Moved moved true → ⊥
   pub settled : (given ≡ reply.Refused refusal.Stopped → ⊥) → (lists : Lists) → IsSettledFor lists old → IsSettledFor (lists_told (request.Move name uid target) given lists) new
-  pub mail : (given ≡ reply.Refused refusal.Stopped → ⊥) → LeavesMail m old new
+  pub mail : LeavesMail m given old new
 
 -- How `move` ends: the reply is printed, which is `OK` with the UID of the copy, and `GONE` behind it if the message had gone; or
 -- why the message isn't moved, or `NO 17 memory`, or `NO 19 stopped`; or a prefix of it; or the store was not opened.

@@ -1,5 +1,5 @@
 -- What a request alone makes of a store, and how it ends.
-use Rattle.std.specs.Prelude.{◌≡◌, ◌≤◌, ◌⊎◌, ℕ, List, [], ◌∷◌, is_some, if◌then◌else◌, Option, Some, None}
+use Rattle.std.specs.Prelude.{◌≡◌, ◌≤◌, ◌⊎◌, ◌&&◌, ℕ, not, filter, List, [], ◌∷◌, is_some, if◌then◌else◌, Option, Some, None}
 use Rattle.std.specs.Option.{option_map_or}
 use Rattle.disk_model.specs.Disk.{told_calls, History, Faults, EachImage, IfTold, IsIdle}
 use Rattle.disk_model.specs.FaultCounts.{NoFault}
@@ -14,7 +14,7 @@ use Rattle.mdbox_base.specs.declared.replies.Reply.TheVariants as reply
 use Rattle.mdbox_base.specs.declared.requests.Request.{Request}
 use Rattle.model_lists.specs.Lists.{Lists}
 use Rattle.model_meaning.specs.BoxMeaning.{BoxMeaning, row_at}
-use Rattle.model_meaning.specs.MapMeaning.{MapMeaning, map_meaning}
+use Rattle.model_meaning.specs.MapMeaning.{MapMeaning, is_sealed, map_meaning}
 use Rattle.model_meaning.specs.SameMeaning.{MeansSame}
 use Rattle.model_store.specs.Opening.{Opens}
 use Rattle.model_store.specs.Safe.{Safe}
@@ -22,8 +22,10 @@ use Rattle.model_store.specs.Settled.{files_of, IsSettledFor}
 use Rattle.list_machine.specs.Run.{Run}
 use Rattle.journal.specs.Journal.{JournalStep, Broken, left_by}
 use Rattle.journal.specs.Makes.{IsServed}
+use Rattle.store_files.specs.Barred.{is_barred}
+use Rattle.store_files.specs.Regions.{end_of, region_numbers}
 use Rattle.store_open.specs.Making.{IdleUnless}
-use Rattle.store_open.specs.Opened.{Opening, IsOpeningError}
+use Rattle.store_open.specs.Opened.{Opening, IsOpeningError, KeepsOpenedMail}
 use Rattle.store_open.specs.declared.error.OpenError.{OpenError}
 use Rattle.store_open.specs.declared.error.OpenError.TheVariants as error
 use Rattle.piece_writer.specs.Pieces.{WritesPrefix}
@@ -32,16 +34,21 @@ use Rattle.request_text.specs.ReplyText.{single_text}
 use Rattle.request_text.specs.declared.outcome.Outcome.{Outcome}
 use Rattle.request_text.specs.declared.outcome.Outcome.TheVariants as outcome
 use Rattle.mdbox_top.specs.OpeningOutcome.{opening_outcome}
-use Rattle.task_steps.specs.Serves.{IsReached}
+use Rattle.task_steps.specs.Serves.{AreTimely, IsReached}
 
 -- the disk is modelled, and its files are safe for these lists
 abbrev pub AreSafeFor : Lists → Option History → Type 0
 AreSafeFor lists None = ⊥
 AreSafeFor lists (Some history) = Safe (files_of history.now) lists
 
--- The files opened, and their map log means the same as the entries with which the run begins.
+-- the storage files, of those that aren't sealed and that records name, to which nothing may be appended until the next opening
+abbrev pub barred_files : MapMeaning → List ℕ
+barred_files m = filter (λ number. not (is_sealed m number) && is_barred m number (end_of m number)) (region_numbers m)
+
+-- The files opened, and their map log means the same as the entries with which the run begins, by which the same storage files
+-- are barred.
 abbrev pub RunBegins : Run → Option History → Type 0
-RunBegins run old = IfTold old (λ disk. (entries : List MapEntry) × (logs : List (List BoxEntry)) × Opens (files_of disk) run.store entries logs × MeansSame (map_meaning run.store entries) (map_meaning run.store run.start))
+RunBegins run old = (run.barred ≡ barred_files (map_meaning run.store run.start)) × IfTold old (λ disk. (entries : List MapEntry) × (logs : List (List BoxEntry)) × Opens (files_of disk) run.store entries logs × MeansSame (map_meaning run.store entries) (map_meaning run.store run.start))
 
 -- The files open, and their map log means the same as this.
 abbrev pub RunHasCome : Run → MapMeaning → Option History → Type 0
@@ -50,8 +57,9 @@ RunHasCome run m new = IfTold new (λ disk. (entries : List MapEntry) × (logs :
 -- The request is a script of its own, on one lane. From these lists, for which the files were safe, it was served legally,
 -- by a run that begins with the map log of the files, and was replied this. The run has come to where the disk is now: to what
 -- its map log means, unless a change of it failed, and to its number of calls, so that by now every step is acknowledged. Of a
--- disk that was settled for the lists each crash image since is safe for lists that the journal reaches; and the disk is settled
--- for the lists that the journal leaves, unless a change of it failed.
+-- disk that was settled for the lists each crash image since is safe for lists that the journal reaches; at the moment of each
+-- event it was settled for what the steps up to it left; and it is settled for the lists that the journal leaves, unless a change
+-- of it failed.
 pub record ServesRequest (request : Request) (lists : Lists) (given : Reply) (began now : Faults) (old new : Option History) : Type 0 where
   pub run : Run
   pub journal : List JournalStep
@@ -62,6 +70,7 @@ pub record ServesRequest (request : Request) (lists : Lists) (given : Reply) (be
   pub ends : (given ≡ reply.Refused refusal.Stopped → ⊥) → RunHasCome run m new
   pub served : IsServed lists ((1, request) ∷ []) run journal broken (Some given ∷ []) began now (map_meaning run.store run.start) m drawn (told_calls new)
   pub crash : IsSettledFor lists old → EachImage (IsReached lists run journal broken) old new
+  pub timely : IsSettledFor lists old → AreTimely lists run journal new
   pub settled : (given ≡ reply.Refused refusal.Stopped → ⊥) → IsSettledFor lists old → IsSettledFor (left_by lists journal) new
 
 -- The counts of the disk's faults, by what was replied: they never fall, a read fault is replied only if that of failed reads alone
@@ -82,7 +91,8 @@ ShowsReply text given held later outcome.NoMemory = WritesPrefix held [] text la
 ShowsReply text given held later ended = (ended ≡ reply_outcome given) × Appended held text later
 
 -- The store was not opened, for a cause in the files, a fault, or out of memory: nothing was printed. Nothing has changed but
--- after a fault, and then only if the files open. With any other cause no call of the disk failed.
+-- after a fault, and then only if the files open; and at each moment storage files and instances stayed. With any other cause no
+-- call of the disk failed.
 pub record IsNotOpened (held later : Option (List ℕ)) (old new : Option History) (began now : Faults) (ended : Outcome) : Type 0 where
   pub why : OpenError
   pub ended_is : ended ≡ opening_outcome why
@@ -90,6 +100,7 @@ pub record IsNotOpened (held later : Option (List ℕ)) (old new : Option Histor
   pub cause : IsOpeningError old why
   pub idle : (why ≡ error.DiskFault → ⊥) → IsIdle old new
   pub untouched : IdleUnless Opening old new
+  pub stays : KeepsOpenedMail old new
   pub unfailed : (why ≡ error.DiskFault → ⊥) → NoFault began now
 
 -- The store was opened and replied this: what this command's reply tells beside, that the request was served, from any lists for

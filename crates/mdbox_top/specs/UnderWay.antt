@@ -1,14 +1,21 @@
 -- A request alone that is under way: some of its events have happened, and it isn't answered yet.
-use Rattle.std.specs.Prelude.{◌≡◌, ℕ, false, List, [], ◌∷◌, map, None}
+use Rattle.std.specs.Prelude.{◌≡◌, ℕ, false, List, [], ◌∷◌, map, Option, None}
+use Rattle.disk_model.specs.Disk.{History, Faults}
 use Rattle.mdbox_base.specs.declared.replies.Reply.{Reply}
 use Rattle.mdbox_base.specs.declared.requests.Request.{Request}
 use Rattle.model_lists.specs.Lists.{Lists}
 use Rattle.list_machine.specs.Run.{Run}
 use Rattle.journal.specs.Journal.{Requests, JournalStep, Broken, left_by, steps_of}
 use Rattle.journal.specs.Makes.{AreReplies, AreTold, StaysStopped, WouldDo}
+use Rattle.store_core.specs.Value.{StoreValue}
+use Rattle.store_seen.specs.Seeing.{seen_of}
 use Rattle.task_steps.specs.Serves.{Serves, IsTurn, Follows}
 use Rattle.task_steps.specs.Step.{Seen}
 use Rattle.mdbox_top.specs.Served.{RunBegins}
+
+-- a store as the events of a request alone see it, which pins no storage file
+abbrev pub seen_alone : {D : Type 0} → StoreValue D → Option History → Faults → Seen
+seen_alone store history faults = seen_of (λ file. 0) store history faults
 
 -- the script of a request alone
 abbrev pub alone : Request → Requests

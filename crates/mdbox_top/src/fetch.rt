@@ -1,5 +1,5 @@
 // A fetch alone: the store is opened, each event of the fetch is done, and its reply printed.
-ghost use Rattle.std.specs.Prelude.{◌≡◌, ◌≢◌, ◌⊎◌, ◌≤◌, false, Some, None, IfOk, IfErr};
+ghost use Rattle.std.specs.Prelude.{◌≡◌, ◌≢◌, ◌⊎◌, ◌≤◌, ℕ, false, Some, None, IfOk, IfErr};
 ghost use Rattle.disk_model.specs.Disk.{IsIdle};
 ghost use Rattle.disk_model.specs.FaultCounts.{NoFault, AnyFaultCounted};
 ghost use Rattle.mail_fetch.specs.Events.{fetch_refusal};
@@ -15,6 +15,7 @@ ghost use Rattle.mdbox_top.specs.Served.{FaultsByReply, ShowsReply};
 ghost use Rattle.request_text.specs.Outcomes.{status_of};
 ghost use Rattle.request_text.specs.ReplyText.{fetched_text};
 ghost use Rattle.request_text.specs.declared.outcome.Outcome.TheVariants as outcome;
+ghost use Rattle.storage_files.specs.Files.{is_doomed_in};
 
 use crate::opening::outcome_of;
 use disk_model::Disk;
@@ -76,6 +77,7 @@ fn fetch_alone<D: Disk>(
 /// instances have pieces, and two more.
 fn take_message<D: Disk>(store: &mut Store<D>, name: Name, uid: Uid) -> Reply
     requires running { store.old.stopped ≡ false }
+    requires undoomed { (file : ℕ) → is_doomed_in file store.old.files.files ≡ false }
     ensures refused { (why : Refusal) → fetch_refusal name uid.0 store.old ≡ Some why → result ≡ reply.Refused why }
     ensures found { fetch_refusal name uid.0 store.old ≡ None → (result ≡ reply.Refused refusal.NoMemory) ⊎ TakesMessage name uid store.old (D.history store.old.disk) (D.history store.new.disk) (D.faults store.old.disk) result }
     ensures served { TakesServed name uid store.old (D.history store.old.disk) (D.history store.new.disk) (D.faults store.old.disk) (D.faults store.new.disk) result }

@@ -10,7 +10,7 @@ pub const FORM: LineForm = LineForm {
     crlf: true,
 };
 
-/// What stands behind the first line of each message, up to its parts.
+/// What stands after the first line of each message, up to its parts.
 const HEADER: &[u8] =
     b"MIME-Version: 1.0\r\nContent-Type: multipart/mixed; boundary=\"b1\"\r\n\r\n";
 

@@ -1,4 +1,4 @@
--- Two deliveries that take turns are beside one another behind each event.
+-- Two deliveries that take turns are beside one another after each event.
 use Rattle.std.specs.Prelude.{◌≡◌, ◌≤◌, ◌+◌, ℕ, List, Option, Some, IsSome, false}
 use Rattle.std.proofs.Common.{refl, sym, subst, inl, inr, arith}
 use Rattle.disk_mem.specs.Mem.{told}
@@ -31,7 +31,7 @@ turn_of : (one other : Turns) (task : SaveValue) (answer : Progress) (how : Did)
     → Turn one.task.stage task.stage other.task.stage one.task.name one.task.time one.task.size answer how old new (Some (told old.disk)) (Some (told new.disk)) began ended
 turn_of one other task answer how old new began ended b says runs = record { says = says; runs = runs; held = b.held; due = b.due; apart = b.apart }
 
--- behind a reply
+-- after a reply
 pub done_beside : (one other : Turns) (task : SaveValue) (given : Reply) (how : Did) (old new : StoreValue MemDisk) (began ended : Faults) → AreBeside one other old → Says one task (progress.Done given) how old new began ended → new.stopped ≡ false
     → AreBeside (record { task = task; reply = Some given }) other new
 done_beside one other task given how old new began ended b says runs =

@@ -21,7 +21,7 @@ use Rattle.storage_files.specs.Files.{is_taken_in}
 use Rattle.store_core.specs.Keeping.{holds_of}
 use Rattle.store_core.specs.Value.{StoreValue}
 
--- behind a reply no event is left
+-- after a reply no event is left
 pub at_end : {D : Type 0} → (now next : SaveStage) (name : List ℕ) (time size : ℕ) (given : Reply) (old new : StoreValue D) → SaveEffects now next name time size (progress.Done given) old new → next ≡ stage.Ended
 at_end now stage.Ended name time size given old new e = refl
 at_end (stage.First prepared) next name time size given old new e = absurd e
@@ -33,7 +33,7 @@ at_end (stage.Adding added room) next name time size given old new e = absurd e
 at_end (stage.GivingBack uid why room) next name time size given old new e = absurd e
 at_end stage.Ended next name time size given old new e = absurd e
 
--- A storage file that a delivery has behind an event it had before, or nobody had taken it.
+-- A storage file that a delivery has after an event it had before, or nobody had taken it.
 pub own_before : {D : Type 0} → (now next : SaveStage) (name : List ℕ) (time size : ℕ) (old new : StoreValue D) → SaveEffects now next name time size progress.More old new → (number : ℕ) → IsOwnFile next number → IsOwnFile now number ⊎ (is_taken_in number old.files.files ≡ false)
 own_before (stage.Taking parts) (stage.Placing laid file) name time size old new e number own = inr (ap (λ (n : ℕ). is_taken_in n old.files.files) own ∙ e.1.free)
 own_before (stage.Placing parts file) (stage.Storing at rows room) name time size old new e number own = inl (own ∙ ap (λ f. f.0) e.file_is)

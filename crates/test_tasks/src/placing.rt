@@ -99,7 +99,7 @@ fn new_store(alloc: Global) -> Result<Store<MemDisk>, Fail> {
     opened(init_store(alloc, MemDisk::fresh(alloc)?, ID))
 }
 
-/// The candidates for `abc`, one behind another, and one for a text of another size.
+/// The candidates for `abc`, one after another, and one for a text of another size.
 fn candidates(store: &Store<MemDisk>) -> [Option<InstId>; 4] {
     [
         store.candidate(ABC, 3, None),
@@ -109,7 +109,7 @@ fn candidates(store: &Store<MemDisk>) -> [Option<InstId>; 4] {
     ]
 }
 
-/// The instances, one behind another.
+/// The instances, one after another.
 fn instances(store: &Store<MemDisk>) -> [Option<InstId>; 3] {
     [
         store.next_instance(None),
@@ -118,7 +118,7 @@ fn instances(store: &Store<MemDisk>) -> [Option<InstId>; 3] {
     ]
 }
 
-/// What is saved under one hash, one text behind another, and how each saving ends.
+/// What is saved under one hash, one text after another, and how each saving ends.
 const SAVINGS: [(&[u8], Saved); 4] = [
     (b"abc", Saved::Placed(ONE)),
     (b"xyz", Saved::Placed(TWO)),

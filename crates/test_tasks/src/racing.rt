@@ -104,10 +104,7 @@ const MOVES_BESIDE_EXPUNGES: [Case; 3] = [
         (NO_MESSAGE, End::Done, [2, 0, 0], 0),
     ),
     // It leaves between the halves: it has gone, and the target lists its copy.
-    (
-        &[One, One, Two, One, Two],
-        (GONE, End::Done, [2, 1, 0], 1),
-    ),
+    (&[One, One, Two, One, Two], (GONE, End::Done, [2, 1, 0], 1)),
     // It is moved, and the expunge finds none.
     (
         &[One, One, One, Two, One],

@@ -1,5 +1,6 @@
 // Lines as cases want them.
 use mdbox_base::NoMemory;
+use std::fmt::Write;
 
 /// Adds a line.
 pub fn push_line(out: &mut String, text: &str) -> Result<(), NoMemory> {
@@ -9,16 +10,31 @@ pub fn push_line(out: &mut String, text: &str) -> Result<(), NoMemory> {
     Ok(())
 }
 
-/// Adds a line with octets after a word: their text, if it is visible, or else their hexadecimal digits.
+/// How many octets are told at the most.
+const MOST: usize = 1_000;
+
+/// Adds a line with octets after a word: their text, if it is visible, or else their hexadecimal digits, of many their number.
 pub fn push_octets(out: &mut String, word: &str, octets: &[u8]) -> Result<(), NoMemory> {
     out.push_str(". ")?;
     out.push_str(word)?;
-    match str::from_utf8(octets) {
-        Ok(text) if is_visible(octets) => out.push_str(text)?,
-        _ => push_digits(out, octets)?,
-    }
+    push_told(out, octets)?;
     out.push_str("\n")?;
     Ok(())
+}
+
+fn push_told(out: &mut String, octets: &[u8]) -> Result<(), NoMemory> {
+    let count = octets.len();
+    match str::from_utf8(octets) {
+        _ if count > MOST => {
+            write!(out, "{count} octets")?;
+            Ok(())
+        }
+        Ok(text) if is_visible(octets) => {
+            out.push_str(text)?;
+            Ok(())
+        }
+        _ => push_digits(out, octets),
+    }
 }
 
 fn is_visible(octets: &[u8]) -> bool {

@@ -61,7 +61,7 @@ fn name_of_kind(kind: &Kind) -> &'static str {
     }
 }
 
-/// Where each leaf of a message begins and ends, the first and the last of more than a few, and how many there are.
+/// Where each leaf of a message begins and ends, of many the first ones and the last, and how many there are.
 pub fn tell_parts(alloc: Global, out: &mut String, octets: &[u8]) -> Result<bool, NoMemory> {
     if octets.len() > MOST {
         return Ok(false);
@@ -71,7 +71,7 @@ pub fn tell_parts(alloc: Global, out: &mut String, octets: &[u8]) -> Result<bool
     let mut at = 0usize;
     for part in parts.as_slice() {
         at = at.saturating_add(1);
-        if at <= 8 || at == count {
+        if at <= 3 || at == count {
             let (start, end) = (part.start, part.end);
             let (coding, kept) = (
                 name_of_coding(part.coding),

@@ -24,7 +24,7 @@ append_map-requires-clause-drawn g c =
     (c.in-Some.ensures.some.0, file_drawn c.args.at c.args.store.now _ c.facts.ensures.store c.facts.ensures.files c.requires.placed, guid_drawn c.args.at c.args.store.now _ c.facts.ensures.store c.facts.ensures.files c.requires.placed)
 
 pub append_map-requires-clause-below : goal.append_map-requires-clause-below
-append_map-requires-clause-below g c = record_below c.in-Some.uid c.args.at c.args.rows c.args.store.now c.requires.placed c.requires.size
+append_map-requires-clause-below g c = record_below c.in-Some.uid c.args.at c.args.rows c.args.store.now _ c.facts.ensures.store c.requires.placed c.requires.size
 
 pub append_map-requires-clause-region : goal.append_map-requires-clause-region
 append_map-requires-clause-region g c =

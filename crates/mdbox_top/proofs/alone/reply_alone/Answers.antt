@@ -1,5 +1,4 @@
 use Rattle.std.proofs.Common.{sym, subst}
-use Rattle.mail_ops.specs.Task.{no_others}
 use Rattle.mdbox_top.specs.Alone.{IsDoneAlone}
 use Rattle.mdbox_top.proofs.AloneLemmas.{done_alone}
 use Rattle.mdbox_top.proofs.ServedLemmas.{doing}
@@ -15,16 +14,20 @@ returns-in-Done-clause-done g c =
       store = c.facts.ensures.store;
       drawn = o.state.3;
       free = o.state.4;
+      order = c.facts.ensures.files;
       files = o.files;
+      instances = o.instances;
       running = o.state.1;
       safe = o.any_moment;
       settled_again = o.settled_again (λ f. absurd f);
       carried = o.carried (λ f. absurd f);
       swept = (o.swept.0, o.swept.2);
+      stays = o.mail_stays;
+      closed_well = o.closed_well;
     })
     c.facts-in-Ok.ensures.store
     (record {
-      does = λ around after. step.does around after no_others;
+      does = λ around after. step.does around after (λ file. 0);
       moments = step.moments;
       settled = step.settled;
       mail = step.mail;
@@ -41,4 +44,4 @@ returns-in-Done-clause-done g c =
 pub returns-in-Err-clause-refused : goal.returns-in-Err-clause-refused
 returns-in-Err-clause-refused g c =
     let o = c.in-Err.ensures in
-    record { cause = o.refused; idle = o.idle; untouched = o.untouched; moments = o.any_moment; settled_again = o.settled_again; carried = o.carried; fault = o.fault; unfailed = o.unfailed }
+    record { cause = o.refused; idle = o.idle; untouched = o.untouched; stays = o.mail_stays; closed_well = o.closed_well; moments = o.any_moment; settled_again = o.settled_again; carried = o.carried; fault = o.fault; unfailed = o.unfailed }

@@ -30,7 +30,7 @@ pub returns-in-Err-clause-ends : goal.returns-in-Err-clause-ends
 returns-in-Err-clause-ends g c = rw c.outcome_of.ensures (unopened_ends request.Counts _ _ _ _ _ c.in-Err.field-0.error c.in-Err.ensures.refused)
 
 pub returns-in-Err-clause-moments : goal.returns-in-Err-clause-moments
-returns-in-Err-clause-moments g c = c.in-Err.ensures.refused.moments
+returns-in-Err-clause-moments g c = (let u = c.in-Err.ensures.refused in record { safe = u.moments; stays = u.stays; closed_well = u.closed_well })
 
 pub returns-in-Err-clause-rests : goal.returns-in-Err-clause-rests
 returns-in-Err-clause-rests g c = rw c.outcome_of.ensures (counts_unopened_rests _ _ _ _ c.in-Err.field-0.error c.in-Err.ensures.refused)

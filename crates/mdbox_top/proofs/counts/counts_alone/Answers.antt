@@ -1,6 +1,5 @@
 use Rattle.std.proofs.Common.{sym, subst}
 use Rattle.mdbox_base.specs.declared.requests.Request.TheVariants as request
-use Rattle.mail_ops.specs.Task.{no_others}
 use Rattle.mdbox_top.specs.Alone.{IsDoneAlone}
 use Rattle.mdbox_top.proofs.CountsLemmas.{count_step, counts_done}
 use Rattle.mdbox_top.proofs.counts.counts_alone.Goals as goal
@@ -17,14 +16,18 @@ returns-in-Done-clause-done g c =
       store = c.facts.ensures.store;
       drawn = o.state.3;
       free = o.state.4;
+      order = c.facts.ensures.files;
       files = o.files;
+      instances = o.instances;
       running = o.state.1;
       safe = o.any_moment;
       settled_again = o.settled_again (λ f. absurd f);
       carried = o.carried (λ f. absurd f);
       swept = (o.swept.0, o.swept.2);
+      stays = o.mail_stays;
+      closed_well = o.closed_well;
     })
-    (record { does = λ around after. step.does around after no_others; replies = step.replies }))
+    (record { does = λ around after. step.does around after (λ file. 0); replies = step.replies }))
     c.listings_are_shown.ensures.logs in
     subst (λ d. IsDoneAlone request.Counts given (g.D.Disk.history c.args.disk) (g.D.Disk.history d) (g.D.Disk.faults c.args.disk) (g.D.Disk.faults d)) (sym c.into_disk.ensures)
     (subst (λ f. IsDoneAlone request.Counts given (g.D.Disk.history c.args.disk) (g.D.Disk.history c.in-Ok.store.disk) f (g.D.Disk.faults c.in-Ok.store.disk)) (o.unfailed (λ f. f)) done)
@@ -32,4 +35,4 @@ returns-in-Done-clause-done g c =
 pub returns-in-Err-clause-refused : goal.returns-in-Err-clause-refused
 returns-in-Err-clause-refused g c =
     let o = c.in-Err.ensures in
-    record { cause = o.refused; idle = o.idle; untouched = o.untouched; moments = o.any_moment; settled_again = o.settled_again; carried = o.carried; fault = o.fault; unfailed = o.unfailed }
+    record { cause = o.refused; idle = o.idle; untouched = o.untouched; stays = o.mail_stays; closed_well = o.closed_well; moments = o.any_moment; settled_again = o.settled_again; carried = o.carried; fault = o.fault; unfailed = o.unfailed }

@@ -16,15 +16,18 @@ returns-in-Ok-clause-done g c = λ octets small form.
         store = c.facts.ensures.store;
         drawn = o.state.3;
         free = o.state.4;
+        order = c.facts.ensures.files;
         files = o.files;
+        instances = o.instances;
         running = o.state.1;
         safe = o.any_moment;
         settled_again = o.settled_again (λ f. absurd f);
         carried = o.carried (λ f. absurd f);
         swept = (o.swept.0, o.swept.2);
+        stays = o.mail_stays;
+        closed_well = o.closed_well;
       };
       form = form;
-      instances = o.instances;
       known = c.facts.ensures.instances;
       later = c.facts-in-Ok.ensures.store;
       saves = c.save_message-reply.ensures octets small form;
@@ -37,4 +40,4 @@ returns-in-Ok-clause-done g c = λ octets small form.
 pub returns-in-Err-clause-refused : goal.returns-in-Err-clause-refused
 returns-in-Err-clause-refused g c =
     let o = c.in-Err.ensures in
-    record { cause = o.refused; idle = o.idle; untouched = o.untouched; moments = o.any_moment; settled_again = o.settled_again; carried = o.carried; fault = o.fault; unfailed = o.unfailed }
+    record { cause = o.refused; idle = o.idle; untouched = o.untouched; stays = o.mail_stays; closed_well = o.closed_well; moments = o.any_moment; settled_again = o.settled_again; carried = o.carried; fault = o.fault; unfailed = o.unfailed }

@@ -16,12 +16,16 @@ returns-in-Ok-clause-done g c =
         store = c.facts.ensures.store;
         drawn = o.state.3;
         free = o.state.4;
+        order = c.facts.ensures.files;
         files = o.files;
+        instances = o.instances;
         running = o.state.1;
         safe = o.any_moment;
         settled_again = o.settled_again (λ f. absurd f);
         carried = o.carried (λ f. absurd f);
         swept = (o.swept.0, o.swept.2);
+        stays = o.mail_stays;
+        closed_well = o.closed_well;
       };
       later = c.facts-in-Ok.ensures.store;
       removes = c.remove_message-reply.ensures;
@@ -34,4 +38,4 @@ returns-in-Ok-clause-done g c =
 pub returns-in-Err-clause-refused : goal.returns-in-Err-clause-refused
 returns-in-Err-clause-refused g c =
     let o = c.in-Err.ensures in
-    record { cause = o.refused; idle = o.idle; untouched = o.untouched; moments = o.any_moment; settled_again = o.settled_again; carried = o.carried; fault = o.fault; unfailed = o.unfailed }
+    record { cause = o.refused; idle = o.idle; untouched = o.untouched; stays = o.mail_stays; closed_well = o.closed_well; moments = o.any_moment; settled_again = o.settled_again; carried = o.carried; fault = o.fault; unfailed = o.unfailed }

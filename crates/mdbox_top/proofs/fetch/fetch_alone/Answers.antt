@@ -2,7 +2,11 @@ use Rattle.std.proofs.Common.{sym, subst}
 use Rattle.mdbox_base.specs.declared.requests.Request.TheVariants as request
 use Rattle.mdbox_top.specs.Alone.{IsDoneAlone}
 use Rattle.mdbox_top.proofs.FetchedLemmas.{fetch_done}
+use Rattle.mdbox_top.proofs.OpenedLemmas.{none_doomed}
 use Rattle.mdbox_top.proofs.fetch.fetch_alone.Goals as goal
+
+pub take_message-reply-requires-clause-undoomed : goal.take_message-reply-requires-clause-undoomed
+take_message-reply-requires-clause-undoomed g c file = none_doomed c.in-Ok.store (g.D.Disk.history c.args.disk) c.in-Ok.ensures.files file
 
 pub returns-in-Ok-clause-done : goal.returns-in-Ok-clause-done
 returns-in-Ok-clause-done g c =
@@ -17,12 +21,16 @@ returns-in-Ok-clause-done g c =
         store = c.facts.ensures.store;
         drawn = o.state.3;
         free = o.state.4;
+        order = c.facts.ensures.files;
         files = o.files;
+        instances = o.instances;
         running = o.state.1;
         safe = o.any_moment;
         settled_again = o.settled_again (λ f. absurd f);
         carried = o.carried (λ f. absurd f);
         swept = (o.swept.0, o.swept.2);
+        stays = o.mail_stays;
+        closed_well = o.closed_well;
       };
       later = c.facts-in-Ok.ensures.store;
       same = took.same;
@@ -39,4 +47,4 @@ returns-in-Ok-clause-done g c =
 pub returns-in-Err-clause-refused : goal.returns-in-Err-clause-refused
 returns-in-Err-clause-refused g c =
     let o = c.in-Err.ensures in
-    record { cause = o.refused; idle = o.idle; untouched = o.untouched; moments = o.any_moment; settled_again = o.settled_again; carried = o.carried; fault = o.fault; unfailed = o.unfailed }
+    record { cause = o.refused; idle = o.idle; untouched = o.untouched; stays = o.mail_stays; closed_well = o.closed_well; moments = o.any_moment; settled_again = o.settled_again; carried = o.carried; fault = o.fault; unfailed = o.unfailed }

@@ -1,5 +1,5 @@
 use Rattle.std.proofs.Common.{◌<◌, refl, sym, ◌∙◌, ap, subst}
-use Rattle.mdbox_top.proofs.FetchLemmas.{IsFetching, FetchEvent, fetching_begins, fetching_on, event_of, still_first, said_at_end}
+use Rattle.mdbox_top.proofs.FetchLemmas.{IsFetching, FetchEvent, fetching_begins, fetching_on, event_of, still_first, said_at_end, unpins_undoomed}
 use Rattle.store_core.specs.Running.{IsStore}
 use Rattle.mail_fetch.specs.Task.{KnowsPinned, events_left}
 use Rattle.mdbox_top.proofs.fetch.take_message.Goals as goal
@@ -18,7 +18,7 @@ loop-reply-preserved g c =
     let now = c.loop-reply.invariant in
     let step = c.step.ensures in
     let event = event_of g.D.Disk.history g.D.Disk.faults c.args.name c.args.uid c.args.store.now c.loop-reply.store c.step.new.store c.loop-reply.task c.step.new.self c.step.result now.name_is now.uid_is now.same
-    (record { does = step.does; replies = step.replies; same = step.same; idle = step.idle; fault = step.fault; unfailed = step.unfailed }) in
+    (record { does = λ around after others. step.does around after others (unpins_undoomed c.loop-reply.task.stage c.args.store.now c.loop-reply.store now.same c.requires.undoomed); replies = step.replies; same = step.same; idle = step.idle; fault = step.fault; unfailed = step.unfailed }) in
     record {
       name_is = step.request.0 ∙ now.name_is;
       uid_is = step.request.1 ∙ now.uid_is;
@@ -34,7 +34,7 @@ returns-in-Done-clause-refused g c =
     let step = c.step.ensures in
     let same = still_first c.args.store.now c.loop-reply.store c.step.new.store now.same step.same in
     let event = event_of g.D.Disk.history g.D.Disk.faults c.args.name c.args.uid c.args.store.now c.loop-reply.store c.step.new.store c.loop-reply.task c.step.new.self c.step.result now.name_is now.uid_is now.same
-    (record { does = step.does; replies = step.replies; same = step.same; idle = step.idle; fault = step.fault; unfailed = step.unfailed }) in
+    (record { does = λ around after others. step.does around after others (unpins_undoomed c.loop-reply.task.stage c.args.store.now c.loop-reply.store now.same c.requires.undoomed); replies = step.replies; same = step.same; idle = step.idle; fault = step.fault; unfailed = step.unfailed }) in
     let said = said_at_end g.D.Disk.history g.D.Disk.faults c.args.name c.args.uid c.args.store.now c.loop-reply.store.disk c.step.new.store.disk c.loop-reply.task.stage c.step.new.self.stage c.step.new.self.did c.step.result c.in-Done.reply c.in-Done.is c.requires.running now.so_far event
     (subst (λ v. IsStore (g.D.Disk.history c.step.new.store.disk) v) same c.facts.ensures.store) in
     said.refused
@@ -45,7 +45,7 @@ returns-in-Done-clause-found g c =
     let step = c.step.ensures in
     let same = still_first c.args.store.now c.loop-reply.store c.step.new.store now.same step.same in
     let event = event_of g.D.Disk.history g.D.Disk.faults c.args.name c.args.uid c.args.store.now c.loop-reply.store c.step.new.store c.loop-reply.task c.step.new.self c.step.result now.name_is now.uid_is now.same
-    (record { does = step.does; replies = step.replies; same = step.same; idle = step.idle; fault = step.fault; unfailed = step.unfailed }) in
+    (record { does = λ around after others. step.does around after others (unpins_undoomed c.loop-reply.task.stage c.args.store.now c.loop-reply.store now.same c.requires.undoomed); replies = step.replies; same = step.same; idle = step.idle; fault = step.fault; unfailed = step.unfailed }) in
     let said = said_at_end g.D.Disk.history g.D.Disk.faults c.args.name c.args.uid c.args.store.now c.loop-reply.store.disk c.step.new.store.disk c.loop-reply.task.stage c.step.new.self.stage c.step.new.self.did c.step.result c.in-Done.reply c.in-Done.is c.requires.running now.so_far event
     (subst (λ v. IsStore (g.D.Disk.history c.step.new.store.disk) v) same c.facts.ensures.store) in
     said.found
@@ -56,7 +56,7 @@ returns-in-Done-clause-served g c =
     let step = c.step.ensures in
     let same = still_first c.args.store.now c.loop-reply.store c.step.new.store now.same step.same in
     let event = event_of g.D.Disk.history g.D.Disk.faults c.args.name c.args.uid c.args.store.now c.loop-reply.store c.step.new.store c.loop-reply.task c.step.new.self c.step.result now.name_is now.uid_is now.same
-    (record { does = step.does; replies = step.replies; same = step.same; idle = step.idle; fault = step.fault; unfailed = step.unfailed }) in
+    (record { does = λ around after others. step.does around after others (unpins_undoomed c.loop-reply.task.stage c.args.store.now c.loop-reply.store now.same c.requires.undoomed); replies = step.replies; same = step.same; idle = step.idle; fault = step.fault; unfailed = step.unfailed }) in
     let said = said_at_end g.D.Disk.history g.D.Disk.faults c.args.name c.args.uid c.args.store.now c.loop-reply.store.disk c.step.new.store.disk c.loop-reply.task.stage c.step.new.self.stage c.step.new.self.did c.step.result c.in-Done.reply c.in-Done.is c.requires.running now.so_far event
     (subst (λ v. IsStore (g.D.Disk.history c.step.new.store.disk) v) same c.facts.ensures.store) in
     said.served
@@ -67,7 +67,7 @@ returns-in-Done-clause-idle g c =
     let step = c.step.ensures in
     let same = still_first c.args.store.now c.loop-reply.store c.step.new.store now.same step.same in
     let event = event_of g.D.Disk.history g.D.Disk.faults c.args.name c.args.uid c.args.store.now c.loop-reply.store c.step.new.store c.loop-reply.task c.step.new.self c.step.result now.name_is now.uid_is now.same
-    (record { does = step.does; replies = step.replies; same = step.same; idle = step.idle; fault = step.fault; unfailed = step.unfailed }) in
+    (record { does = λ around after others. step.does around after others (unpins_undoomed c.loop-reply.task.stage c.args.store.now c.loop-reply.store now.same c.requires.undoomed); replies = step.replies; same = step.same; idle = step.idle; fault = step.fault; unfailed = step.unfailed }) in
     let said = said_at_end g.D.Disk.history g.D.Disk.faults c.args.name c.args.uid c.args.store.now c.loop-reply.store.disk c.step.new.store.disk c.loop-reply.task.stage c.step.new.self.stage c.step.new.self.did c.step.result c.in-Done.reply c.in-Done.is c.requires.running now.so_far event
     (subst (λ v. IsStore (g.D.Disk.history c.step.new.store.disk) v) same c.facts.ensures.store) in
     said.idle
@@ -78,7 +78,7 @@ returns-in-Done-clause-faults g c =
     let step = c.step.ensures in
     let same = still_first c.args.store.now c.loop-reply.store c.step.new.store now.same step.same in
     let event = event_of g.D.Disk.history g.D.Disk.faults c.args.name c.args.uid c.args.store.now c.loop-reply.store c.step.new.store c.loop-reply.task c.step.new.self c.step.result now.name_is now.uid_is now.same
-    (record { does = step.does; replies = step.replies; same = step.same; idle = step.idle; fault = step.fault; unfailed = step.unfailed }) in
+    (record { does = λ around after others. step.does around after others (unpins_undoomed c.loop-reply.task.stage c.args.store.now c.loop-reply.store now.same c.requires.undoomed); replies = step.replies; same = step.same; idle = step.idle; fault = step.fault; unfailed = step.unfailed }) in
     let said = said_at_end g.D.Disk.history g.D.Disk.faults c.args.name c.args.uid c.args.store.now c.loop-reply.store.disk c.step.new.store.disk c.loop-reply.task.stage c.step.new.self.stage c.step.new.self.did c.step.result c.in-Done.reply c.in-Done.is c.requires.running now.so_far event
     (subst (λ v. IsStore (g.D.Disk.history c.step.new.store.disk) v) same c.facts.ensures.store) in
     said.faults_are

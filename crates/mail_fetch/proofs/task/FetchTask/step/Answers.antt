@@ -8,11 +8,11 @@ use Rattle.task_steps.specs.Step.{ended_by}
 use Rattle.mail_fetch.specs.Task.{HasPieceLeft}
 use Rattle.mail_fetch.specs.declared.task.FetchStage.TheVariants as stage
 use Rattle.mail_fetch.proofs.StepLemmas.{stopped_steps, begin_steps, read_steps, unpin_steps}
-use Rattle.mail_fetch.proofs.StepViewLemmas.{step_seen}
+use Rattle.mail_fetch.proofs.StepViewLemmas.{step_seen, undoomed_at}
 use Rattle.mail_fetch.proofs.task.FetchTask.step.Goals as goal
 
 pub returns-then-stopped-clause-does : goal.returns-then-stopped-clause-does
-returns-then-stopped-clause-does g c = λ around after others.
+returns-then-stopped-clause-does g c = λ around after others undoomed.
     let history = g.D.Disk.history c.args.store.now.disk in
     let faults = g.D.Disk.faults c.args.store.now.disk in
     step_seen around after others _ c.args.self.now c.self.inside.stage c.self.inside.stage c.self.inside.stage c.args.store.now c.args.store.now history history faults faults did.Quiet (Some (reply.Refused refusal.Stopped)) c.self.view_is refl refl
@@ -22,7 +22,7 @@ pub returns-then-stopped-clause-idle : goal.returns-then-stopped-clause-idle
 returns-then-stopped-clause-idle g c = idle-begins _
 
 pub returns-in-First-clause-does : goal.returns-in-First-clause-does
-returns-in-First-clause-does g c = λ around after others.
+returns-in-First-clause-does g c = λ around after others undoomed.
     let history = g.D.Disk.history c.args.store.now.disk in
     let faults = g.D.Disk.faults c.args.store.now.disk in
     let how = c.did_begin-self-inside.result in
@@ -33,7 +33,7 @@ pub returns-in-First-clause-idle : goal.returns-in-First-clause-idle
 returns-in-First-clause-idle g c = idle-begins _
 
 pub returns-in-Reading-clause-does : goal.returns-in-Reading-clause-does
-returns-in-Reading-clause-does g c = λ around after others.
+returns-in-Reading-clause-does g c = λ around after others undoomed.
     let history = g.D.Disk.history c.args.store.now.disk in
     let then_history = g.D.Disk.history c.read_piece.new.store.disk in
     let faults = g.D.Disk.faults c.args.store.now.disk in
@@ -47,11 +47,11 @@ pub returns-in-Reading-clause-spares : goal.returns-in-Reading-clause-spares
 returns-in-Reading-clause-spares g c = spares_kept _ _ _ _ _ (ap (λ v. v.map) c.read_piece.ensures.same) (idle-between _ _ _ c.read_piece.ensures.idle (λ disk row octets s. s))
 
 pub returns-clause-does : goal.returns-clause-does
-returns-clause-does g c = λ around after others.
+returns-clause-does g c = λ around after others undoomed.
     let history = g.D.Disk.history c.args.store.now.disk in
     let faults = g.D.Disk.faults c.args.store.now.disk in
     step_seen around after others _ c.args.self.now (stage.Unpinning c.in-Unpinning.from c.in-Unpinning.reply) stage.First c.replace.new.dest c.args.store.now c.args.store.now history history faults faults did.Quiet (Some c.in-Unpinning.reply) c.self.view_is (sym c.replace.ensures.value ∙ c.in-Unpinning.is) c.replace.ensures.after
-    (unpin_steps around after others c.self.inside.name c.self.inside.uid c.in-Unpinning.from c.in-Unpinning.reply c.args.store.now history faults (sym c.stopped.ensures ∙ c.if-stopped.false))
+    (unpin_steps around after others c.self.inside.name c.self.inside.uid c.in-Unpinning.from c.in-Unpinning.reply c.args.store.now history faults (sym c.stopped.ensures ∙ c.if-stopped.false) (undoomed_at _ c.args.self.now c.args.store.now c.in-Unpinning.from c.in-Unpinning.reply c.self.view_is (sym c.replace.ensures.value ∙ c.in-Unpinning.is) undoomed))
 
 pub returns-clause-idle : goal.returns-clause-idle
 returns-clause-idle g c = idle-begins _

@@ -10,7 +10,7 @@ pub returns-clause-saves : goal.returns-clause-saves
 returns-clause-saves g c = λ ran. seen_saves _ c.args.self.now c.replace-now.result _ _ _ _ _ _ _ _ _ c.self.view_is c.replace-now.ensures.value c.next_event-next.ensures
 
 pub returns-then-stopped-clause-does : goal.returns-then-stopped-clause-does
-returns-then-stopped-clause-does g c = λ octets after parts ready.
+returns-then-stopped-clause-does g c = λ octets pins after parts ready.
     let known : IsOpenStore (g.D.Disk.history c.args.store.now.disk) c.args.store.now = record {
       is = c.facts.ensures.store;
       order = c.facts.ensures.files;
@@ -19,10 +19,10 @@ returns-then-stopped-clause-does g c = λ octets after parts ready.
       id_long = c.known_id.ensures.long;
       id_octets = c.known_id.ensures.each;
     } in
-    seen_stopped g.D.Disk.history g.D.Disk.faults _ c.args.self.now octets c.args.store.now c.self.view_is known c.requires.left parts (sym c.stopped.ensures ∙ c.if-stopped.true) after
+    seen_stopped pins g.D.Disk.history g.D.Disk.faults _ c.args.self.now octets c.args.store.now c.self.view_is known c.requires.left parts (sym c.stopped.ensures ∙ c.if-stopped.true) after
 
 pub returns-clause-does : goal.returns-clause-does
-returns-clause-does g c = λ octets after parts ready.
+returns-clause-does g c = λ octets pins after parts ready.
     let timed : c.args.self.now.time < 2 ^ 64 = search rules in
     let ran = sym c.stopped.ensures ∙ c.if-stopped.false in
     let known : IsOpenStore (g.D.Disk.history c.args.store.now.disk) c.args.store.now = record {
@@ -33,7 +33,7 @@ returns-clause-does g c = λ octets after parts ready.
       id_long = c.known_id.ensures.long;
       id_octets = c.known_id.ensures.each;
     } in
-    seen_does g.D.Disk.history g.D.Disk.faults _ c.args.self.now c.replace-now.result _ octets _ _ c.args.store.now c.next_event-next.new.store c.self.view_is c.replace-now.ensures.value known timed ran c.requires.left parts (ready ran) c.next_event-next.ensures after
+    seen_does pins g.D.Disk.history g.D.Disk.faults _ c.args.self.now c.replace-now.result _ octets _ _ c.args.store.now c.next_event-next.new.store c.self.view_is c.replace-now.ensures.value known timed ran c.requires.left parts (ready ran) c.next_event-next.ensures after
 
 pub returns-then-stopped-clause-moments : goal.returns-then-stopped-clause-moments
 returns-then-stopped-clause-moments g c = λ octets ready lists at. leaves_none _ lists _ at
