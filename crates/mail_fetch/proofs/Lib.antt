@@ -1,4 +1,5 @@
 pub mod BodyLemmas
+pub mod ClaimLemmas
 pub mod FetchEventLemmas
 pub mod FetchPartLemmas
 pub mod FirstEventLemmas
@@ -9,6 +10,7 @@ pub mod OwnPinLemmas
 pub mod PartLemmas
 pub mod PieceLemmas
 pub mod RecordLemmas
+pub mod StableLemmas
 pub mod StepLemmas
 pub mod StepViewLemmas
 pub mod StoredRegionLemmas

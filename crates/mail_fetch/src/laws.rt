@@ -1,14 +1,18 @@
 // Laws of fetches.
-ghost use Rattle.std.specs.Prelude.{◌≡◌, ℕ, List, All, length};
-ghost use Rattle.disk_model.specs.Disk.{Files};
+ghost use Rattle.std.specs.Prelude.{◌≡◌, ℕ, List, All, Option, length};
+ghost use Rattle.disk_model.specs.Disk.{Files, History};
 ghost use Rattle.model_meaning.specs.BoxMeaning.{LogRow};
 ghost use Rattle.model_meaning.specs.MapMeaning.{MapRecord};
 ghost use Rattle.model_store.specs.Safe.{IsThereWhole};
 ghost use Rattle.model_store.specs.Stands.{StoresMessage};
+ghost use Rattle.store_core.specs.Value.{StoreValue};
+ghost use Rattle.task_claims.specs.Stable.{IsStable};
 ghost use Rattle.task_steps.specs.Step.{Seen, IsKept};
+ghost use Rattle.mail_fetch.specs.Claims.{IsReadyToFetch, ReadsStored, fetch_claims};
 ghost use Rattle.mail_fetch.specs.Parts.{parts_to_read, parts_read};
 ghost use Rattle.mail_fetch.specs.Region.{stored_at, HoldsWhole};
 ghost use Rattle.mail_fetch.specs.Stages.{IsAtFetch};
+ghost use Rattle.mail_fetch.specs.Task.{KnowsPinned};
 ghost use Rattle.mail_fetch.specs.declared.task.FetchStage.{FetchStage};
 
 /// The stages of a fetch are kept by every event of another request.
@@ -20,4 +24,12 @@ pub fn fetch_stages_are_kept()
 /// record's region and as its instances holds it whole. So it is fetched, and no damage is replied.
 pub fn stored_messages_are_fetched()
     ensures { (files : Files) (row : LogRow) (entry : MapRecord) (octets : List ℕ) → StoresMessage files entry octets → All (IsThereWhole files) entry.instances → length octets ≡ row.size → HoldsWhole (stored_at row entry) (parts_read files (parts_to_read (stored_at row entry))) octets }
+{}
+
+/// A fetch that has a pin of its file and holds its instances stays ready for its next event beside each event of any other task
+/// that moves only its own claims and leaves to others what is theirs. What was read stays the front of what the disk stores there.
+pub fn fetches_are_stable<D>()
+    ensures ready { (now : FetchStage) → IsStable (fetch_claims now) (λ (store : StoreValue D) (history : Option History). IsReadyToFetch now store) }
+    ensures stored { (now : FetchStage) (octets : List ℕ) → IsStable (fetch_claims now) (λ (store : StoreValue D) (history : Option History). IsReadyToFetch now store × ReadsStored now octets history) }
+    ensures known { (now : FetchStage) (store : StoreValue D) → IsReadyToFetch now store → KnowsPinned now store }
 {}
