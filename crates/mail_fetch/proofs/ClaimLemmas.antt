@@ -1,14 +1,16 @@
 -- An event of a fetch moves no claims and leaves the others what is theirs, and a fetch that was replied claims nothing.
 use Rattle.std.proofs.Common.{◌≡◌, ◌+◌, ℕ, Bool, true, false, List, Option, Some, None, inl, inr, refl, sym, ◌∙◌, ap, subst}
-use Rattle.disk_model.specs.Disk.{History, IsIdle}
+use Rattle.disk_model.specs.Disk.{DiskState, History, IsIdle}
+use Rattle.disk_model.specs.declared.name.FileName.TheVariants as file
+use Rattle.disk_model.proofs.BetweenLemmas.{between-map}
 use Rattle.mdbox_base.specs.declared.progress.Progress.{Progress}
 use Rattle.mdbox_base.specs.declared.progress.Progress.TheVariants as progress
 use Rattle.mdbox_base.specs.declared.replies.Refusal.{Refusal}
 use Rattle.mdbox_base.specs.declared.replies.Reply.{Reply}
 use Rattle.store_core.specs.Value.{StoreValue}
 use Rattle.task_claims.specs.Claims.{Claims, ClaimsNothing, Due, Emptied, Held, Made, MovesClaims, Pinned, Placing, Removing, Taken, Thing, amount_in}
-use Rattle.task_claims.specs.Leaving.{LeavesOthers}
-use Rattle.task_claims.proofs.RestLemmas.{idle_leaves}
+use Rattle.task_claims.specs.Leaving.{IsSameOrSynced, LeavesOthers, SyncsMail}
+use Rattle.task_claims.proofs.RestLemmas.{rest_leaves}
 use Rattle.mail_fetch.specs.Claims.{fetch_claims}
 use Rattle.mail_fetch.specs.Events.{IsBegun, fetch_refusal}
 use Rattle.mail_fetch.specs.declared.task.FetchStage.{FetchStage}
@@ -28,12 +30,17 @@ same_amount store disk (Made number) = refl
 pub reading_moves : {D : Type 0} → (old new : StoreValue D) → new ≡ record old { disk = new.disk } → (mine : Claims) → MovesClaims mine mine old new
 reading_moves old new same mine thing = ap (λ (n : ℕ). n + mine thing) (ap (λ (s : StoreValue _). amount_in thing s) same ∙ same_amount old new.disk thing)
 
+abbrev Synced : DiskState → DiskState → Type 0
+Synced a b = ((number : ℕ) → IsSameOrSynced (a (file.Mail number)) (b (file.Mail number))) × ((hash id : List ℕ) → IsSameOrSynced (a (file.Inst hash id)) (b (file.Inst hash id)))
+
+idle_syncs : (before after : Option History) → IsIdle before after → SyncsMail before after
+idle_syncs before after idle =
+    between-map (λ a b. b ≡ a) Synced before after (λ a b e. ((λ number. inl (ap (λ (d : DiskState). d (file.Mail number)) e)), (λ hash id. inl (ap (λ (d : DiskState). d (file.Inst hash id)) e)))) idle.same
+
 pub reading_leaves : {D : Type 0} → (old new : StoreValue D) (before after : Option History) → new ≡ record old { disk = new.disk } → IsIdle before after → (mine : Claims) → LeavesOthers mine old new before after
 reading_leaves old new before after same idle mine =
-    let l = idle_leaves mine old before after idle in
-    subst (λ (s : StoreValue _). LeavesOthers mine old s before after) (sym same) (record {
-      records = l.records; unlisted = λ uid row none found listed. (listed, refl); files = l.files; pinned = l.pinned; instances = l.instances; store = l.store; drawn = l.drawn; compared = l.compared; uids = λ name uid held k. k; told = l.told;
-    })
+    subst (λ (s : StoreValue _). LeavesOthers mine old s before after) (sym same)
+    (rest_leaves mine old (record old { disk = new.disk }) before after refl refl (idle_syncs before after idle) refl (λ name uid held k. record { m = k.m; named = k.named; below = k.below; same = k.same }) (λ uid row none found listed. (listed, refl)))
 
 pub first_claims : (now : FetchStage) → now ≡ stage.First → ClaimsNothing (fetch_claims now)
 first_claims now is = subst (λ (s : FetchStage). ClaimsNothing (fetch_claims s)) (sym is) (λ thing. refl)
