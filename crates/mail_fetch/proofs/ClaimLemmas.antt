@@ -7,10 +7,12 @@ use Rattle.mdbox_base.specs.declared.progress.Progress.{Progress}
 use Rattle.mdbox_base.specs.declared.progress.Progress.TheVariants as progress
 use Rattle.mdbox_base.specs.declared.replies.Refusal.{Refusal}
 use Rattle.mdbox_base.specs.declared.replies.Reply.{Reply}
+use Rattle.store_core.specs.Dues.{Moves, Spares, amounts_in, no_amounts}
 use Rattle.store_core.specs.Value.{StoreValue}
-use Rattle.task_claims.specs.Claims.{Claims, ClaimsNothing, Due, Emptied, Held, Made, MovesClaims, Pinned, Placing, Removing, Taken, Thing, amount_in}
+use Rattle.task_claims.specs.Claims.{Claims, ClaimsNothing, Due, Emptied, Held, Made, MovesClaims, Pinned, Placing, Removing, Taken, Thing, amount_in, no_claims}
 use Rattle.task_claims.specs.Leaving.{IsSameOrSynced, LeavesOthers, SyncsMail}
 use Rattle.task_claims.proofs.RestLemmas.{rest_leaves}
+use Rattle.task_claims.proofs.StoredLemmas.{kept_spared}
 use Rattle.mail_fetch.specs.Claims.{fetch_claims}
 use Rattle.mail_fetch.specs.Events.{IsBegun, fetch_refusal}
 use Rattle.mail_fetch.specs.declared.task.FetchStage.{FetchStage}
@@ -61,3 +63,11 @@ more_is given e = cc e
 
 pub fall : (b : Bool) → b ≡ true → b ≡ false → ⊥
 fall b t f = let k : true ≡ false = sym t ∙ f in cc k
+
+-- ---- what is due
+
+pub dues_stay : {D : Type 0} → (old new : StoreValue D) → ((mine : Claims) → MovesClaims mine mine old new) → Moves no_amounts no_amounts (amounts_in old) (amounts_in new)
+dues_stay old new moves = record { due = λ uid. moves no_claims (Due uid) }
+
+pub others_spared : {D : Type 0} → (old new : StoreValue D) (before after : Option History) → ((mine : Claims) → LeavesOthers mine old new before after) → Spares no_amounts old new before after
+others_spared old new before after leaves = record { records = λ uid row more there. kept_spared uid row new before after ((leaves no_claims).records uid row more there) }

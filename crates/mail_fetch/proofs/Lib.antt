@@ -9,6 +9,7 @@ pub mod MessageLemmas
 pub mod OwnPinLemmas
 pub mod PartLemmas
 pub mod PieceLemmas
+pub mod ReadyLemmas
 pub mod RecordLemmas
 pub mod StableLemmas
 pub mod StepLemmas

@@ -1,9 +1,8 @@
 -- Behind each of its events a fetch is ready for the next.
-use Rattle.std.proofs.Common.{◌≡◌, ◌≤◌, ◌<◌, ◌+◌, ◌-◌, ℕ, zero, suc, Bool, true, false, cond, List, [], ◌∷◌, map, Option, Some, None, inl, inr, refl, sym, subst, arith, All}
+use Rattle.std.proofs.Common.{◌≡◌, ◌+◌, ◌-◌, ℕ, zero, suc, Bool, true, false, cond, List, [], ◌∷◌, map, Option, Some, None, inl, inr, refl, sym, subst, arith, All}
 use Rattle.std.specs.Prelude.{filter}
 use Rattle.std.proofs.lemmas.List.Elements.{All-cons, All-nil, All-head, All-map, All-tail}
 use Rattle.disk_model.specs.Disk.{History, Faults}
-use Rattle.mdbox_base.specs.declared.entries.InstRow.{InstRow}
 use Rattle.mdbox_base.specs.declared.progress.Progress.{Progress}
 use Rattle.mdbox_base.specs.declared.replies.Refusal.{Refusal}
 use Rattle.store_core.specs.StoreInstances.{HasKnownInstances, IsKnownRow}
@@ -49,6 +48,7 @@ began_ready history name uid store next answer k b = by_why (fetch_refusal name 
   where
     anew : next ≡ stage.First → IsReadyToFetch next store
     anew is = subst (λ (s : FetchStage). IsReadyToFetch s store) (sym is) tt
+
     by_why : (why : Option Refusal) → fetch_refusal name uid store ≡ why → IsReadyToFetch next store
     by_why (Some why) is = anew (b.refused why is).1
     by_why None is = elim (b.begun is) [

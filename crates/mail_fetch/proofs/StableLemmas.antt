@@ -1,5 +1,5 @@
 -- A fetch stays ready beside every event of every other task.
-use Rattle.std.proofs.Common.{◌≡◌, ◌≤◌, ◌<◌, ◌+◌, ◌==◌, ℕ, Bool, true, List, [], ◌∷◌, ◌++◌, length, take, drop, map, get_or, Option, Some, None, refl, sym, ◌∙◌, ap, subst, arith, All}
+use Rattle.std.proofs.Common.{◌≡◌, ◌≤◌, ◌+◌, ◌==◌, ℕ, List, [], ◌∷◌, ◌++◌, length, map, get_or, Option, Some, None, refl, sym, ◌∙◌, ap, subst, arith, All}
 use Rattle.std.specs.Prelude.{if◌then◌else◌}
 use Rattle.std.specs.Str.{bytes_eq}
 use Rattle.std.proofs.lemmas.Bool.{cond-true, eq-eqb}
@@ -7,13 +7,12 @@ use Rattle.std.proofs.lemmas.List.{length-append}
 use Rattle.std.proofs.lemmas.List.Elements.{All-cons, All-nil, All-head, All-tail}
 use Rattle.std.proofs.lemmas.List.Sums.{sum_by-cons}
 use Rattle.std.proofs.lemmas.Slice.Eq.{bytes_eq-Decides}
-use Rattle.disk_model.specs.Disk.{DiskState, Files, History, reading}
+use Rattle.disk_model.specs.Disk.{Files, History}
 use Rattle.disk_model.specs.declared.name.FileName.TheVariants.{Mail}
 use Rattle.mdbox_base.specs.declared.entries.InstRow.{InstRow}
 use Rattle.mdbox_base.specs.declared.ids.FileNo.{FileNo}
 use Rattle.mdbox_base.specs.declared.ids.InstId.{InstId}
 use Rattle.model_meaning.specs.MapMeaning.{MapRecord}
-use Rattle.model_store.specs.Safe.{IsThereWhole}
 use Rattle.model_store.specs.Settled.{files_of}
 use Rattle.sis_store.specs.OnDisk.{instance_file}
 use Rattle.storage_files.specs.OnDisk.{piece_read}
@@ -21,13 +20,13 @@ use Rattle.store_core.specs.Keeping.{holds_of}
 use Rattle.store_core.specs.StoreInstances.{IsKnownRow}
 use Rattle.store_core.specs.Value.{StoreValue}
 use Rattle.store_core.proofs.MailChangeLemmas.{part_behind}
-use Rattle.task_claims.specs.Leaving.{HasRegionOctets, LeavesInstance, LeavesPinnedFile}
+use Rattle.task_claims.specs.Leaving.{HasRegionOctets, LeavesInstance}
 use Rattle.task_claims.specs.Stable.{Beside, IsStable}
 use Rattle.task_claims.proofs.LeftLemmas.{instance_left, pinned_left}
 use Rattle.task_claims.proofs.StoredLemmas.{KeepsRow, stores_on}
 use Rattle.mail_fetch.specs.Claims.{IsClaimedPart, IsClaimedTo, IsReadyToFetch, IsReadyToRead, ReadsStored, fetch_claims}
 use Rattle.mail_fetch.specs.Parts.{KnowsSource, instance_part, part_read, parts_read, parts_to_read, region_part, source_file}
-use Rattle.mail_fetch.specs.Region.{RegionValue, stored_at}
+use Rattle.mail_fetch.specs.Region.{RegionValue}
 use Rattle.mail_fetch.specs.Stages.{IsFrontOfStored, Reading}
 use Rattle.mail_fetch.specs.Task.{KnowsPinned, one_pin}
 use Rattle.mail_fetch.specs.declared.parts.Part.{Part}
@@ -61,7 +60,7 @@ held_among : (xs rows : List InstRow) → ((id : InstId) → holds_of xs id ≤ 
 held_among [] rows le = All-nil (λ (row : InstRow). 1 ≤ holds_of rows row.id)
 held_among (x ∷ xs) rows le = All-cons (λ (row : InstRow). 1 ≤ holds_of rows row.id) x xs (first_held x xs rows (le x.id)) (held_among xs rows (λ id. more_held x xs rows id (le id)))
 
-own_holds : (rows : List InstRow) → All (λ row. 1 ≤ holds_of rows row.id) rows
+pub own_holds : (rows : List InstRow) → All (λ row. 1 ≤ holds_of rows row.id) rows
 own_holds rows = held_among rows rows (λ id. omega arith)
 
 -- ---- what is left to it
