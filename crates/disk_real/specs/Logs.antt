@@ -8,8 +8,8 @@ use Rattle.disk_real.specs.declared.names.Names.{Names}
 use Rattle.disk_real.specs.declared.open_files.OpenFile.{OpenFile}
 
 -- the octets of this file are relied on: they were already, or it was synced since it was opened
-abbrev pub IsFirm : (FileName → FileName → Ordering) → Names → FileName → OpenFile → Type 0
-IsFirm cmp firm name file = IsTrue (contains cmp firm.set name) ⊎ (file.is_synced ≡ true)
+abbrev pub IsFirmLog : (FileName → FileName → Ordering) → Names → FileName → OpenFile → Type 0
+IsFirmLog cmp firm name file = IsTrue (contains cmp firm.set name) ⊎ (file.is_synced ≡ true)
 
 -- The list of names stays, and so do the folders that are to be synced, and whether changes are refused.
 pub record LeavesNames (old new : StoreFolder) : Type 0 where

@@ -7,6 +7,6 @@ abbrev pub closed_for_one : List OpenFile → ℕ
 closed_for_one files = if nat_lt (length files) 16 then 0 else 1
 
 -- A file is kept open, the last; without memory it is closed. The one that wasn't used for longest is closed where there are 16.
-abbrev pub IsKept : List OpenFile → OpenFile → List OpenFile → Type 0
-IsKept before file after = let rest = drop (closed_for_one before) before in
+abbrev pub IsKeptOpen : List OpenFile → OpenFile → List OpenFile → Type 0
+IsKeptOpen before file after = let rest = drop (closed_for_one before) before in
     (after ≡ rest ++ file ∷ []) ⊎ (after ≡ rest)

@@ -1,5 +1,7 @@
 // The system's clock.
-ghost use Rattle.std.specs.Prelude.{None, ◌≡◌};
+ghost use Rattle.std.specs.Prelude.{None, Ok, ◌≡◌, ◌↔◌, ◌≤◌, ◌/◌, IsOk, IsErr, IfOk};
+ghost use Rattle.std.specs.Duration.{as_nanos};
+ghost use Rattle.mdbox_base.specs.Streams.{next_count};
 
 use mdbox_base::{Clock, ClockFault};
 use std::io;
@@ -19,6 +21,23 @@ impl StdClock {
     {
         StdClock { rt, faults: 0 }
     }
+
+    /// The whole seconds of what the system answers. Errors are counted.
+    fn told(&mut self, answer: io::Result<Duration>) -> Result<u64, ClockFault>
+        ensures value { IfOk answer (λ time. result ≡ Ok (as_nanos time / 1000000000)) }
+        ensures failed { IsErr result ↔ IsErr answer }
+        ensures risen { IsErr result → self.new.faults ≡ next_count self.old.faults }
+        ensures same { IsOk result → self.new.faults ≡ self.old.faults }
+        ensures counted { self.old.faults ≤ self.new.faults }
+    {
+        match answer {
+            Ok(time) => Ok(time.as_secs()),
+            Err(_) => {
+                self.faults = self.faults.saturating_add(1);
+                Err(ClockFault)
+            }
+        }
+    }
 }
 
 impl Clock for StdClock {
@@ -27,13 +46,8 @@ impl Clock for StdClock {
     ghost faults = { λ clock. clock.faults };
 
     fn now(&mut self) -> Result<u64, ClockFault> {
-        match since_1970(&self.rt) {
-            Ok(time) => Ok(time.as_secs()),
-            Err(_) => {
-                self.faults = self.faults.saturating_add(1);
-                Err(ClockFault)
-            }
-        }
+        let answer = since_1970(&self.rt);
+        self.told(answer)
     }
 }
 

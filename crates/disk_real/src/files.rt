@@ -1,7 +1,7 @@
 // The files of the current folder by their paths.
 ghost use Rattle.std.specs.Prelude.{◌≡◌, ◌↔◌, Ok, Some, IsTrue, IfOk, IfSome, string_bytes};
 ghost use Rattle.file_paths.specs.Paths.{path_text, IsStoreFile};
-ghost use Rattle.disk_real.specs.Missing.{IsMissing};
+ghost use Rattle.disk_real.specs.Absence.{IsAbsence};
 
 use crate::open_files::OpenFile;
 use disk_model::{FileName, same_file};
@@ -29,7 +29,7 @@ pub(crate) fn if_there<T: Drop>(answer: io::Result<T>) -> io::Result<Option<T>>
 
 /// Whether an error of this kind says that there is no such file.
 fn is_missing(kind: ErrorKind) -> bool
-    ensures { IsTrue result ↔ IsMissing kind }
+    ensures { IsTrue result ↔ IsAbsence kind }
 {
     matches!(
         kind,

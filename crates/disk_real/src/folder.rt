@@ -4,7 +4,7 @@ ghost use Rattle.disk_model.specs.Disk.{IsPast};
 ghost use Rattle.disk_model.specs.Name.{IsLogName};
 ghost use Rattle.disk_real.specs.declared.lock.Lock.TheVariants.{Unasked};
 ghost use Rattle.disk_real.specs.Folders.{IsNoted, KeepsNoted, folder_of, listed_names, with_name, without_name};
-ghost use Rattle.disk_real.specs.Logs.{IsFirm, LeavesNames};
+ghost use Rattle.disk_real.specs.Logs.{IsFirmLog, LeavesNames};
 ghost use Rattle.disk_real.specs.Names.{IsNextIn};
 
 use crate::files::{make_file, open_file, remove_file};
@@ -77,7 +77,7 @@ impl StoreFolder {
     /// Takes a file to use it, None where there is no such file.
     fn take(&mut self, name: FileName) -> io::Result<Option<OpenFile>>
         ensures name { IfOk result (λ found. IfSome found (λ file. file.name ≡ name)) }
-        ensures firm { IfOk result (λ found. IfSome found (λ file. IsLogName name → IsFirm ⟦<FileName as Ord>⟧.cmp self.old.firm name file)) }
+        ensures firm { IfOk result (λ found. IfSome found (λ file. IsLogName name → IsFirmLog ⟦<FileName as Ord>⟧.cmp self.old.firm name file)) }
         ensures same { LeavesNames self.old self.new }
     {
         let rt = self.locked()?;
@@ -103,7 +103,7 @@ impl StoreFolder {
     /// Syncs a log at its first use: a process that was killed may have left octets of it unsynced, which a crash may take
     /// away afterwards. If that fails, nothing of the store can be relied on, and this process gives it up.
     fn settle(&mut self, file: &mut OpenFile, name: FileName) -> io::Result<()>
-        ensures firm { OnOk result (IsLogName name → IsFirm ⟦<FileName as Ord>⟧.cmp self.old.firm name file.new) }
+        ensures firm { OnOk result (IsLogName name → IsFirmLog ⟦<FileName as Ord>⟧.cmp self.old.firm name file.new) }
         ensures name { file.new.name ≡ file.old.name }
         ensures length { file.new.length ≡ file.old.length }
         ensures same { LeavesNames self.old self.new }

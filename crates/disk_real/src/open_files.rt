@@ -1,6 +1,6 @@
 // Files that are open.
 ghost use Rattle.std.specs.Prelude.{◌≡◌, ◌≢◌, ◌≤◌, ◌<◌, ◌^◌, ◌+◌, max, true, false, length, drop, vec_len, All, IfOk, IfSome, OnOk};
-ghost use Rattle.disk_real.specs.OpenFiles.{IsKept};
+ghost use Rattle.disk_real.specs.OpenFiles.{IsKeptOpen};
 
 use disk_model::{FileName, same_file};
 use std::alloc::Global;
@@ -126,7 +126,7 @@ impl OpenFiles {
 
     /// Keeps a file open, and closes the one that wasn't used for longest, where there are too many.
     pub(crate) fn keep(&mut self, file: OpenFile)
-        ensures { IsKept self.old.files.items file self.new.files.items }
+        ensures { IsKeptOpen self.old.files.items file self.new.files.items }
     {
         if self.files.len() >= MOST {
             let _ = self.files.remove(0);

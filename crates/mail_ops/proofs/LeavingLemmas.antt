@@ -1,8 +1,8 @@
 -- What each event of a copy, a move or an expunge leaves to the tasks beside it.
-use Rattle.std.proofs.Common.{◌≡◌, ◌≤◌, ◌+◌, ◌-◌, ◌||◌, ◌==◌, ℕ, Bool, true, false, cond, List, [], ◌∷◌, Option, Some, None, refl, sym, ◌∙◌, ap, subst, arith}
+use Rattle.std.proofs.Common.{◌≡◌, ◌≤◌, ◌+◌, ◌-◌, ◌||◌, ◌==◌, ℕ, Bool, true, false, cond, List, [], ◌∷◌, Option, Some, refl, sym, ◌∙◌, ap, subst, arith}
 use Rattle.std.specs.Str.{bytes_eq}
 use Rattle.std.specs.Option.{option_map_or}
-use Rattle.std.proofs.lemmas.Bool.{eqb-true, cond-false}
+use Rattle.std.proofs.lemmas.Bool.{eqb-true}
 use Rattle.disk_model.specs.Disk.{History, Faults}
 use Rattle.mdbox_base.specs.declared.entries.BoxEntry.{BoxEntry}
 use Rattle.mdbox_base.specs.declared.entries.BoxEntry.TheVariants as box_entry
@@ -13,23 +13,22 @@ use Rattle.mdbox_base.specs.declared.progress.Did.{Did}
 use Rattle.mdbox_base.specs.declared.progress.Progress.{Progress}
 use Rattle.mdbox_base.specs.declared.progress.Progress.TheVariants as progress
 use Rattle.mdbox_base.specs.declared.replies.Reply.TheVariants as reply
-use Rattle.model_meaning.specs.BoxMeaning.{LogRow, BoxMeaning, row_at}
-use Rattle.model_meaning.specs.MapMeaning.{MapBox, MapMeaning, MapRecord, record_at, map_applied}
+use Rattle.model_meaning.specs.BoxMeaning.{LogRow, BoxMeaning}
+use Rattle.model_meaning.specs.MapMeaning.{MapMeaning, MapRecord, record_at, map_applied}
 use Rattle.model_appends.specs.Appending.{meanings_by}
-use Rattle.model_appends.specs.Amounts.{bit, due_by_box, more_due}
-use Rattle.model_octets.proofs.SearchLemmas.{text_is, text_yes}
-use Rattle.model_store.specs.Listing.{meaning_named, refs_in}
-use Rattle.sis_store.specs.Instances.{InstancesValue}
+use Rattle.model_appends.specs.Amounts.{bit, more_due}
+use Rattle.model_octets.proofs.SearchLemmas.{text_yes}
+use Rattle.model_store.specs.Listing.{refs_in}
 use Rattle.store_core.specs.Dues.{due_at}
 use Rattle.store_core.specs.Keeping.{KeepsMail, KeepsUids}
 use Rattle.store_core.specs.Running.{IsStore}
-use Rattle.store_core.specs.Value.{StoreValue, indexes_of, list_named, references_to}
+use Rattle.store_core.specs.Value.{StoreValue, indexes_of, references_to}
 use Rattle.task_claims.specs.Claims.{Claims, Due, no_claims}
 use Rattle.task_claims.specs.Leaving.{LeavesOthers, LeavesUnlisted, SameButCounts}
 use Rattle.task_claims.proofs.CountedLemmas.{lowered_same, raised_same, same_map}
 use Rattle.task_claims.proofs.RestLemmas.{mail_same, rest_leaves}
 use Rattle.task_steps.specs.ExpungeStages.{one_due}
-use Rattle.mail_ops.specs.Appends.{BoxTook, MapTook, MapFell, lowering_of}
+use Rattle.mail_ops.specs.Appends.{BoxTook, MapTook, lowering_of}
 use Rattle.mail_ops.specs.Claims.{copy_claims, expunge_claims, move_claims}
 use Rattle.mail_ops.specs.Copy.{CopiesOn, CopyValue}
 use Rattle.mail_ops.specs.Copying.{AddsRow, IsNotRaised, RaisesRow, added_copy, raising_of}
@@ -48,7 +47,7 @@ use Rattle.mail_ops.proofs.EventLemmas.{fall}
 use Rattle.mail_ops.proofs.KeptMailLemmas.{same_mail}
 use Rattle.mail_ops.proofs.KeptUidLemmas.{took_keeps, addition_left, removal_left}
 use Rattle.mail_ops.proofs.MessageLemmas.{record_of_row}
-use Rattle.mail_ops.proofs.UnlistedLemmas.{addition_lists, entry_refs, flag_lists, has_guid, listed_counts, removal_lists}
+use Rattle.mail_ops.proofs.UnlistedLemmas.{addition_lists, entry_refs, flag_lists, listed_counts, removal_lists}
 
 -- ---- records that no mailbox lists
 
@@ -92,7 +91,7 @@ raise_leaves : {D : Type 0} → (mine : Claims) (name : List ℕ) (uid : Uid) (t
 raise_leaves mine name uid target held old new before after began now is r =
     map_leaves mine (raising_of held) old new before after began now r.took (raised_same held old.map)
     (same_unlisted mine old new r.took.appends.indexes (λ u none rec found listed.
-        r.took.due u ∙ due_other (held.0 == u) (due_at u old) (λ t. other_record before old name uid.0 r.at.source r.row u rec is r.at.from found listed (sym r.holds ∙ eqb-true held.0 u t))))
+    r.took.due u ∙ due_other (held.0 == u) (due_at u old) (λ t. other_record before old name uid.0 r.at.source r.row u rec is r.at.from found listed (sym r.holds ∙ eqb-true held.0 u t))))
 
 lower_leaves : {D : Type 0} → (owed : MapUid) (old new : StoreValue D) (before after : Option History) (began now : Faults) (mine : Claims) → ((uid : ℕ) → mine (Due uid) ≡ one_due owed.0 uid) → MapTook (lowering_of owed) old new before after began now → LeavesOthers mine old new before after
 lower_leaves owed old new before after began now mine own t =
@@ -136,9 +135,9 @@ remove_leaves mine name uid owed old new before after began now is r =
     box_leaves mine r.number (box_entry.R uid) old new before after began now r.took (removal_left name uid owed old new before after began now r)
     (λ u rec none found listed. (
       none_more (references_to new rec.guid) (references_to old rec.guid)
-      (subst (λ (ms : List BoxMeaning). refs_in ms rec.guid ≤ references_to old rec.guid) (sym r.took.taken) (entry_refs rec.guid r.number (box_entry.R uid) old.map.boxes (indexes_of old.boxes) (removal_lists rec.guid uid))) listed,
+          (subst (λ (ms : List BoxMeaning). refs_in ms rec.guid ≤ references_to old rec.guid) (sym r.took.taken) (entry_refs rec.guid r.number (box_entry.R uid) old.map.boxes (indexes_of old.boxes) (removal_lists rec.guid uid))) listed,
       r.took.due r.there.m u r.there.box.numbered
-      ∙ (ap (λ (o : Option LogRow). option_map_or (λ row. more_due 1 row.map_uid (λ k. due_at k old)) o (λ k. due_at k old) u) r.there.listed ∙ due_other (r.row.map_uid == u) (due_at u old) (λ t. other_record before old name uid.0 r.number r.row u rec is r.there found listed (eqb-true r.row.map_uid u t))),
+          ∙ (ap (λ (o : Option LogRow). option_map_or (λ row. more_due 1 row.map_uid (λ k. due_at k old)) o (λ k. due_at k old) u) r.there.listed ∙ due_other (r.row.map_uid == u) (due_at u old) (λ t. other_record before old name uid.0 r.number r.row u rec is r.there found listed (eqb-true r.row.map_uid u t))),
     ))
 
 -- ---- nothing
@@ -167,7 +166,7 @@ flag_leaves number uid flags old new before after map_is files instances taken m
     rest_leaves no_claims old new before after files instances (mail_same before after mail) (same_map old.map new.map map_is) keeps
     (λ other rec none found listed. (
       none_more (references_to new rec.guid) (references_to old rec.guid)
-      (subst (λ (ms : List BoxMeaning). refs_in ms rec.guid ≤ references_to old rec.guid) (sym taken) (entry_refs rec.guid number (box_entry.F uid flags) old.map.boxes (indexes_of old.boxes) (flag_lists rec.guid uid flags))) listed,
+          (subst (λ (ms : List BoxMeaning). refs_in ms rec.guid ≤ references_to old rec.guid) (sym taken) (entry_refs rec.guid number (box_entry.F uid flags) old.map.boxes (indexes_of old.boxes) (flag_lists rec.guid uid flags))) listed,
       due other,
     ))
 

@@ -1,19 +1,18 @@
 -- What a make claims, and what its events leave to the tasks beside it.
 use Rattle.std.proofs.Common.{◌≡◌, ◌+◌, ◌==◌, ◌||◌, ℕ, Bool, true, false, not, cond, List, [], ◌∷◌, ◌++◌, map, Option, refl, sym, ◌∙◌, ap, arith}
-use Rattle.std.specs.Prelude.{count_by, sum_by}
+use Rattle.std.specs.Prelude.{count_by}
 use Rattle.std.specs.List.{list_any}
 use Rattle.std.specs.Str.{bytes_eq}
 use Rattle.std.proofs.lemmas.Bool.{eq-eqb, eqb-true}
 use Rattle.std.proofs.lemmas.List.Sums.{sum_by-append}
 use Rattle.disk_model.specs.Disk.{History}
-use Rattle.mdbox_base.specs.declared.entries.MapEntry.TheVariants as map_entry
 use Rattle.mdbox_base.specs.declared.ids.BoxNo.{BoxNo}
 use Rattle.mdbox_base.specs.declared.progress.Progress.{Progress}
 use Rattle.mdbox_base.specs.declared.progress.Progress.TheVariants as progress
 use Rattle.mdbox_base.specs.declared.replies.Reply.{Reply}
 use Rattle.mdbox_base.specs.declared.replies.Reply.TheVariants as reply
 use Rattle.model_meaning.specs.BoxMeaning.{LogRow, BoxMeaning, box_meaning}
-use Rattle.model_meaning.specs.MapMeaning.{MapMeaning, map_applied}
+use Rattle.model_meaning.specs.MapMeaning.{MapMeaning}
 use Rattle.model_meaning.proofs.AppliedLemmas.{records_by_mailbox}
 use Rattle.model_store.specs.Listing.{refs_in}
 use Rattle.store_core.specs.Dues.{Moves, no_amounts, amounts_in}
@@ -21,11 +20,11 @@ use Rattle.store_core.specs.Keeping.{KeepsUids}
 use Rattle.store_core.specs.MadeLogs.{has_made_log, without_box}
 use Rattle.store_core.specs.Value.{StoreValue, indexes_of, references_to}
 use Rattle.store_core.specs.declared.store.OpenBox.{OpenBox}
-use Rattle.task_claims.specs.Claims.{Claims, ClaimsNothing, Due, Emptied, Held, Made, MovesClaims, Pinned, Placing, Removing, Taken, amount_in, one_if}
+use Rattle.task_claims.specs.Claims.{ClaimsNothing, Due, Emptied, Held, Made, MovesClaims, Pinned, Placing, Removing, Taken, amount_in, one_if}
 use Rattle.task_claims.specs.Leaving.{LeavesOthers, SameButCounts, but_count}
 use Rattle.task_claims.proofs.CountedLemmas.{same_map}
 use Rattle.task_claims.proofs.RestLemmas.{rest_leaves}
-use Rattle.mail_ops.specs.Claims.{logs_made, make_claims}
+use Rattle.mail_ops.specs.Claims.{own_log_of, make_claims}
 use Rattle.mail_ops.specs.Making.{IsReadyToMake, KeepsAllButLogs, MakeAnswers, MakesLog, NamesMail}
 use Rattle.mail_ops.specs.declared.event.NotDone.TheVariants as not_done
 use Rattle.mail_ops.specs.declared.making.MakeStage.{MakeStage}
@@ -78,6 +77,9 @@ others_same number other (b ∷ bs) apart = by_test (b.number.0 == number) (b.nu
     by_test true false e f rest = rest ∙ sym (ap (λ (x : Bool). x || list_any (HasNumber other) bs) f)
     by_test false t e f rest = ap (λ (x : Bool). (b.number.0 == other) || x) rest
 
+differ_tests : false ≡ true → ⊥
+differ_tests k = cc k
+
 -- one fewer
 log_less : {D : Type 0} → (number : ℕ) (old new : StoreValue D) → new.made ≡ without_box number old.made → has_made_log number old ≡ true → (other : ℕ) → one_if (has_made_log other new) + one_if (number == other) ≡ one_if (has_made_log other old) + 0
 log_less number old new left there other = by_test (number == other) refl
@@ -90,12 +92,9 @@ log_less number old new left there other = by_test (number == other) refl
         let own : one_if (number == other) ≡ 1 = ap one_if e in
         omega (arith, was, is, own)
     by_test false e =
-        let same : one_if (has_made_log other new) ≡ one_if (has_made_log other old) = ap one_if (ap (λ (boxes : List OpenBox). list_any (HasNumber other) boxes) left ∙ others_same number other old.made (λ k. differ (sym e ∙ eq-eqb number other k))) in
+        let same : one_if (has_made_log other new) ≡ one_if (has_made_log other old) = ap one_if (ap (λ (boxes : List OpenBox). list_any (HasNumber other) boxes) left ∙ others_same number other old.made (λ k. differ_tests (sym e ∙ eq-eqb number other k))) in
         let own : one_if (number == other) ≡ 0 = ap one_if e in
         omega (arith, same, own)
-
-    differ : false ≡ true → ⊥
-    differ k = cc k
 
 -- ---- mailboxes
 
@@ -115,13 +114,13 @@ refs_of_new ms guid =
 pub record MakeChanges {D : Type 0} (now next : MakeStage) (old new : StoreValue D) : Type 0 where
   pub same : SameButCounts old.map new.map
   pub refs : (guid : List ℕ) → references_to new guid ≡ references_to old guid
-  pub logs : (number : ℕ) → one_if (has_made_log number new) + logs_made now number ≡ one_if (has_made_log number old) + logs_made next number
+  pub logs : (number : ℕ) → one_if (has_made_log number new) + own_log_of now number ≡ one_if (has_made_log number old) + own_log_of next number
 
 nothing_changed : {D : Type 0} → (now : MakeStage) (old new : StoreValue D) → new.map ≡ old.map → new.boxes ≡ old.boxes → new.made ≡ old.made → MakeChanges now now old new
 nothing_changed now old new map_is boxes made = record {
   same = same_map old.map new.map map_is;
   refs = λ guid. ap (λ (bs : List OpenBox). refs_in (indexes_of bs) guid) boxes;
-  logs = λ number. ap (λ (bs : List OpenBox). one_if (list_any (HasNumber number) bs) + logs_made now number) made;
+  logs = λ number. ap (λ (bs : List OpenBox). one_if (list_any (HasNumber number) bs) + own_log_of now number) made;
 }
 
 log_removed : {D : Type 0} → (number : BoxNo) (old new : StoreValue D) → new ≡ record old { disk = new.disk; made = without_box number.0 old.made } → has_made_log number.0 old ≡ true → MakeChanges (make_stage.Naming number) make_stage.First old new
@@ -131,7 +130,7 @@ log_removed number old new same there = record {
   logs = log_less number.0 old new (ap (λ (v : StoreValue _). v.made) same) there;
 }
 
-make_changes : {D : Type 0} → (name : List ℕ) (now next : MakeStage) (answer : Progress) (old new : StoreValue D) (before after : Option History) → new.stopped ≡ false → IsReadyToMake now old → MakeAnswers name now old new before after next answer → MakeChanges now next old new
+pub make_changes : {D : Type 0} → (name : List ℕ) (now next : MakeStage) (answer : Progress) (old new : StoreValue D) (before after : Option History) → new.stopped ≡ false → IsReadyToMake now old → MakeAnswers name now old new before after next answer → MakeChanges now next old new
 make_changes name make_stage.First (make_stage.Naming number) progress.More old new before after runs ready a = record {
   same = same_map old.map new.map (ap (λ (v : StoreValue _). v.map) a.1.same);
   refs = λ guid. ap (λ (v : StoreValue _). references_to v guid) a.1.same;

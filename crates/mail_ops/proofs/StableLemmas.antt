@@ -1,18 +1,16 @@
 -- A copy, a move, an expunge and a make stay ready beside every event of every other task.
-use Rattle.std.proofs.Common.{◌≡◌, ◌≤◌, ◌==◌, ℕ, true, List, refl, arith}
+use Rattle.std.proofs.Common.{◌≡◌, ◌==◌, ℕ, List, refl, arith}
 use Rattle.std.proofs.lemmas.Bool.{eq-eqb}
-use Rattle.std.proofs.Common.{Option, ap}
-use Rattle.disk_model.specs.Disk.{History}
+use Rattle.std.proofs.Common.{ap}
 use Rattle.mdbox_base.specs.declared.ids.Uid.{Uid}
-use Rattle.store_core.specs.Value.{StoreValue}
-use Rattle.task_claims.specs.Claims.{claims_of_dues, one_if}
-use Rattle.task_claims.specs.Stable.{Beside, IsStable}
+use Rattle.task_claims.specs.Claims.{one_if}
+use Rattle.task_claims.specs.Stable.{IsStable}
 use Rattle.task_claims.proofs.LeftLemmas.{due_left, log_left}
 use Rattle.mail_ops.specs.Claims.{copy_claims, expunge_claims, make_claims, move_claims}
-use Rattle.mail_ops.specs.Copy.{IsReadyToCopy, copy_amounts}
+use Rattle.mail_ops.specs.Copy.{IsReadyToCopy}
 use Rattle.mail_ops.specs.Expunging.{expunge_amounts}
 use Rattle.mail_ops.specs.Making.{IsReadyToMake}
-use Rattle.mail_ops.specs.Moving.{IsReadyToMove, move_amounts}
+use Rattle.mail_ops.specs.Moving.{IsReadyToMove}
 use Rattle.mail_ops.specs.Owing.{AreDueIn}
 use Rattle.mail_ops.specs.declared.copy.CopyStage.{CopyStage}
 use Rattle.mail_ops.specs.declared.expunging.ExpungeStage.{ExpungeStage}

@@ -21,10 +21,10 @@ abbrev pub move_claims : MoveStage → Claims
 move_claims now = claims_of_dues (move_dues now)
 
 -- the log that a make has made
-abbrev pub logs_made : MakeStage → ℕ → ℕ
-logs_made make_stage.First number = 0
-logs_made (make_stage.Naming own) number = one_if (own.0 == number)
+abbrev pub own_log_of : MakeStage → ℕ → ℕ
+own_log_of make_stage.First number = 0
+own_log_of (make_stage.Naming own) number = one_if (own.0 == number)
 
 abbrev pub make_claims : MakeStage → Claims
-make_claims now (Made number) = logs_made now number
+make_claims now (Made number) = own_log_of now number
 make_claims now thing = 0

@@ -95,7 +95,8 @@ impl MoveTask {
 
         // Of every run that has come to the store, whatever other tasks have pinned: which event it was, what it answered, and which
         // crash images it leaves.
-        ensures does { (around after : Around) (pins : ℕ → ℕ) → Steps (IsAtMove self.old.uid self.old.stage) (IsAtMove self.old.uid self.new.stage) around after (request.Move self.old.name self.old.uid self.old.target) (seen_of pins store.old (D.history store.old.disk) (D.faults store.old.disk)) (seen_of pins store.new (D.history store.new.disk) (D.faults store.new.disk)) self.new.did (ended_by result) }
+        ensures does { (around after : Around) (pins : ℕ → ℕ) → Steps (IsAtMove self.old.uid self.old.stage) (IsAtMove self.old.uid self.new.stage) around after (request.Move self.old.name self.old.uid self.old.target)
+            (seen_of pins store.old (D.history store.old.disk) (D.faults store.old.disk)) (seen_of pins store.new (D.history store.new.disk) (D.faults store.new.disk)) self.new.did (ended_by result) }
 
         // Of a settled disk each crash image at every moment is safe for its lists, or for those that the event makes of them,
         // whatever fails. Unless the store is stopped then, the disk is settled for those that the stages tell.

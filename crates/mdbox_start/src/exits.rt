@@ -37,14 +37,18 @@ pub fn run<D: Disk, I: Source, O: Sink, E: Sink, C: Clock>(
 {
     match words {
         Ok(words) => {
-            let (status, disk) =
-                mdbox_run(alloc, words.as_slice(), disk, input, output, errors, clock);
+            let (status, disk) = mdbox_run(
+                alloc,
+                words.as_slice(),
+                disk,
+                input,
+                output,
+                errors,
+                clock,
+            );
             (exit_of(status), disk)
         }
-        Err(NoMemory) => (
-            exit_of(report(alloc, errors, Outcome::NoMemory)),
-            disk,
-        ),
+        Err(NoMemory) => (exit_of(report(alloc, errors, Outcome::NoMemory)), disk),
     }
 }
 

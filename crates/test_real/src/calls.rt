@@ -185,7 +185,10 @@ pub(crate) fn a_second_disk_reads_the_same(rt: &impl Abort, host: HostRuntime) -
 fn reads(rt: &impl Abort, disk: &mut RealDisk, octets: &[u8]) -> Result<(), Fail> {
     let mut into = [0; 16];
     assert_eq!(rt; disk.length(FileName::Root), Ok(octets.len() as u64));
-    assert_eq!(rt; disk.read_at(FileName::Root, 0, &mut into), Ok(octets.len()));
+    assert_eq!(rt;
+        disk.read_at(FileName::Root, 0, &mut into),
+        Ok(octets.len())
+    );
     assert!(rt; into.starts_with(octets));
     Ok(())
 }

@@ -17,9 +17,11 @@ pub fn tell_rejoined(
     let (whole, line) = line.split_once(' ').unwrap_or((line, ""));
     let (refs, line) = line.split_once(' ').unwrap_or((line, ""));
     let (body, line) = line.split_once(' ').unwrap_or((line, ""));
-    let (Ok(whole), Some(refs), Some(body)) =
-        (whole.parse::<u64>(), texts.find(refs), texts.find(body))
-    else {
+    let (Ok(whole), Some(refs), Some(body)) = (
+        whole.parse::<u64>(),
+        texts.find(refs),
+        texts.find(body),
+    ) else {
         return Ok(false);
     };
     let Some(refs) = read_refs(alloc, refs)? else {

@@ -62,7 +62,9 @@ fn box_text(alloc: Global, entry: &BoxEntry) -> Result<String, NoMemory> {
             guid,
         } => {
             let (uid, map_uid) = (uid.0, map_uid.0);
-            let mut text = format!(in alloc; "add {uid}, flags {flags}, time {time}, size {size}, record {map_uid}, ")?;
+            let mut text = format!(in alloc;
+                "add {uid}, flags {flags}, time {time}, size {size}, record {map_uid}, "
+            )?;
             push_digits(&mut text, &guid.0)?;
             text
         }
@@ -84,7 +86,11 @@ fn push_map(alloc: Global, out: &mut String, entry: &MapEntry) -> Result<(), NoM
             push_line(out, text.as_str())?;
             push_instances(alloc, out, instances)
         }
-        MapEntry::B { mailbox, generation, name } => {
+        MapEntry::B {
+            mailbox,
+            generation,
+            name,
+        } => {
             let (mailbox, generation) = (mailbox.0, *generation);
             let text = format!(in alloc; "make mailbox {mailbox}, log {generation}, ")?;
             push_octets(out, text.as_str(), name.as_octets())
@@ -110,7 +116,9 @@ fn stored_text(alloc: Global, entry: &MapEntry) -> Result<String, NoMemory> {
         } => {
             let (origin, count, uid) = (*origin, *count, uid.0);
             let (file, offset, size) = (file.0, *offset, *size);
-            let mut text = format!(in alloc; "store {uid}, origin {origin}, count {count}, file {file}, {size} octets at {offset}, ")?;
+            let mut text = format!(in alloc;
+                "store {uid}, origin {origin}, count {count}, file {file}, {size} octets at {offset}, "
+            )?;
             push_digits(&mut text, &guid.0)?;
             Ok(text)
         }
@@ -140,7 +148,9 @@ fn number_text(alloc: Global, entry: &MapEntry) -> Result<String, NoMemory> {
         MapEntry::H(highest) => {
             let (file, map) = (highest.file, highest.map);
             let (instance, mailbox) = (highest.instance, highest.mailbox);
-            format!(in alloc; "highest file {file}, record {map}, instance {instance}, mailbox {mailbox}")?
+            format!(in alloc;
+                "highest file {file}, record {map}, instance {instance}, mailbox {mailbox}"
+            )?
         }
         MapEntry::G {
             mailbox,

@@ -16,7 +16,13 @@ pub fn tell_log(alloc: Global, out: &mut String, octets: &[u8]) -> Result<(), No
             return push_line(out, text.as_str());
         }
     };
-    for (entry, place) in read.entries.as_slice().iter().zip(read.places.as_slice()).take(4) {
+    for (entry, place) in read
+        .entries
+        .as_slice()
+        .iter()
+        .zip(read.places.as_slice())
+        .take(4)
+    {
         let place = *place;
         let text = format!(in alloc; "{place}: ")?;
         push_octets(out, text.as_str(), entry.as_slice())?;

@@ -75,7 +75,11 @@ pub fn tell_parts(alloc: Global, out: &mut String, octets: &[u8]) -> Result<bool
             let (start, end) = (part.start, part.end);
             let (coding, kept) = (
                 name_of_coding(part.coding),
-                if part.detachable { "attachment" } else { "kept" },
+                if part.detachable {
+                    "attachment"
+                } else {
+                    "kept"
+                },
             );
             let text = format!(in alloc; "{start}-{end} {coding} {kept}")?;
             push_line(out, text.as_str())?;
@@ -89,10 +93,12 @@ pub fn tell_parts(alloc: Global, out: &mut String, octets: &[u8]) -> Result<bool
 fn name_of_form(alloc: Global, form: Option<LineForm>) -> Result<String, NoMemory> {
     Ok(match form {
         Some(LineForm { length, crlf: true }) => format!(in alloc; "lines of {length} with CRLF")?,
-        Some(LineForm {
-            length,
-            crlf: false,
-        }) => format!(in alloc; "lines of {length} with LF")?,
+        Some(
+            LineForm {
+                length,
+                crlf: false,
+            },
+        ) => format!(in alloc; "lines of {length} with LF")?,
         None => String::from_str(alloc, "as it is")?,
     })
 }

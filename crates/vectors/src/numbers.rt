@@ -1,6 +1,8 @@
 // Numbers as text.
 use crate::line_text::{push_line, push_octets};
-use mdbox_base::{NoMemory, Octets, push_decimal, push_hex, read_decimal, read_hex, read_lower_hex};
+use mdbox_base::{
+    NoMemory, Octets, push_decimal, push_hex, read_decimal, read_hex, read_lower_hex,
+};
 use std::alloc::Global;
 
 /// The number that a decimal text is read as, as it is written.

@@ -3,8 +3,8 @@ use Rattle.std.specs.declared.io.ErrorKind.{ErrorKind}
 use Rattle.std.specs.declared.io.ErrorKind.TheVariants.{NotFound, NotADirectory, FilesystemLoop}
 
 -- The path leads to nothing: a part of it isn't there, or is a file, or it is a circle of links.
-abbrev pub IsMissing : ErrorKind → Type 0
-IsMissing NotFound = Unit {0}
-IsMissing NotADirectory = Unit {0}
-IsMissing FilesystemLoop = Unit {0}
-IsMissing _ = ⊥
+abbrev pub IsAbsence : ErrorKind → Type 0
+IsAbsence NotFound = Unit {0}
+IsAbsence NotADirectory = Unit {0}
+IsAbsence FilesystemLoop = Unit {0}
+IsAbsence _ = ⊥
