@@ -2,12 +2,11 @@
 use Rattle.std.proofs.lemmas.List.Elements.{All-nil}
 use Rattle.std.proofs.Common.{◌≡◌, ◌≤◌, ◌<◌, ℕ, Bool, true, false, List, [], Option, Some, None, refl, sym, ◌∙◌, ap, subst, arith}
 use Rattle.std.specs.Option.{option_map, option_or}
-use Rattle.std.specs.Prelude.{find, is_some, is_none, nat_le}
+use Rattle.std.specs.Prelude.{find, is_some, is_none}
 use Rattle.std.specs.Str.{bytes_eq}
-use Rattle.disk_model.specs.Disk.{History, Faults, told_calls, Grows}
+use Rattle.disk_model.specs.Disk.{History, told_calls, Grows}
 use Rattle.mdbox_base.specs.declared.entries.BoxEntry.TheVariants as entry
 use Rattle.mdbox_base.specs.declared.entries.Highest.{Highest}
-use Rattle.mdbox_base.specs.declared.entries.InstRow.{InstRow}
 use Rattle.mdbox_base.specs.declared.ids.Uid.{Uid}
 use Rattle.mdbox_base.specs.declared.progress.Did.TheVariants as did
 use Rattle.mdbox_base.specs.declared.replies.Refusal.{Refusal}
@@ -19,7 +18,7 @@ use Rattle.mdbox_base.specs.declared.script.Half.TheVariants as half
 use Rattle.mdbox_base.specs.Streams.{Rose}
 use Rattle.model_lists.specs.Lists.{Mailbox, Lists, AreWellFormed}
 use Rattle.model_meaning.specs.BoxMeaning.{LogRow, BoxMeaning, row_at}
-use Rattle.model_meaning.specs.MapMeaning.{MapBox, MapMeaning, instance_number}
+use Rattle.model_meaning.specs.MapMeaning.{MapBox, MapMeaning}
 use Rattle.model_appends.specs.Appending.{lists_by, meanings_by}
 use Rattle.model_store.specs.Listing.{ShowLists, meaning_named}
 use Rattle.model_store.specs.Settled.{IsSettledFor, Leaves}
@@ -30,15 +29,10 @@ use Rattle.journal.specs.Events.{Around, adds_to}
 use Rattle.journal.specs.Makes.{HasCome, Makes}
 use Rattle.journal.proofs.RunLemmas.{comes_on}
 use Rattle.store_core.specs.Append.{Brings}
-use Rattle.storage_files.specs.Files.{FilesValue, end_in}
-use Rattle.store_core.specs.Dues.{number_beside, due_at}
-use Rattle.store_core.specs.Knows.{may_be_gone, may_have_given}
-use Rattle.store_core.specs.Value.{StoreValue}
 use Rattle.task_steps.specs.Step.{Seen, ShowsSeen, HasComeTo, DidEvent, HasNotBegun}
 use Rattle.task_steps.specs.Tells.{TellsSame}
 use Rattle.task_steps.proofs.SeenLemmas.{comes_to_on, no_guids}
 use Rattle.task_steps.proofs.OneEventLemmas.{IsPlain, refused_event, refused_leaves, unmade, next_first, refusal_last, some_given, first_reply, first_turn}
-use Rattle.store_seen.specs.Seeing.{seen_of}
 use Rattle.mail_ops.proofs.FlagListLemmas.{is_flagged, shows_by}
 
 pub flag_is_plain : (name : List ℕ) (uid : Uid) (flags : ℕ) → IsPlain (request.Flag name uid flags)

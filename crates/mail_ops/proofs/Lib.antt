@@ -6,6 +6,7 @@ pub mod CopyPlaceLemmas
 pub mod CopyStepLemmas
 pub mod CountingLemmas
 pub mod CountsEventLemmas
+pub mod EndedLemmas
 pub mod EventLemmas
 pub mod ExpungeEventLemmas
 pub mod ExpungeStepLemmas
@@ -16,10 +17,12 @@ pub mod KeptMailLemmas
 pub mod KeptRestLemmas
 pub mod KeptRowLemmas
 pub mod KeptUidLemmas
+pub mod LeavingLemmas
 pub mod ListEventLemmas
 pub mod LoweringLemmas
 pub mod MakeCallLemmas
 pub mod MakeCheckLemmas
+pub mod MakeClaimLemmas
 pub mod MakeEventLemmas
 pub mod MakeLogLemmas
 pub mod MakeNamedLemmas
@@ -36,4 +39,6 @@ pub mod RemovalLemmas
 pub mod RowLemmas
 pub mod SettledFlagLemmas
 pub mod ShownEntryLemmas
+pub mod StableLemmas
 pub mod StageLemmas
+pub mod UnlistedLemmas

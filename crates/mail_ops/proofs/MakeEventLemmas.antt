@@ -1,8 +1,8 @@
 -- The events of a make that name no mailbox, by the clause of a step.
 use Rattle.std.proofs.lemmas.List.Elements.{All-nil}
 use Rattle.std.proofs.Common.{◌≡◌, ◌≤◌, ◌<◌, ◌+◌, ◌&&◌, ℕ, Bool, true, false, List, [], ◌∷◌, ◌++◌, Option, Some, None, refl, sym, ◌∙◌, ap, subst, arith, inr}
-use Rattle.std.specs.Prelude.{◌≢◌, ◌↔◌, nat_le, nat_lt, length, slice_get, is_none, is_some}
-use Rattle.std.specs.Option.{IfSome, option_map_or}
+use Rattle.std.specs.Prelude.{◌≢◌, ◌↔◌, nat_le, length, slice_get, is_none}
+use Rattle.std.specs.Option.{IfSome}
 use Rattle.std.proofs.lemmas.Grind.{common_steps}
 use Rattle.std.proofs.lemmas.List.{append-nil}
 use Rattle.std.proofs.lemmas.List.Elements.{All-push, All-weaker}
@@ -19,15 +19,13 @@ use Rattle.mdbox_base.specs.declared.replies.Reply.TheVariants as reply
 use Rattle.mdbox_base.specs.declared.requests.Request.TheVariants as request
 use Rattle.mdbox_base.specs.declared.script.Half.TheVariants as half
 use Rattle.model_lists.specs.Lists.{Lists}
-use Rattle.model_meaning.specs.MapMeaning.{MapMeaning, is_own, map_meaning, no_numbers, number_at}
-use Rattle.list_machine.specs.Run.{EventPart, First, Last, StartsOver, RunEvent, event_of, Run, and_then, entries_of, own_events, map_of, drawn_also, is_unpinning}
+use Rattle.model_meaning.specs.MapMeaning.{MapMeaning, map_meaning, no_numbers}
+use Rattle.list_machine.specs.Run.{EventPart, First, Last, StartsOver, RunEvent, event_of, Run, and_then, entries_of, own_events, map_of, drawn_also}
 use Rattle.list_machine.specs.Machine.{first_refusal, make_checks, is_step}
 use Rattle.journal.specs.Journal.{halves_of, half_of, refusal_in, IsReplyOf}
 use Rattle.journal.specs.Events.{MayMeet, Around, has_memory, is_overtaken, next_part, behind_event, behind_make, makes_step, IsRepliedBy}
 use Rattle.journal.specs.Makes.{HasCome}
 use Rattle.journal.proofs.RunLemmas.{drawn_more, entries_more}
-use Rattle.storage_files.specs.Files.{FilesValue, end_in}
-use Rattle.store_core.specs.Knows.{may_have_given}
 use Rattle.store_core.specs.Value.{StoreValue, indexes_of}
 use Rattle.task_steps.specs.Step.{Seen, ShowsSeen, HasComeTo, Leads, Steps, Went, EndsRequest}
 use Rattle.task_steps.specs.Tells.{TellsSame}

@@ -25,7 +25,7 @@ others_due mine mine_now other old new moves due = λ uid. within (mine.due uid)
 pub other_due : {D : Type 0} → (mine mine_now other : Amounts) (old new : StoreValue D) → Moves mine mine_now (amounts_in old) (amounts_in new) → AreDueIn old (both_amounts mine other) → AreDueIn new other
 other_due mine mine_now other old new moves due = λ uid. part (mine_now.due uid) (other.due uid) (due_at uid new) (others_due mine mine_now other old new moves due uid)
 
-source_kept : {D : Type 0} → (name : List ℕ) (uid : Uid) (now : CopyStage) (old new : StoreValue D) → KeepsUids old new → KeepsSource name uid now old → KeepsSource name uid now new
+pub source_kept : {D : Type 0} → (name : List ℕ) (uid : Uid) (now : CopyStage) (old new : StoreValue D) → KeepsUids old new → KeepsSource name uid now old → KeepsSource name uid now new
 source_kept name uid copy_stage.First old new keeps source = tt
 source_kept name uid (copy_stage.Adding held) old new keeps source = keeps name uid.0 held.0 source
 source_kept name uid (copy_stage.GivingBack held why) old new keeps source = source
@@ -36,7 +36,7 @@ copy_stays_ready mine mine_now name uid now old new moves keeps due ready = reco
   source = source_kept name uid now old new keeps ready.source;
 }
 
-moved_kept : {D : Type 0} → (name : List ℕ) (uid : Uid) (now : MoveStage) (old new : StoreValue D) → KeepsUids old new → KeepsMoved name uid now old → KeepsMoved name uid now new
+pub moved_kept : {D : Type 0} → (name : List ℕ) (uid : Uid) (now : MoveStage) (old new : StoreValue D) → KeepsUids old new → KeepsMoved name uid now old → KeepsMoved name uid now new
 moved_kept name uid move_stage.First old new keeps source = tt
 moved_kept name uid (move_stage.Adding held) old new keeps source = keeps name uid.0 held.0 source
 moved_kept name uid (move_stage.GivingBack held why) old new keeps source = source

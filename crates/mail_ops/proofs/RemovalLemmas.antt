@@ -1,6 +1,5 @@
 -- A message that is removed from the log of its mailbox, or whose removal failed.
-use Rattle.std.proofs.Common.{◌≡◌, ◌+◌, ◌&&◌, ℕ, true, false, List, [], ◌∷◌, Option, Some, None, refl, ◌∙◌, ap, subst, arith}
-use Rattle.std.specs.Prelude.{nat_le, nat_lt, is_some}
+use Rattle.std.proofs.Common.{◌≡◌, ◌+◌, ℕ, false, List, [], ◌∷◌, Option, Some, None, refl, ◌∙◌, ap, subst, arith}
 use Rattle.std.specs.Option.{option_map_or}
 use Rattle.disk_model.specs.Disk.{History, Faults}
 use Rattle.mdbox_base.specs.declared.entries.BoxEntry.{BoxEntry}
@@ -12,7 +11,7 @@ use Rattle.model_appends.specs.Amounts.{more_due, due_by_box}
 use Rattle.model_appends.specs.Appending.{lists_by, meanings_by}
 use Rattle.model_lists.specs.Lists.{Lists, AreWellFormed}
 use Rattle.model_meaning.specs.BoxMeaning.{LogRow, BoxMeaning, row_at}
-use Rattle.model_meaning.specs.MapMeaning.{MapMeaning, record_of, is_own, number_at}
+use Rattle.model_meaning.specs.MapMeaning.{MapMeaning, record_of}
 use Rattle.model_store.specs.Listing.{ShowLists}
 use Rattle.model_store.specs.Settled.{IsSettledFor}
 use Rattle.list_machine.specs.Run.{Run}
@@ -21,8 +20,6 @@ use Rattle.journal.specs.Events.{IsRecord}
 use Rattle.entry_steps.proofs.AppendListLemmas.{removed_by}
 use Rattle.store_core.specs.Append.{Brings}
 use Rattle.store_core.specs.Dues.{due_at}
-use Rattle.storage_files.specs.Files.{FilesValue, end_in}
-use Rattle.store_core.specs.Knows.{may_have_given}
 use Rattle.store_core.specs.Running.{IsStore}
 use Rattle.store_core.specs.Value.{StoreValue, indexes_of}
 use Rattle.task_steps.specs.ExpungeStages.{one_due}

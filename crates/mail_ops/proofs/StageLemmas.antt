@@ -1,24 +1,13 @@
 -- A step, by the stage of its task.
-use Rattle.std.proofs.Common.{◌≡◌, ◌+◌, ◌==◌, ◌&&◌, ◌||◌, ℕ, Bool, true, false, cond, List, [], ◌∷◌, Option, Some, refl, sym, ◌∙◌, ap, subst, arith}
-use Rattle.std.specs.Prelude.{sum_by}
-use Rattle.std.specs.List.{list_any}
-use Rattle.disk_model.specs.Disk.{History, Faults, told_calls}
-use Rattle.model_meaning.specs.MapMeaning.{MapRecord, MapMeaning, is_sealed}
-use Rattle.list_machine.specs.Run.{RunEvent, Run, map_of, is_doomed}
-use Rattle.journal.specs.Found.{is_known_file}
-use Rattle.journal.specs.Makes.{HasCome}
-use Rattle.store_core.specs.Dues.{number_beside, due_at}
-use Rattle.store_core.specs.Knows.{knows_file, may_be_gone, may_have_given, is_told_of}
-use Rattle.store_core.specs.Value.{StoreValue, none_due}
-use Rattle.journal.specs.Events.{Around, begun_in, ended_in}
+use Rattle.std.proofs.Common.{◌≡◌, Some, subst}
+use Rattle.journal.specs.Events.{Around}
 use Rattle.mdbox_base.specs.declared.progress.Did.{Did}
 use Rattle.mdbox_base.specs.declared.replies.Reply.{Reply}
 use Rattle.mdbox_base.specs.declared.requests.Request.{Request}
-use Rattle.task_steps.specs.Step.{Seen, was_given, pins_of, was_used, was_gone, HasComeTo, HasNotBegun, IsKept, Steps}
+use Rattle.task_steps.specs.Step.{Seen, HasNotBegun, IsKept, Steps}
 use Rattle.task_steps.proofs.SeenLemmas.{not_begun_stays}
 use Rattle.task_steps.proofs.OneEventLemmas.{never_more}
 use Rattle.mail_ops.specs.Task.{IsAt}
-use Rattle.store_seen.specs.Seeing.{seen_of}
 use Rattle.mail_ops.specs.declared.task.TaskStage.{TaskStage}
 use Rattle.mail_ops.specs.declared.task.TaskStage.TheVariants as stage
 

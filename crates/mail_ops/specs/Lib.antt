@@ -16,3 +16,4 @@ pub mod Moving
 pub mod Owing
 pub mod Requests
 pub mod Task
+pub mod Claims

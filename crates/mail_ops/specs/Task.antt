@@ -1,15 +1,11 @@
 -- What a caller sees of a task, and of the store that it works on.
-use Rattle.std.specs.Prelude.{ℕ, Bool, false, List, Option}
-use Rattle.disk_model.specs.Disk.{History, Faults}
+use Rattle.std.specs.Prelude.{ℕ, List}
 use Rattle.list_machine.specs.Run.{Run}
-use Rattle.mdbox_base.specs.declared.entries.InstRow.{InstRow}
 use Rattle.mdbox_base.specs.declared.progress.Did.{Did}
 use Rattle.mdbox_base.specs.declared.replies.Reply.{Reply}
 use Rattle.mdbox_base.specs.declared.requests.Request.{Request}
-use Rattle.store_core.specs.Dues.{Amounts, no_amounts, due_at}
-use Rattle.store_core.specs.Knows.{knows_file, may_be_gone, may_have_given}
-use Rattle.store_core.specs.Value.{StoreValue, indexes_of}
-use Rattle.task_steps.specs.Step.{Seen, HasNotBegun}
+use Rattle.store_core.specs.Dues.{Amounts, no_amounts}
+use Rattle.task_steps.specs.Step.{HasNotBegun}
 use Rattle.mail_ops.specs.declared.task.TaskStage.{TaskStage}
 use Rattle.mail_ops.specs.declared.task.TaskStage.TheVariants as stage
 

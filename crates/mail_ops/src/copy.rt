@@ -5,6 +5,7 @@ ghost use Rattle.journal.specs.Events.{Around};
 ghost use Rattle.mdbox_base.specs.declared.progress.Did.TheVariants as did;
 ghost use Rattle.mdbox_base.specs.declared.progress.Progress.TheVariants as progress;
 ghost use Rattle.mdbox_base.specs.declared.replies.Refusal.TheVariants as refusal;
+ghost use Rattle.mdbox_base.specs.declared.replies.Reply.{Reply};
 ghost use Rattle.mdbox_base.specs.declared.replies.Reply.TheVariants as reply;
 ghost use Rattle.mdbox_base.specs.declared.requests.Request.TheVariants as request;
 ghost use Rattle.model_lists.specs.Lists.{Lists};
@@ -13,6 +14,9 @@ ghost use Rattle.store_core.specs.Dues.{Moves, Spares, amounts_in};
 ghost use Rattle.store_core.specs.Keeping.{KeepsMail, KeepsRest, KeepsUids};
 ghost use Rattle.task_steps.specs.Step.{Steps, ended_by};
 ghost use Rattle.mail_ops.specs.Copy.{IsAtCopy, copy_amounts, copy_left, copy_lists, lists_copied, IsReadyToCopy, CopyAnswers, CopiesOn};
+ghost use Rattle.task_claims.specs.Claims.{ClaimsNothing, MovesClaims};
+ghost use Rattle.task_claims.specs.Leaving.{LeavesOthers};
+ghost use Rattle.mail_ops.specs.Claims.{copy_claims};
 ghost use Rattle.store_seen.specs.Seeing.{seen_of};
 ghost use Rattle.mail_ops.specs.declared.copy.CopyStage.TheVariants as stage;
 
@@ -108,6 +112,12 @@ impl CopyTask {
         ensures rest { KeepsRest store.old store.new }
         ensures mail { store.new.stopped ≡ store.old.stopped → KeepsMail (D.history store.old.disk) (D.history store.new.disk) }
         ensures replies { store.old.stopped ≡ false → CopyAnswers self.old.name self.old.uid self.old.target self.old.stage store.old store.new self.new.stage result }
+
+        // Unless it stops the store, it moves only its own claims, and leaves to other tasks what is theirs. One that was replied claims
+        // nothing.
+        ensures claims { store.new.stopped ≡ false → MovesClaims (copy_claims self.old.stage) (copy_claims self.new.stage) store.old store.new }
+        ensures leaves { store.new.stopped ≡ false → LeavesOthers (copy_claims self.old.stage) store.old store.new (D.history store.old.disk) (D.history store.new.disk) }
+        ensures ended { (given : Reply) → result ≡ progress.Done given → store.new.stopped ≡ false → ClaimsNothing (copy_claims self.new.stage) }
 
         // So it ends.
         ensures left { result ≡ progress.More → copy_left self.new.stage < copy_left self.old.stage }

@@ -1,7 +1,8 @@
 // Requests by the list machine.
-ghost use Rattle.std.specs.Prelude.{◌≡◌, ℕ, List, [], find, Some, None};
+ghost use Rattle.std.specs.Prelude.{◌≡◌, ℕ, List, [], find, Option, Some, None};
 ghost use Rattle.std.specs.Option.{option_map};
 ghost use Rattle.std.specs.Str.{bytes_eq};
+ghost use Rattle.disk_model.specs.Disk.{History};
 ghost use Rattle.list_machine.specs.Machine.{PartAnswers, set_flags};
 ghost use Rattle.list_machine.specs.Run.{First, RunEvent, Run};
 ghost use Rattle.mdbox_base.specs.declared.entries.BoxEntry.TheVariants.{F};
@@ -18,9 +19,11 @@ ghost use Rattle.model_store.specs.Listing.{ShowLists, meaning_named, listing_of
 ghost use Rattle.store_core.specs.Dues.{Amounts, Moves, amounts_in};
 ghost use Rattle.store_core.specs.Keeping.{KeepsRest, KeepsUids};
 ghost use Rattle.store_core.specs.Value.{StoreValue};
+ghost use Rattle.task_claims.specs.Stable.{IsStable};
 ghost use Rattle.task_steps.specs.Step.{IsKept};
+ghost use Rattle.mail_ops.specs.Claims.{copy_claims, expunge_claims, make_claims, move_claims};
 ghost use Rattle.mail_ops.specs.Copy.{IsAtCopy, IsReadyToCopy, copy_amounts};
-ghost use Rattle.mail_ops.specs.Expunging.{IsAtExpunge};
+ghost use Rattle.mail_ops.specs.Expunging.{IsAtExpunge, expunge_amounts};
 ghost use Rattle.mail_ops.specs.Keeping.{both_amounts};
 ghost use Rattle.store_core.specs.Knows.{knows_instance};
 ghost use Rattle.mail_ops.specs.Making.{IsAtMake, IsReadyToMake, HaveOtherLogs, LeavesLogs, KeepsAllButLogs};
@@ -68,6 +71,15 @@ pub fn others_stay_ready<D: Disk>()
         → IsReadyToCopy name uid now old → IsReadyToCopy name uid now new }
     ensures moves { (mine mine_now : Amounts) (name : List ℕ) (uid : Uid) (now : MoveStage) (old new : StoreValue D) → Moves mine mine_now (amounts_in old) (amounts_in new) → KeepsUids old new → AreDueIn old (both_amounts mine (move_amounts now))
         → IsReadyToMove name uid now old → IsReadyToMove name uid now new }
+{}
+
+/// Each of these tasks stays ready for its next event beside each event of any other task that moves only its own claims and leaves to
+/// others what is theirs.
+pub fn ready_tasks_are_stable<D: Disk>()
+    ensures copies { (name : List ℕ) (uid : Uid) (now : CopyStage) → IsStable (copy_claims now) (λ (store : StoreValue D) (history : Option History). IsReadyToCopy name uid now store) }
+    ensures moves { (name : List ℕ) (uid : Uid) (now : MoveStage) → IsStable (move_claims now) (λ (store : StoreValue D) (history : Option History). IsReadyToMove name uid now store) }
+    ensures expunges { (now : ExpungeStage) → IsStable (expunge_claims now) (λ (store : StoreValue D) (history : Option History). AreDueIn store (expunge_amounts now)) }
+    ensures makes { (now : MakeStage) → IsStable (make_claims now) (λ (store : StoreValue D) (history : Option History). IsReadyToMake now store) }
 {}
 
 /// A make whose log isn't the task's own stays ready too, where the event leaves the logs, and a log that it makes is another. So

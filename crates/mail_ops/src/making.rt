@@ -6,6 +6,7 @@ ghost use Rattle.mdbox_base.specs.Words.{IsName};
 ghost use Rattle.mdbox_base.specs.declared.progress.Did.TheVariants as did;
 ghost use Rattle.mdbox_base.specs.declared.progress.Progress.TheVariants as progress;
 ghost use Rattle.mdbox_base.specs.declared.replies.Refusal.TheVariants as refusal;
+ghost use Rattle.mdbox_base.specs.declared.replies.Reply.{Reply};
 ghost use Rattle.mdbox_base.specs.declared.replies.Reply.TheVariants as reply;
 ghost use Rattle.mdbox_base.specs.declared.requests.Request.TheVariants as request;
 ghost use Rattle.model_lists.specs.Lists.{Lists};
@@ -15,6 +16,9 @@ ghost use Rattle.store_core.specs.Keeping.{KeepsUids};
 ghost use Rattle.store_core.specs.MadeLogs.{has_made_log};
 ghost use Rattle.task_steps.specs.Step.{Steps, ended_by};
 ghost use Rattle.mail_ops.specs.Making.{IsAtMake, naming_refusal, IsReadyToMake, LeavesLogs, KeepsAllButLogs, NamesMail, MakeAnswers, make_left, make_lists, lists_by_make, IsLogNotMade, MadeLogSo, FellIfStopped, MakesOn, RemovesOr};
+ghost use Rattle.task_claims.specs.Claims.{ClaimsNothing, MovesClaims};
+ghost use Rattle.task_claims.specs.Leaving.{LeavesOthers};
+ghost use Rattle.mail_ops.specs.Claims.{make_claims};
 ghost use Rattle.store_seen.specs.Seeing.{seen_of};
 ghost use Rattle.mail_ops.specs.declared.making.MakeStage.TheVariants as stage;
 
@@ -108,6 +112,12 @@ impl MakeTask {
         ensures rest { KeepsAllButLogs store.old store.new }
         ensures mail { store.new.stopped ≡ store.old.stopped → NamesMail (D.history store.old.disk) (D.history store.new.disk) }
         ensures replies { store.old.stopped ≡ false → MakeAnswers self.old.name self.old.stage store.old store.new (D.history store.old.disk) (D.history store.new.disk) self.new.stage result }
+
+        // Unless it stops the store, it moves only its own claims, and leaves to other tasks what is theirs. One that was replied claims
+        // nothing.
+        ensures claims { store.new.stopped ≡ false → MovesClaims (make_claims self.old.stage) (make_claims self.new.stage) store.old store.new }
+        ensures leaves { store.new.stopped ≡ false → LeavesOthers (make_claims self.old.stage) store.old store.new (D.history store.old.disk) (D.history store.new.disk) }
+        ensures ended { (given : Reply) → result ≡ progress.Done given → store.new.stopped ≡ false → ClaimsNothing (make_claims self.new.stage) }
 
         // So it ends.
         ensures left { result ≡ progress.More → make_left self.new.stage store.new < make_left self.old.stage store.old }

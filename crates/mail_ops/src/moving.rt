@@ -5,6 +5,7 @@ ghost use Rattle.journal.specs.Events.{Around};
 ghost use Rattle.mdbox_base.specs.declared.progress.Did.TheVariants as did;
 ghost use Rattle.mdbox_base.specs.declared.progress.Progress.TheVariants as progress;
 ghost use Rattle.mdbox_base.specs.declared.replies.Refusal.TheVariants as refusal;
+ghost use Rattle.mdbox_base.specs.declared.replies.Reply.{Reply};
 ghost use Rattle.mdbox_base.specs.declared.replies.Reply.TheVariants as reply;
 ghost use Rattle.mdbox_base.specs.declared.requests.Request.TheVariants as request;
 ghost use Rattle.model_lists.specs.Lists.{Lists};
@@ -13,6 +14,9 @@ ghost use Rattle.store_core.specs.Dues.{Moves, Spares, amounts_in};
 ghost use Rattle.store_core.specs.Keeping.{KeepsMail, KeepsRest, KeepsUids};
 ghost use Rattle.task_steps.specs.Step.{Steps, ended_by};
 ghost use Rattle.mail_ops.specs.Moving.{IsAtMove, move_amounts, move_left, move_lists, lists_moved, IsReadyToMove, MoveAnswers, MovesOn};
+ghost use Rattle.task_claims.specs.Claims.{ClaimsNothing, MovesClaims};
+ghost use Rattle.task_claims.specs.Leaving.{LeavesOthers};
+ghost use Rattle.mail_ops.specs.Claims.{move_claims};
 ghost use Rattle.store_seen.specs.Seeing.{seen_of};
 ghost use Rattle.mail_ops.specs.declared.moving.MoveStage.TheVariants as stage;
 
@@ -91,7 +95,8 @@ impl MoveTask {
 
         // Of every run that has come to the store, whatever other tasks have pinned: which event it was, what it answered, and which
         // crash images it leaves.
-        ensures does { (around after : Around) (pins : ℕ → ℕ) → Steps (IsAtMove self.old.uid self.old.stage) (IsAtMove self.old.uid self.new.stage) around after (request.Move self.old.name self.old.uid self.old.target) (seen_of pins store.old (D.history store.old.disk) (D.faults store.old.disk)) (seen_of pins store.new (D.history store.new.disk) (D.faults store.new.disk)) self.new.did (ended_by result) }
+        ensures does { (around after : Around) (pins : ℕ → ℕ) → Steps (IsAtMove self.old.uid self.old.stage) (IsAtMove self.old.uid self.new.stage) around after (request.Move self.old.name self.old.uid self.old.target)
+            (seen_of pins store.old (D.history store.old.disk) (D.faults store.old.disk)) (seen_of pins store.new (D.history store.new.disk) (D.faults store.new.disk)) self.new.did (ended_by result) }
 
         // Of a settled disk each crash image at every moment is safe for its lists, or for those that the event makes of them,
         // whatever fails. Unless the store is stopped then, the disk is settled for those that the stages tell.
@@ -114,6 +119,12 @@ impl MoveTask {
         ensures rest { KeepsRest store.old store.new }
         ensures mail { store.new.stopped ≡ store.old.stopped → KeepsMail (D.history store.old.disk) (D.history store.new.disk) }
         ensures replies { store.old.stopped ≡ false → MoveAnswers self.old.name self.old.uid self.old.target self.old.stage store.old store.new self.new.stage result }
+
+        // Unless it stops the store, it moves only its own claims, and leaves to other tasks what is theirs. One that was replied claims
+        // nothing.
+        ensures claims { store.new.stopped ≡ false → MovesClaims (move_claims self.old.stage) (move_claims self.new.stage) store.old store.new }
+        ensures leaves { store.new.stopped ≡ false → LeavesOthers (move_claims self.old.stage) store.old store.new (D.history store.old.disk) (D.history store.new.disk) }
+        ensures ended { (given : Reply) → result ≡ progress.Done given → store.new.stopped ≡ false → ClaimsNothing (move_claims self.new.stage) }
 
         // So it ends.
         ensures left { result ≡ progress.More → move_left self.new.stage < move_left self.old.stage }

@@ -14,6 +14,8 @@ ghost use Rattle.mail_ops.specs.Requests.{IsOpsRequest, Replies, AppendsNothing,
 ghost use Rattle.store_core.specs.Dues.{due_at, KeepsStored, Moves, Spares, amounts_in};
 ghost use Rattle.store_core.specs.Keeping.{KeepsMail, KeepsRest, KeepsUids};
 ghost use Rattle.mail_ops.specs.Task.{IsAt, amounts_of};
+ghost use Rattle.task_claims.specs.Claims.{MovesClaims, no_claims};
+ghost use Rattle.task_claims.specs.Leaving.{LeavesOthers};
 ghost use Rattle.store_seen.specs.Seeing.{seen_of};
 ghost use Rattle.mail_ops.specs.declared.task.TaskStage.TheVariants as stage;
 
@@ -95,6 +97,10 @@ impl OpsTask {
         ensures keeps { KeepsUids store.old store.new }
         ensures rest { KeepsRest store.old store.new }
         ensures mail { store.new.stopped ≡ store.old.stopped → KeepsMail (D.history store.old.disk) (D.history store.new.disk) }
+
+        // It claims nothing. Unless it stops the store, it moves no claims, and leaves to other tasks what is theirs.
+        ensures claims { store.new.stopped ≡ false → MovesClaims no_claims no_claims store.old store.new }
+        ensures leaves { store.new.stopped ≡ false → LeavesOthers no_claims store.old store.new (D.history store.old.disk) (D.history store.new.disk) }
         ensures replies { (reply : Reply) × (result ≡ progress.Done reply) × Replies self.old.request store.old store.new reply }
         ensures same { AppendsNothing self.old.request store.old → store.new ≡ store.old }
         ensures request { self.new.request ≡ self.old.request }
@@ -117,6 +123,7 @@ fn only_event<D: Disk>(store: &mut Store<D>, request: &Request) -> (Reply, Did)
     ensures stored { store.new.stopped ≡ store.old.stopped → KeepsStored (D.history store.old.disk) (D.history store.new.disk) }
     ensures keeps { KeepsUids store.old store.new }
     ensures rest { KeepsRest store.old store.new }
+    ensures leaves { store.new.stopped ≡ false → LeavesOthers no_claims store.old store.new (D.history store.old.disk) (D.history store.new.disk) }
     ensures mail { store.new.stopped ≡ store.old.stopped → KeepsMail (D.history store.old.disk) (D.history store.new.disk) }
     ensures moments { (lists : Lists) → IsSettledFor lists (D.history store.old.disk) → Leaves lists (lists_after request.now lists) (D.history store.old.disk) (D.history store.new.disk) }
     ensures settled { store.new.stopped ≡ false → (lists : Lists) → IsSettledFor lists (D.history store.old.disk) → IsSettledFor (lists_by_reply request.now result.0 lists) (D.history store.new.disk) }

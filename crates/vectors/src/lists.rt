@@ -1,7 +1,7 @@
 // The steps of the list machine, one after another.
 use crate::line_text::{push_digits, push_line};
 use mdbox_base::{
-    BoxNo, Guid, ListRow, Name, NoMemory, Octets, Refusal, Reply, Uid, flags_of, name_of,
+    BoxNo, Flags, Guid, ListRow, Name, NoMemory, Octets, Refusal, Reply, Uid, flags_of, name_of,
 };
 use plain_lists::{PlainLists, PlainMailbox, PlainMessage};
 use std::alloc::Global;
@@ -69,11 +69,21 @@ fn of_message(
     };
     match word {
         "expunge" => Ok(Some(lists.expunge(name, Uid(uid)))),
-        "flag" => match line.parse::<u8>().ok().and_then(flags_of) {
-            Some(flags) => Ok(Some(lists.flag(name, Uid(uid), flags))),
-            None => Ok(None),
-        },
+        "flag" => {
+            let Some(flags) = flags_in(line) else {
+                return Ok(None);
+            };
+            Ok(Some(lists.flag(name, Uid(uid), flags)))
+        }
         _ => to_target(alloc, lists, word, name, Uid(uid), line),
+    }
+}
+
+/// The flags that a decimal number says.
+fn flags_in(line: &str) -> Option<Flags> {
+    match line.parse::<u8>() {
+        Ok(bits) => flags_of(bits),
+        Err(_) => None,
     }
 }
 

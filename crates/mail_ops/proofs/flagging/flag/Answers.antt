@@ -12,6 +12,9 @@ use Rattle.mail_ops.proofs.FlagEventLemmas.{flag_is_plain, flags_known, brings_n
 use Rattle.mail_ops.proofs.SettledFlagLemmas.{settled_by, counted_for, not_both}
 use Rattle.mail_ops.proofs.RemovalLemmas.{store_tells}
 use Rattle.mail_ops.proofs.KeptUidLemmas.{flags_left, logs_keep}
+use Rattle.task_claims.specs.Claims.{no_claims}
+use Rattle.mail_ops.proofs.EventLemmas.{fall}
+use Rattle.mail_ops.proofs.LeavingLemmas.{flag_leaves, same_leaves}
 use Rattle.mail_ops.proofs.flagging.flag.Goals as goal
 
 pub returns-then-stopped-clause-does : goal.returns-then-stopped-clause-does
@@ -140,3 +143,21 @@ pub returns-in-Err-Stopped-clause-rest : goal.returns-in-Err-Stopped-clause-rest
 returns-in-Err-Stopped-clause-rest g c =
     let same = c.in-Err-Stopped.ensures.same in
     same ∙ sym (ap (λ v. record c.args.store.now { disk = v.disk; map_log = v.map_log; map = v.map; boxes = v.boxes; drawn = v.drawn; dues = v.dues; stopped = v.stopped }) same)
+
+pub returns-then-stopped-clause-leaves : goal.returns-then-stopped-clause-leaves
+returns-then-stopped-clause-leaves g c = λ runs. same_leaves g.D.Disk.history no_claims c.args.store.now c.args.store.now refl
+
+pub returns-in_default-clause-leaves : goal.returns-in_default-clause-leaves
+returns-in_default-clause-leaves g c = λ runs. same_leaves g.D.Disk.history no_claims c.args.store.now c.args.store.now refl
+
+pub returns-then-is_none-clause-leaves : goal.returns-then-is_none-clause-leaves
+returns-then-is_none-clause-leaves g c = λ runs. same_leaves g.D.Disk.history no_claims c.args.store.now c.args.store.now refl
+
+pub returns-in-Ok-clause-leaves : goal.returns-in-Ok-clause-leaves
+returns-in-Ok-clause-leaves g c = λ runs.
+    let named = c.in-Some-number_of.ensures.some.0 ∙ (sym c.list_of.ensures ∙ ap (λ o. option_map (λ (i : BoxState). i.meaning) (option_copied o)) c.in-Some.is) in
+    flag_leaves c.in-Some-number_of.number.0 c.args.uid c.bits.result c.args.store.now c.append_box.new.self _ _ (ap (λ v. v.map) c.in-Ok.ensures.same) (ap (λ v. v.files) c.in-Ok.ensures.same) (ap (λ v. v.instances) c.in-Ok.ensures.same) c.in-Ok.ensures.taken c.in-Ok.ensures.others
+    (flags_left c.in-Some-number_of.number.0 c.args.uid c.bits.result c.in-Some.index.now.meaning c.args.store.now c.append_box.new.self (ap (λ v. v.map) c.in-Ok.ensures.same) c.in-Ok.ensures.taken named) (λ other. c.in-Ok.ensures.due c.in-Some.index.now.meaning other named)
+
+pub returns-in-Err-Stopped-clause-leaves : goal.returns-in-Err-Stopped-clause-leaves
+returns-in-Err-Stopped-clause-leaves g c = λ runs. absurd (fall _ (c.in-Err-Stopped.ensures.stopped.0 (ap Err c.in-Err-Stopped.field-0-is)) runs)

@@ -1,4 +1,4 @@
-use Rattle.std.proofs.Common.{sym, subst, Some}
+use Rattle.std.proofs.Common.{sym, subst, Some, refl}
 use Rattle.mdbox_base.specs.declared.requests.Request.{Request}
 use Rattle.task_steps.specs.Step.{HasNotBegun, Steps}
 use Rattle.model_store.specs.Settled.{IsSettledFor, Leaves}
@@ -6,6 +6,8 @@ use Rattle.task_steps.proofs.OneEventLemmas.{leaves_none}
 use Rattle.mail_ops.specs.Requests.{Replies, lists_after, lists_by_reply}
 use Rattle.store_seen.specs.Seeing.{seen_of}
 use Rattle.mail_ops.proofs.SettledFlagLemmas.{list_leaves_settled, uncounted, not_both}
+use Rattle.task_claims.specs.Claims.{no_claims}
+use Rattle.mail_ops.proofs.LeavingLemmas.{same_leaves}
 use Rattle.mail_ops.proofs.task.only_event.Goals as goal
 
 pub returns-in-List-clause-does : goal.returns-in-List-clause-does
@@ -41,3 +43,6 @@ returns-in-Flag-clause-settled g c = λ runs lists s.
 
 pub returns-in-List-clause-keeps : goal.returns-in-List-clause-keeps
 returns-in-List-clause-keeps g c = λ name uid held k. k
+
+pub returns-in-List-clause-leaves : goal.returns-in-List-clause-leaves
+returns-in-List-clause-leaves g c = λ runs. same_leaves g.D.Disk.history no_claims c.args.store.now c.args.store.now refl

@@ -2,6 +2,8 @@ use Rattle.std.proofs.Common.{sym, ◌∙◌}
 use Rattle.task_steps.proofs.OneEventLemmas.{leaves_none}
 use Rattle.mail_ops.proofs.KeptMailLemmas.{same_mail, mail_unnamed}
 use Rattle.mail_ops.proofs.MakeStepLemmas.{make_known_by, make_stopped}
+use Rattle.mail_ops.proofs.EventLemmas.{fall}
+use Rattle.mail_ops.proofs.MakeClaimLemmas.{make_changes, make_ended, make_leaves, make_moves}
 use Rattle.mail_ops.proofs.making.MakeTask.step.Goals as goal
 
 pub returns-then-stopped-clause-does : goal.returns-then-stopped-clause-does
@@ -60,3 +62,25 @@ returns-then-stopped-clause-mail g c = λ same. mail_unnamed _ _ (same_mail _)
 
 pub returns-clause-mail : goal.returns-clause-mail
 returns-clause-mail g c = (make_known_by g.D.Disk.history g.D.Disk.faults _ _ c.next_event-next.result.0 c.next_event-next.result.1 c.next_event-next.result.2 c.args.store.now c.next_event-next.new.store c.self.view_is c.facts.ensures.store (sym c.stopped.ensures ∙ c.if-stopped.false) c.known_name.ensures c.requires.ready c.known_logs.ensures.made c.next_event-next.ensures).mail
+
+pub returns-then-stopped-clause-claims : goal.returns-then-stopped-clause-claims
+returns-then-stopped-clause-claims g c = λ runs. absurd (fall _ (sym c.stopped.ensures ∙ c.if-stopped.true) runs)
+
+pub returns-then-stopped-clause-leaves : goal.returns-then-stopped-clause-leaves
+returns-then-stopped-clause-leaves g c = λ runs. absurd (fall _ (sym c.stopped.ensures ∙ c.if-stopped.true) runs)
+
+pub returns-then-stopped-clause-ended : goal.returns-then-stopped-clause-ended
+returns-then-stopped-clause-ended g c = λ given is runs. absurd (fall _ (sym c.stopped.ensures ∙ c.if-stopped.true) runs)
+
+pub returns-clause-claims : goal.returns-clause-claims
+returns-clause-claims g c = λ runs.
+    let k = (make_known_by g.D.Disk.history g.D.Disk.faults _ _ c.next_event-next.result.0 c.next_event-next.result.1 c.next_event-next.result.2 c.args.store.now c.next_event-next.new.store c.self.view_is c.facts.ensures.store (sym c.stopped.ensures ∙ c.if-stopped.false) c.known_name.ensures c.requires.ready c.known_logs.ensures.made c.next_event-next.ensures) in
+    make_moves c.args.self.now.stage c.next_event-next.result.0 c.args.store.now c.next_event-next.new.store (make_changes _ c.args.self.now.stage c.next_event-next.result.0 c.next_event-next.result.1 c.args.store.now c.next_event-next.new.store _ _ runs c.requires.ready k.replies) k.moves k.rest
+
+pub returns-clause-leaves : goal.returns-clause-leaves
+returns-clause-leaves g c = λ runs.
+    let k = (make_known_by g.D.Disk.history g.D.Disk.faults _ _ c.next_event-next.result.0 c.next_event-next.result.1 c.next_event-next.result.2 c.args.store.now c.next_event-next.new.store c.self.view_is c.facts.ensures.store (sym c.stopped.ensures ∙ c.if-stopped.false) c.known_name.ensures c.requires.ready c.known_logs.ensures.made c.next_event-next.ensures) in
+    make_leaves c.args.self.now.stage c.next_event-next.result.0 c.args.store.now c.next_event-next.new.store _ _ (make_changes _ c.args.self.now.stage c.next_event-next.result.0 c.next_event-next.result.1 c.args.store.now c.next_event-next.new.store _ _ runs c.requires.ready k.replies) k.moves k.rest (k.mail (runs ∙ sym (sym c.stopped.ensures ∙ c.if-stopped.false))) k.keeps
+
+pub returns-clause-ended : goal.returns-clause-ended
+returns-clause-ended g c = λ given is runs. make_ended _ c.args.self.now.stage c.next_event-next.result.0 c.next_event-next.result.1 c.args.store.now c.next_event-next.new.store _ _ given ((make_known_by g.D.Disk.history g.D.Disk.faults _ _ c.next_event-next.result.0 c.next_event-next.result.1 c.next_event-next.result.2 c.args.store.now c.next_event-next.new.store c.self.view_is c.facts.ensures.store (sym c.stopped.ensures ∙ c.if-stopped.false) c.known_name.ensures c.requires.ready c.known_logs.ensures.made c.next_event-next.ensures)).replies is runs

@@ -4,6 +4,11 @@ use Rattle.mail_ops.proofs.MoveStepLemmas.{move_known_by, move_ready, move_stopp
 use Rattle.mail_ops.proofs.KeepingLemmas.{move_keeps}
 use Rattle.mail_ops.proofs.KeptMailLemmas.{same_mail, move_mail}
 use Rattle.mail_ops.proofs.KeptRestLemmas.{move_rest}
+use Rattle.task_claims.proofs.RestLemmas.{due_claims}
+use Rattle.mail_ops.specs.Moving.{move_dues}
+use Rattle.mail_ops.proofs.EndedLemmas.{move_ended}
+use Rattle.mail_ops.proofs.EventLemmas.{fall}
+use Rattle.mail_ops.proofs.LeavingLemmas.{move_leaves_by}
 use Rattle.mail_ops.proofs.moving.MoveTask.step.Goals as goal
 
 pub returns-then-stopped-clause-does : goal.returns-then-stopped-clause-does
@@ -62,3 +67,21 @@ returns-then-stopped-clause-mail g c = λ same. same_mail _
 
 pub returns-clause-mail : goal.returns-clause-mail
 returns-clause-mail g c = λ same. move_mail g.D.Disk.history _ _ _ c.replace-now.result c.next_event-next.result.0 c.next_event-next.result.1 c.next_event-next.result.2 c.args.store.now c.next_event-next.new.store _ _ (sym c.stopped.ensures ∙ c.if-stopped.false) same c.next_event-next.ensures
+
+pub returns-then-stopped-clause-claims : goal.returns-then-stopped-clause-claims
+returns-then-stopped-clause-claims g c = λ runs. absurd (fall _ (sym c.stopped.ensures ∙ c.if-stopped.true) runs)
+
+pub returns-then-stopped-clause-leaves : goal.returns-then-stopped-clause-leaves
+returns-then-stopped-clause-leaves g c = λ runs. absurd (fall _ (sym c.stopped.ensures ∙ c.if-stopped.true) runs)
+
+pub returns-then-stopped-clause-ended : goal.returns-then-stopped-clause-ended
+returns-then-stopped-clause-ended g c = λ given is runs. absurd (fall _ (sym c.stopped.ensures ∙ c.if-stopped.true) runs)
+
+pub returns-clause-claims : goal.returns-clause-claims
+returns-clause-claims g c = λ runs. due_claims (move_dues c.args.self.now.stage) (move_dues c.next_event-next.result.0) c.args.store.now c.next_event-next.new.store ((move_known_by g.D.Disk.history g.D.Disk.faults _ _ c.replace-now.result c.next_event-next.result.0 c.next_event-next.result.1 c.next_event-next.result.2 c.args.store.now c.next_event-next.new.store c.self.view_is (sym c.replace-now.ensures.value) c.listings_are_shown.ensures.logs c.facts.ensures.store (sym c.stopped.ensures ∙ c.if-stopped.false) (move_ready _ _ c.replace-now.result c.args.store.now c.self.view_is (sym c.replace-now.ensures.value) c.requires.ready) c.next_event-next.ensures).moves.due) (move_rest _ _ _ c.replace-now.result c.next_event-next.result.0 c.next_event-next.result.1 c.next_event-next.result.2 c.args.store.now c.next_event-next.new.store _ _ _ _ c.next_event-next.ensures)
+
+pub returns-clause-leaves : goal.returns-clause-leaves
+returns-clause-leaves g c = λ runs. move_leaves_by g.D.Disk.history _ _ c.replace-now.result c.next_event-next.result.0 c.next_event-next.result.1 c.next_event-next.result.2 c.args.store.now c.next_event-next.new.store _ _ c.self.view_is (sym c.replace-now.ensures.value) c.facts.ensures.store runs c.next_event-next.ensures
+
+pub returns-clause-ended : goal.returns-clause-ended
+returns-clause-ended g c = λ given is runs. move_ended _ _ _ c.replace-now.result c.next_event-next.result.0 c.next_event-next.result.1 c.next_event-next.result.2 c.args.store.now c.next_event-next.new.store _ _ _ _ given c.next_event-next.ensures is runs

@@ -6,6 +6,8 @@ use Rattle.store_core.proofs.DueLemmas.{moves_as, spares_kept}
 use Rattle.mail_ops.specs.Requests.{lists_after}
 use Rattle.mail_ops.proofs.SettledFlagLemmas.{settled_end, ends_same, end_counted}
 use Rattle.mail_ops.proofs.StageLemmas.{only_event}
+use Rattle.task_claims.specs.Claims.{no_claims}
+use Rattle.task_claims.proofs.RestLemmas.{rest_amounts, same_claims}
 use Rattle.mail_ops.proofs.task.OpsTask.step.Goals as goal
 
 pub returns-clause-does : goal.returns-clause-does
@@ -32,3 +34,6 @@ returns-clause-fault g c = λ runs. end_counted _ _ _ _ (c.only_event-reply.ensu
 
 pub returns-clause-unfailed : goal.returns-clause-unfailed
 returns-clause-unfailed g c = λ no. c.only_event-reply.ensures.unfailed (λ e. no (ap progress.Done e))
+
+pub returns-clause-claims : goal.returns-clause-claims
+returns-clause-claims g c = λ runs. same_claims no_claims c.args.store.now c.only_event-reply.new.store (rest_amounts c.args.store.now c.only_event-reply.new.store c.only_event-reply.ensures.due c.only_event-reply.ensures.rest)

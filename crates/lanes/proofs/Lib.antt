@@ -1,0 +1,5 @@
+pub mod LaneLemmas
+pub mod OwnWorkLemmas
+pub mod ServingLemmas
+pub mod StartLemmas
+pub mod TurnLemmas

@@ -1,0 +1,4 @@
+pub mod Lanes
+pub mod OwnWork
+pub mod Serving
+pub mod Turns

@@ -1,0 +1,228 @@
+-- What each event of a copy, a move or an expunge leaves to the tasks beside it.
+use Rattle.std.proofs.Common.{◌≡◌, ◌≤◌, ◌+◌, ◌-◌, ◌||◌, ◌==◌, ℕ, Bool, true, false, cond, List, [], ◌∷◌, Option, Some, refl, sym, ◌∙◌, ap, subst, arith}
+use Rattle.std.specs.Str.{bytes_eq}
+use Rattle.std.specs.Option.{option_map_or}
+use Rattle.std.proofs.lemmas.Bool.{eqb-true}
+use Rattle.disk_model.specs.Disk.{History, Faults}
+use Rattle.mdbox_base.specs.declared.entries.BoxEntry.{BoxEntry}
+use Rattle.mdbox_base.specs.declared.entries.BoxEntry.TheVariants as box_entry
+use Rattle.mdbox_base.specs.declared.entries.MapEntry.{MapEntry}
+use Rattle.mdbox_base.specs.declared.ids.MapUid.{MapUid}
+use Rattle.mdbox_base.specs.declared.ids.Uid.{Uid}
+use Rattle.mdbox_base.specs.declared.progress.Did.{Did}
+use Rattle.mdbox_base.specs.declared.progress.Progress.{Progress}
+use Rattle.mdbox_base.specs.declared.progress.Progress.TheVariants as progress
+use Rattle.mdbox_base.specs.declared.replies.Reply.TheVariants as reply
+use Rattle.model_meaning.specs.BoxMeaning.{LogRow, BoxMeaning}
+use Rattle.model_meaning.specs.MapMeaning.{MapMeaning, MapRecord, record_at, map_applied}
+use Rattle.model_appends.specs.Appending.{meanings_by}
+use Rattle.model_appends.specs.Amounts.{bit, more_due}
+use Rattle.model_octets.proofs.SearchLemmas.{text_yes}
+use Rattle.model_store.specs.Listing.{refs_in}
+use Rattle.store_core.specs.Dues.{due_at}
+use Rattle.store_core.specs.Keeping.{KeepsMail, KeepsUids}
+use Rattle.store_core.specs.Running.{IsStore}
+use Rattle.store_core.specs.Value.{StoreValue, indexes_of, references_to}
+use Rattle.task_claims.specs.Claims.{Claims, Due, no_claims}
+use Rattle.task_claims.specs.Leaving.{LeavesOthers, LeavesUnlisted, SameButCounts}
+use Rattle.task_claims.proofs.CountedLemmas.{lowered_same, raised_same, same_map}
+use Rattle.task_claims.proofs.RestLemmas.{mail_same, rest_leaves}
+use Rattle.task_steps.specs.ExpungeStages.{one_due}
+use Rattle.mail_ops.specs.Appends.{BoxTook, MapTook, lowering_of}
+use Rattle.mail_ops.specs.Claims.{copy_claims, expunge_claims, move_claims}
+use Rattle.mail_ops.specs.Copy.{CopiesOn, CopyValue}
+use Rattle.mail_ops.specs.Copying.{AddsRow, IsNotRaised, RaisesRow, added_copy, raising_of}
+use Rattle.mail_ops.specs.Expunging.{ExpungesOn, ExpungeValue, IsNotRemoved, RemovesRow}
+use Rattle.mail_ops.specs.Messages.{IsRowOf}
+use Rattle.mail_ops.specs.Moving.{MovesOn, MoveValue}
+use Rattle.mail_ops.specs.declared.copy.CopyStage.{CopyStage}
+use Rattle.mail_ops.specs.declared.copy.CopyStage.TheVariants as copy_stage
+use Rattle.mail_ops.specs.declared.event.NotDone.{NotDone}
+use Rattle.mail_ops.specs.declared.event.NotDone.TheVariants as not_done
+use Rattle.mail_ops.specs.declared.expunging.ExpungeStage.{ExpungeStage}
+use Rattle.mail_ops.specs.declared.expunging.ExpungeStage.TheVariants as expunge_stage
+use Rattle.mail_ops.specs.declared.moving.MoveStage.{MoveStage}
+use Rattle.mail_ops.specs.declared.moving.MoveStage.TheVariants as move_stage
+use Rattle.mail_ops.proofs.EventLemmas.{fall}
+use Rattle.mail_ops.proofs.KeptMailLemmas.{same_mail}
+use Rattle.mail_ops.proofs.KeptUidLemmas.{took_keeps, addition_left, removal_left}
+use Rattle.mail_ops.proofs.MessageLemmas.{record_of_row}
+use Rattle.mail_ops.proofs.UnlistedLemmas.{addition_lists, entry_refs, flag_lists, listed_counts, removal_lists}
+
+-- ---- records that no mailbox lists
+
+some_record : (a b : MapRecord) → Some a ≡ Some b → a ≡ b
+some_record a b e = cc e
+
+-- a row of a mailbox has another record than one that isn't listed
+other_record : {D : Type 0} → (history : Option History) (store : StoreValue D) (name : List ℕ) (at number : ℕ) (row : LogRow) (uid : ℕ) (rec : MapRecord) → IsStore history store → IsRowOf name at store number row → record_at store.map uid ≡ Some rec → references_to store rec.guid ≡ 0 → row.map_uid ≡ uid → ⊥
+other_record history store name at number row uid rec is there found none same =
+    let r = record_of_row history store name at number row is there in
+    let e : r.entry ≡ rec = some_record r.entry rec (sym r.found ∙ (ap (λ (u : ℕ). record_at store.map u) same ∙ found)) in
+    let g : row.guid ≡ rec.guid = sym r.guid_is ∙ ap (λ (x : MapRecord). x.guid) e in
+    let c = listed_counts rec.guid name at store.map.boxes (indexes_of store.boxes) there.m row there.box.named there.listed (text_yes row.guid rec.guid g) in
+    omega (arith, c, none)
+
+one_none : (a b : ℕ) → a ≡ 1 → b ≡ 0 → a ≡ b → ⊥
+one_none a b x y e = omega (arith, x, y, e)
+
+-- what isn't more than nothing
+none_more : (a b : ℕ) → a ≤ b → b ≡ 0 → a ≡ 0
+none_more a b l e = omega (arith, l, e)
+
+due_other : (t : Bool) (old : ℕ) → (t ≡ true → ⊥) → old + cond t 1 0 ≡ old
+due_other true old other = absurd (other refl)
+due_other false old other = omega arith
+
+due_less : (new old mine : ℕ) → new + mine ≡ old → mine ≡ 0 → new ≡ old
+due_less new old mine e z = omega (arith, e, z)
+
+-- the mailboxes and what is due of it stay
+same_unlisted : {D : Type 0} → (mine : Claims) (old new : StoreValue D) → indexes_of new.boxes ≡ indexes_of old.boxes → ((uid : ℕ) → mine (Due uid) ≡ 0 → (rec : MapRecord) → record_at old.map uid ≡ Some rec → references_to old rec.guid ≡ 0 → due_at uid new ≡ due_at uid old) → LeavesUnlisted mine old new
+same_unlisted mine old new indexes dues = λ uid rec none found listed. (ap (λ (ms : List BoxMeaning). refs_in ms rec.guid) indexes ∙ listed, dues uid none rec found listed)
+
+-- ---- an entry of the map log
+
+map_leaves : {D : Type 0} → (mine : Claims) (entry : MapEntry) (old new : StoreValue D) (before after : Option History) (began now : Faults) → MapTook entry old new before after began now → SameButCounts old.map (map_applied entry old.map) → LeavesUnlisted mine old new → LeavesOthers mine old new before after
+map_leaves mine entry old new before after began now t same unlisted =
+    rest_leaves mine old new before after t.appends.files (ap (λ (v : StoreValue _). v.instances) t.appends.rest) (mail_same before after t.mail) (subst (λ (m : MapMeaning). SameButCounts old.map m) (sym t.taken) same) (took_keeps entry old new before after began now t) unlisted
+
+raise_leaves : {D : Type 0} → (mine : Claims) (name : List ℕ) (uid : Uid) (target : List ℕ) (held : MapUid) (old new : StoreValue D) (before after : Option History) (began now : Faults) → IsStore before old → RaisesRow name uid target held old new before after began now → LeavesOthers mine old new before after
+raise_leaves mine name uid target held old new before after began now is r =
+    map_leaves mine (raising_of held) old new before after began now r.took (raised_same held old.map)
+    (same_unlisted mine old new r.took.appends.indexes (λ u none rec found listed.
+    r.took.due u ∙ due_other (held.0 == u) (due_at u old) (λ t. other_record before old name uid.0 r.at.source r.row u rec is r.at.from found listed (sym r.holds ∙ eqb-true held.0 u t))))
+
+lower_leaves : {D : Type 0} → (owed : MapUid) (old new : StoreValue D) (before after : Option History) (began now : Faults) (mine : Claims) → ((uid : ℕ) → mine (Due uid) ≡ one_due owed.0 uid) → MapTook (lowering_of owed) old new before after began now → LeavesOthers mine old new before after
+lower_leaves owed old new before after began now mine own t =
+    map_leaves mine (lowering_of owed) old new before after began now t (lowered_same (owed ∷ []) old.map)
+    (same_unlisted mine old new t.appends.indexes (λ u none rec found listed. t.due u ∙ unlowered (owed.0 == u) (due_at u old) (sym (own u) ∙ none)))
+  where
+    unlowered : (t : Bool) (n : ℕ) → bit t ≡ 0 → n - bit (t || false) ≡ n
+    unlowered true n e = absurd (one_none 1 0 refl refl e)
+    unlowered false n e = omega arith
+
+-- ---- an entry of a mailbox's log
+
+box_leaves : {D : Type 0} → (mine : Claims) (number : ℕ) (entry : BoxEntry) (old new : StoreValue D) (before after : Option History) (began now : Faults) → BoxTook number entry old new before after began now → KeepsUids old new → LeavesUnlisted mine old new → LeavesOthers mine old new before after
+box_leaves mine number entry old new before after began now t keeps unlisted =
+    rest_leaves mine old new before after t.appends.files (ap (λ (v : StoreValue _). v.instances) t.appends.rest) (mail_same before after t.mail) (same_map old.map new.map t.appends.map) keeps unlisted
+
+add_leaves : {D : Type 0} → (mine : Claims) (name : List ℕ) (uid : Uid) (target : List ℕ) (held : MapUid) (given : Uid) (old new : StoreValue D) (before after : Option History) (began now : Faults) → ((u : ℕ) → mine (Due u) ≡ one_due held.0 u)
+    → AddsRow name uid target held given old new before after began now → LeavesOthers mine old new before after
+add_leaves mine name uid target held given old new before after began now own r =
+    box_leaves mine r.number (added_copy given r.row) old new before after began now r.took (addition_left name uid target held given old new before after began now r)
+    (λ u rec none found listed. (refs u rec listed, r.took.due r.at.m u r.at.to.numbered ∙ unadded (r.row.map_uid == u) (due_at u old) (ap (λ (k : ℕ). one_due k u) (sym r.holds) ∙ (sym (own u) ∙ none))))
+  where
+    unadded : (t : Bool) (n : ℕ) → bit t ≡ 0 → n - bit (t || false) ≡ n
+    unadded true n e = absurd (one_none 1 0 refl refl e)
+    unadded false n e = omega arith
+
+    by_guid : (rec : MapRecord) → references_to old rec.guid ≡ 0 → (t : Bool) → bytes_eq r.row.guid rec.guid ≡ t → references_to new rec.guid ≡ 0
+    by_guid rec listed true e =
+        let c = listed_counts rec.guid name uid.0 old.map.boxes (indexes_of old.boxes) r.at.from.m r.row r.at.from.box.named r.at.from.listed e in
+        absurd (omega (arith, c, listed))
+    by_guid rec listed false e =
+        none_more (references_to new rec.guid) (references_to old rec.guid)
+        (subst (λ (ms : List BoxMeaning). refs_in ms rec.guid ≤ references_to old rec.guid) (sym r.took.taken)
+        (entry_refs rec.guid r.number (added_copy given r.row) old.map.boxes (indexes_of old.boxes) (addition_lists rec.guid given r.row.flags r.row.time r.row.size (record { 0 = r.row.map_uid }) (record { 0 = r.row.guid }) e))) listed
+
+    refs : (u : ℕ) (rec : MapRecord) → references_to old rec.guid ≡ 0 → references_to new rec.guid ≡ 0
+    refs u rec listed = by_guid rec listed (bytes_eq r.row.guid rec.guid) refl
+
+remove_leaves : {D : Type 0} → (mine : Claims) (name : List ℕ) (uid : Uid) (owed : MapUid) (old new : StoreValue D) (before after : Option History) (began now : Faults) → IsStore before old → RemovesRow name uid owed old new before after began now → LeavesOthers mine old new before after
+remove_leaves mine name uid owed old new before after began now is r =
+    box_leaves mine r.number (box_entry.R uid) old new before after began now r.took (removal_left name uid owed old new before after began now r)
+    (λ u rec none found listed. (
+      none_more (references_to new rec.guid) (references_to old rec.guid)
+          (subst (λ (ms : List BoxMeaning). refs_in ms rec.guid ≤ references_to old rec.guid) (sym r.took.taken) (entry_refs rec.guid r.number (box_entry.R uid) old.map.boxes (indexes_of old.boxes) (removal_lists rec.guid uid))) listed,
+      r.took.due r.there.m u r.there.box.numbered
+          ∙ (ap (λ (o : Option LogRow). option_map_or (λ row. more_due 1 row.map_uid (λ k. due_at k old)) o (λ k. due_at k old) u) r.there.listed ∙ due_other (r.row.map_uid == u) (due_at u old) (λ t. other_record before old name uid.0 r.number r.row u rec is r.there found listed (eqb-true r.row.map_uid u t))),
+    ))
+
+-- ---- nothing
+
+pub same_leaves : {D : Type 0} → (history : D → Option History) (mine : Claims) (old new : StoreValue D) → new ≡ old → LeavesOthers mine old new (history old.disk) (history new.disk)
+same_leaves history mine old new same = subst (λ (s : StoreValue _). LeavesOthers mine old s (history old.disk) (history s.disk)) (sym same)
+    (rest_leaves mine old old (history old.disk) (history old.disk) refl refl (mail_same (history old.disk) (history old.disk) (same_mail (history old.disk))) refl (λ name uid held k. k) (λ uid rec none found listed. (listed, refl)))
+
+unraised_leaves : {D : Type 0} → (history : D → Option History) (mine : Claims) (name : List ℕ) (uid : Uid) (target : List ℕ) (error : NotDone) (old new : StoreValue D) (began now : Faults) → new.stopped ≡ false → IsNotRaised name uid target error old new (history old.disk) (history new.disk) began now
+    → LeavesOthers mine old new (history old.disk) (history new.disk)
+unraised_leaves history mine name uid target (not_done.Refused why) old new began now runs r = same_leaves history mine old new r.0
+unraised_leaves history mine name uid target not_done.NoMemory old new began now runs r = same_leaves history mine old new r.0
+unraised_leaves history mine name uid target not_done.Stopped old new began now runs r = absurd (fall new.stopped r.0.stopped runs)
+
+unremoved_leaves : {D : Type 0} → (history : D → Option History) (mine : Claims) (name : List ℕ) (uid : Uid) (error : NotDone) (old new : StoreValue D) (began now : Faults) → new.stopped ≡ false → IsNotRemoved name uid error old new (history old.disk) (history new.disk) began now
+    → LeavesOthers mine old new (history old.disk) (history new.disk)
+unremoved_leaves history mine name uid (not_done.Refused why) old new began now runs r = same_leaves history mine old new r.0
+unremoved_leaves history mine name uid not_done.NoMemory old new began now runs r = same_leaves history mine old new r.0
+unremoved_leaves history mine name uid not_done.Stopped old new began now runs r = absurd (fall new.stopped r.fell.stopped runs)
+
+-- ---- flags
+
+pub flag_leaves : {D : Type 0} → (number : ℕ) (uid : Uid) (flags : ℕ) (old new : StoreValue D) (before after : Option History) → new.map ≡ old.map → new.files ≡ old.files → new.instances ≡ old.instances → indexes_of new.boxes ≡ meanings_by number (box_entry.F uid flags) old.map.boxes (indexes_of old.boxes)
+    → KeepsMail before after → KeepsUids old new → ((other : ℕ) → due_at other new ≡ due_at other old) → LeavesOthers no_claims old new before after
+flag_leaves number uid flags old new before after map_is files instances taken mail keeps due =
+    rest_leaves no_claims old new before after files instances (mail_same before after mail) (same_map old.map new.map map_is) keeps
+    (λ other rec none found listed. (
+      none_more (references_to new rec.guid) (references_to old rec.guid)
+          (subst (λ (ms : List BoxMeaning). refs_in ms rec.guid ≤ references_to old rec.guid) (sym taken) (entry_refs rec.guid number (box_entry.F uid flags) old.map.boxes (indexes_of old.boxes) (flag_lists rec.guid uid flags))) listed,
+      due other,
+    ))
+
+-- ---- events
+
+pub copy_leaves : {D : Type 0} → (history : D → Option History) (name : List ℕ) (uid : Uid) (target : List ℕ) (now next : CopyStage) (answer : Progress) (how : Did) (old new : StoreValue D) (began faulted : Faults) → IsStore (history old.disk) old → new.stopped ≡ false
+    → CopiesOn name uid target now next answer how old new (history old.disk) (history new.disk) began faulted → LeavesOthers (copy_claims now) old new (history old.disk) (history new.disk)
+copy_leaves history name uid target copy_stage.First (copy_stage.Adding held) progress.More how old new began faulted is runs on = raise_leaves (copy_claims copy_stage.First) name uid target held old new (history old.disk) (history new.disk) began faulted is on.1
+copy_leaves history name uid target copy_stage.First copy_stage.First (progress.Done (reply.Refused why)) how old new began faulted is runs on = unraised_leaves history (copy_claims copy_stage.First) name uid target on.0 old new began faulted runs on.3
+copy_leaves history name uid target (copy_stage.Adding held) copy_stage.First (progress.Done (reply.Copied given)) how old new began faulted is runs on = add_leaves (copy_claims (copy_stage.Adding held)) name uid target held given old new (history old.disk) (history new.disk) began faulted (λ u. refl) on.1
+copy_leaves history name uid target (copy_stage.Adding held) (copy_stage.Adding still) (progress.Done (reply.Refused why)) how old new began faulted is runs on = absurd (fall new.stopped on.3.fell.stopped runs)
+copy_leaves history name uid target (copy_stage.Adding held) (copy_stage.GivingBack still why) progress.More how old new began faulted is runs on = same_leaves history (copy_claims (copy_stage.Adding held)) old new on.1
+copy_leaves history name uid target (copy_stage.GivingBack held why) copy_stage.First (progress.Done (reply.Refused given)) how old new began faulted is runs on = lower_leaves held old new (history old.disk) (history new.disk) began faulted (copy_claims (copy_stage.GivingBack held why)) (λ u. refl) on.2
+copy_leaves history name uid target (copy_stage.GivingBack held why) (copy_stage.GivingBack still cause) (progress.Done (reply.Refused given)) how old new began faulted is runs on = absurd (fall new.stopped on.4.stopped runs)
+copy_leaves history name uid target now next answer how old new began faulted is runs on = absurd on
+
+pub expunge_leaves : {D : Type 0} → (history : D → Option History) (name : List ℕ) (uid : Uid) (now next : ExpungeStage) (answer : Progress) (how : Did) (old new : StoreValue D) (began then : Faults) → IsStore (history old.disk) old → new.stopped ≡ false
+    → ExpungesOn name uid now next answer how old new (history old.disk) (history new.disk) began then → LeavesOthers (expunge_claims now) old new (history old.disk) (history new.disk)
+expunge_leaves history name uid expunge_stage.First (expunge_stage.Owing owed) progress.More how old new began then is runs on = remove_leaves (expunge_claims expunge_stage.First) name uid owed old new (history old.disk) (history new.disk) began then is on.1
+expunge_leaves history name uid expunge_stage.First expunge_stage.First (progress.Done (reply.Refused why)) how old new began then is runs on = unremoved_leaves history (expunge_claims expunge_stage.First) name uid on.0 old new began then runs on.3
+expunge_leaves history name uid (expunge_stage.Owing owed) expunge_stage.First (progress.Done reply.Done) how old new began then is runs on = lower_leaves owed old new (history old.disk) (history new.disk) began then (expunge_claims (expunge_stage.Owing owed)) (λ u. refl) on.1
+expunge_leaves history name uid (expunge_stage.Owing owed) (expunge_stage.Owing still) (progress.Done (reply.Refused why)) how old new began then is runs on = absurd (fall new.stopped on.3.stopped runs)
+expunge_leaves history name uid now next answer how old new began then is runs on = absurd on
+
+pub move_leaves : {D : Type 0} → (history : D → Option History) (name : List ℕ) (uid : Uid) (target : List ℕ) (now next : MoveStage) (answer : Progress) (how : Did) (old new : StoreValue D) (began faulted : Faults) → IsStore (history old.disk) old → new.stopped ≡ false
+    → MovesOn name uid target now next answer how old new (history old.disk) (history new.disk) began faulted → LeavesOthers (move_claims now) old new (history old.disk) (history new.disk)
+move_leaves history name uid target move_stage.First (move_stage.Adding held) progress.More how old new began faulted is runs on = raise_leaves (move_claims move_stage.First) name uid target held old new (history old.disk) (history new.disk) began faulted is on.1
+move_leaves history name uid target move_stage.First move_stage.First (progress.Done (reply.Refused why)) how old new began faulted is runs on = unraised_leaves history (move_claims move_stage.First) name uid target on.0 old new began faulted runs on.3
+move_leaves history name uid target (move_stage.Adding held) (move_stage.Removing still copied) progress.More how old new began faulted is runs on = add_leaves (move_claims (move_stage.Adding held)) name uid target held copied old new (history old.disk) (history new.disk) began faulted (λ u. refl) on.2
+move_leaves history name uid target (move_stage.Adding held) (move_stage.Adding still) (progress.Done (reply.Refused why)) how old new began faulted is runs on = absurd (fall new.stopped on.3.fell.stopped runs)
+move_leaves history name uid target (move_stage.Adding held) (move_stage.GivingBack still why) progress.More how old new began faulted is runs on = same_leaves history (move_claims (move_stage.Adding held)) old new on.1
+move_leaves history name uid target (move_stage.GivingBack held why) move_stage.First (progress.Done (reply.Refused given)) how old new began faulted is runs on = lower_leaves held old new (history old.disk) (history new.disk) began faulted (move_claims (move_stage.GivingBack held why)) (λ u. refl) on.2
+move_leaves history name uid target (move_stage.GivingBack held why) (move_stage.GivingBack still cause) (progress.Done (reply.Refused given)) how old new began faulted is runs on = absurd (fall new.stopped on.4.stopped runs)
+move_leaves history name uid target (move_stage.Removing held copied) (move_stage.Owing owed same) progress.More how old new began faulted is runs on = remove_leaves (move_claims (move_stage.Removing held copied)) name uid held old new (history old.disk) (history new.disk) began faulted is on.3
+move_leaves history name uid target (move_stage.Removing held copied) move_stage.First (progress.Done (reply.Moved given gone)) how old new began faulted is runs on = same_leaves history (move_claims (move_stage.Removing held copied)) old new on.3
+move_leaves history name uid target (move_stage.Removing held copied) (move_stage.Removing still same) (progress.Done (reply.Refused why)) how old new began faulted is runs on = absurd (fall new.stopped on.4.fell.stopped runs)
+move_leaves history name uid target (move_stage.Owing owed copied) move_stage.First (progress.Done (reply.Moved given gone)) how old new began faulted is runs on = lower_leaves owed old new (history old.disk) (history new.disk) began faulted (move_claims (move_stage.Owing owed copied)) (λ u. refl) on.3
+move_leaves history name uid target (move_stage.Owing owed copied) (move_stage.Owing still same) (progress.Done (reply.Refused why)) how old new began faulted is runs on = absurd (fall new.stopped on.4.stopped runs)
+move_leaves history name uid target now next answer how old new began faulted is runs on = absurd on
+
+-- ---- of a task that is seen as this
+
+pub copy_leaves_by : {D : Type 0} → (history : D → Option History) (task seen : CopyValue) (now next : CopyStage) (answer : Progress) (how : Did) (old new : StoreValue D) (began faulted : Faults) → task ≡ seen → task.stage ≡ now → IsStore (history old.disk) old → new.stopped ≡ false
+    → CopiesOn task.name task.uid task.target now next answer how old new (history old.disk) (history new.disk) began faulted → LeavesOthers (copy_claims seen.stage) old new (history old.disk) (history new.disk)
+copy_leaves_by history task seen now next answer how old new began faulted same at is runs on =
+    subst (λ (v : CopyValue). LeavesOthers (copy_claims v.stage) old new (history old.disk) (history new.disk)) same
+    (subst (λ (s : CopyStage). LeavesOthers (copy_claims s) old new (history old.disk) (history new.disk)) (sym at) (copy_leaves history task.name task.uid task.target now next answer how old new began faulted is runs on))
+
+pub expunge_leaves_by : {D : Type 0} → (history : D → Option History) (task seen : ExpungeValue) (now next : ExpungeStage) (answer : Progress) (how : Did) (old new : StoreValue D) (began then : Faults) → task ≡ seen → task.stage ≡ now → IsStore (history old.disk) old → new.stopped ≡ false
+    → ExpungesOn task.name task.uid now next answer how old new (history old.disk) (history new.disk) began then → LeavesOthers (expunge_claims seen.stage) old new (history old.disk) (history new.disk)
+expunge_leaves_by history task seen now next answer how old new began then same at is runs on =
+    subst (λ (v : ExpungeValue). LeavesOthers (expunge_claims v.stage) old new (history old.disk) (history new.disk)) same
+    (subst (λ (s : ExpungeStage). LeavesOthers (expunge_claims s) old new (history old.disk) (history new.disk)) (sym at) (expunge_leaves history task.name task.uid now next answer how old new began then is runs on))
+
+pub move_leaves_by : {D : Type 0} → (history : D → Option History) (task seen : MoveValue) (now next : MoveStage) (answer : Progress) (how : Did) (old new : StoreValue D) (began faulted : Faults) → task ≡ seen → task.stage ≡ now → IsStore (history old.disk) old → new.stopped ≡ false
+    → MovesOn task.name task.uid task.target now next answer how old new (history old.disk) (history new.disk) began faulted → LeavesOthers (move_claims seen.stage) old new (history old.disk) (history new.disk)
+move_leaves_by history task seen now next answer how old new began faulted same at is runs on =
+    subst (λ (v : MoveValue). LeavesOthers (move_claims v.stage) old new (history old.disk) (history new.disk)) same
+    (subst (λ (s : MoveStage). LeavesOthers (move_claims s) old new (history old.disk) (history new.disk)) (sym at) (move_leaves history task.name task.uid task.target now next answer how old new began faulted is runs on))

@@ -1,0 +1,6 @@
+pub mod CountedLemmas
+pub mod LeftLemmas
+pub mod OpenedLemmas
+pub mod RestLemmas
+pub mod StayLemmas
+pub mod StoredLemmas
