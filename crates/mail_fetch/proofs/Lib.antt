@@ -1,4 +1,5 @@
 pub mod BodyLemmas
+pub mod ClaimLemmas
 pub mod FetchEventLemmas
 pub mod FetchPartLemmas
 pub mod FirstEventLemmas
@@ -8,7 +9,9 @@ pub mod MessageLemmas
 pub mod OwnPinLemmas
 pub mod PartLemmas
 pub mod PieceLemmas
+pub mod ReadyLemmas
 pub mod RecordLemmas
+pub mod StableLemmas
 pub mod StepLemmas
 pub mod StepViewLemmas
 pub mod StoredRegionLemmas

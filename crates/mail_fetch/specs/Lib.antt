@@ -1,3 +1,4 @@
+pub mod Claims
 pub mod Clause
 pub mod Events
 pub mod Failed

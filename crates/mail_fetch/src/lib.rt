@@ -1,7 +1,10 @@
 //! Fetching a message, done event by event.
 #![tactic(auto)]
 
-pub use laws::{fetch_stages_are_kept, stored_messages_are_fetched};
+pub use laws::{
+    fetch_stages_are_kept, fetches_are_stable, fetches_get_ready, fetches_spare_others,
+    stored_messages_are_fetched,
+};
 pub use parts::{Part, Source, StoredAt};
 pub use region::Region;
 pub use task::{FetchStage, FetchTask};

@@ -5,9 +5,12 @@ ghost use Rattle.disk_model.specs.FaultCounts.{NoFault};
 ghost use Rattle.journal.specs.Events.{Around};
 ghost use Rattle.mdbox_base.specs.declared.progress.Did.TheVariants as did;
 ghost use Rattle.mdbox_base.specs.declared.progress.Progress.TheVariants as progress;
+ghost use Rattle.mdbox_base.specs.declared.replies.Reply.{Reply};
 ghost use Rattle.mdbox_base.specs.declared.requests.Request.TheVariants as request;
-ghost use Rattle.store_core.specs.Dues.{Moves, Spares, amounts_in, no_amounts};
+ghost use Rattle.task_claims.specs.Claims.{Claims, ClaimsNothing, MovesClaims};
+ghost use Rattle.task_claims.specs.Leaving.{LeavesOthers};
 ghost use Rattle.task_steps.specs.Step.{ended_by};
+ghost use Rattle.mail_fetch.specs.Claims.{fetch_claims};
 ghost use Rattle.mail_fetch.specs.Clause.{StepsOnSafe};
 ghost use Rattle.mail_fetch.specs.Failed.{HasFailedRead};
 ghost use Rattle.mail_fetch.specs.Events.{FetchesNext, IsBegun, IsPieceRead, NoChangeFault};
@@ -87,9 +90,13 @@ impl FetchTask {
         // What was read, and what is replied, over every disk.
         ensures replies { FetchesNext self.old.name self.old.uid.0 self.old.stage self.new.stage result store.old (D.history store.old.disk) (D.faults store.old.disk) (D.faults store.new.disk) }
 
-        // It holds and owes nothing, and what others do it leaves to them. Nothing changes but the number of device calls.
-        ensures moves { Moves no_amounts no_amounts (amounts_in store.old) (amounts_in store.new) }
-        ensures spares { Spares no_amounts store.old store.new (D.history store.old.disk) (D.history store.new.disk) }
+        // It moves no task's claims: the store isn't told of its pin and its holds. It leaves to all others what is theirs. One that
+        // was replied claims nothing.
+        ensures claims { (mine : Claims) → MovesClaims mine mine store.old store.new }
+        ensures leaves { (mine : Claims) → LeavesOthers mine store.old store.new (D.history store.old.disk) (D.history store.new.disk) }
+        ensures ended { (given : Reply) → result ≡ progress.Done given → store.new.stopped ≡ false → ClaimsNothing (fetch_claims self.new.stage) }
+
+        // Nothing changes but the number of device calls.
         ensures same { store.new ≡ record store.old { disk = store.new.disk } }
         ensures idle { IsIdle (D.history store.old.disk) (D.history store.new.disk) }
         ensures fault { NoChangeFault (D.faults store.old.disk) (D.faults store.new.disk) }

@@ -9,7 +9,7 @@ use Rattle.std.proofs.lemmas.List.Elements.{All-contains, All-head, All-tail}
 use Rattle.disk_model.specs.Disk.{History}
 use Rattle.mdbox_base.specs.declared.entries.InstRow.{InstRow}
 use Rattle.mdbox_base.specs.declared.ids.InstId.{InstId}
-use Rattle.model_meaning.specs.MapMeaning.{MapMeaning, MapRecord, is_sealed, named_instances}
+use Rattle.model_meaning.specs.MapMeaning.{MapRecord, is_sealed, named_instances}
 use Rattle.model_octets.proofs.SearchLemmas.{among, both_same, found_one, text_is, text_yes}
 use Rattle.list_machine.specs.Run.{is_one_of}
 use Rattle.journal.specs.Found.{is_same_instance}
@@ -22,8 +22,8 @@ use Rattle.storage_files.specs.declared.file.MailFile.{MailFile}
 use Rattle.store_core.specs.Knows.{knows_file, knows_instance, is_told_of}
 use Rattle.store_core.specs.Value.{StoreValue}
 use Rattle.store_files.specs.Barred.{is_barred}
-use Rattle.store_files.specs.Found.{AreFilesFound, IsMarked, end_found, IsFoundFiles}
-use Rattle.store_files.specs.Regions.{end_of, has_region, last_end, region_numbers}
+use Rattle.store_files.specs.Found.{IsMarked, end_found, IsFoundFiles}
+use Rattle.store_files.specs.Regions.{end_of, last_end, region_numbers}
 use Rattle.store_seen.specs.Seeing.{may_be_barred}
 use Rattle.store_instances.specs.FoundInstances.{IsFoundInstances}
 use Rattle.store_sweep.proofs.KnownFileLemmas.{found_in}

@@ -1,0 +1,205 @@
+-- A fetch stays ready beside every event of every other task.
+use Rattle.std.proofs.Common.{◌≡◌, ◌≤◌, ◌+◌, ◌==◌, ℕ, List, [], ◌∷◌, ◌++◌, length, map, get_or, Option, Some, None, refl, sym, ◌∙◌, ap, subst, arith, All}
+use Rattle.std.specs.Prelude.{if◌then◌else◌}
+use Rattle.std.specs.Str.{bytes_eq}
+use Rattle.std.proofs.lemmas.Bool.{cond-true, eq-eqb}
+use Rattle.std.proofs.lemmas.List.{length-append}
+use Rattle.std.proofs.lemmas.List.Elements.{All-cons, All-nil, All-head, All-tail}
+use Rattle.std.proofs.lemmas.List.Sums.{sum_by-cons}
+use Rattle.std.proofs.lemmas.Slice.Eq.{bytes_eq-Decides}
+use Rattle.disk_model.specs.Disk.{Files, History}
+use Rattle.disk_model.specs.declared.name.FileName.TheVariants.{Mail}
+use Rattle.mdbox_base.specs.declared.entries.InstRow.{InstRow}
+use Rattle.mdbox_base.specs.declared.ids.FileNo.{FileNo}
+use Rattle.mdbox_base.specs.declared.ids.InstId.{InstId}
+use Rattle.model_meaning.specs.MapMeaning.{MapRecord}
+use Rattle.model_store.specs.Settled.{files_of}
+use Rattle.sis_store.specs.OnDisk.{instance_file}
+use Rattle.storage_files.specs.OnDisk.{piece_read}
+use Rattle.store_core.specs.Keeping.{holds_of}
+use Rattle.store_core.specs.StoreInstances.{IsKnownRow}
+use Rattle.store_core.specs.Value.{StoreValue}
+use Rattle.store_core.proofs.MailChangeLemmas.{part_behind}
+use Rattle.task_claims.specs.Leaving.{HasRegionOctets, LeavesInstance}
+use Rattle.task_claims.specs.Stable.{Beside, IsStable}
+use Rattle.task_claims.proofs.LeftLemmas.{instance_left, pinned_left}
+use Rattle.task_claims.proofs.StoredLemmas.{KeepsRow, stores_on}
+use Rattle.mail_fetch.specs.Claims.{IsClaimedPart, IsClaimedTo, IsReadyToFetch, IsReadyToRead, ReadsStored, fetch_claims}
+use Rattle.mail_fetch.specs.Parts.{KnowsSource, instance_part, part_read, parts_read, parts_to_read, region_part, source_file}
+use Rattle.mail_fetch.specs.Region.{RegionValue}
+use Rattle.mail_fetch.specs.Stages.{IsFrontOfStored, Reading}
+use Rattle.mail_fetch.specs.Task.{KnowsPinned, one_pin}
+use Rattle.mail_fetch.specs.declared.parts.Part.{Part}
+use Rattle.mail_fetch.specs.declared.parts.Source.{Source}
+use Rattle.mail_fetch.specs.declared.parts.Source.TheVariants as source
+use Rattle.mail_fetch.specs.declared.parts.StoredAt.{StoredAt}
+use Rattle.mail_fetch.specs.declared.task.FetchStage.{FetchStage}
+use Rattle.mail_fetch.specs.declared.task.FetchStage.TheVariants as stage
+use Rattle.mail_fetch.proofs.PartLemmas.{reads_of_parts}
+
+-- ---- its own claims
+
+own_pin : (file : ℕ) → 1 ≤ one_pin file file
+own_pin file = let e : one_pin file file ≡ 1 = cond-true (file == file) 1 0 (eq-eqb file file refl) in omega (arith, e)
+
+one_of : InstId → InstRow → ℕ
+one_of id row = if bytes_eq row.id.0 id.0 then 1 else 0
+
+more_held : (x : InstRow) (xs rows : List InstRow) (id : InstId) → holds_of (x ∷ xs) id ≤ holds_of rows id → holds_of xs id ≤ holds_of rows id
+unfolding one_of
+more_held x xs rows id le = let b : holds_of (x ∷ xs) id ≡ one_of id x + holds_of xs id = sum_by-cons (one_of id) x xs in omega (arith, le, b)
+
+first_held : (x : InstRow) (xs rows : List InstRow) → holds_of (x ∷ xs) x.id ≤ holds_of rows x.id → 1 ≤ holds_of rows x.id
+unfolding one_of
+first_held x xs rows le =
+    let b : holds_of (x ∷ xs) x.id ≡ one_of x.id x + holds_of xs x.id = sum_by-cons (one_of x.id) x xs in
+    let one : one_of x.id x ≡ 1 = cond-true (bytes_eq x.id.0 x.id.0) 1 0 ((bytes_eq-Decides x.id.0 x.id.0).1 refl) in
+    omega (arith, le, b, one)
+
+held_among : (xs rows : List InstRow) → ((id : InstId) → holds_of xs id ≤ holds_of rows id) → All (λ row. 1 ≤ holds_of rows row.id) xs
+held_among [] rows le = All-nil (λ (row : InstRow). 1 ≤ holds_of rows row.id)
+held_among (x ∷ xs) rows le = All-cons (λ (row : InstRow). 1 ≤ holds_of rows row.id) x xs (first_held x xs rows (le x.id)) (held_among xs rows (λ id. more_held x xs rows id (le id)))
+
+pub own_holds : (rows : List InstRow) → All (λ row. 1 ≤ holds_of rows row.id) rows
+own_holds rows = held_among rows rows (λ id. omega arith)
+
+-- ---- what is left to it
+
+rows_left : {D : Type 0} → (region : RegionValue) (old new : StoreValue D) (before after : Option History) → Beside (fetch_claims (stage.Reading region)) old new before after → All (IsKnownRow old.instances.known) region.from.instances
+    → All (λ row. LeavesInstance row old new before after) region.from.instances
+rows_left region old new before after b known = λ i d lt. instance_left (fetch_claims (stage.Reading region)) old new before after (get_or region.from.instances i d) b (own_holds region.from.instances i d lt) (known i d lt)
+
+-- an instance of which a part is left, or no instance
+LeavesSource : {D : Type 0} → StoreValue D → StoreValue D → Option History → Option History → Source → Type 0
+LeavesSource old new before after (source.Mail file) = Unit {0}
+LeavesSource old new before after (source.Instance row) = LeavesInstance row old new before after
+
+source_left : {D : Type 0} → (region : RegionValue) (old new : StoreValue D) (before after : Option History) (s : Source) (end : ℕ) → Beside (fetch_claims (stage.Reading region)) old new before after → IsClaimedTo region.from end s → KnowsSource old.instances.known s → LeavesSource old new before after s
+unfolding LeavesSource
+source_left region old new before after (source.Mail file) end b claimed known = tt
+source_left region old new before after (source.Instance row) end b claimed known = instance_left (fetch_claims (stage.Reading region)) old new before after row b claimed known
+
+still_known : {D : Type 0} → (old new : StoreValue D) (before after : Option History) (s : Source) → LeavesSource old new before after s → KnowsSource new.instances.known s
+unfolding LeavesSource
+still_known old new before after (source.Mail file) left = tt
+still_known old new before after (source.Instance row) left = left.known
+
+parts_left : {D : Type 0} → (region : RegionValue) (old new : StoreValue D) (before after : Option History) → Beside (fetch_claims (stage.Reading region)) old new before after → IsReadyToRead region old → All (λ part. LeavesSource old new before after part.source) region.left
+parts_left region old new before after b ready = λ i d lt. let part = get_or region.left i d in source_left region old new before after part.source (part.offset + part.size) b (ready.parts i d lt) (ready.left i d lt)
+
+pub fetch_stable : {D : Type 0} → (now : FetchStage) → IsStable {D = D} (fetch_claims now) (λ store history. IsReadyToFetch now store)
+fetch_stable stage.First old new before after b ready = tt
+fetch_stable (stage.Unpinning from given) old new before after b ready = tt
+fetch_stable (stage.Reading region) old new before after b ready = record {
+  parts = ready.parts;
+  left = λ i d lt. still_known old new before after (get_or region.left i d).source (parts_left region old new before after b ready i d lt);
+  instances = λ i d lt. (rows_left region old new before after b ready.instances i d lt).known;
+}
+
+-- ---- what the disk stores
+
+-- what a file has there is the beginning of what it has then
+abbrev Grows : Files → Files → ℕ → Type 0
+Grows a b number = (there : List ℕ) → a (Mail number) ≡ Some there → (more : List ℕ) × (b (Mail number) ≡ Some (there ++ more))
+
+abbrev SameInstance : Files → Files → InstRow → Type 0
+SameInstance a b row = b (instance_file row) ≡ a (instance_file row)
+
+SameSource : Files → Files → Source → Type 0
+SameSource a b (source.Mail file) = Unit {0}
+SameSource a b (source.Instance row) = SameInstance a b row
+
+-- the message's file, as it is and as it was
+record HasGrown (from : StoredAt) (a b : Files) : Type 0 where
+  pub there : List ℕ
+  pub more : List ℕ
+  pub was : a (Mail from.file.0) ≡ Some there
+  pub is : b (Mail from.file.0) ≡ Some (there ++ more)
+  pub inside : from.offset + from.size ≤ length there
+
+mail_same : (from : StoredAt) (a b : Files) (file : FileNo) (offset size : ℕ) → HasGrown from a b → file ≡ from.file → offset + size ≤ from.offset + from.size → piece_read offset size (b (Mail file.0)) ≡ piece_read offset size (a (Mail file.0))
+mail_same from a b file offset size g same within =
+    let was : a (Mail file.0) ≡ Some g.there = subst (λ (f : FileNo). a (Mail f.0) ≡ Some g.there) (sym same) g.was in
+    let is : b (Mail file.0) ≡ Some (g.there ++ g.more) = subst (λ (f : FileNo). b (Mail f.0) ≡ Some (g.there ++ g.more)) (sym same) g.is in
+    let inside = g.inside in
+    ap (piece_read offset size) is ∙ (part_behind size offset g.there g.more (omega (arith, inside, within)) ∙ sym (ap (piece_read offset size) was))
+
+source_same : (from : StoredAt) (a b : Files) (s : Source) (offset size : ℕ) → HasGrown from a b → IsClaimedTo from (offset + size) s → SameSource a b s → piece_read offset size (b (source_file s)) ≡ piece_read offset size (a (source_file s))
+unfolding SameSource
+source_same from a b (source.Mail file) offset size g claimed same = mail_same from a b file offset size g claimed.0 claimed.1
+source_same from a b (source.Instance row) offset size g claimed same = ap (piece_read offset size) same
+
+parts_same : (from : StoredAt) (a b : Files) (parts : List Part) → HasGrown from a b → All (IsClaimedPart from) parts → All (λ part. SameSource a b part.source) parts → parts_read b parts ≡ parts_read a parts
+parts_same from a b [] g claimed same = refl
+parts_same from a b (p ∷ ps) g claimed same =
+    ap (λ (xs : List ℕ). xs ++ parts_read b ps) (source_same from a b p.source p.offset p.size g (All-head (IsClaimedPart from) p ps claimed) (All-head (λ (part : Part). SameSource a b part.source) p ps same))
+    ∙ ap (λ (xs : List ℕ). part_read a p ++ xs) (parts_same from a b ps g (All-tail (IsClaimedPart from) p ps claimed) (All-tail (λ (part : Part). SameSource a b part.source) p ps same))
+
+rows_same : (a b : Files) (rows : List InstRow) → All (SameInstance a b) rows → parts_read b (map instance_part rows) ≡ parts_read a (map instance_part rows)
+rows_same a b [] same = refl
+rows_same a b (r ∷ rs) same =
+    ap (λ (xs : List ℕ). xs ++ parts_read b (map instance_part rs)) (ap (piece_read 0 r.size) (All-head (SameInstance a b) r rs same))
+    ∙ ap (λ (xs : List ℕ). part_read a (instance_part r) ++ xs) (rows_same a b rs (All-tail (SameInstance a b) r rs same))
+
+all_same : (from : StoredAt) (a b : Files) → HasGrown from a b → All (SameInstance a b) from.instances → parts_read b (parts_to_read from) ≡ parts_read a (parts_to_read from)
+all_same from a b g same =
+    reads_of_parts b from
+    ∙ (ap (λ (xs : List ℕ). xs ++ parts_read b (map instance_part from.instances)) (mail_same from a b from.file from.offset from.size g refl (omega arith))
+    ∙ (ap (λ (xs : List ℕ). part_read a (region_part from) ++ xs) (rows_same a b from.instances same) ∙ sym (reads_of_parts a from)))
+
+-- the region has the octets that it had
+region_grown : (a b : Files) (entry : MapRecord) (octets : List ℕ) → Grows a b entry.file → HasRegionOctets a entry octets → HasRegionOctets b entry octets
+region_grown a b entry octets grows h =
+    let g = grows h.there h.in_file in
+    let inside = h.inside in
+    record { there = h.there ++ g.0; in_file = g.1; inside = (let long = length-append h.there g.0 in omega (arith, inside, long)); same = part_behind entry.size entry.offset h.there g.0 h.inside ∙ h.same }
+
+front_left : (region : RegionValue) (octets : List ℕ) (a b : Files) → Grows a b region.from.file.0 → All (SameInstance a b) region.from.instances → All (IsClaimedPart region.from) region.left → All (λ part. SameSource a b part.source) region.left
+    → IsFrontOfStored region octets a → IsFrontOfStored region octets b
+front_left region octets a b grows same claimed left f =
+    let entry = f.entry in
+    let grown : Grows a b entry.file = subst (λ (s : StoredAt). Grows a b s.file.0) f.from grows in
+    let rows : All (SameInstance a b) entry.instances = subst (λ (s : StoredAt). All (SameInstance a b) s.instances) f.from same in
+    let there : List ℕ = f.stores.stored.octets_there in
+    let was : a (Mail region.from.file.0) ≡ Some there = subst (λ (s : StoredAt). a (Mail s.file.0) ≡ Some there) (sym f.from) f.stores.stored.there in
+    let inside : region.from.offset + region.from.size ≤ length there = subst (λ (s : StoredAt). s.offset + s.size ≤ length there) (sym f.from) f.stores.stored.inside in
+    let more = grows there was in
+    let g : HasGrown region.from a b = record { there = there; more = more.0; was = was; is = more.1; inside = inside } in
+    let keeps : KeepsRow a b entry entry = record { guid = refl; size = refl; instances = refl; region = λ own h. region_grown a b entry own grown h; same = λ i d lt own is. rows i d lt ∙ is } in
+    record {
+      row = f.row;
+      entry = entry;
+      from = f.from;
+      listed = f.listed;
+      stores = stores_on a b entry entry octets keeps f.stores;
+      sizes = λ i d lt. let w = f.sizes i d lt in record { octets = w.octets; there = rows i d lt ∙ w.there; size = w.size };
+      front = ap (λ (xs : List ℕ). region.octets ++ xs) (parts_same region.from a b region.left g claimed left) ∙ (f.front ∙ sym (all_same region.from a b g same));
+    }
+
+reads_alike : {D : Type 0} → (old new : StoreValue D) (a b : History) (s : Source) → LeavesSource old new (Some a) (Some b) s → SameSource (files_of a.now) (files_of b.now) s
+unfolding LeavesSource SameSource
+reads_alike old new a b (source.Mail file) left = tt
+reads_alike old new a b (source.Instance row) left = left.reads
+
+reads_stay : {D : Type 0} → (region : RegionValue) (octets : List ℕ) (old new : StoreValue D) (before after : Option History) → Beside (fetch_claims (stage.Reading region)) old new before after → IsReadyToRead region old
+    → Reading (IsFrontOfStored region octets) before → Reading (IsFrontOfStored region octets) after
+reads_stay region octets old new None after b ready f = absurd f
+reads_stay region octets old new (Some was) None b ready f = absurd b.leaves.told
+reads_stay region octets old new (Some was) (Some is) b ready f =
+    front_left region octets (files_of was.now) (files_of is.now)
+    ((pinned_left (fetch_claims (stage.Reading region)) old new (Some was) (Some is) region.from.file.0 b (own_pin region.from.file.0)).0.reads)
+    (λ i d lt. (rows_left region old new (Some was) (Some is) b ready.instances i d lt).reads)
+    ready.parts
+    (λ i d lt. reads_alike old new was is (get_or region.left i d).source (parts_left region old new (Some was) (Some is) b ready i d lt))
+    f
+
+pub stored_stable : {D : Type 0} → (now : FetchStage) (octets : List ℕ) → IsStable {D = D} (fetch_claims now) (λ store history. IsReadyToFetch now store × ReadsStored now octets history)
+stored_stable stage.First octets old new before after b ready = (tt, tt)
+stored_stable (stage.Unpinning from given) octets old new before after b ready = (tt, tt)
+stored_stable (stage.Reading region) octets old new before after b ready = (fetch_stable (stage.Reading region) old new before after b ready.0, reads_stay region octets old new before after b ready.0 ready.1)
+
+-- it knows what is left to read
+pub ready_known : {D : Type 0} → (now : FetchStage) (store : StoreValue D) → IsReadyToFetch now store → KnowsPinned now store
+ready_known stage.First store ready = tt
+ready_known (stage.Reading region) store ready = ready.left
+ready_known (stage.Unpinning from given) store ready = tt
