@@ -1,5 +1,0 @@
-use Rattle.test_tasks.proofs.HeldLemmas.{found_unheld}
-use Rattle.test_tasks.proofs.deliveries.opened.Goals as goal
-
-pub returns-in-Ok : goal.returns-in-Ok
-returns-in-Ok c = found_unheld c.in-Ok.store.map c.in-Ok.store.instances c.in-Ok.ensures.instances

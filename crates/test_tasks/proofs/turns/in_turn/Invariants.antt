@@ -1,5 +1,0 @@
-use Rattle.test_tasks.specs.Deliveries.{AreBesideIn}
-use Rattle.test_tasks.proofs.turns.in_turn.Given as goal
-
-abbrev pub invariant-loop-turn : goal.invariant-loop-turn
-invariant-loop-turn l = AreBesideIn l.first l.second l.store
