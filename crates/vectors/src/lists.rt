@@ -8,8 +8,14 @@ use std::alloc::Global;
 
 const GUID: Guid = Guid(*b"\x00\x11\x22\x33\x44\x55\x66\x77\0\0\0\x01\0\0\0\x10");
 
-/// Lists of an INBOX with one message of these octets, UID 1, no flags, received at 1,694,498,816.
+/// How many octets a message has at most.
+const MOST: usize = 67_108_864;
+
+/// Lists of an INBOX with one message of these octets, UID 1, no flags, received at 1,694,498,816. None if there are too many.
 pub fn with_message(alloc: Global, octets: &[u8]) -> Result<Option<PlainLists>, NoMemory> {
+    if octets.len() > MOST {
+        return Ok(None);
+    }
     let (Some(flags), Some(name)) = (flags_of(0), name_of(alloc, b"INBOX")?) else {
         return Ok(None);
     };

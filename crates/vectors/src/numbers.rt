@@ -27,9 +27,10 @@ pub fn tell_hex(alloc: Global, out: &mut String, octets: &[u8]) -> Result<(), No
 
 /// The two octets that lower digits say.
 pub fn tell_lower(alloc: Global, out: &mut String, octets: &[u8]) -> Result<(), NoMemory> {
-    let Some([first, second]) = read_lower_hex::<2>(octets) else {
+    let Some(pair) = read_lower_hex::<2>(octets) else {
         return push_line(out, "none");
     };
+    let (first, second) = (pair[0], pair[1]);
     let text = format!(in alloc; "{first} {second}")?;
     push_line(out, text.as_str())
 }
