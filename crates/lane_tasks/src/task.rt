@@ -6,7 +6,7 @@ ghost use Rattle.mdbox_base.specs.declared.requests.Request.{Request as RequestV
 ghost use Rattle.task_claims.specs.Claims.{ClaimsNothing, MovesClaims};
 ghost use Rattle.task_claims.specs.Leaving.{LeavesOthers};
 ghost use Rattle.task_steps.specs.Step.{ended_by};
-ghost use Rattle.lane_tasks.specs.Clause.{StepsTask};
+ghost use Rattle.lane_tasks.specs.Clause.{HasTaskRoom, StepsTask};
 ghost use Rattle.lane_tasks.specs.Tasks.{BeginsTask, HasTask, IsReadyTask, IsTaskOf, claims_at, work_left};
 
 use disk_model::Disk;
@@ -53,8 +53,9 @@ impl Task {
 
     /// Does the next event. A task that has given its reply begins anew; one that was stopped stays where it was.
     pub fn step<D: Disk>(&mut self, store: &mut Store<D>) -> Progress
-        // Unless the store is stopped, it is ready for its event, and afterwards for the next.
+        // Unless the store is stopped, it is ready for its event, and has room for it; and afterwards it is ready for the next.
         requires ready { store.old.stopped ≡ false → IsReadyTask self.old store.old (D.history store.old.disk) }
+        requires room { store.old.stopped ≡ false → HasTaskRoom self.old store.old }
         ensures ready { store.new.stopped ≡ false → IsReadyTask self.new store.new (D.history store.new.disk) }
 
         // Of every run that has come to the store: which event it was, what it answered, and which crash images it leaves.
