@@ -123,8 +123,8 @@ others_stand rows k row first next old new before after there was ran moves leav
     passes runs = (
       ran runs,
       task_beside claims_at other t old new before after has
-      (lane_beside claims_at (lanes_of rows) k j (lane_value row) other (claims_at next) old new before after (accounts (ran runs)).adds_up (value_at rows k row there) is apart
-      (subst (λ (c : Claims). MovesClaims c (claims_at next) old new) mine (moves runs)) (subst (λ (c : Claims). LeavesOthers c old new before after) mine (leaves runs))),
+          (lane_beside claims_at (lanes_of rows) k j (lane_value row) other (claims_at next) old new before after (accounts (ran runs)).adds_up (value_at rows k row there) is apart
+          (subst (λ (c : Claims). MovesClaims c (claims_at next) old new) mine (moves runs)) (subst (λ (c : Claims). LeavesOthers c old new before after) mine (leaves runs))),
     )
 
 -- ---- the lane
@@ -209,8 +209,8 @@ accounts_row {D} script rows k row now event old new before after first second t
     subst (λ (vs : List (LaneValue Task)). LanesAccount claims_at IsReadyTask new after vs) (sym (rows_set rows k then))
     (accounted_on claims_at IsReadyTask task_stable (lanes_of rows) k (lane_value row) (lane_value then) old new before after (value_at rows k row there)
     (subst (λ (c : Claims). MovesClaims c (lane_claims claims_at (lane_value then)) old new) mine
-    (moves_row script (k + 1) (ended_by event.ended) g.queued g.next row.waiting old new are (λ some. let d = done_by event.ended some in g.unclaimed d.0 d.1 runs) (g.claims runs)))
-    (subst (λ (c : Claims). LeavesOthers c old new before after) mine (g.leaves runs)) (ready_row script (k + 1) (ended_by event.ended) g.queued g.next row.waiting new after are (g.ready runs)) all)
+    (moves_row script (k + 1) (ended_by event.ended) g.queued g.next row.waiting old new are (λ some. let d = done_by event.ended some in g.goes.unclaimed d.0 d.1 runs) (g.goes.claims runs)))
+    (subst (λ (c : Claims). LeavesOthers c old new before after) mine (g.goes.leaves runs)) (ready_row script (k + 1) (ended_by event.ended) g.queued g.next row.waiting new after are (g.goes.ready runs)) all)
   where
     then : LaneRow
     then = row_behind (ended_by event.ended) (record g.queued { task = g.next }) row.waiting
@@ -224,7 +224,7 @@ pub going_on : {D : Type 0} → (start : Lists) (script : Requests) (began : See
     → IsGoing start script began old before first replies rows → IsGoing start script began new after second (replies_behind (ended_by event.ended) event.place replies) (slice_set rows k now)
 going_on {D} start script began replies rows k row now event old new before after first second there g s =
     subst (λ (r : LaneRow). IsGoing start script began new after second (replies_behind (ended_by event.ended) event.place replies) (slice_set rows k r)) (sym g.now_is)
-    (subst (λ (n : ℕ). IsGoing start script began new after second (replies_behind (ended_by event.ended) n replies) (slice_set rows k then)) (sym g.place_is) (record {
+    (subst (λ (n : ℕ). IsGoing start script began new after second (replies_behind (ended_by event.ended) n replies) (slice_set rows k then)) (sym g.goes.place_is) (record {
       run = and_then s.run d.0.makes.event;
       journal = journal_behind s.run turn.0 s.journal d.0.makes.event d.0.makes.answer d.0.left;
       broken = goes.0;
@@ -246,7 +246,7 @@ going_on {D} start script began replies rows k row now event old new before afte
 
     d : (d : DidEvent nothing_around nothing_around s.run (k + 1) g.queued.place (said_by s.journal g.queued.place) turn.0 (left_by start s.journal) (seen_by_all old before first) (seen_by_all new after second) (did_of g.next) (ended_by event.ended))
         × (ended_by event.ended ≡ None → StandsTask g.next new after turn.0 (and_then s.run d.makes.event) g.queued.place (and_told (said_by s.journal g.queued.place) d.makes.answer))
-    d = g.steps turn.0 nothing_around nothing_around s.run (k + 1) g.queued.place (said_by s.journal g.queued.place) (left_by start s.journal) s.serving.serves.come s.serving.serves.shown (finds_room g.queued.task turn.0 old s.run) (λ by_files runs. reads_safe g.queued.task (left_by start s.journal) before by_files) turn.2
+    d = g.goes.steps turn.0 nothing_around nothing_around s.run (k + 1) g.queued.place (said_by s.journal g.queued.place) (left_by start s.journal) s.serving.serves.come s.serving.serves.shown (finds_room g.queued.task turn.0 old s.run) (λ by_files runs. reads_safe g.queued.task (left_by start s.journal) before by_files) turn.2
 
     ran : new.stopped ≡ false → old.stopped ≡ false
     ran = ran_before (seen_by_all old before first) (seen_by_all new after second) d.0.ends.still
@@ -254,4 +254,4 @@ going_on {D} start script began replies rows k row now event old new before afte
     goes : (failed : Broken) × IsServing (stands_in new after) start script (and_then s.run d.0.makes.event) (journal_behind s.run turn.0 s.journal d.0.makes.event d.0.makes.answer d.0.left) failed (replies_behind (ended_by event.ended) g.queued.place replies) began (seen_by_all new after second)
         (slice_set (lanes_of rows) k (lane_behind (ended_by event.ended) g.next (lane_value row)))
     goes = lane_goes_on (stands_in old before) (stands_in new after) start script s.run s.journal s.broken replies began (seen_by_all old before first) (seen_by_all new after second) (lanes_of rows) k g.queued.place (map (λ (q : Queued). q.place) row.waiting) (lane_value row) turn.0 g.next nothing_around nothing_around (did_of g.next) (ended_by event.ended)
-        s.serving (others_stand rows k row g.queued g.next old new before after there g.was ran g.claims g.leaves s.accounts) (value_at rows k row there) (queue_is row g.queued g.was) turn.1.asked d.0 d.1
+        s.serving (others_stand rows k row g.queued g.next old new before after there g.was ran g.goes.claims g.goes.leaves s.accounts) (value_at rows k row there) (queue_is row g.queued g.was) turn.1.asked d.0 d.1

@@ -43,12 +43,8 @@ abbrev pub row_behind : Option Reply → Queued → List Queued → LaneRow
 row_behind None queued waiting = record { current = Some queued; waiting = waiting }
 row_behind (Some given) queued waiting = next_in_turn waiting
 
--- An event of a lane is one of its first request's task, by the clause of a task's step; the rest of the lane stays, or the next
--- request is in turn.
-pub record RowGoesOn {D : Type 0} (row now : LaneRow) (event : LaneEvent) (old new : StoreValue D) (before after : Option History) (first second : Faults) : Type 0 where
-  pub queued : Queued
-  pub was : row.current ≡ Some queued
-  pub next : Task
+-- An event of a request's task is one by the clause of a task's step: what it found, what it did and claims, and whether it goes on.
+pub record TaskGoesOn {D : Type 0} (queued : Queued) (next : Task) (event : LaneEvent) (old new : StoreValue D) (before after : Option History) (first second : Faults) : Type 0 where
   pub place_is : event.place ≡ queued.place
   pub did_is : event.did ≡ did_of next
   pub steps : StepsTask queued.task next old new before after first second (ended_by event.ended)
@@ -57,4 +53,16 @@ pub record RowGoesOn {D : Type 0} (row now : LaneRow) (event : LaneEvent) (old n
   pub ready : new.stopped ≡ false → IsReadyTask next new after
   pub unclaimed : (given : Reply) → event.ended ≡ progress.Done given → new.stopped ≡ false → ClaimsNothing (claims_at next)
   pub left : event.ended ≡ progress.More → work_left next new < work_left queued.task old
+
+-- the request, if it goes on
+abbrev pub goes_on_by : Option Reply → Queued → Option Queued
+goes_on_by None queued = Some queued
+goes_on_by (Some given) queued = None
+
+-- An event of a lane is one of its first request's task; the rest of the lane stays, or the next request is in turn.
+pub record RowGoesOn {D : Type 0} (row now : LaneRow) (event : LaneEvent) (old new : StoreValue D) (before after : Option History) (first second : Faults) : Type 0 where
+  pub queued : Queued
+  pub was : row.current ≡ Some queued
+  pub next : Task
+  pub goes : TaskGoesOn queued next event old new before after first second
   pub now_is : now ≡ row_behind (ended_by event.ended) (record queued { task = next }) row.waiting

@@ -1,7 +1,10 @@
 // A lane: the request in turn with its task, and those behind it.
-ghost use Rattle.std.specs.Prelude.{◌≡◌, false, None, IfSome, IsNone, Some};
+ghost use Rattle.std.specs.Prelude.{◌≡◌, false, None, IfSome, IsNone};
 ghost use Rattle.lane_tasks.specs.Tasks.{IsReadyTask, did_of};
-ghost use Rattle.lanes.specs.Rows.{IsReadyRow, LaneRow, RowGoesOn};
+ghost use Rattle.lane_tasks.specs.Clause.{HasTaskRoom};
+ghost use Rattle.lane_tasks.specs.declared.task.Task.{Task as TaskValue};
+ghost use Rattle.task_steps.specs.Step.{ended_by};
+ghost use Rattle.lanes.specs.Rows.{IsReadyRow, RowGoesOn, TaskGoesOn, goes_on_by};
 
 use disk_model::Disk;
 use lane_tasks::Task;
@@ -49,19 +52,57 @@ impl Lane {
         ensures some { IfSome result (λ event. RowGoesOn self.old self.new event store.old store.new (D.history store.old.disk) (D.history store.new.disk) (D.faults store.old.disk) (D.faults store.new.disk)) }
         ensures none { IsNone result → (self.old.current ≡ None) × (self.new ≡ self.old) × (store.new ≡ store.old) }
     {
-        let Some(queued) = &mut self.current else {
+        let Some(first) = self.current.take() else {
             return None;
         };
-        let ended = queued.task.step(store);
-        let event = LaneEvent {
-            place: queued.place,
-            did: last_did(&queued.task),
-            ended,
+        let (event, goes_on) = event_of(first, store);
+        let next = match goes_on {
+            Some(first) => Some(first),
+            None => self.waiting.pop_front(),
         };
-        if matches!(event.ended, Progress::Done(_)) {
-            self.current = self.waiting.pop_front();
-        }
+        put(&mut self.current, next);
         Some(event)
+    }
+}
+
+/// Puts the request in turn in its place.
+fn put<T: Drop>(place: &mut Option<T>, next: Option<T>)
+    ensures { place.new ≡ next }
+{
+    *place = next;
+}
+
+/// Lets go of what is no longer needed.
+fn let_go<T: Drop>(_answered: T) {}
+
+/// Does the next event of a request's task. The request is given back if it goes on.
+#[tactic(none)]
+fn event_of<D: Disk>(first: Queued, store: &mut Store<D>) -> (LaneEvent, Option<Queued>)
+    requires ready { store.old.stopped ≡ false → IsReadyTask first.task store.old (D.history store.old.disk) }
+    requires room { store.old.stopped ≡ false → HasTaskRoom first.task store.old }
+    ensures { (next : TaskValue) × TaskGoesOn first next result.0 store.old store.new (D.history store.old.disk) (D.history store.new.disk) (D.faults store.old.disk) (D.faults store.new.disk) × (result.1 ≡ goes_on_by (ended_by result.0.ended) (record first { task = next })) }
+{
+    let mut first = first;
+    let ended = first.task.step(store);
+    let event = LaneEvent {
+        place: first.place,
+        did: last_did(&first.task),
+        ended,
+    };
+    let goes_on = if_more(first, &event.ended);
+    (event, goes_on)
+}
+
+/// The request, if it goes on.
+fn if_more(first: Queued, ended: &Progress) -> Option<Queued>
+    ensures { result ≡ goes_on_by (ended_by ended.now) first }
+{
+    match ended {
+        Progress::More => Some(first),
+        Progress::Done(_) => {
+            let_go(first);
+            None
+        }
     }
 }
 
