@@ -1,5 +1,0 @@
-pub mod LaneLemmas
-pub mod OwnWorkLemmas
-pub mod ServingLemmas
-pub mod StartLemmas
-pub mod TurnLemmas

@@ -1,4 +1,0 @@
-pub mod Lanes
-pub mod OwnWork
-pub mod Serving
-pub mod Turns

@@ -1,9 +1,0 @@
-//! A script served by lanes over one store: each lane's task makes its events in turn.
-#![tactic(auto)]
-
-pub use laws::{
-    all_replied, expunges_are_served, requests_take_turns, serving_done, serving_more,
-    serving_start, turns_pass,
-};
-
-mod laws;

@@ -1,0 +1,7 @@
+pub mod AccountLemmas
+pub mod LaneLemmas
+pub mod OwnWorkLemmas
+pub mod ServingLemmas
+pub mod StartLemmas
+pub mod TakenLemmas
+pub mod TurnLemmas

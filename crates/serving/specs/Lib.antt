@@ -1,0 +1,8 @@
+pub mod Accounts
+pub mod Lanes
+pub mod OwnClaims
+pub mod OwnWork
+pub mod Serving
+pub mod Standing
+pub mod Taken
+pub mod Turns
