@@ -29,10 +29,10 @@ let_go_store found left = record left { instances = record left.instances { know
 
 others_same : {D : Type 0} → (now : SaveStage) (found : List InstRow) (old left : StoreValue D) → KeepsOthers now old left → KeepsOthers now old (let_go_store found left)
 others_same now found old left k = record {
-  files = λ number size own h. let n = k.files number size own h in record { some = n.some; taken = n.taken; end = n.end; ends = n.ends; fits = n.fits };
+  files = λ number size own h. let n = k.files number size own h in record { some = n.some; taken = n.taken; unbegun = n.unbegun; end = n.end; ends = n.ends; fits = n.fits };
   regions = λ at own h.
       let n = k.regions at own h in
-      record { some = n.some; taken = n.taken; end = n.end; ends = n.ends; inside = n.inside; small = n.small; free = n.free; guid_file = n.guid_file; guid_offset = n.guid_offset; guid_new = n.guid_new };
+      record { some = n.some; taken = n.taken; unbegun = n.unbegun; end = n.end; ends = n.ends; inside = n.inside; small = n.small; free = n.free; guid_file = n.guid_file; guid_offset = n.guid_offset; guid_new = n.guid_new };
 }
 
 pub others_let_go : {D : Type 0} → (now : SaveStage) (found : List InstRow) (old left new : StoreValue D) → LetsGo found left new → KeepsOthers now old left → KeepsOthers now old new

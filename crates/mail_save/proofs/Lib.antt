@@ -14,10 +14,12 @@ pub mod ReadyLemmas
 pub mod RecordLemmas
 pub mod RegionSizeLemmas
 pub mod SaveAttachLemmas
+pub mod SaveClaimLemmas
 pub mod SaveClauseLemmas
 pub mod SaveDidLemmas
 pub mod SaveDoesLemmas
 pub mod SaveEventLemmas
+pub mod SaveFileLemmas
 pub mod SaveFrontLemmas
 pub mod SaveInstanceLemmas
 pub mod SaveKeptLemmas

@@ -8,6 +8,7 @@ ghost use Rattle.mdbox_base.specs.Words.{IsName, IsOctets};
 ghost use Rattle.mdbox_base.specs.declared.progress.Did.TheVariants as did;
 ghost use Rattle.mdbox_base.specs.declared.progress.Progress.TheVariants as progress;
 ghost use Rattle.mdbox_base.specs.declared.replies.Refusal.TheVariants as refusal;
+ghost use Rattle.mdbox_base.specs.declared.replies.Reply.{Reply as ReplyValue};
 ghost use Rattle.mdbox_base.specs.declared.replies.Reply.TheVariants as reply;
 ghost use Rattle.mdbox_base.specs.declared.requests.Request.TheVariants as request;
 ghost use Rattle.model_lists.specs.Lists.{Lists};
@@ -17,7 +18,9 @@ ghost use Rattle.saved_message.specs.Laid.{IsLaid};
 ghost use Rattle.store_core.specs.Dues.{due_at};
 ghost use Rattle.store_core.specs.Keeping.{KeepsInstances, KeepsUids};
 ghost use Rattle.store_seen.specs.Seeing.{seen_of};
+ghost use Rattle.task_claims.specs.Claims.{ClaimsNothing, MovesClaims};
 ghost use Rattle.task_steps.specs.Step.{ended_by};
+ghost use Rattle.mail_save.specs.Claims.{save_claims};
 ghost use Rattle.mail_save.specs.SaveEffects.{NamesFound};
 ghost use Rattle.mail_save.specs.declared.first.SavedParts.{SavedParts as SavedPartsValue};
 ghost use Rattle.mail_save.specs.Ready.{IsReadyToSave, save_lists, lists_delivered};
@@ -152,6 +155,10 @@ impl SaveTask {
 
         // What another task has compared or found of the instances stays so, unless the store is stopped then.
         ensures instances { store.new.stopped ≡ false → KeepsInstances store.old store.new (D.history store.old.disk) (D.history store.new.disk) }
+
+        // Unless it stops the store, it moves only its own claims. One that was replied claims nothing.
+        ensures claims { store.new.stopped ≡ false → MovesClaims (save_claims self.old.stage) (save_claims self.new.stage) store.old store.new }
+        ensures ended { (given : ReplyValue) → result ≡ progress.Done given → store.new.stopped ≡ false → ClaimsNothing (save_claims self.new.stage) }
 
         ensures stopped { store.old.stopped ≡ true → (result ≡ stopped_reply) × (store.new ≡ store.old) × (self.new.stage ≡ self.old.stage) × (self.new.did ≡ did.Quiet) }
         ensures request { (self.new.name ≡ self.old.name) × (self.new.time ≡ self.old.time) × (self.new.size ≡ self.old.size) }

@@ -1,6 +1,6 @@
 use Rattle.std.proofs.Common.{ap, inl, refl, sym, subst, ◌∙◌}
 use Rattle.mail_save.proofs.PlaceLemmas.{unchanged_leaves, unchanged_settled}
-use Rattle.mail_save.proofs.TakingLemmas.{takes_known, takes_new, takes_failing, takes_full, holds_known, holds_new}
+use Rattle.mail_save.proofs.TakingLemmas.{takes_known, takes_new, takes_failing, takes_full, holds_known, holds_new, took_known_unbegun, took_new_unbegun}
 use Rattle.mail_save.proofs.MailFileLemmas.{mail_unchanged, took_known, took_new}
 use Rattle.disk_model.specs.declared.name.FileName.TheVariants.{Mail}
 use Rattle.storage_files.specs.Files.{end_in}
@@ -19,6 +19,7 @@ returns-in-Err-clause-none g c = inl (refl, c.in-Err.ensures.err)
 
 pub returns-in-Known-clause-taken : goal.returns-in-Known-clause-taken
 returns-in-Known-clause-taken g c = holds_known c.args.size c.in-Known.file c.take_for.new.self _ c.facts-in-Known.ensures.store c.in-Known.ensures.given
+    (took_known_unbegun c.args.size c.in-Known.file c.args.store.now c.reserve.new.self c.take_for.new.self c.facts.ensures.files c.in_default.ensures.ok c.in-Known.ensures.same c.in-Known.ensures.take)
 
 pub returns-in-Known-clause-takes : goal.returns-in-Known-clause-takes
 returns-in-Known-clause-takes g c =
@@ -32,7 +33,8 @@ returns-in-Known-clause-any_moment g c = λ lists s.
 
 pub returns-in-Ok-clause-taken : goal.returns-in-Ok-clause-taken
 returns-in-Ok-clause-taken g c =
-    holds_new c.args.size _ c.in-New.file c.make_file.new.self _ c.facts-in-Ok.ensures.store (c.make_file.ensures.taken c.in-New.file.0 ∙ c.in-New.ensures.given.0) c.in-Ok.ensures.ends c.requires.size
+    holds_new c.args.size _ c.in-New.file c.make_file.new.self _ c.facts-in-Ok.ensures.store (c.make_file.ensures.taken c.in-New.file.0 ∙ c.in-New.ensures.given.0)
+    (took_new_unbegun c.args.size _ c.in-New.file c.args.store.now c.reserve.new.self c.take_for.new.self c.make_file.new.self c.facts.ensures.files c.in_default.ensures.ok c.in-New.ensures.same c.in-Ok.ensures.ok c.in-New.ensures.take) c.in-Ok.ensures.ends c.requires.size
 
 pub returns-in-Ok-clause-takes : goal.returns-in-Ok-clause-takes
 returns-in-Ok-clause-takes g c =

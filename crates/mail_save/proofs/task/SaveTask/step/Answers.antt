@@ -1,5 +1,6 @@
 use Rattle.std.proofs.Common.{rules, ◌<◌, ◌^◌, refl, sym, ◌∙◌}
 use Rattle.store_core.proofs.BoxCrashLemmas.{leaves_none}
+use Rattle.mail_save.proofs.SaveClaimLemmas.{save_ended, save_moves}
 use Rattle.mail_save.proofs.SaveDoesLemmas.{IsOpenStore, seen_does, seen_stopped}
 use Rattle.mail_save.proofs.SaveEventLemmas.{seen_saves, unfallen}
 use Rattle.mail_save.proofs.SaveMomentLemmas.{save_moments, save_rests}
@@ -65,3 +66,19 @@ returns-then-stopped-clause-instances g c = λ ran. absurd (unfallen c.args.stor
 pub returns-clause-instances : goal.returns-clause-instances
 returns-clause-instances g c = λ ran.
     (seen_saves _ c.args.self.now c.replace-now.result _ _ _ _ _ _ _ _ _ c.self.view_is c.replace-now.ensures.value c.next_event-next.ensures).instances ran
+
+pub returns-then-stopped-clause-claims : goal.returns-then-stopped-clause-claims
+returns-then-stopped-clause-claims g c = λ ran. absurd (unfallen c.args.store.now.stopped (sym c.stopped.ensures ∙ c.if-stopped.true) ran)
+
+pub returns-clause-claims : goal.returns-clause-claims
+returns-clause-claims g c = λ ran.
+    let s = seen_saves _ c.args.self.now c.replace-now.result _ _ _ _ _ _ _ _ _ c.self.view_is c.replace-now.ensures.value c.next_event-next.ensures in
+    save_moves c.args.self.now.stage _ _ _ _ _ _ c.args.store.now _ _ _ _ _ c.facts.ensures.files c.requires.left ran s
+
+pub returns-then-stopped-clause-ended : goal.returns-then-stopped-clause-ended
+returns-then-stopped-clause-ended g c = λ given is ran. absurd (unfallen c.args.store.now.stopped (sym c.stopped.ensures ∙ c.if-stopped.true) ran)
+
+pub returns-clause-ended : goal.returns-clause-ended
+returns-clause-ended g c = λ given is ran.
+    let s = seen_saves _ c.args.self.now c.replace-now.result _ _ _ _ _ _ _ _ _ c.self.view_is c.replace-now.ensures.value c.next_event-next.ensures in
+    save_ended c.args.self.now.stage _ _ _ _ _ given c.args.store.now _ s.effects is
