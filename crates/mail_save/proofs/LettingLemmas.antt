@@ -8,6 +8,7 @@ use Rattle.mdbox_base.specs.declared.progress.Did.{Did}
 use Rattle.mdbox_base.specs.declared.progress.Progress.{Progress}
 use Rattle.mdbox_base.specs.declared.progress.Progress.TheVariants as progress
 use Rattle.sis_store.specs.Instances.{InstancesValue, holders_in}
+use Rattle.model_kept.specs.Kept.{MailIsKept}
 use Rattle.store_core.specs.Dues.{Moves, amounts_in}
 use Rattle.store_core.specs.Keeping.{KeepsInstances, MovesHolds}
 use Rattle.store_core.specs.Value.{StoreValue}
@@ -68,6 +69,7 @@ pub record SavesLetting {D : Type 0} (now next : SaveStage) (found : List InstRo
   pub replies : RepliesAt now name answer next old
   pub did_is : how ≡ saved_did now next answer
   pub moments : MomentsAt now name old before after
+  pub stays : MailIsKept old.map before after
   pub rests : left.stopped ≡ false → RestsAt now name answer old before after
   pub mail : left.stopped ≡ false → WritesMail now next name time old before after
   pub ready : answer ≡ progress.More → (octets : List ℕ) → IsReadyToSave now name time size octets old before → IsReadyToSave next name time size octets new after
@@ -92,6 +94,7 @@ saves_let_go told counted now next found name time size answer how old left new 
       replies = s.replies;
       did_is = s.did_is;
       moments = s.moments;
+      stays = s.stays;
       rests = λ ran. s.rests (sym stop ∙ ran);
       mail = λ ran. s.mail (sym stop ∙ ran);
       ready = s.ready;

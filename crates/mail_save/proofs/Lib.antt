@@ -34,5 +34,6 @@ pub mod SaveStepLemmas
 pub mod SaveStoreLemmas
 pub mod SaveUidLemmas
 pub mod SeenInstanceLemmas
+pub mod StayingLemmas
 pub mod StoringLemmas
 pub mod TakingLemmas

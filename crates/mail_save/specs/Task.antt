@@ -16,6 +16,7 @@ use Rattle.mdbox_base.specs.declared.replies.Refusal.{Refusal}
 use Rattle.mdbox_base.specs.declared.replies.Refusal.TheVariants as refusal
 use Rattle.mdbox_base.specs.declared.replies.Reply.TheVariants as reply
 use Rattle.model_appends.specs.Appending.{lists_by}
+use Rattle.model_kept.specs.Kept.{MailIsKept}
 use Rattle.model_lists.specs.Lists.{Lists}
 use Rattle.model_meaning.specs.MapFits.{HasRecord}
 use Rattle.model_store.specs.Settled.{IsSettledFor, Leaves}
@@ -170,6 +171,7 @@ pub record Saves {D : Type 0} (now next : SaveStage) (name : List ℕ) (time siz
   pub replies : RepliesAt now name answer next old
   pub did_is : how ≡ saved_did now next answer
   pub moments : MomentsAt now name old before after
+  pub stays : MailIsKept old.map before after
   pub rests : new.stopped ≡ false → RestsAt now name answer old before after
   pub mail : new.stopped ≡ false → WritesMail now next name time old before after
   pub ready : answer ≡ progress.More → (octets : List ℕ) → IsReadyToSave now name time size octets old before → IsReadyToSave next name time size octets new after

@@ -11,6 +11,7 @@ use Rattle.mdbox_base.specs.declared.replies.Refusal.TheVariants as refusal
 use Rattle.mdbox_base.specs.declared.replies.Reply.{Reply}
 use Rattle.mdbox_base.specs.declared.replies.Reply.TheVariants as reply
 use Rattle.mdbox_base.specs.declared.requests.Request.TheVariants as request
+use Rattle.model_kept.proofs.KeptLemmas.{kept_idle}
 use Rattle.model_lists.specs.Lists.{Lists}
 use Rattle.model_meaning.specs.MapMeaning.{map_meaning}
 use Rattle.model_store.specs.Carrying.{CarryOver}
@@ -37,7 +38,7 @@ use Rattle.mdbox_top.proofs.ServedLemmas.{OpenedNow, way_opens}
 use Rattle.mdbox_top.proofs.ShownLemmas.{LogsShow, opens_again}
 use Rattle.mdbox_top.proofs.UnderWayLemmas.{before_opening}
 use Rattle.mdbox_top.specs.UnderWay.{seen_alone}
-use Rattle.mdbox_top.proofs.MailLemmas.{mail_kept_on}
+use Rattle.mdbox_top.proofs.MailLemmas.{opened_stays}
 
 -- files that carry over what the store reads are safe for the same lists
 carried_safe : (lists : Lists) (old new : Option History) → StoreCarries old new → AreSafeFor lists old → ReadsSafe lists new
@@ -106,7 +107,7 @@ fetch_done name uid given old mid new began now s t w show = record {
   serves = λ lists safe. w.served lists (before_opening (seen_alone s mid began) old) (fetch_opens name uid lists old mid began s w.opened show safe) (carried_safe lists old mid w.opened.carried safe);
   moments = record {
     safe = λ lists at. each_image-then (λ _ image. Safe image lists) old mid new (w.opened.safe lists at) (idle_safe lists mid new w.idle (w.opened.settled_again lists at));
-    stays = mail_kept_on old mid new w.opened.stays w.idle;
+    stays = opened_stays old mid new w.opened.reads w.opened.stays (λ m. kept_idle m mid new w.idle);
     closed_well = if_told-map (λ disk. IsClosedWell disk → IsIdle old mid) (λ disk. IsClosedWell disk → IsIdle old new) old (λ disk still well. idle-then old mid new (still well) w.idle) w.opened.closed_well;
   };
   rests = λ none. (stays_settled old mid new s w.opened w.idle, stays_carried old mid new s w.opened w.idle);

@@ -1,3 +1,4 @@
+use Rattle.model_kept.proofs.KeptLemmas.{kept_idle}
 use Rattle.std.proofs.Common.{sym, ◌∙◌}
 use Rattle.mail_save.proofs.AttachLemmas.{idle_leaves, room_compared, room_found, writes_attachment}
 use Rattle.mail_save.proofs.attach.attach_next.Goals as goal
@@ -11,6 +12,12 @@ returns-in-Ok-clause-any_moment g c = idle_leaves _ _ c.in-Ok.ensures.idle
 
 pub returns-in-Err-clause-any_moment : goal.returns-in-Err-clause-any_moment
 returns-in-Err-clause-any_moment g c = idle_leaves _ _ c.in-Err.ensures.idle
+
+pub returns-in-Ok-clause-mail_stays : goal.returns-in-Ok-clause-mail_stays
+returns-in-Ok-clause-mail_stays g c = kept_idle _ _ _ c.in-Ok.ensures.idle
+
+pub returns-in-Err-clause-mail_stays : goal.returns-in-Err-clause-mail_stays
+returns-in-Err-clause-mail_stays g c = kept_idle _ _ _ c.in-Err.ensures.idle
 
 pub returns-in-Ok-place-clause-room : goal.returns-in-Ok-place-clause-room
 returns-in-Ok-place-clause-room g c = room_found c.args.attaching.now c.place.new.self c.in-Ok-place._row c.args.store.now c.place.new.store c.requires.next c.in-Ok-place.ensures.found c.in-Ok-place.ensures.moves c.requires.room

@@ -1,4 +1,5 @@
 use Rattle.std.proofs.Common.{ap, inl, refl, sym, subst, ◌∙◌}
+use Rattle.mail_save.proofs.StayingLemmas.{kept_same, kept_since}
 use Rattle.mail_save.proofs.PlaceLemmas.{unchanged_leaves, unchanged_settled}
 use Rattle.mail_save.proofs.TakingLemmas.{takes_known, takes_new, takes_failing, takes_full, holds_known, holds_new, took_known_unbegun, took_new_unbegun}
 use Rattle.mail_save.proofs.MailFileLemmas.{mail_unchanged, took_known, took_new}
@@ -73,3 +74,22 @@ returns-in-Ok-clause-mail g c =
     let disk = ap (λ v. v.disk) c.in-New.ensures.same ∙ ap (λ v. v.disk) reserved in
     took_new c.args.header.now c.in-New.file.0 c.args.store.now _ _ (ap (λ v. end_in c.in-New.file.0 v.files.files) (sym reserved) ∙ (sym (c.in-New.ensures.ends c.in-New.file.0) ∙ c.in-New.ensures.given.1))
     (subst (λ d. OthersAreNamed (Mail c.in-New.file.0) (g.D.Disk.history d) (g.D.Disk.history c.make_file.new.self.disk)) disk c.in-Ok.ensures.others) c.in-Ok.ensures.made
+
+-- ---- at each moment
+
+pub returns-in-Err-clause-mail_stays : goal.returns-in-Err-clause-mail_stays
+returns-in-Err-clause-mail_stays g c = kept_same g.D.Disk.history _ c.args.store.now.disk c.reserve.new.self.disk (ap (λ v. v.disk) c.in-Err.ensures.err)
+
+pub returns-in-Known-clause-mail_stays : goal.returns-in-Known-clause-mail_stays
+returns-in-Known-clause-mail_stays g c = kept_same g.D.Disk.history _ c.args.store.now.disk c.take_for.new.self.disk (ap (λ v. v.disk) c.in-Known.ensures.same ∙ ap (λ v. v.disk) c.in_default.ensures.ok)
+
+pub returns-in-Full-clause-mail_stays : goal.returns-in-Full-clause-mail_stays
+returns-in-Full-clause-mail_stays g c = kept_same g.D.Disk.history _ c.args.store.now.disk c.take_for.new.self.disk (ap (λ v. v.disk) c.in-Full.ensures.same ∙ ap (λ v. v.disk) c.in_default.ensures.ok)
+
+pub returns-in-Ok-clause-mail_stays : goal.returns-in-Ok-clause-mail_stays
+returns-in-Ok-clause-mail_stays g c =
+    kept_since g.D.Disk.history c.args.store.now c.take_for.new.self _ (ap (λ v. v.map) c.in-New.ensures.same ∙ ap (λ v. v.map) c.in_default.ensures.ok) (ap (λ v. v.disk) c.in-New.ensures.same ∙ ap (λ v. v.disk) c.in_default.ensures.ok) c.make_file.ensures.mail_stays
+
+pub returns-in-Err-make_file-clause-mail_stays : goal.returns-in-Err-make_file-clause-mail_stays
+returns-in-Err-make_file-clause-mail_stays g c =
+    kept_since g.D.Disk.history c.args.store.now c.take_for.new.self _ (ap (λ v. v.map) c.in-New.ensures.same ∙ ap (λ v. v.map) c.in_default.ensures.ok) (ap (λ v. v.disk) c.in-New.ensures.same ∙ ap (λ v. v.disk) c.in_default.ensures.ok) c.make_file.ensures.mail_stays
