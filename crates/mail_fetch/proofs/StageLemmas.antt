@@ -1,5 +1,5 @@
 -- What a fetch's step says, from one stage to another.
-use Rattle.std.proofs.Common.{◌≡◌, ◌+◌, ℕ, Bool, true, false, List, Option, Some, None, inl, inr, refl, sym, ◌∙◌, ap, subst, arith}
+use Rattle.std.proofs.Common.{◌≡◌, ◌+◌, ◌-◌, ℕ, Bool, true, false, List, Option, Some, None, inl, inr, refl, sym, ◌∙◌, ap, subst, arith}
 use Rattle.std.specs.Prelude.{◌<◌, ◌≤◌, ◌⊎◌, if◌then◌else◌}
 use Rattle.std.proofs.lemmas.Bool.{cases_lt}
 use Rattle.disk_model.specs.Disk.{Faults, History, IsIdle}
@@ -15,13 +15,14 @@ use Rattle.mdbox_base.specs.declared.replies.Refusal.TheVariants as refusal
 use Rattle.mdbox_base.specs.declared.replies.Reply.{Reply}
 use Rattle.mdbox_base.specs.declared.replies.Reply.TheVariants as reply
 use Rattle.journal.specs.Events.{Around}
-use Rattle.storage_files.specs.Files.{end_in}
+use Rattle.sis_store.specs.Instances.{InstancesValue}
+use Rattle.storage_files.specs.Files.{FilesValue, end_in, is_doomed_in, pins_in}
 use Rattle.store_core.specs.Running.{IsStore}
 use Rattle.store_core.specs.Value.{StoreValue}
 use Rattle.task_claims.specs.Claims.{AreIn, ClaimsNothing, MovesClaims, Thing, amount_in, no_claims}
 use Rattle.task_claims.specs.Leaving.{LeavesOthers}
 use Rattle.task_steps.specs.Step.{ended_by}
-use Rattle.mail_fetch.specs.Claims.{IsReadyToFetch, claims_of_pinned, fetch_claims, used_by, without_claims}
+use Rattle.mail_fetch.specs.Claims.{IsReadyToFetch, claims_of_pinned, fetch_claims, used_by, with_claims, without_claims}
 use Rattle.mail_fetch.specs.Clause.{FetchSteps, FetchesAlone}
 use Rattle.mail_fetch.specs.Events.{FetchesNext, IsBegun, IsPieceRead, NoChangeFault, fetch_refusal}
 use Rattle.mail_fetch.specs.Failed.{HasFailedRead}
@@ -32,6 +33,7 @@ use Rattle.mail_fetch.specs.declared.parts.StoredAt.{StoredAt}
 use Rattle.mail_fetch.specs.declared.task.FetchStage.{FetchStage}
 use Rattle.mail_fetch.specs.declared.task.FetchStage.TheVariants as stage
 use Rattle.mail_fetch.proofs.ClaimLemmas.{begun_ended, fall, more_is, reading_leaves, reading_moves}
+use Rattle.mail_fetch.proofs.UseLemmas.{doomed_still}
 use Rattle.mail_fetch.proofs.StepLemmas.{begin_steps, read_steps, stopped_steps, unpin_steps}
 
 -- What a step says of a store as it was and as it is, but for how many events are left.
@@ -178,3 +180,31 @@ unpinning_says {D = D} H F name uid from given old new runs claimed same claims 
 -- the stage of a task that is seen as this
 pub stage_seen : (task seen : FetchValue) (now : FetchStage) → task ≡ seen → task.stage ≡ now → seen.stage ≡ now
 stage_seen task seen now same at = ap (λ (v : FetchValue). v.stage) (sym same) ∙ at
+
+-- ---- what an event makes of the store
+
+-- no more changes than disk, storage files and instances
+only : {D : Type 0} → (s t : StoreValue D) (disk : D) (files : FilesValue) (instances : InstancesValue) → t ≡ record s { disk = disk; files = files; instances = instances } → t ≡ record s { disk = t.disk; files = t.files; instances = t.instances }
+only {D = D} s t disk files instances e = e ∙ sym (ap (λ (v : StoreValue D). record s { disk = v.disk; files = v.files; instances = v.instances }) e)
+
+pub used_only : {D : Type 0} → (now next : FetchStage) (s t : StoreValue D) → t ≡ record (used_by now next s) { disk = t.disk } → t ≡ record s { disk = t.disk; files = t.files; instances = t.instances }
+used_only stage.First stage.First s t e = only s t t.disk s.files s.instances e
+used_only stage.First (stage.Reading region) s t e = only s t t.disk (with_claims region.from s).files (with_claims region.from s).instances e
+used_only stage.First (stage.Unpinning from given) s t e = only s t t.disk s.files s.instances e
+used_only (stage.Reading region) next s t e = only s t t.disk s.files s.instances e
+used_only (stage.Unpinning from given) stage.First s t e = only s t t.disk (without_claims from s).files (without_claims from s).instances e
+used_only (stage.Unpinning from given) (stage.Reading region) s t e = only s t t.disk s.files s.instances e
+used_only (stage.Unpinning from given) (stage.Unpinning other reply) s t e = only s t t.disk s.files s.instances e
+
+-- the same files are doomed
+pub used_doomed : {D : Type 0} → (now next : FetchStage) (s t : StoreValue D) (file : ℕ) → t ≡ record (used_by now next s) { disk = t.disk } → is_doomed_in file t.files.files ≡ is_doomed_in file s.files.files
+used_doomed {D = D} now next s t file e = ap (λ (v : StoreValue D). is_doomed_in file v.files.files) e ∙ by_stages now next
+  where
+    by_stages : (a b : FetchStage) → is_doomed_in file (used_by a b s).files.files ≡ is_doomed_in file s.files.files
+    by_stages stage.First stage.First = refl
+    by_stages stage.First (stage.Reading region) = doomed_still region.from.file.0 file (pins_in region.from.file.0 s.files.files + 1) s.files.files
+    by_stages stage.First (stage.Unpinning from given) = refl
+    by_stages (stage.Reading region) b = refl
+    by_stages (stage.Unpinning from given) stage.First = doomed_still from.file.0 file (pins_in from.file.0 s.files.files - 1) s.files.files
+    by_stages (stage.Unpinning from given) (stage.Reading region) = refl
+    by_stages (stage.Unpinning from given) (stage.Unpinning other reply) = refl

@@ -215,7 +215,7 @@ first_pinned around after name uid store history faults row entry end is runs st
     )))
 
 -- where the files are safe, the message's file is there
-absent_unsafe : {D : Type 0} → (name : List ℕ) (uid : Uid) (store : StoreValue D) (history : Option History) (lists : Lists) (why : Refusal) → IsStore history store → store.stopped ≡ false → IsAbsent name uid.0 store why → ShowLists store.map.boxes (indexes_of store.boxes) lists → ReadsSafe lists history → ⊥
+pub absent_unsafe : {D : Type 0} → (name : List ℕ) (uid : Uid) (store : StoreValue D) (history : Option History) (lists : Lists) (why : Refusal) → IsStore history store → store.stopped ≡ false → IsAbsent name uid.0 store why → ShowLists store.map.boxes (indexes_of store.boxes) lists → ReadsSafe lists history → ⊥
 absent_unsafe name uid store None lists why is runs absent shows safe = safe
 absent_unsafe name uid store (Some h) lists why is runs (row, entry, stored, none, why_is) shows safe =
     let there = boxes_safe (Some h) store lists is runs safe in
