@@ -228,7 +228,8 @@ absent_unsafe name uid store (Some h) lists why is runs (row, entry, stored, non
     cc k
 
 -- The first event of a store that isn't stopped.
-pub begin_steps : {D : Type 0} → (around after : Around) (name : List ℕ) (uid : Uid) (store : StoreValue D) (history : Option History) (faults : Faults) (next : FetchStage) (answer : Progress) (how : Did) → IsStore history store → store.stopped ≡ false → IsBegun name uid.0 store next answer → ((region : RegionValue) → next ≡ stage.Reading region → (end : ℕ) × (end_in region.from.file.0 store.files.files ≡ Some end)) → how ≡ fetch_did stage.First answer
+pub begin_steps : {D : Type 0} → (around after : Around) (name : List ℕ) (uid : Uid) (store : StoreValue D) (history : Option History) (faults : Faults) (next : FetchStage) (answer : Progress) (how : Did) → IsStore history store → store.stopped ≡ false → IsBegun name uid.0 store next answer
+    → ((region : RegionValue) → next ≡ stage.Reading region → (end : ℕ) × (end_in region.from.file.0 store.files.files ≡ Some end)) → how ≡ fetch_did stage.First answer
     → FirstClause around after name uid store history faults next answer how
 begin_steps around after name uid store history faults next answer how is runs b there hows = by_box (list_named store name) refl
   where
