@@ -1,0 +1,6 @@
+//! The system's files as a process sees them by its calls, and what a crash may leave of them.
+#![tactic(auto)]
+
+pub use folder::{CallError, Folder, Kind};
+
+mod folder;
