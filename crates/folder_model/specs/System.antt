@@ -62,13 +62,15 @@ with_lock s = record s { is_locked = true }
 abbrev pub after_end : System → System
 after_end s = record s { is_locked = false }
 
--- A write of n octets that failed has put any octets in its range, as far as it came, or lengthened the file so far.
+-- A write of n octets that failed has done a part: it has put any octets in a range, and lengthened the file as far at most.
 pub record IsHalfWritten (at n : ℕ) (old new : FileState) : Type 0 where
+  pub size : ℕ
   pub octets : List ℕ
-  pub is : new ≡ record (half_written at n old) { octets = octets }
+  pub at_most : size ≤ n
+  pub is : new ≡ record (half_written at size old) { octets = octets }
   pub no_shorter : length old.octets ≤ length octets
-  pub no_longer : length octets ≤ max (length old.octets) (at + n)
-  pub same : (i : ℕ) → i < length old.octets → covers at n i ≡ false → slice_get octets i ≡ slice_get old.octets i
+  pub no_longer : length octets ≤ max (length old.octets) (at + size)
+  pub same : (i : ℕ) → i < length old.octets → covers at size i ≡ false → slice_get octets i ≡ slice_get old.octets i
   pub are_octets : All (λ octet. octet < 256) octets
 
 -- A cut to n that failed has cut the file less far, or not.
