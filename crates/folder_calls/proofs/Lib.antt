@@ -1,3 +1,1 @@
-pub mod PartLemmas
 pub mod ReadLemmas
-pub mod WriteLemmas

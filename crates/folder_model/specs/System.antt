@@ -1,5 +1,5 @@
 -- The system's files as the calls of one process see them, what of them is durable, and what a crash may leave.
-use Rattle.std.specs.Prelude.{◌≡◌, ◌≢◌, ◌⊎◌, ℕ, ◌==◌, ◌+◌, ◌<◌, ◌≤◌, max, Bool, true, false, if◌then◌else◌, List, [], ◌∷◌, length, take, slice_get, Option, Some, None, All, Contains, ⊤}
+use Rattle.std.specs.Prelude.{◌≡◌, ◌≢◌, ◌⊎◌, ℕ, ◌==◌, ◌+◌, ◌<◌, ◌≤◌, max, Bool, true, false, if◌then◌else◌, List, [], ◌∷◌, length, take, slice_get, Option, Some, None, All, Contains, ⊤, codes}
 use Rattle.disk_model.specs.Name.{same_octets}
 use Rattle.disk_model.specs.Disk.{FileState, MayHold, covers, still, synced, half_written, half_cut}
 use Rattle.std.specs.Str.{IsUtf8}
@@ -100,10 +100,16 @@ pub record IsSystem (s : System) : Type 0 where
   pub earlier : (path : List ℕ) → All (IsNumberedNode s.count) (s.earlier path)
   pub contents : (number : ℕ) → IsContent (s.content number)
 
+-- this stands in a folder; the current folder stands in none
+pub record StandsIn (s : System) (folder path : List ℕ) : Type 0 where
+  pub in_folder : folder_at path ≡ folder
+  pub below : path ≢ codes "."
+  pub there : s.node path ≢ Nothing
+
 -- these are paths of what stands in a folder, and all of them that are text
 pub record ArePathsIn (s : System) (folder : List ℕ) (paths : List (List ℕ)) : Type 0 where
-  pub stand : (path : List ℕ) → Contains paths path → (folder_at path ≡ folder) × (s.node path ≢ Nothing)
-  pub all : (path : List ℕ) → folder_at path ≡ folder → s.node path ≢ Nothing → IsUtf8 path → Contains paths path
+  pub stand : (path : List ℕ) → Contains paths path → StandsIn s folder path
+  pub all : (path : List ℕ) → StandsIn s folder path → IsUtf8 path → Contains paths path
 
 -- a crash may leave this at a path
 abbrev pub MayStand : System → List ℕ → Node → Type 0

@@ -109,7 +109,7 @@ pub trait Folder {
     fn sync(&mut self, file: &Self::File) -> Result<(), CallError>
         requires { IsLocked (modelled self.old) }
         ensures synced { OnOk result (modelled self.new ≡ done_by (with_synced_file (number file.now)) (modelled self.old)) }
-        ensures failed { OnErr result (modelled self.new ≡ done_by with_failed_sync (modelled self.old)) };
+        ensures failed { OnErr result (IsDoneOrNot with_failed_sync (modelled self.old) (modelled self.new)) };
 
     /// Takes the name of a file away.
     fn remove(&mut self, path: &str) -> Result<(), CallError>
@@ -129,7 +129,7 @@ pub trait Folder {
     fn sync_folder(&mut self, path: &str) -> Result<(), CallError>
         requires { IsLocked (modelled self.old) }
         ensures synced { OnOk result (modelled self.new ≡ done_by (with_synced_names path.now) (modelled self.old)) }
-        ensures failed { OnErr result (modelled self.new ≡ done_by with_failed_sync (modelled self.old)) };
+        ensures failed { OnErr result (IsDoneOrNot with_failed_sync (modelled self.old) (modelled self.new)) };
 
     /// Files have numbers below the next one's, and each file reads what a crash may leave of it.
     ghost is_system: { (folder : Self) → IfModelled (modelled folder) IsSystem };

@@ -2,5 +2,7 @@
 #![tactic(auto)]
 
 pub use folder::{CallError, Folder, Kind};
+pub use laws::writes_join;
 
 mod folder;
+mod laws;

@@ -4,7 +4,7 @@ use Rattle.std.proofs.lemmas.List.Elements.{All-from_get_or}
 use Rattle.disk_model.specs.Disk.{written}
 use Rattle.folder_model.specs.System.{with_content}
 use Rattle.folder_model.specs.Calls.{Modelled, done_by}
-use Rattle.folder_calls.proofs.WriteLemmas.{writes-begin, writes-step, writes-stop, writes-fail, length-take-drop}
+use Rattle.folder_model.proofs.WriteLemmas.{writes-begin, writes-step, writes-stop, writes-fail, length-take-drop}
 use Rattle.folder_calls.proofs.write.write_all.Goals as goal
 use Rattle.folder_calls.proofs.write.write_all.Goals.{in-Ok, in-Err-Interrupted}
 

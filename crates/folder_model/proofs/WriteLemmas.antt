@@ -7,7 +7,7 @@ use Rattle.std.proofs.lemmas.List.Elements.{All-take}
 use Rattle.disk_model.specs.Disk.{FileState, overlaid, written}
 use Rattle.folder_model.specs.System.{System, IsSystem, IsHalfWritten, with_content}
 use Rattle.folder_model.specs.Calls.{Modelled, IfModelled, IsLocked, IsPartlyDone, Becomes, done_by}
-use Rattle.folder_calls.proofs.PartLemmas.{written-written, written-nil, written-half, half-written}
+use Rattle.folder_model.proofs.PartLemmas.{written-written, written-nil, written-half, half-written}
 
 -- a change of one file, as one of each file
 abbrev changed_at : ℕ → (FileState → FileState) → (ℕ → FileState) → ℕ → FileState

@@ -1,0 +1,2 @@
+// The calls of a folder.
+use crate::folder::{MemFile, MemFolder};
