@@ -82,14 +82,12 @@ impl MemFolder {
     }
 
     /// Makes a change.
-    pub(crate) fn note(&mut self, change: Change) -> Result<(), CallError>
+    pub(crate) fn note(&mut self, change: Change) -> Result<(), NoMemory>
         ensures ok { OnOk result (mem_model self.new ≡ done_by (changes_to change) (mem_model self.old)) }
         ensures err { OnErr result (mem_model self.new ≡ mem_model self.old) }
     {
-        match self.changes.push(change) {
-            Ok(()) => Ok(()),
-            Err(_) => Err(CallError::Failed),
-        }
+        self.changes.push(change)?;
+        Ok(())
     }
 
     /// How the next call goes. An error where nothing is to be done.

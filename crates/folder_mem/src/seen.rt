@@ -1,7 +1,7 @@
 // What calls see, by the changes so far.
 ghost use Rattle.std.specs.Prelude.{◌≡◌, ◌<◌, ◌≤◌, ◌+◌, ◌^◌, length, IfOk, OnOk};
 ghost use Rattle.folder_model.specs.System.{System};
-ghost use Rattle.folder_mem.specs.Notes.{changes_to, system_after};
+ghost use Rattle.folder_mem.specs.Notes.{changes_to, empty_system, system_after};
 ghost use Rattle.folder_mem.specs.Seen.{IsSeenFile, IsSeenPath, node_of};
 
 use crate::note::Change;
@@ -67,16 +67,25 @@ impl SeenPath {
     }
 }
 
+/// What stands at a path in an empty folder.
+fn first_thing(path: &str) -> Thing
+    ensures { node_of result ≡ empty_system.node path.now }
+{
+    if same_path(path, ".") {
+        Thing::Folder
+    } else {
+        Thing::Nothing
+    }
+}
+
 /// What stands at a path after these changes.
 pub fn seen_path(changes: &[Change], path: &str) -> SeenPath
     ensures { IsSeenPath path.now result (system_after changes.now) }
 {
-    let thing = if same_path(path, ".") {
-        Thing::Folder
-    } else {
-        Thing::Nothing
+    let mut seen = SeenPath {
+        thing: first_thing(path),
+        count: 0,
     };
-    let mut seen = SeenPath { thing, count: 0 };
     for change in changes {
         seen.follow(path, change);
     }

@@ -3,7 +3,9 @@ ghost use Rattle.std.specs.Prelude.{◌≡◌, ◌↔◌, ◌<◌, ◌≤◌, �
 ghost use Rattle.disk_model.specs.Disk.{written, cut_to};
 ghost use Rattle.folder_model.specs.System.{ArePathsIn, IsSystem, IsHalfWritten, IsHalfCut, Nothing, PlainFile, AFolder, with_node, with_content, with_new_file, with_synced_file, with_synced_names, with_failed_sync, with_lock};
 ghost use Rattle.folder_model.specs.Calls.{Modelled, IfModelled, IfSound, IsLocked, IsDoneOrNot, IsPartlyDone, kind_of, done_by};
-ghost use Rattle.folder_model.specs.declared.folder.CallError.TheVariants.{Interrupted};
+ghost use Rattle.folder_model.specs.declared.folder.CallError.TheVariants.{Interrupted, Failed};
+
+use mdbox_base::NoMemory;
 
 /// What stands at a path.
 #[derive(Clone, Copy, Debug, PartialEq, Eq)]
@@ -24,6 +26,14 @@ pub enum CallError {
     Interrupted,
     /// The system refused it, or the device failed, or there was no memory for it.
     Failed,
+}
+
+impl From<NoMemory> for CallError {
+    ghost from_gives = { λ _ error. error ≡ Failed };
+
+    fn from(_error: NoMemory) -> CallError {
+        CallError::Failed
+    }
 }
 
 /// The calls of the system that a store's disk makes, each as POSIX and the manual pages say
