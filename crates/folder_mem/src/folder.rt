@@ -29,7 +29,7 @@ pub struct MemFolder {
 }
 
 impl MemFolder {
-    ghost use Rattle.std.specs.Prelude.{Some, IfOk, OnOk, OnErr};
+    ghost use Rattle.std.specs.Prelude.{Some, IfOk, OnOk, OnErr, string_bytes};
     ghost use Rattle.folder_model.specs.System.{after_end};
     ghost use Rattle.folder_model.specs.Calls.{done_by};
     ghost use Rattle.folder_mem.specs.Notes.{empty_system, changes_to, system_after};
@@ -99,5 +99,12 @@ impl MemFolder {
             Turn::Refused => Err(CallError::Failed),
             turn => Ok(turn),
         }
+    }
+
+    /// A path as a text of its own.
+    pub(crate) fn text_of(&self, path: &str) -> Result<String, NoMemory>
+        ensures { IfOk result (λ text. string_bytes text ≡ path.now) }
+    {
+        Ok(String::from_str(self.alloc, path)?)
     }
 }

@@ -6,6 +6,7 @@ pub use plan::Turn;
 
 mod calls;
 mod folder;
+mod list;
 mod note;
 mod path;
 mod plan;

@@ -47,15 +47,17 @@ impl Text {
         self.octets.truncate(length);
     }
 
-    /// Fills the front of `into` with these from a place on, and tells how many.
-    pub fn read(&self, from: u64, into: &mut [u8]) -> usize
+    /// Fills the front of `into` with these from a place on, so many at most, and tells how many.
+    pub fn read(&self, from: u64, most: usize, into: &mut [u8]) -> usize
+        requires { most ≤ length into.old }
         ensures count { result ≤ length into.new }
-        ensures octets { take result into.new ≡ take (length into.old) (drop from self.now.octets.items) }
+        ensures octets { take result into.new ≡ take result (drop from self.now.octets.items) }
+        ensures some { 0 < most → from < length self.now.octets.items → 0 < result }
         ensures rest { drop result into.new ≡ drop result into.old }
     {
         let length = self.octets.len();
         let from = (from as usize).min(length);
-        let count = into.len().min(length - from);
+        let count = most.min(length - from);
         into[..count].copy_from_slice(&self.octets[from..from + count]);
         count
     }

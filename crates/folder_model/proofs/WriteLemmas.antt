@@ -4,8 +4,8 @@ use Rattle.std.proofs.Common.{◌≡◌, ℕ, ◌+◌, ◌-◌, ◌==◌, ◌<�
 use Rattle.std.proofs.lemmas.Bool.{cases_Bool, cond-true, cond-false, eqb-true, eq-eqb}
 use Rattle.std.proofs.lemmas.List.{length-append, length-take, length-take-le, length-drop, take-take, take_rest, drop-take, take-append-drop}
 use Rattle.std.proofs.lemmas.List.Elements.{All-take}
-use Rattle.disk_model.specs.Disk.{FileState, overlaid, written}
-use Rattle.folder_model.specs.System.{System, IsSystem, IsHalfWritten, with_content}
+use Rattle.disk_model.specs.Disk.{FileState, overlaid, written, cut_to}
+use Rattle.folder_model.specs.System.{System, IsSystem, IsHalfWritten, IsHalfCut, with_content}
 use Rattle.folder_model.specs.Calls.{Modelled, IfModelled, IsLocked, IsPartlyDone, Becomes, done_by}
 use Rattle.folder_model.proofs.PartLemmas.{written-written, written-nil, written-half, half-written}
 
@@ -132,6 +132,17 @@ writes-stop number at done octets (Some old) now fit is reaches so =
       written at (take done octets) (old.now.content number),
       written-half (old.now.content number) at (length octets) (take done octets) (is.contents number) reaches short (All-take (λ octet. octet < 256) done octets fit),
       ap (with_contents old.now) (changed_like number (written at (take done octets)) (λ _. written at (take done octets) (old.now.content number)) old.now.content refl),
+    )))
+
+-- A cut that was done is a part of one.
+pub cut-part : (number end : ℕ) (old now : Option Modelled) → now ≡ done_by (with_content number (cut_to end)) old → IsPartlyDone number (IsHalfCut end) old now
+cut-part number end None now so = inl so
+cut-part number end (Some old) now so =
+    let F : Option Modelled → Type 0 = IsPartlyDone number (IsHalfCut end) (Some old) in
+    subst F (sym so) (inr (refl, (
+      cut_to end (old.now.content number),
+      record { end = end; is = refl; least = omega arith },
+      ap (with_contents old.now) (changed_like number (cut_to end) (λ _. cut_to end (old.now.content number)) old.now.content refl),
     )))
 
 -- a part of the write of the rest
