@@ -1,7 +1,6 @@
 -- What a run of reads has filled.
-use Rattle.std.proofs.Common.{◌≡◌, ℕ, ◌+◌, ◌-◌, ◌<◌, ◌≤◌, List, ◌++◌, length, take, drop, refl, sym, ◌∙◌, ap, subst, arith, rules, Option, Some, None, true}
-use Rattle.std.proofs.lemmas.List.{length-take-le, take_at, drop_at, take-append-le, take-take, take_rest, drop-take, drop-drop, take-append-drop, places}
-use Rattle.disk_model.specs.Disk.{FileState}
+use Rattle.std.proofs.Common.{◌≡◌, ℕ, ◌+◌, ◌-◌, ◌≤◌, List, ◌++◌, length, take, drop, sym, ◌∙◌, ap, subst, arith, rules, Option, Some, None}
+use Rattle.std.proofs.lemmas.List.{length-take-le, take_at, drop_at, take-append-le, take-take, drop-take, drop-drop, take-append-drop, places}
 use Rattle.folder_model.specs.System.{System}
 use Rattle.folder_model.specs.Calls.{Modelled, IfSound}
 use borrow.Rule.Slice.PartMut.{put_mid, post_of}

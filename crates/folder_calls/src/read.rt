@@ -6,7 +6,12 @@ use folder_model::{CallError, Folder};
 
 /// Fills `into` with the file's octets from an offset on. A call that did less is gone on with, and one that was interrupted is
 /// made again. A file that ends before is an error. After an error `into` may hold any octets.
-pub fn read_all<F: Folder>(folder: &mut F, file: &F::File, offset: u64, into: &mut [u8]) -> Result<(), CallError>
+pub fn read_all<F: Folder>(
+    folder: &mut F,
+    file: &F::File,
+    offset: u64,
+    into: &mut [u8],
+) -> Result<(), CallError>
     requires { IsLocked (F.modelled folder.old) }
     ensures octets { OnOk result (IfSound (F.modelled folder.old) (λ s. into.new ≡ take (length into.old) (drop offset (s.content (F.number file.now)).octets))) }
     ensures same { F.modelled folder.new ≡ F.modelled folder.old }

@@ -8,7 +8,12 @@ use folder_model::{CallError, Folder};
 
 /// Writes all of these octets at an offset within the file or at its end. A call that did less is gone on with, and one that
 /// was interrupted is made again.
-pub fn write_all<F: Folder>(folder: &mut F, file: &F::File, offset: u64, from: &[u8]) -> Result<(), CallError>
+pub fn write_all<F: Folder>(
+    folder: &mut F,
+    file: &F::File,
+    offset: u64,
+    from: &[u8],
+) -> Result<(), CallError>
     requires locked { IsLocked (F.modelled folder.old) }
     requires reaches { IfModelled (F.modelled folder.old) (λ s. offset ≤ length (s.content (F.number file.now)).octets) }
     ensures wrote { OnOk result (F.modelled folder.new ≡ done_by (with_content (F.number file.now) (written offset from.now)) (F.modelled folder.old)) }

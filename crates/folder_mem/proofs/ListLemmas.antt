@@ -1,14 +1,14 @@
 -- Which paths stand in a folder.
-use Rattle.std.proofs.Common.{◌≡◌, ◌≢◌, ◌⊎◌, inl, inr, ℕ, suc, ◌+◌, ◌<◌, Bool, true, false, if◌then◌else◌, List, [], ◌∷◌, ◌++◌, length, slice_get, Option, Some, None, Contains, map, codes, string_bytes, refl, sym, ◌∙◌, ap, subst, arith}
-use Rattle.std.proofs.lemmas.Bool.{cases_Bool, cond-true, cond-false, false≢true}
-use Rattle.std.proofs.lemmas.List.Elements.{Contains-push, Contains-append_left, Contains-push_cases}
+use Rattle.std.proofs.Common.{◌≡◌, ◌≢◌, ◌⊎◌, inl, inr, ℕ, suc, ◌<◌, true, List, [], ◌∷◌, ◌++◌, length, Some, codes, string_bytes, refl, sym, ◌∙◌, ap, subst, arith}
+use Rattle.std.proofs.lemmas.Bool.{cases_Bool, cond-true, cond-false}
+use Rattle.std.proofs.lemmas.List.Elements.{Contains-push_cases}
 use Rattle.disk_model.specs.Name.{same_octets}
 use Rattle.disk_model.proofs.NameLemmas.{same_octets-true, same_octets-refl}
 use Rattle.folder_model.specs.System.{Node, Nothing, PlainFile, AFolder, System, StandsIn, with_node}
 use Rattle.folder_mem.specs.declared.note.Change.{Change}
 use Rattle.folder_mem.specs.declared.note.Change.TheVariants.{Locked, Ended, MadeFile, MadeFolder, Removed, Written, Cut, Synced, NamesSynced, SyncFailed}
 use Rattle.folder_mem.specs.Notes.{changes_to, empty_system, replayed_from, system_after}
-use Rattle.folder_mem.specs.Listing.{path_made, AllStandIn, IsMadeBy}
+use Rattle.folder_mem.specs.Listing.{path_made, AllStandIn, IsMadeAmong}
 
 pub same_octets-is : (a b : List ℕ) → a ≡ b → same_octets a b ≡ true
 same_octets-is a b e = let F : List ℕ → Type 0 = λ l. same_octets a l ≡ true in subst F e (same_octets-refl a)
@@ -38,23 +38,23 @@ made_here (Synced number) s path there = inl there
 made_here (NamesSynced folder) s path there = inl there
 made_here SyncFailed s path there = inl there
 
-made_since : (changes : List Change) (s : System) (path : List ℕ) → (replayed_from changes s).node path ≢ Nothing → (s.node path ≢ Nothing) ⊎ IsMadeBy changes path
+made_since : (changes : List Change) (s : System) (path : List ℕ) → (replayed_from changes s).node path ≢ Nothing → (s.node path ≢ Nothing) ⊎ IsMadeAmong changes path
 made_since [] s path there = inl there
 made_since (change ∷ changes) s path there = elim (made_since changes (changes_to change s) path there) [
   | inl here ↦ elim (made_here change s path here) [
-      | inl was ↦ inl was
-      | inr made ↦ inr (0, change, omega arith, refl, made)
-    ]
+    | inl was ↦ inl was
+    | inr made ↦ inr (0, change, omega arith, refl, made)
+  ]
   | inr later ↦ inr (suc later.0, later.1, (let below : later.0 < length changes = later.2 in omega arith), later.3, later.4)
 ]
 
 -- What stands at a path below the current folder was made there.
-pub stands_made : (changes : List Change) (folder path : List ℕ) → StandsIn (system_after changes) folder path → IsMadeBy changes path
+pub stands_made : (changes : List Change) (folder path : List ℕ) → StandsIn (system_after changes) folder path → IsMadeAmong changes path
 unfolding system_after
 stands_made changes folder path stands = elim (made_since changes empty_system path stands.there) [
   | inl was ↦ absurd (was (elim (cases_Bool (same_octets path (codes "."))) [
-      | inl is ↦ absurd (stands.below (same_octets-true path (codes ".") is))
-      | inr apart ↦ cond-false (same_octets path (codes ".")) AFolder Nothing apart
-    ]))
+    | inl is ↦ absurd (stands.below (same_octets-true path (codes ".") is))
+    | inr apart ↦ cond-false (same_octets path (codes ".")) AFolder Nothing apart
+  ]))
   | inr made ↦ made
 ]

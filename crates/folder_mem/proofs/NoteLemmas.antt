@@ -1,8 +1,8 @@
 -- One change more.
-use Rattle.std.proofs.Common.{◌≡◌, ℕ, ◌+◌, ◌<◌, ◌≤◌, List, [], ◌∷◌, ◌++◌, length, take, Option, Some, refl, sym, ◌∙◌, ap, get_or, arith}
-use Rattle.std.proofs.lemmas.List.{take_more, take-append-le, length_push, take_all}
+use Rattle.std.proofs.Common.{◌≡◌, ℕ, ◌+◌, ◌<◌, ◌≤◌, List, [], ◌∷◌, ◌++◌, length, take, Some, refl, sym, ◌∙◌, ap, get_or}
+use Rattle.std.proofs.lemmas.List.{take_more, take-append-le, take_all}
 use Rattle.folder_model.specs.System.{System}
-use Rattle.folder_model.specs.Calls.{Modelled, done_by}
+use Rattle.folder_model.specs.Calls.{done_by}
 use Rattle.folder_mem.specs.declared.note.Change.{Change}
 use Rattle.folder_mem.specs.Notes.{changes_to, empty_system, replayed_from, system_after}
 use Rattle.folder_mem.specs.Seen.{modelled_by}

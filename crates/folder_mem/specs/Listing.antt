@@ -15,5 +15,5 @@ abbrev pub AllStandIn : System → List ℕ → List (List ℕ) → Type 0
 AllStandIn s folder paths = (path : List ℕ) → Contains paths path → StandsIn s folder path
 
 -- a change made something at this path
-abbrev pub IsMadeBy : List Change → List ℕ → Type 0
-IsMadeBy changes path = (k : ℕ) × (change : Change) × (k < length changes) × (slice_get changes k ≡ Some change) × (path_made change ≡ Some path)
+abbrev pub IsMadeAmong : List Change → List ℕ → Type 0
+IsMadeAmong changes path = (k : ℕ) × (change : Change) × (k < length changes) × (slice_get changes k ≡ Some change) × (path_made change ≡ Some path)

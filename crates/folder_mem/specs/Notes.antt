@@ -1,8 +1,8 @@
 -- What the calls on a folder in memory have changed.
-use Rattle.std.specs.Prelude.{◌≡◌, ℕ, List, [], ◌∷◌, take, Option, Some, true, false, codes, string_bytes, if◌then◌else◌}
+use Rattle.std.specs.Prelude.{List, [], ◌∷◌, true, false, codes, string_bytes, if◌then◌else◌}
 use Rattle.disk_model.specs.Disk.{still, written, cut_to}
 use Rattle.disk_model.specs.Name.{same_octets}
-use Rattle.folder_model.specs.System.{Node, Nothing, PlainFile, AFolder, Another, System, with_node, with_content, with_new_file, with_synced_file, with_synced_names, with_failed_sync, with_lock, after_end}
+use Rattle.folder_model.specs.System.{Nothing, AFolder, System, with_node, with_content, with_new_file, with_synced_file, with_synced_names, with_failed_sync, with_lock, after_end}
 use Rattle.folder_mem.specs.declared.note.Change.{Change}
 use Rattle.folder_mem.specs.declared.note.Change.TheVariants.{Locked, Ended, MadeFile, MadeFolder, Removed, Written, Cut, Synced, NamesSynced, SyncFailed}
 

@@ -1,5 +1,5 @@
 -- What calls see of a folder in memory.
-use Rattle.std.specs.Prelude.{◌≡◌, ℕ, List, take, Option, Some}
+use Rattle.std.specs.Prelude.{◌≡◌, ℕ, List, take}
 use Rattle.folder_model.specs.System.{Node, Nothing, PlainFile, AFolder, System}
 use Rattle.folder_model.specs.Calls.{Modelled}
 use Rattle.folder_mem.specs.declared.note.Change.{Change}

@@ -4,8 +4,8 @@ ghost use Rattle.folder_mem.specs.Mem.{mem_model};
 ghost use Rattle.folder_mem.specs.SystemLaw.{system_is};
 
 use crate::folder::{MemFile, MemFolder};
-use crate::note::Change;
 use crate::list::paths_below;
+use crate::note::Change;
 use crate::plan::Turn;
 use crate::seen::{Thing, seen_file, seen_path};
 use crate::text::Text;
@@ -94,12 +94,7 @@ impl Folder for MemFolder {
         Ok(seen.text.read(offset, count, into))
     }
 
-    fn write_some(
-        &mut self,
-        file: &MemFile,
-        offset: u64,
-        from: &[u8],
-    ) -> Result<usize, CallError> {
+    fn write_some(&mut self, file: &MemFile, offset: u64, from: &[u8]) -> Result<usize, CallError> {
         let turn = self.begin()?;
         let count = match turn {
             Turn::Whole => from.len(),

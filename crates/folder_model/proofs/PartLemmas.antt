@@ -1,12 +1,12 @@
 -- Two writes side by side do what one does.
 use mathlib.Core.Path.{fun_ext}
-use Rattle.std.proofs.Common.{◌≡◌, ℕ, ◌+◌, ◌==◌, ◌<◌, ◌≤◌, max, nat_le, nat_lt, Bool, true, false, ◌&&◌, ◌||◌, if◌then◌else◌, List, [], ◌∷◌, ◌++◌, length, take, drop, Option, Some, None, MatchOption, refl, sym, ◌∙◌, ap, subst, ◌⊎◌, inl, inr, arith, get_or, slice_get, All, ◌-◌, min, append_assoc, length-append}
+use Rattle.std.proofs.Common.{◌≡◌, ℕ, ◌+◌, ◌<◌, ◌≤◌, max, nat_le, nat_lt, Bool, true, false, ◌||◌, List, [], ◌++◌, length, take, drop, Some, refl, sym, ◌∙◌, ap, ◌⊎◌, inl, inr, arith, get_or, slice_get, All, append_assoc, length-append}
 use Rattle.std.proofs.lemmas.Bool.{and_cases, leb-false, ltb-false, false≢true}
 use Rattle.std.proofs.lemmas.Bool.Decides.{nat_tests}
 use Rattle.std.proofs.lemmas.List.{length-take-le, take_at, drop_at, drop-drop, length-drop, append-nil, take-append-drop, places}
 use Rattle.std.proofs.lemmas.List.Elements.{All-append, All-take, All-drop}
 use Rattle.std.proofs.lemmas.Option.{slice_get-get_or}
-use Rattle.disk_model.specs.Disk.{FileState, covers, overlaid, written, half_written}
+use Rattle.disk_model.specs.Disk.{FileState, covers, overlaid, written}
 use Rattle.folder_model.specs.System.{IsContent, IsHalfWritten}
 
 pub overlaid-overlaid : (o : List ℕ) (at : ℕ) (a b : List ℕ) → at ≤ length o → overlaid (overlaid o at a) (at + length a) b ≡ overlaid o at (a ++ b)
@@ -16,8 +16,8 @@ overlaid-overlaid o at a b within =
     let long : length p ≡ n = length-append (take at o) a ∙ ap (λ k. k + length a) (length-take-le at o within) in
     let front : take n (p ++ drop n o) ≡ p = take_at p (drop n o) n long in
     let back : drop (n + length b) (p ++ drop n o) ≡ drop (at + length (a ++ b)) o =
-        sym (drop-drop (length b) n (p ++ drop n o)) ∙ ap (λ l. drop (length b) l) (drop_at p (drop n o) n long)
-        ∙ drop-drop (length b) n o ∙ ap (λ k. drop k o) (let e = length-append a b in omega (arith, e)) in
+    sym (drop-drop (length b) n (p ++ drop n o)) ∙ ap (λ l. drop (length b) l) (drop_at p (drop n o) n long)
+    ∙ drop-drop (length b) n o ∙ ap (λ k. drop k o) (let e = length-append a b in omega (arith, e)) in
     ap (λ l. (l ++ b) ++ drop (n + length b) (p ++ drop n o)) front
     ∙ ap (λ l. (p ++ b) ++ l) back
     ∙ ap (λ l. l ++ drop (at + length (a ++ b)) o) (append_assoc (take at o) a b)

@@ -6,7 +6,7 @@ use Rattle.std.proofs.lemmas.List.{length-append, length-take, length-take-le, l
 use Rattle.std.proofs.lemmas.List.Elements.{All-take}
 use Rattle.disk_model.specs.Disk.{FileState, overlaid, written, cut_to}
 use Rattle.folder_model.specs.System.{System, IsSystem, IsHalfWritten, IsHalfCut, with_content}
-use Rattle.folder_model.specs.Calls.{Modelled, IfModelled, IsLocked, IsPartlyDone, Becomes, done_by}
+use Rattle.folder_model.specs.Calls.{Modelled, IfModelled, IsLocked, IsPartlyDone, done_by}
 use Rattle.folder_model.proofs.PartLemmas.{written-written, written-nil, written-half, half-written}
 
 -- a change of one file, as one of each file
@@ -128,22 +128,28 @@ writes-stop number at done octets None now fit is reaches so = inl so
 writes-stop number at done octets (Some old) now fit is reaches so =
     let F : Option Modelled → Type 0 = IsPartlyDone number (IsHalfWritten at (length octets)) (Some old) in
     let short : length (take done octets) ≤ length octets = let e = length-take done octets in omega (arith, e) in
-    subst F (sym so) (inr (refl, (
-      written at (take done octets) (old.now.content number),
-      written-half (old.now.content number) at (length octets) (take done octets) (is.contents number) reaches short (All-take (λ octet. octet < 256) done octets fit),
-      ap (with_contents old.now) (changed_like number (written at (take done octets)) (λ _. written at (take done octets) (old.now.content number)) old.now.content refl),
-    )))
+    subst F (sym so) (inr (
+      refl,
+      (
+        written at (take done octets) (old.now.content number),
+        written-half (old.now.content number) at (length octets) (take done octets) (is.contents number) reaches short (All-take (λ octet. octet < 256) done octets fit),
+        ap (with_contents old.now) (changed_like number (written at (take done octets)) (λ _. written at (take done octets) (old.now.content number)) old.now.content refl),
+      ),
+    ))
 
 -- A cut that was done is a part of one.
 pub cut-part : (number end : ℕ) (old now : Option Modelled) → now ≡ done_by (with_content number (cut_to end)) old → IsPartlyDone number (IsHalfCut end) old now
 cut-part number end None now so = inl so
 cut-part number end (Some old) now so =
     let F : Option Modelled → Type 0 = IsPartlyDone number (IsHalfCut end) (Some old) in
-    subst F (sym so) (inr (refl, (
-      cut_to end (old.now.content number),
-      record { end = end; is = refl; least = omega arith },
-      ap (with_contents old.now) (changed_like number (cut_to end) (λ _. cut_to end (old.now.content number)) old.now.content refl),
-    )))
+    subst F (sym so) (inr (
+      refl,
+      (
+        cut_to end (old.now.content number),
+        record { end = end; is = refl; least = omega arith },
+        ap (with_contents old.now) (changed_like number (cut_to end) (λ _. cut_to end (old.now.content number)) old.now.content refl),
+      ),
+    ))
 
 -- a part of the write of the rest
 abbrev IsRestPartlyDone : ℕ → ℕ → ℕ → List ℕ → Option Modelled → Option Modelled → Type 0
@@ -165,12 +171,15 @@ fails-after number at done octets (Some old) (Some new) within fit is reaches (i
     let F : FileState → Type 0 = λ c. IsHalfWritten (at + done) rest c f in
     let G : ℕ → Type 0 = λ k. IsHalfWritten (at + k) rest (written at first (old.now.content number)) f in
     let half : IsHalfWritten (at + length first) rest (written at first (old.now.content number)) f =
-        subst G (sym long) (subst F (content-here number (written at first) old.now) part.1.1) in
-    inr (part.0, (
-      f,
-      half-written (old.now.content number) f at rest (length octets) first (is.contents number) reaches (omega (arith, long, size)) half,
-      part.1.2 ∙ content-content number (written at first) (λ _. f) (λ _. f) old.now refl,
-    ))
+    subst G (sym long) (subst F (content-here number (written at first) old.now) part.1.1) in
+    inr (
+      part.0,
+      (
+        f,
+        half-written (old.now.content number) f at rest (length octets) first (is.contents number) reaches (omega (arith, long, size)) half,
+        part.1.2 ∙ content-content number (written at first) (λ _. f) (λ _. f) old.now refl,
+      ),
+    )
 
 -- A call failed after so many octets.
 pub writes-fail : (number at done : ℕ) (octets : List ℕ) (old now new : Option Modelled) → done ≤ length octets → All (λ octet. octet < 256) octets → IfModelled old IsSystem

@@ -1,9 +1,7 @@
 -- What a call of the system says, where the system's files are modelled.
-use Rattle.std.specs.Prelude.{◌≡◌, ◌≢◌, ◌↔◌, ◌⊎◌, ◌<◌, ◌≤◌, ℕ, true, List, [], length, drop, map, Option, Some, None, MatchOption, All, Contains, ⊤, string_bytes}
-use Rattle.std.specs.declared.string.String.{String}
+use Rattle.std.specs.Prelude.{◌≡◌, ◌⊎◌, ℕ, true, Option, Some, None, MatchOption, ⊤}
 use Rattle.disk_model.specs.Disk.{FileState}
-use Rattle.folder_model.specs.Paths.{folder_at}
-use Rattle.folder_model.specs.System.{Node, Nothing, PlainFile, AFolder, Another, System, IsHalfWritten, IsHalfCut, with_content}
+use Rattle.folder_model.specs.System.{Node, Nothing, PlainFile, AFolder, Another, System, with_content}
 use Rattle.folder_model.specs.declared.folder.Kind.{Kind}
 use Rattle.folder_model.specs.declared.folder.Kind.TheVariants as kind
 
@@ -45,8 +43,8 @@ IsPartlyDone number R old new =
     (new ≡ old) ⊎ Becomes (λ before after. (f : FileState) × R (before.content number) f × (after ≡ with_content number (λ _. f) before)) old new
 
 -- what a look at a path tells
-abbrev pub kind_of : Node → Kind
-kind_of Nothing = kind.Nothing
-kind_of (PlainFile number) = kind.File
-kind_of AFolder = kind.Folder
-kind_of Another = kind.Other
+abbrev pub kind_of_node : Node → Kind
+kind_of_node Nothing = kind.Nothing
+kind_of_node (PlainFile number) = kind.File
+kind_of_node AFolder = kind.Folder
+kind_of_node Another = kind.Other

@@ -2,14 +2,14 @@
 use Rattle.std.specs.Prelude.{ℕ, ◌==◌, List, [], ◌∷◌, Option, Some, None, codes, if◌then◌else◌}
 
 -- what of a path stands before its last "/": of an octet and the rest of the path
-abbrev pub with_octet : ℕ → Option (List ℕ) → Option (List ℕ)
-with_octet octet None = if octet == 47 then Some [] else None
-with_octet octet (Some before) = Some (octet ∷ before)
+abbrev pub put_before_slash : ℕ → Option (List ℕ) → Option (List ℕ)
+put_before_slash octet None = if octet == 47 then Some [] else None
+put_before_slash octet (Some before) = Some (octet ∷ before)
 
 -- what of a path stands before its last "/", if it has one
 abbrev pub before_slash : List ℕ → Option (List ℕ)
 before_slash [] = None
-before_slash (octet ∷ rest) = with_octet octet (before_slash rest)
+before_slash (octet ∷ rest) = put_before_slash octet (before_slash rest)
 
 -- this path, or that of the current folder
 abbrev pub or_current : Option (List ℕ) → List ℕ

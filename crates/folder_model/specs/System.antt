@@ -1,5 +1,5 @@
 -- The system's files as the calls of one process see them, what of them is durable, and what a crash may leave.
-use Rattle.std.specs.Prelude.{◌≡◌, ◌≢◌, ◌⊎◌, ℕ, ◌==◌, ◌+◌, ◌<◌, ◌≤◌, max, Bool, true, false, if◌then◌else◌, List, [], ◌∷◌, length, take, slice_get, Option, Some, None, All, Contains, ⊤, codes}
+use Rattle.std.specs.Prelude.{◌≡◌, ◌≢◌, ◌⊎◌, ℕ, ◌==◌, ◌+◌, ◌<◌, ◌≤◌, max, Bool, true, false, if◌then◌else◌, List, [], ◌∷◌, length, take, slice_get, All, Contains, ⊤, codes}
 use Rattle.disk_model.specs.Name.{same_octets}
 use Rattle.disk_model.specs.Disk.{FileState, MayHold, covers, still, synced, half_written, half_cut}
 use Rattle.std.specs.Str.{IsUtf8}

@@ -2,7 +2,7 @@
 ghost use Rattle.std.specs.Prelude.{◌≡◌, ◌↔◌, ◌<◌, ◌≤◌, ℕ, List, Option, true, false, length, take, drop, map, string_bytes, IfOk, IsErrOf, OnOk, OnErr};
 ghost use Rattle.disk_model.specs.Disk.{written, cut_to};
 ghost use Rattle.folder_model.specs.System.{ArePathsIn, IsSystem, IsHalfWritten, IsHalfCut, Nothing, PlainFile, AFolder, with_node, with_content, with_new_file, with_synced_file, with_synced_names, with_failed_sync, with_lock};
-ghost use Rattle.folder_model.specs.Calls.{Modelled, IfModelled, IfSound, IsLocked, IsDoneOrNot, IsPartlyDone, kind_of, done_by};
+ghost use Rattle.folder_model.specs.Calls.{Modelled, IfModelled, IfSound, IsLocked, IsDoneOrNot, IsPartlyDone, kind_of_node, done_by};
 ghost use Rattle.folder_model.specs.declared.folder.CallError.TheVariants.{Interrupted, Failed};
 
 use mdbox_base::NoMemory;
@@ -60,7 +60,7 @@ pub trait Folder {
     /// What stands at a path.
     fn look(&mut self, path: &str) -> Result<Kind, CallError>
         requires { IsLocked (modelled self.old) }
-        ensures kind { IfOk result (λ kind. IfSound (modelled self.old) (λ s. kind ≡ kind_of (s.node path.now))) }
+        ensures kind { IfOk result (λ kind. IfSound (modelled self.old) (λ s. kind ≡ kind_of_node (s.node path.now))) }
         ensures same { modelled self.new ≡ modelled self.old };
 
     /// The paths of what stands in a folder. Names that aren't text may be left out.
@@ -90,7 +90,12 @@ pub trait Folder {
         ensures same { modelled self.new ≡ modelled self.old };
 
     /// Reads octets from an offset on, as many as it wants, and answers how many: none only at the end of the file.
-    fn read_some(&mut self, file: &Self::File, offset: u64, into: &mut [u8]) -> Result<usize, CallError>
+    fn read_some(
+        &mut self,
+        file: &Self::File,
+        offset: u64,
+        into: &mut [u8],
+    ) -> Result<usize, CallError>
         requires { IsLocked (modelled self.old) }
         ensures count { IfOk result (λ n. n ≤ length into.new) }
         ensures octets { IfOk result (λ n. IfSound (modelled self.old) (λ s. take n into.new ≡ take n (drop offset (s.content (number file.now)).octets))) }
@@ -99,7 +104,12 @@ pub trait Folder {
         ensures same { modelled self.new ≡ modelled self.old };
 
     /// Writes octets at an offset within the file or at its end, as many as it wants, and answers how many.
-    fn write_some(&mut self, file: &Self::File, offset: u64, from: &[u8]) -> Result<usize, CallError>
+    fn write_some(
+        &mut self,
+        file: &Self::File,
+        offset: u64,
+        from: &[u8],
+    ) -> Result<usize, CallError>
         requires locked { IsLocked (modelled self.old) }
         requires reaches { IfModelled (modelled self.old) (λ s. offset ≤ length (s.content (number file.now)).octets) }
         ensures count { IfOk result (λ n. n ≤ length from.now) }

@@ -1,5 +1,5 @@
-use Rattle.std.proofs.Common.{◌≡◌, ◌+◌, ◌-◌, ◌<◌, ◌≤◌, ◌^◌, ℕ, length, take, drop, List, Option, sym, ◌∙◌, ap, subst, arith, rules}
-use Rattle.folder_model.specs.Calls.{Modelled, IfSound}
+use Rattle.std.proofs.Common.{◌≡◌, ◌-◌, ◌≤◌, ℕ, length, sym, ◌∙◌, subst, arith, rules}
+use Rattle.folder_model.specs.Calls.{IfSound}
 use Rattle.folder_calls.proofs.ReadLemmas.{IsFilled, reads-step, reads-again, length-filled}
 use Rattle.std.proofs.lemmas.List.{places}
 use borrow.Rule.Slice.PartMut.{put_mid}

@@ -1,5 +1,5 @@
-use Rattle.std.proofs.Common.{◌≡◌, ◌+◌, ◌<◌, ◌≤◌, ◌^◌, ℕ, length, take, drop, List}
-use Rattle.folder_model.specs.Calls.{Modelled, IfSound}
+use Rattle.std.proofs.Common.{◌≡◌, ◌+◌, ◌<◌, ◌≤◌, ◌^◌, length, take, drop}
+use Rattle.folder_model.specs.Calls.{IfSound}
 use Rattle.folder_calls.proofs.read.read_all.Given as goal
 
 abbrev pub invariant-loop : goal.invariant-loop

@@ -1,9 +1,9 @@
-use Rattle.std.proofs.Common.{◌≡◌, ◌+◌, ◌-◌, ◌<◌, ◌≤◌, ◌^◌, ℕ, length, take, drop, List, ◌++◌, Option, Err, refl, sym, ◌∙◌, ap, subst, arith, All, Fits, w8, get_or}
-use Rattle.std.proofs.lemmas.List.{length-take-le, take_all}
+use Rattle.std.proofs.Common.{◌≡◌, ◌+◌, ◌-◌, ◌<◌, ◌≤◌, ℕ, length, take, drop, List, Err, sym, ◌∙◌, ap, subst, arith, All, Fits, w8, get_or}
+use Rattle.std.proofs.lemmas.List.{take_all}
 use Rattle.std.proofs.lemmas.List.Elements.{All-from_get_or}
 use Rattle.disk_model.specs.Disk.{written}
 use Rattle.folder_model.specs.System.{with_content}
-use Rattle.folder_model.specs.Calls.{Modelled, done_by}
+use Rattle.folder_model.specs.Calls.{done_by}
 use Rattle.folder_model.proofs.WriteLemmas.{writes-begin, writes-step, writes-stop, writes-fail, length-take-drop}
 use Rattle.folder_calls.proofs.write.write_all.Goals as goal
 use Rattle.folder_calls.proofs.write.write_all.Goals.{in-Ok, in-Err-Interrupted}
@@ -39,7 +39,7 @@ loop-preserved g c =
             omega (arith, within, left, is),
             omega arith,
             let F : ℕ → Type 0 = λ k. g.F.Folder.modelled c.write_some.new.self ≡ done_by (with_content number (written c.args.offset (take k c.args.from.now))) (g.F.Folder.modelled c.args.folder.now) in
-            subst F (sym is) (writes-step number c.args.offset c.loop.done h.count c.args.from.now (g.F.Folder.modelled c.args.folder.now) (g.F.Folder.modelled c.loop.folder) (g.F.Folder.modelled c.write_some.new.self) i.0 c.requires.reaches i.2 h.ensures.wrote),
+                subst F (sym is) (writes-step number c.args.offset c.loop.done h.count c.args.from.now (g.F.Folder.modelled c.args.folder.now) (g.F.Folder.modelled c.loop.folder) (g.F.Folder.modelled c.write_some.new.self) i.0 c.requires.reaches i.2 h.ensures.wrote),
           )
       | in-Err-Interrupted w ↦
           let h = w.in-Err-Interrupted in
@@ -47,7 +47,7 @@ loop-preserved g c =
             omega arith,
             omega arith,
             let F : ℕ → Type 0 = λ k. g.F.Folder.modelled c.write_some.new.self ≡ done_by (with_content number (written c.args.offset (take k c.args.from.now))) (g.F.Folder.modelled c.args.folder.now) in
-            subst F (sym is) (h.ensures.interrupted (ap Err h.field-0-is) ∙ i.2),
+                subst F (sym is) (h.ensures.interrupted (ap Err h.field-0-is) ∙ i.2),
           )
     ]
 
@@ -60,7 +60,7 @@ returns-in-Ok-eq0-clause-failed g c =
     writes-stop number c.args.offset (c.loop.done + c.in-Ok-eq0.field-0) c.args.from.now old (g.F.Folder.modelled c.write_some.new.self) fit
     (g.met.F.Folder.is_system c.args.folder.now) c.requires.reaches
     (writes-step number c.args.offset c.loop.done c.in-Ok-eq0.field-0 c.args.from.now old (g.F.Folder.modelled c.loop.folder) (g.F.Folder.modelled c.write_some.new.self)
-        i.0 c.requires.reaches i.2 c.in-Ok-eq0.ensures.wrote)
+    i.0 c.requires.reaches i.2 c.in-Ok-eq0.ensures.wrote)
 
 pub returns-in-Err-Failed-clause-failed : goal.returns-in-Err-Failed-clause-failed
 returns-in-Err-Failed-clause-failed g c =

@@ -1,7 +1,7 @@
-use Rattle.std.proofs.Common.{◌≡◌, ◌+◌, ◌<◌, ◌≤◌, ◌^◌, ℕ, length, take, List}
+use Rattle.std.proofs.Common.{◌≡◌, ◌+◌, ◌<◌, ◌≤◌, ◌^◌, length, take}
 use Rattle.disk_model.specs.Disk.{written}
 use Rattle.folder_model.specs.System.{with_content}
-use Rattle.folder_model.specs.Calls.{Modelled, done_by}
+use Rattle.folder_model.specs.Calls.{done_by}
 use Rattle.folder_calls.proofs.write.write_all.Given as goal
 
 abbrev pub invariant-loop : goal.invariant-loop

@@ -1,4 +1,4 @@
-use Rattle.std.proofs.Common.{◌≡◌, sym, ◌∙◌, true, false, refl, codes, ℕ, ◌≢◌, ◌⊎◌, inl, inr}
+use Rattle.std.proofs.Common.{◌≡◌, sym, ◌∙◌, refl, codes, ℕ, ◌≢◌, ◌⊎◌, inl, inr}
 use Rattle.std.proofs.lemmas.Bool.{false≢true}
 use Rattle.disk_model.proofs.NameLemmas.{same_octets-true}
 use Rattle.folder_model.specs.System.{Node, Nothing, PlainFile, AFolder}

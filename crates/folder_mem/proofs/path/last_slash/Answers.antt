@@ -1,4 +1,4 @@
-use Rattle.std.proofs.Common.{◌≡◌, ◌≢◌, ◌<◌, ◌+◌, ℕ, Option, Some, None, MatchOption, List, length, take, get_or, sym, ◌∙◌, subst, refl, arith}
+use Rattle.std.proofs.Common.{◌≡◌, ◌≢◌, ◌<◌, ◌+◌, ℕ, Option, Some, None, MatchOption, List, length, take, get_or, sym, ◌∙◌, subst, arith}
 use Rattle.std.proofs.lemmas.List.{get_or_default}
 use Rattle.folder_model.specs.Paths.{before_slash}
 use Rattle.folder_mem.proofs.PathLemmas.{before_slash-here, before_slash-other}
@@ -23,8 +23,8 @@ loop-i-preserved c =
     let F : Option ℕ → Type 0 = IsLast path (i + 1) in
     elim c.if-octet-eq47.branch [
       | then-octet-eq47 w ↦ subst F (sym w.last-is) (
-          omega arith,
-          before_slash-here path i (get_or path i 0) c.loop-i-test.true (get_or_default path i 0 (get_or path i 0) c.loop-i-test.true) w.if-octet-eq47.true,
-        )
+        omega arith,
+        before_slash-here path i (get_or path i 0) c.loop-i-test.true (get_or_default path i 0 (get_or path i 0) c.loop-i-test.true) w.if-octet-eq47.true,
+      )
       | else-octet-eq47 w ↦ subst F (sym w.last-is) (other path i c.loop-i.last c.loop-i-test.true w.if-octet-eq47.false c.loop-i.invariant)
     ]

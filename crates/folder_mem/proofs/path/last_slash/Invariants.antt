@@ -1,4 +1,4 @@
-use Rattle.std.proofs.Common.{◌≡◌, ◌<◌, ℕ, Option, Some, None, take, length, MatchOption, List}
+use Rattle.std.proofs.Common.{◌≡◌, ◌<◌, Some, None, take, MatchOption}
 use Rattle.folder_model.specs.Paths.{before_slash}
 use Rattle.folder_mem.proofs.path.last_slash.Given as goal
 

@@ -1,6 +1,6 @@
-use Rattle.std.proofs.Common.{◌≡◌, ◌≤◌, ◌+◌, length, take, refl, sym, subst, arith}
+use Rattle.std.proofs.Common.{take, refl, sym, subst, arith}
 use Rattle.folder_model.specs.System.{System}
-use Rattle.folder_mem.specs.Notes.{system_after, empty_system}
+use Rattle.folder_mem.specs.Notes.{system_after}
 use Rattle.folder_mem.specs.Seen.{IsSeenFile}
 use Rattle.folder_mem.proofs.NoteLemmas.{system-none, system-next}
 use Rattle.folder_mem.proofs.seen.seen_file.Goals as goal

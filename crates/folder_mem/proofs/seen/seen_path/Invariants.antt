@@ -1,4 +1,4 @@
-use Rattle.std.proofs.Common.{◌≤◌, length, take}
+use Rattle.std.proofs.Common.{◌≤◌, take}
 use Rattle.folder_mem.specs.Notes.{system_after}
 use Rattle.folder_mem.specs.Seen.{IsSeenPath}
 use Rattle.folder_mem.proofs.seen.seen_path.Given as goal

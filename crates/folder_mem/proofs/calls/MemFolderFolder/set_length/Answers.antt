@@ -1,7 +1,7 @@
-use Rattle.std.proofs.Common.{◌≡◌, ◌∙◌, ap, Result, Ok, Err, OnErr}
+use Rattle.std.proofs.Common.{◌∙◌, ap, Result, Ok, Err, OnErr}
 use Rattle.disk_model.specs.Disk.{cut_to}
-use Rattle.folder_model.specs.System.{with_content, IsHalfCut}
-use Rattle.folder_model.specs.Calls.{IsPartlyDone, done_by}
+use Rattle.folder_model.specs.System.{with_content}
+use Rattle.folder_model.specs.Calls.{done_by}
 use Rattle.folder_model.proofs.WriteLemmas.{cut-part}
 use Rattle.folder_mem.specs.Mem.{mem_model}
 use Rattle.folder_mem.proofs.calls.MemFolderFolder.set_length.Goals as goal

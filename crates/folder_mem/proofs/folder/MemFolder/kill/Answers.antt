@@ -1,5 +1,4 @@
-use Rattle.std.proofs.Common.{◌≡◌, List, Some, ◌∙◌, ap, arith}
-use Rattle.folder_mem.specs.declared.note.Change.{Change}
+use Rattle.std.proofs.Common.{Some, ◌∙◌, ap, arith}
 use Rattle.folder_mem.specs.declared.note.Change.TheVariants.{Ended}
 use Rattle.folder_mem.specs.Notes.{system_after}
 use Rattle.folder_mem.proofs.NoteLemmas.{system-push, model-whole}

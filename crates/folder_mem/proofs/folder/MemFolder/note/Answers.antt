@@ -1,4 +1,4 @@
-use Rattle.std.proofs.Common.{◌≡◌, List, Some, ◌∙◌, ap}
+use Rattle.std.proofs.Common.{List, Some, ◌∙◌, ap}
 use Rattle.folder_mem.specs.declared.note.Change.{Change}
 use Rattle.folder_mem.specs.Seen.{modelled_by}
 use Rattle.folder_mem.proofs.NoteLemmas.{model-push}
