@@ -6,6 +6,7 @@ pub mod DeliveredListLemmas
 pub mod FaultLemmas
 pub mod HeldInstanceLemmas
 pub mod HeldLemmas
+pub mod LeavingLemmas
 pub mod LettingLemmas
 pub mod MailFileLemmas
 pub mod OtherLemmas
@@ -24,6 +25,7 @@ pub mod SaveFrontLemmas
 pub mod SaveInstanceLemmas
 pub mod SaveKeptLemmas
 pub mod SaveLastLemmas
+pub mod SaveLeavesLemmas
 pub mod SaveListLemmas
 pub mod SaveMomentLemmas
 pub mod SavePartLemmas
@@ -33,6 +35,7 @@ pub mod SaveRunLemmas
 pub mod SaveStepLemmas
 pub mod SaveStoreLemmas
 pub mod SaveUidLemmas
+pub mod SaveUnlistedLemmas
 pub mod SeenInstanceLemmas
 pub mod StoringLemmas
 pub mod TakingLemmas

@@ -40,6 +40,8 @@ use Rattle.store_core.specs.Files.{EndsWith}
 use Rattle.store_core.specs.MapAppend.{IsSyncedRegion, IsOwnSave}
 use Rattle.store_core.specs.Running.{IsStore}
 use Rattle.store_core.specs.Value.{StoreValue, indexes_of, references_to}
+use Rattle.task_claims.specs.Leaving.{IsSameOrSynced}
+use Rattle.mail_save.proofs.MailFileLemmas.{synced_reads}
 use Rattle.mail_save.specs.Added.{entry_added}
 use Rattle.mail_save.specs.MailFiles.{ReadsSameMail}
 use Rattle.mail_save.specs.Ready.{IsRecordReady, IsRegionReady}
@@ -154,10 +156,10 @@ unlisted store guid history s new =
 -- a region that reads as it did
 written_reads : (row : MapRecord) (name : List ℕ) (time : ℕ) (prepared : Prepared) (before after : Option History) → ReadsSameMail before after → IfTold before (λ now. HasWritten (files_of now) row name time prepared) → IfTold after (λ now. HasWritten (files_of now) row name time prepared)
 written_reads row name time prepared before after same there =
-    between-on (λ a b. ((number : ℕ) → reading (b (file.Mail number)) ≡ reading (a (file.Mail number))) × ((hash id : List ℕ) → reading (b (file.Inst hash id)) ≡ reading (a (file.Inst hash id)))) (λ now. HasWritten (files_of now) row name time prepared) (λ now. HasWritten (files_of now) row name time prepared) before after
+    between-on (λ a b. ((number : ℕ) → IsSameOrSynced (a (file.Mail number)) (b (file.Mail number))) × ((hash id : List ℕ) → reading (b (file.Inst hash id)) ≡ reading (a (file.Inst hash id)))) (λ now. HasWritten (files_of now) row name time prepared) (λ now. HasWritten (files_of now) row name time prepared) before after
     (λ a b kept h. record {
       there = h.there;
-      in_file = kept.0 row.file ∙ h.in_file;
+      in_file = synced_reads (a (file.Mail row.file)) (b (file.Mail row.file)) (kept.0 row.file) ∙ h.in_file;
       inside = h.inside;
       region = h.region;
       guid = h.guid;

@@ -3,6 +3,7 @@ use Rattle.store_core.proofs.BoxCrashLemmas.{leaves_none}
 use Rattle.mail_save.proofs.SaveClaimLemmas.{save_ended, save_moves}
 use Rattle.mail_save.proofs.SaveDoesLemmas.{IsOpenStore, seen_does, seen_stopped}
 use Rattle.mail_save.proofs.SaveEventLemmas.{seen_saves, unfallen}
+use Rattle.mail_save.proofs.SaveLeavesLemmas.{save_leaves}
 use Rattle.mail_save.proofs.SaveMomentLemmas.{save_moments, save_rests}
 use Rattle.mail_save.proofs.SaveUidLemmas.{store_stays, uids_stay}
 use Rattle.mail_save.proofs.task.SaveTask.step.Goals as goal
@@ -82,3 +83,11 @@ pub returns-clause-ended : goal.returns-clause-ended
 returns-clause-ended g c = λ given is ran.
     let s = seen_saves _ c.args.self.now c.replace-now.result _ _ _ _ _ _ _ _ _ c.self.view_is c.replace-now.ensures.value c.next_event-next.ensures in
     save_ended c.args.self.now.stage _ _ _ _ _ given c.args.store.now _ s.effects is
+
+pub returns-then-stopped-clause-leaves : goal.returns-then-stopped-clause-leaves
+returns-then-stopped-clause-leaves g c = λ ran. absurd (unfallen c.args.store.now.stopped (sym c.stopped.ensures ∙ c.if-stopped.true) ran)
+
+pub returns-clause-leaves : goal.returns-clause-leaves
+returns-clause-leaves g c = λ ran.
+    let s = seen_saves _ c.args.self.now c.replace-now.result _ _ _ _ _ _ _ _ _ c.self.view_is c.replace-now.ensures.value c.next_event-next.ensures in
+    save_leaves c.args.self.now.stage _ _ _ _ _ _ c.args.store.now _ _ _ _ _ c.facts.ensures.store (sym c.stopped.ensures ∙ c.if-stopped.false) c.facts.ensures.files c.requires.left ran s
