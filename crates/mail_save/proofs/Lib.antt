@@ -11,6 +11,7 @@ pub mod LettingLemmas
 pub mod MailFileLemmas
 pub mod OtherLemmas
 pub mod PlaceLemmas
+pub mod PlacedLemmas
 pub mod ReadyLemmas
 pub mod RecordLemmas
 pub mod RegionSizeLemmas
@@ -29,13 +30,18 @@ pub mod SaveLeavesLemmas
 pub mod SaveListLemmas
 pub mod SaveMomentLemmas
 pub mod SavePartLemmas
+pub mod SaveReadyLemmas
 pub mod SaveRefusedLemmas
 pub mod SaveRoomLemmas
 pub mod SaveRunLemmas
 pub mod SaveStepLemmas
 pub mod SaveStoreLemmas
+pub mod SaveTakenLemmas
 pub mod SaveUidLemmas
 pub mod SaveUnlistedLemmas
 pub mod SeenInstanceLemmas
+pub mod StableFoundLemmas
+pub mod StableRegionLemmas
+pub mod StableSaveLemmas
 pub mod StoringLemmas
 pub mod TakingLemmas

@@ -54,7 +54,7 @@ some_left None parts n e some = absurd (let k : false ≡ true = some in cc k)
 some_left (Some part) parts n e some = slice_get_within parts n part e
 
 pub is_left : (parts : SavedParts) (attaching : AttachingValue) (octets : List ℕ) → IsSome (next_attachment attaching) → HasItsParts (stage.Attaching parts attaching) octets → length attaching.found < count_detachable octets
-is_left parts attaching octets some many = let less = some_left (next_attachment attaching) attaching.parts (length attaching.found) refl some in omega (arith, less, many)
+is_left parts attaching octets some has = let less = some_left (next_attachment attaching) attaching.parts (length attaching.found) refl some in let many = has.0 in omega (arith, less, many)
 
 -- ---- it is compared with a candidate
 

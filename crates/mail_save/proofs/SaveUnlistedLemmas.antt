@@ -36,7 +36,7 @@ same_unlisted mine old new indexes dues = λ uid rec none found listed. (ap (λ 
 
 -- ---- a record is stored
 
-is_sound : {D : Type 0} → (history : Option History) (store : StoreValue D) → IsStore history store → IsSoundMap store.map
+pub is_sound : {D : Type 0} → (history : Option History) (store : StoreValue D) → IsStore history store → IsSoundMap store.map
 is_sound history store s = subst IsSoundMap (sym s.map_is) (map_sound store.map.store s.entries s.good.map_entries.1 s.good.map_entries.0)
 
 no_more : (t : Bool) (n : ℕ) → t ≡ false → n + cond t 1 0 ≡ n
