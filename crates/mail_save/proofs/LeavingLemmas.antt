@@ -1,12 +1,12 @@
 -- What a delivery leaves of records, storage files and instances to the tasks beside it, by what an event makes of them.
-use Rattle.std.proofs.Common.{◌≡◌, ◌≢◌, ◌≤◌, ◌<◌, ◌+◌, ◌==◌, ℕ, Bool, true, false, cond, List, [], ◌∷◌, ◌++◌, take, drop, length, map, get_or, Option, Some, None, All, inl, inr, refl, sym, ◌∙◌, ap, subst, arith}
+use Rattle.std.proofs.Common.{◌≡◌, ◌≢◌, ◌≤◌, ◌+◌, ◌==◌, ℕ, cond, List, [], ◌∷◌, ◌++◌, take, drop, length, map, get_or, Option, Some, None, All, inl, inr, refl, sym, ◌∙◌, ap, subst, arith}
 use Rattle.std.specs.Prelude.{◌⊎◌, filter, find}
-use Rattle.std.specs.Option.{option_map, option_map_or}
+use Rattle.std.specs.Option.{option_map}
 use Rattle.std.proofs.lemmas.Bool.{cases_eq, cond-false, ne_eqb}
 use Rattle.std.proofs.lemmas.List.{append-nil, drop-append-le, length-append, length-drop, take-append-le}
 use Rattle.std.proofs.lemmas.List.Elements.{All-append, All-cons, All-nil}
 use Rattle.attach_detach.specs.declared.message.Detached.{Detached}
-use Rattle.disk_model.specs.Disk.{DiskState, History, Between, IfTold, reading}
+use Rattle.disk_model.specs.Disk.{DiskState, History, Between, reading}
 use Rattle.disk_model.specs.declared.name.FileName.{FileName}
 use Rattle.disk_model.specs.declared.name.FileName.TheVariants.{Mail, Inst}
 use Rattle.disk_model.proofs.BetweenLemmas.{between-both, between-if, between-map}
@@ -31,7 +31,7 @@ use Rattle.store_core.specs.Value.{StoreValue}
 use Rattle.task_claims.proofs.CountedLemmas.{all_same, found_same, rows_same}
 use Rattle.task_claims.proofs.RestLemmas.{instance_kept}
 use Rattle.task_claims.specs.Claims.{Claims}
-use Rattle.task_claims.specs.Leaving.{HasRegionOctets, HaveSameInstances, IsSameOrSynced, LeavesFile, LeavesOthers, LeavesPinnedFile, LeavesRecord, LeavesUnlisted, OthersTook, SameButCounts, but_count, records_within}
+use Rattle.task_claims.specs.Leaving.{HasRegionOctets, HaveSameInstances, IsSameOrSynced, LeavesOthers, LeavesRecord, LeavesUnlisted, OthersTook, SameButCounts, but_count, records_within}
 use Rattle.mail_save.specs.Left.{HoldsRegion}
 use Rattle.mail_save.specs.MailFiles.{AddsInstance, HasAppended, ReadsSameMail, TakesWithHeader, WritesAttachment}
 use Rattle.mail_save.specs.Record.{entry_stored}

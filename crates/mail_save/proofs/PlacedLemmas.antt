@@ -1,5 +1,5 @@
 -- A region that was placed is ready to be stored, on a settled disk.
-use Rattle.std.proofs.Common.{◌≡◌, ◌⊎◌, ◌==◌, ℕ, ◌++◌, Bool, true, false, List, Option, Some, None, inl, inr, refl, sym, ◌∙◌, ap, subst}
+use Rattle.std.proofs.Common.{◌≡◌, ◌⊎◌, ◌==◌, ℕ, ◌++◌, true, false, List, Option, Some, None, inl, inr, refl, sym, ◌∙◌, ap, subst}
 use Rattle.std.specs.List.{list_any}
 use Rattle.std.specs.Option.{option_map_or}
 use Rattle.attach_detach.specs.declared.message.Prepared.{Prepared}
@@ -18,7 +18,6 @@ use Rattle.model_store.specs.Settled.{IsSettled, IsSettledFor, files_of}
 use Rattle.saved_message.proofs.StoredLemmas.{hashes_own, written_detached}
 use Rattle.saved_message.specs.Saved.{HasWritten}
 use Rattle.storage_files.proofs.KnownLemmas.{taken-there}
-use Rattle.storage_files.specs.Files.{file_in, is_taken_in}
 use Rattle.storage_files.specs.OnDisk.{IsAddedTo}
 use Rattle.storage_files.specs.declared.file.MailFile.{MailFile}
 use Rattle.store_core.proofs.MailChangeLemmas.{Own, region_firm}

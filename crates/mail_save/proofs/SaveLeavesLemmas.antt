@@ -1,6 +1,6 @@
 -- What each event of a delivery leaves to the tasks beside it.
-use Rattle.std.proofs.Common.{◌≡◌, ◌≤◌, ◌<◌, ◌+◌, ◌==◌, ℕ, Bool, true, false, List, [], ◌∷◌, Option, Some, None, inl, inr, refl, sym, ◌∙◌, ap, subst, arith}
-use Rattle.std.specs.Prelude.{◌↔◌, ◌⊎◌, ◌&&◌, length}
+use Rattle.std.proofs.Common.{◌≡◌, ◌≤◌, ◌<◌, ◌==◌, ℕ, Bool, true, false, List, [], ◌∷◌, Option, Some, None, inl, inr, refl, sym, ◌∙◌, ap, subst, arith}
+use Rattle.std.specs.Prelude.{◌↔◌, ◌&&◌, length}
 use Rattle.std.specs.Option.{option_map_or}
 use Rattle.std.proofs.lemmas.Bool.{eq-eqb}
 use Rattle.disk_model.specs.Disk.{History, Faults}
@@ -10,10 +10,8 @@ use Rattle.mdbox_base.specs.declared.progress.Did.{Did}
 use Rattle.mdbox_base.specs.declared.progress.Progress.{Progress}
 use Rattle.mdbox_base.specs.declared.progress.Progress.TheVariants as progress
 use Rattle.mdbox_base.specs.declared.replies.Refusal.{Refusal}
-use Rattle.mdbox_base.specs.declared.replies.Refusal.TheVariants as refusal
 use Rattle.mdbox_base.specs.declared.replies.Reply.TheVariants as reply
-use Rattle.model_meaning.specs.BoxMeaning.{BoxMeaning}
-use Rattle.model_meaning.specs.MapMeaning.{MapMeaning, map_applied}
+use Rattle.model_meaning.specs.MapMeaning.{MapMeaning}
 use Rattle.save_instances.specs.Attaching.{next_attachment, next_candidate}
 use Rattle.storage_files.proofs.KnownLemmas.{taken-there}
 use Rattle.storage_files.specs.Files.{AreFilesInOrder, IsTakeFor, end_in, file_in, is_doomed_in, is_emptied_in, is_taken_in, pins_in}
@@ -29,13 +27,13 @@ use Rattle.task_claims.proofs.CountedLemmas.{lowered_same, same_map}
 use Rattle.task_claims.specs.Claims.{Claims, Taken, one_if}
 use Rattle.task_claims.specs.Leaving.{LeavesOthers, LeavesUnlisted, OthersTook}
 use Rattle.mail_save.specs.Claims.{save_claims}
-use Rattle.mail_save.specs.MailFiles.{ReadsSameMail, WritesMail}
+use Rattle.mail_save.specs.MailFiles.{WritesMail}
 use Rattle.mail_save.specs.SaveEffects.{IsLeftAlone, LetsGo, SaveEffects, StoresNone, TakesFileFor, TakesNone, TookAs}
 use Rattle.mail_save.specs.Task.{HasLeft, RepliesAt, Saves, stopped_reply}
 use Rattle.mail_save.specs.declared.task.SaveStage.{SaveStage}
 use Rattle.mail_save.specs.declared.task.SaveStage.TheVariants as stage
 use Rattle.mail_save.proofs.AttachEventLemmas.{IsAttachChange, attached_change, unattached_change}
-use Rattle.mail_save.proofs.LeavingLemmas.{LeavesKnown, LeavesMailBut, LeavesRecords, counts_leave, leaves_by, mail_appended, mail_attached, mail_same, mail_taken, placing_known, released_known, same_known, stored_leave, taking_known}
+use Rattle.mail_save.proofs.LeavingLemmas.{LeavesMailBut, LeavesRecords, counts_leave, leaves_by, mail_appended, mail_attached, mail_same, mail_taken, placing_known, released_known, same_known, stored_leave, taking_known}
 use Rattle.mail_save.proofs.SaveClaimLemmas.{stopped_runs}
 use Rattle.mail_save.proofs.SaveEventLemmas.{unfallen}
 use Rattle.mail_save.proofs.SaveFileLemmas.{take_found, taken_undoomed, taken_unemptied}

@@ -1,5 +1,5 @@
 -- A record that no mailbox lists and that isn't the delivery's own stays unlisted, with as much due.
-use Rattle.std.proofs.Common.{◌≡◌, ◌≢◌, ◌≤◌, ◌<◌, ◌+◌, ◌-◌, ◌==◌, ℕ, Bool, true, false, cond, List, [], ◌∷◌, ◌++◌, All, Option, Some, None, refl, sym, ◌∙◌, ap, subst, arith}
+use Rattle.std.proofs.Common.{◌≡◌, ◌≤◌, ◌<◌, ◌+◌, ◌-◌, ◌==◌, ℕ, Bool, true, false, cond, List, [], ◌∷◌, ◌++◌, Option, Some, refl, sym, ◌∙◌, ap, subst, arith}
 use Rattle.std.specs.Prelude.{◌||◌, count_by}
 use Rattle.std.specs.Str.{bytes_eq}
 use Rattle.std.proofs.lemmas.Bool.{eq-eqb, eqb-true, ne_eqb}
@@ -20,7 +20,7 @@ use Rattle.model_octets.proofs.SearchLemmas.{found_is, found_one, text_is, text_
 use Rattle.model_store.specs.Listing.{refs_in}
 use Rattle.store_core.specs.Dues.{due_at}
 use Rattle.store_core.specs.Running.{IsStore}
-use Rattle.store_core.specs.Value.{StoreValue, indexes_of, references_to}
+use Rattle.store_core.specs.Value.{StoreValue, indexes_of}
 use Rattle.task_claims.specs.Claims.{Claims, Due}
 use Rattle.task_claims.specs.Leaving.{LeavesUnlisted}
 use Rattle.task_steps.specs.ExpungeStages.{one_due}

@@ -1,16 +1,16 @@
 -- The instances that a delivery has found stay found beside every event of every other task.
-use Rattle.std.proofs.Common.{◌≡◌, ◌≤◌, ◌<◌, ℕ, Bool, true, cond, List, [], ◌∷◌, length, get_or, All, Option, Some, None, refl, sym, ◌∙◌, ap, subst, arith}
+use Rattle.std.proofs.Common.{◌≡◌, ◌≤◌, ℕ, true, cond, List, [], ◌∷◌, length, get_or, All, Option, Some, refl, sym, ◌∙◌, ap, subst, arith}
 use Rattle.std.specs.Str.{bytes_eq}
 use Rattle.std.proofs.lemmas.List.Elements.{All-cons, All-head, All-nil, All-tail}
 use Rattle.std.proofs.lemmas.List.Sums.{get_or-le-sum_by}
 use Rattle.attach_detach.specs.declared.message.Detached.{Detached}
-use Rattle.disk_model.specs.Disk.{DiskState, History, Between, IfTold, reading}
+use Rattle.disk_model.specs.Disk.{DiskState, History, Between, reading}
 use Rattle.disk_model.proofs.BetweenLemmas.{between-both, between-map, between-on}
 use Rattle.mdbox_base.specs.declared.entries.InstRow.{InstRow}
 use Rattle.mdbox_base.specs.declared.ids.InstId.{InstId}
 use Rattle.mdbox_base.specs.declared.ids.StoreId.{StoreId}
 use Rattle.model_octets.proofs.SearchLemmas.{text_yes}
-use Rattle.save_instances.specs.Attaching.{AreHeld, AreOfParts, AttachingValue, IsAttaching, IsOfPart, next_attachment}
+use Rattle.save_instances.specs.Attaching.{AreHeld, AreOfParts, AttachingValue, IsAttaching}
 use Rattle.sis_store.specs.Comparing.{IsUnlikeCompared}
 use Rattle.sis_store.specs.OnDisk.{instance_file}
 use Rattle.store_core.specs.Keeping.{holds_of}

@@ -6,7 +6,7 @@ use Rattle.std.specs.Option.{option_and_then, option_map}
 use Rattle.std.proofs.lemmas.Bool.{eq-eqb}
 use Rattle.std.proofs.lemmas.List.Elements.{All-cons, All-head, All-nil, All-tail}
 use Rattle.attach_detach.specs.declared.message.Prepared.{Prepared}
-use Rattle.disk_model.specs.Disk.{DiskState, FileState, Files, History, Between, MayLeave, reading}
+use Rattle.disk_model.specs.Disk.{DiskState, FileState, Files, History, MayLeave, reading}
 use Rattle.disk_model.specs.declared.name.FileName.TheVariants.{Mail}
 use Rattle.disk_model.proofs.BetweenLemmas.{between-both, between-on}
 use Rattle.disk_model.proofs.OneFileLemmas.{named-narrows}

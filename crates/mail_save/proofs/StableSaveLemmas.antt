@@ -9,12 +9,11 @@ use Rattle.save_instances.specs.Attaching.{AttachingValue}
 use Rattle.store_core.specs.Dues.{due_at}
 use Rattle.store_core.specs.Value.{StoreValue}
 use Rattle.task_claims.proofs.LeftLemmas.{due_left, record_left}
-use Rattle.task_claims.specs.Claims.{Claims, Due, Taken, one_if}
+use Rattle.task_claims.specs.Claims.{Claims, Due, one_if}
 use Rattle.task_claims.specs.Stable.{Beside, IsStable}
-use Rattle.task_steps.specs.ExpungeStages.{one_due}
 use Rattle.mail_save.specs.Claims.{save_claims}
 use Rattle.mail_save.specs.Parts.{AreAttached, AreBeingAttached}
-use Rattle.mail_save.specs.Task.{HasKept, IsAttached, IsReadyToDeliver}
+use Rattle.mail_save.specs.Task.{IsAttached, IsReadyToDeliver}
 use Rattle.mail_save.specs.declared.first.SavedParts.{SavedParts}
 use Rattle.mail_save.specs.declared.task.SaveStage.{SaveStage}
 use Rattle.mail_save.specs.declared.task.SaveStage.TheVariants as stage

@@ -1,5 +1,5 @@
 -- What an event of a delivery finds, and where its task stands.
-use Rattle.std.specs.Prelude.{◌≡◌, ◌+◌, ◌&&◌, ◌||◌, nat_le, ℕ, Bool, true, false, not, List, [], ◌∷◌, length, filter, if◌then◌else◌, Option, Some, None, IsSome}
+use Rattle.std.specs.Prelude.{◌≡◌, ◌+◌, ◌&&◌, ◌||◌, nat_le, ℕ, Bool, false, not, List, [], ◌∷◌, length, filter, if◌then◌else◌, Option, Some, None, IsSome}
 use Rattle.std.specs.Option.{option_map_or, option_or}
 use Rattle.mdbox_base.specs.declared.entries.InstRow.{InstRow}
 use Rattle.mdbox_base.specs.declared.progress.Did.{Did}
