@@ -146,7 +146,7 @@ attached_more name time size parts attaching more old new before after began end
       stays = o.stays;
       rests = o.settled;
       mail = λ ran. o.written;
-      ready = λ e octets r. (r.0, being_attached_on name time octets parts attaching more old new before after o.next o.found r.1);
+      ready = λ e octets r. (r.0, being_attached_on name time octets parts attaching more old new before after o.next o.found r.1, some);
       left = λ e. ((left.0, left.1, being_attached_on name time left.0 parts attaching more old new before after o.next o.found left.2), some, o.room);
       fewer = λ e. (let f = o.fewer in omega (arith, f));
       effects = (refl, o.next);
@@ -222,7 +222,7 @@ first_more name time size prepared parts attaching store history faults runs mes
   stays = kept_begins _ history;
   rests = λ ran lists s. s;
   mail = λ ran. mail_itself history;
-  ready = λ e octets r. (r.0, begun_as name time octets prepared parts attaching store history is begins r.1);
+  ready = λ e octets r. (r.0, begun_as name time octets prepared parts attaching store history is begins r.1, some);
   left = λ e. ((message.0, message.1, begun_as name time message.0 prepared parts attaching store history is begins message.2), some, subst (λ (v : AttachingValue). HasHoldRoom (parts_left v) store) (sym is) (λ id. all_room (holders_in id store.instances.known) (length prepared.parts) (room id)));
   fewer = λ e. (let same = ap (λ (v : AttachingValue). attach_events_left v store.instances) is in omega (arith, same));
   effects = (refl, is, begins);

@@ -179,7 +179,7 @@ store_moves : {D : Type 0} → (now next : SaveStage) (old new : StoreValue D) �
 store_moves now next old new own same = same_files now next old new own (ap (λ (v : StoreValue _). v.files.files) same) (ap (λ (v : StoreValue _). v.made) same)
 
 -- a store that is stopped is no store that runs
-stopped_runs : {X : Type 0} → (why : Refusal) (stopped : Bool) → (progress.Done (reply.Refused why) ≡ stopped_reply) ↔ (stopped ≡ true) → stopped ≡ false → why ≡ refusal.Stopped → X
+pub stopped_runs : {X : Type 0} → (why : Refusal) (stopped : Bool) → (progress.Done (reply.Refused why) ≡ stopped_reply) ↔ (stopped ≡ true) → stopped ≡ false → why ≡ refusal.Stopped → X
 stopped_runs why stopped stops runs is = absurd (unfallen stopped (stops.0 (refused_is why is)) runs)
 
 files_move : {D : Type 0} → (now next : SaveStage) (name : List ℕ) (time size : ℕ) (answer : Progress) (old new : StoreValue D) (before after : Option History) → AreFilesInOrder old.files → HasLeft now name time old before → (answer ≡ progress.More → HasLeft next name time new after) → new.stopped ≡ false

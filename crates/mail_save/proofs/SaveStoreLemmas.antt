@@ -2,7 +2,7 @@
 use Rattle.std.proofs.Common.{◌≡◌, ◌≤◌, ◌<◌, ◌+◌, ◌-◌, ◌^◌, ◌==◌, ◌&&◌, ◌||◌, ℕ, Bool, true, false, not, List, [], ◌∷◌, ◌++◌, length, Option, Some, None, refl, sym, ◌∙◌, ap, subst, arith, inl, inr}
 use Rattle.std.specs.Prelude.{◌/◌, ◌%◌, nat_le, nat_lt, is_none, is_some, ◌≢◌, All, if◌then◌else◌, cond}
 use Rattle.std.specs.Int.{w32, to_be_bytes}
-use Rattle.std.specs.Option.{option_map, option_map_or, option_and_then}
+use Rattle.std.specs.Option.{option_map_or, option_and_then}
 use Rattle.std.proofs.lemmas.Bool.{cases_eq, eq-eqb, ne_eqb, cond-false}
 use Rattle.std.proofs.lemmas.Grind.{common_steps}
 use Rattle.std.proofs.lemmas.List.{length-append}
@@ -21,7 +21,7 @@ use Rattle.model_store.specs.Listing.{ShowLists}
 use Rattle.model_store.specs.Settled.{IsSettledFor, Leaves}
 use Rattle.list_machine.specs.Run.{drawn_also}
 use Rattle.storage_files.specs.Files.{AreFilesInOrder, changed_in, end_in, ending_at, file_begun, file_in, given_back, is_doomed_in, released_in, with_taken, without_file}
-use Rattle.storage_files.proofs.FileListLemmas.{KeepsNumber, file-before_begun, file-begun, file-here, file-other}
+use Rattle.storage_files.proofs.FileListLemmas.{KeepsNumber, file-before_begun, file-begun, file-other}
 use Rattle.storage_files.specs.declared.file.MailFile.{MailFile}
 use Rattle.saved_message.specs.Region.{guid_of_place}
 use Rattle.sis_store.specs.Instances.{AreInstances}

@@ -72,6 +72,23 @@ HasLeft (stage.Adding added room) name time store history =
 HasLeft (stage.GivingBack uid why room) name time store history = (1 ≤ due_at uid.0 store) × (why ≢ refusal.Stopped) × (why ≢ refusal.ReadFault)
 HasLeft stage.Ended name time store history = ⊥
 
+-- how many instances it may come to hold more
+abbrev pub holds_to_come : SaveStage → ℕ
+holds_to_come (stage.First prepared) = length prepared.parts
+holds_to_come (stage.Attaching parts attaching) = parts_left attaching
+holds_to_come now = 0
+
+-- What the task and its store have before an event, but for room to hold instances, which other deliveries take up too.
+abbrev pub HasKept : {D : Type 0} → SaveStage → List ℕ → ℕ → StoreValue D → Option History → Type 0
+HasKept (stage.First prepared) name time store history = (octets : List ℕ) × (length octets ≤ 67108864) × IsPrepared octets prepared
+HasKept (stage.Attaching parts attaching) name time store history = IsAttachedSoFar name time parts attaching store history × IsSome (next_attachment attaching)
+HasKept now name time store history = HasLeft now name time store history
+
+-- A delivery of the message with these octets is ready for its next event.
+pub record IsReadyToDeliver {D : Type 0} (now : SaveStage) (name : List ℕ) (time size : ℕ) (octets : List ℕ) (store : StoreValue D) (history : Option History) : Type 0 where
+  pub kept : HasKept now name time store history
+  pub ready : IsReadyToSave now name time size octets store history
+
 -- how many events are still to come at the most, if no other task places an instance
 abbrev pub save_events_left : SaveStage → InstancesValue → ℕ
 save_events_left (stage.First prepared) instances = attach_events_left (nothing_found prepared.parts) instances + 7

@@ -67,7 +67,7 @@ use Rattle.mail_save.specs.Left.{HoldsRegion}
 use Rattle.mail_save.specs.MailFiles.{HasAppended, TakesWithHeader, ReadsSameMail, WritesAttachment, WritesMail}
 use Rattle.mail_save.specs.Record.{entry_stored}
 use Rattle.mail_save.specs.SaveEffects.{AttachesNext, AttachesNone, LetsGo, TakesFileFor, TookAs, TakesNone, PlacesParts, StoresPlaced, StoresNone, AddsStored, LowersRecord, SaveEffects}
-use Rattle.mail_save.specs.Ready.{IsReadyToSave, IsRegionReady, delivered_lists, save_lists, lists_delivered}
+use Rattle.mail_save.specs.Ready.{IsReadyToSave, IsPlacedReady, delivered_lists, save_lists, lists_delivered}
 use Rattle.mail_save.specs.SaveSeen.{IsAtSave, StepsWithRoom, around_saving}
 use Rattle.mail_save.specs.Task.{FaultsAt, HasLeft, IsAttachRefusal, RepliesAt, Saves, stopped_reply}
 use Rattle.mail_save.specs.declared.add.Added.{Added}
@@ -533,7 +533,7 @@ alike_let_go found first left t go a = record { indexes = ap (λ (v : StoreValue
 map_let_go : {D : Type 0} → (found : List InstRow) (left t : StoreValue D) → LetsGo found left t → t.map ≡ left.map
 map_let_go found left t go = ap (λ (v : StoreValue _). v.map) go
 
-recorded_alone : {D : Type 0} → (history : D → Option History) (name : List ℕ) (time : ℕ) (octets : List ℕ) (prepared : Prepared) (at : SavedAt) (rows : List InstRow) (size : ℕ) (added : Added) (first s left t : StoreValue D) → IsPrepared octets prepared → IsRegionReady at rows name time octets (history s.disk)
+recorded_alone : {D : Type 0} → (history : D → Option History) (name : List ℕ) (time : ℕ) (octets : List ℕ) (prepared : Prepared) (at : SavedAt) (rows : List InstRow) (size : ℕ) (added : Added) (first s left t : StoreValue D) → IsPrepared octets prepared → IsPlacedReady at rows name time octets (history s.disk)
     → AreFirstKnown rows s.instances.known (history s.disk) → PlacedAlone history name time prepared first s at rows → StoresPlaced at rows time size added s left → LetsGo rows left t → ReadsSameMail (history s.disk) (history t.disk) → RecordedAlone history name time prepared first t added.map_uid added.guid
 recorded_alone history name time octets prepared at rows size added first s left t form ready firsts knows e go same = record {
   alike = alike_let_go rows first left t go (stored_alike at rows time size added first s left knows.logs e);
