@@ -85,8 +85,8 @@ impl CopyTask {
     /// begins anew; one that was stopped stays where it was.
     pub fn step<D: Disk>(&mut self, store: &mut Store<D>) -> Progress
         // What it holds is due in the store, and the source lists no other message with the UID, also afterwards.
-        requires ready { IsReadyToCopy self.old.name self.old.uid self.old.stage store.old }
-        ensures ready { IsReadyToCopy self.old.name self.old.uid self.new.stage store.new }
+        requires ready { store.old.stopped ≡ false → IsReadyToCopy self.old.name self.old.uid self.old.stage store.old }
+        ensures ready { store.new.stopped ≡ false → IsReadyToCopy self.old.name self.old.uid self.new.stage store.new }
 
         // Of every run that has come to the store, whatever other tasks have pinned: which event it was, what it answered, and which
         // crash images it leaves.

@@ -81,8 +81,8 @@ impl ExpungeTask {
     /// record. A task that has given its reply begins anew; one that was stopped stays where it was.
     pub fn step<D: Disk>(&mut self, store: &mut Store<D>) -> Progress
         // What it owes is due in the store, also afterwards.
-        requires due { AreDueIn store.old (expunge_amounts self.old.stage) }
-        ensures due { AreDueIn store.new (expunge_amounts self.new.stage) }
+        requires due { store.old.stopped ≡ false → AreDueIn store.old (expunge_amounts self.old.stage) }
+        ensures due { store.new.stopped ≡ false → AreDueIn store.new (expunge_amounts self.new.stage) }
 
         // Of every run that has come to the store, whatever other tasks have pinned: which event it was, what it answered, and which
         // crash images it leaves.

@@ -84,8 +84,8 @@ impl MakeTask {
     /// the request begins anew. A task that has given its reply begins anew; one that was stopped stays where it was.
     pub fn step<D: Disk>(&mut self, store: &mut Store<D>) -> Progress
         // The log that it has made is there and isn't named, also afterwards.
-        requires ready { IsReadyToMake self.old.stage store.old }
-        ensures ready { IsReadyToMake self.new.stage store.new }
+        requires ready { store.old.stopped ≡ false → IsReadyToMake self.old.stage store.old }
+        ensures ready { store.new.stopped ≡ false → IsReadyToMake self.new.stage store.new }
 
         // Of every run that has come to the store, whatever other tasks have pinned: which event it was, what it answered, and which
         // crash images it leaves.

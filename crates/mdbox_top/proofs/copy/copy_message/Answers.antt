@@ -7,7 +7,7 @@ loop-reply-init g c = record {
   name_is = ap (λ t. t.name) c.of-task.ensures;
   uid_is = ap (λ t. t.uid) c.of-task.ensures;
   target_is = ap (λ t. t.target) c.of-task.ensures;
-  ready = rw c.of-task.ensures (record { due = λ other. omega arith; source = tt });
+  ready = λ runs. rw c.of-task.ensures (record { due = λ other. omega arith; source = tt });
   so_far = rw c.of-task.ensures (copying_begins g.D.Disk.history g.D.Disk.faults c.args.name c.args.uid c.args.target c.args.store.now c.requires.running);
 }
 
@@ -21,7 +21,7 @@ loop-reply-preserved g c =
       name_is = step.request.0 ∙ now.name_is;
       uid_is = step.request.1 ∙ now.uid_is;
       target_is = step.request.2 ∙ now.target_is;
-      ready = ready_as c.step.new.self.name c.loop-reply.task.name c.step.new.self.uid c.loop-reply.task.uid c.step.new.self.stage c.step.new.store step.request.0 step.request.1 step.ready;
+      ready = λ runs. ready_as c.step.new.self.name c.loop-reply.task.name c.step.new.self.uid c.loop-reply.task.uid c.step.new.self.stage c.step.new.store step.request.0 step.request.1 (step.ready runs);
       so_far = copy_goes_on g.D.Disk.history g.D.Disk.faults c.args.name c.args.uid c.args.target c.args.store.now c.loop-reply.store c.step.new.store c.loop-reply.task.stage c.step.new.self.stage c.step.new.self.did c.step.result c.in_default.is now.so_far said;
     }
 

@@ -6,7 +6,7 @@ pub loop-reply-init : goal.loop-reply-init
 loop-reply-init g c = record {
   name_is = ap (λ t. t.name) c.of-task.ensures;
   uid_is = ap (λ t. t.uid) c.of-task.ensures;
-  due = rw c.of-task.ensures (λ other. omega arith);
+  due = λ runs. rw c.of-task.ensures (λ other. omega arith);
   so_far = rw c.of-task.ensures (expunging_begins g.D.Disk.history g.D.Disk.faults c.args.name c.args.uid c.args.store.now c.requires.running);
 }
 

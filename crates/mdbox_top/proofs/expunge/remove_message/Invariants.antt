@@ -1,4 +1,4 @@
-use Rattle.std.proofs.Common.{◌≡◌}
+use Rattle.std.proofs.Common.{◌≡◌, false}
 use Rattle.mail_ops.specs.Expunging.{expunge_amounts, expunge_left}
 use Rattle.mail_ops.specs.Owing.{AreDueIn}
 use Rattle.mdbox_top.proofs.ExpungeLemmas.{IsExpunging}
@@ -8,7 +8,7 @@ abbrev pub invariant-loop-reply : goal.invariant-loop-reply
 invariant-loop-reply g l = record {
   name_is : l.task.name ≡ l.fn.name;
   uid_is : l.task.uid ≡ l.fn.uid;
-  due : AreDueIn l.store (expunge_amounts l.task.stage);
+  due : l.store.stopped ≡ false → AreDueIn l.store (expunge_amounts l.task.stage);
   so_far : IsExpunging g.D.Disk.history g.D.Disk.faults l.fn.name l.fn.uid l.initial.store l.store l.task.stage;
 }
 

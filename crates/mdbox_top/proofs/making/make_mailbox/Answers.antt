@@ -5,7 +5,7 @@ use Rattle.mdbox_top.proofs.making.make_mailbox.Goals as goal
 pub loop-reply-init : goal.loop-reply-init
 loop-reply-init g c = record {
   name_is = ap (λ t. t.name) c.of-task.ensures;
-  ready = rw c.of-task.ensures tt;
+  ready = λ runs. rw c.of-task.ensures tt;
   so_far = rw c.of-task.ensures (making_begins g.D.Disk.history g.D.Disk.faults c.args.name c.args.store.now c.requires.running);
 }
 

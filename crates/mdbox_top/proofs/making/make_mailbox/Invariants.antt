@@ -1,4 +1,4 @@
-use Rattle.std.proofs.Common.{◌≡◌}
+use Rattle.std.proofs.Common.{◌≡◌, false}
 use Rattle.mail_ops.specs.Making.{IsReadyToMake, make_left}
 use Rattle.mdbox_top.proofs.MakeLemmas.{IsMakingAlone}
 use Rattle.mdbox_top.proofs.making.make_mailbox.Given as goal
@@ -6,7 +6,7 @@ use Rattle.mdbox_top.proofs.making.make_mailbox.Given as goal
 abbrev pub invariant-loop-reply : goal.invariant-loop-reply
 invariant-loop-reply g l = record {
   name_is : l.task.name ≡ l.fn.name;
-  ready : IsReadyToMake l.task.stage l.store;
+  ready : l.store.stopped ≡ false → IsReadyToMake l.task.stage l.store;
   so_far : IsMakingAlone g.D.Disk.history g.D.Disk.faults l.fn.name l.initial.store l.store l.task.stage;
 }
 

@@ -18,37 +18,37 @@ pub returns-then-stopped-clause-moments : goal.returns-then-stopped-clause-momen
 returns-then-stopped-clause-moments g c = λ lists s. leaves_none _ _ lists s
 
 pub returns-clause-due : goal.returns-clause-due
-returns-clause-due g c = (expunge_known g.D.Disk.history g.D.Disk.faults _ _ c.replace-now.result c.next_event-next.result.0 c.next_event-next.result.1 c.next_event-next.result.2 c.args.store.now c.next_event-next.new.store c.self.view_is (sym c.replace-now.ensures.value) c.listings_are_shown.ensures.logs c.facts.ensures.store (sym c.stopped.ensures ∙ c.if-stopped.false) c.requires.due c.next_event-next.ensures).due
+returns-clause-due g c = λ runs. (expunge_known g.D.Disk.history g.D.Disk.faults _ _ c.replace-now.result c.next_event-next.result.0 c.next_event-next.result.1 c.next_event-next.result.2 c.args.store.now c.next_event-next.new.store c.self.view_is (sym c.replace-now.ensures.value) c.listings_are_shown.ensures.logs c.facts.ensures.store (sym c.stopped.ensures ∙ c.if-stopped.false) (c.requires.due (sym c.stopped.ensures ∙ c.if-stopped.false)) c.next_event-next.ensures).due
 
 pub returns-clause-does : goal.returns-clause-does
-returns-clause-does g c = (expunge_known g.D.Disk.history g.D.Disk.faults _ _ c.replace-now.result c.next_event-next.result.0 c.next_event-next.result.1 c.next_event-next.result.2 c.args.store.now c.next_event-next.new.store c.self.view_is (sym c.replace-now.ensures.value) c.listings_are_shown.ensures.logs c.facts.ensures.store (sym c.stopped.ensures ∙ c.if-stopped.false) c.requires.due c.next_event-next.ensures).does
+returns-clause-does g c = (expunge_known g.D.Disk.history g.D.Disk.faults _ _ c.replace-now.result c.next_event-next.result.0 c.next_event-next.result.1 c.next_event-next.result.2 c.args.store.now c.next_event-next.new.store c.self.view_is (sym c.replace-now.ensures.value) c.listings_are_shown.ensures.logs c.facts.ensures.store (sym c.stopped.ensures ∙ c.if-stopped.false) (c.requires.due (sym c.stopped.ensures ∙ c.if-stopped.false)) c.next_event-next.ensures).does
 
 pub returns-clause-moments : goal.returns-clause-moments
-returns-clause-moments g c = (expunge_known g.D.Disk.history g.D.Disk.faults _ _ c.replace-now.result c.next_event-next.result.0 c.next_event-next.result.1 c.next_event-next.result.2 c.args.store.now c.next_event-next.new.store c.self.view_is (sym c.replace-now.ensures.value) c.listings_are_shown.ensures.logs c.facts.ensures.store (sym c.stopped.ensures ∙ c.if-stopped.false) c.requires.due c.next_event-next.ensures).moments
+returns-clause-moments g c = (expunge_known g.D.Disk.history g.D.Disk.faults _ _ c.replace-now.result c.next_event-next.result.0 c.next_event-next.result.1 c.next_event-next.result.2 c.args.store.now c.next_event-next.new.store c.self.view_is (sym c.replace-now.ensures.value) c.listings_are_shown.ensures.logs c.facts.ensures.store (sym c.stopped.ensures ∙ c.if-stopped.false) (c.requires.due (sym c.stopped.ensures ∙ c.if-stopped.false)) c.next_event-next.ensures).moments
 
 pub returns-clause-settled : goal.returns-clause-settled
-returns-clause-settled g c = (expunge_known g.D.Disk.history g.D.Disk.faults _ _ c.replace-now.result c.next_event-next.result.0 c.next_event-next.result.1 c.next_event-next.result.2 c.args.store.now c.next_event-next.new.store c.self.view_is (sym c.replace-now.ensures.value) c.listings_are_shown.ensures.logs c.facts.ensures.store (sym c.stopped.ensures ∙ c.if-stopped.false) c.requires.due c.next_event-next.ensures).settled
+returns-clause-settled g c = (expunge_known g.D.Disk.history g.D.Disk.faults _ _ c.replace-now.result c.next_event-next.result.0 c.next_event-next.result.1 c.next_event-next.result.2 c.args.store.now c.next_event-next.new.store c.self.view_is (sym c.replace-now.ensures.value) c.listings_are_shown.ensures.logs c.facts.ensures.store (sym c.stopped.ensures ∙ c.if-stopped.false) (c.requires.due (sym c.stopped.ensures ∙ c.if-stopped.false)) c.next_event-next.ensures).settled
 
 pub returns-clause-stopped : goal.returns-clause-stopped
-returns-clause-stopped g c = (expunge_known g.D.Disk.history g.D.Disk.faults _ _ c.replace-now.result c.next_event-next.result.0 c.next_event-next.result.1 c.next_event-next.result.2 c.args.store.now c.next_event-next.new.store c.self.view_is (sym c.replace-now.ensures.value) c.listings_are_shown.ensures.logs c.facts.ensures.store (sym c.stopped.ensures ∙ c.if-stopped.false) c.requires.due c.next_event-next.ensures).stopped
+returns-clause-stopped g c = (expunge_known g.D.Disk.history g.D.Disk.faults _ _ c.replace-now.result c.next_event-next.result.0 c.next_event-next.result.1 c.next_event-next.result.2 c.args.store.now c.next_event-next.new.store c.self.view_is (sym c.replace-now.ensures.value) c.listings_are_shown.ensures.logs c.facts.ensures.store (sym c.stopped.ensures ∙ c.if-stopped.false) (c.requires.due (sym c.stopped.ensures ∙ c.if-stopped.false)) c.next_event-next.ensures).stopped
 
 pub returns-clause-moves : goal.returns-clause-moves
-returns-clause-moves g c = (expunge_known g.D.Disk.history g.D.Disk.faults _ _ c.replace-now.result c.next_event-next.result.0 c.next_event-next.result.1 c.next_event-next.result.2 c.args.store.now c.next_event-next.new.store c.self.view_is (sym c.replace-now.ensures.value) c.listings_are_shown.ensures.logs c.facts.ensures.store (sym c.stopped.ensures ∙ c.if-stopped.false) c.requires.due c.next_event-next.ensures).moves
+returns-clause-moves g c = (expunge_known g.D.Disk.history g.D.Disk.faults _ _ c.replace-now.result c.next_event-next.result.0 c.next_event-next.result.1 c.next_event-next.result.2 c.args.store.now c.next_event-next.new.store c.self.view_is (sym c.replace-now.ensures.value) c.listings_are_shown.ensures.logs c.facts.ensures.store (sym c.stopped.ensures ∙ c.if-stopped.false) (c.requires.due (sym c.stopped.ensures ∙ c.if-stopped.false)) c.next_event-next.ensures).moves
 
 pub returns-clause-spares : goal.returns-clause-spares
-returns-clause-spares g c = (expunge_known g.D.Disk.history g.D.Disk.faults _ _ c.replace-now.result c.next_event-next.result.0 c.next_event-next.result.1 c.next_event-next.result.2 c.args.store.now c.next_event-next.new.store c.self.view_is (sym c.replace-now.ensures.value) c.listings_are_shown.ensures.logs c.facts.ensures.store (sym c.stopped.ensures ∙ c.if-stopped.false) c.requires.due c.next_event-next.ensures).spares
+returns-clause-spares g c = (expunge_known g.D.Disk.history g.D.Disk.faults _ _ c.replace-now.result c.next_event-next.result.0 c.next_event-next.result.1 c.next_event-next.result.2 c.args.store.now c.next_event-next.new.store c.self.view_is (sym c.replace-now.ensures.value) c.listings_are_shown.ensures.logs c.facts.ensures.store (sym c.stopped.ensures ∙ c.if-stopped.false) (c.requires.due (sym c.stopped.ensures ∙ c.if-stopped.false)) c.next_event-next.ensures).spares
 
 pub returns-clause-fault : goal.returns-clause-fault
-returns-clause-fault g c = λ ran. (expunge_known g.D.Disk.history g.D.Disk.faults _ _ c.replace-now.result c.next_event-next.result.0 c.next_event-next.result.1 c.next_event-next.result.2 c.args.store.now c.next_event-next.new.store c.self.view_is (sym c.replace-now.ensures.value) c.listings_are_shown.ensures.logs c.facts.ensures.store (sym c.stopped.ensures ∙ c.if-stopped.false) c.requires.due c.next_event-next.ensures).fault
+returns-clause-fault g c = λ ran. (expunge_known g.D.Disk.history g.D.Disk.faults _ _ c.replace-now.result c.next_event-next.result.0 c.next_event-next.result.1 c.next_event-next.result.2 c.args.store.now c.next_event-next.new.store c.self.view_is (sym c.replace-now.ensures.value) c.listings_are_shown.ensures.logs c.facts.ensures.store (sym c.stopped.ensures ∙ c.if-stopped.false) (c.requires.due (sym c.stopped.ensures ∙ c.if-stopped.false)) c.next_event-next.ensures).fault
 
 pub returns-clause-unfailed : goal.returns-clause-unfailed
-returns-clause-unfailed g c = (expunge_known g.D.Disk.history g.D.Disk.faults _ _ c.replace-now.result c.next_event-next.result.0 c.next_event-next.result.1 c.next_event-next.result.2 c.args.store.now c.next_event-next.new.store c.self.view_is (sym c.replace-now.ensures.value) c.listings_are_shown.ensures.logs c.facts.ensures.store (sym c.stopped.ensures ∙ c.if-stopped.false) c.requires.due c.next_event-next.ensures).unfailed
+returns-clause-unfailed g c = (expunge_known g.D.Disk.history g.D.Disk.faults _ _ c.replace-now.result c.next_event-next.result.0 c.next_event-next.result.1 c.next_event-next.result.2 c.args.store.now c.next_event-next.new.store c.self.view_is (sym c.replace-now.ensures.value) c.listings_are_shown.ensures.logs c.facts.ensures.store (sym c.stopped.ensures ∙ c.if-stopped.false) (c.requires.due (sym c.stopped.ensures ∙ c.if-stopped.false)) c.next_event-next.ensures).unfailed
 
 pub returns-clause-replies : goal.returns-clause-replies
-returns-clause-replies g c = λ ran. (expunge_known g.D.Disk.history g.D.Disk.faults _ _ c.replace-now.result c.next_event-next.result.0 c.next_event-next.result.1 c.next_event-next.result.2 c.args.store.now c.next_event-next.new.store c.self.view_is (sym c.replace-now.ensures.value) c.listings_are_shown.ensures.logs c.facts.ensures.store (sym c.stopped.ensures ∙ c.if-stopped.false) c.requires.due c.next_event-next.ensures).replies
+returns-clause-replies g c = λ ran. (expunge_known g.D.Disk.history g.D.Disk.faults _ _ c.replace-now.result c.next_event-next.result.0 c.next_event-next.result.1 c.next_event-next.result.2 c.args.store.now c.next_event-next.new.store c.self.view_is (sym c.replace-now.ensures.value) c.listings_are_shown.ensures.logs c.facts.ensures.store (sym c.stopped.ensures ∙ c.if-stopped.false) (c.requires.due (sym c.stopped.ensures ∙ c.if-stopped.false)) c.next_event-next.ensures).replies
 
 pub returns-clause-left : goal.returns-clause-left
-returns-clause-left g c = (expunge_known g.D.Disk.history g.D.Disk.faults _ _ c.replace-now.result c.next_event-next.result.0 c.next_event-next.result.1 c.next_event-next.result.2 c.args.store.now c.next_event-next.new.store c.self.view_is (sym c.replace-now.ensures.value) c.listings_are_shown.ensures.logs c.facts.ensures.store (sym c.stopped.ensures ∙ c.if-stopped.false) c.requires.due c.next_event-next.ensures).left
+returns-clause-left g c = (expunge_known g.D.Disk.history g.D.Disk.faults _ _ c.replace-now.result c.next_event-next.result.0 c.next_event-next.result.1 c.next_event-next.result.2 c.args.store.now c.next_event-next.new.store c.self.view_is (sym c.replace-now.ensures.value) c.listings_are_shown.ensures.logs c.facts.ensures.store (sym c.stopped.ensures ∙ c.if-stopped.false) (c.requires.due (sym c.stopped.ensures ∙ c.if-stopped.false)) c.next_event-next.ensures).left
 
 pub returns-then-stopped-clause-keeps : goal.returns-then-stopped-clause-keeps
 returns-then-stopped-clause-keeps g c = λ name uid held k. k
@@ -75,7 +75,7 @@ pub returns-then-stopped-clause-ended : goal.returns-then-stopped-clause-ended
 returns-then-stopped-clause-ended g c = λ given is runs. absurd (fall _ (sym c.stopped.ensures ∙ c.if-stopped.true) runs)
 
 pub returns-clause-claims : goal.returns-clause-claims
-returns-clause-claims g c = λ runs. due_claims (expunge_dues c.args.self.now.stage) (expunge_dues c.next_event-next.result.0) c.args.store.now c.next_event-next.new.store ((expunge_known g.D.Disk.history g.D.Disk.faults _ _ c.replace-now.result c.next_event-next.result.0 c.next_event-next.result.1 c.next_event-next.result.2 c.args.store.now c.next_event-next.new.store c.self.view_is (sym c.replace-now.ensures.value) c.listings_are_shown.ensures.logs c.facts.ensures.store (sym c.stopped.ensures ∙ c.if-stopped.false) c.requires.due c.next_event-next.ensures).moves.due) (expunge_rest _ _ c.replace-now.result c.next_event-next.result.0 c.next_event-next.result.1 c.next_event-next.result.2 c.args.store.now c.next_event-next.new.store _ _ _ _ c.next_event-next.ensures)
+returns-clause-claims g c = λ runs. due_claims (expunge_dues c.args.self.now.stage) (expunge_dues c.next_event-next.result.0) c.args.store.now c.next_event-next.new.store ((expunge_known g.D.Disk.history g.D.Disk.faults _ _ c.replace-now.result c.next_event-next.result.0 c.next_event-next.result.1 c.next_event-next.result.2 c.args.store.now c.next_event-next.new.store c.self.view_is (sym c.replace-now.ensures.value) c.listings_are_shown.ensures.logs c.facts.ensures.store (sym c.stopped.ensures ∙ c.if-stopped.false) (c.requires.due (sym c.stopped.ensures ∙ c.if-stopped.false)) c.next_event-next.ensures).moves.due) (expunge_rest _ _ c.replace-now.result c.next_event-next.result.0 c.next_event-next.result.1 c.next_event-next.result.2 c.args.store.now c.next_event-next.new.store _ _ _ _ c.next_event-next.ensures)
 
 pub returns-clause-leaves : goal.returns-clause-leaves
 returns-clause-leaves g c = λ runs. expunge_leaves_by g.D.Disk.history _ _ c.replace-now.result c.next_event-next.result.0 c.next_event-next.result.1 c.next_event-next.result.2 c.args.store.now c.next_event-next.new.store _ _ c.self.view_is (sym c.replace-now.ensures.value) c.facts.ensures.store runs c.next_event-next.ensures

@@ -1,0 +1,43 @@
+// Tasks beside each other.
+ghost use Rattle.std.specs.Prelude.{◌≡◌, ◌≢◌, ◌≤◌, ◌⊎◌, ℕ, List, Option, true, false};
+ghost use Rattle.std.specs.List.{list_any};
+ghost use Rattle.disk_model.specs.Disk.{History};
+ghost use Rattle.mdbox_base.specs.declared.replies.Reply.{Reply};
+ghost use Rattle.mdbox_base.specs.declared.requests.Request.{Request};
+ghost use Rattle.list_machine.specs.Run.{Run, RunEvent, and_then, own_events};
+ghost use Rattle.journal.specs.Found.{gave_back, took_file};
+ghost use Rattle.store_core.specs.Value.{StoreValue};
+ghost use Rattle.task_claims.specs.Claims.{ClaimsNothing, Emptied, Taken};
+ghost use Rattle.task_claims.specs.Stable.{IsStable};
+ghost use Rattle.task_steps.specs.Step.{GivesNew, HasNotBegun, IsKept};
+ghost use Rattle.lane_tasks.specs.Clause.{PassesBy};
+ghost use Rattle.lane_tasks.specs.Tasks.{BeginsTask, IsReadyTask, StandsTask, claims_at};
+ghost use Rattle.lane_tasks.specs.declared.task.Task.{Task};
+
+use disk_model::Disk;
+
+/// A task that is ready for its next event stays so beside every event of every other task.
+pub fn tasks_are_stable<D: Disk>()
+    ensures { (task : Task) → IsStable (claims_at task) (λ (store : StoreValue D) (history : Option History). IsReadyTask task store history) }
+{}
+
+/// Where a task stands is kept beside every event of another request, also by one that stops the store; and where nothing of the store
+/// has changed, by the event alone.
+pub fn tasks_stand<D: Disk>()
+    ensures stands { (task : Task) (old new : StoreValue D) (before after : Option History) (asked : Request) (run : Run) (place : ℕ) (said : List Reply) (event : RunEvent) → PassesBy task old new before after → event.request ≢ place → GivesNew run event
+        → StandsTask task old before asked run place said → StandsTask task new after asked (and_then run event) place said }
+    ensures kept { (task : Task) (store : StoreValue D) (history : Option History) (asked : Request) → IsKept (StandsTask task store history asked) }
+{}
+
+/// A request that hasn't begun stands where its task begins, which claims nothing and is ready.
+pub fn tasks_begin<D: Disk>()
+    ensures claims { (asked : Request) (task : Task) → BeginsTask asked task → ClaimsNothing (claims_at task) }
+    ensures ready { (asked : Request) (task : Task) (store : StoreValue D) (history : Option History) → BeginsTask asked task → IsReadyTask task store history }
+    ensures stands { (asked : Request) (task : Task) (store : StoreValue D) (history : Option History) (run : Run) (place : ℕ) (said : List Reply) → BeginsTask asked task → HasNotBegun run place said → StandsTask task store history asked run place said }
+{}
+
+/// A storage file that events of a request took and haven't given back is claimed by its task.
+pub fn tasks_have_taken<D: Disk>()
+    ensures { (task : Task) (store : StoreValue D) (history : Option History) (asked : Request) (run : Run) (place : ℕ) (said : List Reply) (file : ℕ) → StandsTask task store history asked run place said
+        → list_any (took_file file) (own_events place run) ≡ true → gave_back file (own_events place run) ≡ false → (1 ≤ claims_at task (Taken file)) ⊎ (1 ≤ claims_at task (Emptied file)) }
+{}

@@ -1,0 +1,83 @@
+// A task of any kind.
+ghost use Rattle.std.specs.Prelude.{◌≡◌, ◌<◌, false};
+ghost use Rattle.mdbox_base.specs.declared.progress.Progress.TheVariants as progress;
+ghost use Rattle.mdbox_base.specs.declared.replies.Reply.{Reply};
+ghost use Rattle.mdbox_base.specs.declared.requests.Request.{Request as RequestValue};
+ghost use Rattle.task_claims.specs.Claims.{ClaimsNothing, MovesClaims};
+ghost use Rattle.task_claims.specs.Leaving.{LeavesOthers};
+ghost use Rattle.task_steps.specs.Step.{ended_by};
+ghost use Rattle.lane_tasks.specs.Clause.{HasTaskRoom, StepsTask};
+ghost use Rattle.lane_tasks.specs.Tasks.{BeginsTask, HasTask, IsReadyTask, IsTaskOf, claims_at, work_left};
+
+use disk_model::Disk;
+use mail_ops::{CopyTask, CountsTask, ExpungeTask, MakeTask, MoveTask, OpsTask};
+use mdbox_base::{Progress, Request};
+use store_core::Store;
+
+/// The task of a request of any kind.
+#[derive(Drop)]
+pub enum Task {
+    /// Of a listing, or of a setting of flags.
+    Ops(OpsTask),
+    /// Of a count.
+    Counts(CountsTask),
+    /// Of a make.
+    Make(MakeTask),
+    /// Of a copy.
+    Copy(CopyTask),
+    /// Of a move.
+    Move(MoveTask),
+    /// Of an expunge.
+    Expunge(ExpungeTask),
+}
+
+impl Task {
+    /// The task of a request that begins.
+    pub fn of(request: Request) -> Task
+        requires { HasTask request }
+        ensures { BeginsTask request result }
+    {
+        match request {
+            Request::Counts => Task::Counts(CountsTask::of()),
+            Request::Make { name } => Task::Make(MakeTask::of(name)),
+            Request::Copy { name, uid, target } => Task::Copy(CopyTask::of(name, uid, target)),
+            Request::Move { name, uid, target } => Task::Move(MoveTask::of(name, uid, target)),
+            Request::Expunge { name, uid } => Task::Expunge(ExpungeTask::of(name, uid)),
+            Request::List { name } => Task::Ops(OpsTask::of(Request::List { name })),
+            Request::Flag { name, uid, flags } => {
+                Task::Ops(OpsTask::of(Request::Flag { name, uid, flags }))
+            }
+            _ => unreachable!(),
+        }
+    }
+
+    /// Does the next event. A task that has given its reply begins anew; one that was stopped stays where it was.
+    pub fn step<D: Disk>(&mut self, store: &mut Store<D>) -> Progress
+        // Unless the store is stopped, it is ready for its event, and has room for it; and afterwards it is ready for the next.
+        requires ready { store.old.stopped ≡ false → IsReadyTask self.old store.old (D.history store.old.disk) }
+        requires room { store.old.stopped ≡ false → HasTaskRoom self.old store.old }
+        ensures ready { store.new.stopped ≡ false → IsReadyTask self.new store.new (D.history store.new.disk) }
+
+        // Of every run that has come to the store: which event it was, what it answered, and which crash images it leaves.
+        ensures does { StepsTask self.old self.new store.old store.new (D.history store.old.disk) (D.history store.new.disk) (D.faults store.old.disk) (D.faults store.new.disk) (ended_by result) }
+
+        // Unless it stops the store, it moves only its own claims, and leaves to other tasks what is theirs. One that was replied claims
+        // nothing.
+        ensures claims { store.new.stopped ≡ false → MovesClaims (claims_at self.old) (claims_at self.new) store.old store.new }
+        ensures leaves { store.new.stopped ≡ false → LeavesOthers (claims_at self.old) store.old store.new (D.history store.old.disk) (D.history store.new.disk) }
+        ensures ended { (given : Reply) → result ≡ progress.Done given → store.new.stopped ≡ false → ClaimsNothing (claims_at self.new) }
+
+        // So it ends. It stays of its request.
+        ensures left { result ≡ progress.More → work_left self.new store.new < work_left self.old store.old }
+        ensures request { (asked : RequestValue) → IsTaskOf self.old asked → IsTaskOf self.new asked }
+    {
+        match self {
+            Task::Ops(task) => task.step(store),
+            Task::Counts(task) => task.step(store),
+            Task::Make(task) => task.step(store),
+            Task::Copy(task) => task.step(store),
+            Task::Move(task) => task.step(store),
+            Task::Expunge(task) => task.step(store),
+        }
+    }
+}
