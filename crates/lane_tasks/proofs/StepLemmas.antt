@@ -17,7 +17,7 @@ use Rattle.mail_ops.specs.Copy.{CopyValue, IsAtCopy}
 use Rattle.mail_ops.specs.Expunging.{ExpungeValue, IsAtExpunge}
 use Rattle.mail_ops.specs.Making.{IsAtMake, KeepsAllButLogs, MakeValue}
 use Rattle.mail_ops.specs.Moving.{IsAtMove, MoveValue}
-use Rattle.mail_ops.specs.Requests.{IsOpsRequest}
+use Rattle.mail_ops.specs.Requests.{IsOpsRequest, Replies}
 use Rattle.mail_ops.specs.Task.{IsAt, TaskValue}
 use Rattle.lane_tasks.specs.Clause.{StepsTask, seen_by_all}
 use Rattle.lane_tasks.specs.Tasks.{IsAtTask, IsTaskOf, did_of}
@@ -33,17 +33,17 @@ pub steps_by : {D : Type 0} → (t next : Task) (q : Request) (old new : StoreVa
 steps_by t next q old new before after began now ended is none files steps asked around behind run lane place said lists come shown room reads stood =
     let same = (is asked stood.is_of).0 in
     let seen : Steps (IsAtTask t old before q) (IsAtTask next new after q) around behind q (seen_by_all old before began) (seen_by_all new after now) (did_of next) ended =
-        subst (λ (kept : FilesValue). Steps (IsAtTask t old before q) (IsAtTask next new after q) around behind q (seen_by_all old before began) (seen_of (λ file. pins_in file kept.files) new after now) (did_of next) ended) (sym files)
-        (steps around behind (λ file. pins_in file old.files.files)) in
+    subst (λ (kept : FilesValue). Steps (IsAtTask t old before q) (IsAtTask next new after q) around behind q (seen_by_all old before began) (seen_of (λ file. pins_in file kept.files) new after now) (did_of next) ended) (sym files)
+    (steps around behind (λ file. pins_in file old.files.files)) in
     let does : Steps (IsAtTask t old before asked) (IsAtTask next new after asked) around behind asked (seen_by_all old before began) (seen_by_all new after now) (did_of next) ended =
-        subst (λ (k : Request). Steps (IsAtTask t old before k) (IsAtTask next new after k) around behind k (seen_by_all old before began) (seen_by_all new after now) (did_of next) ended) (sym same) seen in
+    subst (λ (k : Request). Steps (IsAtTask t old before k) (IsAtTask next new after k) around behind k (seen_by_all old before began) (seen_by_all new after now) (did_of next) ended) (sym same) seen in
     let d = does run lane place said lists come shown stood.at in (
       d.0,
       λ more. record {
         is_of = (is asked stood.is_of).1;
         at = d.1 more;
         took = took_none_more run place d.0.makes.event d.0.makes.request_is
-        (λ done. none around run lists d.0.makes.event d.0.makes.event.part (subst (λ (k : Request). DidPart around run lists k d.0.makes.event d.0.makes.event.part) same (d.0.makes.is_event.did done))) stood.took;
+            (λ done. none around run lists d.0.makes.event d.0.makes.event.part (subst (λ (k : Request). DidPart around run lists k d.0.makes.event d.0.makes.event.part) same (d.0.makes.is_event.did done))) stood.took;
       },
     )
 
@@ -93,6 +93,12 @@ ops_takes_none : (q : Request) → IsOpsRequest q → TakesNone q
 ops_takes_none (request.List name) is = list_takes_none name
 ops_takes_none (request.Flag name uid flags) is = flag_takes_none name uid flags
 ops_takes_none other is = absurd is
+
+-- a task that replied so is of such a request
+pub ops_asked : {D : Type 0} → (q : Request) (old new : StoreValue D) (given : Reply) → Replies q old new given → IsOpsRequest q
+ops_asked (request.List name) old new given r = tt
+ops_asked (request.Flag name uid flags) old new given r = tt
+ops_asked other old new given r = absurd r
 
 pub ops_does : {D : Type 0} → (t u : TaskValue) (old new : StoreValue D) (before after : Option History) (began now : Faults) (ended : Option Reply) → IsOpsRequest t.request → u.request ≡ t.request → KeepsRest old new
     → StepsFrom (IsAt t.stage) (IsAt u.stage) t.request old new before after began now u.did ended → StepsTask (task.Ops t) (task.Ops u) old new before after began now ended

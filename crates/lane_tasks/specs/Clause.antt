@@ -35,13 +35,13 @@ AnswersByFiles task = ⊥
 
 -- ---- the clause
 
--- Of every run that has come to the store, of any lists that it shows, and where the task stands, unless a request has taken the file
--- that it finds; of lists for which the files are safe, if it answers by what they read. It is `Steps`, with the store and what its
+-- Of every run that has come to the store, of any lists that it shows, and where the task stands, unless the store runs and a request
+-- has taken the file that it finds; of lists for which the files are safe, if it answers by what they read. It is `Steps`, with the store and what its
 -- disk tells.
 abbrev pub StepsTask : {D : Type 0} → Task → Task → StoreValue D → StoreValue D → Option History → Option History → Faults → Faults → Option Reply → Type 0
 StepsTask task next old new before after began now ended =
     (asked : Request) (around behind : Around) (run : Run) (lane place : ℕ) (said : List Reply) (lists : Lists) → HasComeTo run (seen_by_all old before began) → ShowsSeen (seen_by_all old before began) lists
-    → FindsRoom (around_at task asked old around) run → (AnswersByFiles task → old.stopped ≡ false → ReadsSafe lists before) → StandsTask task old before asked run place said
+    → (old.stopped ≡ false → FindsRoom (around_at task asked old around) run) → (AnswersByFiles task → old.stopped ≡ false → ReadsSafe lists before) → StandsTask task old before asked run place said
     → (d : DidEvent (around_at task asked old around) behind run lane place said asked lists (seen_by_all old before began) (seen_by_all new after now) (did_of next) ended)
     × (ended ≡ None → StandsTask next new after asked (and_then run d.makes.event) place (and_told said d.makes.answer))
 

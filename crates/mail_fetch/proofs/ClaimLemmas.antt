@@ -1,5 +1,5 @@
 -- An event of a fetch moves no claims and leaves the others what is theirs, and a fetch that was replied claims nothing.
-use Rattle.std.proofs.Common.{◌≡◌, ◌+◌, ℕ, Bool, true, false, List, Option, Some, None, inl, inr, refl, sym, ◌∙◌, ap, subst}
+use Rattle.std.proofs.Common.{◌≡◌, ℕ, Bool, true, false, List, Option, Some, None, inl, inr, refl, sym, ◌∙◌, ap, subst}
 use Rattle.disk_model.specs.Disk.{DiskState, History, IsIdle}
 use Rattle.disk_model.specs.declared.name.FileName.TheVariants as file
 use Rattle.disk_model.proofs.BetweenLemmas.{between-map}
@@ -7,19 +7,17 @@ use Rattle.mdbox_base.specs.declared.progress.Progress.{Progress}
 use Rattle.mdbox_base.specs.declared.progress.Progress.TheVariants as progress
 use Rattle.mdbox_base.specs.declared.replies.Refusal.{Refusal}
 use Rattle.mdbox_base.specs.declared.replies.Reply.{Reply}
-use Rattle.store_core.specs.Dues.{Moves, Spares, amounts_in, no_amounts}
 use Rattle.store_core.specs.Value.{StoreValue}
-use Rattle.task_claims.specs.Claims.{Claims, ClaimsNothing, Due, Emptied, Held, Made, MovesClaims, Pinned, Placing, Removing, Taken, Thing, amount_in, no_claims}
+use Rattle.task_claims.specs.Claims.{Claims, ClaimsNothing, Due, Emptied, Held, Made, Pinned, Placing, Removing, Taken, Thing, amount_in}
 use Rattle.task_claims.specs.Leaving.{IsSameOrSynced, LeavesOthers, SyncsMail}
 use Rattle.task_claims.proofs.RestLemmas.{rest_leaves}
-use Rattle.task_claims.proofs.StoredLemmas.{kept_spared}
 use Rattle.mail_fetch.specs.Claims.{fetch_claims}
 use Rattle.mail_fetch.specs.Events.{IsBegun, fetch_refusal}
 use Rattle.mail_fetch.specs.declared.task.FetchStage.{FetchStage}
 use Rattle.mail_fetch.specs.declared.task.FetchStage.TheVariants as stage
 
 -- nothing but the device has changed
-same_amount : {D : Type 0} → (store : StoreValue D) (disk : D) (thing : Thing) → amount_in thing (record store { disk = disk }) ≡ amount_in thing store
+pub same_amount : {D : Type 0} → (store : StoreValue D) (disk : D) (thing : Thing) → amount_in thing (record store { disk = disk }) ≡ amount_in thing store
 same_amount store disk (Due uid) = refl
 same_amount store disk (Pinned file) = refl
 same_amount store disk (Taken file) = refl
@@ -29,13 +27,14 @@ same_amount store disk (Removing file) = refl
 same_amount store disk (Held id) = refl
 same_amount store disk (Made number) = refl
 
-pub reading_moves : {D : Type 0} → (old new : StoreValue D) → new ≡ record old { disk = new.disk } → (mine : Claims) → MovesClaims mine mine old new
-reading_moves old new same mine thing = ap (λ (n : ℕ). n + mine thing) (ap (λ (s : StoreValue _). amount_in thing s) same ∙ same_amount old new.disk thing)
+-- An event that reads moves no claims, and leaves the others what is theirs.
+pub reading_moves : {D : Type 0} → (old new : StoreValue D) → new ≡ record old { disk = new.disk } → (thing : Thing) → amount_in thing new ≡ amount_in thing old
+reading_moves old new same thing = ap (λ (s : StoreValue _). amount_in thing s) same ∙ same_amount old new.disk thing
 
 abbrev Synced : DiskState → DiskState → Type 0
 Synced a b = ((number : ℕ) → IsSameOrSynced (a (file.Mail number)) (b (file.Mail number))) × ((hash id : List ℕ) → IsSameOrSynced (a (file.Inst hash id)) (b (file.Inst hash id)))
 
-idle_syncs : (before after : Option History) → IsIdle before after → SyncsMail before after
+pub idle_syncs : (before after : Option History) → IsIdle before after → SyncsMail before after
 idle_syncs before after idle =
     between-map (λ a b. b ≡ a) Synced before after (λ a b e. ((λ number. inl (ap (λ (d : DiskState). d (file.Mail number)) e)), (λ hash id. inl (ap (λ (d : DiskState). d (file.Inst hash id)) e)))) idle.same
 
@@ -55,7 +54,7 @@ begun_ended name uid store next answer given b done = by_why (fetch_refusal name
     by_why (Some why) is = first_claims next (b.refused why is).1
     by_why None is = elim (b.begun is) [
       | inl more ↦ absurd (let k : progress.More ≡ progress.Done given = sym more.0 ∙ done in cc k)
-      | inr none ↦ first_claims next none.1
+      | inr none ↦ first_claims next none.3
     ]
 
 pub more_is : (given : Reply) → progress.More ≡ progress.Done given → ⊥
@@ -63,11 +62,3 @@ more_is given e = cc e
 
 pub fall : (b : Bool) → b ≡ true → b ≡ false → ⊥
 fall b t f = let k : true ≡ false = sym t ∙ f in cc k
-
--- ---- what is due
-
-pub dues_stay : {D : Type 0} → (old new : StoreValue D) → ((mine : Claims) → MovesClaims mine mine old new) → Moves no_amounts no_amounts (amounts_in old) (amounts_in new)
-dues_stay old new moves = record { due = λ uid. moves no_claims (Due uid) }
-
-pub others_spared : {D : Type 0} → (old new : StoreValue D) (before after : Option History) → ((mine : Claims) → LeavesOthers mine old new before after) → Spares no_amounts old new before after
-others_spared old new before after leaves = record { records = λ uid row more there. kept_spared uid row new before after ((leaves no_claims).records uid row more there) }

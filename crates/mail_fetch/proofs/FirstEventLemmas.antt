@@ -1,9 +1,12 @@
 -- The message that the first event pins.
-use Rattle.std.proofs.Common.{◌≡◌, ◌≤◌, ◌<◌, ◌==◌, ℕ, Bool, false, cond, List, Option, Some, None, sym, ◌∙◌, ap, subst, arith}
-use Rattle.std.specs.Prelude.{if◌then◌else◌, is_some, Result, Ok, Err, IfOk, IsErrAnd, MatchResult}
+use Rattle.std.proofs.Common.{inr, ◌⊎◌, ◌≡◌, ◌≤◌, ◌<◌, ◌==◌, ◌||◌, ℕ, Bool, true, false, cond, List, [], ◌∷◌, All, refl, Option, Some, None, sym, ◌∙◌, ap, subst, arith}
+use Rattle.std.specs.Prelude.{find, if◌then◌else◌, is_some, Result, Ok, Err, IfOk, IsErrAnd, MatchResult}
+use Rattle.std.specs.List.{list_any}
 use Rattle.std.specs.Option.{option_map, option_map_or}
+use Rattle.std.proofs.lemmas.Bool.{eq-eqb}
 use Rattle.std.proofs.lemmas.List.Elements.{All-contains}
 use Rattle.disk_model.specs.Disk.{History}
+use Rattle.mdbox_base.specs.declared.ids.FileNo.{FileNo}
 use Rattle.mdbox_base.specs.declared.replies.Refusal.TheVariants as refusal
 use Rattle.model_meaning.specs.BoxMeaning.{LogRow, BoxMeaning, row_at}
 use Rattle.model_meaning.specs.MapMeaning.{MapRecord, MapMeaning, map_meaning, record_at}
@@ -11,15 +14,16 @@ use Rattle.model_meaning.specs.Sound.{IsSoundRecord}
 use Rattle.model_octets.proofs.SearchLemmas.{found_one}
 use Rattle.model_store.specs.Listing.{meaning_named}
 use Rattle.model_store.specs.Opening.{HasItsRecord}
+use Rattle.storage_files.specs.Files.{end_in}
 use Rattle.store_core.specs.Running.{IsStore}
 use Rattle.store_core.specs.StoreInstances.{HasKnownInstances, IsKnownRow}
 use Rattle.store_core.specs.Value.{StoreValue, list_named}
-use Rattle.mail_fetch.specs.Events.{fetch_refusal, IsPinned}
+use Rattle.mail_fetch.specs.Events.{fetch_refusal, IsAbsent, IsPinned}
 use Rattle.mail_fetch.specs.Region.{RegionValue, stored_at, unread}
-use Rattle.mail_fetch.specs.Task.{HasPieceLeft, KnowsPinned, events_left}
+use Rattle.mail_fetch.specs.Task.{HasPieceLeft, events_left}
 use Rattle.mail_fetch.specs.declared.task.FetchStage.TheVariants as stage
 use Rattle.mail_fetch.specs.declared.parts.StoredAt.{StoredAt}
-use Rattle.mail_fetch.proofs.InstanceLemmas.{named_each, parts_known, pieces_most}
+use Rattle.mail_fetch.proofs.InstanceLemmas.{named_each, pieces_most}
 use Rattle.mail_fetch.proofs.PartLemmas.{octets_of_parts, pieces_of_parts, some_piece}
 use Rattle.mail_fetch.proofs.RecordLemmas.{row_has_record}
 use Rattle.mail_fetch.proofs.StepLemmas.{store_is_sound}
@@ -38,10 +42,25 @@ pinned_left history store name uid region s (row, entry, stored, is) =
     let many = pieces_of_parts (stored_at row entry) in
     subst (λ (r : RegionValue). HasPieceLeft (stage.Reading r)) (sym is) (omega (arith, one, many), octets_of_parts (stored_at row entry))
 
--- The store knows its instances.
-pub pinned_known : {D : Type 0} → (history : Option History) (store : StoreValue D) (name : List ℕ) (uid : ℕ) (region : RegionValue) → HasKnownInstances history store → IsPinned name uid store region → KnowsPinned (stage.Reading region) store
-pinned_known history store name uid region k (row, entry, stored, is) =
-    subst (λ (r : RegionValue). KnowsPinned (stage.Reading r) store) (sym is) (parts_known store.instances.known row entry (named_each (IsKnownRow store.instances.known) store.map row.map_uid entry stored.stored k.kept.named))
+-- The store knows its instances, and its file has a region: what the pin and the holds ask.
+pub pinned_rows : {D : Type 0} → (history : Option History) (store : StoreValue D) (name : List ℕ) (uid : ℕ) (region : RegionValue) → HasKnownInstances history store → IsPinned name uid store region → All (IsKnownRow store.instances.known) region.from.instances
+pinned_rows history store name uid region k (row, entry, stored, is) =
+    subst (λ (r : RegionValue). All (IsKnownRow store.instances.known) r.from.instances) (sym is) (named_each (IsKnownRow store.instances.known) store.map row.map_uid entry stored.stored k.kept.named)
+
+found_any : {X : Type 0} → (p q : X → Bool) (xs : List X) (x : X) → find p xs ≡ Some x → q x ≡ true → list_any q xs ≡ true
+found_any p q [] x e t = absurd (let k : None ≡ Some x = e in cc k)
+found_any p q (y ∷ ys) x e t = by_test (p y) (q y) e refl (λ k. found_any p q ys x k t)
+  where
+    by_test : (b c : Bool) → cond b (Some y) (find p ys) ≡ Some x → q y ≡ c → (find p ys ≡ Some x → list_any q ys ≡ true) → (c || list_any q ys) ≡ true
+    by_test true true e c rest = refl
+    by_test true false e c rest = absurd (let same : y ≡ x = cc e in let k : true ≡ false = sym t ∙ (ap q (sym same) ∙ c) in cc k)
+    by_test false true e c rest = refl
+    by_test false false e c rest = rest e
+
+pub pinned_region : {D : Type 0} → (store : StoreValue D) (name : List ℕ) (uid : ℕ) (region : RegionValue) → IsPinned name uid store region → list_any (λ row. row.file == region.from.file.0) store.map.records ≡ true
+pinned_region store name uid region (row, entry, stored, is) =
+    subst (λ (r : RegionValue). list_any (λ row. row.file == r.from.file.0) store.map.records ≡ true) (sym is)
+    (found_any (λ (r : MapRecord). r.uid == row.map_uid) (λ (r : MapRecord). r.file == entry.file) store.map.records entry stored.stored (eq-eqb entry.file entry.file refl))
 
 -- Fewer events are left.
 pub pinned_fewer : {D : Type 0} → (store : StoreValue D) (name : List ℕ) (uid : ℕ) (region : RegionValue) → IsPinned name uid store region → events_left store.map (stage.Reading region) < events_left store.map stage.First
@@ -70,6 +89,28 @@ pinned_by store name uid m row entry from region runs named listed stored same f
       ∙ (ap (λ (p : Option BoxMeaning). option_map_or (λ (k : BoxMeaning). if is_some (row_at k uid) then None else Some refusal.NoMessage) p (Some refusal.NoMailbox)) named ∙ ap (λ (r : Option LogRow). if is_some r then None else Some refusal.NoMessage) listed),
   (row, entry, record { mailbox = m; named = named; listed = listed; stored = stored; same = same }, region_is ∙ ap unread from_is),
 )
+
+-- ---- a file that isn't there
+
+no_end : (found end : Option ℕ) → is_some found ≡ false → found ≡ end → end ≡ None
+no_end None end none is = sym is
+no_end (Some n) end none is = absurd (let k : true ≡ false = none in cc k)
+
+pub some_end : (found end : Option ℕ) → is_some found ≡ true → found ≡ end → (n : ℕ) × (end ≡ Some n)
+some_end None end some is = absurd (let k : false ≡ true = some in cc k)
+some_end (Some n) end some is = (n, sym is)
+
+pub absent_by : {D X : Type 0} → (store : StoreValue D) (name : List ℕ) (uid : ℕ) (m : BoxMeaning) (row : LogRow) (entry : MapRecord) (x told : X) (file_of : X → FileNo) (offset_of : X → ℕ) (offset : ℕ) (found : Option ℕ) → store.stopped ≡ false → list_named store name ≡ Some m → row_at m uid ≡ Some row
+    → record_at store.map row.map_uid ≡ Some entry → entry.guid ≡ row.guid → x ≡ told → file_of told ≡ record { 0 = entry.file } → offset_of told ≡ entry.offset → offset ≡ offset_of x → is_some found ≡ false → found ≡ end_in (file_of x).0 store.files.files
+    → (fetch_refusal name uid store ≡ Some (refusal.Damaged (file_of x) offset)) ⊎ ((fetch_refusal name uid store ≡ None) × ((refusal.Damaged (file_of x) offset ≡ refusal.NoMemory) ⊎ IsAbsent name uid store (refusal.Damaged (file_of x) offset)))
+absent_by store name uid m row entry x told file_of offset_of offset found runs named listed stored same is file at at_x none end =
+    let file_is : file_of x ≡ record { 0 = entry.file } = ap file_of is ∙ file in
+    let offset_is : offset ≡ entry.offset = at_x ∙ (ap offset_of is ∙ at) in
+    let gone : end_in entry.file store.files.files ≡ None = ap (λ (f : FileNo). end_in f.0 store.files.files) (sym file_is) ∙ no_end found (end_in (file_of x).0 store.files.files) none end in
+    inr (
+      (pinned_by store name uid m row entry (stored_at row entry) (unread (stored_at row entry)) runs named listed stored same refl refl).0,
+      inr (row, entry, record { mailbox = m; named = named; listed = listed; stored = stored; same = same }, gone, ap (λ (f : FileNo). refusal.Damaged f offset) file_is ∙ ap (λ (n : ℕ). refusal.Damaged (record { 0 = entry.file }) n) offset_is),
+    )
 
 -- what holds of a value holds of the same value beside another error
 pub ok_mapped : {X E F : Type 0} → (from : Result X E) (to : Result X F) (P R : X → Type 0) (Q : E → F → Type 0) → MatchResult from (λ x. to ≡ Ok x) (λ e. IsErrAnd to (Q e)) → IfOk from P → ((x : X) → P x → R x) → IfOk to R

@@ -1,15 +1,13 @@
 -- The stage behind the last piece of a message.
 use Rattle.std.proofs.Common.{◌≡◌, ◌<◌, ◌+◌, ℕ, zero, suc, List, refl, ◌∙◌, sym, ap, subst, arith, All}
 use Rattle.mdbox_base.specs.declared.replies.Reply.{Reply}
-use Rattle.sis_store.specs.declared.instance.KnownInstance.{KnownInstance}
 use Rattle.mail_fetch.specs.Events.{GoesOnWith, with_piece}
-use Rattle.mail_fetch.specs.Parts.{HasSomeOctets, KnowsSource, pieces_left}
+use Rattle.mail_fetch.specs.Parts.{HasSomeOctets, pieces_left}
 use Rattle.mail_fetch.specs.Region.{RegionValue, IsReplyFor}
 use Rattle.mail_fetch.specs.Task.{HasPieceLeft}
-use Rattle.mail_fetch.specs.declared.parts.Part.{Part}
 use Rattle.mail_fetch.specs.declared.parts.StoredAt.{StoredAt}
 use Rattle.mail_fetch.specs.declared.task.FetchStage.TheVariants as stage
-use Rattle.mail_fetch.proofs.PartLemmas.{known_after, octets_after, pieces_after}
+use Rattle.mail_fetch.proofs.PartLemmas.{octets_after, pieces_after}
 
 pub last_piece : (region read : RegionValue) (from : StoredAt) (given : Reply) → read ≡ region → from ≡ read.from → pieces_left read.left ≡ 0 → IsReplyFor read.from read.octets given → GoesOnWith region (stage.Unpinning from given)
 last_piece region read from given same at last is =
@@ -34,9 +32,6 @@ some_left (suc n) some = omega arith
 pub left_on : (region read : RegionValue) (piece : List ℕ) → HasPieceLeft (stage.Reading region) → read ≡ with_piece region piece → (pieces_left read.left ≡ 0 → ⊥) → HasPieceLeft (stage.Reading read)
 left_on region read piece left same some =
     (some_left (pieces_left read.left) some, subst (λ (r : RegionValue). All HasSomeOctets r.left) (sym same) (octets_after region.left left.1))
-
-pub known_on : (known : List KnownInstance) (region read : RegionValue) (piece : List ℕ) → All (λ part. KnowsSource known part.source) region.left → read ≡ with_piece region piece → All (λ part. KnowsSource known part.source) read.left
-known_on known region read piece knows same = subst (λ (r : RegionValue). All (λ (part : Part). KnowsSource known part.source) r.left) (sym same) (known_after known region.left knows)
 
 pub fewer_on : (region read : RegionValue) (piece : List ℕ) → HasPieceLeft (stage.Reading region) → read ≡ with_piece region piece → pieces_left read.left + 1 < pieces_left region.left + 1
 fewer_on region read piece left same =

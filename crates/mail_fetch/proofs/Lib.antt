@@ -1,8 +1,10 @@
+pub mod AbsentLemmas
 pub mod BodyLemmas
 pub mod ClaimLemmas
 pub mod FetchEventLemmas
 pub mod FetchPartLemmas
 pub mod FirstEventLemmas
+pub mod HoldLemmas
 pub mod InstanceLemmas
 pub mod LastPieceLemmas
 pub mod MessageLemmas
@@ -12,6 +14,7 @@ pub mod PieceLemmas
 pub mod ReadyLemmas
 pub mod RecordLemmas
 pub mod StableLemmas
+pub mod StageLemmas
 pub mod StepLemmas
-pub mod StepViewLemmas
 pub mod StoredRegionLemmas
+pub mod UseLemmas

@@ -1,20 +1,22 @@
 -- Behind each of its events a fetch is ready for the next.
-use Rattle.std.proofs.Common.{◌≡◌, ◌+◌, ◌-◌, ℕ, zero, suc, Bool, true, false, cond, List, [], ◌∷◌, map, Option, Some, None, inl, inr, refl, sym, subst, arith, All}
+use Rattle.std.proofs.Common.{◌≡◌, ◌≤◌, ◌+◌, ◌-◌, ℕ, zero, suc, Bool, true, false, cond, List, [], ◌∷◌, map, Option, inl, inr, refl, sym, ◌∙◌, subst, arith, All}
 use Rattle.std.specs.Prelude.{filter}
-use Rattle.std.proofs.lemmas.List.Elements.{All-cons, All-nil, All-head, All-map, All-tail}
+use Rattle.std.proofs.lemmas.List.Elements.{All-cons, All-nil, All-head, All-map, All-tail, All-weaker}
 use Rattle.disk_model.specs.Disk.{History, Faults}
-use Rattle.mdbox_base.specs.declared.progress.Progress.{Progress}
-use Rattle.mdbox_base.specs.declared.replies.Refusal.{Refusal}
+use Rattle.mdbox_base.specs.declared.entries.InstRow.{InstRow}
 use Rattle.store_core.specs.StoreInstances.{HasKnownInstances, IsKnownRow}
 use Rattle.store_core.specs.Value.{StoreValue}
-use Rattle.mail_fetch.specs.Claims.{IsClaimedPart, IsClaimedTo, IsReadyToFetch, IsReadyToRead}
-use Rattle.mail_fetch.specs.Events.{FetchesNext, GoesOnWith, IsBegun, IsPieceRead, IsPinned, fetch_refusal, with_piece}
+use Rattle.task_claims.specs.Claims.{AreIn, Claims, MovesClaims, amount_in, no_claims}
+use Rattle.mail_fetch.specs.Claims.{IsClaimedPart, IsClaimedTo, IsReadyToFetch, IsReadyToRead, claims_of_pinned, with_claims}
+use Rattle.mail_fetch.specs.Events.{GoesOnWith, IsPieceRead, IsPinned, with_piece}
 use Rattle.mail_fetch.specs.Parts.{has_octets, instance_part, left_after, parts_to_read, pieces_left, region_part}
 use Rattle.mail_fetch.specs.Region.{RegionValue, stored_at}
 use Rattle.mail_fetch.specs.declared.parts.Part.{Part}
 use Rattle.mail_fetch.specs.declared.parts.StoredAt.{StoredAt}
 use Rattle.mail_fetch.specs.declared.task.FetchStage.{FetchStage}
 use Rattle.mail_fetch.specs.declared.task.FetchStage.TheVariants as stage
+use Rattle.mail_fetch.proofs.ClaimLemmas.{same_amount}
+use Rattle.mail_fetch.proofs.HoldLemmas.{rows_held}
 use Rattle.mail_fetch.proofs.InstanceLemmas.{named_each, parts_known}
 use Rattle.mail_fetch.proofs.PartLemmas.{each_after, known_after}
 use Rattle.mail_fetch.proofs.StableLemmas.{own_holds}
@@ -38,46 +40,43 @@ left_claimed : (from : StoredAt) (parts : List Part) → All (IsClaimedPart from
 left_claimed from parts each =
     each_after (IsClaimedPart from) parts (λ p more h. let e : p.offset + p.size ≡ (p.offset + 65536) + (p.size - 65536) = omega (arith, more) in subst (λ (end : ℕ). IsClaimedTo from end p.source) e h) each
 
-pinned_ready : {D : Type 0} → (history : Option History) (name : List ℕ) (uid : ℕ) (store : StoreValue D) (region : RegionValue) → HasKnownInstances history store → IsPinned name uid store region → IsReadyToRead region store
-pinned_ready history name uid store region k (row, entry, stored, is) =
-    let named : All (IsKnownRow store.instances.known) entry.instances = named_each (IsKnownRow store.instances.known) store.map row.map_uid entry stored.stored k.kept.named in
-    subst (λ (r : RegionValue). IsReadyToRead r store) (sym is) (record { parts = all_claimed (stored_at row entry); left = parts_known store.instances.known row entry named; instances = named })
+-- what a task has just begun to claim is among what all tasks do
+claimed_now : {D : Type 0} → (mine : Claims) (old new : StoreValue D) → MovesClaims no_claims mine old new → AreIn new mine
+claimed_now mine old new moves thing = let m : amount_in thing new + 0 ≡ amount_in thing old + mine thing = moves thing in omega (arith, m)
 
-began_ready : {D : Type 0} → (history : Option History) (name : List ℕ) (uid : ℕ) (store : StoreValue D) (next : FetchStage) (answer : Progress) → HasKnownInstances history store → IsBegun name uid store next answer → IsReadyToFetch next store
-began_ready history name uid store next answer k b = by_why (fetch_refusal name uid store) refl
-  where
-    anew : next ≡ stage.First → IsReadyToFetch next store
-    anew is = subst (λ (s : FetchStage). IsReadyToFetch s store) (sym is) tt
+-- behind the first event
+pub pinned_ready : {D : Type 0} → (history : Option History) (name : List ℕ) (uid : ℕ) (old new : StoreValue D) (region : RegionValue) → HasKnownInstances history old → new ≡ with_claims region.from old → MovesClaims no_claims (claims_of_pinned region.from) old new → IsPinned name uid old region → IsReadyToRead region new
+pinned_ready history name uid old new region k same moves (row, entry, stored, is) =
+    let keeps : (r : InstRow) → IsKnownRow old.instances.known r → IsKnownRow new.instances.known r = λ r there. subst (λ (s : StoreValue _). IsKnownRow s.instances.known r) (sym same) (rows_held region.from.instances r.id old.instances.known ∙ there) in
+    let named : All (IsKnownRow new.instances.known) entry.instances = All-weaker (IsKnownRow old.instances.known) (IsKnownRow new.instances.known) keeps entry.instances (named_each (IsKnownRow old.instances.known) old.map row.map_uid entry stored.stored k.kept.named) in
+    subst (λ (r : RegionValue). MovesClaims no_claims (claims_of_pinned r.from) old new → IsReadyToRead r new) (sym is)
+    (λ m. record { parts = all_claimed (stored_at row entry); left = parts_known new.instances.known row entry named; instances = named; claimed = claimed_now (claims_of_pinned (stored_at row entry)) old new m }) moves
 
-    by_why : (why : Option Refusal) → fetch_refusal name uid store ≡ why → IsReadyToFetch next store
-    by_why (Some why) is = anew (b.refused why is).1
-    by_why None is = elim (b.begun is) [
-      | inl more ↦ subst (λ (s : FetchStage). IsReadyToFetch s store) (sym more.1.2) (pinned_ready history name uid store more.1.0 k more.1.1)
-      | inr none ↦ anew none.1
-    ]
-
+-- behind a piece
 goes_ready : {D : Type 0} → (region : RegionValue) (piece : List ℕ) (next : FetchStage) (store : StoreValue D) → IsReadyToRead region store → GoesOnWith (with_piece region piece) next → IsReadyToFetch next store
 goes_ready region piece next store ready goes = by_left (pieces_left (left_after region.left)) refl
   where
     by_left : (n : ℕ) → pieces_left (left_after region.left) ≡ n → IsReadyToFetch next store
-    by_left zero e = let l = goes.last e in subst (λ (s : FetchStage). IsReadyToFetch s store) (sym l.1) tt
+    by_left zero e = let l = goes.last e in subst (λ (s : FetchStage). IsReadyToFetch s store) (sym l.1) ready.claimed
     by_left (suc n) e =
         subst (λ (s : FetchStage). IsReadyToFetch s store) (sym (goes.more (omega (arith, e))))
-        (record { parts = left_claimed region.from region.left ready.parts; left = known_after store.instances.known region.left ready.left; instances = ready.instances })
+        (record { parts = left_claimed region.from region.left ready.parts; left = known_after store.instances.known region.left ready.left; instances = ready.instances; claimed = ready.claimed })
 
 read_ready : {D : Type 0} → (region : RegionValue) (next : FetchStage) (store : StoreValue D) (history : Option History) (old new : Faults) → IsReadyToRead region store → IsPieceRead region next history old new → IsReadyToFetch next store
 read_ready region next store history old new ready (inl (piece, told, goes)) = goes_ready region piece next store ready goes
-read_ready region next store history old new ready (inr failed) = subst (λ (s : FetchStage). IsReadyToFetch s store) (sym failed.1) tt
+read_ready region next store history old new ready (inr failed) = subst (λ (s : FetchStage). IsReadyToFetch s store) (sym failed.1) ready.claimed
 
-pub ready_on : {D : Type 0} → (name : List ℕ) (uid : ℕ) (now next : FetchStage) (answer : Progress) (store : StoreValue D) (history : Option History) (old new : Faults) → HasKnownInstances history store → FetchesNext name uid now next answer store history old new → IsReadyToFetch now store → IsReadyToFetch next store
-ready_on name uid stage.First next answer store history old new k f ready = began_ready history name uid store next answer k f
-ready_on name uid (stage.Reading region) next answer store history old new k f ready = by_stopped store.stopped refl
-  where
-    by_stopped : (t : Bool) → store.stopped ≡ t → IsReadyToFetch next store
-    by_stopped true is = subst (λ (s : FetchStage). IsReadyToFetch s store) (sym (f.0 is).1) ready
-    by_stopped false is = read_ready region next store history old new ready (f.1 is).1
-ready_on name uid (stage.Unpinning from given) next answer store history old new k f ready = by_stopped store.stopped refl
-  where
-    by_stopped : (t : Bool) → store.stopped ≡ t → IsReadyToFetch next store
-    by_stopped true is = subst (λ (s : FetchStage). IsReadyToFetch s store) (sym (f.0 is).1) tt
-    by_stopped false is = subst (λ (s : FetchStage). IsReadyToFetch s store) (sym (f.1 is).1) tt
+-- on another disk
+at_disk : {D : Type 0} → (now : FetchStage) (store : StoreValue D) (disk : D) → IsReadyToFetch now store → IsReadyToFetch now (record store { disk = disk })
+at_disk stage.First store disk ready = tt
+at_disk (stage.Reading region) store disk ready = record {
+  parts = ready.parts;
+  left = ready.left;
+  instances = ready.instances;
+  claimed = λ thing. subst (λ (n : ℕ). claims_of_pinned region.from thing ≤ n) (sym (same_amount store disk thing)) (ready.claimed thing);
+}
+at_disk (stage.Unpinning from given) store disk ready = λ thing. subst (λ (n : ℕ). claims_of_pinned from thing ≤ n) (sym (same_amount store disk thing)) (ready thing)
+
+pub ready_on : {D : Type 0} → (region : RegionValue) (next : FetchStage) (old new : StoreValue D) (history : Option History) (began faults : Faults) → new ≡ record old { disk = new.disk } → IsPieceRead region next history began faults → IsReadyToRead region old → IsReadyToFetch next new
+ready_on region next old new history began faults same read ready =
+    subst (λ (s : StoreValue _). IsReadyToFetch next s) (sym same) (at_disk next old new.disk (read_ready region next old history began faults ready read))

@@ -1,19 +1,22 @@
 -- A fetch stays ready beside every event of every other task.
-use Rattle.std.proofs.Common.{◌≡◌, ◌≤◌, ◌+◌, ◌==◌, ℕ, List, [], ◌∷◌, ◌++◌, length, map, get_or, Option, Some, None, refl, sym, ◌∙◌, ap, subst, arith, All}
+use Rattle.std.proofs.Common.{◌≡◌, ◌≢◌, ◌≤◌, ◌+◌, ◌==◌, ℕ, false, List, [], ◌∷◌, ◌++◌, length, map, get_or, Option, Some, None, refl, sym, ◌∙◌, ap, subst, arith, All}
 use Rattle.std.specs.Prelude.{if◌then◌else◌}
 use Rattle.std.specs.Str.{bytes_eq}
-use Rattle.std.proofs.lemmas.Bool.{cond-true, eq-eqb}
+use Rattle.std.proofs.lemmas.Bool.{cond-true, eq-eqb, ne_eqb}
 use Rattle.std.proofs.lemmas.List.{length-append}
 use Rattle.std.proofs.lemmas.List.Elements.{All-cons, All-nil, All-head, All-tail}
 use Rattle.std.proofs.lemmas.List.Sums.{sum_by-cons}
 use Rattle.std.proofs.lemmas.Slice.Eq.{bytes_eq-Decides}
-use Rattle.disk_model.specs.Disk.{Files, History}
+use Rattle.disk_model.specs.Disk.{Faults, Files, History}
 use Rattle.disk_model.specs.declared.name.FileName.TheVariants.{Mail}
 use Rattle.mdbox_base.specs.declared.entries.InstRow.{InstRow}
 use Rattle.mdbox_base.specs.declared.ids.FileNo.{FileNo}
 use Rattle.mdbox_base.specs.declared.ids.InstId.{InstId}
+use Rattle.mdbox_base.specs.declared.replies.Reply.{Reply}
 use Rattle.model_meaning.specs.MapMeaning.{MapRecord}
 use Rattle.model_store.specs.Settled.{files_of}
+use Rattle.list_machine.specs.Run.{Run, RunEvent, and_then}
+use Rattle.journal.proofs.OwnEventLemmas.{own_other}
 use Rattle.sis_store.specs.OnDisk.{instance_file}
 use Rattle.storage_files.specs.OnDisk.{piece_read}
 use Rattle.store_core.specs.Keeping.{holds_of}
@@ -22,13 +25,13 @@ use Rattle.store_core.specs.Value.{StoreValue}
 use Rattle.store_core.proofs.MailChangeLemmas.{part_behind}
 use Rattle.task_claims.specs.Leaving.{HasRegionOctets, LeavesInstance}
 use Rattle.task_claims.specs.Stable.{Beside, IsStable}
-use Rattle.task_claims.proofs.LeftLemmas.{instance_left, pinned_left}
+use Rattle.task_claims.proofs.LeftLemmas.{claim_left, instance_left, pinned_left}
 use Rattle.task_claims.proofs.StoredLemmas.{KeepsRow, stores_on}
-use Rattle.mail_fetch.specs.Claims.{IsClaimedPart, IsClaimedTo, IsReadyToFetch, IsReadyToRead, ReadsStored, fetch_claims}
-use Rattle.mail_fetch.specs.Parts.{KnowsSource, instance_part, part_read, parts_read, parts_to_read, region_part, source_file}
+use Rattle.mail_fetch.specs.Claims.{IsClaimedPart, IsClaimedTo, IsReadyToFetch, IsReadyToRead, ReadsStored, claims_of_pinned, fetch_claims}
+use Rattle.mail_fetch.specs.Parts.{KnowsSource, instance_part, part_read, parts_read, parts_to_read, pieces_left, region_part, source_file}
 use Rattle.mail_fetch.specs.Region.{RegionValue}
-use Rattle.mail_fetch.specs.Stages.{IsFrontOfStored, Reading}
-use Rattle.mail_fetch.specs.Task.{KnowsPinned, one_pin}
+use Rattle.mail_fetch.specs.Stages.{HasReadAllBut, IsAtFetch, IsFrontOfStored, Reading, UnpinsNext}
+use Rattle.mail_fetch.specs.Task.{one_pin, seen_in}
 use Rattle.mail_fetch.specs.declared.parts.Part.{Part}
 use Rattle.mail_fetch.specs.declared.parts.Source.{Source}
 use Rattle.mail_fetch.specs.declared.parts.Source.TheVariants as source
@@ -89,11 +92,12 @@ parts_left region old new before after b ready = λ i d lt. let part = get_or re
 
 pub fetch_stable : {D : Type 0} → (now : FetchStage) → IsStable {D = D} (fetch_claims now) (λ store history. IsReadyToFetch now store)
 fetch_stable stage.First old new before after b ready = tt
-fetch_stable (stage.Unpinning from given) old new before after b ready = tt
+fetch_stable (stage.Unpinning from given) old new before after b ready = λ thing. claim_left (claims_of_pinned from) old new before after thing b
 fetch_stable (stage.Reading region) old new before after b ready = record {
   parts = ready.parts;
   left = λ i d lt. still_known old new before after (get_or region.left i d).source (parts_left region old new before after b ready i d lt);
   instances = λ i d lt. (rows_left region old new before after b ready.instances i d lt).known;
+  claimed = λ thing. claim_left (claims_of_pinned region.from) old new before after thing b;
 }
 
 -- ---- what the disk stores
@@ -195,11 +199,17 @@ reads_stay region octets old new (Some was) (Some is) b ready f =
 
 pub stored_stable : {D : Type 0} → (now : FetchStage) (octets : List ℕ) → IsStable {D = D} (fetch_claims now) (λ store history. IsReadyToFetch now store × ReadsStored now octets history)
 stored_stable stage.First octets old new before after b ready = (tt, tt)
-stored_stable (stage.Unpinning from given) octets old new before after b ready = (tt, tt)
+stored_stable (stage.Unpinning from given) octets old new before after b ready = (fetch_stable (stage.Unpinning from given) old new before after b ready.0, tt)
 stored_stable (stage.Reading region) octets old new before after b ready = (fetch_stable (stage.Reading region) old new before after b ready.0, reads_stay region octets old new before after b ready.0 ready.1)
 
--- it knows what is left to read
-pub ready_known : {D : Type 0} → (now : FetchStage) (store : StoreValue D) → IsReadyToFetch now store → KnowsPinned now store
-ready_known stage.First store ready = tt
-ready_known (stage.Reading region) store ready = ready.left
-ready_known (stage.Unpinning from given) store ready = tt
+-- ---- where it stands
+
+pub stay_beside : {D : Type 0} → (now : FetchStage) (old new : StoreValue D) (before later : Option History) (began faults : Faults) (run : Run) (event : RunEvent) (place : ℕ) (said : List Reply) → event.request ≢ place → (new.stopped ≡ false → old.stopped ≡ false) → (new.stopped ≡ false → Beside (fetch_claims now) old new before later × IsReadyToFetch now old)
+    → IsAtFetch now (seen_in old before began) run place said → IsAtFetch now (seen_in new later faults) (and_then run event) place said
+stay_beside stage.First old new before later began faults run event place said other ran beside stood = (own_other place run event (ne_eqb event.request place other) ∙ stood.0, stood.1)
+stay_beside (stage.Reading region) old new before later began faults run event place said other ran beside stood = (
+  subst (HasReadAllBut region.from (pieces_left region.left)) (sym (own_other place run event (ne_eqb event.request place other))) stood.0,
+  (stood.1.0, stood.1.1, λ runs. let b = beside runs in reads_stay region stood.1.0 old new before later b.0 b.1 (stood.1.2 (ran runs))),
+)
+stay_beside (stage.Unpinning from given) old new before later began faults run event place said other ran beside stood =
+    (subst (UnpinsNext from given) (sym (own_other place run event (ne_eqb event.request place other))) stood.0, stood.1)

@@ -1,8 +1,8 @@
 -- The clause of a fetch's step, event by event.
-use Rattle.std.proofs.Common.{◌≡◌, ◌≤◌, ◌<◌, ◌+◌, ℕ, Bool, true, false, cond, List, [], ◌∷◌, ◌++◌, length, Option, Some, None, refl, sym, ◌∙◌, ap, subst, arith, inl, inr, length-append}
+use Rattle.std.proofs.Common.{◌≡◌, ◌≤◌, ◌<◌, ◌+◌, ◌-◌, ℕ, Bool, true, false, cond, List, [], ◌∷◌, ◌++◌, length, Option, Some, None, refl, sym, ◌∙◌, ap, subst, arith, inl, inr, length-append}
 use Rattle.std.specs.Prelude.{All, ◌⊎◌, is_some, if◌then◌else◌}
 use Rattle.std.specs.List.{list_any}
-use Rattle.std.specs.Option.{IfSome, option_map_or, option_or}
+use Rattle.std.specs.Option.{IfSome, option_map, option_map_or, option_or}
 use Rattle.std.proofs.lemmas.List.Elements.{All-nil, All-push}
 use Rattle.std.proofs.lemmas.Bool.{eq-eqb, ne_eqb, cases_lt}
 use Rattle.disk_model.specs.Disk.{DiskState, History, Faults, Files, IfTold, IsIdle, told_calls}
@@ -37,18 +37,21 @@ use Rattle.list_machine.specs.Machine.{PartAnswers, is_step}
 use Rattle.journal.specs.Journal.{refusal_in, IsReplyOf}
 use Rattle.journal.specs.Events.{Around, MayMeet, behind_event, piece_left, leaves_doomed, last_refusal, pieces_to_read}
 use Rattle.journal.proofs.OwnEventLemmas.{own_more, own_other}
-use Rattle.storage_files.specs.Files.{is_doomed_in}
+use Rattle.save_instances.specs.Attaching.{found_let_go}
+use Rattle.storage_files.specs.Files.{end_in, is_doomed_in, pins_in}
 use Rattle.store_core.specs.Running.{IsStore}
 use Rattle.store_core.specs.Value.{StoreValue, indexes_of, list_named}
-use Rattle.task_steps.specs.Step.{Seen, ShowsSeen, HasComeTo, IsKept, ended_by}
+use Rattle.task_claims.specs.Claims.{AreIn}
+use Rattle.task_steps.specs.Step.{DidEvent, Seen, ShowsSeen, HasComeTo, IsKept, and_told, ended_by}
 use Rattle.task_steps.proofs.SeenLemmas.{pins_still, doomed_still, not_begun_stays}
 use Rattle.task_steps.proofs.OneEventLemmas.{when_stopped, memory_is, some_given, never_more}
-use Rattle.mail_fetch.specs.Clause.{ReadsSafe, StepsOnSafe}
-use Rattle.mail_fetch.specs.Events.{fetch_refusal, IsBegun, IsStoredBy, IsPinned, IsPieceRead, next_piece, with_piece, NoChangeFault}
+use Rattle.mail_fetch.specs.Claims.{claims_of_pinned, held_for, used_by, with_claims, without_claims}
+use Rattle.mail_fetch.specs.Clause.{FetchSteps, ReadsSafe}
+use Rattle.mail_fetch.specs.Events.{fetch_refusal, IsAbsent, IsBegun, IsStoredBy, IsPinned, IsPieceRead, next_piece, with_piece, NoChangeFault}
 use Rattle.mail_fetch.specs.Parts.{left_after, parts_to_read, pieces_left}
 use Rattle.mail_fetch.specs.Region.{stored_at, RegionValue, unread, IsReplyFor}
 use Rattle.mail_fetch.specs.Stages.{ReadPiece, HasPinned, HasReadAllBut, IsPieceRefusal, UnpinsNext, IsFrontOfStored, Reading, IsTrueReply, IsAtFetch}
-use Rattle.mail_fetch.specs.Task.{HasPieceLeft, fetch_did, refusing_did, one_pin, seen_with_pins}
+use Rattle.mail_fetch.specs.Task.{HasPieceLeft, fetch_did, pins_kept_in, refusing_did, one_pin, seen_in}
 use Rattle.mail_fetch.specs.declared.parts.StoredAt.{StoredAt}
 use Rattle.mail_fetch.specs.declared.task.FetchStage.{FetchStage}
 use Rattle.mail_fetch.specs.declared.task.FetchStage.TheVariants as stage
@@ -56,6 +59,8 @@ use Rattle.mail_fetch.proofs.InstanceLemmas.{named_each, pieces_told}
 use Rattle.mail_fetch.proofs.OwnPinLemmas.{pins_begin, pins_end}
 use Rattle.mail_fetch.proofs.PartLemmas.{pieces_after}
 use Rattle.mail_fetch.proofs.FetchPartLemmas.{last_with, next_reads, next_unpins, unpins_by, holds_pin, own_files, none_doomed}
+use Rattle.mail_fetch.proofs.HoldLemmas.{rows_held, rows_let_go}
+use Rattle.mail_fetch.proofs.UseLemmas.{one_end, own_pinned, pins_fewer, pins_more, use_seen}
 use Rattle.mail_fetch.proofs.FetchEventLemmas.{behind_reading, DidSo, stands_so, did_refuse, did_nothing, pin_event, did_pin, fetch_event, IsLateRefusal, piece_is_late, unpin_is_late, did_late}
 use Rattle.mail_fetch.proofs.RecordLemmas.{shown_by, no_mailbox, no_message, is_fetched, by_guid, stored_by}
 use Rattle.mail_fetch.proofs.StoredRegionLemmas.{front_more, true_reply}
@@ -92,14 +97,14 @@ boxes_safe (Some h) store lists s runs safe =
 stopped_reply : (said : List Reply) (name : List ℕ) (uid : Uid) (given : Reply) → Some (reply.Refused refusal.Stopped) ≡ Some given → IsReplyOf (request.Fetch name uid) said given
 stopped_reply said name uid given e = subst (λ (r : Reply). IsReplyOf (request.Fetch name uid) said r) (let same : reply.Refused refusal.Stopped ≡ given = cc e in same) tt
 
-pub stopped_steps : {D : Type 0} → (around after : Around) (others : ℕ → ℕ) (name : List ℕ) (uid : Uid) (now : FetchStage) (store : StoreValue D) (history : Option History) (faults : Faults) → HasPieceLeft now → store.stopped ≡ true
-    → StepsOnSafe (IsAtFetch now (seen_with_pins others now store history faults)) (IsAtFetch now (seen_with_pins others now store history faults)) around after (request.Fetch name uid) (seen_with_pins others now store history faults) (seen_with_pins others now store history faults) did.Quiet (Some (reply.Refused refusal.Stopped))
-stopped_steps around after others name uid stage.First store history faults left stopped = λ run lane place said lists come shows safe stood. (
-  did_nothing around after run lane place said name uid lists (seen_with_pins others stage.First store history faults) refusal.Stopped come shows stood refl tt tt (when_stopped store.stopped stopped),
+pub stopped_steps : {D : Type 0} → (around after : Around) (name : List ℕ) (uid : Uid) (now : FetchStage) (store : StoreValue D) (history : Option History) (faults : Faults) → HasPieceLeft now → store.stopped ≡ true
+    → FetchSteps around after name uid now now store store history history faults faults did.Quiet (Some (reply.Refused refusal.Stopped))
+stopped_steps around after name uid stage.First store history faults left stopped = λ run lane place said lists come shows safe stood. (
+  did_nothing around after run lane place said name uid lists (seen_in store history faults) refusal.Stopped come shows stood refl tt tt (when_stopped store.stopped stopped),
   λ e. absurd (never_more _ e),
 )
-stopped_steps around after others name uid (stage.Reading region) store history faults left stopped = λ run lane place said lists come shows safe stood.
-    let seen = seen_with_pins others (stage.Reading region) store history faults in (
+stopped_steps around after name uid (stage.Reading region) store history faults left stopped = λ run lane place said lists come shows safe stood.
+    let seen = seen_in store history faults in (
       (did_late around after run lane place said name uid lists seen history faults seen.pins ReadsPiece (Some refusal.Stopped) (Some (reply.Refused refusal.Stopped)) (piece_is_late name uid) come shows (idle-begins history) (record { reads = omega arith; changes = refl })
           (next_reads around name uid run place (pieces_left region.left) region.from stood.0 left.0) (refl, λ e. absurd (let k : refusal.Stopped ≡ refusal.NoMemory = e in cc k)) tt
           (record { 0 = λ e. refl; 1 = λ e f. some_given (reply.Refused refusal.Stopped) f })
@@ -108,8 +113,8 @@ stopped_steps around after others name uid (stage.Reading region) store history 
           (λ runs. absurd (fall store.stopped stopped runs))).so,
       λ e. absurd (never_more _ e),
     )
-stopped_steps around after others name uid (stage.Unpinning from given) store history faults left stopped = λ run lane place said lists come shows safe stood.
-    let seen = seen_with_pins others (stage.Unpinning from given) store history faults in (
+stopped_steps around after name uid (stage.Unpinning from given) store history faults left stopped = λ run lane place said lists come shows safe stood.
+    let seen = seen_in store history faults in (
       (did_late around after run lane place said name uid lists seen history faults seen.pins Unpins (Some refusal.Stopped) (Some (reply.Refused refusal.Stopped)) (unpin_is_late name uid) come shows (idle-begins history) (record { reads = omega arith; changes = refl })
           (next_unpins around name uid run place from given stood.0) (refl, λ e. absurd (let k : refusal.Stopped ≡ refusal.NoMemory = e in cc k)) tt
           (record { 0 = λ e. refl; 1 = λ e f. some_given (reply.Refused refusal.Stopped) f })
@@ -121,30 +126,28 @@ stopped_steps around after others name uid (stage.Unpinning from given) store hi
 
 -- ---- the first event
 
--- the clause for the first event, of a store that stays as it is
-abbrev FirstClause : {D : Type 0} → Around → Around → (ℕ → ℕ) → List ℕ → Uid → StoreValue D → Option History → Faults → FetchStage → Progress → Did → Type 0
-FirstClause around after others name uid store history faults next answer how =
-    StepsOnSafe (IsAtFetch stage.First (seen_with_pins others stage.First store history faults)) (IsAtFetch next (seen_with_pins others next store history faults)) around after (request.Fetch name uid) (seen_with_pins others stage.First store history faults)
-    (seen_with_pins others next store history faults) how (ended_by answer)
+-- the clause for the first event
+abbrev FirstClause : {D : Type 0} → Around → Around → List ℕ → Uid → StoreValue D → Option History → Faults → FetchStage → Progress → Did → Type 0
+FirstClause around after name uid store history faults next answer how = FetchSteps around after name uid stage.First next store (used_by stage.First next store) history history faults faults how (ended_by answer)
 
-first_as : {D : Type 0} → (around after : Around) (others : ℕ → ℕ) (name : List ℕ) (uid : Uid) (store : StoreValue D) (history : Option History) (faults : Faults) (a b : FetchStage) (p q : Progress) (c d : Did) → b ≡ a → q ≡ p → d ≡ c
-    → FirstClause around after others name uid store history faults a p c → FirstClause around after others name uid store history faults b q d
-first_as around after others name uid store history faults a b p q c d stages answers hows h =
-    subst (λ (n : FetchStage). FirstClause around after others name uid store history faults n q d) (sym stages)
-    (subst (λ (n : Progress). FirstClause around after others name uid store history faults a n d) (sym answers) (subst (λ (n : Did). FirstClause around after others name uid store history faults a p n) (sym hows) h))
+first_as : {D : Type 0} → (around after : Around) (name : List ℕ) (uid : Uid) (store : StoreValue D) (history : Option History) (faults : Faults) (a b : FetchStage) (p q : Progress) (c d : Did) → b ≡ a → q ≡ p → d ≡ c
+    → FirstClause around after name uid store history faults a p c → FirstClause around after name uid store history faults b q d
+first_as around after name uid store history faults a b p q c d stages answers hows h =
+    subst (λ (n : FetchStage). FirstClause around after name uid store history faults n q d) (sym stages)
+    (subst (λ (n : Progress). FirstClause around after name uid store history faults a n d) (sym answers) (subst (λ (n : Did). FirstClause around after name uid store history faults a p n) (sym hows) h))
 
-first_refused : {D : Type 0} → (around after : Around) (others : ℕ → ℕ) (name : List ℕ) (uid : Uid) (store : StoreValue D) (history : Option History) (faults : Faults) (why : Refusal) → is_step why ≡ true → IsReplyOf (request.Fetch name uid) (reply.Refused why ∷ []) (reply.Refused why) → store.stopped ≡ false
+first_refused : {D : Type 0} → (around after : Around) (name : List ℕ) (uid : Uid) (store : StoreValue D) (history : Option History) (faults : Faults) (why : Refusal) → is_step why ≡ true → IsReplyOf (request.Fetch name uid) (reply.Refused why ∷ []) (reply.Refused why) → store.stopped ≡ false
     → ((run : Run) (event : RunEvent) (lists : Lists) → ShowLists store.map.boxes (indexes_of store.boxes) lists → PartAnswers run event lists (request.Fetch name uid) First (reply.Refused why) lists)
-    → FirstClause around after others name uid store history faults stage.First (progress.Done (reply.Refused why)) (did.Step half.Whole)
-first_refused around after others name uid store history faults why step is runs answers = λ run lane place said lists come shows safe stood. (
-  did_refuse around after run lane place said name uid lists (seen_with_pins others stage.First store history faults) why come shows stood step is runs (λ event. answers run event lists shows.1),
+    → FirstClause around after name uid store history faults stage.First (progress.Done (reply.Refused why)) (did.Step half.Whole)
+first_refused around after name uid store history faults why step is runs answers = λ run lane place said lists come shows safe stood. (
+  did_refuse around after run lane place said name uid lists (seen_in store history faults) why come shows stood step is runs (λ event. answers run event lists shows.1),
   λ e. absurd (never_more _ e),
 )
 
 -- no memory
-first_memory : {D : Type 0} → (around after : Around) (others : ℕ → ℕ) (name : List ℕ) (uid : Uid) (store : StoreValue D) (history : Option History) (faults : Faults) → store.stopped ≡ false → FirstClause around after others name uid store history faults stage.First (progress.Done (reply.Refused refusal.NoMemory)) did.Quiet
-first_memory around after others name uid store history faults runs = λ run lane place said lists come shows safe stood. (
-  did_nothing around after run lane place said name uid lists (seen_with_pins others stage.First store history faults) refusal.NoMemory come shows stood refl refl tt (memory_is store.stopped runs),
+first_memory : {D : Type 0} → (around after : Around) (name : List ℕ) (uid : Uid) (store : StoreValue D) (history : Option History) (faults : Faults) → store.stopped ≡ false → FirstClause around after name uid store history faults stage.First (progress.Done (reply.Refused refusal.NoMemory)) did.Quiet
+first_memory around after name uid store history faults runs = λ run lane place said lists come shows safe stood. (
+  did_nothing around after run lane place said name uid lists (seen_in store history faults) refusal.NoMemory come shows stood refl refl tt (memory_is store.stopped runs),
   λ e. absurd (never_more _ e),
 )
 
@@ -159,21 +162,30 @@ reading_as : (P Q : Files → Type 0) (h : Option History) → ((files : Files) 
 reading_as P Q None f p = absurd p
 reading_as P Q (Some h) f p = f (files_of h.now) p
 
-first_pinned : {D : Type 0} → (around after : Around) (others : ℕ → ℕ) (name : List ℕ) (uid : Uid) (store : StoreValue D) (history : Option History) (faults : Faults) (row : LogRow) (entry : MapRecord) → IsStore history store → store.stopped ≡ false → IsStoredBy name uid.0 store row entry
-    → FirstClause around after others name uid store history faults (stage.Reading (unread (stored_at row entry))) progress.More (did.Step half.Whole)
-first_pinned around after others name uid store history faults row entry is runs stored = λ run lane place said lists come shows safe stood.
-    let seen = seen_with_pins others stage.First store history faults in
+first_pinned : {D : Type 0} → (around after : Around) (name : List ℕ) (uid : Uid) (store : StoreValue D) (history : Option History) (faults : Faults) (row : LogRow) (entry : MapRecord) (end : ℕ) → IsStore history store → store.stopped ≡ false → IsStoredBy name uid.0 store row entry → end_in entry.file store.files.files ≡ Some end
+    → FirstClause around after name uid store history faults (stage.Reading (unread (stored_at row entry))) progress.More (did.Step half.Whole)
+first_pinned around after name uid store history faults row entry end is runs stored ends = λ run lane place said lists come shows safe stood.
+    let from : StoredAt = stored_at row entry in
+    let seen : Seen = seen_in store history faults in
+    let pins : ℕ → ℕ = pins_kept_in (with_claims from store) in
+    let new : Seen = behind_reading seen history faults pins in
+    let new_is : seen_in (with_claims from store) history faults ≡ new = use_seen from (pins_in entry.file store.files.files + 1) (held_for entry.instances store.instances.known) store history faults (λ id. rows_held entry.instances id store.instances.known) in
     let shown = shown_by store.map.boxes (indexes_of store.boxes) lists name uid.0 stored.mailbox row shows.1 stored.named stored.listed in
     let guid : row.guid ≡ shown.message.guid = ap (λ (r : ListRow). r.guid.0) shown.same in
     let found : record_of store.map shown.message.guid ≡ Some entry = by_guid store.map row.map_uid entry shown.message.guid (store_is_sound history store is) stored.stored (stored.same ∙ guid) in
     let event = pin_event lane place entry.file (pieces_to_read entry) entry.instances (told_calls history) in
     let unpinned : has_unpinned place run ≡ false = ap (λ (es : List RunEvent). list_any is_unpinning es) stood.0 in
-    stands_so around after run lane place said (request.Fetch name uid) lists seen (seen_with_pins others (stage.Reading (unread (stored_at row entry))) store history faults) (did.Step half.Whole) None event (Some (reply.Fetched shown.message.octets))
-    (IsAtFetch (stage.Reading (unread (stored_at row entry))) (seen_with_pins others (stage.Reading (unread (stored_at row entry))) store history faults))
-    (did_pin around after run lane place said name uid lists seen history faults (λ file. others file + one_pin entry.file file) entry shown.message.octets come shows stood runs (idle-begins history) (record { reads = omega arith; changes = refl })
+    subst (λ (s : Seen). (d : DidEvent around after run lane place said (request.Fetch name uid) lists seen s (did.Step half.Whole) None) × (◌≡◌ {A = Option Reply} None None → IsAtFetch (stage.Reading (unread from)) s (and_then run d.makes.event) place (and_told said d.makes.answer))) (sym new_is)
+    (stands_so around after run lane place said (request.Fetch name uid) lists seen new (did.Step half.Whole) None event (Some (reply.Fetched shown.message.octets))
+    (IsAtFetch (stage.Reading (unread from)) new)
+    (did_pin around after run lane place said name uid lists seen history faults pins entry shown.message.octets come shows stood runs (idle-begins history) (record { reads = omega arith; changes = refl })
     (shown.message, shown.there, ap (λ (m : MapMeaning). record_of m shown.message.guid) come.come.map_is ∙ found)
     (λ e. is_fetched run e store.map.boxes (indexes_of store.boxes) lists name uid stored.mailbox row shows.1 stored.named shown)
-    (λ ran file. let a = pins_begin run event entry.file (pieces_to_read entry) file entry.instances refl unpinned refl in let b = (come.keeps ran).pins file in omega (arith, a, b)))
+    (λ ran file.
+    let a = pins_begin run event entry.file (pieces_to_read entry) file entry.instances refl unpinned refl in
+    let b = (come.keeps ran).pins file in
+    let c = pins_more entry.file file store.files.files (one_end entry.file store.files.files end ends) in
+    omega (arith, a, b, c)))
     (λ goes_on. (
       (
         [],
@@ -200,36 +212,58 @@ first_pinned around after others name uid store history faults row entry is runs
           front = refl;
         }) (boxes_safe history store lists is runs (safe runs)),
       ),
-    ))
+    )))
+
+-- where the files are safe, the message's file is there
+pub absent_unsafe : {D : Type 0} → (name : List ℕ) (uid : Uid) (store : StoreValue D) (history : Option History) (lists : Lists) (why : Refusal) → IsStore history store → store.stopped ≡ false → IsAbsent name uid.0 store why → ShowLists store.map.boxes (indexes_of store.boxes) lists → ReadsSafe lists history → ⊥
+absent_unsafe name uid store None lists why is runs absent shows safe = safe
+absent_unsafe name uid store (Some h) lists why is runs (row, entry, stored, none, why_is) shows safe =
+    let there = boxes_safe (Some h) store lists is runs safe in
+    let shown = shown_by store.map.boxes (indexes_of store.boxes) lists name uid.0 stored.mailbox row shows stored.named stored.listed in
+    let guid : row.guid ≡ shown.message.guid = ap (λ (r : ListRow). r.guid.0) shown.same in
+    let found : record_of store.map shown.message.guid ≡ Some entry = by_guid store.map row.map_uid entry shown.message.guid (store_is_sound (Some h) store is) stored.stored (stored.same ∙ guid) in
+    let stores = stored_by (files_of h.now) store.map store.map.boxes lists name uid.0 shown.message entry (store_is_sound (Some h) store is) there.boxes shown.there found in
+    let known = (is.running runs).files_known entry.file in
+    let k : Some (length stores.stored.octets_there) ≡ None = ap (option_map length) (sym stores.stored.there) ∙ (known ∙ none) in
+    cc k
 
 -- The first event of a store that isn't stopped.
-pub begin_steps : {D : Type 0} → (around after : Around) (others : ℕ → ℕ) (name : List ℕ) (uid : Uid) (store : StoreValue D) (history : Option History) (faults : Faults) (next : FetchStage) (answer : Progress) (how : Did) → IsStore history store → store.stopped ≡ false → IsBegun name uid.0 store next answer → how ≡ fetch_did stage.First answer
-    → FirstClause around after others name uid store history faults next answer how
-begin_steps around after others name uid store history faults next answer how is runs b hows = by_box (list_named store name) refl
+pub begin_steps : {D : Type 0} → (around after : Around) (name : List ℕ) (uid : Uid) (store : StoreValue D) (history : Option History) (faults : Faults) (next : FetchStage) (answer : Progress) (how : Did) → IsStore history store → store.stopped ≡ false → IsBegun name uid.0 store next answer
+    → ((region : RegionValue) → next ≡ stage.Reading region → (end : ℕ) × (end_in region.from.file.0 store.files.files ≡ Some end)) → how ≡ fetch_did stage.First answer
+    → FirstClause around after name uid store history faults next answer how
+begin_steps around after name uid store history faults next answer how is runs b there hows = by_box (list_named store name) refl
   where
-    done : (why : Refusal) → (answer ≡ progress.Done (reply.Refused why)) × (next ≡ stage.First) → FirstClause around after others name uid store history faults stage.First (progress.Done (reply.Refused why)) (refusing_did why) → FirstClause around after others name uid store history faults next answer how
-    done why e h = first_as around after others name uid store history faults stage.First next (progress.Done (reply.Refused why)) answer (refusing_did why) how e.1 e.0 (hows ∙ ap (fetch_did stage.First) e.0) h
+    done : (why : Refusal) → (answer ≡ progress.Done (reply.Refused why)) × (next ≡ stage.First) → FirstClause around after name uid store history faults stage.First (progress.Done (reply.Refused why)) (refusing_did why) → FirstClause around after name uid store history faults next answer how
+    done why e h = first_as around after name uid store history faults stage.First next (progress.Done (reply.Refused why)) answer (refusing_did why) how e.1 e.0 (hows ∙ ap (fetch_did stage.First) e.0) h
 
     refusal_is : (o : Option BoxMeaning) → list_named store name ≡ o → fetch_refusal name uid.0 store ≡ option_map_or (λ m. if is_some (row_at m uid.0) then None else Some refusal.NoMessage) o (Some refusal.NoMailbox)
     refusal_is o e = ap (λ (t : Bool). cond t (Some refusal.Stopped) (option_map_or (λ (m : BoxMeaning). if is_some (row_at m uid.0) then None else Some refusal.NoMessage) (list_named store name) (Some refusal.NoMailbox))) runs
         ∙ ap (λ (p : Option BoxMeaning). option_map_or (λ (m : BoxMeaning). if is_some (row_at m uid.0) then None else Some refusal.NoMessage) p (Some refusal.NoMailbox)) e
 
-    by_row : (m : BoxMeaning) → list_named store name ≡ Some m → (r : Option LogRow) → row_at m uid.0 ≡ r → FirstClause around after others name uid store history faults next answer how
+    by_row : (m : BoxMeaning) → list_named store name ≡ Some m → (r : Option LogRow) → row_at m uid.0 ≡ r → FirstClause around after name uid store history faults next answer how
     by_row m e None none =
         done refusal.NoMessage (b.refused refusal.NoMessage (refusal_is (Some m) e ∙ ap (λ (r : Option LogRow). if is_some r then None else Some refusal.NoMessage) none))
-        (first_refused around after others name uid store history faults refusal.NoMessage refl refl runs (λ run event lists shows. no_message run event store.map.boxes (indexes_of store.boxes) lists name uid m shows e none))
+        (first_refused around after name uid store history faults refusal.NoMessage refl refl runs (λ run event lists shows. no_message run event store.map.boxes (indexes_of store.boxes) lists name uid m shows e none))
     by_row m e (Some row) found = by_case (b.begun (refusal_is (Some m) e ∙ ap (λ (r : Option LogRow). if is_some r then None else Some refusal.NoMessage) found))
       where
-        by_case : ((answer ≡ progress.More) × ((region : RegionValue) × IsPinned name uid.0 store region × (next ≡ stage.Reading region))) ⊎ ((answer ≡ progress.Done (reply.Refused refusal.NoMemory)) × (next ≡ stage.First)) → FirstClause around after others name uid store history faults next answer how
-        by_case (inl (more, (region, (listed, entry, stored, region_is), next_is))) =
-            first_as around after others name uid store history faults (stage.Reading (unread (stored_at listed entry))) next progress.More answer (did.Step half.Whole) how (next_is ∙ ap stage.Reading region_is) more (hows ∙ ap (fetch_did stage.First) more)
-            (first_pinned around after others name uid store history faults listed entry is runs stored)
-        by_case (inr none) = done refusal.NoMemory none (first_memory around after others name uid store history faults runs)
+        by_cause : (why : Refusal) → (answer ≡ progress.Done (reply.Refused why)) × (next ≡ stage.First) → (why ≡ refusal.NoMemory) ⊎ IsAbsent name uid.0 store why → FirstClause around after name uid store history faults next answer how
+        by_cause why is_so (inl none) =
+            done refusal.NoMemory (is_so.0 ∙ ap (λ (r : Refusal). progress.Done (reply.Refused r)) none, is_so.1) (first_memory around after name uid store history faults runs)
+        by_cause why is_so (inr absent) = λ run lane place said lists come shows safe stood. absurd (absent_unsafe name uid store history lists why is runs absent shows.1 (safe runs))
 
-    by_box : (o : Option BoxMeaning) → list_named store name ≡ o → FirstClause around after others name uid store history faults next answer how
+        by_case : ((answer ≡ progress.More) × ((region : RegionValue) × IsPinned name uid.0 store region × (next ≡ stage.Reading region))) ⊎ ((why : Refusal) × ((why ≡ refusal.NoMemory) ⊎ IsAbsent name uid.0 store why) × (answer ≡ progress.Done (reply.Refused why)) × (next ≡ stage.First))
+            → FirstClause around after name uid store history faults next answer how
+        by_case (inl (more, (region, (listed, entry, stored, region_is), next_is))) =
+            let next_as : next ≡ stage.Reading (unread (stored_at listed entry)) = next_is ∙ ap stage.Reading region_is in
+            let ends = there (unread (stored_at listed entry)) next_as in
+            first_as around after name uid store history faults (stage.Reading (unread (stored_at listed entry))) next progress.More answer (did.Step half.Whole) how next_as more (hows ∙ ap (fetch_did stage.First) more)
+            (first_pinned around after name uid store history faults listed entry ends.0 is runs stored ends.1)
+        by_case (inr (why, cause, answer_is, next_is)) = by_cause why (answer_is, next_is) cause
+
+    by_box : (o : Option BoxMeaning) → list_named store name ≡ o → FirstClause around after name uid store history faults next answer how
     by_box None e =
         done refusal.NoMailbox (b.refused refusal.NoMailbox (refusal_is None e))
-        (first_refused around after others name uid store history faults refusal.NoMailbox refl refl runs (λ run event lists shows. no_mailbox run event store.map.boxes (indexes_of store.boxes) lists name uid shows e))
+        (first_refused around after name uid store history faults refusal.NoMailbox refl refl runs (λ run event lists shows. no_mailbox run event store.map.boxes (indexes_of store.boxes) lists name uid shows e))
     by_box (Some m) e = by_row m e (row_at m uid.0) refl
 
 -- ---- a piece
@@ -320,17 +354,15 @@ true_on : (region : RegionValue) (octets : List ℕ) (history : Option History) 
 true_on region octets None given f none is = absurd f
 true_on region octets (Some h) given f none is = true_reply region octets (files_of h.now) given f none is
 
-abbrev PieceClause : {D : Type 0} → Around → Around → (ℕ → ℕ) → List ℕ → Uid → RegionValue → StoreValue D → Option History → Faults → StoreValue D → Option History → Faults → FetchStage → Type 0
-PieceClause around after others name uid region store history faults new then_history then_faults next =
-    StepsOnSafe (IsAtFetch (stage.Reading region) (seen_with_pins others (stage.Reading region) store history faults)) (IsAtFetch next (seen_with_pins others next new then_history then_faults)) around after (request.Fetch name uid) (seen_with_pins others (stage.Reading region) store history faults)
-    (seen_with_pins others next new then_history then_faults) did.Quiet None
+abbrev PieceClause : {D : Type 0} → Around → Around → List ℕ → Uid → RegionValue → StoreValue D → Option History → Faults → StoreValue D → Option History → Faults → FetchStage → Type 0
+PieceClause around after name uid region store history faults new then_history then_faults next = FetchSteps around after name uid (stage.Reading region) next store new history then_history faults then_faults did.Quiet None
 
 -- a piece behind which others are read
-piece_more : {D : Type 0} → (around after : Around) (others : ℕ → ℕ) (name : List ℕ) (uid : Uid) (region : RegionValue) (store : StoreValue D) (disk : D) (history then_history : Option History) (faults then_faults : Faults) (piece : List ℕ) → HasPieceLeft (stage.Reading region) → store.stopped ≡ false → IsIdle history then_history
-    → NoChangeFault faults then_faults → IfTold history (λ d. piece ≡ next_piece region d) → PieceClause around after others name uid region store history faults (record store { disk = disk }) then_history then_faults (stage.Reading (with_piece region piece))
-piece_more around after others name uid region store disk history then_history faults then_faults piece left runs idle none told = λ run lane place said lists come shows safe stood.
-    let seen = seen_with_pins others (stage.Reading region) store history faults in
-    let new = seen_with_pins others (stage.Reading (with_piece region piece)) (record store { disk = disk }) then_history then_faults in
+piece_more : {D : Type 0} → (around after : Around) (name : List ℕ) (uid : Uid) (region : RegionValue) (store : StoreValue D) (disk : D) (history then_history : Option History) (faults then_faults : Faults) (piece : List ℕ) → HasPieceLeft (stage.Reading region) → store.stopped ≡ false → IsIdle history then_history
+    → NoChangeFault faults then_faults → IfTold history (λ d. piece ≡ next_piece region d) → PieceClause around after name uid region store history faults (record store { disk = disk }) then_history then_faults (stage.Reading (with_piece region piece))
+piece_more around after name uid region store disk history then_history faults then_faults piece left runs idle none told = λ run lane place said lists come shows safe stood.
+    let seen = seen_in store history faults in
+    let new = seen_in (record store { disk = disk }) then_history then_faults in
     let event = fetch_event ReadsPiece lane place None None (told_calls then_history) in
     stands_so around after run lane place said (request.Fetch name uid) lists seen new did.Quiet None event None (IsAtFetch (stage.Reading (with_piece region piece)) new)
     (read_did around after run lane place said name uid lists seen then_history then_faults region None come shows idle none runs stood.0 left.0 tt (λ e. absurd (let k : None ≡ Some refusal.ReadFault = e in cc k)))
@@ -345,12 +377,12 @@ piece_more around after others name uid region store disk history then_history f
     ))
 
 -- the last piece, or one that failed: by this it will reply
-piece_last : {D : Type 0} → (around after : Around) (others : ℕ → ℕ) (name : List ℕ) (uid : Uid) (region : RegionValue) (store : StoreValue D) (disk : D) (history then_history : Option History) (faults then_faults : Faults) (given : Reply) (why : Refusal) → HasPieceLeft (stage.Reading region) → store.stopped ≡ false → IsIdle history then_history
+piece_last : {D : Type 0} → (around after : Around) (name : List ℕ) (uid : Uid) (region : RegionValue) (store : StoreValue D) (disk : D) (history then_history : Option History) (faults then_faults : Faults) (given : Reply) (why : Refusal) → HasPieceLeft (stage.Reading region) → store.stopped ≡ false → IsIdle history then_history
     → NoChangeFault faults then_faults → refusal_in given ≡ Some why → IsPieceRefusal why → (why ≡ refusal.ReadFault → Rose faults.reads then_faults.reads) → ((octets : List ℕ) → Reading (IsFrontOfStored region octets) history → IsTrueReply octets given)
-    → PieceClause around after others name uid region store history faults (record store { disk = disk }) then_history then_faults (stage.Unpinning region.from given)
-piece_last around after others name uid region store disk history then_history faults then_faults given why left runs idle none refused may rose true_is = λ run lane place said lists come shows safe stood.
-    let seen = seen_with_pins others (stage.Reading region) store history faults in
-    let new = seen_with_pins others (stage.Unpinning region.from given) (record store { disk = disk }) then_history then_faults in
+    → PieceClause around after name uid region store history faults (record store { disk = disk }) then_history then_faults (stage.Unpinning region.from given)
+piece_last around after name uid region store disk history then_history faults then_faults given why left runs idle none refused may rose true_is = λ run lane place said lists come shows safe stood.
+    let seen = seen_in store history faults in
+    let new = seen_in (record store { disk = disk }) then_history then_faults in
     let event = fetch_event ReadsPiece lane place (Some why) None (told_calls then_history) in
     stands_so around after run lane place said (request.Fetch name uid) lists seen new did.Quiet None event None (IsAtFetch (stage.Unpinning region.from given) new)
     (read_did around after run lane place said name uid lists seen then_history then_faults region (Some why) come shows idle none runs stood.0 left.0 may (λ e. rose (let k : why ≡ refusal.ReadFault = cc e in k)))
@@ -369,12 +401,12 @@ piece_last around after others name uid region store disk history then_history f
     ))
 
 -- the last piece of the message that is stored there
-piece_whole : {D : Type 0} → (around after : Around) (others : ℕ → ℕ) (name : List ℕ) (uid : Uid) (region : RegionValue) (store : StoreValue D) (disk : D) (history then_history : Option History) (faults then_faults : Faults) (given : Reply) → HasPieceLeft (stage.Reading region) → store.stopped ≡ false → IsIdle history then_history
+piece_whole : {D : Type 0} → (around after : Around) (name : List ℕ) (uid : Uid) (region : RegionValue) (store : StoreValue D) (disk : D) (history then_history : Option History) (faults then_faults : Faults) (given : Reply) → HasPieceLeft (stage.Reading region) → store.stopped ≡ false → IsIdle history then_history
     → NoChangeFault faults then_faults → refusal_in given ≡ None → pieces_left (left_after region.left) ≡ 0 → ((octets : List ℕ) → Reading (IsFrontOfStored region octets) history → IsTrueReply octets given)
-    → PieceClause around after others name uid region store history faults (record store { disk = disk }) then_history then_faults (stage.Unpinning region.from given)
-piece_whole around after others name uid region store disk history then_history faults then_faults given left runs idle none fetched last true_is = λ run lane place said lists come shows safe stood.
-    let seen = seen_with_pins others (stage.Reading region) store history faults in
-    let new = seen_with_pins others (stage.Unpinning region.from given) (record store { disk = disk }) then_history then_faults in
+    → PieceClause around after name uid region store history faults (record store { disk = disk }) then_history then_faults (stage.Unpinning region.from given)
+piece_whole around after name uid region store disk history then_history faults then_faults given left runs idle none fetched last true_is = λ run lane place said lists come shows safe stood.
+    let seen = seen_in store history faults in
+    let new = seen_in (record store { disk = disk }) then_history then_faults in
     let event = fetch_event ReadsPiece lane place None None (told_calls then_history) in
     stands_so around after run lane place said (request.Fetch name uid) lists seen new did.Quiet None event None (IsAtFetch (stage.Unpinning region.from given) new)
     (read_did around after run lane place said name uid lists seen then_history then_faults region None come shows idle none runs stood.0 left.0 tt (λ e. absurd (let k : None ≡ Some refusal.ReadFault = e in cc k)))
@@ -391,37 +423,37 @@ piece_whole around after others name uid region store disk history then_history 
       (stood.1.0, stood.1.1, true_is stood.1.0 (stood.1.2 runs)),
     ))
 
-piece_to : {D : Type 0} → (around after : Around) (others : ℕ → ℕ) (name : List ℕ) (uid : Uid) (region : RegionValue) (store new : StoreValue D) (history then_history : Option History) (faults then_faults : Faults) (a b : FetchStage) → new ≡ record store { disk = new.disk } → b ≡ a
-    → PieceClause around after others name uid region store history faults (record store { disk = new.disk }) then_history then_faults a → PieceClause around after others name uid region store history faults new then_history then_faults b
-piece_to {D = D} around after others name uid region store new history then_history faults then_faults a b same stages h =
-    subst (λ (n : FetchStage). PieceClause around after others name uid region store history faults new then_history then_faults n) (sym stages)
-    (subst (λ (s : StoreValue D). PieceClause around after others name uid region store history faults s then_history then_faults a) (sym same) h)
+piece_to : {D : Type 0} → (around after : Around) (name : List ℕ) (uid : Uid) (region : RegionValue) (store new : StoreValue D) (history then_history : Option History) (faults then_faults : Faults) (a b : FetchStage) → new ≡ record store { disk = new.disk } → b ≡ a
+    → PieceClause around after name uid region store history faults (record store { disk = new.disk }) then_history then_faults a → PieceClause around after name uid region store history faults new then_history then_faults b
+piece_to {D = D} around after name uid region store new history then_history faults then_faults a b same stages h =
+    subst (λ (n : FetchStage). PieceClause around after name uid region store history faults new then_history then_faults n) (sym stages)
+    (subst (λ (s : StoreValue D). PieceClause around after name uid region store history faults s then_history then_faults a) (sym same) h)
 
 -- An event that reads a piece, of a store that isn't stopped.
-pub read_steps : {D : Type 0} → (around after : Around) (others : ℕ → ℕ) (name : List ℕ) (uid : Uid) (region : RegionValue) (store new : StoreValue D) (history then_history : Option History) (faults then_faults : Faults) (next : FetchStage) → HasPieceLeft (stage.Reading region) → store.stopped ≡ false → new ≡ record store { disk = new.disk }
-    → IsIdle history then_history → NoChangeFault faults then_faults → IsPieceRead region next history faults then_faults → PieceClause around after others name uid region store history faults new then_history then_faults next
-read_steps around after others name uid region store new history then_history faults then_faults next left runs same idle none (inr (rose, e)) =
-    piece_to around after others name uid region store new history then_history faults then_faults (stage.Unpinning region.from (reply.Refused refusal.ReadFault)) next same e
-    (piece_last around after others name uid region store new.disk history then_history faults then_faults (reply.Refused refusal.ReadFault) refusal.ReadFault left runs idle none refl tt (λ k. rose) (λ octets f. inr refl))
-read_steps around after others name uid region store new history then_history faults then_faults next left runs same idle none (inl (piece, told, goes)) = by_size (cases_lt 0 (pieces_left (left_after region.left)))
+pub read_steps : {D : Type 0} → (around after : Around) (name : List ℕ) (uid : Uid) (region : RegionValue) (store new : StoreValue D) (history then_history : Option History) (faults then_faults : Faults) (next : FetchStage) → HasPieceLeft (stage.Reading region) → store.stopped ≡ false → new ≡ record store { disk = new.disk }
+    → IsIdle history then_history → NoChangeFault faults then_faults → IsPieceRead region next history faults then_faults → PieceClause around after name uid region store history faults new then_history then_faults next
+read_steps around after name uid region store new history then_history faults then_faults next left runs same idle none (inr (rose, e)) =
+    piece_to around after name uid region store new history then_history faults then_faults (stage.Unpinning region.from (reply.Refused refusal.ReadFault)) next same e
+    (piece_last around after name uid region store new.disk history then_history faults then_faults (reply.Refused refusal.ReadFault) refusal.ReadFault left runs idle none refl tt (λ k. rose) (λ octets f. inr refl))
+read_steps around after name uid region store new history then_history faults then_faults next left runs same idle none (inl (piece, told, goes)) = by_size (cases_lt 0 (pieces_left (left_after region.left)))
   where
     now : (octets : List ℕ) → Reading (IsFrontOfStored region octets) history → Reading (IsFrontOfStored (with_piece region piece) octets) then_history
     now octets f = front_on region octets piece history then_history idle told f
 
-    by_reply : (last : pieces_left (left_after region.left) ≡ 0) (given : Reply) → next ≡ stage.Unpinning region.from given → IsReplyFor region.from (region.octets ++ piece) given → PieceClause around after others name uid region store history faults new then_history then_faults next
+    by_reply : (last : pieces_left (left_after region.left) ≡ 0) (given : Reply) → next ≡ stage.Unpinning region.from given → IsReplyFor region.from (region.octets ++ piece) given → PieceClause around after name uid region store history faults new then_history then_faults next
     by_reply last given e (inl (octets, holds, is)) =
-        piece_to around after others name uid region store new history then_history faults then_faults (stage.Unpinning region.from given) next same e
-        (piece_whole around after others name uid region store new.disk history then_history faults then_faults given left runs idle none (ap refusal_in is) last
+        piece_to around after name uid region store new history then_history faults then_faults (stage.Unpinning region.from given) next same e
+        (piece_whole around after name uid region store new.disk history then_history faults then_faults given left runs idle none (ap refusal_in is) last
         (λ text f. true_on (with_piece region piece) text then_history given (now text f) last (inl (octets, holds, is))))
     by_reply last given e (inr (none_held, is)) =
-        piece_to around after others name uid region store new history then_history faults then_faults (stage.Unpinning region.from given) next same e
-        (piece_last around after others name uid region store new.disk history then_history faults then_faults given (refusal.Damaged region.from.file region.from.offset) left runs idle none (ap refusal_in is) tt (λ k. absurd (let f : refusal.Damaged region.from.file region.from.offset ≡ refusal.ReadFault = k in cc f))
+        piece_to around after name uid region store new history then_history faults then_faults (stage.Unpinning region.from given) next same e
+        (piece_last around after name uid region store new.disk history then_history faults then_faults given (refusal.Damaged region.from.file region.from.offset) left runs idle none (ap refusal_in is) tt (λ k. absurd (let f : refusal.Damaged region.from.file region.from.offset ≡ refusal.ReadFault = k in cc f))
         (λ text f. true_on (with_piece region piece) text then_history given (now text f) last (inr (none_held, is))))
 
-    by_size : (0 < pieces_left (left_after region.left)) ⊎ (pieces_left (left_after region.left) ≤ 0) → PieceClause around after others name uid region store history faults new then_history then_faults next
+    by_size : (0 < pieces_left (left_after region.left)) ⊎ (pieces_left (left_after region.left) ≤ 0) → PieceClause around after name uid region store history faults new then_history then_faults next
     by_size (inl more) =
-        piece_to around after others name uid region store new history then_history faults then_faults (stage.Reading (with_piece region piece)) next same (goes.more more)
-        (piece_more around after others name uid region store new.disk history then_history faults then_faults piece left runs idle none told)
+        piece_to around after name uid region store new history then_history faults then_faults (stage.Reading (with_piece region piece)) next same (goes.more more)
+        (piece_more around after name uid region store new.disk history then_history faults then_faults piece left runs idle none told)
     by_size (inr last) = let none_left : pieces_left (left_after region.left) ≡ 0 = omega (arith, last) in let r = goes.last none_left in by_reply none_left r.0 r.1 r.2
 
 -- ---- the last event
@@ -437,21 +469,28 @@ not_stopped : (octets : List ℕ) (given : Reply) → IsTrueReply octets given �
 not_stopped octets given (inl is) e = let k : reply.Fetched octets ≡ reply.Refused refusal.Stopped = sym is ∙ (let w : given ≡ reply.Refused refusal.Stopped = cc e in w) in cc k
 not_stopped octets given (inr is) e = let k : reply.Refused refusal.ReadFault ≡ reply.Refused refusal.Stopped = sym is ∙ (let w : given ≡ reply.Refused refusal.Stopped = cc e in w) in let w : refusal.ReadFault ≡ refusal.Stopped = cc k in cc w
 
-pub unpin_steps : {D : Type 0} → (around after : Around) (others : ℕ → ℕ) (name : List ℕ) (uid : Uid) (from : StoredAt) (given : Reply) (store : StoreValue D) (history : Option History) (faults : Faults) → store.stopped ≡ false → is_doomed_in from.file.0 store.files.files ≡ false
-    → StepsOnSafe (IsAtFetch (stage.Unpinning from given) (seen_with_pins others (stage.Unpinning from given) store history faults)) (IsAtFetch stage.First (seen_with_pins others stage.First store history faults)) around after (request.Fetch name uid)
-    (seen_with_pins others (stage.Unpinning from given) store history faults) (seen_with_pins others stage.First store history faults) did.Quiet (Some given)
-unpin_steps around after others name uid from given store history faults runs undoomed = λ run lane place said lists come shows safe stood.
-    let seen = seen_with_pins others (stage.Unpinning from given) store history faults in
+pub unpin_steps : {D : Type 0} → (around after : Around) (name : List ℕ) (uid : Uid) (from : StoredAt) (given : Reply) (store : StoreValue D) (history : Option History) (faults : Faults) → store.stopped ≡ false → is_doomed_in from.file.0 store.files.files ≡ false → AreIn store (claims_of_pinned from)
+    → FetchSteps around after name uid (stage.Unpinning from given) stage.First store (without_claims from store) history history faults faults did.Quiet (Some given)
+unpin_steps around after name uid from given store history faults runs undoomed claimed = λ run lane place said lists come shows safe stood.
+    let seen : Seen = seen_in store history faults in
+    let pins : ℕ → ℕ = pins_kept_in (without_claims from store) in
+    let new_is : seen_in (without_claims from store) history faults ≡ behind_reading seen history faults pins =
+    use_seen from (pins_in from.file.0 store.files.files - 1) (found_let_go from.instances store.instances.known) store history faults (λ id. rows_let_go from.instances id store.instances.known) in
     let event = fetch_event Unpins lane place None (Some given) (told_calls history) in
     let pin = holds_pin from given place run stood.0 in
     let own_still : All (λ e. All (λ p. p.file ≡ from.file.0) e.pins) (own_events place (and_then run event)) =
-    subst (All (λ e. All (λ p. p.file ≡ from.file.0) e.pins)) (sym (own_more place run event (eq-eqb place place refl))) (All-push (λ (e : RunEvent). All (λ (p : Pin). p.file ≡ from.file.0) e.pins) (own_events place run) event (own_files from given place run stood.0) (All-nil (λ (p : Pin). p.file ≡ from.file.0))) in (
-      (did_late around after run lane place said name uid lists seen history faults (λ file. others file + 0) Unpins None (Some given) (unpin_is_late name uid) come shows (idle-begins history) (record { reads = omega arith; changes = refl }) (next_unpins around name uid run place from given stood.0) tt tt
+    subst (All (λ e. All (λ p. p.file ≡ from.file.0) e.pins)) (sym (own_more place run event (eq-eqb place place refl))) (All-push (λ (e : RunEvent). All (λ (p : Pin). p.file ≡ from.file.0) e.pins) (own_events place run) event (own_files from given place run stood.0) (All-nil (λ (p : Pin). p.file ≡ from.file.0))) in
+    subst (λ (s : Seen). (d : DidEvent around after run lane place said (request.Fetch name uid) lists seen s did.Quiet (Some given)) × (Some given ≡ None → IsAtFetch stage.First s (and_then run d.makes.event) place (and_told said d.makes.answer))) (sym new_is) (
+      (did_late around after run lane place said name uid lists seen history faults pins Unpins None (Some given) (unpin_is_late name uid) come shows (idle-begins history) (record { reads = omega arith; changes = refl }) (next_unpins around name uid run place from given stood.0) tt tt
           (record { 0 = λ h. ends_here (leaves_doomed place (and_then run event)) (none_doomed place from.file.0 (and_then run event) own_still (doomed_still run event from.file.0 refl refl ∙ ((come.keeps runs).doomed from.file.0 ∙ undoomed))); 1 = λ e f. some_given given f })
           (last_with (own_events place run) event ∙ (none_or (last_refusal (own_events place run)) ∙ unpins_by from given (own_events place run) stood.0))
           (λ r e. subst (λ (x : Reply). IsReplyOf (request.Fetch name uid) said x) (let k : given ≡ r = cc e in k) (true_reply_of name uid stood.1.0 given said stood.1.1 stood.1.2))
           (record { 0 = λ e. absurd (not_stopped stood.1.0 given stood.1.2 e); 1 = λ e. absurd (fall store.stopped e runs) }) (λ e. absurd (fall store.stopped e runs)) (λ e. absurd (let k : None ≡ Some refusal.ReadFault = e in cc k))
-          (λ ran file. let a = pins_end run event file (one_pin from.file.0 file) refl pin.none (pin.one file) in let b = (come.keeps ran).pins file in omega (arith, a, b))).so,
+          (λ ran file.
+          let a = pins_end run event file (one_pin from.file.0 file) refl pin.none (pin.one file) in
+          let b = (come.keeps ran).pins file in
+          let c = pins_fewer from.file.0 file store.files.files (own_pinned from store claimed) in
+          omega (arith, a, b, c))).so,
       λ e. absurd (never_more _ e),
     )
   where

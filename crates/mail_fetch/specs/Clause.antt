@@ -1,15 +1,26 @@
--- The clause of a fetch's step.
+-- The clauses of a fetch's step.
 use Rattle.std.specs.Prelude.{◌≡◌, ℕ, false, List, Option, Some, None}
-use Rattle.disk_model.specs.Disk.{History}
+use Rattle.disk_model.specs.Disk.{History, Faults, IsIdle}
+use Rattle.disk_model.specs.FaultCounts.{NoFault}
+use Rattle.mdbox_base.specs.declared.ids.Uid.{Uid}
 use Rattle.mdbox_base.specs.declared.progress.Did.{Did}
+use Rattle.mdbox_base.specs.declared.progress.Progress.{Progress}
 use Rattle.mdbox_base.specs.declared.replies.Reply.{Reply}
 use Rattle.mdbox_base.specs.declared.requests.Request.{Request}
+use Rattle.mdbox_base.specs.declared.requests.Request.TheVariants as request
 use Rattle.model_lists.specs.Lists.{Lists}
 use Rattle.model_store.specs.Safe.{Safe}
 use Rattle.model_store.specs.Settled.{files_of}
 use Rattle.list_machine.specs.Run.{Run, and_then}
 use Rattle.journal.specs.Events.{Around}
+use Rattle.store_core.specs.Value.{StoreValue}
 use Rattle.task_steps.specs.Step.{Seen, ShowsSeen, HasComeTo, and_told, DidEvent}
+use Rattle.mail_fetch.specs.Claims.{IsReadyToFetch, used_by}
+use Rattle.mail_fetch.specs.Events.{FetchesNext, NoChangeFault}
+use Rattle.mail_fetch.specs.Failed.{HasFailedRead}
+use Rattle.mail_fetch.specs.Stages.{IsAtFetch}
+use Rattle.mail_fetch.specs.Task.{fetch_did, seen_in}
+use Rattle.mail_fetch.specs.declared.task.FetchStage.{FetchStage}
 
 -- the disk is modelled, and its files as they read are safe for the lists
 abbrev pub ReadsSafe : Lists → Option History → Type 0
@@ -22,3 +33,20 @@ abbrev pub StepsOnSafe : (Run → ℕ → List Reply → Type 0) → (Run → �
 StepsOnSafe Stood Stands around after request old new did ended =
     (run : Run) (lane place : ℕ) (said : List Reply) (lists : Lists) → HasComeTo run old → ShowsSeen old lists → (old.stopped ≡ false → ReadsSafe lists old.history) → Stood run place said
     → (d : DidEvent around after run lane place said request lists old new did ended) × (ended ≡ None → Stands (and_then run d.makes.event) place (and_told said d.makes.answer))
+
+-- It is so of a fetch that came from one stage to another, as a store is seen that has these pins.
+abbrev pub FetchSteps : {D : Type 0} → Around → Around → List ℕ → Uid → FetchStage → FetchStage → StoreValue D → StoreValue D → Option History → Option History → Faults → Faults → Did → Option Reply → Type 0
+FetchSteps around after name uid now next old new before later began faults did ended =
+    StepsOnSafe (IsAtFetch now (seen_in old before began)) (IsAtFetch next (seen_in new later faults)) around after (request.Fetch name uid) (seen_in old before began) (seen_in new later faults) did ended
+
+-- What an event says beside this. How it answers, over every disk, and what it did. The store is what the event made of it, but for
+-- its disk, of which nothing has changed, and no change was tried. No read failed, unless the task will reply so. Where the store
+-- isn't stopped, the task is ready for its next event.
+pub record FetchesAlone {D : Type 0} (name : List ℕ) (uid : ℕ) (now next : FetchStage) (did : Did) (answer : Progress) (old new : StoreValue D) (before later : Option History) (began faults : Faults) : Type 0 where
+  pub replies : FetchesNext name uid now next answer old before began faults
+  pub did_is : did ≡ fetch_did now answer
+  pub same : new ≡ record (used_by now next old) { disk = new.disk }
+  pub idle : IsIdle before later
+  pub fault : NoChangeFault began faults
+  pub unfailed : (HasFailedRead next → ⊥) → NoFault began faults
+  pub ready : new.stopped ≡ false → IsReadyToFetch next new

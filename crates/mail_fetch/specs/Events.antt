@@ -12,6 +12,7 @@ use Rattle.mdbox_base.specs.declared.replies.Reply.TheVariants as reply
 use Rattle.model_meaning.specs.BoxMeaning.{LogRow, BoxMeaning, row_at}
 use Rattle.model_meaning.specs.MapMeaning.{MapRecord, record_at}
 use Rattle.model_store.specs.Settled.{files_of}
+use Rattle.storage_files.specs.Files.{end_in}
 use Rattle.store_core.specs.Value.{StoreValue, list_named}
 use Rattle.mail_fetch.specs.Parts.{first_read, left_after, pieces_left}
 use Rattle.mail_fetch.specs.Region.{stored_at, RegionValue, unread, IsReplyFor}
@@ -37,11 +38,15 @@ pub record IsStoredBy {D : Type 0} (name : List ℕ) (uid : ℕ) (store : StoreV
 abbrev pub IsPinned : {D : Type 0} → List ℕ → ℕ → StoreValue D → RegionValue → Type 0
 IsPinned name uid store region = (row : LogRow) × (entry : MapRecord) × IsStoredBy name uid store row entry × (region ≡ unread (stored_at row entry))
 
--- The first event is refused, or it pins the message and the request goes on, or there is no memory for the octets.
+-- its storage file isn't there, so that it can't be pinned: the message is damaged
+abbrev pub IsAbsent : {D : Type 0} → List ℕ → ℕ → StoreValue D → Refusal → Type 0
+IsAbsent name uid store why = (row : LogRow) × (entry : MapRecord) × IsStoredBy name uid store row entry × (end_in entry.file store.files.files ≡ None) × (why ≡ refusal.Damaged (record { 0 = entry.file }) entry.offset)
+
+-- The first event is refused, or it pins the message and the request goes on, or there is no memory for the octets, or no file to pin.
 pub record IsBegun {D : Type 0} (name : List ℕ) (uid : ℕ) (store : StoreValue D) (next : FetchStage) (answer : Progress) : Type 0 where
   pub refused : (why : Refusal) → fetch_refusal name uid store ≡ Some why → (answer ≡ progress.Done (reply.Refused why)) × (next ≡ stage.First)
   pub begun : fetch_refusal name uid store ≡ None
-      → ((answer ≡ progress.More) × ((region : RegionValue) × IsPinned name uid store region × (next ≡ stage.Reading region))) ⊎ ((answer ≡ progress.Done (reply.Refused refusal.NoMemory)) × (next ≡ stage.First))
+      → ((answer ≡ progress.More) × ((region : RegionValue) × IsPinned name uid store region × (next ≡ stage.Reading region))) ⊎ ((why : Refusal) × ((why ≡ refusal.NoMemory) ⊎ IsAbsent name uid store why) × (answer ≡ progress.Done (reply.Refused why)) × (next ≡ stage.First))
 
 -- ---- the pieces
 

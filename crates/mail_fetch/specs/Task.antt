@@ -12,11 +12,11 @@ use Rattle.mdbox_base.specs.declared.script.Half.TheVariants as half
 use Rattle.model_meaning.specs.MapMeaning.{MapMeaning}
 use Rattle.list_machine.specs.Machine.{is_step}
 use Rattle.journal.specs.Events.{pieces_to_read}
-use Rattle.storage_files.specs.Files.{is_doomed_in}
+use Rattle.storage_files.specs.Files.{is_doomed_in, pins_in}
 use Rattle.store_core.specs.Value.{StoreValue}
 use Rattle.store_seen.specs.Seeing.{seen_of}
 use Rattle.task_steps.specs.Step.{Seen}
-use Rattle.mail_fetch.specs.Parts.{HasSomeOctets, KnowsSource, pieces_left}
+use Rattle.mail_fetch.specs.Parts.{HasSomeOctets, pieces_left}
 use Rattle.mail_fetch.specs.declared.task.FetchStage.{FetchStage}
 use Rattle.mail_fetch.specs.declared.task.FetchStage.TheVariants as stage
 
@@ -51,26 +51,19 @@ abbrev pub HasPieceLeft : FetchStage → Type 0
 HasPieceLeft (stage.Reading region) = (0 < pieces_left region.left) × All HasSomeOctets region.left
 HasPieceLeft other = Unit {0}
 
--- the store knows each instance that is left to read
-abbrev pub KnowsPinned : {D : Type 0} → FetchStage → StoreValue D → Type 0
-KnowsPinned (stage.Reading region) store = All (λ part. KnowsSource store.instances.known part.source) region.left
-KnowsPinned other store = Unit {0}
-
 -- No purge has doomed the file that the task unpins next. Else it would be this task's to remove the file, if no other pins it.
 abbrev pub UnpinsUndoomed : {D : Type 0} → FetchStage → StoreValue D → Type 0
 UnpinsUndoomed (stage.Unpinning from given) store = is_doomed_in from.file.0 store.files.files ≡ false
 UnpinsUndoomed other store = Unit {0}
 
--- how many pins of a file are the task's own
+-- how many pins of a file a task has that pins this one
 abbrev pub one_pin : ℕ → ℕ → ℕ
 one_pin pinned file = if pinned == file then 1 else 0
 
-abbrev pub pins_at : FetchStage → ℕ → ℕ
-pins_at stage.First file = 0
-pins_at (stage.Reading region) file = one_pin region.from.file.0 file
-pins_at (stage.Unpinning from given) file = one_pin from.file.0 file
+-- how many pins each storage file of a store has, and a store as an event of a fetch sees it, with these pins, what its disk tells and
+-- the faults that it has counted
+abbrev pub pins_kept_in : {D : Type 0} → StoreValue D → ℕ → ℕ
+pins_kept_in store file = pins_in file store.files.files
 
--- A store as an event of a fetch sees it, with what its disk tells and the faults that it has counted: so many pins of each
--- file are other tasks', and those of this stage are its own.
-abbrev pub seen_with_pins : {D : Type 0} → (ℕ → ℕ) → FetchStage → StoreValue D → Option History → Faults → Seen
-seen_with_pins others now store history faults = seen_of (λ file. others file + pins_at now file) store history faults
+abbrev pub seen_in : {D : Type 0} → StoreValue D → Option History → Faults → Seen
+seen_in store history faults = seen_of (pins_kept_in store) store history faults

@@ -2,13 +2,13 @@
 #![tactic(auto)]
 
 pub use laws::{
-    fetch_stages_are_kept, fetches_are_stable, fetches_get_ready, fetches_spare_others,
-    stored_messages_are_fetched,
+    fetch_stages_are_kept, fetches_are_stable, fetches_stay_beside, stored_messages_are_fetched,
 };
 pub use parts::{Part, Source, StoredAt};
 pub use region::Region;
 pub use task::{FetchStage, FetchTask};
 
+mod claim;
 mod first;
 mod laws;
 mod message;

@@ -102,6 +102,13 @@ impl Region {
     }
 
     /// Where the message is stored.
+    pub fn from(&self) -> &StoredAt
+        ensures { result.now ≡ self.now.from }
+    {
+        &self.from
+    }
+
+    /// The same, of a message that is read no further.
     pub fn into_from(self) -> StoredAt
         ensures { result ≡ self.from }
     {

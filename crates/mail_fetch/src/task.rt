@@ -1,25 +1,26 @@
 // The task of a fetch.
-ghost use Rattle.std.specs.Prelude.{◌≡◌, ◌<◌, false, ℕ, All};
+ghost use Rattle.std.specs.Prelude.{◌≡◌, ◌<◌, false, ℕ, All, Some};
 ghost use Rattle.disk_model.specs.Disk.{IsIdle};
 ghost use Rattle.disk_model.specs.FaultCounts.{NoFault};
 ghost use Rattle.journal.specs.Events.{Around};
 ghost use Rattle.mdbox_base.specs.declared.progress.Did.TheVariants as did;
 ghost use Rattle.mdbox_base.specs.declared.progress.Progress.TheVariants as progress;
 ghost use Rattle.mdbox_base.specs.declared.replies.Reply.{Reply};
-ghost use Rattle.mdbox_base.specs.declared.requests.Request.TheVariants as request;
-ghost use Rattle.task_claims.specs.Claims.{Claims, ClaimsNothing, MovesClaims};
+ghost use Rattle.storage_files.specs.Files.{end_in};
+ghost use Rattle.task_claims.specs.Claims.{ClaimsNothing, MovesClaims, no_claims};
 ghost use Rattle.task_claims.specs.Leaving.{LeavesOthers};
 ghost use Rattle.task_steps.specs.Step.{ended_by};
-ghost use Rattle.mail_fetch.specs.Claims.{fetch_claims};
-ghost use Rattle.mail_fetch.specs.Clause.{StepsOnSafe};
+ghost use Rattle.mail_fetch.specs.Claims.{HasFetchRoom, HasUseRoom, IsReadyToFetch, fetch_claims, used_by};
+ghost use Rattle.mail_fetch.specs.Clause.{FetchSteps, FetchesAlone};
 ghost use Rattle.mail_fetch.specs.Failed.{HasFailedRead};
-ghost use Rattle.mail_fetch.specs.Events.{FetchesNext, IsBegun, IsPieceRead, NoChangeFault};
+ghost use Rattle.mail_fetch.specs.Events.{IsBegun, IsPieceRead, NoChangeFault};
 ghost use Rattle.mail_fetch.specs.Parts.{KnowsSource};
-ghost use Rattle.mail_fetch.specs.Stages.{IsAtFetch};
-ghost use Rattle.mail_fetch.specs.Task.{HasPieceLeft, KnowsPinned, UnpinsUndoomed, events_left, fetch_did, seen_with_pins};
+ghost use Rattle.mail_fetch.specs.Region.{RegionValue};
+ghost use Rattle.mail_fetch.specs.Task.{HasPieceLeft, UnpinsUndoomed, events_left, fetch_did};
 ghost use Rattle.mail_fetch.specs.declared.task.FetchStage.TheVariants as stage;
 
-use crate::first::pin;
+use crate::claim::{claim, give_back};
+use crate::first::find_message;
 use crate::parts::StoredAt;
 use crate::region::Region;
 use disk_model::Disk;
@@ -78,37 +79,27 @@ impl FetchTask {
         self.did
     }
 
-    /// Does the next event: the first one finds the message and takes the memory for it, each one behind it reads a piece, and
-    /// the last one gives the reply. A task that has given its reply begins anew; one that was stopped stays where it was. Between
-    /// its events the store has to keep the instances that are left to read.
+    /// Does the next event: the first one finds the message, takes the memory for it, pins its storage file and holds its instances;
+    /// each one behind it reads a piece, and the last one gives back the pin and the holds, and the reply. A task that has given its
+    /// reply begins anew; one that was stopped stays where it was.
     pub fn step<D: Disk>(&mut self, store: &mut Store<D>) -> Progress
-        requires known { KnowsPinned self.old.stage store.old }
+        requires ready { store.old.stopped ≡ false → IsReadyToFetch self.old.stage store.old }
+        requires room { store.old.stopped ≡ false → HasFetchRoom self.old.stage store.old }
         // Of every run that has come to the store, and of lists for which its files are safe: which event it was, what it
-        // answered, and what a crash may leave. Other tasks have any pins. No purge has doomed the file that is unpinned.
-        ensures does { (around after : Around) (others : ℕ → ℕ) → UnpinsUndoomed self.old.stage store.old → StepsOnSafe (IsAtFetch self.old.stage (seen_with_pins others self.old.stage store.old (D.history store.old.disk) (D.faults store.old.disk))) (IsAtFetch self.new.stage (seen_with_pins others self.new.stage store.new (D.history store.new.disk) (D.faults store.new.disk))) around after (request.Fetch self.old.name self.old.uid) (seen_with_pins others self.old.stage store.old (D.history store.old.disk) (D.faults store.old.disk)) (seen_with_pins others self.new.stage store.new (D.history store.new.disk) (D.faults store.new.disk)) self.new.did (ended_by result) }
+        // answered, and what a crash may leave. No purge has doomed the file that is unpinned.
+        ensures does { (around after : Around) → UnpinsUndoomed self.old.stage store.old → FetchSteps around after self.old.name self.old.uid self.old.stage self.new.stage store.old store.new (D.history store.old.disk) (D.history store.new.disk) (D.faults store.old.disk) (D.faults store.new.disk) self.new.did (ended_by result) }
 
-        // What was read, and what is replied, over every disk.
-        ensures replies { FetchesNext self.old.name self.old.uid.0 self.old.stage self.new.stage result store.old (D.history store.old.disk) (D.faults store.old.disk) (D.faults store.new.disk) }
-
-        // It moves no task's claims: the store isn't told of its pin and its holds. It leaves to all others what is theirs. One that
-        // was replied claims nothing.
-        ensures claims { (mine : Claims) → MovesClaims mine mine store.old store.new }
-        ensures leaves { (mine : Claims) → LeavesOthers mine store.old store.new (D.history store.old.disk) (D.history store.new.disk) }
+        // It moves only its own claims, and leaves to other tasks what is theirs. One that was replied claims nothing.
+        ensures claims { store.new.stopped ≡ false → UnpinsUndoomed self.old.stage store.old → MovesClaims (fetch_claims self.old.stage) (fetch_claims self.new.stage) store.old store.new }
+        ensures leaves { store.new.stopped ≡ false → LeavesOthers (fetch_claims self.old.stage) store.old store.new (D.history store.old.disk) (D.history store.new.disk) }
         ensures ended { (given : Reply) → result ≡ progress.Done given → store.new.stopped ≡ false → ClaimsNothing (fetch_claims self.new.stage) }
-
-        // Nothing changes but the number of device calls.
-        ensures same { store.new ≡ record store.old { disk = store.new.disk } }
-        ensures idle { IsIdle (D.history store.old.disk) (D.history store.new.disk) }
-        ensures fault { NoChangeFault (D.faults store.old.disk) (D.faults store.new.disk) }
-        ensures unfailed { (HasFailedRead self.new.stage → ⊥) → NoFault (D.faults store.old.disk) (D.faults store.new.disk) }
-
-        // The store knows what is left to read.
-        ensures known { KnowsPinned self.new.stage store.new }
-        ensures did { self.new.did ≡ fetch_did self.old.stage result }
 
         // So it ends.
         ensures left { result ≡ progress.More → events_left store.old.map self.new.stage < events_left store.old.map self.old.stage }
         ensures request { (self.new.name ≡ self.old.name) × (self.new.uid ≡ self.old.uid) }
+
+        // Over every disk: what was read and is replied, and what became of the store.
+        ensures alone { FetchesAlone self.old.name self.old.uid.0 self.old.stage self.new.stage self.new.did result store.old store.new (D.history store.old.disk) (D.history store.new.disk) (D.faults store.old.disk) (D.faults store.new.disk) }
     {
         store.facts();
         if store.stopped() {
@@ -127,7 +118,8 @@ impl FetchTask {
                 self.did = Did::Quiet;
                 Progress::More
             }
-            FetchStage::Unpinning { from: _, reply } => {
+            FetchStage::Unpinning { from, reply } => {
+                give_back(store, &from);
                 self.did = Did::Quiet;
                 Progress::Done(reply)
             }
@@ -136,16 +128,24 @@ impl FetchTask {
 }
 
 /// The first event, of a store that isn't stopped: which event is next, and how the request goes on.
-fn begin<D: Disk>(store: &Store<D>, name: &Name, uid: Uid) -> (FetchStage, Progress)
-    requires { store.now.stopped ≡ false }
-    ensures begun { IsBegun name.now uid.0 store.now result.0 result.1 }
+fn begin<D: Disk>(store: &mut Store<D>, name: &Name, uid: Uid) -> (FetchStage, Progress)
+    requires running { store.old.stopped ≡ false }
+    requires room { HasUseRoom store.old }
+    ensures begun { IsBegun name.now uid.0 store.old result.0 result.1 }
+    ensures there { (region : RegionValue) → result.0 ≡ stage.Reading region → (end : ℕ) × (end_in region.from.file.0 store.old.files.files ≡ Some end) }
+    ensures same { store.new ≡ used_by stage.First result.0 store.old }
+    ensures claims { MovesClaims no_claims (fetch_claims result.0) store.old store.new }
+    ensures leaves { LeavesOthers no_claims store.old store.new (D.history store.old.disk) (D.history store.new.disk) }
+    ensures ready { IsReadyToFetch result.0 store.new }
     ensures left { HasPieceLeft result.0 }
-    ensures known { KnowsPinned result.0 store.now }
-    ensures fewer { result.1 ≡ progress.More → events_left store.now.map result.0 < events_left store.now.map stage.First }
+    ensures fewer { result.1 ≡ progress.More → events_left store.old.map result.0 < events_left store.old.map stage.First }
 {
     store.facts();
-    match pin(store, name, uid) {
-        Ok(region) => (FetchStage::Reading(region), Progress::More),
+    match find_message(store, name, uid) {
+        Ok(region) => {
+            claim(store, region.from());
+            (FetchStage::Reading(region), Progress::More)
+        }
         Err(why) => (FetchStage::First, Progress::Done(Reply::Refused(why))),
     }
 }
@@ -171,7 +171,7 @@ fn read_piece<D: Disk>(store: &mut Store<D>, region: Region) -> FetchStage
     requires known { All (λ part. KnowsSource store.old.instances.known part.source) region.left }
     ensures read { IsPieceRead region result (D.history store.old.disk) (D.faults store.old.disk) (D.faults store.new.disk) }
     ensures left { HasPieceLeft result }
-    ensures knows { KnowsPinned result store.new }
+    ensures ready { IsReadyToFetch (stage.Reading region) store.old → IsReadyToFetch result store.new }
     ensures fewer { events_left store.old.map result < events_left store.old.map (stage.Reading region) }
     ensures same { store.new ≡ record store.old { disk = store.new.disk } }
     ensures idle { IsIdle (D.history store.old.disk) (D.history store.new.disk) }

@@ -13,10 +13,11 @@ use Rattle.gate_log.specs.Log.{NamedButFor}
 use Rattle.mdbox_base.specs.Words.{IsNumber}
 use Rattle.mdbox_base.specs.declared.replies.Refusal.{Refusal}
 use Rattle.mdbox_base.specs.declared.replies.Refusal.TheVariants as refusal
+use Rattle.model_kept.specs.Kept.{MailIsKept}
 use Rattle.model_lists.specs.Lists.{Lists}
 use Rattle.model_meaning.specs.BoxMeaning.{BoxMeaning}
 use Rattle.model_meaning.specs.MapFits.{FitsMade}
-use Rattle.model_meaning.specs.MapMeaning.{MapBox}
+use Rattle.model_meaning.specs.MapMeaning.{MapBox, MapMeaning}
 use Rattle.model_store.specs.Listing.{meaning_named}
 use Rattle.model_store.specs.Settled.{IsSettledFor, Leaves}
 use Rattle.list_machine.specs.Machine.{refused_where}
@@ -44,6 +45,7 @@ pub record CreatedLog {D : Type 0} (history : D → Option History) (faults : D 
   pub others : NamedButFor (file.Box number 1) (history old.disk) (history new.disk)
   pub runs : new.stopped ≡ false
   pub same : new ≡ record old { disk = new.disk; made = new.made; stopped = new.stopped }
+  pub stays : (m : MapMeaning) → MailIsKept m (history old.disk) (history new.disk)
   pub grows : Grows (history old.disk) (history new.disk)
   pub reads : (faults new.disk).reads ≡ (faults old.disk).reads
   pub changes : (faults old.disk).changes ≤ (faults new.disk).changes
@@ -66,7 +68,7 @@ log_made history faults name number old drew new ran free next is_number unmade 
       };
       others = c.others;
       disk = record {
-        change = record { moments = λ lists s. c.moments lists s; grows = c.grows; reads = c.reads; changes = c.changes };
+        change = record { moments = λ lists s. c.moments lists s; stays = c.stays; grows = c.grows; reads = c.reads; changes = c.changes };
         settled = λ lists s. c.settled lists s;
         stored = c.stored;
         unfailed = c.unfailed;

@@ -21,11 +21,11 @@ use Rattle.store_core.specs.MadeLogs.{has_made_log, without_box}
 use Rattle.store_core.specs.Value.{StoreValue, indexes_of, references_to}
 use Rattle.store_core.specs.declared.store.OpenBox.{OpenBox}
 use Rattle.task_claims.specs.Claims.{ClaimsNothing, Due, Emptied, Held, Made, MovesClaims, Pinned, Placing, Removing, Taken, amount_in, one_if}
-use Rattle.task_claims.specs.Leaving.{LeavesOthers, SameButCounts, but_count}
+use Rattle.task_claims.specs.Leaving.{LeavesOthers, SameButCounts, SyncsMail, but_count}
 use Rattle.task_claims.proofs.CountedLemmas.{same_map}
 use Rattle.task_claims.proofs.RestLemmas.{rest_leaves}
 use Rattle.mail_ops.specs.Claims.{own_log_of, make_claims}
-use Rattle.mail_ops.specs.Making.{IsReadyToMake, KeepsAllButLogs, MakeAnswers, MakesLog, NamesMail}
+use Rattle.mail_ops.specs.Making.{IsReadyToMake, KeepsAllButLogs, MakeAnswers, MakesLog}
 use Rattle.mail_ops.specs.declared.event.NotDone.TheVariants as not_done
 use Rattle.mail_ops.specs.declared.making.MakeStage.{MakeStage}
 use Rattle.mail_ops.specs.declared.making.MakeStage.TheVariants as make_stage
@@ -164,7 +164,7 @@ make_moves now next old new c moves rest (Made number) = c.logs number
 same_due : (a b : ℕ) → a + 0 ≡ b + 0 → a ≡ b
 same_due a b e = omega (arith, e)
 
-pub make_leaves : {D : Type 0} → (now next : MakeStage) (old new : StoreValue D) (before after : Option History) → MakeChanges now next old new → Moves no_amounts no_amounts (amounts_in old) (amounts_in new) → KeepsAllButLogs old new → NamesMail before after → KeepsUids old new
+pub make_leaves : {D : Type 0} → (now next : MakeStage) (old new : StoreValue D) (before after : Option History) → MakeChanges now next old new → Moves no_amounts no_amounts (amounts_in old) (amounts_in new) → KeepsAllButLogs old new → SyncsMail before after → KeepsUids old new
     → LeavesOthers (make_claims now) old new before after
 make_leaves now next old new before after c moves rest mail keeps =
     rest_leaves (make_claims now) old new before after (ap (λ (v : StoreValue _). v.files) rest) (ap (λ (v : StoreValue _). v.instances) rest) mail c.same keeps

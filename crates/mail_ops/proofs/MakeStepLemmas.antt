@@ -16,6 +16,7 @@ use Rattle.mdbox_base.specs.declared.replies.Refusal.TheVariants as refusal
 use Rattle.mdbox_base.specs.declared.replies.Reply.{Reply}
 use Rattle.mdbox_base.specs.declared.replies.Reply.TheVariants as reply
 use Rattle.mdbox_base.specs.declared.script.Half.TheVariants as half
+use Rattle.model_kept.specs.Kept.{MailIsKept}
 use Rattle.model_lists.specs.Lists.{Lists}
 use Rattle.model_meaning.specs.MapMeaning.{MapRecord, MapMeaning, record_at}
 use Rattle.model_store.specs.Safe.{Safe}
@@ -31,14 +32,16 @@ use Rattle.store_core.proofs.NamingLemmas.{same_records}
 use Rattle.task_steps.specs.Step.{ended_by}
 use Rattle.task_steps.proofs.OneEventLemmas.{leaves_none}
 use Rattle.mail_ops.specs.Event.{refusal_told, told_as}
-use Rattle.mail_ops.specs.Making.{MakeValue, naming_refusal, making_refusal, IsReadyToMake, LeavesLogs, KeepsAllButLogs, NamesMail, make_left, make_lists, lists_by_make, with_drawn_box, NamesLog, RemovesLog, IsLogNotMade, IsStoppedSo, MakeAnswers, HasChangedDisk, FellChanging, same_lists, with_mailbox, MadeLogSo, FellIfStopped, CanBeNamed, MakesOn}
+use Rattle.mail_ops.specs.Making.{MakeValue, naming_refusal, making_refusal, IsReadyToMake, LeavesLogs, KeepsAllButLogs, make_left, make_lists, lists_by_make, with_drawn_box, NamesLog, RemovesLog, IsLogNotMade, IsStoppedSo, MakeAnswers, HasChangedDisk, FellChanging, same_lists, with_mailbox, MadeLogSo, FellIfStopped, CanBeNamed, MakesOn}
 use Rattle.mail_ops.specs.declared.event.NotDone.{NotDone}
 use Rattle.mail_ops.specs.declared.event.NotDone.TheVariants as not_done
 use Rattle.mail_ops.specs.declared.making.MakeStage.{MakeStage}
 use Rattle.mail_ops.specs.declared.making.MakeStage.TheVariants as stage
 use Rattle.mail_ops.proofs.EventLemmas.{fall}
+use Rattle.task_claims.specs.Leaving.{SyncsMail}
+use Rattle.mail_ops.specs.SparedMail.{SparesMail}
 use Rattle.store_seen.proofs.SeeingLemmas.{due_as_before}
-use Rattle.mail_ops.proofs.KeptMailLemmas.{same_mail, mail_unnamed, mail_named}
+use Rattle.mail_ops.proofs.KeptMailLemmas.{fell_spares, mail_named, spared_none, took_spares}
 use Rattle.mail_ops.proofs.KeptUidLemmas.{logs_keep, same_keeps}
 use Rattle.mail_ops.proofs.MakeCheckLemmas.{naming_steps, making_steps}
 use Rattle.mail_ops.proofs.MakeEventLemmas.{MakeClause, first_stopped, naming_stopped, making_refused, making_unremembered, making_fell, making_done, naming_refused, naming_unremembered, removing_fell, naming_overtaken}
@@ -59,7 +62,7 @@ pub record MakeKnown {D : Type 0} (name : List ℕ) (now next : MakeStage) (answ
   pub keeps : KeepsUids old new
   pub logs : LeavesLogs now next old new
   pub rest : KeepsAllButLogs old new
-  pub mail : new.stopped ≡ old.stopped → NamesMail before after
+  pub mail : SparesMail (new.stopped ≡ old.stopped) before after
   pub replies : MakeAnswers name now old new before after next answer
   pub left : answer ≡ progress.More → make_left next new < make_left now old
 
@@ -147,7 +150,7 @@ known_made name number old new before after began then b m = record {
   keeps = logs_keep old new (ap (λ (s : StoreValue _). s.map.boxes) m.log.same) (ap (λ (s : StoreValue _). indexes_of s.boxes) m.log.same);
   logs = logs_more number old new m.log;
   rest = rest_of m.log.same;
-  mail = λ same. mail_named number.0 before after m.others;
+  mail = record { stays = m.disk.change.stays; left = λ same. mail_named number.0 before after m.others };
   replies = (m.free, m.log, m.others);
   left = λ e. one_left (nat_lt new.map.highest.mailbox number.0) (ap (λ (s : StoreValue _). nat_lt s.map.highest.mailbox number.0) m.log.same ∙ high_number old.map.highest.mailbox old.drawn.mailbox number.0 b.store_is.drawn.mailbox m.log.next);
 }
@@ -174,7 +177,7 @@ known_refused name why store history faults b refuses = record {
   keeps = same_keeps store store refl;
   logs = logs_stay stage.First store store refl;
   rest = refl;
-  mail = λ same. mail_unnamed history history (same_mail history);
+  mail = spared_none _ history;
   replies = (not_done.Refused why, refl, (refl, refuses));
   left = λ e. absurd (done_more (reply.Refused why) e);
 }
@@ -195,7 +198,7 @@ known_unremembered name store history faults b free = record {
   keeps = logs_keep store (with_drawn_box (store.drawn.mailbox + 1) store) refl refl;
   logs = logs_stay stage.First store (with_drawn_box (store.drawn.mailbox + 1) store) refl;
   rest = refl;
-  mail = λ same. mail_unnamed history history (same_mail history);
+  mail = spared_none _ history;
   replies = (not_done.NoMemory, refl, (refl, free));
   left = λ e. absurd (done_more (reply.Refused refusal.NoMemory) e);
 }
@@ -216,7 +219,7 @@ known_fell name old new before after began then b n f = record {
   keeps = logs_keep old new (ap (λ (s : StoreValue _). s.map.boxes) n.0) (ap (λ (s : StoreValue _). indexes_of s.boxes) n.0);
   logs = logs_stay stage.First old new (ap (λ (s : StoreValue _). s.made) n.0);
   rest = rest_of n.0;
-  mail = λ same. absurd (fall new.stopped stops (same ∙ b.runs));
+  mail = fell_spares old new before after b.runs stops f.change.stays;
   replies = (not_done.Stopped, refl, n);
   left = λ e. absurd (done_more (reply.Refused refusal.Stopped) e);
 }
@@ -258,7 +261,7 @@ known_named name number old new before after began then b can n mail d = record 
   keeps = naming_keeps number name old new n;
   logs = logs_less number old new n.made;
   rest = rest_of n.same;
-  mail = λ same. mail_unnamed before after mail;
+  mail = took_spares _ before after d.change.stays mail;
   replies = (can.free, can.above, n, mail);
   left = λ e. absurd (done_more reply.Done e);
 }
@@ -273,7 +276,7 @@ pub record RemovedKnown {D : Type 0} (now : MakeStage) (old new : StoreValue D) 
   pub keeps : KeepsUids old new
   pub logs : LeavesLogs now stage.First old new
   pub rest : KeepsAllButLogs old new
-  pub mail : NamesMail before after
+  pub mail : SyncsMail before after
   pub runs : new.stopped ≡ old.stopped
 
 removed_known : {D : Type 0} → (number : BoxNo) (old new : StoreValue D) (before after : Option History) (began then : Faults) → RemovesLog number.0 old new before after → HasChangedDisk same_lists before after began then → RemovedKnown (stage.Naming number) old new before after
@@ -311,7 +314,7 @@ known_removed name number why how old new before after began then b r d running 
       keeps = k.keeps;
       logs = k.logs;
       rest = k.rest;
-      mail = λ same. k.mail;
+      mail = record { stays = d.change.stays; left = λ same. k.mail };
       replies = (r, cause);
       left = λ e. absurd (done_more (reply.Refused why) e);
     }
@@ -340,16 +343,16 @@ known_overtaken name number old new before after began then b free behind_it r d
       keeps = k.keeps;
       logs = k.logs;
       rest = k.rest;
-      mail = λ same. k.mail;
+      mail = record { stays = d.change.stays; left = λ same. k.mail };
       replies = (free, behind_it, r);
       left = λ e. two_left (nat_lt old.map.highest.mailbox number.0) (not_above old.map.highest.mailbox number.0 behind_it);
     }
 
 -- a change of the disk failed
 known_stopped : {D : Type 0} → (name : List ℕ) (number : BoxNo) (how : Did) (old new : StoreValue D) (before after : Option History) (began then : Faults) → MakeBegins name (stage.Naming number) old before → IsStoppedSo old new → ((lists : Lists) → IsSettledFor lists before → Leaves lists (make_lists name (stage.Naming number) lists) before after)
-    → ChangeFaultCounted (progress.Done (reply.Refused refusal.Stopped) ≡ progress.Done (reply.Refused refusal.Stopped)) began then → MakeClause name (stage.Naming number) (stage.Naming number) old new before after began then how (Some (reply.Refused refusal.Stopped))
+    → ((m : MapMeaning) → MailIsKept m before after) → ChangeFaultCounted (progress.Done (reply.Refused refusal.Stopped) ≡ progress.Done (reply.Refused refusal.Stopped)) began then → MakeClause name (stage.Naming number) (stage.Naming number) old new before after began then how (Some (reply.Refused refusal.Stopped))
     → MakeKnown name (stage.Naming number) (stage.Naming number) (progress.Done (reply.Refused refusal.Stopped)) how old new before after began then
-known_stopped name number how old new before after began then b same moments fault does = record {
+known_stopped name number how old new before after began then b same moments stays fault does = record {
   ready = ap (λ (s : StoreValue _). has_made_log number.0 s) same ∙ b.ready;
   does = does;
   moments = moments;
@@ -362,7 +365,7 @@ known_stopped name number how old new before after began then b same moments fau
   keeps = logs_keep old new (ap (λ (s : StoreValue _). s.map.boxes) same) (ap (λ (s : StoreValue _). indexes_of s.boxes) same);
   logs = logs_stay (stage.Naming number) old new (ap (λ (s : StoreValue _). s.made) same);
   rest = rest_of same;
-  mail = λ again. absurd (fall new.stopped stops (again ∙ b.runs));
+  mail = fell_spares old new before after b.runs stops stays;
   replies = (refl, refl, same);
   left = λ e. absurd (done_more (reply.Refused refusal.Stopped) e);
 }
@@ -419,11 +422,11 @@ known_by history faults name (stage.Naming number) (stage.Naming still) (progres
         → KnownBy history faults name (stage.Naming number) (stage.Naming number) (progress.Done (reply.Refused refusal.Stopped)) how old new
     by_cause (inl e) =
         subst (λ (h : Did). KnownBy history faults name (stage.Naming number) (stage.Naming number) (progress.Done (reply.Refused refusal.Stopped)) h old new) (sym e.0)
-        (known_stopped name number did.Failed old new before after (faults old.disk) (faults new.disk) b on.2 (λ lists s. leaves_make name (stage.Naming number) lists before after (e.1.change.moments lists s)) (fell_fault same_lists before after (faults old.disk) (faults new.disk) e.1)
+        (known_stopped name number did.Failed old new before after (faults old.disk) (faults new.disk) b on.2 (λ lists s. leaves_make name (stage.Naming number) lists before after (e.1.change.moments lists s)) e.1.change.stays (fell_fault same_lists before after (faults old.disk) (faults new.disk) e.1)
         (removing_fell name number (stage.Naming number) old new before after (faults old.disk) (faults new.disk) b.runs on.2 e.1))
     by_cause (inr e) =
         subst (λ (h : Did). KnownBy history faults name (stage.Naming number) (stage.Naming number) (progress.Done (reply.Refused refusal.Stopped)) h old new) (sym e.0)
-        (known_stopped name number (did.Broken half.Whole) old new before after (faults old.disk) (faults new.disk) b on.2 (λ lists s. e.2.change.moments lists s) (fell_fault (with_mailbox number.0 name) before after (faults old.disk) (faults new.disk) e.2)
+        (known_stopped name number (did.Broken half.Whole) old new before after (faults old.disk) (faults new.disk) b on.2 (λ lists s. e.2.change.moments lists s) e.2.change.stays (fell_fault (with_mailbox number.0 name) before after (faults old.disk) (faults new.disk) e.2)
         (naming_fell name number (stage.Naming number) old new before after (faults old.disk) (faults new.disk) b.store_is b.runs (named_so name number old before b e.1) on.2 e.2))
 known_by history faults name now next answer how old new b on = absurd on
 

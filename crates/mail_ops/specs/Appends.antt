@@ -8,10 +8,11 @@ use Rattle.mdbox_base.specs.declared.entries.MapEntry.TheVariants as map_entry
 use Rattle.mdbox_base.specs.declared.ids.MapUid.{MapUid}
 use Rattle.model_appends.specs.Amounts.{due_by, due_by_box}
 use Rattle.model_appends.specs.Appending.{lists_by, meanings_by}
+use Rattle.model_kept.specs.Kept.{MailIsKept}
 use Rattle.model_lists.specs.Lists.{Lists}
 use Rattle.model_meaning.specs.BoxMeaning.{BoxMeaning}
 use Rattle.model_meaning.specs.MapFits.{MapFits}
-use Rattle.model_meaning.specs.MapMeaning.{MapRecord, map_applied, record_at}
+use Rattle.model_meaning.specs.MapMeaning.{MapMeaning, MapRecord, map_applied, record_at}
 use Rattle.model_store.specs.Settled.{IsSettledFor, Leaves}
 use Rattle.store_core.specs.Append.{Brings}
 use Rattle.store_core.specs.Dues.{due_at, IsSpared, KeepsStored}
@@ -25,7 +26,7 @@ lowering_of uid = map_entry.D (uid ∷ [])
 -- ---- to the map log
 
 -- Of a settled disk each image at every moment is safe for its lists, whichever call fails. Mailboxes, storage files and the rest of the
--- store stay.
+-- store stay, and so do files and instances at each moment.
 pub record MapAppends {D : Type 0} (old new : StoreValue D) (before after : Option History) (began now : Faults) : Type 0 where
   pub moments : (lists : Lists) → IsSettledFor lists before → Leaves lists lists before after
   pub indexes : indexes_of new.boxes ≡ indexes_of old.boxes
@@ -33,6 +34,7 @@ pub record MapAppends {D : Type 0} (old new : StoreValue D) (before after : Opti
   pub drawn : new.drawn ≡ old.drawn
   pub files : new.files ≡ old.files
   pub rest : KeepsRest old new
+  pub stays : (m : MapMeaning) → MailIsKept m before after
   pub grows : Grows before after
   pub reads : now.reads ≡ began.reads
   pub changes : began.changes ≤ now.changes
@@ -70,13 +72,14 @@ MapAnswers entry (Err e) old new before after began now = MapFell old new before
 -- ---- to the log of a mailbox
 
 -- Of a settled disk each image at every moment is safe for its lists, or for those that the entry gives. The map, the storage
--- files and the rest of the store stay.
+-- files and the rest of the store stay, and so do files and instances at each moment.
 pub record BoxAppends {D : Type 0} (number : ℕ) (entry : BoxEntry) (old new : StoreValue D) (before after : Option History) (began now : Faults) : Type 0 where
   pub moments : (lists : Lists) (octets : List ℕ) → Brings old.map entry octets before → IsSettledFor lists before → Leaves lists (lists_by number octets entry lists) before after
   pub map : new.map ≡ old.map
   pub drawn : new.drawn ≡ old.drawn
   pub files : new.files ≡ old.files
   pub rest : KeepsRest old new
+  pub stays : (m : MapMeaning) → MailIsKept m before after
   pub grows : Grows before after
   pub reads : now.reads ≡ began.reads
   pub changes : began.changes ≤ now.changes

@@ -15,5 +15,6 @@ pub mod MoveStages
 pub mod Moving
 pub mod Owing
 pub mod Requests
+pub mod SparedMail
 pub mod Task
 pub mod Claims

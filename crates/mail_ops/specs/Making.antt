@@ -1,7 +1,7 @@
 -- Requests that make a mailbox: what they are refused for, where they stand, and what their events do.
 use Rattle.std.specs.Prelude.{◌≡◌, ◌⊎◌, ◌≤◌, ◌<◌, ◌+◌, ◌==◌, ◌||◌, ◌++◌, ◌∷◌, [], ℕ, nat_le, nat_lt, true, false, List, length, is_some, if◌then◌else◌, Option, Some, None}
 use Rattle.std.specs.Option.{option_or}
-use Rattle.disk_model.specs.Disk.{FileState, History, Faults, Between, Grows, IfTold, named, no_file}
+use Rattle.disk_model.specs.Disk.{History, Faults, Grows, IfTold, no_file}
 use Rattle.gate_log.specs.Log.{NamedButFor}
 use Rattle.disk_model.specs.declared.name.FileName.TheVariants as file
 use Rattle.mdbox_base.specs.Streams.{Rose}
@@ -17,9 +17,10 @@ use Rattle.mdbox_base.specs.declared.replies.Refusal.TheVariants as refusal
 use Rattle.mdbox_base.specs.declared.replies.Reply.{Reply}
 use Rattle.mdbox_base.specs.declared.replies.Reply.TheVariants as reply
 use Rattle.mdbox_base.specs.declared.script.Half.TheVariants as half
+use Rattle.model_kept.specs.Kept.{MailIsKept}
 use Rattle.model_lists.specs.Lists.{Lists, empty_mailbox}
 use Rattle.model_meaning.specs.BoxMeaning.{box_meaning}
-use Rattle.model_meaning.specs.MapMeaning.{map_applied}
+use Rattle.model_meaning.specs.MapMeaning.{MapMeaning, map_applied}
 use Rattle.model_store.specs.Settled.{IsSettledFor, Leaves}
 use Rattle.list_machine.specs.Machine.{refused_where}
 use Rattle.list_machine.specs.Run.{Run}
@@ -80,14 +81,6 @@ pub record LeavesLogs {D : Type 0} (mine mine_now : MakeStage) (old new : StoreV
 -- stopped: what is due, its storage files and its instances are as they were.
 abbrev pub KeepsAllButLogs : {D : Type 0} → StoreValue D → StoreValue D → Type 0
 KeepsAllButLogs old new = new ≡ record old { disk = new.disk; map_log = new.map_log; map = new.map; boxes = new.boxes; made = new.made; drawn = new.drawn; stopped = new.stopped }
-
--- a file is as it was, or its name was synced
-abbrev pub IsSameOrNamed : FileState → FileState → Type 0
-IsSameOrNamed old new = (new ≡ old) ⊎ (new ≡ named old)
-
--- each storage file and each instance is as it was, or its name was synced
-abbrev pub NamesMail : Option History → Option History → Type 0
-NamesMail = Between (λ a b. ((number : ℕ) → IsSameOrNamed (a (file.Mail number)) (b (file.Mail number))) × ((hash id : List ℕ) → IsSameOrNamed (a (file.Inst hash id)) (b (file.Inst hash id))))
 
 -- How many events are still to come at the most, as long as no other task makes a mailbox: a log whose number was overtaken is
 -- removed, and another made.
@@ -164,9 +157,10 @@ MakeAnswers name now old new before after next answer = ⊥
 -- ---- within the crate
 
 -- Of a settled disk each image at every moment of an event is safe for its lists, or for those that the event makes of them, whichever call
--- fails. No read of the disk fails.
+-- fails, and storage files and instances stay. No read of the disk fails.
 pub record ChangesDisk (left : Lists → Lists) (before after : Option History) (began now : Faults) : Type 0 where
   pub moments : (lists : Lists) → IsSettledFor lists before → Leaves lists (left lists) before after
+  pub stays : (m : MapMeaning) → MailIsKept m before after
   pub grows : Grows before after
   pub reads : now.reads ≡ began.reads
   pub changes : began.changes ≤ now.changes

@@ -10,11 +10,12 @@ ghost use Rattle.model_lists.specs.Lists.{Lists};
 ghost use Rattle.model_store.specs.Settled.{IsSettledFor, Leaves};
 ghost use Rattle.mail_ops.specs.Flagging.{flag_refusal};
 ghost use Rattle.mail_ops.specs.Requests.{lists_after, lists_by_reply};
+ghost use Rattle.mail_ops.specs.SparedMail.{SparesMail};
 ghost use Rattle.task_claims.specs.Claims.{no_claims};
 ghost use Rattle.task_claims.specs.Leaving.{LeavesOthers};
 ghost use Rattle.store_seen.specs.Seeing.{seen_of};
 ghost use Rattle.store_core.specs.Dues.{due_at, KeepsStored};
-ghost use Rattle.store_core.specs.Keeping.{KeepsMail, KeepsRest, KeepsUids};
+ghost use Rattle.store_core.specs.Keeping.{KeepsRest, KeepsUids};
 ghost use Rattle.task_steps.specs.Step.{HasNotBegun, Steps};
 
 use crate::laws::flags_are_shown;
@@ -33,7 +34,7 @@ pub fn flag<D: Disk>(store: &mut Store<D>, name: &Name, uid: Uid, flags: Flags) 
     ensures keeps { KeepsUids store.old store.new }
     ensures rest { KeepsRest store.old store.new }
     ensures leaves { store.new.stopped ≡ false → LeavesOthers no_claims store.old store.new (D.history store.old.disk) (D.history store.new.disk) }
-    ensures mail { store.new.stopped ≡ store.old.stopped → KeepsMail (D.history store.old.disk) (D.history store.new.disk) }
+    ensures mail { SparesMail (store.new.stopped ≡ store.old.stopped) (D.history store.old.disk) (D.history store.new.disk) }
     ensures moments { (lists : Lists) → IsSettledFor lists (D.history store.old.disk) → Leaves lists (lists_after (request.Flag name.now uid flags) lists) (D.history store.old.disk) (D.history store.new.disk) }
     ensures settled { store.new.stopped ≡ false → (lists : Lists) → IsSettledFor lists (D.history store.old.disk) → IsSettledFor (lists_by_reply (request.Flag name.now uid flags) result.0 lists) (D.history store.new.disk) }
     ensures stopped { (result.0 ≡ reply.Refused refusal.Stopped) ↔ (store.new.stopped ≡ true) }

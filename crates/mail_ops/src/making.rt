@@ -15,10 +15,11 @@ ghost use Rattle.store_core.specs.Dues.{Moves, Spares, no_amounts, amounts_in};
 ghost use Rattle.store_core.specs.Keeping.{KeepsUids};
 ghost use Rattle.store_core.specs.MadeLogs.{has_made_log};
 ghost use Rattle.task_steps.specs.Step.{Steps, ended_by};
-ghost use Rattle.mail_ops.specs.Making.{IsAtMake, naming_refusal, IsReadyToMake, LeavesLogs, KeepsAllButLogs, NamesMail, MakeAnswers, make_left, make_lists, lists_by_make, IsLogNotMade, MadeLogSo, FellIfStopped, MakesOn, RemovesOr};
+ghost use Rattle.mail_ops.specs.Making.{IsAtMake, naming_refusal, IsReadyToMake, LeavesLogs, KeepsAllButLogs, MakeAnswers, make_left, make_lists, lists_by_make, IsLogNotMade, MadeLogSo, FellIfStopped, MakesOn, RemovesOr};
 ghost use Rattle.task_claims.specs.Claims.{ClaimsNothing, MovesClaims};
 ghost use Rattle.task_claims.specs.Leaving.{LeavesOthers};
 ghost use Rattle.mail_ops.specs.Claims.{make_claims};
+ghost use Rattle.mail_ops.specs.SparedMail.{SparesMail};
 ghost use Rattle.store_seen.specs.Seeing.{seen_of};
 ghost use Rattle.mail_ops.specs.declared.making.MakeStage.TheVariants as stage;
 
@@ -104,13 +105,13 @@ impl MakeTask {
 
         // What is due of each record stays, and each record is kept, unless a failed change stops the store. No other message gets
         // the UID of one that another task copies or moves, the logs that other tasks have made stay, and so does the rest of the
-        // store; storage files and instances stay on the disk, where names may be synced.
+        // store; storage files and instances stay at each moment, and names may be synced.
         ensures moves { Moves no_amounts no_amounts (amounts_in store.old) (amounts_in store.new) }
         ensures spares { store.new.stopped ≡ store.old.stopped → Spares no_amounts store.old store.new (D.history store.old.disk) (D.history store.new.disk) }
         ensures keeps { KeepsUids store.old store.new }
         ensures logs { LeavesLogs self.old.stage self.new.stage store.old store.new }
         ensures rest { KeepsAllButLogs store.old store.new }
-        ensures mail { store.new.stopped ≡ store.old.stopped → NamesMail (D.history store.old.disk) (D.history store.new.disk) }
+        ensures mail { SparesMail (store.new.stopped ≡ store.old.stopped) (D.history store.old.disk) (D.history store.new.disk) }
         ensures replies { store.old.stopped ≡ false → MakeAnswers self.old.name self.old.stage store.old store.new (D.history store.old.disk) (D.history store.new.disk) self.new.stage result }
 
         // Unless it stops the store, it moves only its own claims, and leaves to other tasks what is theirs. One that was replied claims

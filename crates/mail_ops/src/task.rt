@@ -12,8 +12,9 @@ ghost use Rattle.model_store.specs.Settled.{IsSettledFor, Leaves};
 ghost use Rattle.task_steps.specs.Step.{HasNotBegun, Steps, ended_by};
 ghost use Rattle.mail_ops.specs.Requests.{IsOpsRequest, Replies, AppendsNothing, lists_after, lists_by_reply};
 ghost use Rattle.store_core.specs.Dues.{due_at, KeepsStored, Moves, Spares, amounts_in};
-ghost use Rattle.store_core.specs.Keeping.{KeepsMail, KeepsRest, KeepsUids};
+ghost use Rattle.store_core.specs.Keeping.{KeepsRest, KeepsUids};
 ghost use Rattle.mail_ops.specs.Task.{IsAt, amounts_of};
+ghost use Rattle.mail_ops.specs.SparedMail.{SparesMail};
 ghost use Rattle.task_claims.specs.Claims.{MovesClaims, no_claims};
 ghost use Rattle.task_claims.specs.Leaving.{LeavesOthers};
 ghost use Rattle.store_seen.specs.Seeing.{seen_of};
@@ -91,12 +92,12 @@ impl OpsTask {
 
         // What is due of each record grows or shrinks in the store by as much as in this task; and records of which something is due
         // for other tasks are kept, unless a failed change stops the store. No other message gets the UID of one that
-        // another task copies or moves, and the rest of the store stays; so do the files of its storage files and instances.
+        // another task copies or moves, and the rest of the store stays; so do storage files and instances, at each moment.
         ensures moves { Moves (amounts_of self.old) (amounts_of self.new) (amounts_in store.old) (amounts_in store.new) }
         ensures spares { store.new.stopped ≡ store.old.stopped → Spares (amounts_of self.old) store.old store.new (D.history store.old.disk) (D.history store.new.disk) }
         ensures keeps { KeepsUids store.old store.new }
         ensures rest { KeepsRest store.old store.new }
-        ensures mail { store.new.stopped ≡ store.old.stopped → KeepsMail (D.history store.old.disk) (D.history store.new.disk) }
+        ensures mail { SparesMail (store.new.stopped ≡ store.old.stopped) (D.history store.old.disk) (D.history store.new.disk) }
 
         // It claims nothing. Unless it stops the store, it moves no claims, and leaves to other tasks what is theirs.
         ensures claims { store.new.stopped ≡ false → MovesClaims no_claims no_claims store.old store.new }
@@ -124,7 +125,7 @@ fn only_event<D: Disk>(store: &mut Store<D>, request: &Request) -> (Reply, Did)
     ensures keeps { KeepsUids store.old store.new }
     ensures rest { KeepsRest store.old store.new }
     ensures leaves { store.new.stopped ≡ false → LeavesOthers no_claims store.old store.new (D.history store.old.disk) (D.history store.new.disk) }
-    ensures mail { store.new.stopped ≡ store.old.stopped → KeepsMail (D.history store.old.disk) (D.history store.new.disk) }
+    ensures mail { SparesMail (store.new.stopped ≡ store.old.stopped) (D.history store.old.disk) (D.history store.new.disk) }
     ensures moments { (lists : Lists) → IsSettledFor lists (D.history store.old.disk) → Leaves lists (lists_after request.now lists) (D.history store.old.disk) (D.history store.new.disk) }
     ensures settled { store.new.stopped ≡ false → (lists : Lists) → IsSettledFor lists (D.history store.old.disk) → IsSettledFor (lists_by_reply request.now result.0 lists) (D.history store.new.disk) }
     ensures stopped { (result.0 ≡ reply.Refused refusal.Stopped) ↔ (store.new.stopped ≡ true) }

@@ -13,6 +13,8 @@ use Rattle.mdbox_base.specs.declared.progress.Did.TheVariants as did
 use Rattle.mdbox_base.specs.declared.progress.Progress.TheVariants as progress
 use Rattle.mdbox_base.specs.declared.replies.Refusal.{Refusal}
 use Rattle.mdbox_base.specs.declared.replies.Refusal.TheVariants as refusal
+use Rattle.model_kept.specs.Kept.{MailIsKept}
+use Rattle.model_kept.proofs.KeptLemmas.{kept_begins}
 use Rattle.model_lists.specs.Lists.{Lists}
 use Rattle.model_store.specs.Settled.{IsSettledFor, Leaves}
 use Rattle.save_instances.specs.Attaching.{AreHeld, AreOfParts, AttachingValue, IsAttaching, attach_events_left, next_attachment, next_candidate, nothing_found, parts_left, with_compared, with_found}
@@ -124,6 +126,7 @@ pub record HasAttached {D : Type 0} (attaching more : AttachingValue) (old new :
   pub held : AreHeld more.found new.instances.known
   pub keeps : new.stopped ≡ false → KeepsInstances old new before after
   pub moments : (lists : Lists) → IsSettledFor lists before → Leaves lists lists before after
+  pub stays : MailIsKept old.map before after
   pub settled : new.stopped ≡ false → (lists : Lists) → IsSettledFor lists before → IsSettledFor lists after
   pub stored : new.stopped ≡ false → KeepsStored before after
   pub written : WritesAttachment (next_candidate attaching old.instances) (next_attachment attaching) old before after
@@ -140,9 +143,10 @@ attached_more name time size parts attaching more old new before after began end
       replies = tt;
       did_is = refl;
       moments = o.moments;
+      stays = o.stays;
       rests = o.settled;
       mail = λ ran. o.written;
-      ready = λ e octets r. (r.0, being_attached_on name time octets parts attaching more old new before after o.next o.found r.1);
+      ready = λ e octets r. (r.0, being_attached_on name time octets parts attaching more old new before after o.next o.found r.1, some);
       left = λ e. ((left.0, left.1, being_attached_on name time left.0 parts attaching more old new before after o.next o.found left.2), some, o.room);
       fewer = λ e. (let f = o.fewer in omega (arith, f));
       effects = (refl, o.next);
@@ -166,6 +170,7 @@ attached_last name time size parts named attaching more old new before after beg
       replies = tt;
       did_is = refl;
       moments = o.moments;
+      stays = o.stays;
       rests = o.settled;
       mail = λ ran. o.written;
       ready = λ e octets r. (r.0, attached_whole name time octets parts named more new after none names (being_attached_on name time octets parts attaching more old new before after o.next o.found r.1));
@@ -214,9 +219,10 @@ first_more name time size prepared parts attaching store history faults runs mes
   replies = tt;
   did_is = refl;
   moments = λ lists s. leaves_none history lists lists s;
+  stays = kept_begins _ history;
   rests = λ ran lists s. s;
   mail = λ ran. mail_itself history;
-  ready = λ e octets r. (r.0, begun_as name time octets prepared parts attaching store history is begins r.1);
+  ready = λ e octets r. (r.0, begun_as name time octets prepared parts attaching store history is begins r.1, some);
   left = λ e. ((message.0, message.1, begun_as name time message.0 prepared parts attaching store history is begins message.2), some, subst (λ (v : AttachingValue). HasHoldRoom (parts_left v) store) (sym is) (λ id. all_room (holders_in id store.instances.known) (length prepared.parts) (room id)));
   fewer = λ e. (let same = ap (λ (v : AttachingValue). attach_events_left v store.instances) is in omega (arith, same));
   effects = (refl, is, begins);
@@ -247,6 +253,7 @@ first_last name time size prepared parts named attaching store history faults ru
       replies = tt;
       did_is = refl;
       moments = λ lists s. leaves_none history lists lists s;
+      stays = kept_begins _ history;
       rests = λ ran lists s. s;
       mail = λ ran. mail_itself history;
       ready = λ e octets r. (r.0, attached_whole name time octets parts named attaching store history none names (begun_as name time octets prepared parts attaching store history is begins r.1));

@@ -28,6 +28,8 @@ use Rattle.store_core.specs.Keeping.{MovesHolds, holds_of}
 use Rattle.store_core.specs.StoreInstances.{AreInstancesThere, HasKnownInstances}
 use Rattle.store_core.specs.Value.{StoreValue}
 use Rattle.store_core.proofs.MailChangeLemmas.{named_reads}
+use Rattle.task_claims.specs.Leaving.{IsSameOrSynced}
+use Rattle.mail_save.proofs.MailFileLemmas.{mail_idle}
 use Rattle.mail_save.specs.Held.{HasHoldRoom}
 use Rattle.mail_save.specs.MailFiles.{AddsInstance, WritesAttachment}
 
@@ -128,8 +130,8 @@ Synced name a b = (other : FileName) → other ≢ name → b other ≡ named (a
 pub adds_instance : (row : InstRow) (octets : List ℕ) (before after : Option History) → IfTold before (λ now. reading (now (instance_file row)) ≡ None) → IfTold after (λ now. Keeps (now (instance_file row)) octets) → OnlyNamesSynced (instance_file row) before after → AddsInstance row octets before after
 adds_instance row octets before after fresh made others = record {
   fresh = fresh;
-  files = between-map (Synced (instance_file row)) (λ a b. (number : ℕ) → reading (b (Mail number)) ≡ reading (a (Mail number))) before after
-      (λ a b same number. ap reading (same (Mail number) (mail_apart number row.hash.0 row.id.0)) ∙ named_reads (a (Mail number))) others;
+  files = between-map (Synced (instance_file row)) (λ a b. (number : ℕ) → IsSameOrSynced (a (Mail number)) (b (Mail number))) before after
+      (λ a b same number. inr (same (Mail number) (mail_apart number row.hash.0 row.id.0))) others;
   others = between-map (Synced (instance_file row)) (λ a b. (hash id : List ℕ) → Inst hash id ≢ instance_file row → reading (b (Inst hash id)) ≡ reading (a (Inst hash id))) before after
       (λ a b same hash id apart. ap reading (same (Inst hash id) apart) ∙ named_reads (a (Inst hash id))) others;
   made = made;
@@ -150,3 +152,11 @@ writes_attachment value old before after runs has are some next none made others
     subst (λ (c : Option InstRow). WritesAttachment c (next_attachment value) old before after) (sym none)
     (subst (λ (o : Option Detached). WritesAttachment None o old before after) (sym part.1)
     (adds_instance (part_row part.0 (next_id old.instances)) part.0.octets before after (next_is_fresh part.0.hash old before runs has are few) (made part.0 part.1) (others part.0 part.1)))
+
+-- one that compares it
+pub compared_writes : {D : Type 0} → (candidate : Option InstRow) (next : Option Detached) (row : InstRow) (old : StoreValue D) (before after : Option History) → candidate ≡ Some row → IsIdle before after → WritesAttachment candidate next old before after
+compared_writes candidate next row old before after is idle = subst (λ (c : Option InstRow). WritesAttachment c next old before after) (sym is) (by_next next)
+  where
+    by_next : (o : Option Detached) → WritesAttachment (Some row) o old before after
+    by_next None = mail_idle before after idle
+    by_next (Some part) = mail_idle before after idle

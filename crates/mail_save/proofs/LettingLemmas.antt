@@ -8,6 +8,7 @@ use Rattle.mdbox_base.specs.declared.progress.Did.{Did}
 use Rattle.mdbox_base.specs.declared.progress.Progress.{Progress}
 use Rattle.mdbox_base.specs.declared.progress.Progress.TheVariants as progress
 use Rattle.sis_store.specs.Instances.{InstancesValue, holders_in}
+use Rattle.model_kept.specs.Kept.{MailIsKept}
 use Rattle.store_core.specs.Dues.{Moves, amounts_in}
 use Rattle.store_core.specs.Keeping.{KeepsInstances, MovesHolds}
 use Rattle.store_core.specs.Value.{StoreValue}
@@ -29,10 +30,10 @@ let_go_store found left = record left { instances = record left.instances { know
 
 others_same : {D : Type 0} → (now : SaveStage) (found : List InstRow) (old left : StoreValue D) → KeepsOthers now old left → KeepsOthers now old (let_go_store found left)
 others_same now found old left k = record {
-  files = λ number size own h. let n = k.files number size own h in record { some = n.some; taken = n.taken; end = n.end; ends = n.ends; fits = n.fits };
+  files = λ number size own h. let n = k.files number size own h in record { some = n.some; taken = n.taken; unbegun = n.unbegun; end = n.end; ends = n.ends; fits = n.fits };
   regions = λ at own h.
       let n = k.regions at own h in
-      record { some = n.some; taken = n.taken; end = n.end; ends = n.ends; inside = n.inside; small = n.small; free = n.free; guid_file = n.guid_file; guid_offset = n.guid_offset; guid_new = n.guid_new };
+      record { some = n.some; taken = n.taken; unbegun = n.unbegun; end = n.end; ends = n.ends; inside = n.inside; small = n.small; free = n.free; guid_file = n.guid_file; guid_offset = n.guid_offset; guid_new = n.guid_new };
 }
 
 pub others_let_go : {D : Type 0} → (now : SaveStage) (found : List InstRow) (old left new : StoreValue D) → LetsGo found left new → KeepsOthers now old left → KeepsOthers now old new
@@ -68,6 +69,7 @@ pub record SavesLetting {D : Type 0} (now next : SaveStage) (found : List InstRo
   pub replies : RepliesAt now name answer next old
   pub did_is : how ≡ saved_did now next answer
   pub moments : MomentsAt now name old before after
+  pub stays : MailIsKept old.map before after
   pub rests : left.stopped ≡ false → RestsAt now name answer old before after
   pub mail : left.stopped ≡ false → WritesMail now next name time old before after
   pub ready : answer ≡ progress.More → (octets : List ℕ) → IsReadyToSave now name time size octets old before → IsReadyToSave next name time size octets new after
@@ -92,6 +94,7 @@ saves_let_go told counted now next found name time size answer how old left new 
       replies = s.replies;
       did_is = s.did_is;
       moments = s.moments;
+      stays = s.stays;
       rests = λ ran. s.rests (sym stop ∙ ran);
       mail = λ ran. s.mail (sym stop ∙ ran);
       ready = s.ready;

@@ -1,6 +1,6 @@
 -- What the events of a delivery make of the storage files on the disk.
 use Rattle.std.proofs.Common.{◌≡◌, ◌≢◌, ℕ, List, Option, Some, None, inl, inr, refl, sym, ◌∙◌, ap, subst}
-use Rattle.disk_model.specs.Disk.{DiskState, History, IfTold, Between, Keeps, SameButFor, reading}
+use Rattle.disk_model.specs.Disk.{DiskState, FileState, History, IfTold, IsIdle, Between, Keeps, SameButFor, reading}
 use Rattle.disk_model.specs.declared.name.FileName.TheVariants.{Mail, Inst}
 use Rattle.disk_model.proofs.BetweenLemmas.{between-begins, between-map}
 use Rattle.mdbox_base.specs.declared.replies.Refusal.{Refusal}
@@ -10,26 +10,36 @@ use Rattle.storage_files.specs.OnDisk.{IsAddedTo, OthersAreNamed}
 use Rattle.store_core.proofs.MailChangeLemmas.{named_reads}
 use Rattle.store_core.specs.Keeping.{KeepsMail}
 use Rattle.store_core.specs.Value.{StoreValue}
+use Rattle.task_claims.specs.Leaving.{IsSameOrSynced}
 use Rattle.mail_save.specs.MailFiles.{HasAppended, TakesWithHeader, ReadsOtherMail, ReadsSameMail}
 use Rattle.mail_save.specs.SaveEffects.{StoresNone, TakesNone}
 use Rattle.mail_save.specs.declared.place.SavedAt.{SavedAt}
 
+-- a file whose name was synced at most reads as it did
+pub synced_reads : (a b : FileState) → IsSameOrSynced a b → reading b ≡ reading a
+synced_reads a b (inl same) = ap reading same
+synced_reads a b (inr synced) = ap reading synced ∙ named_reads a
+
 -- ---- nothing is written to them
 
 abbrev SameMail : DiskState → DiskState → Type 0
-SameMail a b = ((number : ℕ) → reading (b (Mail number)) ≡ reading (a (Mail number))) × ((hash id : List ℕ) → reading (b (Inst hash id)) ≡ reading (a (Inst hash id)))
+SameMail a b = ((number : ℕ) → IsSameOrSynced (a (Mail number)) (b (Mail number))) × ((hash id : List ℕ) → reading (b (Inst hash id)) ≡ reading (a (Inst hash id)))
 
 abbrev OtherMail : ℕ → DiskState → DiskState → Type 0
-OtherMail file a b = ((number : ℕ) → number ≢ file → reading (b (Mail number)) ≡ reading (a (Mail number))) × ((hash id : List ℕ) → reading (b (Inst hash id)) ≡ reading (a (Inst hash id)))
+OtherMail file a b = ((number : ℕ) → number ≢ file → IsSameOrSynced (a (Mail number)) (b (Mail number))) × ((hash id : List ℕ) → reading (b (Inst hash id)) ≡ reading (a (Inst hash id)))
 
 pub mail_itself : (h : Option History) → ReadsSameMail h h
-mail_itself h = between-begins SameMail h (λ disk. (λ number. refl, λ hash id. refl))
+mail_itself h = between-begins SameMail h (λ disk. (λ number. inl refl, λ hash id. refl))
 
 pub mail_unchanged : {D : Type 0} → (history : D → Option History) (old new : D) → new ≡ old → ReadsSameMail (history old) (history new)
 mail_unchanged history old new same = subst (λ d. ReadsSameMail (history old) (history d)) (sym same) (mail_itself (history old))
 
 pub mail_kept : (before after : Option History) → KeepsMail before after → ReadsSameMail before after
-mail_kept before after = between-map _ SameMail before after (λ a b k. (λ number. ap reading (k.0 number), λ hash id. ap reading (k.1 hash id)))
+mail_kept before after = between-map _ SameMail before after (λ a b k. (λ number. inl (k.0 number), λ hash id. ap reading (k.1 hash id)))
+
+-- calls that read
+pub mail_idle : (before after : Option History) → IsIdle before after → ReadsSameMail before after
+mail_idle before after idle = between-map (λ a b. b ≡ a) SameMail before after (λ a b e. (λ number. inl (ap (λ (d : DiskState). d (Mail number)) e), λ hash id. ap (λ (d : DiskState). reading (d (Inst hash id))) e)) idle.same
 
 -- ---- one is written
 
@@ -45,10 +55,10 @@ no_instance hash id file = λ e. cc e
 others_named : (file : ℕ) (before after : Option History) → OthersAreNamed (Mail file) before after → ReadsOtherMail file before after
 others_named file before after =
     between-map _ (OtherMail file) before after
-    (λ a b k. (λ number apart. ap reading (k (Mail number) (other_number number file apart)) ∙ named_reads (a (Mail number)), λ hash id. ap reading (k (Inst hash id) (no_instance hash id file)) ∙ named_reads (a (Inst hash id))))
+    (λ a b k. (λ number apart. inr (k (Mail number) (other_number number file apart)), λ hash id. ap reading (k (Inst hash id) (no_instance hash id file)) ∙ named_reads (a (Inst hash id))))
 
 others_same : (file : ℕ) (before after : Option History) → SameButFor (Mail file) before after → ReadsOtherMail file before after
-others_same file before after = between-map _ (OtherMail file) before after (λ a b k. (λ number apart. ap reading (k (Mail number) (other_number number file apart)), λ hash id. ap reading (k (Inst hash id) (no_instance hash id file))))
+others_same file before after = between-map _ (OtherMail file) before after (λ a b k. (λ number apart. inl (k (Mail number) (other_number number file apart)), λ hash id. ap reading (k (Inst hash id) (no_instance hash id file))))
 
 -- ---- a storage file is taken
 

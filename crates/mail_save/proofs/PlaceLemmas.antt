@@ -14,7 +14,7 @@ use Rattle.model_store.specs.Settled.{IsSettledFor, Leaves}
 use Rattle.store_core.proofs.BoxCrashLemmas.{leaves_none}
 use Rattle.model_meaning.specs.MapMeaning.{MapMeaning, is_own, number_at}
 use Rattle.saved_message.specs.Region.{guid_of_place}
-use Rattle.storage_files.specs.Files.{end_in, is_taken_in}
+use Rattle.storage_files.specs.Files.{end_in, is_taken_in, place_begun_in}
 use Rattle.store_core.specs.Files.{IsNewPlace}
 use Rattle.store_core.specs.Value.{StoreValue, indexes_of}
 use Rattle.mail_save.specs.Left.{HoldsFile, HoldsRegion}
@@ -67,14 +67,15 @@ some_end : (a b : ℕ) → Some a ≡ Some b → a ≡ b
 some_end a b e = cc e
 
 pub region_placed : {D : Type 0} (old new : StoreValue D) (at : SavedAt) (size : ℕ) → new.map ≡ old.map → length old.map.store ≡ 8 → at.file.0 < 2 ^ 32 → HoldsFile at.file.0 size old → at.size ≡ size
-    → is_taken_in at.file.0 new.files.files ≡ is_taken_in at.file.0 old.files.files → end_in at.file.0 old.files.files ≡ Some at.offset → end_in at.file.0 new.files.files ≡ Some (at.offset + at.size)
+    → is_taken_in at.file.0 new.files.files ≡ is_taken_in at.file.0 old.files.files → place_begun_in at.file.0 new.files.files ≡ place_begun_in at.file.0 old.files.files → end_in at.file.0 old.files.files ≡ Some at.offset → end_in at.file.0 new.files.files ≡ Some (at.offset + at.size)
     → IsFree old.map at.file.0 at.offset at.size → IsNewPlace old.map at.file.0 at.offset → at.guid.0 ≡ guid_of_place old.map.store at.file.0 at.offset → HoldsRegion at new
-region_placed old new at size map_is long file_small held same_size taken began ends free new_place guid =
+region_placed old new at size map_is long file_small held same_size taken begun began ends free new_place guid =
     let offset_is : held.end ≡ at.offset = some_end held.end at.offset (sym held.ends ∙ began) in
     let fits = held.fits in
     record {
       some = held.some;
       taken = taken ∙ held.taken;
+      unbegun = begun ∙ held.unbegun;
       end = at.offset + at.size;
       ends = ends;
       inside = omega arith;

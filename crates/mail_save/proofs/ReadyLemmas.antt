@@ -1,11 +1,11 @@
 -- What events of a delivery leave ready for the next one.
-use Rattle.std.proofs.Common.{◌≡◌, ◌==◌, ◌≢◌, ◌∷◌, ◌++◌, ℕ, Bool, false, List, [], map, Option, All, refl, sym, ◌∙◌, ap, subst, arith, take, drop, length, inl, inr}
+use Rattle.std.proofs.Common.{◌≡◌, ◌==◌, ◌≢◌, ◌<◌, ◌+◌, ◌∷◌, ◌++◌, ℕ, Bool, false, List, [], map, Option, All, refl, sym, ◌∙◌, ap, subst, arith, take, drop, length, inl, inr}
 use Rattle.std.specs.Prelude.{cond, count_by}
 use Rattle.std.specs.List.{AllByRecursion}
 use Rattle.std.specs.Str.{bytes_eq}
-use Rattle.std.proofs.lemmas.Bool.{cases_Bool}
+use Rattle.std.proofs.lemmas.Bool.{cases_Bool, cond-false, eq-eqb, ne_eqb}
 use Rattle.std.proofs.lemmas.List.{length-append}
-use Rattle.std.proofs.lemmas.List.Elements.{All-nil, All-cons, All-contains, All-head, All-tail}
+use Rattle.std.proofs.lemmas.List.Elements.{All-nil, All-cons, All-contains, All-head, All-tail, All-weaker}
 use Rattle.std.proofs.lemmas.List.Sums.{sum_by-cons}
 use Rattle.std.proofs.lemmas.Slice.Eq.{bytes_eq-Decides}
 use Rattle.std.proofs.Math.Seq.{drop-append_seam, take-length}
@@ -16,14 +16,13 @@ use Rattle.disk_model.proofs.MomentLemmas.{if_told-map, if_told-both}
 use Rattle.mdbox_base.specs.declared.entries.BoxEntry.{BoxEntry}
 use Rattle.mdbox_base.specs.declared.entries.InstRow.{InstRow}
 use Rattle.mdbox_base.specs.declared.ids.MapUid.{MapUid}
-use Rattle.model_appends.specs.Appending.{LeavesAsRead, message_made}
-use Rattle.model_lists.specs.Lists.{Lists}
+use Rattle.model_appends.specs.Appending.{message_made}
 use Rattle.model_meaning.specs.BoxMeaning.{LogRow, BoxMeaning, box_meaning, rows_after, row_made}
 use Rattle.model_meaning.specs.MapMeaning.{MapRecord, MapMeaning, map_meaning}
 use Rattle.model_octets.proofs.SearchLemmas.{found_one}
 use Rattle.model_store.specs.Listing.{refs_in}
 use Rattle.model_store.specs.Opening.{HasItsRecord}
-use Rattle.model_store.specs.Settled.{IsSettledFor, files_of}
+use Rattle.model_store.specs.Settled.{files_of}
 use Rattle.model_store.specs.Stands.{AreListed, StoresMessage}
 use Rattle.attach_detach.specs.declared.message.Detached.{Detached}
 use Rattle.attach_detach.specs.declared.message.Prepared.{Prepared}
@@ -31,18 +30,21 @@ use Rattle.mdbox_base.specs.declared.ids.InstId.{InstId}
 use Rattle.model_store.specs.Stands.{HasInstances}
 use Rattle.save_instances.proofs.FoundLemmas.{rows_there}
 use Rattle.save_instances.specs.Attaching.{AreOfParts}
-use Rattle.saved_message.proofs.StoredLemmas.{hashes_own, written_detached, written_stores}
+use Rattle.saved_message.proofs.StoredLemmas.{written_stores}
 use Rattle.saved_message.specs.Laid.{AreSixteen, IsLaid, LaidValue}
 use Rattle.saved_message.specs.Saved.{AreInstancesOf, CanBeWritten, HasWritten, ids_in}
 use Rattle.sis_store.specs.declared.instance.KnownInstance.{KnownInstance}
-use Rattle.store_core.specs.Dues.{KeepsStored}
+use Rattle.model_meaning.specs.Sound.{IsSoundRecord}
+use Rattle.store_core.specs.Dues.{KeepsStored, due_at, number_beside}
 use Rattle.store_core.specs.Files.{EndsWith}
-use Rattle.store_core.specs.MapAppend.{IsSyncedRegion, IsOwnSave}
 use Rattle.store_core.specs.Running.{IsStore}
 use Rattle.store_core.specs.Value.{StoreValue, indexes_of, references_to}
+use Rattle.task_claims.specs.Leaving.{IsSameOrSynced}
+use Rattle.mail_save.proofs.MailFileLemmas.{synced_reads}
+use Rattle.mail_save.proofs.SaveUnlistedLemmas.{is_sound}
 use Rattle.mail_save.specs.Added.{entry_added}
 use Rattle.mail_save.specs.MailFiles.{ReadsSameMail}
-use Rattle.mail_save.specs.Ready.{IsRecordReady, IsRegionReady}
+use Rattle.mail_save.specs.Ready.{IsLeftSoOrGone, IsPlacedReady, IsRecordReady}
 use Rattle.mail_save.specs.SaveEffects.{LetsGo, StoresPlaced, saved_row}
 use Rattle.mail_save.specs.declared.add.Added.{Added}
 use Rattle.mail_save.specs.declared.place.SavedAt.{SavedAt}
@@ -73,31 +75,10 @@ region_there at rows uid name time prepared laid now is long are e octets = reco
   octets = octets;
 }
 
--- a crash leaves it as it reads
-region_synced : (at : SavedAt) (rows : List InstRow) (uid : MapUid) (region : List ℕ) (now : DiskState) → length region ≡ at.size → EndsWith at.offset region (now (file.Mail at.file.0)) → LeavesAsRead (file.Mail at.file.0) now → IsSyncedRegion now (saved_row rows uid at)
-region_synced at rows uid region now long e leaves = λ image is. record {
-  first = e.before ++ region;
-  second = e.before ++ region;
-  in_first = e.reads;
-  in_second = leaves (image (file.Mail at.file.0)) (is (file.Mail at.file.0)) ∙ e.reads;
-  first_holds = let both = length-append e.before region in let front = e.long in omega (arith, both, front, long);
-  second_holds = let both = length-append e.before region in let front = e.long in omega (arith, both, front, long);
-  same = refl;
-}
-
 pub region_ready : (at : SavedAt) (rows : List InstRow) (name : List ℕ) (time : ℕ) (octets : List ℕ) (prepared : Prepared) (laid : LaidValue) (after : Option History) → CanBeWritten name time octets prepared → IsLaid name time prepared (ids_in rows) at.guid.0 laid → length laid.region ≡ at.size
     → AreInstancesOf prepared.parts rows → IfTold after (λ now. EndsWith at.offset laid.region (now (file.Mail at.file.0))) → IfTold after (λ now. HasInstances (files_of now) rows (map (λ d. d.octets) prepared.parts))
-    → ((lists : Lists) → IsSettledFor lists after → IfTold after (LeavesAsRead (file.Mail at.file.0))) → IsRegionReady at rows name time octets after
-region_ready at rows name time octets prepared laid after can is long are placed there held = record {
-  prepared = prepared;
-  form = can.form;
-  written = has;
-  stores = λ uid. if_told-map _ _ after (λ now h. (written_stores (files_of now) (saved_row rows uid at) name time octets prepared can h).0) (has uid);
-  ready = λ uid lists s.
-      if_told-both (λ now. HasWritten (files_of now) (saved_row rows uid at) name time prepared) (λ now. IsSyncedRegion now (saved_row rows uid at)) (λ now. IsSyncedRegion now (saved_row rows uid at) × (0 ≡ 0 → IsOwnSave (files_of now) (saved_row rows uid at))) after
-      (λ now h synced. (synced, λ own. (written_detached (files_of now) (saved_row rows uid at) name time octets prepared can h, hashes_own (files_of now) prepared.parts rows are can.form.hashes h.octets))) (has uid)
-      (if_told-both _ _ (λ now. IsSyncedRegion now (saved_row rows uid at)) after (λ now e leaves. region_synced at rows uid laid.region now long e leaves) placed (held lists s));
-}
+    → IfTold after (IsLeftSoOrGone (file.Mail at.file.0)) → IsPlacedReady at rows name time octets after
+region_ready at rows name time octets prepared laid after can is long are placed there left = record { prepared = prepared; can = can; written = has; left = left }
   where
     has : (uid : MapUid) → IfTold after (λ now. HasWritten (files_of now) (saved_row rows uid at) name time prepared)
     has uid = if_told-both _ _ (λ now. HasWritten (files_of now) (saved_row rows uid at) name time prepared) after (λ now e octets. region_there at rows uid name time prepared laid now is long are e octets) placed there
@@ -151,13 +132,31 @@ unlisted store guid history s new =
 
 -- ---- the record that was stored
 
+-- nothing is due where there is no record
+none_beside : (uid : ℕ) (rows : List MapRecord) (numbers : List ℕ) → All (λ row. row.uid ≢ uid) rows → number_beside uid rows numbers ≡ 0
+none_beside uid [] numbers none = refl
+none_beside uid (row ∷ rows) [] none = refl
+none_beside uid (row ∷ rows) (n ∷ numbers) none =
+    cond-false (row.uid == uid) n (number_beside uid rows numbers) (ne_eqb row.uid uid (All-head (λ (r : MapRecord). r.uid ≢ uid) row rows none)) ∙ none_beside uid rows numbers (All-tail (λ (r : MapRecord). r.uid ≢ uid) row rows none)
+
+-- so that one is due of a new one
+stored_alone : {D : Type 0} → (at : SavedAt) (rows : List InstRow) (time size : ℕ) (added : Added) (old new : StoreValue D) (before : Option History) → IsStore before old → StoresPlaced at rows time size added old new → due_at added.map_uid.0 new ≡ 1
+stored_alone at rows time size added old new before s made =
+    let uid : ℕ = added.map_uid.0 in
+    let fresh : old.map.highest.map < uid = made.fits.uid_new in
+    let apart : All (λ row. row.uid ≢ uid) old.map.records = All-weaker (IsSoundRecord old.map.highest.map) (λ row. row.uid ≢ uid) (λ row k e. let b = k.below in omega (arith, b, e, fresh)) old.map.records (is_sound before old s).records in
+    let none : due_at uid old ≡ 0 = none_beside uid old.map.records old.dues apart in
+    let one : ◌≡◌ {A = ℕ} (cond (uid == uid) 1 0) 1 = ap (λ (b : Bool). cond b 1 0) (eq-eqb uid uid refl) in
+    let due : due_at uid new ≡ due_at uid old + cond (uid == uid) 1 0 = made.due uid in
+    omega (arith, due, none, one)
+
 -- a region that reads as it did
 written_reads : (row : MapRecord) (name : List ℕ) (time : ℕ) (prepared : Prepared) (before after : Option History) → ReadsSameMail before after → IfTold before (λ now. HasWritten (files_of now) row name time prepared) → IfTold after (λ now. HasWritten (files_of now) row name time prepared)
 written_reads row name time prepared before after same there =
-    between-on (λ a b. ((number : ℕ) → reading (b (file.Mail number)) ≡ reading (a (file.Mail number))) × ((hash id : List ℕ) → reading (b (file.Inst hash id)) ≡ reading (a (file.Inst hash id)))) (λ now. HasWritten (files_of now) row name time prepared) (λ now. HasWritten (files_of now) row name time prepared) before after
+    between-on (λ a b. ((number : ℕ) → IsSameOrSynced (a (file.Mail number)) (b (file.Mail number))) × ((hash id : List ℕ) → reading (b (file.Inst hash id)) ≡ reading (a (file.Inst hash id)))) (λ now. HasWritten (files_of now) row name time prepared) (λ now. HasWritten (files_of now) row name time prepared) before after
     (λ a b kept h. record {
       there = h.there;
-      in_file = kept.0 row.file ∙ h.in_file;
+      in_file = synced_reads (a (file.Mail row.file)) (b (file.Mail row.file)) (kept.0 row.file) ∙ h.in_file;
       inside = h.inside;
       region = h.region;
       guid = h.guid;
@@ -167,12 +166,12 @@ written_reads row name time prepared before after same there =
     }) same there
 
 pub record_ready : {D : Type 0} → (at : SavedAt) (rows : List InstRow) (name : List ℕ) (time size : ℕ) (octets : List ℕ) (added : Added) (old new : StoreValue D) (before after : Option History) → IsStore before old → All (λ r. r.guid ≢ at.guid.0) old.map.records → StoresPlaced at rows time size added old new → size ≡ length octets
-    → IsRegionReady at rows name time octets before → KeepsStored before after → ReadsSameMail before after → IsRecordReady added name time octets new after
+    → IsPlacedReady at rows name time octets before → KeepsStored before after → ReadsSameMail before after → IsRecordReady added name time octets new after
 record_ready at rows name time size octets added old new before after s guid_new made long region keeps same = record {
   time_is = made.time_is;
   size_is = made.size_is ∙ long;
   prepared = region.prepared;
-  form = region.form;
+  form = region.can.form;
   row = saved_row rows added.map_uid at;
   there = made.there;
   guid_is = sym (ap (λ g. g.0) made.guid_is);
@@ -192,8 +191,9 @@ record_ready at rows name time size octets added old new before after s guid_new
           octets = kept (saved_row rows added.map_uid at) octets stores;
         },
         tt,
-      )) keeps (region.stores added.map_uid);
+      )) keeps (if_told-map _ _ before (λ now h. (written_stores (files_of now) (saved_row rows added.map_uid at) name time octets region.prepared region.can h).0) (region.written added.map_uid));
   unlisted = ap (λ (g : List ℕ). references_to new g) (ap (λ g. g.0) made.guid_is) ∙ (ap (λ v. refs_in (indexes_of v.boxes) at.guid.0) made.same ∙ unlisted old at.guid.0 before s guid_new);
+  alone = stored_alone at rows time size added old new before s made;
 }
 
 -- the instances are let go behind it
@@ -209,4 +209,5 @@ record_let_go rows added name time octets left new history same r = subst (λ (v
   written = r.written;
   brings = r.brings;
   unlisted = r.unlisted;
+  alone = r.alone;
 })

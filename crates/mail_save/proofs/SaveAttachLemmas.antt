@@ -1,5 +1,5 @@
 -- What the events did that find the instances of a message's attachments, by the clause of a step.
-use Rattle.std.proofs.Common.{◌≡◌, ◌≤◌, ◌<◌, ◌+◌, ◌&&◌, ◌||◌, ℕ, Bool, true, false, List, [], ◌∷◌, ◌⊎◌, length, Option, Some, None, refl, sym, ◌∙◌, ap, subst, arith, inl, inr}
+use Rattle.std.proofs.Common.{◌≡◌, ◌≤◌, ◌<◌, ◌+◌, ◌&&◌, ◌||◌, ℕ, Bool, true, false, List, [], ◌∷◌, length, Option, Some, None, refl, sym, ◌∙◌, ap, subst, arith, inl, inr}
 use Rattle.std.specs.Prelude.{IsSome, nat_le, slice_get, if◌then◌else◌}
 use Rattle.std.specs.List.{list_any}
 use Rattle.std.specs.Str.{bytes_eq}
@@ -20,7 +20,7 @@ use Rattle.mdbox_base.specs.declared.replies.Reply.TheVariants as reply
 use Rattle.mdbox_base.specs.declared.requests.Request.TheVariants as request
 use Rattle.mdbox_base.specs.declared.script.Half.TheVariants as half
 use Rattle.model_meaning.specs.MapMeaning.{MapMeaning, no_numbers}
-use Rattle.list_machine.specs.Run.{Compares, PlacesInstance, RunEvent, is_one_of}
+use Rattle.list_machine.specs.Run.{Compares, PlacesInstance, is_one_of}
 use Rattle.list_machine.specs.Machine.{is_step}
 use Rattle.journal.specs.Events.{Around}
 use Rattle.journal.specs.Found.{is_same_instance}
@@ -54,7 +54,7 @@ some_left None parts n e some = absurd (let k : false ≡ true = some in cc k)
 some_left (Some part) parts n e some = slice_get_within parts n part e
 
 pub is_left : (parts : SavedParts) (attaching : AttachingValue) (octets : List ℕ) → IsSome (next_attachment attaching) → HasItsParts (stage.Attaching parts attaching) octets → length attaching.found < count_detachable octets
-is_left parts attaching octets some many = let less = some_left (next_attachment attaching) attaching.parts (length attaching.found) refl some in omega (arith, less, many)
+is_left parts attaching octets some has = let less = some_left (next_attachment attaching) attaching.parts (length attaching.found) refl some in let many = has.0 in omega (arith, less, many)
 
 -- ---- it is compared with a candidate
 

@@ -1,7 +1,7 @@
 -- The clause of a step of a delivery: what it stands on, and that instances may be let go as the event ends.
 use Rattle.std.proofs.Common.{◌≡◌, ◌<◌, ◌^◌, ℕ, Bool, true, false, List, length, Option, sym, ◌∙◌, ap, subst}
 use Rattle.std.specs.Prelude.{◌↔◌}
-use Rattle.disk_model.specs.Disk.{History, Faults, Grows}
+use Rattle.disk_model.specs.Disk.{History, Faults, Grows, IfTold}
 use Rattle.mdbox_base.specs.Words.{IsOctets}
 use Rattle.mdbox_base.specs.declared.entries.InstRow.{InstRow}
 use Rattle.mdbox_base.specs.declared.progress.Did.{Did}
@@ -16,6 +16,7 @@ use Rattle.journal.specs.Events.{Around}
 use Rattle.save_instances.specs.Attaching.{found_let_go}
 use Rattle.sis_store.specs.Instances.{AreInstances}
 use Rattle.storage_files.specs.Files.{AreFilesInOrder}
+use Rattle.store_core.proofs.MailChangeLemmas.{Own}
 use Rattle.store_core.specs.Knows.{knows_instance}
 use Rattle.store_core.specs.Running.{IsStore}
 use Rattle.store_core.specs.StoreInstances.{AreInstancesKept}
@@ -46,6 +47,7 @@ pub record EventOf {D : Type 0} (now next : SaveStage) (name : List ℕ) (time s
   pub timed : time < 2 ^ 64
   pub id_long : length old.map.store ≡ 8
   pub id_octets : IsOctets old.map.store
+  pub own : IfTold before Own
   pub idle : new.disk ≡ old.disk → (after ≡ before) × (faulted ≡ began)
   pub replies : RepliesAt now name answer next old
   pub did_is : how ≡ saved_did now next answer
@@ -150,6 +152,7 @@ before_letting now next name time size octets answer how old left new before aft
   timed = e.timed;
   id_long = e.id_long;
   id_octets = e.id_octets;
+  own = e.own;
   idle = λ same. e.idle (ap (λ (v : StoreValue _). v.disk) gone ∙ same);
   replies = e.replies;
   did_is = e.did_is;

@@ -1,7 +1,7 @@
 -- What any step of a delivery did.
 use Rattle.std.proofs.Common.{◌≡◌, ◌<◌, ◌^◌, ℕ, true, false, List, length, Option, Some, None, refl, ap, subst}
 use Rattle.std.specs.Prelude.{is_none}
-use Rattle.disk_model.specs.Disk.{History, Faults}
+use Rattle.disk_model.specs.Disk.{History, Faults, IfTold}
 use Rattle.mdbox_base.specs.Words.{IsOctets}
 use Rattle.mdbox_base.specs.declared.entries.InstRow.{InstRow}
 use Rattle.mdbox_base.specs.declared.progress.Did.{Did}
@@ -23,6 +23,7 @@ use Rattle.task_steps.specs.Step.{ended_by}
 use Rattle.mail_save.specs.Ready.{IsReadyToSave}
 use Rattle.mail_save.specs.SaveEffects.{SaveEffects}
 use Rattle.mail_save.specs.SaveSeen.{HasItsParts, StepsWithRoom, around_saving, IsAtSave, room_at}
+use Rattle.store_core.proofs.MailChangeLemmas.{Own}
 use Rattle.mail_save.specs.SaveStages.{IsTakingFile}
 use Rattle.mail_save.specs.Task.{SaveValue, HasLeft, Saves, stopped_reply}
 use Rattle.mail_save.specs.declared.task.SaveStage.{SaveStage}
@@ -68,42 +69,42 @@ save_does pins now next name time size octets answer how old new before after be
 
 -- ---- of one that was
 
-save_stopped : {D : Type 0} → (pins : ℕ → ℕ) (now next : SaveStage) (name : List ℕ) (time : ℕ) (octets : List ℕ) (store : StoreValue D) (history : Option History) (faults : Faults) → IsStore history store → AreFilesInOrder store.files → HasLeft now name time store history → AreInstances store.instances → HasItsParts now octets → store.stopped ≡ true
+save_stopped : {D : Type 0} → (pins : ℕ → ℕ) (now next : SaveStage) (name : List ℕ) (time : ℕ) (octets : List ℕ) (store : StoreValue D) (history : Option History) (faults : Faults) → IsStore history store → AreFilesInOrder store.files → AreInstances store.instances → HasItsParts now octets → store.stopped ≡ true
     → DeliveryClause pins octets now next name time stopped_reply did.Quiet store store history history faults faults
-save_stopped pins (stage.First prepared) next name time octets store history faults is order left ids parts_are stopped = λ behind.
+save_stopped pins (stage.First prepared) next name time octets store history faults is order ids parts_are stopped = λ behind.
     let around = around_saving octets (stage.First prepared) store in
     stopped_save around behind name time octets First (IsAtSave (stage.First prepared)) (IsAtSave next) (seen_of pins store history faults) (sees_around pins octets (stage.First prepared) store history faults is order ids) (ends_first name time octets) (first_at around (request.Deliver name time octets)) stopped
-save_stopped pins (stage.Attaching parts attaching) next name time octets store history faults is order left ids parts_are stopped = λ behind. by_candidate behind (next_candidate attaching store.instances) refl
+save_stopped pins (stage.Attaching parts attaching) next name time octets store history faults is order ids parts_are stopped = λ behind. by_candidate behind (next_candidate attaching store.instances) refl
   where
     by_candidate : (behind : Around) (o : Option InstRow) → next_candidate attaching store.instances ≡ o
         → StepsWithRoom (IsTakingFile attaching.found) (IsAtSave next) (around_saving octets (stage.Attaching parts attaching) store) behind (request.Deliver name time octets) (seen_of pins store history faults) (seen_of pins store history faults) did.Quiet (ended_by stopped_reply)
     by_candidate behind (Some candidate) found =
         let around = around_saving octets (stage.Attaching parts attaching) store in
         stopped_save around behind name time octets Compares (IsTakingFile attaching.found) (IsAtSave next) (seen_of pins store history faults) (sees_around pins octets (stage.Attaching parts attaching) store history faults is order ids) (ends_comparing name time octets)
-        (comparing_at around name time octets attaching.found candidate (is_left parts attaching octets left.1 parts_are) found) stopped
+        (comparing_at around name time octets attaching.found candidate (is_left parts attaching octets parts_are.1 parts_are) found) stopped
     by_candidate behind None found =
         let around = around_saving octets (stage.Attaching parts attaching) store in
         stopped_save around behind name time octets PlacesInstance (IsTakingFile attaching.found) (IsAtSave next) (seen_of pins store history faults) (sees_around pins octets (stage.Attaching parts attaching) store history faults is order ids) (ends_placing_instance name time octets)
-        (placing_instance_at around name time octets attaching.found (is_left parts attaching octets left.1 parts_are) found) stopped
-save_stopped pins (stage.Taking parts) next name time octets store history faults is order left ids parts_are stopped = λ behind.
+        (placing_instance_at around name time octets attaching.found (is_left parts attaching octets parts_are.1 parts_are) found) stopped
+save_stopped pins (stage.Taking parts) next name time octets store history faults is order ids parts_are stopped = λ behind.
     let around = around_saving octets (stage.Taking parts) store in
     let sees = sees_around pins octets (stage.Taking parts) store history faults is order ids in
     stopped_save around behind name time octets (TakesFile (is_none (room_at (stage.Taking parts) store))) (IsAtSave (stage.Taking parts)) (IsAtSave next) (seen_of pins store history faults) sees (ends_taking name time octets (is_none (room_at (stage.Taking parts) store)))
     (taking_at around name time octets parts.rows parts_are) stopped
-save_stopped pins (stage.Placing parts file) next name time octets store history faults is order left ids parts_are stopped = λ behind.
+save_stopped pins (stage.Placing parts file) next name time octets store history faults is order ids parts_are stopped = λ behind.
     let around = around_saving octets (stage.Placing parts file) store in
     stopped_save around behind name time octets PlacesMessage (IsAtSave (stage.Placing parts file)) (IsAtSave next) (seen_of pins store history faults) (sees_around pins octets (stage.Placing parts file) store history faults is order ids) (ends_placing name time octets) (placing_at around name time octets parts.rows file.0) stopped
-save_stopped pins (stage.Storing at rows room) next name time octets store history faults is order left ids parts_are stopped = λ behind.
+save_stopped pins (stage.Storing at rows room) next name time octets store history faults is order ids parts_are stopped = λ behind.
     let around = around_saving octets (stage.Storing at rows room) store in
     stopped_save around behind name time octets StoresRecord (IsAtSave (stage.Storing at rows room)) (IsAtSave next) (seen_of pins store history faults) (sees_around pins octets (stage.Storing at rows room) store history faults is order ids) (ends_storing name time octets)
     (storing_at around name time octets rows at.file.0 at.guid.0) stopped
-save_stopped pins (stage.Adding added room) next name time octets store history faults is order left ids parts_are stopped = λ behind.
+save_stopped pins (stage.Adding added room) next name time octets store history faults is order ids parts_are stopped = λ behind.
     unsaved_stopped (around_saving octets (stage.Adding added room) store) behind name time octets added.guid.0 added.map_uid.0 (IsAtSave next) (seen_of pins store history faults) (sees_around pins octets (stage.Adding added room) store history faults is order ids) stopped
-save_stopped pins (stage.GivingBack uid why room) next name time octets store history faults is order left ids parts_are stopped = λ behind.
+save_stopped pins (stage.GivingBack uid why room) next name time octets store history faults is order ids parts_are stopped = λ behind.
     let around = around_saving octets (stage.GivingBack uid why room) store in
     stopped_save around behind name time octets GivesBack (IsAtSave (stage.GivingBack uid why room)) (IsAtSave next) (seen_of pins store history faults) (sees_around pins octets (stage.GivingBack uid why room) store history faults is order ids) (ends_giving name time octets)
     (lowering_at around name time octets uid.0 why) stopped
-save_stopped pins stage.Ended next name time octets store history faults is order left ids parts_are stopped = absurd left
+save_stopped pins stage.Ended next name time octets store history faults is order ids parts_are stopped = λ behind run lane place said lists come shows stood. absurd stood.0
 
 -- ---- of a task that is seen as this
 
@@ -118,6 +119,7 @@ pub record IsOpenStore {D : Type 0} (history : Option History) (store : StoreVal
   pub kept : AreInstancesKept store.instances store.drawn store.map
   pub id_long : length store.map.store ≡ 8
   pub id_octets : IsOctets store.map.store
+  pub own : IfTold history Own
 
 pub seen_does : {D : Type 0} → (pins : ℕ → ℕ) (history : D → Option History) (faults : D → Faults) (task seen : SaveValue) (now next : SaveStage) (octets : List ℕ) (answer : Progress) (how : Did) (old new : StoreValue D) → task ≡ seen → now ≡ task.stage → IsOpenStore (history old.disk) old → seen.time < 2 ^ 64 → old.stopped ≡ false
     → HasLeft seen.stage seen.name seen.time old (history old.disk) → HasItsParts seen.stage octets → IsReadyToSave seen.stage seen.name seen.time seen.size octets old (history old.disk)
@@ -138,6 +140,7 @@ seen_does pins history faults task seen now next octets answer how old new same 
       timed = small;
       id_long = known.id_long;
       id_octets = known.id_octets;
+      own = known.own;
       idle = λ e. (ap history e, ap faults e);
       replies = s.replies;
       did_is = s.did_is;
@@ -149,6 +152,6 @@ seen_does pins history faults task seen now next octets answer how old new same 
     }) s.effects s.left)
     left timed parts ready
 
-pub seen_stopped : {D : Type 0} → (pins : ℕ → ℕ) (history : D → Option History) (faults : D → Faults) (task seen : SaveValue) (octets : List ℕ) (store : StoreValue D) → task ≡ seen → IsOpenStore (history store.disk) store → HasLeft seen.stage seen.name seen.time store (history store.disk) → HasItsParts seen.stage octets → store.stopped ≡ true
+pub seen_stopped : {D : Type 0} → (pins : ℕ → ℕ) (history : D → Option History) (faults : D → Faults) (task seen : SaveValue) (octets : List ℕ) (store : StoreValue D) → task ≡ seen → IsOpenStore (history store.disk) store → HasItsParts seen.stage octets → store.stopped ≡ true
     → DoesBy pins history faults octets seen.stage task.stage seen.name seen.time stopped_reply did.Quiet store store
-seen_stopped pins history faults task seen octets store same known left parts stopped = save_stopped pins seen.stage task.stage seen.name seen.time octets store (history store.disk) (faults store.disk) known.is known.order left known.ids parts stopped
+seen_stopped pins history faults task seen octets store same known parts stopped = save_stopped pins seen.stage task.stage seen.name seen.time octets store (history store.disk) (faults store.disk) known.is known.order known.ids parts stopped

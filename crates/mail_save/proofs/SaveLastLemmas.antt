@@ -31,7 +31,7 @@ use Rattle.journal.specs.Events.{Around, MayMeet, adds_to, lowers}
 use Rattle.journal.specs.Found.{FindsPlace}
 use Rattle.journal.proofs.RunLemmas.{drawn_none}
 use Rattle.task_steps.specs.ExpungeStages.{one_due}
-use Rattle.task_steps.specs.Step.{Seen, ShowsSeen, HasComeTo}
+use Rattle.task_steps.specs.Step.{Seen, ShowsSeen}
 use Rattle.task_steps.proofs.SeenLemmas.{no_guids}
 use Rattle.task_steps.proofs.OneEventLemmas.{never_more, step_may}
 use Rattle.mail_save.specs.Events.{box_refusal}

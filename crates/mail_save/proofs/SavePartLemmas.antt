@@ -26,7 +26,7 @@ prepared_parts octets prepared form = sym (length-map prepared.parts piece_of) �
 
 pub ready_has_parts : {D : Type 0} → (now : SaveStage) (name : List ℕ) (time size : ℕ) (octets : List ℕ) (store : StoreValue D) (history : Option History) → IsReadyToSave now name time size octets store history → HasItsParts now octets
 ready_has_parts (stage.First prepared) name time size octets store history ready = tt
-ready_has_parts (stage.Attaching parts attaching) name time size octets store history ready = let r = ready.1 in ap length r.parts_are ∙ prepared_parts octets r.prepared r.form
+ready_has_parts (stage.Attaching parts attaching) name time size octets store history ready = let r = ready.1 in (ap length r.parts_are ∙ prepared_parts octets r.prepared r.form, ready.2)
 ready_has_parts (stage.Taking parts) name time size octets store history ready = let r = ready.1 in r.one_each ∙ prepared_parts octets r.prepared r.form
 ready_has_parts (stage.Placing parts file) name time size octets store history ready = tt
 ready_has_parts (stage.Storing at rows room) name time size octets store history ready = tt

@@ -63,6 +63,7 @@ use Rattle.mail_save.specs.declared.place.SavedAt.{SavedAt}
 use Rattle.mail_save.specs.declared.record.LowerRoom.{LowerRoom}
 use Rattle.mail_save.specs.declared.task.SaveStage.{SaveStage}
 use Rattle.mail_save.specs.declared.task.SaveStage.TheVariants as stage
+use Rattle.mail_save.proofs.PlacedLemmas.{placed_stores}
 use Rattle.mail_save.proofs.SaveClauseLemmas.{EventOf, DeliveryClause, with_did}
 use Rattle.mail_save.proofs.SaveDidLemmas.{or_none, step_calm, step_runs, HasRun, StaysSo}
 use Rattle.mail_save.proofs.SaveFrontLemmas.{SeesAround, KeepsMap, begins_save, made_itself, takes_known, takes_new, places_message, stores_message}
@@ -462,7 +463,7 @@ storing_more pins at rows room left added name time size octets how old new befo
     (λ behind. subst (λ (g : Guid). StepsWithRoom (IsStoringMessage rows at.file.0 at.guid.0) (IsAddingMessage g.0 added.map_uid.0) (around_saving octets (stage.Storing at rows room) old) behind (request.Deliver name time octets) (seen_of pins old before began) (seen_of pins new after faulted) did.Quiet None) (sym p.guid_is)
     (stores_message (around_saving octets (stage.Storing at rows room) old) behind name time octets rows at.file.0 at.guid.0 added.map_uid.0 at.size at.offset (seen_of pins old before began) (seen_of pins new after faulted) (sees_around pins octets (stage.Storing at rows room) old before began e.is e.order e.ids)
     p.uid_is p.few (sym e.left.0.guid_offset) p.fits
-    (has_run pins old new before after began faulted e.ran runs p.mailboxes (ap (λ (v : StoreValue _). indexes_of v.boxes) p.same) (λ lists t. s.moments lists (r.ready (record { 0 = old.drawn.map + 1 }) lists t) t) (λ lists t. s.rests runs lists (r.ready (record { 0 = old.drawn.map + 1 }) lists t) t) s.grows s.faults)
+    (has_run pins old new before after began faulted e.ran runs p.mailboxes (ap (λ (v : StoreValue _). indexes_of v.boxes) p.same) (λ lists t. s.moments lists (placed_stores at rows name time octets old before e.is e.ran e.own e.left.0 r (record { 0 = old.drawn.map + 1 }) lists t) t) (λ lists t. s.rests runs lists (placed_stores at rows name time octets old before e.is e.ran e.own e.left.0 r (record { 0 = old.drawn.map + 1 }) lists t) t) s.grows s.faults)
     p.map drawn (λ other. p.due other)
     (tells_store pins old new before after began faulted e.ran (ap (λ (m : MapMeaning). m.store) p.map) (omega (arith, number))
     (same_ends old new (tells_released old new at.file.0 e.left.0.end (omega (arith, number)) e.left.0.ends (ap (λ (v : StoreValue _). v.files.files) p.same)) p.ends)
@@ -480,8 +481,8 @@ storing_refused pins at rows room why name time size octets how old new before a
         let s = e in
         let r = e.ready.1 in
         let runs = not_stopped new.stopped (progress.Done (reply.Refused why) ≡ stopped_reply) s.stopped (refused_differs why other) in
-        has_run pins old new before after began faulted e.ran runs (ap (λ (v : StoreValue _). v.map.boxes) k.same) (ap (λ (v : StoreValue _). indexes_of v.boxes) k.same) (λ lists t. s.moments lists (r.ready (record { 0 = old.drawn.map + 1 }) lists t) t)
-        (λ lists t. s.rests runs lists (r.ready (record { 0 = old.drawn.map + 1 }) lists t) t) s.grows (untold_faults why began faulted other unread s.faults)
+        has_run pins old new before after began faulted e.ran runs (ap (λ (v : StoreValue _). v.map.boxes) k.same) (ap (λ (v : StoreValue _). indexes_of v.boxes) k.same) (λ lists t. s.moments lists (placed_stores at rows name time octets old before e.is e.ran e.own e.left.0 r (record { 0 = old.drawn.map + 1 }) lists t) t)
+        (λ lists t. s.rests runs lists (placed_stores at rows name time octets old before e.is e.ran e.own e.left.0 r (record { 0 = old.drawn.map + 1 }) lists t) t) s.grows (untold_faults why began faulted other unread s.faults)
 
     stays : (why ≡ refusal.Stopped → ⊥) → (why ≡ refusal.ReadFault → ⊥) → GivesFileBack at.file.0 old new → StaysSo no_numbers (seen_of pins old before began) (seen_of pins new after faulted)
     stays other unread k =
@@ -514,7 +515,7 @@ storing_refused pins at rows room why name time size octets how old new before a
         (subst (λ (w : Refusal). DeliveryClause pins octets (stage.Storing at rows room) stage.Ended name time (progress.Done (reply.Refused w)) did.Failed old new before after began faulted) (sym is)
         (λ behind. fallen_save (around_saving octets (stage.Storing at rows room) old) behind name time octets StoresRecord (IsAtSave (stage.Storing at rows room)) (IsAtSave stage.Ended) no_numbers (seen_of pins old before began) (seen_of pins new after faulted) sees (ends_storing name time octets)
         (storing_at (around_saving octets (stage.Storing at rows room) old) name time octets rows at.file.0 at.guid.0) (λ run event. inl refl) (stays_alone pins old new before after began faulted e.ran k s.grows fault.reads fault.changes) e.ran (s.stopped.0 stop) (fault.rose tt)
-        (λ lists t. s.moments lists (r.ready (record { 0 = old.drawn.map + 1 }) lists t) t)))
+        (λ lists t. s.moments lists (placed_stores at rows name time octets old before e.is e.ran e.own e.left.0 r (record { 0 = old.drawn.map + 1 }) lists t) t)))
 
     full_runs : why ≡ refusal.StoreFull 4294967294 → why ≡ refusal.Stopped → ⊥
     full_runs is k = step_runs why (ap is_step is) k

@@ -2,7 +2,7 @@
 use Rattle.std.proofs.Common.{◌≡◌, ◌≤◌, ◌<◌, ◌+◌, ◌-◌, ◌^◌, ◌==◌, ◌&&◌, ◌||◌, ℕ, Bool, true, false, not, List, [], ◌∷◌, ◌++◌, length, Option, Some, None, refl, sym, ◌∙◌, ap, subst, arith, inl, inr}
 use Rattle.std.specs.Prelude.{◌/◌, ◌%◌, nat_le, nat_lt, is_none, is_some, ◌≢◌, All, if◌then◌else◌, cond}
 use Rattle.std.specs.Int.{w32, to_be_bytes}
-use Rattle.std.specs.Option.{option_map, option_map_or, option_and_then}
+use Rattle.std.specs.Option.{option_map_or, option_and_then}
 use Rattle.std.proofs.lemmas.Bool.{cases_eq, eq-eqb, ne_eqb, cond-false}
 use Rattle.std.proofs.lemmas.Grind.{common_steps}
 use Rattle.std.proofs.lemmas.List.{length-append}
@@ -21,7 +21,7 @@ use Rattle.model_store.specs.Listing.{ShowLists}
 use Rattle.model_store.specs.Settled.{IsSettledFor, Leaves}
 use Rattle.list_machine.specs.Run.{drawn_also}
 use Rattle.storage_files.specs.Files.{AreFilesInOrder, changed_in, end_in, ending_at, file_begun, file_in, given_back, is_doomed_in, released_in, with_taken, without_file}
-use Rattle.storage_files.proofs.FileListLemmas.{KeepsNumber, file-before_begun, file-begun, file-here, file-other}
+use Rattle.storage_files.proofs.FileListLemmas.{KeepsNumber, file-before_begun, file-begun, file-other}
 use Rattle.storage_files.specs.declared.file.MailFile.{MailFile}
 use Rattle.saved_message.specs.Region.{guid_of_place}
 use Rattle.sis_store.specs.Instances.{AreInstances}
@@ -38,6 +38,7 @@ use Rattle.mail_save.specs.declared.task.SaveStage.{SaveStage}
 use Rattle.mail_save.specs.declared.task.SaveStage.TheVariants as stage
 use Rattle.mail_save.proofs.PlaceLemmas.{own_place, file_of_place, offset_of_place}
 use Rattle.mail_save.proofs.SaveDidLemmas.{fall, HasRun, KeepsTelling, StaysSo}
+use Rattle.mail_save.proofs.SaveFileLemmas.{value_changed}
 use Rattle.mail_save.proofs.SaveFrontLemmas.{SeesAround}
 use Rattle.mail_save.proofs.SaveRoomLemmas.{RoomIs, room_is, both_true, le_true, true_le}
 use Rattle.mail_save.proofs.SeenInstanceLemmas.{KnowsAlike, candidate_known, gone_on}
@@ -115,17 +116,6 @@ tells_by old new more barred used doomed = record {
 -- where files are as they were
 pub tells_same : {D : Type 0} → (old new : StoreValue D) → old.drawn.file ≤ new.drawn.file → new.files.files ≡ old.files.files → TellsFiles old new
 tells_same old new more same = tells_by old new more (λ n le e. ap (λ (fs : List MailFile). bars (file_in n fs)) same ∙ e) (λ n le e. ap (λ (fs : List MailFile). uses (file_in n fs)) same ∙ e) (λ n. ap (λ (fs : List MailFile). dooms (file_in n fs)) same)
-
--- a change of one file of which this stays
-value_changed : (value : Option MailFile → Bool) (n m : ℕ) (step : MailFile → MailFile) (files : List MailFile) → KeepsNumber step → ((f : MailFile) → file_in n files ≡ Some f → value (Some (step f)) ≡ value (Some f)) → value (file_in m (changed_in n step files)) ≡ value (file_in m files)
-value_changed value n m step files keeps stays = elim (cases_eq m n) [
-  | inl same ↦ subst (λ (k : ℕ). value (file_in k (changed_in n step files)) ≡ value (file_in k files)) (sym same) (ap value (file-here n step files keeps) ∙ by_file (file_in n files) refl)
-  | inr apart ↦ ap value (file-other n m step files keeps apart)
-]
-  where
-    by_file : (o : Option MailFile) → file_in n files ≡ o → value (option_map step o) ≡ value o
-    by_file None e = refl
-    by_file (Some f) e = stays f e
 
 pub tells_changed : {D : Type 0} → (old new : StoreValue D) (file : ℕ) (step : MailFile → MailFile) → old.drawn.file ≤ new.drawn.file → new.files.files ≡ changed_in file step old.files.files → KeepsNumber step → ((f : MailFile) → (step f).barred ≡ f.barred) → ((f : MailFile) → (step f).doomed ≡ f.doomed)
     → ((f : MailFile) → file_in file old.files.files ≡ Some f → is_none (step f).end ≡ is_none f.end) → TellsFiles old new

@@ -10,12 +10,13 @@ use Rattle.mdbox_base.specs.declared.replies.Refusal.TheVariants as refusal
 use Rattle.storage_files.specs.declared.file.MailFile.{MailFile}
 use Rattle.storage_files.specs.declared.file.Take.{Take}
 use Rattle.storage_files.specs.declared.file.Take.TheVariants.{Known, New, Full}
-use Rattle.storage_files.specs.Files.{AreFilesInOrder, IsTakeFor, IsGiven, MayBeTakenFor, after_take, changed_in, end_in, ending_at, file_begun, file_in, given_back, is_taken_in, released_in, with_taken, without_file}
+use Rattle.storage_files.specs.Files.{AreFilesInOrder, IsTakeFor, IsGiven, MayBeTakenFor, after_take, changed_in, end_in, ending_at, file_begun, file_in, given_back, is_taken_in, place_begun_in, released_in, with_taken, without_file}
 use Rattle.storage_files.proofs.FileListLemmas.{file-found, file-other, file-without, file-begun, file-before_begun, ends-kept, ends-other, ends-here, ends-begun}
 use Rattle.storage_files.proofs.KnownLemmas.{taken-there}
 use Rattle.store_core.proofs.KeptFileLemmas.{none_begun}
 use Rattle.store_core.specs.Running.{IsStore}
 use Rattle.store_core.specs.Value.{StoreValue}
+use Rattle.mail_save.proofs.SaveFileLemmas.{known_unbegun, new_unbegun}
 use Rattle.mail_save.specs.Left.{HoldsFile}
 use Rattle.mail_save.specs.SaveEffects.{FailsToMake, FindsNoNumber, TakesFileFor, TakesNone, roomy_files}
 
@@ -142,11 +143,26 @@ untaken_instances size why old new (inr (inr k)) = ap (λ v. v.instances) k.1.sa
 pub file_some : {D : Type 0} → (file : ℕ) (store : StoreValue D) (history : Option History) → IsStore history store → is_taken_in file store.files.files ≡ true → 1 ≤ file
 file_some file store history is taken = let there = taken-there store.files.files file taken in is.files.numbered file there.0 there.1
 
-pub holds_known : {D : Type 0} → (size : ℕ) (file : FileNo) (store : StoreValue D) (history : Option History) → IsStore history store → IsGiven size store.files.files (Known file) → HoldsFile file.0 size store
-holds_known size file store history is given = let fits = given.1.2 in record { some = file_some file.0 store history is given.0; taken = given.0; end = given.1.0; ends = given.1.1; fits = omega (arith, fits) }
+pub holds_known : {D : Type 0} → (size : ℕ) (file : FileNo) (store : StoreValue D) (history : Option History) → IsStore history store → IsGiven size store.files.files (Known file) → place_begun_in file.0 store.files.files ≡ None → HoldsFile file.0 size store
+holds_known size file store history is given unbegun = let fits = given.1.2 in record { some = file_some file.0 store history is given.0; taken = given.0; unbegun = unbegun; end = given.1.0; ends = given.1.1; fits = omega (arith, fits) }
 
-pub holds_new : {D : Type 0} → (size end : ℕ) (file : FileNo) (store : StoreValue D) (history : Option History) → IsStore history store → is_taken_in file.0 store.files.files ≡ true → end_in file.0 store.files.files ≡ Some end → end + size ≤ 4294967295 → HoldsFile file.0 size store
-holds_new size end file store history is taken ends fits = record { some = file_some file.0 store history is taken; taken = taken; end = end; ends = ends; fits = fits }
+pub holds_new : {D : Type 0} → (size end : ℕ) (file : FileNo) (store : StoreValue D) (history : Option History) → IsStore history store → is_taken_in file.0 store.files.files ≡ true → place_begun_in file.0 store.files.files ≡ None → end_in file.0 store.files.files ≡ Some end → end + size ≤ 4294967295
+    → HoldsFile file.0 size store
+holds_new size end file store history is taken unbegun ends fits = record { some = file_some file.0 store history is taken; taken = taken; unbegun = unbegun; end = end; ends = ends; fits = fits }
+
+-- behind the store that took it, nothing is being placed in the file
+unbegun_as : {D : Type 0} → (n : ℕ) (a b : StoreValue D) → a ≡ b → place_begun_in n b.files.files ≡ None → place_begun_in n a.files.files ≡ None
+unbegun_as n a b same none = ap (λ (v : StoreValue _). place_begun_in n v.files.files) same ∙ none
+
+pub took_known_unbegun : {D : Type 0} → (size : ℕ) (file : FileNo) (old reserved taken : StoreValue D) → AreFilesInOrder old.files → reserved ≡ roomier_store old → taken ≡ taker_store (Known file) reserved → IsTakeFor size reserved.files (Known file) → place_begun_in file.0 taken.files.files ≡ None
+took_known_unbegun size file old reserved taken order r t is =
+    unbegun_as file.0 taken (taker_store (Known file) (roomier_store old)) (t ∙ ap (taker_store (Known file)) r) (known_unbegun size file old order (subst (λ (v : StoreValue _). IsTakeFor size v.files (Known file)) r is))
+
+pub took_new_unbegun : {D : Type 0} → (size end : ℕ) (file : FileNo) (old reserved taken new : StoreValue D) → AreFilesInOrder old.files → reserved ≡ roomier_store old → taken ≡ taker_store (New file) reserved → new ≡ maker_store file.0 end new.disk taken
+    → IsTakeFor size reserved.files (New file) → place_begun_in file.0 new.files.files ≡ None
+took_new_unbegun size end file old reserved taken new order r t m is =
+    unbegun_as file.0 new (maker_store file.0 end new.disk (taker_store (New file) (roomier_store old))) (m ∙ ap (maker_store file.0 end new.disk) (t ∙ ap (taker_store (New file)) r))
+    (new_unbegun end file old.files.files (none_begun file old.files order (subst (λ (v : StoreValue _). IsTakeFor size v.files (New file)) r is).1))
 
 -- ---- given back
 

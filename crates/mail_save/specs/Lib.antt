@@ -1,4 +1,5 @@
 pub mod Added
+pub mod Claims
 pub mod Events
 pub mod Held
 pub mod Left

@@ -13,16 +13,17 @@ use Rattle.sis_store.specs.OnDisk.{instance_file}
 use Rattle.storage_files.specs.Files.{end_in}
 use Rattle.storage_files.specs.OnDisk.{IsAddedTo}
 use Rattle.store_core.specs.Value.{StoreValue}
+use Rattle.task_claims.specs.Leaving.{IsSameOrSynced}
 use Rattle.mail_save.specs.Parts.{AreLaidOut}
 use Rattle.mail_save.specs.declared.task.SaveStage.{SaveStage}
 use Rattle.mail_save.specs.declared.task.SaveStage.TheVariants as stage
 
--- all instances and all storage files read as they did, or all but this file
+-- All instances read as they did, and all storage files, or all but this one, are as they were, or their names were synced.
 abbrev pub ReadsSameMail : Option History → Option History → Type 0
-ReadsSameMail = Between (λ a b. ((number : ℕ) → reading (b (Mail number)) ≡ reading (a (Mail number))) × ((hash id : List ℕ) → reading (b (Inst hash id)) ≡ reading (a (Inst hash id))))
+ReadsSameMail = Between (λ a b. ((number : ℕ) → IsSameOrSynced (a (Mail number)) (b (Mail number))) × ((hash id : List ℕ) → reading (b (Inst hash id)) ≡ reading (a (Inst hash id))))
 
 abbrev pub ReadsOtherMail : ℕ → Option History → Option History → Type 0
-ReadsOtherMail file = Between (λ a b. ((number : ℕ) → number ≢ file → reading (b (Mail number)) ≡ reading (a (Mail number))) × ((hash id : List ℕ) → reading (b (Inst hash id)) ≡ reading (a (Inst hash id))))
+ReadsOtherMail file = Between (λ a b. ((number : ℕ) → number ≢ file → IsSameOrSynced (a (Mail number)) (b (Mail number))) × ((hash id : List ℕ) → reading (b (Inst hash id)) ≡ reading (a (Inst hash id))))
 
 -- A storage file was taken: it was there, or it has this header alone, which a crash leaves.
 pub record TakesWithHeader {D : Type 0} (header : List ℕ) (file : ℕ) (old : StoreValue D) (before after : Option History) : Type 0 where
@@ -35,11 +36,11 @@ pub record HasAppended (region : List ℕ) (file : ℕ) (before after : Option H
   pub others : ReadsOtherMail file before after
   pub added : Between (λ a b. IsAddedTo region (a (Mail file)) (b (Mail file))) before after
 
--- An instance with these octets was placed, which wasn't there and which a crash leaves. All storage files and all other instances
--- read as they did.
+-- An instance with these octets was placed, which wasn't there and which a crash leaves. All other instances read as they did, and all
+-- storage files are as they were, or their names were synced.
 pub record AddsInstance (row : InstRow) (octets : List ℕ) (before after : Option History) : Type 0 where
   pub fresh : IfTold before (λ now. reading (now (instance_file row)) ≡ None)
-  pub files : Between (λ a b. (number : ℕ) → reading (b (Mail number)) ≡ reading (a (Mail number))) before after
+  pub files : Between (λ a b. (number : ℕ) → IsSameOrSynced (a (Mail number)) (b (Mail number))) before after
   pub others : Between (λ a b. (hash id : List ℕ) → Inst hash id ≢ instance_file row → reading (b (Inst hash id)) ≡ reading (a (Inst hash id))) before after
   pub made : IfTold after (λ now. Keeps (now (instance_file row)) octets)
 

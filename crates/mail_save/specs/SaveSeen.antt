@@ -1,5 +1,5 @@
 -- What an event of a delivery finds, and where its task stands.
-use Rattle.std.specs.Prelude.{◌≡◌, ◌+◌, ◌&&◌, ◌||◌, nat_le, ℕ, Bool, true, false, not, List, [], ◌∷◌, length, filter, if◌then◌else◌, Option, Some, None}
+use Rattle.std.specs.Prelude.{◌≡◌, ◌+◌, ◌&&◌, ◌||◌, nat_le, ℕ, Bool, false, not, List, [], ◌∷◌, length, filter, if◌then◌else◌, Option, Some, None, IsSome}
 use Rattle.std.specs.Option.{option_map_or, option_or}
 use Rattle.mdbox_base.specs.declared.entries.InstRow.{InstRow}
 use Rattle.mdbox_base.specs.declared.progress.Did.{Did}
@@ -8,7 +8,7 @@ use Rattle.mdbox_base.specs.declared.requests.Request.{Request}
 use Rattle.model_mime.specs.Parts.{parts_in}
 use Rattle.list_machine.specs.Run.{Run}
 use Rattle.journal.specs.Events.{Around}
-use Rattle.save_instances.specs.Attaching.{next_candidate}
+use Rattle.save_instances.specs.Attaching.{next_attachment, next_candidate}
 use Rattle.storage_files.specs.declared.file.MailFile.{MailFile}
 use Rattle.store_core.specs.Value.{StoreValue}
 use Rattle.task_steps.specs.Step.{Seen, FindsRoom, HasNotBegun, Steps}
@@ -41,9 +41,9 @@ room_at other store = None
 abbrev pub count_detachable : List ℕ → ℕ
 count_detachable octets = length (filter (λ part. part.detachable) (parts_in octets))
 
--- A task at this stage has so many attachments, or has found so many instances.
+-- A task at this stage has so many attachments, of which one has no instance yet, or has found so many instances.
 abbrev pub HasItsParts : SaveStage → List ℕ → Type 0
-HasItsParts (stage.Attaching parts attaching) octets = length attaching.parts ≡ count_detachable octets
+HasItsParts (stage.Attaching parts attaching) octets = (length attaching.parts ≡ count_detachable octets) × IsSome (next_attachment attaching)
 HasItsParts (stage.Taking parts) octets = length parts.rows ≡ count_detachable octets
 HasItsParts other octets = Unit {0}
 

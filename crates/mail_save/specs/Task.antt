@@ -16,6 +16,7 @@ use Rattle.mdbox_base.specs.declared.replies.Refusal.{Refusal}
 use Rattle.mdbox_base.specs.declared.replies.Refusal.TheVariants as refusal
 use Rattle.mdbox_base.specs.declared.replies.Reply.TheVariants as reply
 use Rattle.model_appends.specs.Appending.{lists_by}
+use Rattle.model_kept.specs.Kept.{MailIsKept}
 use Rattle.model_lists.specs.Lists.{Lists}
 use Rattle.model_meaning.specs.MapFits.{HasRecord}
 use Rattle.model_store.specs.Settled.{IsSettledFor, Leaves}
@@ -70,6 +71,23 @@ HasLeft (stage.Adding added room) name time store history =
     HasRecord store.map added.map_uid.0 (λ row. row.guid ≡ added.guid.0) × (1 ≤ due_at added.map_uid.0 store) × (added.size ≤ 67108864)
 HasLeft (stage.GivingBack uid why room) name time store history = (1 ≤ due_at uid.0 store) × (why ≢ refusal.Stopped) × (why ≢ refusal.ReadFault)
 HasLeft stage.Ended name time store history = ⊥
+
+-- how many instances it may come to hold more
+abbrev pub holds_to_come : SaveStage → ℕ
+holds_to_come (stage.First prepared) = length prepared.parts
+holds_to_come (stage.Attaching parts attaching) = parts_left attaching
+holds_to_come now = 0
+
+-- What the task and its store have before an event, but for room to hold instances, which other deliveries take up too.
+abbrev pub HasKept : {D : Type 0} → SaveStage → List ℕ → ℕ → StoreValue D → Option History → Type 0
+HasKept (stage.First prepared) name time store history = (octets : List ℕ) × (length octets ≤ 67108864) × IsPrepared octets prepared
+HasKept (stage.Attaching parts attaching) name time store history = IsAttachedSoFar name time parts attaching store history × IsSome (next_attachment attaching)
+HasKept now name time store history = HasLeft now name time store history
+
+-- A delivery of the message with these octets is ready for its next event.
+pub record IsReadyToDeliver {D : Type 0} (now : SaveStage) (name : List ℕ) (time size : ℕ) (octets : List ℕ) (store : StoreValue D) (history : Option History) : Type 0 where
+  pub kept : HasKept now name time store history
+  pub ready : IsReadyToSave now name time size octets store history
 
 -- how many events are still to come at the most, if no other task places an instance
 abbrev pub save_events_left : SaveStage → InstancesValue → ℕ
@@ -170,6 +188,7 @@ pub record Saves {D : Type 0} (now next : SaveStage) (name : List ℕ) (time siz
   pub replies : RepliesAt now name answer next old
   pub did_is : how ≡ saved_did now next answer
   pub moments : MomentsAt now name old before after
+  pub stays : MailIsKept old.map before after
   pub rests : new.stopped ≡ false → RestsAt now name answer old before after
   pub mail : new.stopped ≡ false → WritesMail now next name time old before after
   pub ready : answer ≡ progress.More → (octets : List ℕ) → IsReadyToSave now name time size octets old before → IsReadyToSave next name time size octets new after

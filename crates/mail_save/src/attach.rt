@@ -5,6 +5,7 @@ ghost use Rattle.disk_model.specs.Disk.{Grows};
 ghost use Rattle.disk_model.specs.FaultCounts.{NoFault, ChangeFaultCounted, ReadFaultCounted};
 ghost use Rattle.mdbox_base.specs.declared.ids.InstId.{InstId};
 ghost use Rattle.mdbox_base.specs.declared.replies.Refusal.TheVariants as refusal;
+ghost use Rattle.model_kept.specs.Kept.{MailIsKept};
 ghost use Rattle.model_lists.specs.Lists.{Lists};
 ghost use Rattle.model_store.specs.Settled.{IsSettledFor, Leaves};
 ghost use Rattle.save_instances.specs.Attaching.{AreHeld, IsAttaching, attach_events_left, next_attachment, next_candidate, parts_left};
@@ -40,6 +41,7 @@ pub fn attach_next<D: Disk>(store: &mut Store<D>, attaching: &mut Attaching) -> 
     ensures moves { MovesHolds (holds_of attaching.old.found) (holds_of attaching.new.found) store.old store.new }
     ensures held { AreHeld attaching.new.found store.new.instances.known }
     ensures any_moment { (lists : Lists) → IsSettledFor lists (D.history store.old.disk) → Leaves lists lists (D.history store.old.disk) (D.history store.new.disk) }
+    ensures mail_stays { MailIsKept store.old.map (D.history store.old.disk) (D.history store.new.disk) }
     ensures settled { store.new.stopped ≡ false → (lists : Lists) → IsSettledFor lists (D.history store.old.disk) → IsSettledFor lists (D.history store.new.disk) }
     ensures stored { store.new.stopped ≡ false → KeepsStored (D.history store.old.disk) (D.history store.new.disk) }
     ensures written { OnOk result (WritesAttachment (next_candidate attaching.old store.old.instances) (next_attachment attaching.old) store.old (D.history store.old.disk) (D.history store.new.disk)) }

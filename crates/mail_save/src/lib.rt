@@ -3,7 +3,10 @@
 
 pub use add::Added;
 pub use first::SavedParts;
-pub use laws::{ready_saves_have_parts, save_stages_are_kept};
+pub use laws::{
+    deliveries_are_stable, deliveries_have_taken, ready_deliveries_have_left,
+    ready_saves_have_parts, save_stages_are_kept,
+};
 pub use place::SavedAt;
 pub use record::LowerRoom;
 pub use task::{SaveStage, SaveTask};

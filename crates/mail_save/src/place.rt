@@ -7,6 +7,7 @@ ghost use Rattle.attach_detach.specs.declared.message.Prepared.{Prepared as Prep
 ghost use Rattle.mdbox_base.specs.declared.ids.InstId.{InstId as InstIdValue};
 ghost use Rattle.mdbox_base.specs.declared.replies.Refusal.TheVariants as refusal;
 ghost use Rattle.model_appends.specs.Appending.{LeavesAsRead};
+ghost use Rattle.model_kept.specs.Kept.{MailIsKept};
 ghost use Rattle.model_lists.specs.Lists.{Lists};
 ghost use Rattle.model_store.specs.Settled.{IsSettledFor, Leaves};
 ghost use Rattle.saved_message.specs.Laid.{AreSixteen, IsLaid};
@@ -47,6 +48,7 @@ pub fn take_file<D: Disk>(store: &mut Store<D>, header: &[u8], size: u32) -> Res
     ensures mail { IfOk result (λ file. TakesWithHeader header.now file.0 store.old (D.history store.old.disk) (D.history store.new.disk)) }
     ensures none { IfErr result (λ why. TakesNone size why store.old store.new) }
     ensures any_moment { (lists : Lists) → IsSettledFor lists (D.history store.old.disk) → Leaves lists lists (D.history store.old.disk) (D.history store.new.disk) }
+    ensures mail_stays { MailIsKept store.old.map (D.history store.old.disk) (D.history store.new.disk) }
     ensures settled { store.new.stopped ≡ false → (lists : Lists) → IsSettledFor lists (D.history store.old.disk) → IsSettledFor lists (D.history store.new.disk) }
     ensures stored { store.new.stopped ≡ false → KeepsStored (D.history store.old.disk) (D.history store.new.disk) }
     ensures stopped { IsErrOf result refusal.Stopped ↔ (store.new.stopped ≡ true) }
@@ -101,6 +103,7 @@ pub fn place_region<D: Disk>(
     ensures ok { IfOk result (λ at. store.new ≡ record store.old { disk = store.new.disk; files = record store.old.files { files = changed_in file.0 (ending_at (at.offset + at.size)) store.old.files.files } }) }
     ensures alone { IsErr result → IsLeftAlone store.old store.new }
     ensures any_moment { (lists : Lists) → IsSettledFor lists (D.history store.old.disk) → Leaves lists lists (D.history store.old.disk) (D.history store.new.disk) }
+    ensures mail_stays { MailIsKept store.old.map (D.history store.old.disk) (D.history store.new.disk) }
     ensures settled { OnOk result ((lists : Lists) → IsSettledFor lists (D.history store.old.disk) → IsSettledFor lists (D.history store.new.disk)) }
     ensures stored { OnOk result (KeepsStored (D.history store.old.disk) (D.history store.new.disk)) }
     ensures stopped { IsErr result ↔ (store.new.stopped ≡ true) }

@@ -5,6 +5,7 @@ ghost use Rattle.disk_model.specs.FaultCounts.{NoFault, ChangeFaultCounted};
 ghost use Rattle.mdbox_base.specs.declared.entries.InstRow.{InstRow as InstRowValue};
 ghost use Rattle.mdbox_base.specs.declared.ids.MapUid.{MapUid as MapUidValue};
 ghost use Rattle.mdbox_base.specs.declared.replies.Refusal.TheVariants as refusal;
+ghost use Rattle.model_kept.specs.Kept.{MailIsKept};
 ghost use Rattle.model_lists.specs.Lists.{Lists};
 ghost use Rattle.model_logs.specs.Entries.{RowInRange};
 ghost use Rattle.model_store.specs.Settled.{IsSettledFor, Leaves};
@@ -99,6 +100,7 @@ pub fn store_record<D: Disk>(
     ensures none { IfErr result.0 (λ why. StoresNone at why store.old store.new) }
     ensures spared { OnOk result.0 (AreSpared store.old store.new (D.history store.old.disk) (D.history store.new.disk)) }
     ensures any_moment { (lists : Lists) → IsReadyToStore (entry_stored rows (record { 0 = store.old.drawn.map + 1 }) at) (D.history store.old.disk) → IsSettledFor lists (D.history store.old.disk) → Leaves lists lists (D.history store.old.disk) (D.history store.new.disk) }
+    ensures mail_stays { MailIsKept store.old.map (D.history store.old.disk) (D.history store.new.disk) }
     ensures settled { store.new.stopped ≡ false → (lists : Lists) → IsReadyToStore (entry_stored rows (record { 0 = store.old.drawn.map + 1 }) at) (D.history store.old.disk) → IsSettledFor lists (D.history store.old.disk) → IsSettledFor lists (D.history store.new.disk) }
     ensures stored { store.new.stopped ≡ false → KeepsStored (D.history store.old.disk) (D.history store.new.disk) }
     ensures mail { OnOk result.0 (ReadsSameMail (D.history store.old.disk) (D.history store.new.disk)) }
@@ -158,6 +160,7 @@ pub fn give_back<D: Disk>(store: &mut Store<D>, uid: MapUid, room: LowerRoom) ->
     ensures alone { IsErr result → IsLeftAlone store.old store.new }
     ensures spared { OnOk result (AreSpared store.old store.new (D.history store.old.disk) (D.history store.new.disk)) }
     ensures any_moment { (lists : Lists) → IsSettledFor lists (D.history store.old.disk) → Leaves lists lists (D.history store.old.disk) (D.history store.new.disk) }
+    ensures mail_stays { MailIsKept store.old.map (D.history store.old.disk) (D.history store.new.disk) }
     ensures settled { OnOk result ((lists : Lists) → IsSettledFor lists (D.history store.old.disk) → IsSettledFor lists (D.history store.new.disk)) }
     ensures stored { OnOk result (KeepsStored (D.history store.old.disk) (D.history store.new.disk)) }
     ensures mail { OnOk result (ReadsSameMail (D.history store.old.disk) (D.history store.new.disk)) }

@@ -8,6 +8,7 @@ ghost use Rattle.mdbox_base.specs.Words.{IsName, IsOctets};
 ghost use Rattle.mdbox_base.specs.declared.progress.Did.TheVariants as did;
 ghost use Rattle.mdbox_base.specs.declared.progress.Progress.TheVariants as progress;
 ghost use Rattle.mdbox_base.specs.declared.replies.Refusal.TheVariants as refusal;
+ghost use Rattle.mdbox_base.specs.declared.replies.Reply.{Reply as ReplyValue};
 ghost use Rattle.mdbox_base.specs.declared.replies.Reply.TheVariants as reply;
 ghost use Rattle.mdbox_base.specs.declared.requests.Request.TheVariants as request;
 ghost use Rattle.model_lists.specs.Lists.{Lists};
@@ -17,12 +18,15 @@ ghost use Rattle.saved_message.specs.Laid.{IsLaid};
 ghost use Rattle.store_core.specs.Dues.{due_at};
 ghost use Rattle.store_core.specs.Keeping.{KeepsInstances, KeepsUids};
 ghost use Rattle.store_seen.specs.Seeing.{seen_of};
+ghost use Rattle.task_claims.specs.Claims.{ClaimsNothing, MovesClaims};
+ghost use Rattle.task_claims.specs.Leaving.{LeavesOthers};
 ghost use Rattle.task_steps.specs.Step.{ended_by};
+ghost use Rattle.mail_save.specs.Claims.{save_claims};
 ghost use Rattle.mail_save.specs.SaveEffects.{NamesFound};
 ghost use Rattle.mail_save.specs.declared.first.SavedParts.{SavedParts as SavedPartsValue};
 ghost use Rattle.mail_save.specs.Ready.{IsReadyToSave, save_lists, lists_delivered};
 ghost use Rattle.mail_save.specs.SaveSeen.{HasItsParts, IsAtSave, StepsWithRoom, around_saving};
-ghost use Rattle.mail_save.specs.Task.{HasLeft, IsAttached, Saves, stopped_reply, refused_did, failing_did};
+ghost use Rattle.mail_save.specs.Task.{HasLeft, IsAttached, IsReadyToDeliver, Saves, stopped_reply, refused_did, failing_did};
 ghost use Rattle.mail_save.specs.declared.task.SaveStage.TheVariants as stage;
 
 use crate::add::{Added, add_message};
@@ -131,9 +135,13 @@ impl SaveTask {
     /// Does the next event: the first one makes the checks and takes the memory; then each attachment is compared with the known
     /// instances of its hash and size, one at an event, and placed where none has its octets; a storage file is taken, the message
     /// placed in it, stored in the map, and added to its mailbox. Where it can't be added, one more event gives its record back.
-    /// The instances are held until the record names them, or the request ends. The store has to have what the event before left.
+    /// The instances are held until the record names them, or the request ends. The store has to have what the event before left,
+    /// unless it is stopped.
     pub fn step<D: Disk>(&mut self, store: &mut Store<D>) -> Progress
-        requires left { HasLeft self.old.stage self.old.name self.old.time store.old (D.history store.old.disk) }
+        requires left { store.old.stopped ≡ false → HasLeft self.old.stage self.old.name self.old.time store.old (D.history store.old.disk) }
+
+        // Where it goes on, it is ready for its next event if it was for this one.
+        ensures ready { result ≡ progress.More → (octets : List ℕ) → IsReadyToDeliver self.old.stage self.old.name self.old.time self.old.size octets store.old (D.history store.old.disk) → IsReadyToDeliver self.new.stage self.old.name self.old.time self.old.size octets store.new (D.history store.new.disk) }
         ensures saves { store.old.stopped ≡ false → Saves self.old.stage self.new.stage self.old.name self.old.time self.old.size result self.new.did store.old store.new (D.history store.old.disk) (D.history store.new.disk) (D.faults store.old.disk) (D.faults store.new.disk) }
 
         // Of the message with these octets, where the task is ready for it: which event of a run it was, of every run that has come
@@ -152,6 +160,12 @@ impl SaveTask {
 
         // What another task has compared or found of the instances stays so, unless the store is stopped then.
         ensures instances { store.new.stopped ≡ false → KeepsInstances store.old store.new (D.history store.old.disk) (D.history store.new.disk) }
+
+        // Unless it stops the store, it moves only its own claims, and leaves to other tasks what is theirs. One that was replied claims
+        // nothing.
+        ensures claims { store.new.stopped ≡ false → MovesClaims (save_claims self.old.stage) (save_claims self.new.stage) store.old store.new }
+        ensures leaves { store.new.stopped ≡ false → LeavesOthers (save_claims self.old.stage) store.old store.new (D.history store.old.disk) (D.history store.new.disk) }
+        ensures ended { (given : ReplyValue) → result ≡ progress.Done given → store.new.stopped ≡ false → ClaimsNothing (save_claims self.new.stage) }
 
         ensures stopped { store.old.stopped ≡ true → (result ≡ stopped_reply) × (store.new ≡ store.old) × (self.new.stage ≡ self.old.stage) × (self.new.did ≡ did.Quiet) }
         ensures request { (self.new.name ≡ self.old.name) × (self.new.time ≡ self.old.time) × (self.new.size ≡ self.old.size) }

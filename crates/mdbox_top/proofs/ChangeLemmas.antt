@@ -1,7 +1,7 @@
 -- What the events of a request alone say together that may change the lists.
 use Rattle.std.specs.Prelude.{◌≡◌, ◌⊎◌, ◌↔◌, ℕ, true, false, List, [], Option, Some, None}
 use Rattle.std.proofs.Common.{refl, sym, ◌∙◌, ap, subst, inl, inr}
-use Rattle.disk_model.specs.Disk.{Files, History, Faults, EachImage}
+use Rattle.disk_model.specs.Disk.{Files, History, Faults, EachImage, IfTold}
 use Rattle.disk_model.specs.FaultCounts.{NoFault, ChangeFaultCounted}
 use Rattle.disk_model.proofs.MomentLemmas.{each_image-map, each_image-then, since-begins}
 use Rattle.mdbox_base.specs.declared.progress.Did.{Did}
@@ -25,11 +25,13 @@ use Rattle.task_steps.specs.Step.{Seen, ShowsSeen, Steps, and_told, ended_by}
 use Rattle.task_steps.proofs.OneEventLemmas.{not_true}
 use Rattle.store_core.specs.Running.{IsStore}
 use Rattle.store_core.specs.Value.{StoreValue, indexes_of}
-use Rattle.mail_ops.specs.Making.{NamesMail}
+use Rattle.mail_ops.specs.SparedMail.{SparesMail}
+use Rattle.mail_ops.proofs.KeptMailLemmas.{spared_none}
+use Rattle.model_kept.proofs.KeptLemmas.{ReadsImage}
 use Rattle.mdbox_top.specs.Changed.{lists_told, OpensUnchanged, ChangeMoments, AreOneOf, SafeForAmong, MomentsAmong}
 use Rattle.mdbox_top.specs.ChangeEvents.{IsWayTo, ServesAlone, ChangesAlone}
 use Rattle.mdbox_top.specs.UnderWay.{IsUnderWay, seen_alone}
-use Rattle.mdbox_top.proofs.MailLemmas.{names_none, names_then}
+use Rattle.mdbox_top.proofs.MailLemmas.{spares_then}
 use Rattle.mdbox_top.proofs.ServedLemmas.{OpenedNow, comes, opening_begins}
 use Rattle.mdbox_top.proofs.ShownLemmas.{opens_again}
 use Rattle.mdbox_top.proofs.UnderWayLemmas.{nothing_found, beginning, before_opening, way_begins, way_shows, way_goes_on, way_ends}
@@ -48,7 +50,8 @@ pub record ChangeEvent {D : Type 0} (history : D → Option History) (faults : D
   pub does : (around after : Around) → Steps Stood Stands around after request (seen_alone s (history s.disk) (faults s.disk)) (seen_alone t (history t.disk) (faults t.disk)) how (ended_by answer)
   pub moments : (lists : Lists) → IsSettledFor lists (history s.disk) → Leaves lists (may lists) (history s.disk) (history t.disk)
   pub settled : t.stopped ≡ false → (lists : Lists) → IsSettledFor lists (history s.disk) → IsSettledFor (told lists) (history t.disk)
-  pub mail : t.stopped ≡ s.stopped → NamesMail (history s.disk) (history t.disk)
+  pub mail : SparesMail (t.stopped ≡ s.stopped) (history s.disk) (history t.disk)
+  pub reads : IfTold (history s.disk) ReadsImage
   pub stopped : (answer ≡ progress.Done (reply.Refused refusal.Stopped)) ↔ (t.stopped ≡ true)
   pub fault : s.stopped ≡ false → ChangeFaultCounted (answer ≡ progress.Done (reply.Refused refusal.Stopped)) (faults s.disk) (faults t.disk)
   pub unfailed : (answer ≡ progress.Done (reply.Refused refusal.Stopped) → ⊥) → NoFault (faults s.disk) (faults t.disk)
@@ -62,7 +65,7 @@ pub record SoFar {D : Type 0} (history : D → Option History) (faults : D → F
   pub unfailed : NoFault (faults first.disk) (faults s.disk)
   pub moments : MomentsAmong Among (history first.disk) (history s.disk)
   pub settled : (lists : Lists) → IsSettledFor lists (history first.disk) → IsSettledFor (left lists) (history s.disk)
-  pub mail : NamesMail (history first.disk) (history s.disk)
+  pub mail : SparesMail (Unit {0}) (history first.disk) (history s.disk)
   pub way : (lists : Lists) (seen : Seen) → IsWayTo Began request lists seen first (history first.disk) (faults first.disk) lists → IsWayTo Stands request lists seen s (history s.disk) (faults s.disk) (left lists)
 
 abbrev SafeFor : Lists → ℕ → Files → Type 0
@@ -82,7 +85,7 @@ so_far_begins history faults Began request Among first running itself = record {
   unfailed = refl;
   moments = λ lists at. still_among Among lists (history first.disk) (itself lists) at;
   settled = λ lists at. at;
-  mail = names_none (history first.disk);
+  mail = spared_none _ (history first.disk);
   way = λ lists seen u. u;
 }
 
@@ -103,7 +106,7 @@ so_far_on history faults Began Stood Stands request Among left next may told fir
   unfailed = event.unfailed (λ e. more_done (reply.Refused refusal.Stopped) e) ∙ so.unfailed;
   moments = λ lists at. moments_on Among lists (left lists) (may (left lists)) (history first.disk) (history s.disk) (history t.disk) (within lists) (may_within lists) (so.moments lists at) (event.moments (left lists) (so.settled lists at));
   settled = λ lists at. subst (λ (ls : Lists). IsSettledFor ls (history t.disk)) (told_is lists) (event.settled running (left lists) (so.settled lists at));
-  mail = names_then (history first.disk) (history s.disk) (history t.disk) so.mail (event.mail (running ∙ sym so.running));
+  mail = spares_then (Unit {0}) (t.stopped ≡ s.stopped) (Unit {0}) (history first.disk) (history s.disk) (history t.disk) event.reads (λ all. all) (λ all. running ∙ sym so.running) so.mail event.mail;
   way = λ lists seen u0.
       let u = so.way lists seen u0 in
       let d = event.does nothing_found nothing_found u.run 1 0 u.said (left lists) u.goes.serves.come (way_shows Stood request lists (left lists) seen from u) u.stands in
@@ -138,7 +141,7 @@ so_far_serves history faults Began Stood Stands request Among tells left may tol
       way_ends Stood request lists (left lists) given seen from to nothing_found nothing_found how t u k refl refl d.0 (λ e. absurd (let z : true ≡ false = sym e ∙ unread in cc z));
   moments = λ lists at. moments_on Among lists (left lists) (may (left lists)) (history first.disk) (history s.disk) (history t.disk) (within lists) (may_within lists) (so.moments lists at) (event.moments (left lists) (so.settled lists at));
   settled = λ runs lists at. subst (λ (ls : Lists). IsSettledFor ls (history t.disk)) (told_is runs lists) (event.settled runs (left lists) (so.settled lists at));
-  mail = λ runs. names_then (history first.disk) (history s.disk) (history t.disk) so.mail (event.mail (runs ∙ sym so.running));
+  mail = spares_then (Unit {0}) (t.stopped ≡ s.stopped) (t.stopped ≡ false) (history first.disk) (history s.disk) (history t.disk) event.reads (λ runs. tt) (λ runs. runs ∙ sym so.running) so.mail event.mail;
   halts = record { 0 = λ e. event.stopped.0 (ap progress.Done e); 1 = λ e. one_done given (reply.Refused refusal.Stopped) (event.stopped.1 e) };
   fault = subst (λ (f : Faults). ChangeFaultCounted (given ≡ reply.Refused refusal.Stopped) f (faults t.disk)) so.unfailed (record { reads = (event.fault so.running).reads; changes = (event.fault so.running).changes; rose = λ e. (event.fault so.running).rose (ap progress.Done e) });
   unfailed = λ no. event.unfailed (λ e. no (one_done given (reply.Refused refusal.Stopped) e)) ∙ so.unfailed;

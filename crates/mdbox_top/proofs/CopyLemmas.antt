@@ -386,7 +386,7 @@ copy_tells name uid target given old mid new began now s t w = record {
     shows = λ lists formed shows. (w.copies.changes.shows (copied_unrefused given u e) lists (before_opening (seen_alone s mid began) old) (way_shown (IsAtCopy stage.First) (request.Copy name uid target) lists old mid began s w.opened (formed, shows) (refl, refl))).1;
   };
   settled = λ running lists at. w.copies.changes.settled (copy_runs name uid target given old mid new began now s t w running) lists (w.opened.settled_again lists at);
-  mail = opened_mail old mid new s given w.opened (λ running. w.copies.changes.mail (copy_runs name uid target given old mid new began now s t w running));
+  mail = opened_mail (t.stopped ≡ false) old mid new s given w.opened (λ running. copy_runs name uid target given old mid new began now s t w running) w.copies.changes.mail;
 }
 
 by_reply : (name : List ℕ) (uid : Uid) (target : List ℕ) (given : Reply) (lists : Lists) (new : Option History) → IsSettledFor (lists_told (request.Copy name uid target) given lists) new → IsSettledFor lists new ⊎ IsSettledFor (copied_lists name uid target lists) new

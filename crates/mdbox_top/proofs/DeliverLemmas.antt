@@ -53,6 +53,7 @@ use Rattle.mdbox_top.proofs.KnownFirstLemmas.{named_there}
 use Rattle.mdbox_top.proofs.RequestLemmas.{opening_number, shown_number, request_status, request_used, request_input, request_damage}
 use Rattle.mdbox_top.proofs.ServedLemmas.{OpenedNow, way_opens}
 use Rattle.mdbox_top.proofs.ShownLemmas.{LogsShow, opens_again}
+use Rattle.mdbox_top.proofs.StaysLemmas.{stays_from}
 use Rattle.mdbox_top.proofs.UnderWayLemmas.{before_opening}
 use Rattle.mdbox_top.proofs.WroteLemmas.{wrote_message}
 use Rattle.mdbox_top.specs.UnderWay.{seen_alone}
@@ -257,7 +258,7 @@ deliver_tells name time octets prepared given old mid new began now s t w = reco
   refused = λ why e. opens_unchanged old mid new s w.opened (w.back (w.saves.refused why (subst (λ (h : Highest). undelivered_cause (list_named s name) h ≡ Some why) (sym w.opened.drawn) e)));
   unsaved = λ why e running. opens_alike name time prepared new s t w.later (deliver_runs name time octets prepared given old mid new began now s t w (refused_runs given why e running)) w.opened.drawn (w.saves.unsaved why e running) (w.saves.left why e running);
   done = λ uid guid e. opens_saved name time octets prepared guid old mid new s t w.opened w.known w.later (deliver_runs name time octets prepared given old mid new began now s t w (saved_runs given uid guid e)) (w.saves.shows uid guid e) (w.saves.stored uid guid e).0 (w.saves.stored uid guid e).1;
-  mail = (w.opened.swept.0, mid, w.opened.swept.1, w.opened.stays, mail_left name time octets prepared given mid new began now s t w.saves);
+  mail = (w.opened.swept.0, mid, w.opened.swept.1, stays_from old mid new s.map (indexes_of s.boxes) w.opened.opened w.opened.reads w.opened.stays w.saves.stays, mail_left name time octets prepared given mid new began now s t w.saves);
   settled = λ running lists at. w.saves.settled (deliver_runs name time octets prepared given old mid new began now s t w running) lists (w.opened.settled_again lists at);
 }
 

@@ -238,7 +238,7 @@ expunge_tells name uid given old mid new began now s t w = record {
     shows = λ lists formed shows. (w.removes.changes.shows (done_unrefused given e) lists (before_opening (seen_alone s mid began) old) (way_shown (IsAtExpunge stage.First) (request.Expunge name uid) lists old mid began s w.opened (formed, shows) (refl, refl))).1;
   };
   settled = λ running lists at. w.removes.changes.settled (expunge_runs name uid given old mid new began now s t w running) lists (w.opened.settled_again lists at);
-  mail = opened_mail old mid new s given w.opened (λ running. w.removes.changes.mail (expunge_runs name uid given old mid new began now s t w running));
+  mail = opened_mail (t.stopped ≡ false) old mid new s given w.opened (λ running. expunge_runs name uid given old mid new began now s t w running) w.removes.changes.mail;
 }
 
 by_reply : (name : List ℕ) (uid : Uid) (given : Reply) (lists : Lists) (new : Option History) → IsSettledFor (lists_told (request.Expunge name uid) given lists) new → IsSettledFor lists new ⊎ IsSettledFor (lists_without name uid lists) new

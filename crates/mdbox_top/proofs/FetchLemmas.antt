@@ -1,7 +1,9 @@
 -- What the events of a fetch alone say together.
-use Rattle.std.specs.Prelude.{zero, suc, ◌≡◌, ◌⊎◌, ◌≤◌, ◌<◌, ◌+◌, ◌==◌, ℕ, Bool, true, false, cond, not, is_some, if◌then◌else◌, List, [], ◌∷◌, ◌++◌, map, filter, flat_map, count_by, slice_get, Option, Some, None}
+use Rattle.std.specs.Prelude.{length, zero, suc, ◌≡◌, ◌⊎◌, ◌≤◌, ◌<◌, ◌+◌, ◌==◌, ℕ, Bool, true, false, cond, not, is_some, if◌then◌else◌, List, [], ◌∷◌, ◌++◌, map, filter, flat_map, count_by, slice_get, Option, Some, None}
 use Rattle.std.proofs.Common.{refl, sym, ◌∙◌, ap, subst, inl, inr, append_assoc, append-nil, arith}
+use Rattle.std.specs.Option.{option_map}
 use Rattle.std.proofs.lemmas.Bool.{cases_lt}
+use Rattle.std.proofs.lemmas.List.Elements.{All-contains}
 use Rattle.std.proofs.lemmas.List.Filters.{sum_by-filter_both}
 use Rattle.std.proofs.lemmas.List.Sums.{sum_by-append, sum_by_push}
 use Rattle.disk_model.specs.Disk.{DiskState, History, Faults, IfTold, IsIdle, reading}
@@ -23,7 +25,9 @@ use Rattle.mdbox_base.specs.declared.requests.Request.{Request}
 use Rattle.mdbox_base.specs.declared.requests.Request.TheVariants as request
 use Rattle.model_lists.specs.Lists.{ListedMessage, Lists}
 use Rattle.model_meaning.specs.BoxMeaning.{LogRow, BoxMeaning, row_at}
-use Rattle.model_meaning.specs.MapMeaning.{MapRecord}
+use Rattle.model_meaning.specs.MapMeaning.{MapRecord, record_at}
+use Rattle.model_meaning.specs.Sound.{IsSoundRecord}
+use Rattle.model_octets.proofs.SearchLemmas.{found_one}
 use Rattle.model_store.specs.Safe.{Safe}
 use Rattle.model_store.specs.Settled.{files_of}
 use Rattle.list_machine.specs.Machine.{Answers, Does, message_at}
@@ -31,24 +35,27 @@ use Rattle.list_machine.specs.Run.{EventPart, First, RunEvent, Run, before, own_
 use Rattle.journal.specs.Events.{Around, is_fault, is_faulted}
 use Rattle.journal.specs.Journal.{JournalStep, AreSteps, refusal_in, is_read_fault, steps_of}
 use Rattle.journal.specs.Makes.{StepOf}
-use Rattle.storage_files.specs.Files.{is_doomed_in}
+use Rattle.storage_files.specs.Files.{end_in, is_doomed_in}
 use Rattle.storage_files.specs.OnDisk.{piece_read}
 use Rattle.store_core.specs.Running.{IsStore}
 use Rattle.store_core.specs.Value.{StoreValue, list_named}
 use Rattle.task_steps.specs.Step.{Seen, ended_by}
-use Rattle.mail_fetch.specs.Clause.{ReadsSafe, StepsOnSafe}
-use Rattle.mail_fetch.specs.Events.{fetch_refusal, IsStoredBy, IsBegun, next_piece, with_piece, IsPieceRead, FetchesNext, NoChangeFault}
+use Rattle.mail_fetch.specs.Claims.{HasFetchRoom, used_by}
+use Rattle.mail_fetch.specs.Clause.{FetchSteps, FetchesAlone, ReadsSafe}
+use Rattle.mail_fetch.specs.Events.{fetch_refusal, IsAbsent, IsStoredBy, IsBegun, next_piece, with_piece, IsPieceRead, FetchesNext, NoChangeFault}
 use Rattle.mail_fetch.specs.Failed.{HasFailedRead}
 use Rattle.mail_fetch.specs.Parts.{instance_part, left_after, parts_to_read, parts_read, pieces_left}
-use Rattle.mail_fetch.specs.Region.{stored_at, RegionValue, unread, IsReplyFor, damage_at}
+use Rattle.mail_fetch.specs.Region.{stored_at, RegionValue, unread, HoldsWhole, IsReplyFor, damage_at}
 use Rattle.mail_fetch.specs.Stages.{IsAtFetch, IsTrueReply, UnpinsNext}
-use Rattle.mail_fetch.specs.Task.{FetchValue, UnpinsUndoomed, seen_with_pins}
+use Rattle.mail_fetch.specs.Task.{FetchValue, UnpinsUndoomed, seen_in}
 use Rattle.mail_fetch.specs.declared.parts.StoredAt.{StoredAt}
 use Rattle.mail_fetch.specs.declared.task.FetchStage.{FetchStage}
 use Rattle.mail_fetch.specs.declared.task.FetchStage.TheVariants as stage
-use Rattle.mail_fetch.proofs.StepViewLemmas.{StageClause}
+use Rattle.mail_fetch.proofs.AbsentLemmas.{absent_damaged, nothing_damaged}
+use Rattle.mail_fetch.proofs.StageLemmas.{used_only}
+use Rattle.mail_fetch.proofs.StepLemmas.{absent_unsafe, store_is_sound}
 use Rattle.mail_fetch.proofs.PartLemmas.{reads_after, reads_none, reads_of_parts}
-use Rattle.mdbox_top.specs.FetchEvents.{seen_fetching, FetchIsAt, TakesMessage, TakesServed}
+use Rattle.mdbox_top.specs.FetchEvents.{FetchIsAt, TakesMessage, TakesServed}
 use Rattle.mdbox_top.specs.FetchRun.{message_read, IsFetchAnswer}
 use Rattle.mdbox_top.specs.Served.{FaultsByReply, missing_cause}
 use Rattle.mdbox_top.specs.UnderWay.{alone, IsUnderWay}
@@ -163,16 +170,17 @@ one_done a b e = cc e
 
 -- ---- an event
 
-abbrev pub at_disk : {D : Type 0} → StoreValue D → D → StoreValue D
-at_disk first disk = record first { disk = disk }
+-- the first store, with this one's disk, storage files and instances
+abbrev pub at_use : {D : Type 0} → StoreValue D → StoreValue D → StoreValue D
+at_use first now = record first { disk = now.disk; files = now.files; instances = now.instances }
 
--- What an event of the fetch says, of a store that differs from the first in its disk alone.
-pub record FetchEvent {D : Type 0} (history : D → Option History) (faults : D → Faults) (name : List ℕ) (uid : Uid) (first : StoreValue D) (d e : D) (now next : FetchStage) (how : Did) (answer : Progress) : Type 0 where
-  pub does : (around after : Around) (others : ℕ → ℕ) → StepsOnSafe (IsAtFetch now (seen_with_pins others now (at_disk first d) (history d) (faults d))) (IsAtFetch next (seen_with_pins others next (at_disk first e) (history e) (faults e))) around after (request.Fetch name uid) (seen_with_pins others now (at_disk first d) (history d) (faults d)) (seen_with_pins others next (at_disk first e) (history e) (faults e)) how (ended_by answer)
-  pub replies : FetchesNext name uid.0 now next answer (at_disk first d) (history d) (faults d) (faults e)
-  pub idle : IsIdle (history d) (history e)
-  pub fault : NoChangeFault (faults d) (faults e)
-  pub unfailed : (HasFailedRead next → ⊥) → NoFault (faults d) (faults e)
+-- What an event of the fetch says, of a store that differs from the first in its disk, its storage files and its instances alone.
+pub record FetchEvent {D : Type 0} (history : D → Option History) (faults : D → Faults) (name : List ℕ) (uid : Uid) (first d e : StoreValue D) (now next : FetchStage) (how : Did) (answer : Progress) : Type 0 where
+  pub does : (around after : Around) → FetchSteps around after name uid now next (at_use first d) (at_use first e) (history d.disk) (history e.disk) (faults d.disk) (faults e.disk) how (ended_by answer)
+  pub replies : FetchesNext name uid.0 now next answer (at_use first d) (history d.disk) (faults d.disk) (faults e.disk)
+  pub idle : IsIdle (history d.disk) (history e.disk)
+  pub fault : NoChangeFault (faults d.disk) (faults e.disk)
+  pub unfailed : (HasFailedRead next → ⊥) → NoFault (faults d.disk) (faults e.disk)
 
 -- ---- what is known at each stage
 
@@ -184,7 +192,7 @@ StageKnows name uid store history (stage.Reading region) =
 StageKnows name uid store history (stage.Unpinning from given) =
     (row : LogRow) × (entry : MapRecord) × (fetch_refusal name uid store ≡ None) × IsStoredBy name uid store row entry × (from ≡ stored_at row entry) × IsFetchAnswer row entry history given
 
-stored_first : {D : Type 0} → (name : List ℕ) (uid : ℕ) (first : StoreValue D) (d : D) (row : LogRow) (entry : MapRecord) → IsStoredBy name uid (at_disk first d) row entry → IsStoredBy name uid first row entry
+stored_first : {D : Type 0} → (name : List ℕ) (uid : ℕ) (first d : StoreValue D) (row : LogRow) (entry : MapRecord) → IsStoredBy name uid (at_use first d) row entry → IsStoredBy name uid first row entry
 stored_first name uid first d row entry k = record { mailbox = k.mailbox; named = k.named; listed = k.listed; stored = k.stored; same = k.same }
 
 answer_on : (row : LogRow) (entry : MapRecord) (old new : Option History) (given : Reply) → IsIdle old new → IsFetchAnswer row entry old given → IsFetchAnswer row entry new given
@@ -192,7 +200,7 @@ answer_on row entry old new given idle (inl e) = inl e
 answer_on row entry old new given idle (inr (region, told, is)) = inr (region, idle-on (λ disk. region ≡ message_read entry disk) old new idle told, is)
 
 -- behind the first event
-begun_knows : {D : Type 0} → (name : List ℕ) (uid : ℕ) (first : StoreValue D) (d : D) (new : Option History) (next : FetchStage) (cause : Option Refusal) → fetch_refusal name uid first ≡ cause → IsBegun name uid (at_disk first d) next progress.More → StageKnows name uid first new next
+begun_knows : {D : Type 0} → (name : List ℕ) (uid : ℕ) (first d : StoreValue D) (new : Option History) (next : FetchStage) (cause : Option Refusal) → fetch_refusal name uid first ≡ cause → IsBegun name uid (at_use first d) next progress.More → StageKnows name uid first new next
 begun_knows name uid first d new next (Some why) e b = absurd (more_done (reply.Refused why) (b.refused why e).0)
 begun_knows name uid first d new next None e b = elim (b.begun e) [
   | inl p ↦
@@ -202,7 +210,7 @@ begun_knows name uid first d new next None e b = elim (b.begun e) [
       subst (λ (s : FetchStage). StageKnows name uid first new s) (sym pin.2)
       (subst (λ (r : RegionValue). StageKnows name uid first new (stage.Reading r)) (sym is.3)
       (is.0, is.1, e, stored_first name uid first d is.0 is.1 is.2, refl, if_told-all (HasRead is.1 (unread (stored_at is.0 is.1))) new (λ disk. all_read is.0 is.1 disk)))
-  | inr p ↦ absurd (more_done (reply.Refused refusal.NoMemory) p.0)
+  | inr p ↦ absurd (more_done (reply.Refused p.0) p.2)
 ]
 
 -- behind a piece
@@ -223,10 +231,10 @@ piece_knows name uid first old new f g region next idle (row, entry, none, store
         (row, entry, none, stored, from, inr (region.octets ++ piece, if_told-map (HasRead entry (with_piece region piece)) (λ disk. region.octets ++ piece ≡ message_read entry disk) new (λ disk r. region_whole entry (with_piece region piece) disk none_left r) read_now, subst (λ (a : StoredAt). IsReplyFor a (region.octets ++ piece) l.0) from l.2))
 
 -- behind any event that goes on
-knows_on : {D : Type 0} → (history : D → Option History) (faults : D → Faults) (name : List ℕ) (uid : Uid) (first : StoreValue D) (d e : D) (now next : FetchStage) → first.stopped ≡ false → IsIdle (history d) (history e) → StageKnows name uid.0 first (history d) now
-    → FetchesNext name uid.0 now next progress.More (at_disk first d) (history d) (faults d) (faults e) → StageKnows name uid.0 first (history e) next
-knows_on history faults name uid first d e stage.First next running idle k r = begun_knows name uid.0 first d (history e) next (fetch_refusal name uid.0 first) refl r
-knows_on history faults name uid first d e (stage.Reading region) next running idle k r = piece_knows name uid.0 first (history d) (history e) (faults d) (faults e) region next idle k (r.1 running).1
+knows_on : {D : Type 0} → (history : D → Option History) (faults : D → Faults) (name : List ℕ) (uid : Uid) (first : StoreValue D) (d e : StoreValue D) (now next : FetchStage) → first.stopped ≡ false → IsIdle (history d.disk) (history e.disk) → StageKnows name uid.0 first (history d.disk) now
+    → FetchesNext name uid.0 now next progress.More (at_use first d) (history d.disk) (faults d.disk) (faults e.disk) → StageKnows name uid.0 first (history e.disk) next
+knows_on history faults name uid first d e stage.First next running idle k r = begun_knows name uid.0 first d (history e.disk) next (fetch_refusal name uid.0 first) refl r
+knows_on history faults name uid first d e (stage.Reading region) next running idle k r = piece_knows name uid.0 first (history d.disk) (history e.disk) (faults d.disk) (faults e.disk) region next idle k (r.1 running).1
 knows_on history faults name uid first d e (stage.Unpinning from given) next running idle k r = absurd (more_done given (r.1 running).0)
 
 -- ---- the counts of faults
@@ -254,7 +262,7 @@ fails_now name uid stage.First next store old f g running b h = by_cause (fetch_
     by_cause (Some why) e = absurd (more_done (reply.Refused why) (b.refused why e).0)
     by_cause None e = elim (b.begun e) [
       | inl p ↦ absurd (subst HasFailedRead p.1.2 h)
-      | inr p ↦ absurd (more_done (reply.Refused refusal.NoMemory) p.0)
+      | inr p ↦ absurd (more_done (reply.Refused p.0) p.2)
     ]
 fails_now name uid (stage.Reading region) next store old f g running r h = by_read (r.1 running).1
   where
@@ -283,13 +291,13 @@ faults_on name uid now next store old began f g running so r fault unfailed =
 
 -- Where a fetch alone is, behind some of its events: what it knows, what failed, and that it is under way from all lists for
 -- which the files are safe.
-pub record IsFetching {D : Type 0} (history : D → Option History) (faults : D → Faults) (name : List ℕ) (uid : Uid) (first : StoreValue D) (d : D) (now : FetchStage) : Type 0 where
-  pub idle : IsIdle (history first.disk) (history d)
-  pub counted : FaultsSoFar now (faults first.disk) (faults d)
-  pub knows : StageKnows name uid.0 first (history d) now
-  pub served : (lists : Lists) (seen : Seen) → FetchIsAt stage.First name uid lists seen first (history first.disk) (faults first.disk) → ReadsSafe lists (history first.disk) → FetchIsAt now name uid lists seen (at_disk first d) (history d) (faults d)
+pub record IsFetching {D : Type 0} (history : D → Option History) (faults : D → Faults) (name : List ℕ) (uid : Uid) (first d : StoreValue D) (now : FetchStage) : Type 0 where
+  pub idle : IsIdle (history first.disk) (history d.disk)
+  pub counted : FaultsSoFar now (faults first.disk) (faults d.disk)
+  pub knows : StageKnows name uid.0 first (history d.disk) now
+  pub served : (lists : Lists) (seen : Seen) → FetchIsAt stage.First name uid lists seen first (history first.disk) (faults first.disk) → ReadsSafe lists (history first.disk) → FetchIsAt now name uid lists seen (at_use first d) (history d.disk) (faults d.disk)
 
-pub fetching_begins : {D : Type 0} → (history : D → Option History) (faults : D → Faults) (name : List ℕ) (uid : Uid) (first : StoreValue D) → IsFetching history faults name uid first first.disk stage.First
+pub fetching_begins : {D : Type 0} → (history : D → Option History) (faults : D → Faults) (name : List ℕ) (uid : Uid) (first : StoreValue D) → IsFetching history faults name uid first first stage.First
 fetching_begins history faults name uid first = record {
   idle = idle-begins (history first.disk);
   counted = record { reads = omega arith; changes = refl; failed = λ h. absurd h; unfailed = λ none. refl };
@@ -316,17 +324,17 @@ fetch_leaves run event name uid lists left (Some other) made = does_leaves run e
 kept_lists : (name : List ℕ) (uid : Uid) (lists : Lists) (began now : Seen) (Stands : Run → ℕ → List Reply → Type 0) (left : Lists) → left ≡ lists → IsUnderWay Stands (request.Fetch name uid) lists began now left → IsUnderWay Stands (request.Fetch name uid) lists began now lists
 kept_lists name uid lists began now Stands left e u = subst (λ (ls : Lists). IsUnderWay Stands (request.Fetch name uid) lists began now ls) e u
 
-pub fetching_on : {D : Type 0} → (history : D → Option History) (faults : D → Faults) (name : List ℕ) (uid : Uid) (first : StoreValue D) (d e : D) (now next : FetchStage) (how : Did) → first.stopped ≡ false → IsFetching history faults name uid first d now → FetchEvent history faults name uid first d e now next how progress.More
+pub fetching_on : {D : Type 0} → (history : D → Option History) (faults : D → Faults) (name : List ℕ) (uid : Uid) (first : StoreValue D) (d e : StoreValue D) (now next : FetchStage) (how : Did) → first.stopped ≡ false → IsFetching history faults name uid first d now → FetchEvent history faults name uid first d e now next how progress.More
     → IsFetching history faults name uid first e next
 fetching_on history faults name uid first d e now next how running so event = record {
-  idle = idle-then (history first.disk) (history d) (history e) so.idle event.idle;
-  counted = faults_on name uid.0 now next (at_disk first d) (history d) (faults first.disk) (faults d) (faults e) running so.counted event.replies event.fault event.unfailed;
+  idle = idle-then (history first.disk) (history d.disk) (history e.disk) so.idle event.idle;
+  counted = faults_on name uid.0 now next (at_use first d) (history d.disk) (faults first.disk) (faults d.disk) (faults e.disk) running so.counted event.replies event.fault event.unfailed;
   knows = knows_on history faults name uid first d e now next running event.idle so.knows event.replies;
   served = λ lists seen u0 safe.
-      let from : Seen = seen_fetching now (at_disk first d) (history d) (faults d) in
-      let to : Seen = seen_fetching next (at_disk first e) (history e) (faults e) in
+      let from : Seen = seen_in (at_use first d) (history d.disk) (faults d.disk) in
+      let to : Seen = seen_in (at_use first e) (history e.disk) (faults e.disk) in
       let u = so.served lists seen u0 safe in
-      let s = event.does nothing_found nothing_found (λ file. 0) u.run 1 0 u.said lists u.goes.serves.come (way_shows (IsAtFetch now from) (request.Fetch name uid) lists lists seen from u) (λ runs. reads_on lists (history first.disk) (history d) so.idle safe) u.stands in
+      let s = event.does nothing_found nothing_found u.run 1 0 u.said lists u.goes.serves.come (way_shows (IsAtFetch now from) (request.Fetch name uid) lists lists seen from u) (λ runs. reads_on lists (history first.disk) (history d.disk) so.idle safe) u.stands in
       let v = way_goes_on (IsAtFetch now from) (IsAtFetch next to) (request.Fetch name uid) lists lists seen from to nothing_found nothing_found how u s.0 (s.1 refl) in
       kept_lists name uid lists seen to (IsAtFetch next to) s.0.left (fetch_leaves u.run s.0.makes.event name uid lists s.0.left s.0.makes.answer s.0.makes.made) v;
 }
@@ -337,32 +345,50 @@ abbrev DoneNow : {D : Type 0} → List ℕ → ℕ → FetchStage → FetchStage
 DoneNow name uid now next given store old f g = FetchesNext name uid now next (progress.Done given) store old f g
 
 -- what the first event replies, if it ends the request
-first_given : {D : Type 0} → (name : List ℕ) (uid : ℕ) (next : FetchStage) (given : Reply) (store : StoreValue D) → IsBegun name uid store next (progress.Done given)
-    → (next ≡ stage.First) × ((why : Refusal) → fetch_refusal name uid store ≡ Some why → given ≡ reply.Refused why) × (fetch_refusal name uid store ≡ None → given ≡ reply.Refused refusal.NoMemory)
+pub record FirstGiven {D : Type 0} (name : List ℕ) (uid : ℕ) (next : FetchStage) (given : Reply) (store : StoreValue D) : Type 0 where
+  pub next_is : next ≡ stage.First
+  pub refused : (why : Refusal) → fetch_refusal name uid store ≡ Some why → given ≡ reply.Refused why
+  pub other : fetch_refusal name uid store ≡ None → (given ≡ reply.Refused refusal.NoMemory) ⊎ ((why : Refusal) × IsAbsent name uid store why × (given ≡ reply.Refused why))
+
+first_given : {D : Type 0} → (name : List ℕ) (uid : ℕ) (next : FetchStage) (given : Reply) (store : StoreValue D) → IsBegun name uid store next (progress.Done given) → FirstGiven name uid next given store
 first_given name uid next given store b = by_cause (fetch_refusal name uid store) refl
   where
-    memory : fetch_refusal name uid store ≡ None → (given ≡ reply.Refused refusal.NoMemory) × (next ≡ stage.First)
-    memory e = elim (b.begun e) [
+    by_why : (why : Refusal) → given ≡ reply.Refused why → (why ≡ refusal.NoMemory) ⊎ IsAbsent name uid store why → (given ≡ reply.Refused refusal.NoMemory) ⊎ ((why : Refusal) × IsAbsent name uid store why × (given ≡ reply.Refused why))
+    by_why why is (inl memory) = inl (is ∙ ap (λ (r : Refusal). reply.Refused r) memory)
+    by_why why is (inr absent) = inr (why, absent, is)
+
+    other : fetch_refusal name uid store ≡ None → (next ≡ stage.First) × ((given ≡ reply.Refused refusal.NoMemory) ⊎ ((why : Refusal) × IsAbsent name uid store why × (given ≡ reply.Refused why)))
+    other e = elim (b.begun e) [
       | inl p ↦ absurd (more_done given (sym p.0))
-      | inr p ↦ (one_done given (reply.Refused refusal.NoMemory) p.0, p.1)
+      | inr p ↦ (p.3, by_why p.0 (one_done given (reply.Refused p.0) p.2) p.1)
     ]
 
-    by_cause : (cause : Option Refusal) → fetch_refusal name uid store ≡ cause
-        → (next ≡ stage.First) × ((why : Refusal) → fetch_refusal name uid store ≡ Some why → given ≡ reply.Refused why) × (fetch_refusal name uid store ≡ None → given ≡ reply.Refused refusal.NoMemory)
-    by_cause (Some why) e = ((b.refused why e).1, λ w k. one_done given (reply.Refused w) (b.refused w k).0, λ none. (memory none).0)
-    by_cause None e = ((memory e).1, λ w k. one_done given (reply.Refused w) (b.refused w k).0, λ none. (memory none).0)
+    by_cause : (cause : Option Refusal) → fetch_refusal name uid store ≡ cause → FirstGiven name uid next given store
+    by_cause (Some why) e = record { next_is = (b.refused why e).1; refused = λ w k. one_done given (reply.Refused w) (b.refused w k).0; other = λ none. (other none).1 }
+    by_cause None e = record { next_is = (other e).0; refused = λ w k. one_done given (reply.Refused w) (b.refused w k).0; other = λ none. (other none).1 }
+
+absent_calm : {D : Type 0} → (name : List ℕ) (uid : ℕ) (given : Reply) (store : StoreValue D) (why : Refusal) → IsAbsent name uid store why → given ≡ reply.Refused why → IsCalm given
+absent_calm name uid given store why (row, entry, stored, none, why_is) is =
+    let e : given ≡ damage_at (stored_at row entry) = is ∙ ap (λ (r : Refusal). reply.Refused r) why_is in (
+      λ f. let k : damage_at (stored_at row entry) ≡ reply.Refused refusal.ReadFault = sym e ∙ f in let r : refusal.Damaged (record { 0 = entry.file }) entry.offset ≡ refusal.ReadFault = cc k in cc r,
+      λ f. let k : damage_at (stored_at row entry) ≡ reply.Refused refusal.Stopped = sym e ∙ f in let r : refusal.Damaged (record { 0 = entry.file }) entry.offset ≡ refusal.Stopped = cc k in cc r,
+    )
 
 first_calm : {D : Type 0} → (name : List ℕ) (uid : ℕ) (next : FetchStage) (given : Reply) (store : StoreValue D) → store.stopped ≡ false → IsBegun name uid store next (progress.Done given) → IsCalm given
 first_calm name uid next given store running b = by_cause (fetch_refusal name uid store) refl
   where
+    by_other : (given ≡ reply.Refused refusal.NoMemory) ⊎ ((why : Refusal) × IsAbsent name uid store why × (given ≡ reply.Refused why)) → IsCalm given
+    by_other (inl memory) = memory_calm given memory
+    by_other (inr (why, absent, is)) = absent_calm name uid given store why absent is
+
     by_cause : (cause : Option Refusal) → fetch_refusal name uid store ≡ cause → IsCalm given
-    by_cause (Some why) e = refused_calm given why ((first_given name uid next given store b).1 why e) (missing_why (list_named store name) uid why (sym (cause_of name uid store running) ∙ e))
-    by_cause None e = memory_calm given ((first_given name uid next given store b).2 e)
+    by_cause (Some why) e = refused_calm given why ((first_given name uid next given store b).refused why e) (missing_why (list_named store name) uid why (sym (cause_of name uid store running) ∙ e))
+    by_cause None e = by_other ((first_given name uid next given store b).other e)
 
 -- refused by its cause
-pub refused_ends : {D : Type 0} → (history : D → Option History) (faults : D → Faults) (name : List ℕ) (uid : Uid) (first : StoreValue D) (d e : D) (now next : FetchStage) (given : Reply) → first.stopped ≡ false → IsFetching history faults name uid first d now
-    → DoneNow name uid.0 now next given (at_disk first d) (history d) (faults d) (faults e) → (why : Refusal) → fetch_refusal name uid.0 first ≡ Some why → given ≡ reply.Refused why
-refused_ends history faults name uid first d e stage.First next given running so r why cause = (first_given name uid.0 next given (at_disk first d) r).1 why cause
+pub refused_ends : {D : Type 0} → (history : D → Option History) (faults : D → Faults) (name : List ℕ) (uid : Uid) (first : StoreValue D) (d e : StoreValue D) (now next : FetchStage) (given : Reply) → first.stopped ≡ false → IsFetching history faults name uid first d now
+    → DoneNow name uid.0 now next given (at_use first d) (history d.disk) (faults d.disk) (faults e.disk) → (why : Refusal) → fetch_refusal name uid.0 first ≡ Some why → given ≡ reply.Refused why
+refused_ends history faults name uid first d e stage.First next given running so r why cause = (first_given name uid.0 next given (at_use first d) r).refused why cause
 refused_ends history faults name uid first d e (stage.Reading region) next given running so r why cause = absurd (more_done given (sym (r.1 running).0))
 refused_ends history faults name uid first d e (stage.Unpinning from other) next given running so r why cause = absurd (let k : None ≡ Some why = sym so.knows.2 ∙ cause in cc k)
 
@@ -394,19 +420,62 @@ step_text name uid run lists octets (step ∷ steps) s e =
     (subst (λ (q : ℕ × Request). Answers (before step.event run) lists q.1 s.0.event step.answer step.left) asked s.0.answers) in
     part_text (before step.event run) s.0.event name uid lists step.left s.0.event.part octets answers.1
 
+-- a message whose storage file isn't there
+absent_answer : {D : Type 0} → (name : List ℕ) (uid : ℕ) (store : StoreValue D) (row : LogRow) (entry : MapRecord) (history : Option History) → IsStore history store → store.stopped ≡ false → record_at store.map row.map_uid ≡ Some entry → end_in entry.file store.files.files ≡ None
+    → IsFetchAnswer row entry history (damage_at (stored_at row entry))
+absent_answer name uid store row entry history is runs stored none = by_history history is
+  where
+    some : 1 ≤ entry.size
+    some = (All-contains (IsSoundRecord store.map.highest.map) store.map.records entry (store_is_sound history store is).records (found_one (λ (r : MapRecord). r.uid == row.map_uid) store.map.records entry stored).0).size
+
+    gone : (o : Option (List ℕ)) → option_map length o ≡ None → o ≡ None
+    gone None e = refl
+    gone (Some octets) e = absurd (let k : Some (length octets) ≡ None = e in cc k)
+
+    by_history : (h : Option History) → IsStore h store → IsFetchAnswer row entry h (damage_at (stored_at row entry))
+    by_history None k = inr ([], tt, inr (λ octets holds. nothing_damaged row entry octets some holds, refl))
+    by_history (Some h) k = inr (
+      message_read entry h.now,
+      refl,
+      inr (
+        λ octets holds.
+            absent_damaged (files_of h.now) row entry octets (gone (files_of h.now (Mail entry.file)) ((k.running runs).files_known entry.file ∙ none)) some
+            (subst (λ (read : List ℕ). HoldsWhole (stored_at row entry) read octets) (sym (all_read row entry h.now)) holds),
+        refl,
+      ),
+    )
+
+absent_ends : {D : Type 0} → (history : D → Option History) (faults : D → Faults) (name : List ℕ) (uid : Uid) (first d e : StoreValue D) (given : Reply) (why : Refusal) → first.stopped ≡ false → IsFetching history faults name uid first d stage.First → IsIdle (history d.disk) (history e.disk) → IsStore (history d.disk) (at_use first d)
+    → IsAbsent name uid.0 (at_use first d) why → given ≡ reply.Refused why → TakesMessage name uid first (history first.disk) (history e.disk) (faults first.disk) given
+absent_ends history faults name uid first d e given why running so idle k (row, entry, stored, none, why_is) is = record {
+  row = row;
+  entry = entry;
+  record_is = stored_first name uid.0 first d row entry stored;
+  given_is = subst (λ (g : Reply). IsFetchAnswer row entry (history e.disk) g) (sym (is ∙ ap (λ (r : Refusal). reply.Refused r) why_is))
+      (answer_on row entry (history d.disk) (history e.disk) (damage_at (stored_at row entry)) idle (absent_answer name uid.0 (at_use first d) row entry (history d.disk) k running stored.stored none));
+  text = λ lists seen u0 safe.
+      let u = so.served lists seen u0 safe in
+      let shows = way_shows (IsAtFetch stage.First (seen_in (at_use first d) (history d.disk) (faults d.disk))) (request.Fetch name uid) lists lists seen (seen_in (at_use first d) (history d.disk) (faults d.disk)) u in
+      absurd (absent_unsafe name uid (at_use first d) (history d.disk) lists why k running (row, entry, stored, none, why_is) shows.1 (reads_on lists (history first.disk) (history d.disk) so.idle safe));
+}
+
 -- a message that was found
-pub taken_ends : {D : Type 0} → (history : D → Option History) (faults : D → Faults) (name : List ℕ) (uid : Uid) (first : StoreValue D) (d e : D) (now next : FetchStage) (given : Reply) → first.stopped ≡ false → IsFetching history faults name uid first d now → IsIdle (history d) (history e)
-    → DoneNow name uid.0 now next given (at_disk first d) (history d) (faults d) (faults e) → fetch_refusal name uid.0 first ≡ None → (given ≡ reply.Refused refusal.NoMemory) ⊎ TakesMessage name uid first (history first.disk) (history e) (faults first.disk) given
-taken_ends history faults name uid first d e stage.First next given running so idle r none = inl ((first_given name uid.0 next given (at_disk first d) r).2 none)
-taken_ends history faults name uid first d e (stage.Reading region) next given running so idle r none = absurd (more_done given (sym (r.1 running).0))
-taken_ends history faults name uid first d e (stage.Unpinning from other) next given running so idle r none =
+pub taken_ends : {D : Type 0} → (history : D → Option History) (faults : D → Faults) (name : List ℕ) (uid : Uid) (first : StoreValue D) (d e : StoreValue D) (now next : FetchStage) (given : Reply) → first.stopped ≡ false → IsFetching history faults name uid first d now → IsIdle (history d.disk) (history e.disk)
+    → IsStore (history d.disk) (at_use first d) → DoneNow name uid.0 now next given (at_use first d) (history d.disk) (faults d.disk) (faults e.disk) → fetch_refusal name uid.0 first ≡ None → (given ≡ reply.Refused refusal.NoMemory) ⊎ TakesMessage name uid first (history first.disk) (history e.disk) (faults first.disk) given
+taken_ends history faults name uid first d e stage.First next given running so idle k r none = by_other ((first_given name uid.0 next given (at_use first d) r).other none)
+  where
+    by_other : (given ≡ reply.Refused refusal.NoMemory) ⊎ ((why : Refusal) × IsAbsent name uid.0 (at_use first d) why × (given ≡ reply.Refused why)) → (given ≡ reply.Refused refusal.NoMemory) ⊎ TakesMessage name uid first (history first.disk) (history e.disk) (faults first.disk) given
+    by_other (inl memory) = inl memory
+    by_other (inr (why, absent, is)) = inr (absent_ends history faults name uid first d e given why running so idle k absent is)
+taken_ends history faults name uid first d e (stage.Reading region) next given running so idle k r none = absurd (more_done given (sym (r.1 running).0))
+taken_ends history faults name uid first d e (stage.Unpinning from other) next given running so idle is r none =
     let same : other ≡ given = sym (one_done given other (r.1 running).0) in
     let k = so.knows in
     inr (record {
       row = k.0;
       entry = k.1;
       record_is = k.3;
-      given_is = subst (λ (g : Reply). IsFetchAnswer k.0 k.1 (history e) g) same (answer_on k.0 k.1 (history d) (history e) other idle k.5);
+      given_is = subst (λ (g : Reply). IsFetchAnswer k.0 k.1 (history e.disk) g) same (answer_on k.0 k.1 (history d.disk) (history e.disk) other idle k.5);
       text = λ lists seen u0 safe.
           let u = so.served lists seen u0 safe in
           let s = u.stands.1 in
@@ -418,11 +487,11 @@ taken_ends history faults name uid first d e (stage.Unpinning from other) next g
     })
 
 -- the counts of faults
-pub faults_end : {D : Type 0} → (history : D → Option History) (faults : D → Faults) (name : List ℕ) (uid : Uid) (first : StoreValue D) (d e : D) (now next : FetchStage) (given : Reply) → first.stopped ≡ false → IsFetching history faults name uid first d now
-    → DoneNow name uid.0 now next given (at_disk first d) (history d) (faults d) (faults e) → NoChangeFault (faults d) (faults e) → ((HasFailedRead next → ⊥) → NoFault (faults d) (faults e)) → FaultsByReply given (faults first.disk) (faults e)
+pub faults_end : {D : Type 0} → (history : D → Option History) (faults : D → Faults) (name : List ℕ) (uid : Uid) (first : StoreValue D) (d e : StoreValue D) (now next : FetchStage) (given : Reply) → first.stopped ≡ false → IsFetching history faults name uid first d now
+    → DoneNow name uid.0 now next given (at_use first d) (history d.disk) (faults d.disk) (faults e.disk) → NoChangeFault (faults d.disk) (faults e.disk) → ((HasFailedRead next → ⊥) → NoFault (faults d.disk) (faults e.disk)) → FaultsByReply given (faults first.disk) (faults e.disk)
 faults_end history faults name uid first d e stage.First next given running so r fault unfailed =
-    let calm = first_calm name uid.0 next given (at_disk first d) running r in
-    let still : NoFault (faults d) (faults e) = unfailed (λ h. subst HasFailedRead (first_given name uid.0 next given (at_disk first d) r).0 h) in
+    let calm = first_calm name uid.0 next given (at_use first d) running r in
+    let still : NoFault (faults d.disk) (faults e.disk) = unfailed (λ h. subst HasFailedRead (first_given name uid.0 next given (at_use first d) r).next_is h) in
     record {
       reads = (let a = so.counted.reads in let b = fault.reads in omega (arith, a, b));
       changes = (let a = so.counted.changes in let b = fault.changes in omega (arith, a, b));
@@ -436,14 +505,14 @@ faults_end history faults name uid first d e (stage.Reading region) next given r
 faults_end history faults name uid first d e (stage.Unpinning from other) next given running so r fault unfailed =
     let done = r.1 running in
     let same : given ≡ other = one_done given other done.0 in
-    let still : NoFault (faults d) (faults e) = unfailed (λ h. subst HasFailedRead done.1 h) in
+    let still : NoFault (faults d.disk) (faults e.disk) = unfailed (λ h. subst HasFailedRead done.1 h) in
     record {
       reads = (let a = so.counted.reads in let b = fault.reads in omega (arith, a, b));
       changes = (let a = so.counted.changes in let b = fault.changes in omega (arith, a, b));
       read_fault = λ f. subst (λ (g : Faults). Rose (faults first.disk).reads g.reads) (sym still) (so.counted.failed (has_failed from other (sym same ∙ f)));
       read_alone = λ f. fault.changes ∙ so.counted.changes;
-      stopped = λ f. absurd (answer_runs so.knows.0 so.knows.1 (history d) other so.knows.5 (sym same ∙ f));
-      change_alone = λ f. absurd (answer_runs so.knows.0 so.knows.1 (history d) other so.knows.5 (sym same ∙ f));
+      stopped = λ f. absurd (answer_runs so.knows.0 so.knows.1 (history d.disk) other so.knows.5 (sym same ∙ f));
+      change_alone = λ f. absurd (answer_runs so.knows.0 so.knows.1 (history d.disk) other so.knows.5 (sym same ∙ f));
       unfailed = λ unread unstopped. still ∙ so.counted.unfailed (λ h. unread (same ∙ failed_is from other h));
     }
 
@@ -464,72 +533,96 @@ fault_seen name uid (stage.Reading region) next given store old f g seen run sai
 fault_seen name uid (stage.Unpinning from other) next given store old f g seen run said running r at fault = unpin_faulted from other run at.0 (sym (one_done given other (r.1 running).0) ∙ read_is given fault)
 
 -- it was served
-pub served_ends : {D : Type 0} → (history : D → Option History) (faults : D → Faults) (name : List ℕ) (uid : Uid) (first : StoreValue D) (d e : D) (now next : FetchStage) (how : Did) (given : Reply) → first.stopped ≡ false → IsFetching history faults name uid first d now
-    → FetchEvent history faults name uid first d e now next how (progress.Done given) → IsStore (history e) (at_disk first e) → TakesServed name uid first (history first.disk) (history e) (faults first.disk) (faults e) given
+pub served_ends : {D : Type 0} → (history : D → Option History) (faults : D → Faults) (name : List ℕ) (uid : Uid) (first : StoreValue D) (d e : StoreValue D) (now next : FetchStage) (how : Did) (given : Reply) → first.stopped ≡ false → IsFetching history faults name uid first d now
+    → FetchEvent history faults name uid first d e now next how (progress.Done given) → IsStore (history e.disk) (at_use first e) → TakesServed name uid first (history first.disk) (history e.disk) (faults first.disk) (faults e.disk) given
 served_ends history faults name uid first d e now next how given running so event k = λ lists seen u0 safe.
-    let from : Seen = seen_fetching now (at_disk first d) (history d) (faults d) in
-    let to : Seen = seen_fetching next (at_disk first e) (history e) (faults e) in
+    let from : Seen = seen_in (at_use first d) (history d.disk) (faults d.disk) in
+    let to : Seen = seen_in (at_use first e) (history e.disk) (faults e.disk) in
     let u = so.served lists seen u0 safe in
-    let s = event.does nothing_found nothing_found (λ file. 0) u.run 1 0 u.said lists u.goes.serves.come (way_shows (IsAtFetch now from) (request.Fetch name uid) lists lists seen from u) (λ runs. reads_on lists (history first.disk) (history d) so.idle safe) u.stands in
-    way_ends (IsAtFetch now from) (request.Fetch name uid) lists lists given seen from to nothing_found nothing_found how (at_disk first e) u k refl refl s.0
+    let s = event.does nothing_found nothing_found u.run 1 0 u.said lists u.goes.serves.come (way_shows (IsAtFetch now from) (request.Fetch name uid) lists lists seen from u) (λ runs. reads_on lists (history first.disk) (history d.disk) so.idle safe) u.stands in
+    way_ends (IsAtFetch now from) (request.Fetch name uid) lists lists given seen from to nothing_found nothing_found how (at_use first e) u k refl refl s.0
     (λ fault.
-    let one = fault_seen name uid.0 now next given (at_disk first d) (history d) (faults d) (faults e) from u.run u.said running event.replies u.stands fault in
+    let one = fault_seen name uid.0 now next given (at_use first d) (history d.disk) (faults d.disk) (faults e.disk) from u.run u.said running event.replies u.stands fault in
     let more = count_front is_faulted u.run.events (s.0.makes.event ∷ []) in
     omega (arith, one, more))
 
 -- ---- from what a step says
 
 -- no file is doomed, so not that which is unpinned
-pub unpins_undoomed : {D : Type 0} → (now : FetchStage) (first s : StoreValue D) → s ≡ at_disk first s.disk → ((file : ℕ) → is_doomed_in file first.files.files ≡ false) → UnpinsUndoomed now s
-unpins_undoomed (stage.Unpinning from given) first s same none = ap (λ (v : StoreValue _). is_doomed_in from.file.0 v.files.files) same ∙ none from.file.0
-unpins_undoomed stage.First first s same none = tt
-unpins_undoomed (stage.Reading region) first s same none = tt
+pub unpins_undoomed : {D : Type 0} → (now : FetchStage) (s : StoreValue D) → ((file : ℕ) → is_doomed_in file s.files.files ≡ false) → UnpinsUndoomed now s
+unpins_undoomed (stage.Unpinning from given) s none = none from.file.0
+unpins_undoomed stage.First s none = tt
+unpins_undoomed (stage.Reading region) s none = tt
 
 -- What a step of the task says, of the store as it was and as it is.
 pub record StepSaid {D : Type 0} (history : D → Option History) (faults : D → Faults) (s t : StoreValue D) (task next : FetchValue) (answer : Progress) : Type 0 where
-  pub does : (around after : Around) (others : ℕ → ℕ) → StageClause around after others task.name task.uid task.stage next.stage s t (history s.disk) (history t.disk) (faults s.disk) (faults t.disk) next.did (ended_by answer)
-  pub replies : FetchesNext task.name task.uid.0 task.stage next.stage answer s (history s.disk) (faults s.disk) (faults t.disk)
-  pub same : t ≡ record s { disk = t.disk }
-  pub idle : IsIdle (history s.disk) (history t.disk)
-  pub fault : NoChangeFault (faults s.disk) (faults t.disk)
-  pub unfailed : (HasFailedRead next.stage → ⊥) → NoFault (faults s.disk) (faults t.disk)
+  pub does : (around after : Around) → FetchSteps around after task.name task.uid task.stage next.stage s t (history s.disk) (history t.disk) (faults s.disk) (faults t.disk) next.did (ended_by answer)
+  pub alone : FetchesAlone task.name task.uid.0 task.stage next.stage next.did answer s t (history s.disk) (history t.disk) (faults s.disk) (faults t.disk)
 
-pub still_first : {D : Type 0} → (first s t : StoreValue D) → s ≡ at_disk first s.disk → t ≡ record s { disk = t.disk } → t ≡ at_disk first t.disk
-still_first {D = D} first s t a b = b ∙ ap (λ (v : StoreValue D). record v { disk = t.disk }) a
+pub still_first : {D : Type 0} → (first s t : StoreValue D) (now next : FetchStage) → s ≡ at_use first s → t ≡ record (used_by now next s) { disk = t.disk } → t ≡ at_use first t
+still_first {D = D} first s t now next a b = used_only now next s t b ∙ ap (λ (v : StoreValue D). record v { disk = t.disk; files = t.files; instances = t.instances }) a
 
-pub event_of : {D : Type 0} → (history : D → Option History) (faults : D → Faults) (name : List ℕ) (uid : Uid) (first s t : StoreValue D) (task next : FetchValue) (answer : Progress) → task.name ≡ name → task.uid ≡ uid → s ≡ at_disk first s.disk → StepSaid history faults s t task next answer
-    → FetchEvent history faults name uid first s.disk t.disk task.stage next.stage next.did answer
+-- it runs still, and its map is the same
+pub runs_on : {D : Type 0} → (first s : StoreValue D) → s ≡ at_use first s → first.stopped ≡ false → s.stopped ≡ false
+runs_on first s same runs = ap (λ (v : StoreValue _). v.stopped) same ∙ runs
+
+pub same_map : {D : Type 0} → (now next : FetchStage) (s t : StoreValue D) → t ≡ record (used_by now next s) { disk = t.disk } → s.map ≡ t.map
+same_map now next s t e = sym (ap (λ (v : StoreValue _). v.map) (used_only now next s t e))
+
+pub event_of : {D : Type 0} → (history : D → Option History) (faults : D → Faults) (name : List ℕ) (uid : Uid) (first s t : StoreValue D) (task next : FetchValue) (answer : Progress) → task.name ≡ name → task.uid ≡ uid → s ≡ at_use first s → StepSaid history faults s t task next answer
+    → FetchEvent history faults name uid first s t task.stage next.stage next.did answer
 event_of {D = D} history faults name uid first s t task next answer names uids same step = record {
-  does = λ around after others.
-      subst (λ (n : List ℕ). StageClause around after others n uid task.stage next.stage (at_disk first s.disk) (at_disk first t.disk) (history s.disk) (history t.disk) (faults s.disk) (faults t.disk) next.did (ended_by answer)) names
-      (subst (λ (u : Uid). StageClause around after others task.name u task.stage next.stage (at_disk first s.disk) (at_disk first t.disk) (history s.disk) (history t.disk) (faults s.disk) (faults t.disk) next.did (ended_by answer)) uids
-      (subst (λ (v : StoreValue D). StageClause around after others task.name task.uid task.stage next.stage (at_disk first s.disk) v (history s.disk) (history t.disk) (faults s.disk) (faults t.disk) next.did (ended_by answer)) (still_first first s t same step.same)
-      (subst (λ (v : StoreValue D). StageClause around after others task.name task.uid task.stage next.stage v t (history s.disk) (history t.disk) (faults s.disk) (faults t.disk) next.did (ended_by answer)) same (step.does around after others))));
+  does = λ around after.
+      subst (λ (n : List ℕ). FetchSteps around after n uid task.stage next.stage (at_use first s) (at_use first t) (history s.disk) (history t.disk) (faults s.disk) (faults t.disk) next.did (ended_by answer)) names
+      (subst (λ (u : Uid). FetchSteps around after task.name u task.stage next.stage (at_use first s) (at_use first t) (history s.disk) (history t.disk) (faults s.disk) (faults t.disk) next.did (ended_by answer)) uids
+      (subst (λ (v : StoreValue D). FetchSteps around after task.name task.uid task.stage next.stage (at_use first s) v (history s.disk) (history t.disk) (faults s.disk) (faults t.disk) next.did (ended_by answer)) (still_first first s t task.stage next.stage same step.alone.same)
+      (subst (λ (v : StoreValue D). FetchSteps around after task.name task.uid task.stage next.stage v t (history s.disk) (history t.disk) (faults s.disk) (faults t.disk) next.did (ended_by answer)) same (step.does around after))));
   replies =
-      subst (λ (n : List ℕ). FetchesNext n uid.0 task.stage next.stage answer (at_disk first s.disk) (history s.disk) (faults s.disk) (faults t.disk)) names
-      (subst (λ (u : Uid). FetchesNext task.name u.0 task.stage next.stage answer (at_disk first s.disk) (history s.disk) (faults s.disk) (faults t.disk)) uids
-      (subst (λ (v : StoreValue D). FetchesNext task.name task.uid.0 task.stage next.stage answer v (history s.disk) (faults s.disk) (faults t.disk)) same step.replies));
-  idle = step.idle;
-  fault = step.fault;
-  unfailed = step.unfailed;
+      subst (λ (n : List ℕ). FetchesNext n uid.0 task.stage next.stage answer (at_use first s) (history s.disk) (faults s.disk) (faults t.disk)) names
+      (subst (λ (u : Uid). FetchesNext task.name u.0 task.stage next.stage answer (at_use first s) (history s.disk) (faults s.disk) (faults t.disk)) uids
+      (subst (λ (v : StoreValue D). FetchesNext task.name task.uid.0 task.stage next.stage answer v (history s.disk) (faults s.disk) (faults t.disk)) same step.alone.replies));
+  idle = step.alone.idle;
+  fault = step.alone.fault;
+  unfailed = step.alone.unfailed;
 }
 
--- What the events say together once one has answered the request.
-pub record SaidAtEnd {D : Type 0} (history : D → Option History) (faults : D → Faults) (name : List ℕ) (uid : Uid) (first : StoreValue D) (e : D) (given : Reply) : Type 0 where
-  pub refused : (why : Refusal) → fetch_refusal name uid.0 first ≡ Some why → given ≡ reply.Refused why
-  pub found : fetch_refusal name uid.0 first ≡ None → (given ≡ reply.Refused refusal.NoMemory) ⊎ TakesMessage name uid first (history first.disk) (history e) (faults first.disk) given
-  pub served : TakesServed name uid first (history first.disk) (history e) (faults first.disk) (faults e) given
-  pub idle : IsIdle (history first.disk) (history e)
-  pub faults_are : FaultsByReply given (faults first.disk) (faults e)
+-- behind an event that goes on it isn't the first that is next
+pub room_on : {D : Type 0} → (name : List ℕ) (uid : ℕ) (now next : FetchStage) (s t : StoreValue D) (old : Option History) (f g : Faults) → s.stopped ≡ false → FetchesNext name uid now next progress.More s old f g → HasFetchRoom next t
+room_on name uid stage.First next s t old f g running b = by_cause (fetch_refusal name uid s) refl
+  where
+    by_cause : (cause : Option Refusal) → fetch_refusal name uid s ≡ cause → HasFetchRoom next t
+    by_cause (Some why) e = absurd (more_done (reply.Refused why) (b.refused why e).0)
+    by_cause None e = elim (b.begun e) [
+      | inl p ↦ subst (λ (n : FetchStage). HasFetchRoom n t) (sym p.1.2) tt
+      | inr p ↦ absurd (more_done (reply.Refused p.0) p.2)
+    ]
+room_on name uid (stage.Reading region) next s t old f g running r = by_read (r.1 running).1
+  where
+    by_read : IsPieceRead region next old f g → HasFetchRoom next t
+    by_read (inr (rose, is)) = subst (λ (n : FetchStage). HasFetchRoom n t) (sym is) tt
+    by_read (inl (piece, told, goes)) = by_size (cases_lt 0 (pieces_left (left_after region.left)))
+      where
+        by_size : (0 < pieces_left (left_after region.left)) ⊎ (pieces_left (left_after region.left) ≤ 0) → HasFetchRoom next t
+        by_size (inl more) = subst (λ (n : FetchStage). HasFetchRoom n t) (sym (goes.more more)) tt
+        by_size (inr last) = subst (λ (n : FetchStage). HasFetchRoom n t) (sym (goes.last (omega (arith, last))).1) tt
+room_on name uid (stage.Unpinning from given) next s t old f g running r = absurd (more_done given (r.1 running).0)
 
-pub said_at_end : {D : Type 0} → (history : D → Option History) (faults : D → Faults) (name : List ℕ) (uid : Uid) (first : StoreValue D) (d e : D) (now next : FetchStage) (how : Did) (answer : Progress) (given : Reply) → answer ≡ progress.Done given → first.stopped ≡ false → IsFetching history faults name uid first d now
-    → FetchEvent history faults name uid first d e now next how answer → IsStore (history e) (at_disk first e) → SaidAtEnd history faults name uid first e given
-said_at_end history faults name uid first d e now next how answer given done running so event k =
+-- What the events say together once one has answered the request.
+pub record SaidAtEnd {D : Type 0} (history : D → Option History) (faults : D → Faults) (name : List ℕ) (uid : Uid) (first e : StoreValue D) (given : Reply) : Type 0 where
+  pub refused : (why : Refusal) → fetch_refusal name uid.0 first ≡ Some why → given ≡ reply.Refused why
+  pub found : fetch_refusal name uid.0 first ≡ None → (given ≡ reply.Refused refusal.NoMemory) ⊎ TakesMessage name uid first (history first.disk) (history e.disk) (faults first.disk) given
+  pub served : TakesServed name uid first (history first.disk) (history e.disk) (faults first.disk) (faults e.disk) given
+  pub idle : IsIdle (history first.disk) (history e.disk)
+  pub faults_are : FaultsByReply given (faults first.disk) (faults e.disk)
+
+pub said_at_end : {D : Type 0} → (history : D → Option History) (faults : D → Faults) (name : List ℕ) (uid : Uid) (first d e : StoreValue D) (now next : FetchStage) (how : Did) (answer : Progress) (given : Reply) → answer ≡ progress.Done given → first.stopped ≡ false → IsFetching history faults name uid first d now
+    → FetchEvent history faults name uid first d e now next how answer → IsStore (history d.disk) (at_use first d) → IsStore (history e.disk) (at_use first e) → SaidAtEnd history faults name uid first e given
+said_at_end history faults name uid first d e now next how answer given done running so event before k =
     let last = subst (λ (a : Progress). FetchEvent history faults name uid first d e now next how a) done event in
     record {
       refused = refused_ends history faults name uid first d e now next given running so last.replies;
-      found = taken_ends history faults name uid first d e now next given running so last.idle last.replies;
+      found = taken_ends history faults name uid first d e now next given running so last.idle before last.replies;
       served = served_ends history faults name uid first d e now next how given running so last k;
-      idle = idle-then (history first.disk) (history d) (history e) so.idle last.idle;
+      idle = idle-then (history first.disk) (history d.disk) (history e.disk) so.idle last.idle;
       faults_are = faults_end history faults name uid first d e now next given running so last.replies last.fault last.unfailed;
     }

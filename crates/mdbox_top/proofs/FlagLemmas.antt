@@ -113,7 +113,7 @@ flag_tells name uid flags given old mid new began now s t how w = record {
       );
   done = λ e. has_flagged name uid flags given old mid new began now s t how w (unstopped name uid flags given old mid new began now s t how w (done_runs given e)) e;
   settled = λ running lists at. w.settled (unstopped name uid flags given old mid new began now s t how w running) lists (w.opened.settled_again lists at);
-  mail = opened_mail old mid new s given w.opened (λ running. w.mail (unstopped name uid flags given old mid new began now s t how w running));
+  mail = opened_mail (t.stopped ≡ false) old mid new s given w.opened (λ running. unstopped name uid flags given old mid new began now s t how w running) w.mail;
 }
 
 pub flag_leaves : {D : Type 0} → (name : List ℕ) (uid : Uid) (flags : ℕ) (given : Reply) (old mid new : Option History) (began now : Faults) (s t : StoreValue D) (how : Did) → Doing (request.Flag name uid flags) given old mid new began now s t how → FlagMoments name uid flags old new

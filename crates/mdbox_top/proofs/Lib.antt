@@ -25,5 +25,6 @@ pub mod SaveLemmas
 pub mod SavedFormLemmas
 pub mod ServedLemmas
 pub mod ShownLemmas
+pub mod StaysLemmas
 pub mod UnderWayLemmas
 pub mod WroteLemmas

@@ -43,6 +43,7 @@ use Rattle.mdbox_top.specs.Alone.{IsDoneAlone, IsUnopened}
 use Rattle.mdbox_top.specs.Changed.{IsChangeAnswer, AreOneOf}
 use Rattle.mdbox_top.specs.ChangeEvents.{ServesAlone, ShowsChanged, MeansAsBefore, MakingLeaves, MakesAlone}
 use Rattle.mdbox_top.specs.MakeRun.{next_mailbox, lists_by_making, AreMade, IsMakeReply, MakeMoments, MakeRests}
+use Rattle.mdbox_top.proofs.MailLemmas.{opened_stays}
 use Rattle.mdbox_top.proofs.AloneLemmas.{alone_faults}
 use Rattle.mdbox_top.proofs.ChangeLemmas.{ChangeEvent, SoFar, so_far_begins, so_far_on, so_far_serves, opens_unchanged, moments_as}
 use Rattle.mdbox_top.proofs.CopyLemmas.{one_refusal, none_made, unremembered_runs}
@@ -371,7 +372,7 @@ make_tells name given old mid new began now s t w =
           (subst (λ (m : MapMeaning). IsOpenedAs new m (indexes_of s.boxes ++ box_meaning [] ∷ [])) more.map_is
           (subst (λ (ms : List BoxMeaning). IsOpenedAs new t.map ms) more.indexes (opens_again new t w.later (make_runs name given old mid new began now s t w (done_runs given e)))));
       settled = λ running lists at. subst (λ (n : ℕ). IsSettledFor (lists_by_making n name given lists) new) next (w.makes.serves.settled (make_runs name given old mid new began now s t w running) lists (w.opened.settled_again lists at));
-      files = record { generation = w.opened.swept.0; opened = mid; swept = w.opened.swept.1; stays = w.opened.stays; mail = λ running. w.makes.serves.mail (make_runs name given old mid new began now s t w running); undone = λ running undone. reads_alike w.opened.swept.0 (next_of s) s.map old mid new w.opened.swept.1 w.fresh (w.makes.files running undone) };
+      files = record { generation = w.opened.swept.0; opened = mid; swept = w.opened.swept.1; stays = opened_stays old mid new w.opened.reads w.opened.stays w.makes.serves.mail.stays; mail = λ running. w.makes.serves.mail.left (make_runs name given old mid new began now s t w running); undone = λ running undone. reads_alike w.opened.swept.0 (next_of s) s.map old mid new w.opened.swept.1 w.fresh (w.makes.files running undone) };
     }
 
 abbrev SafeForMade : List ℕ → Option History → Lists → ℕ → Files → Type 0

@@ -480,7 +480,7 @@ move_tells name uid target given old mid new began now s t w show = record {
   };
   here = λ lists safe moved e. w.moves.here moved e lists (before_opening (seen_alone s mid began) old) (way_opens (IsAtMove uid stage.First) (request.Move name uid target) lists old mid began s w.opened show safe (refl, refl));
   settled = λ running lists at. w.moves.changes.settled (move_runs name uid target given old mid new began now s t w running) lists (w.opened.settled_again lists at);
-  mail = opened_mail old mid new s given w.opened (λ running. w.moves.changes.mail (move_runs name uid target given old mid new began now s t w running));
+  mail = opened_mail (t.stopped ≡ false) old mid new s given w.opened (λ running. move_runs name uid target given old mid new began now s t w running) w.moves.changes.mail;
 }
 
 by_reply : (name : List ℕ) (uid : Uid) (target : List ℕ) (given : Reply) (lists : Lists) (new : Option History) → IsSettledFor (lists_told (request.Move name uid target) given lists) new → IsSettledFor lists new ⊎ (IsSettledFor (copied_lists name uid target lists) new ⊎ IsSettledFor (moved_lists name uid target lists) new)

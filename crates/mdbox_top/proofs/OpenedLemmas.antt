@@ -16,7 +16,7 @@ use Rattle.journal.specs.Found.{is_same_instance}
 use Rattle.sis_store.proofs.IdLemmas.{same_id}
 use Rattle.sis_store.specs.Instances.{has_id, instance_found, instance_in}
 use Rattle.sis_store.specs.declared.instance.KnownInstance.{KnownInstance}
-use Rattle.storage_files.specs.Files.{AreFilesInOrder, FilesValue, end_in, file_found, file_in, is_doomed_in}
+use Rattle.storage_files.specs.Files.{AreFilesInOrder, FilesValue, end_in, file_found, file_in, is_doomed_in, pins_in}
 use Rattle.storage_files.specs.declared.file.FileState.{FileState}
 use Rattle.storage_files.specs.declared.file.MailFile.{MailFile}
 use Rattle.store_core.specs.Knows.{knows_file, knows_instance, is_told_of}
@@ -120,6 +120,14 @@ pub none_doomed : {D : Type 0} → (s : StoreValue D) (old : Option History) →
 none_doomed s old f file = ap (λ (v : FilesValue). is_doomed_in file v.files) f.is ∙ (ap (λ (o : Option MailFile). option_map_or (λ (g : MailFile). g.doomed) o false) (found_in file f.states) ∙ same (find (λ (t : FileState). t.file.0 == file) f.states))
   where
     same : (o : Option FileState) → option_map_or (λ (g : MailFile). g.doomed) (option_map file_found o) false ≡ false
+    same None = refl
+    same (Some t) = refl
+
+-- nor is one pinned
+pub none_pinned : {D : Type 0} → (s : StoreValue D) (old : Option History) → IsFoundFiles s.map old s.files → (file : ℕ) → pins_in file s.files.files ≡ 0
+none_pinned s old f file = ap (λ (v : FilesValue). pins_in file v.files) f.is ∙ (ap (λ (o : Option MailFile). option_map_or (λ (g : MailFile). g.pins) o 0) (found_in file f.states) ∙ same (find (λ (t : FileState). t.file.0 == file) f.states))
+  where
+    same : (o : Option FileState) → option_map_or (λ (g : MailFile). g.pins) (option_map file_found o) 0 ≡ 0
     same None = refl
     same (Some t) = refl
 

@@ -28,6 +28,8 @@ use Rattle.mdbox_base.specs.declared.replies.Reply.{Reply}
 use Rattle.mdbox_base.specs.declared.replies.Reply.TheVariants as reply
 use Rattle.mdbox_base.specs.declared.requests.Request.{Request}
 use Rattle.mdbox_base.specs.declared.requests.Request.TheVariants as request
+use Rattle.model_kept.specs.Kept.{MailIsKept, NeedsAllOf}
+use Rattle.model_kept.proofs.KeptLemmas.{ReadsImage, kept_begins, kept_for_less, kept_then}
 use Rattle.model_lists.specs.Lists.{Lists, AreWellFormed}
 use Rattle.model_appends.specs.Appending.{lists_by, meanings_by}
 use Rattle.model_meaning.specs.BoxMeaning.{BoxMeaning}
@@ -65,7 +67,7 @@ use Rattle.mail_save.specs.Left.{HoldsRegion}
 use Rattle.mail_save.specs.MailFiles.{HasAppended, TakesWithHeader, ReadsSameMail, WritesAttachment, WritesMail}
 use Rattle.mail_save.specs.Record.{entry_stored}
 use Rattle.mail_save.specs.SaveEffects.{AttachesNext, AttachesNone, LetsGo, TakesFileFor, TookAs, TakesNone, PlacesParts, StoresPlaced, StoresNone, AddsStored, LowersRecord, SaveEffects}
-use Rattle.mail_save.specs.Ready.{IsReadyToSave, IsRegionReady, delivered_lists, save_lists, lists_delivered}
+use Rattle.mail_save.specs.Ready.{IsReadyToSave, IsPlacedReady, delivered_lists, save_lists, lists_delivered}
 use Rattle.mail_save.specs.SaveSeen.{IsAtSave, StepsWithRoom, around_saving}
 use Rattle.mail_save.specs.Task.{FaultsAt, HasLeft, IsAttachRefusal, RepliesAt, Saves, stopped_reply}
 use Rattle.mail_save.specs.declared.add.Added.{Added}
@@ -85,6 +87,7 @@ use Rattle.mdbox_top.proofs.FirstLemmas.{AreFirstKnown, firsts_let_go, firsts_na
 use Rattle.mdbox_top.proofs.ReplyFaultLemmas.{fault_event, replied_faults}
 use Rattle.mdbox_top.proofs.RoomLemmas.{finds_room, of_one}
 use Rattle.mdbox_top.proofs.SavedFormLemmas.{AttachedAs, attached_as, attaching_parts, ready_instances}
+use Rattle.mdbox_top.proofs.StaysLemmas.{needs_same, needs_stored}
 use Rattle.mdbox_top.proofs.WroteLemmas.{AreAmong, added_among, added_none, added_on, compares_attachment, instances_on, places_attachment, took_mail, wrote_mail, wrote_on}
 use Rattle.mdbox_top.proofs.UnderWayLemmas.{nothing_found, way_shows, way_goes_on, way_ends}
 
@@ -175,6 +178,8 @@ pub record SaveEvent {D : Type 0} (history : D → Option History) (faults : D �
   pub had : HasLeft now name time s (history s.disk)
   pub left : answer ≡ progress.More → HasLeft next name time t (history t.disk)
   pub mail : t.stopped ≡ false → WritesMail now next name time s (history s.disk) (history t.disk)
+  pub stays : MailIsKept s.map (history s.disk) (history t.disk)
+  pub reads : IfTold (history s.disk) ReadsImage
 
 -- ---- so far
 
@@ -269,6 +274,25 @@ pub record IsSavingAlone {D : Type 0} (history : D → Option History) (faults :
   pub settled : (lists : Lists) → IsSettledFor lists (history first.disk) → IsSettledFor lists (history s.disk)
   pub way : (lists : Lists) (seen : Seen) → IsWayTo HasNotBegun (request.Deliver name time octets) lists seen first (history first.disk) (faults first.disk) lists → IsWayTo (IsAtSave now) (request.Deliver name time octets) lists seen s (history s.disk) (faults s.disk) lists
   pub knows : SaveKnows history name time octets prepared first s now
+  pub stays : MailIsKept first.map (history first.disk) (history s.disk)
+
+-- what the map needed as the delivery began, it needs still
+needs_still : {D : Type 0} → (history : D → Option History) (name : List ℕ) (time : ℕ) (octets : List ℕ) (prepared : Prepared) (first s : StoreValue D) (now : SaveStage) → SaveKnows history name time octets prepared first s now → HasLeft now name time s (history s.disk) → NeedsAllOf s.map first.map
+needs_still history name time octets prepared first s (stage.First form) knows had = needs_same first.map s.map (ap (λ (v : StoreValue _). v.map) knows)
+needs_still history name time octets prepared first s (stage.Attaching parts attaching) knows had = needs_same first.map s.map knows.0.logs.map
+needs_still history name time octets prepared first s (stage.Taking parts) knows had = needs_same first.map s.map knows.logs.map
+needs_still history name time octets prepared first s (stage.Placing parts file) knows had = needs_same first.map s.map knows.logs.map
+needs_still history name time octets prepared first s (stage.Storing at rows room) knows had = needs_same first.map s.map knows.logs.map
+needs_still history name time octets prepared first s (stage.Adding added room) knows had = needs_stored first.map s.map knows.0.stored.rows added.map_uid knows.0.stored.at knows.0.stored.more.map_is
+needs_still history name time octets prepared first s (stage.GivingBack uid why room) knows had = needs_stored first.map s.map knows.1.stored.rows uid knows.1.stored.at knows.1.stored.more.map_is
+needs_still history name time octets prepared first s stage.Ended knows had = absurd had
+
+-- storage files and instances stay over one event more
+stays_on : {D : Type 0} → (history : D → Option History) (faults : D → Faults) (name : List ℕ) (time : ℕ) (octets : List ℕ) (prepared : Prepared) (first s t : StoreValue D) (now next : SaveStage) (how : Did) (answer : Progress) → IsSavingAlone history faults name time octets prepared first s now
+    → SaveEvent history faults name time octets now next s t how answer → MailIsKept first.map (history first.disk) (history t.disk)
+stays_on history faults name time octets prepared first s t now next how answer so event =
+    kept_then first.map (history first.disk) (history s.disk) (history t.disk) event.reads so.stays
+    (kept_for_less s.map first.map (history s.disk) (history t.disk) (needs_still history name time octets prepared first s now so.knows event.had) event.stays)
 
 pub saving_begins : {D : Type 0} → (history : D → Option History) (faults : D → Faults) (name : List ℕ) (time : ℕ) (octets : List ℕ) (prepared : Prepared) (first : StoreValue D) → IsPrepared octets prepared → first.stopped ≡ false
     → IsSavingAlone history faults name time octets prepared first first (stage.First prepared)
@@ -280,6 +304,7 @@ saving_begins history faults name time octets prepared first form running = reco
   settled = λ lists at. at;
   way = λ lists seen u. u;
   knows = refl;
+  stays = kept_begins first.map (history first.disk);
 }
 
 -- what the steps of the task have answered: nothing, before it replies
@@ -313,6 +338,7 @@ saving_by history faults name time octets prepared first s t now next how so eve
       let is : and_told u.said d.0.makes.answer ≡ [] = said_none next refusal.NoMemory (and_then u.run d.0.makes.event) (and_told u.said d.0.makes.answer) (d.1 refl) (known_only history name time octets prepared first t next knows) in
       subst (λ (ls : Lists). IsUnderWay (IsAtSave next) asked lists seen to ls) (none_made u.run asked d.0.makes.event u.said d.0.makes.answer lists d.0.left was is d.0.makes.made) v;
   knows = knows;
+  stays = stays_on history faults name time octets prepared first s t now next how progress.More so event;
 }
   where
     asked : Request
@@ -507,7 +533,7 @@ alike_let_go found first left t go a = record { indexes = ap (λ (v : StoreValue
 map_let_go : {D : Type 0} → (found : List InstRow) (left t : StoreValue D) → LetsGo found left t → t.map ≡ left.map
 map_let_go found left t go = ap (λ (v : StoreValue _). v.map) go
 
-recorded_alone : {D : Type 0} → (history : D → Option History) (name : List ℕ) (time : ℕ) (octets : List ℕ) (prepared : Prepared) (at : SavedAt) (rows : List InstRow) (size : ℕ) (added : Added) (first s left t : StoreValue D) → IsPrepared octets prepared → IsRegionReady at rows name time octets (history s.disk)
+recorded_alone : {D : Type 0} → (history : D → Option History) (name : List ℕ) (time : ℕ) (octets : List ℕ) (prepared : Prepared) (at : SavedAt) (rows : List InstRow) (size : ℕ) (added : Added) (first s left t : StoreValue D) → IsPrepared octets prepared → IsPlacedReady at rows name time octets (history s.disk)
     → AreFirstKnown rows s.instances.known (history s.disk) → PlacedAlone history name time prepared first s at rows → StoresPlaced at rows time size added s left → LetsGo rows left t → ReadsSameMail (history s.disk) (history t.disk) → RecordedAlone history name time prepared first t added.map_uid added.guid
 recorded_alone history name time octets prepared at rows size added first s left t form ready firsts knows e go same = record {
   alike = alike_let_go rows first left t go (stored_alike at rows time size added first s left knows.logs e);
@@ -591,6 +617,7 @@ pub record EndsSaving {D : Type 0} (name : List ℕ) (time : ℕ) (octets : List
   pub settled : t.stopped ≡ false → (lists : Lists) → IsSettledFor lists old → IsSettledFor (lists_told (request.Deliver name time octets) given lists) new
   pub halts : (given ≡ reply.Refused refusal.Stopped) ↔ (t.stopped ≡ true)
   pub faults : FaultsByReply given began now
+  pub stays : MailIsKept first.map old new
 
 saving_ended : {D : Type 0} → (history : D → Option History) (faults : D → Faults) (name : List ℕ) (time : ℕ) (octets : List ℕ) (prepared : Prepared) (first s t : StoreValue D) (now next : SaveStage) (how : Did) (given : Reply) → IsSavingAlone history faults name time octets prepared first s now
     → SaveEvent history faults name time octets now next s t how (progress.Done given) → IsStore (history t.disk) t → ((lists : Lists) → lists_delivered now name octets (progress.Done given) lists ≡ lists_told (request.Deliver name time octets) given lists)
@@ -604,6 +631,7 @@ saving_ended history faults name time octets prepared first s t now next how giv
   settled = λ runs lists at. subst (λ (ls : Lists). IsSettledFor ls (history t.disk)) (told lists) (event.settled runs lists (so.settled lists at));
   halts = record { 0 = λ e. event.stopped.0 (ap progress.Done e); 1 = λ e. one_done given (reply.Refused refusal.Stopped) (event.stopped.1 e) };
   faults = subst (λ (f : Faults). FaultsByReply given f (faults t.disk)) so.unfailed (replied_faults given (faults s.disk) (faults t.disk) event.failed);
+  stays = stays_on history faults name time octets prepared first s t now next how (progress.Done given) so event;
 }
   where
     asked : Request
@@ -641,6 +669,7 @@ early_saves name time octets prepared first t old new began now why e same mail 
   settled = ends.settled;
   halts = ends.halts;
   faults = ends.faults;
+  stays = ends.stays;
 }
 
 -- Where nothing refuses it, it is stopped; or out of memory, of numbers of files or of instances, or a candidate can't be read, with
@@ -710,6 +739,7 @@ late_saves name time octets prepared first t old new began now why free late end
   settled = ends.settled;
   halts = ends.halts;
   faults = ends.faults;
+  stays = ends.stays;
 }
 
 -- saved
@@ -771,6 +801,7 @@ done_saves history name time octets prepared added uid guid first s t began now 
   settled = ends.settled;
   halts = ends.halts;
   faults = ends.faults;
+  stays = ends.stays;
 }
   where
     at : SavedAt
@@ -971,6 +1002,7 @@ has_size stage.Ended name time size octets s h ready = ready.0
 -- What a step of the task says, of the store as it was and as it is.
 pub record SaveSaid {D : Type 0} (history : D → Option History) (faults : D → Faults) (name : List ℕ) (time size : ℕ) (octets : List ℕ) (now next : SaveStage) (s t : StoreValue D) (how : Did) (answer : Progress) : Type 0 where
   pub is : IsStore (history s.disk) s
+  pub reads : IfTold (history s.disk) ReadsImage
   pub ready : IsReadyToSave now name time size octets s (history s.disk)
   pub had : HasLeft now name time s (history s.disk)
   pub moments : (lists : Lists) → IsSettledFor lists (history s.disk) → Leaves lists (save_lists now name octets lists) (history s.disk) (history t.disk)
@@ -1012,6 +1044,8 @@ save_event history faults name time size octets now next s t how answer runs sai
       had = said.had;
       left = says.left;
       mail = says.mail;
+      stays = says.stays;
+      reads = said.reads;
     }
 
 pub save_goes_on : {D : Type 0} → (history : D → Option History) (faults : D → Faults) (name : List ℕ) (time size : ℕ) (octets : List ℕ) (prepared : Prepared) (first s t : StoreValue D) (now next : SaveStage) (how : Did) (answer : Progress) → answer ≡ progress.More → IsSavingAlone history faults name time octets prepared first s now

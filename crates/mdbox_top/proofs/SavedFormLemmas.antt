@@ -25,7 +25,7 @@ use Rattle.saved_message.proofs.RegionLemmas.{after_references, before_reference
 use Rattle.sis_store.specs.declared.instance.KnownInstance.{KnownInstance}
 use Rattle.store_core.specs.Value.{StoreValue}
 use Rattle.mail_save.specs.Parts.{AreAttached, AreBeingAttached, AreLaidOut}
-use Rattle.mail_save.specs.Ready.{IsRegionReady}
+use Rattle.mail_save.specs.Ready.{IsPlacedReady}
 use Rattle.mail_save.specs.SaveEffects.{saved_row}
 use Rattle.mail_save.specs.declared.first.SavedParts.{SavedParts}
 use Rattle.mail_save.specs.declared.place.SavedAt.{SavedAt}
@@ -87,11 +87,11 @@ pub attaching_parts : {D : Type 0} → (name : List ℕ) (time : ℕ) (octets : 
 attaching_parts name time octets prepared parts attaching s history form a = a.parts_are ∙ ap (λ (p : Prepared). p.parts) (prepared_same octets a.prepared prepared a.form form)
 
 -- the instances of a region that is ready have the octets of the attachments
-pub ready_instances : (at : SavedAt) (rows : List InstRow) (name : List ℕ) (time : ℕ) (octets : List ℕ) (prepared : Prepared) (history : Option History) → IsPrepared octets prepared → IsRegionReady at rows name time octets history
+pub ready_instances : (at : SavedAt) (rows : List InstRow) (name : List ℕ) (time : ℕ) (octets : List ℕ) (prepared : Prepared) (history : Option History) → IsPrepared octets prepared → IsPlacedReady at rows name time octets history
     → IfTold history (λ now. HasInstances (files_of now) rows (attachment_octets prepared.parts))
 ready_instances at rows name time octets prepared history form r =
     if_told-map (λ now. HasWritten (files_of now) (saved_row rows any at) name time r.prepared) (λ now. HasInstances (files_of now) rows (attachment_octets prepared.parts)) history
-    (λ now w. subst (λ (p : Prepared). HasInstances (files_of now) rows (attachment_octets p.parts)) (prepared_same octets r.prepared prepared r.form form) w.octets) (r.written any)
+    (λ now w. subst (λ (p : Prepared). HasInstances (files_of now) rows (attachment_octets p.parts)) (prepared_same octets r.prepared prepared r.can.form form) w.octets) (r.written any)
   where
     any : MapUid
     any = record { 0 = 1 }

@@ -2,7 +2,7 @@
 use Rattle.std.specs.Prelude.{◌≡◌, ◌↔◌, ℕ, false, true, List, [], Option, Some}
 use Rattle.std.proofs.Common.{refl, sym, ◌∙◌, ap, subst, append-nil}
 use Rattle.std.proofs.lemmas.List.Elements.{All-nil}
-use Rattle.disk_model.specs.Disk.{History, Faults, EachImage}
+use Rattle.disk_model.specs.Disk.{History, Faults, EachImage, IfTold}
 use Rattle.disk_model.specs.FaultCounts.{NoFault, ChangeFaultCounted}
 use Rattle.mdbox_base.specs.declared.progress.Did.{Did}
 use Rattle.mdbox_base.specs.declared.progress.Did.TheVariants as did
@@ -22,7 +22,6 @@ use Rattle.journal.specs.Events.{Around}
 use Rattle.journal.specs.Journal.{is_read_fault}
 use Rattle.task_steps.specs.Step.{Seen, ShowsSeen, HasComeTo, HasNotBegun, DidEvent, Steps, ended_by}
 use Rattle.storage_files.specs.Files.{AreFilesInOrder}
-use Rattle.store_core.specs.Keeping.{KeepsMail}
 use Rattle.store_core.specs.Running.{IsStore}
 use Rattle.store_files.specs.Found.{IsFoundFiles}
 use Rattle.store_instances.specs.FoundInstances.{IsFoundInstances}
@@ -30,8 +29,8 @@ use Rattle.store_core.specs.Value.{none_due, StoreValue, indexes_of}
 use Rattle.store_seen.proofs.SeeingLemmas.{comes_at_first}
 use Rattle.store_open.specs.Opened.{IsOpenedAs, StoreCarries, KeepsOpenedMail, IsClosedWell}
 use Rattle.store_sweep.specs.Swept.{IsSwept}
-use Rattle.mail_ops.proofs.KeptMailLemmas.{mail_unnamed}
-use Rattle.mail_ops.specs.Making.{NamesMail}
+use Rattle.mail_ops.specs.SparedMail.{SparesMail}
+use Rattle.model_kept.proofs.KeptLemmas.{ReadsImage}
 use Rattle.mail_ops.specs.Requests.{Replies, AppendsNothing, lists_after, lists_by_reply}
 use Rattle.mail_ops.specs.Task.{TaskValue, IsAt}
 use Rattle.mail_ops.specs.declared.task.TaskStage.TheVariants as stage
@@ -60,6 +59,7 @@ pub record OpenedNow {D : Type 0} (old mid : Option History) (s : StoreValue D) 
   pub carried : StoreCarries old mid
   pub swept : (generation : ℕ) × IsSwept generation s.map old mid
   pub stays : KeepsOpenedMail old mid
+  pub reads : IfTold mid ReadsImage
   pub closed_well : IdleIf IsClosedWell old mid
 
 -- the run has come to it
@@ -104,7 +104,7 @@ pub record Doing {D : Type 0} (request : Request) (given : Reply) (old mid new :
   pub unchanged : AppendsNothing request s → new ≡ mid
   pub moments : (lists : Lists) → IsSettledFor lists mid → Leaves lists (lists_after request lists) mid new
   pub settled : t.stopped ≡ false → (lists : Lists) → IsSettledFor lists mid → IsSettledFor (lists_by_reply request given lists) new
-  pub mail : t.stopped ≡ false → NamesMail mid new
+  pub mail : SparesMail (t.stopped ≡ false) mid new
   pub halts : (given ≡ reply.Refused refusal.Stopped) ↔ (t.stopped ≡ true)
   pub fault : ChangeFaultCounted (given ≡ reply.Refused refusal.Stopped) began now
   pub unfailed : (given ≡ reply.Refused refusal.Stopped → ⊥) → NoFault began now
@@ -130,7 +130,7 @@ pub record Stepped {D : Type 0} (history : D → Option History) (faults : D →
   pub does : (around after : Around) → Steps (IsAt task.stage) (IsAt next.stage) around after task.request (seen_alone s (history s.disk) (faults s.disk)) (seen_alone t (history t.disk) (faults t.disk)) next.did (ended_by answer)
   pub moments : (lists : Lists) → IsSettledFor lists (history s.disk) → Leaves lists (lists_after task.request lists) (history s.disk) (history t.disk)
   pub settled : t.stopped ≡ false → (given : Reply) → answer ≡ progress.Done given → (lists : Lists) → IsSettledFor lists (history s.disk) → IsSettledFor (lists_by_reply task.request given lists) (history t.disk)
-  pub mail : t.stopped ≡ s.stopped → KeepsMail (history s.disk) (history t.disk)
+  pub mail : SparesMail (t.stopped ≡ s.stopped) (history s.disk) (history t.disk)
   pub stopped : (answer ≡ progress.Done (reply.Refused refusal.Stopped)) ↔ (t.stopped ≡ true)
   pub fault : s.stopped ≡ false → ChangeFaultCounted (answer ≡ progress.Done (reply.Refused refusal.Stopped)) (faults s.disk) (faults t.disk)
   pub unfailed : (answer ≡ progress.Done (reply.Refused refusal.Stopped) → ⊥) → NoFault (faults s.disk) (faults t.disk)
@@ -156,7 +156,7 @@ doing history faults request given old s t task next answer is done o k step =
       unchanged = λ nothing. ap (λ (v : StoreValue _). history v.disk) (now.same nothing);
       moments = now.moments;
       settled = λ runs lists at. now.settled runs given refl lists at;
-      mail = λ runs. mail_unnamed (history s.disk) (history t.disk) (now.mail (runs ∙ sym o.running));
+      mail = record { stays = now.mail.stays; left = λ runs. now.mail.left (runs ∙ sym o.running) };
       halts = record { 0 = λ e. now.stopped.0 (ap progress.Done e); 1 = λ e. done_one given (reply.Refused refusal.Stopped) (now.stopped.1 e) };
       fault = record { reads = fault.reads; changes = fault.changes; rose = λ e. fault.rose (ap progress.Done e) };
       unfailed = λ no. now.unfailed (λ e. no (done_one given (reply.Refused refusal.Stopped) e));

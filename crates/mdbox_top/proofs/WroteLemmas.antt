@@ -26,6 +26,8 @@ use Rattle.store_core.specs.Value.{StoreValue}
 use Rattle.store_files.specs.Regions.{has_region}
 use Rattle.store_sweep.specs.Moments.{IsFitted}
 use Rattle.store_sweep.specs.Swept.{IsSwept}
+use Rattle.task_claims.specs.Leaving.{IsSameOrSynced}
+use Rattle.mail_save.proofs.MailFileLemmas.{synced_reads}
 use Rattle.mail_save.specs.MailFiles.{AddsInstance, HasAppended, TakesWithHeader, ReadsSameMail, WritesAttachment}
 use Rattle.mail_save.specs.declared.place.SavedAt.{SavedAt}
 use Rattle.mdbox_top.specs.DeliverRun.{WroteMessage}
@@ -34,10 +36,10 @@ use Rattle.mdbox_top.specs.SavedMail.{AddsAttachments, AddsOnly, IsNewAttachment
 -- ---- what is written
 
 abbrev OtherMail : ℕ → DiskState → DiskState → Type 0
-OtherMail file a b = ((number : ℕ) → number ≢ file → reading (b (Mail number)) ≡ reading (a (Mail number))) × ((hash id : List ℕ) → reading (b (Inst hash id)) ≡ reading (a (Inst hash id)))
+OtherMail file a b = ((number : ℕ) → number ≢ file → IsSameOrSynced (a (Mail number)) (b (Mail number))) × ((hash id : List ℕ) → reading (b (Inst hash id)) ≡ reading (a (Inst hash id)))
 
 abbrev SameMail : DiskState → DiskState → Type 0
-SameMail a b = ((number : ℕ) → reading (b (Mail number)) ≡ reading (a (Mail number))) × ((hash id : List ℕ) → reading (b (Inst hash id)) ≡ reading (a (Inst hash id)))
+SameMail a b = ((number : ℕ) → IsSameOrSynced (a (Mail number)) (b (Mail number))) × ((hash id : List ℕ) → reading (b (Inst hash id)) ≡ reading (a (Inst hash id)))
 
 -- ---- instances
 
@@ -80,7 +82,7 @@ added_among parts rows more old new among added =
 
 -- an event that writes to none
 pub added_none : (parts : List Detached) (rows : List InstRow) (before after : Option History) → ReadsSameMail before after → AddedMail parts rows before after
-added_none parts rows before after same = between-map SameMail (AddsOnly parts rows) before after (λ a b s. record { files = s.0; instances = same_attachments parts rows a b s.1 }) same
+added_none parts rows before after same = between-map SameMail (AddsOnly parts rows) before after (λ a b s. record { files = λ number. synced_reads (a (Mail number)) (b (Mail number)) (s.0 number); instances = same_attachments parts rows a b s.1 }) same
 
 -- one instance, or another
 one_instance : (hash id other mine : List ℕ) → ((hash ≡ other) × (id ≡ mine)) ⊎ (Inst hash id ≢ Inst other mine)
@@ -111,13 +113,13 @@ attachment_new parts rows part id a b among of_rows none others has = λ other m
 adds_attachment : (parts : List Detached) (rows : List InstRow) (part : Detached) (id : InstId) (before after : Option History) → Contains parts part → Contains rows (part_row part id) → AddsInstance (part_row part id) part.octets before after → AddedMail parts rows before after
 adds_attachment parts rows part id before after among of_rows h =
     between-since (λ a b. (Files a b × Others a b) × (reading (a (Inst part.hash.0 id.0)) ≡ None)) (AddsOnly parts rows) (λ b. Keeps (b (Inst part.hash.0 id.0)) part.octets) before after
-    (λ a b both kept. record { files = both.0.0; instances = attachment_new parts rows part id a b among of_rows both.1 both.0.1 kept.reads })
+    (λ a b both kept. record { files = λ number. synced_reads (a (Mail number)) (b (Mail number)) (both.0.0 number); instances = attachment_new parts rows part id a b among of_rows both.1 both.0.1 kept.reads })
     (between-if (λ a b. Files a b × Others a b) (λ a b. (Files a b × Others a b) × (reading (a (Inst part.hash.0 id.0)) ≡ None)) (λ a. reading (a (Inst part.hash.0 id.0)) ≡ None) before after (λ a b both none. (both, none))
     (between-both Files Others (λ a b. Files a b × Others a b) before after (λ a b f o. (f, o)) h.files h.others) h.fresh)
     h.made
   where
     Files : DiskState → DiskState → Type 0
-    Files a b = (number : ℕ) → reading (b (Mail number)) ≡ reading (a (Mail number))
+    Files a b = (number : ℕ) → IsSameOrSynced (a (Mail number)) (b (Mail number))
 
     Others : DiskState → DiskState → Type 0
     Others a b = (other mine : List ℕ) → Inst other mine ≢ Inst part.hash.0 id.0 → reading (b (Inst other mine)) ≡ reading (a (Inst other mine))
@@ -164,11 +166,11 @@ took_now parts rows time file header s before after is known t = by_end (end_in 
     was_there : (end : ℕ) → end_in file s.files.files ≡ Some end → (a b : DiskState) → SameMail a b → option_map length (reading (a (Mail file))) ≡ end_in file s.files.files → MailTook parts rows time file a b
     was_there end e a b same k =
         let f = known_front (reading (a (Mail file))) end (k ∙ e) in
-        record { others = record { files = λ number apart. same.0 number; instances = same_attachments parts rows a b same.1 }; front = f.0; had = record { was = inl f.1 }; has = same.0 file ∙ f.1 }
+        record { others = record { files = λ number apart. synced_reads (a (Mail number)) (b (Mail number)) (same.0 number); instances = same_attachments parts rows a b same.1 }; front = f.0; had = record { was = inl f.1 }; has = synced_reads (a (Mail file)) (b (Mail file)) (same.0 file) ∙ f.1 }
 
     was_made : end_in file s.files.files ≡ None → (a b : DiskState) → OtherMail file a b × (option_map length (reading (a (Mail file))) ≡ end_in file s.files.files) → Keeps (b (Mail file)) header → MailTook parts rows time file a b
     was_made e a b same k = record {
-      others = record { files = same.0.0; instances = same_attachments parts rows a b same.0.1 };
+      others = record { files = λ number apart. synced_reads (a (Mail number)) (b (Mail number)) (same.0.0 number apart); instances = same_attachments parts rows a b same.0.1 };
       front = header;
       had = record { was = inr (no_front (reading (a (Mail file))) (same.1 ∙ e), is) };
       has = k.reads;
@@ -215,7 +217,7 @@ wrote parts rows time file offset region a b c took adds =
     let same : took.front ≡ adds.added.before = one_octets (reading (b (Mail file))) took.front adds.added.before took.has adds.added.read in
     let f = known_front (reading (b (Mail file))) offset adds.long in
     record {
-      others = but_then parts rows file a b c took.others (record { files = adds.others.0; instances = same_attachments parts rows b c adds.others.1 });
+      others = but_then parts rows file a b c took.others (record { files = λ number apart. synced_reads (b (Mail number)) (c (Mail number)) (adds.others.0 number apart); instances = same_attachments parts rows b c adds.others.1 });
       front = took.front;
       had = took.had;
       long = ap length (one_octets (reading (b (Mail file))) took.front f.0 took.has f.1) ∙ f.2;
@@ -234,12 +236,12 @@ wrote_mail parts rows time file offset region s old before after took known ends
 pub took_on : (parts : List Detached) (rows : List InstRow) (time file : ℕ) (old before after : Option History) → TookMail parts rows time file old before → ReadsSameMail before after → TookMail parts rows time file old after
 took_on parts rows time file old before after t same =
     between-then (MailTook parts rows time file) SameMail (MailTook parts rows time file) old before after
-    (λ a b c k s. record { others = but_then parts rows file a b c k.others (record { files = λ number apart. s.0 number; instances = same_attachments parts rows b c s.1 }); front = k.front; had = k.had; has = s.0 file ∙ k.has }) t same
+    (λ a b c k s. record { others = but_then parts rows file a b c k.others (record { files = λ number apart. synced_reads (b (Mail number)) (c (Mail number)) (s.0 number); instances = same_attachments parts rows b c s.1 }); front = k.front; had = k.had; has = synced_reads (b (Mail file)) (c (Mail file)) (s.0 file) ∙ k.has }) t same
 
 pub wrote_on : (parts : List Detached) (rows : List InstRow) (time file offset : ℕ) (region : List ℕ) (old before after : Option History) → WroteMail parts rows time file offset region old before → ReadsSameMail before after → WroteMail parts rows time file offset region old after
 wrote_on parts rows time file offset region old before after w same =
     between-then (MailWrote parts rows time file offset region) SameMail (MailWrote parts rows time file offset region) old before after
-    (λ a b c k s. record { others = but_then parts rows file a b c k.others (record { files = λ number apart. s.0 number; instances = same_attachments parts rows b c s.1 }); front = k.front; had = k.had; long = k.long; has = s.0 file ∙ k.has }) w same
+    (λ a b c k s. record { others = but_then parts rows file a b c k.others (record { files = λ number apart. synced_reads (b (Mail number)) (c (Mail number)) (s.0 number); instances = same_attachments parts rows b c s.1 }); front = k.front; had = k.had; long = k.long; has = synced_reads (b (Mail file)) (c (Mail file)) (s.0 file) ∙ k.has }) w same
 
 -- ---- from before the opening
 

@@ -16,6 +16,7 @@ use Rattle.mdbox_base.specs.declared.replies.Reply.{Reply}
 use Rattle.mdbox_base.specs.declared.replies.Reply.TheVariants as reply
 use Rattle.mdbox_base.specs.declared.requests.Request.{Request}
 use Rattle.mdbox_base.specs.declared.requests.Request.TheVariants as request
+use Rattle.model_kept.specs.Kept.{MailIsKept}
 use Rattle.model_lists.specs.Lists.{Lists, AreWellFormed}
 use Rattle.model_meaning.specs.BoxMeaning.{box_meaning}
 use Rattle.model_meaning.specs.MapMeaning.{is_sealed, map_applied}
@@ -27,8 +28,9 @@ use Rattle.store_core.specs.Value.{StoreValue, indexes_of, list_named}
 use Rattle.task_steps.specs.Step.{Seen, ShowsSeen, HasNotBegun}
 use Rattle.mail_ops.specs.Copy.{IsAtCopy, copied_lists}
 use Rattle.mail_ops.specs.Expunging.{IsAtExpunge}
-use Rattle.mail_ops.specs.Making.{IsAtMake, NamesMail, making_refusal, with_mailbox}
+use Rattle.mail_ops.specs.Making.{IsAtMake, making_refusal, with_mailbox}
 use Rattle.mail_ops.specs.Moving.{IsAtMove}
+use Rattle.mail_ops.specs.SparedMail.{SparesMail}
 use Rattle.mail_ops.specs.declared.copy.CopyStage.TheVariants as copy_stage
 use Rattle.mail_ops.specs.declared.expunging.ExpungeStage.TheVariants as expunge_stage
 use Rattle.mail_ops.specs.declared.making.MakeStage.TheVariants as make_stage
@@ -58,7 +60,7 @@ pub record ServesAlone {D : Type 0} (Began : Run → ℕ → List Reply → Type
   pub served : (lists : Lists) (seen : Seen) → IsWayTo Began request lists seen store old began lists → ServesRequest request lists given seen.faults now seen.history new
   pub moments : MomentsAmong Among old new
   pub settled : later.stopped ≡ false → (lists : Lists) → IsSettledFor lists old → IsSettledFor (told lists) new
-  pub mail : later.stopped ≡ false → NamesMail old new
+  pub mail : SparesMail (later.stopped ≡ false) old new
   pub halts : (given ≡ reply.Refused refusal.Stopped) ↔ (later.stopped ≡ true)
   pub fault : ChangeFaultCounted (given ≡ reply.Refused refusal.Stopped) began now
   pub unfailed : (given ≡ reply.Refused refusal.Stopped → ⊥) → NoFault began now
@@ -71,7 +73,7 @@ pub record ChangesAlone {D : Type 0} (Began : Run → ℕ → List Reply → Typ
   pub shows : ((why : Refusal) → given ≡ reply.Refused why → ⊥) → (lists : Lists) (seen : Seen) → IsWayTo Began request lists seen store old began lists → ShowsSeen (seen_alone later new now) (change lists)
   pub moments : MomentsAmong Among old new
   pub settled : later.stopped ≡ false → (lists : Lists) → IsSettledFor lists old → IsSettledFor (lists_told request given lists) new
-  pub mail : later.stopped ≡ false → NamesMail old new
+  pub mail : SparesMail (later.stopped ≡ false) old new
   pub halts : (given ≡ reply.Refused refusal.Stopped) ↔ (later.stopped ≡ true)
   pub fault : ChangeFaultCounted (given ≡ reply.Refused refusal.Stopped) began now
   pub unfailed : (given ≡ reply.Refused refusal.Stopped → ⊥) → NoFault began now
@@ -122,6 +124,7 @@ pub record SavesAlone {D : Type 0} (name : List ℕ) (time : ℕ) (octets : List
   pub settled : later.stopped ≡ false → (lists : Lists) → IsSettledFor lists old → IsSettledFor (lists_told (request.Deliver name time octets) given lists) new
   pub halts : (given ≡ reply.Refused refusal.Stopped) ↔ (later.stopped ≡ true)
   pub faults : FaultsByReply given began now
+  pub stays : MailIsKept store.map old new
 
 -- The store has the same listings, and the same mailboxes and records of the map, and their counts.
 pub record IsAsBefore {D : Type 0} (store later : StoreValue D) : Type 0 where

@@ -17,7 +17,7 @@ use Rattle.model_store.specs.Listing.{ShowLists}
 use Rattle.model_store.specs.Safe.{Safe}
 use Rattle.model_store.specs.Settled.{IsSettledFor, Leaves}
 use Rattle.mail_ops.specs.Copy.{copied_lists}
-use Rattle.mail_ops.specs.Making.{NamesMail}
+use Rattle.task_claims.specs.Leaving.{SyncsMail}
 use Rattle.store_open.specs.Opened.{IsOpenedAs, StoreCarries, KeepsOpenedMail}
 use Rattle.store_sweep.specs.Moments.{NoFailedChange}
 use Rattle.store_sweep.specs.Swept.{IsSwept}
@@ -66,14 +66,14 @@ pub record OpensAsBefore (m : MapMeaning) (meanings : List BoxMeaning) (new : Op
 abbrev pub OpensUnchanged : MapMeaning → List BoxMeaning → Option History → Option History → Type 0
 OpensUnchanged m meanings old new = IsOpenedAs new m meanings × StoreCarries old new × ((generation : ℕ) × IsSwept generation m old new)
 
--- The opening swept the disk, and storage files and instances stayed at each moment of it. Unless the store is stopped, they are as
--- the opening left them, but that their names may be synced.
+-- The opening swept the disk, and storage files and instances stayed at each moment of it and afterwards, whatever failed. Unless the
+-- store is stopped, they are as the opening left them, but that their names may be synced.
 pub record LeavesMail (m : MapMeaning) (given : Reply) (old new : Option History) : Type 0 where
   pub generation : ℕ
   pub opened : Option History
   pub swept : IsSwept generation m old opened
-  pub stays : KeepsOpenedMail old opened
-  pub mail : (given ≡ reply.Refused refusal.Stopped → ⊥) → NamesMail opened new
+  pub stays : KeepsOpenedMail old new
+  pub mail : (given ≡ reply.Refused refusal.Stopped → ⊥) → SyncsMail opened new
 
 -- A crash at any moment leaves a disk that is safe for the lists for which it was settled, or for those that the change makes
 -- of them.

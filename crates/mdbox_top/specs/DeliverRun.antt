@@ -176,7 +176,8 @@ pub record OpensSaved (name : List ℕ) (time : ℕ) (octets : List ℕ) (prepar
 -- logs, all that the store reads is carried over, and the disk was swept. With any other refusal they open with the same listings,
 -- unless the store is stopped. Where it is saved, their logs show the lists with the message: last in its mailbox, with its next
 -- UID, without flags, with this time and these octets, and with the GUID that is replied; its octets were added to its storage
--- file, and what else the store reads of storage files and instances is carried over. The opening swept the disk, at each moment of which storage files and instances stayed, and behind it,
+-- file, and what else the store reads of storage files and instances is carried over. The opening swept the disk; at each moment of it and
+-- afterwards, whatever failed, storage files stayed as far as their regions, sealed ones whole, and so did instances; and after it,
 -- unless the store is stopped, no storage file has changed but the one that was taken for the message, and no instance, but that
 -- new ones have the octets of its attachments. Unless the store is stopped, a disk that was settled for lists is settled for those
 -- that the reply tells.
@@ -192,7 +193,7 @@ pub record IsDeliverReply (name : List ℕ) (time : ℕ) (octets : List ℕ) (ol
   pub refused : (why : Refusal) → undelivered_cause (meaning_named name m.boxes meanings) m.highest ≡ Some why → OpensUnchanged m meanings old new
   pub unsaved : (why : Refusal) → given ≡ reply.Refused why → (why ≡ refusal.Stopped → ⊥) → OpensAlike name time prepared m meanings files new
   pub done : (uid : Uid) (guid : Guid) → given ≡ reply.Saved uid guid → OpensSaved name time octets prepared guid m meanings files old new
-  pub mail : (generation : ℕ) × (swept : Option History) × IsSwept generation m old swept × KeepsOpenedMail old swept × LeavesDelivery m.store name time prepared given swept new
+  pub mail : (generation : ℕ) × (swept : Option History) × IsSwept generation m old swept × KeepsOpenedMail old new × LeavesDelivery m.store name time prepared given swept new
   pub settled : (given ≡ reply.Refused refusal.Stopped → ⊥) → (lists : Lists) → IsSettledFor lists old → IsSettledFor (lists_told (request.Deliver name time octets) given lists) new
 
 -- ---- a message that was read

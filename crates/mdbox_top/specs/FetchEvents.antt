@@ -12,20 +12,16 @@ use Rattle.task_steps.specs.Step.{Seen}
 use Rattle.mail_fetch.specs.Clause.{ReadsSafe}
 use Rattle.mail_fetch.specs.Events.{IsStoredBy}
 use Rattle.mail_fetch.specs.Stages.{IsAtFetch}
-use Rattle.mail_fetch.specs.Task.{seen_with_pins}
+use Rattle.mail_fetch.specs.Task.{seen_in}
 use Rattle.mail_fetch.specs.declared.task.FetchStage.{FetchStage}
 use Rattle.mail_fetch.specs.declared.task.FetchStage.TheVariants as stage
 use Rattle.mdbox_top.specs.FetchRun.{IsFetchAnswer, IsTextOf}
 use Rattle.mdbox_top.specs.Served.{ServesRequest}
 use Rattle.mdbox_top.specs.UnderWay.{IsUnderWay}
 
--- a store as a fetch alone sees it: the pins of this stage are the only ones
-abbrev pub seen_fetching : {D : Type 0} → FetchStage → StoreValue D → Option History → Faults → Seen
-seen_fetching now store history faults = seen_with_pins (λ file. 0) now store history faults
-
 -- A fetch alone is under way, at this stage. No event of it changes the lists.
 abbrev pub FetchIsAt : {D : Type 0} → FetchStage → List ℕ → Uid → Lists → Seen → StoreValue D → Option History → Faults → Type 0
-FetchIsAt now name uid lists began store history faults = IsUnderWay (IsAtFetch now (seen_fetching now store history faults)) (request.Fetch name uid) lists began (seen_fetching now store history faults) lists
+FetchIsAt now name uid lists began store history faults = IsUnderWay (IsAtFetch now (seen_in store history faults)) (request.Fetch name uid) lists began (seen_in store history faults) lists
 
 -- The message was read, or a read failed, and this was replied: of files that are safe for lists, the octets of the message.
 pub record TakesMessage {D : Type 0} (name : List ℕ) (uid : Uid) (store : StoreValue D) (old new : Option History) (began : Faults) (given : Reply) : Type 0 where

@@ -16,7 +16,8 @@ use Rattle.model_meaning.specs.MapMeaning.{MapMeaning, map_applied}
 use Rattle.model_store.specs.Listing.{meaning_named}
 use Rattle.model_store.specs.Safe.{Safe}
 use Rattle.model_store.specs.Settled.{IsSettledFor}
-use Rattle.mail_ops.specs.Making.{NamesMail, with_mailbox}
+use Rattle.mail_ops.specs.Making.{with_mailbox}
+use Rattle.task_claims.specs.Leaving.{SyncsMail}
 use Rattle.store_open.specs.Opened.{IsOpenedAs, KeepsOpenedMail}
 use Rattle.store_sweep.specs.Moments.{NoFailedChange}
 use Rattle.store_sweep.specs.Swept.{IsSwept}
@@ -47,15 +48,15 @@ lists_by_making number name given lists = lists
 abbrev pub ReadAlike : Option History → Option History → Type 0
 ReadAlike = Between (λ a b. (name : FileName) → reading (b name) ≡ reading (a name))
 
--- The opening swept the disk, and storage files and instances stayed at each moment of it. Unless the store is stopped, they are as
--- the opening left them, but that their names may be synced; and unless it is done, each file reads as it did then: so the log that
+-- The opening swept the disk, and storage files and instances stayed at each moment of it and afterwards, whatever failed. Unless the
+-- store is stopped, they are as the opening left them, but that their names may be synced; and unless it is done, each file reads as it did then: so the log that
 -- was made is removed, and no other file was made.
 pub record LeavesOpened (m : MapMeaning) (given : Reply) (old new : Option History) : Type 0 where
   pub generation : ℕ
   pub opened : Option History
   pub swept : IsSwept generation m old opened
-  pub stays : KeepsOpenedMail old opened
-  pub mail : (given ≡ reply.Refused refusal.Stopped → ⊥) → NamesMail opened new
+  pub stays : KeepsOpenedMail old new
+  pub mail : (given ≡ reply.Refused refusal.Stopped → ⊥) → SyncsMail opened new
   pub undone : (given ≡ reply.Refused refusal.Stopped → ⊥) → (given ≡ reply.Done → ⊥) → ReadAlike opened new
 
 -- The reply to the making of a mailbox with this name, by what the logs mean from which the store opened. Where it is refused, the

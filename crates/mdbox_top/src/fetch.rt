@@ -2,6 +2,7 @@
 ghost use Rattle.std.specs.Prelude.{◌≡◌, ◌≢◌, ◌⊎◌, ◌≤◌, ℕ, false, Some, None, IfOk, IfErr};
 ghost use Rattle.disk_model.specs.Disk.{IsIdle};
 ghost use Rattle.disk_model.specs.FaultCounts.{NoFault, AnyFaultCounted};
+ghost use Rattle.mail_fetch.specs.Claims.{HasUseRoom};
 ghost use Rattle.mail_fetch.specs.Events.{fetch_refusal};
 ghost use Rattle.mdbox_base.specs.Streams.{Rose};
 ghost use Rattle.mdbox_base.specs.declared.replies.Refusal.{Refusal};
@@ -78,15 +79,17 @@ fn fetch_alone<D: Disk>(
 fn take_message<D: Disk>(store: &mut Store<D>, name: Name, uid: Uid) -> Reply
     requires running { store.old.stopped ≡ false }
     requires undoomed { (file : ℕ) → is_doomed_in file store.old.files.files ≡ false }
+    requires room { HasUseRoom store.old }
     ensures refused { (why : Refusal) → fetch_refusal name uid.0 store.old ≡ Some why → result ≡ reply.Refused why }
     ensures found { fetch_refusal name uid.0 store.old ≡ None → (result ≡ reply.Refused refusal.NoMemory) ⊎ TakesMessage name uid store.old (D.history store.old.disk) (D.history store.new.disk) (D.faults store.old.disk) result }
     ensures served { TakesServed name uid store.old (D.history store.old.disk) (D.history store.new.disk) (D.faults store.old.disk) (D.faults store.new.disk) result }
-    ensures same { store.new ≡ record store.old { disk = store.new.disk } }
+    ensures same { store.new ≡ record store.old { disk = store.new.disk; files = store.new.files; instances = store.new.instances } }
     ensures idle { IsIdle (D.history store.old.disk) (D.history store.new.disk) }
     ensures faults { FaultsByReply result (D.faults store.old.disk) (D.faults store.new.disk) }
 {
     let mut task = FetchTask::of(name, uid);
     loop {
+        store.facts();
         if let Progress::Done(reply) = task.step(store) {
             store.facts();
             return reply;

@@ -1,6 +1,7 @@
 -- Files of mail that stay, over calls.
-use Rattle.std.proofs.Common.{◌≡◌, ◌≢◌, inl, inr, ℕ, true, List, Option, Some, None, refl, sym, ◌∙◌, subst}
+use Rattle.std.proofs.Common.{◌≡◌, ◌≢◌, ◌+◌, inl, inr, ℕ, true, List, All, Option, Some, None, refl, sym, ◌∙◌, subst}
 use Rattle.std.specs.Prelude.{if◌then◌else◌}
+use Rattle.std.proofs.lemmas.List.Elements.{All-contains, All-weaker}
 use Rattle.std.proofs.lemmas.Bool.{cases_Bool, true≢false, cond-true, cond-false}
 use Rattle.disk_model.specs.Disk.{Files, FileState, DiskState, History, IsImage, MayLeave, IfTold, EachImage, Unchanged, AfterFailed, OthersStay, IsIdle, after, change, change_all, named, reading}
 use Rattle.disk_model.specs.Name.{same_name, is_log}
@@ -9,8 +10,9 @@ use Rattle.disk_model.specs.declared.name.FileName.TheVariants as file
 use Rattle.disk_model.proofs.NameLemmas.{same_name-true, same_name-eq, same_name-refl}
 use Rattle.disk_model.proofs.OneFileLemmas.{change-here, change-other, named-narrows}
 use Rattle.disk_model.proofs.MomentLemmas.{if_told-map, each_image-begins, each_image-map, each_image-then, each_image-goes_on, each_image-fails, each_image-fails_still, each_image-unchanged, since-now}
-use Rattle.model_meaning.specs.MapMeaning.{MapMeaning}
-use Rattle.model_kept.specs.Kept.{StaysTo, StaysAt, MailStays, MailIsKept}
+use Rattle.mdbox_base.specs.declared.entries.InstRow.{InstRow}
+use Rattle.model_meaning.specs.MapMeaning.{MapMeaning, MapRecord}
+use Rattle.model_kept.specs.Kept.{StaysTo, StaysAt, MailStays, MailIsKept, IsPlacedIn, IsUnknownTo, NeedsAllOf}
 
 -- ---- what a crash could leave stays
 
@@ -46,7 +48,7 @@ stays_through m (file.Inst hash id) f g through left s = λ k d below j e within
 -- ---- an image with another file of one name
 
 -- by name: this one, or another
-by_name : (P : FileName → Type 0) (name : FileName) → P name → ((other : FileName) → other ≢ name → P other) → (n : FileName) → P n
+pub by_name : (P : FileName → Type 0) (name : FileName) → P name → ((other : FileName) → other ≢ name → P other) → (n : FileName) → P n
 by_name P name own others n = elim (cases_Bool (same_name n name)) [
   | inl same ↦ subst P (sym (same_name-true n name same)) own
   | inr apart ↦ others n (λ e. true≢false (sym (same_name-eq n name e) ∙ apart))
@@ -138,10 +140,6 @@ kept_named m old new is = each_image-goes_on _ (change_all named) old old new (k
 
 -- ---- calls on one file of which nothing is kept
 
--- the store needs nothing of a file of this name
-abbrev pub IsUnknownTo : MapMeaning → FileName → Type 0
-IsUnknownTo m name = (f : FileState) (octets : Option (List ℕ)) → StaysAt m name f octets
-
 pub log_is_unknown : (m : MapMeaning) (name : FileName) → is_log name ≡ true → IsUnknownTo m name
 log_is_unknown m file.Root log = λ f octets. tt
 log_is_unknown m (file.Map g) log = λ f octets. tt
@@ -149,11 +147,37 @@ log_is_unknown m (file.Box k g) log = λ f octets. tt
 log_is_unknown m (file.Mail n) log = absurd (true≢false (sym log))
 log_is_unknown m (file.Inst hash id) log = absurd (true≢false (sym log))
 
-pub kept_beside : (m : MapMeaning) (name : FileName) (old new : Option History) → IsUnknownTo m name → EachImage (λ _ image. OthersStay name old image) old new → MailIsKept m old new
-kept_beside m name old new unknown each = each_image-map _ _ old new (λ moment image stay. others old image stay) each
+-- what stays of one file, where a crash leaves of the others what it could before
+pub kept_one : (m : MapMeaning) (name : FileName) (P : Option History → Files → Type 0) (old new : Option History) → ((disk : History) (image : Files) → P (Some disk) image → StaysAt m name (disk.now name) (image name))
+    → EachImage (λ _ image. P old image × OthersStay name old image) old new → MailIsKept m old new
+kept_one m name P old new own each = each_image-map (λ _ image. P old image × OthersStay name old image) (λ _ image. MailStays m old image) old new (λ moment image i. stays old image own i) each
   where
-    others : (old : Option History) (image : Files) → OthersStay name old image → MailStays m old image
-    others None image stay = tt
-    others (Some old) image stay =
-        by_name (λ (n : FileName). StaysAt m n (old.now n) (image n)) name (unknown (old.now name) (image name))
-        (λ other apart. left_stays m other (old.now other) (image other) (stay other apart))
+    stays : (old : Option History) (image : Files) → ((disk : History) (image : Files) → P (Some disk) image → StaysAt m name (disk.now name) (image name)) → P old image × OthersStay name old image → MailStays m old image
+    stays None image own i = tt
+    stays (Some old) image own i = by_name (λ (n : FileName). StaysAt m n (old.now n) (image n)) name (own old image i.0) (λ other apart. left_stays m other (old.now other) (image other) (i.1 other apart))
+
+pub kept_beside : (m : MapMeaning) (name : FileName) (old new : Option History) → IsUnknownTo m name → EachImage (λ _ image. OthersStay name old image) old new → MailIsKept m old new
+kept_beside m name old new unknown each =
+    kept_one m name (λ _ _. Unit {0}) old new (λ disk image p. unknown (disk.now name) (image name)) (each_image-map (λ _ image. OthersStay name old image) (λ _ image. Unit {0} × OthersStay name old image) old new (λ moment image stay. (tt, stay)) each)
+
+-- ---- for a map that needs less
+
+less_stays : (more less : MapMeaning) (name : FileName) (f : FileState) (octets : Option (List ℕ)) → NeedsAllOf more less → StaysAt more name f octets → StaysAt less name f octets
+less_stays more less file.Root f octets needs s = tt
+less_stays more less (file.Map g) f octets needs s = tt
+less_stays more less (file.Box k g) f octets needs s = tt
+less_stays more less (file.Mail n) f octets needs s = record {
+  sealed = λ is. s.sealed (needs.sealed n is);
+  regions = All-weaker (IsPlacedIn more) (λ (row : MapRecord). row.file ≡ n → StaysTo (row.offset + row.size) f octets)
+      (λ row p here. subst (λ (end : ℕ). StaysTo end f octets) (let a = p.offset in let b = p.size in cc) (All-contains (λ (r : MapRecord). r.file ≡ n → StaysTo (r.offset + r.size) f octets) more.records p.now s.regions p.there (p.file ∙ here))) less.records needs.records;
+}
+less_stays more less (file.Inst hash id) f octets needs s =
+    All-weaker (IsPlacedIn more) (λ (row : MapRecord). All (λ inst. inst.hash.0 ≡ hash → inst.id.0 ≡ id → MayLeave f octets) row.instances)
+    (λ row p. subst (All (λ (inst : InstRow). inst.hash.0 ≡ hash → inst.id.0 ≡ id → MayLeave f octets)) p.instances (All-contains (λ (r : MapRecord). All (λ inst. inst.hash.0 ≡ hash → inst.id.0 ≡ id → MayLeave f octets) r.instances) more.records p.now s p.there)) less.records needs.records
+
+pub kept_for_less : (more less : MapMeaning) (old new : Option History) → NeedsAllOf more less → MailIsKept more old new → MailIsKept less old new
+kept_for_less more less old new needs kept = each_image-map (λ _ image. MailStays more old image) (λ _ image. MailStays less old image) old new (λ moment image s. stays old image s) kept
+  where
+    stays : (old : Option History) (image : Files) → MailStays more old image → MailStays less old image
+    stays None image s = tt
+    stays (Some old) image s = λ name. less_stays more less name (old.now name) (image name) needs (s name)

@@ -1,10 +1,10 @@
 -- What stays of a store's storage files and instances while it is opened and used, whatever fails and whenever a crash comes.
 -- It is measured by a disk, and says nothing of what the files must have: so it holds of a damaged store too.
-use Rattle.std.specs.Prelude.{◌≡◌, ◌+◌, ℕ, true, List, take, All, Option, Some, None, ⊤}
+use Rattle.std.specs.Prelude.{◌≡◌, ◌+◌, ℕ, true, List, take, All, Contains, Option, Some, None, ⊤}
 use Rattle.disk_model.specs.Disk.{Files, FileState, History, IfTold, EachImage, MayHold, MayLeave}
 use Rattle.disk_model.specs.declared.name.FileName.{FileName}
 use Rattle.disk_model.specs.declared.name.FileName.TheVariants as file
-use Rattle.model_meaning.specs.MapMeaning.{MapMeaning, is_sealed}
+use Rattle.model_meaning.specs.MapMeaning.{MapMeaning, MapRecord, is_sealed}
 
 -- This is what a crash could leave of the file, as far as this end. No file is only if a crash could leave none.
 abbrev pub StaysTo : ℕ → FileState → Option (List ℕ) → Type 0
@@ -40,3 +40,18 @@ MailIsKept m old new = EachImage (λ _ image. MailStays m old image) old new
 -- that a record names.
 abbrev pub IsUnknownTo : MapMeaning → FileName → Type 0
 IsUnknownTo m name = (f : FileState) (octets : Option (List ℕ)) → StaysAt m name f octets
+
+-- a record of the map has this one's region and instances
+pub record IsPlacedIn (m : MapMeaning) (row : MapRecord) : Type 0 where
+  pub now : MapRecord
+  pub there : Contains m.records now
+  pub file : now.file ≡ row.file
+  pub offset : now.offset ≡ row.offset
+  pub size : now.size ≡ row.size
+  pub instances : now.instances ≡ row.instances
+
+-- The one map needs all that the other needs: what that has sealed is sealed, and a record has the region and the instances of
+-- each of its records.
+pub record NeedsAllOf (more less : MapMeaning) : Type 0 where
+  pub sealed : (number : ℕ) → is_sealed less number ≡ true → is_sealed more number ≡ true
+  pub records : All (IsPlacedIn more) less.records

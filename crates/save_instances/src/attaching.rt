@@ -4,6 +4,7 @@ ghost use Rattle.attach_detach.specs.declared.message.Detached.{Detached};
 ghost use Rattle.disk_model.specs.Disk.{Grows, IfTold, IsIdle, Keeps, reading};
 ghost use Rattle.disk_model.specs.FaultCounts.{NoFault, ChangeFaultCounted, ReadFaultCounted};
 ghost use Rattle.mdbox_base.specs.declared.ids.InstId.{InstId};
+ghost use Rattle.model_kept.specs.Kept.{MailIsKept};
 ghost use Rattle.model_lists.specs.Lists.{Lists};
 ghost use Rattle.model_store.specs.Settled.{IsSettledFor, Leaves};
 ghost use Rattle.sis_store.specs.Instances.{after_placing, holders_in, next_id};
@@ -167,6 +168,7 @@ impl Attaching {
         // Of a settled disk each image at every moment is safe for its lists, whichever call fails; and after Ok the disk is
         // settled for them again.
         ensures any_moment { (lists : Lists) → IsSettledFor lists (D.history store.old.disk) → Leaves lists lists (D.history store.old.disk) (D.history store.new.disk) }
+        ensures mail_stays { MailIsKept store.old.map (D.history store.old.disk) (D.history store.new.disk) }
         ensures settled { OnOk result ((lists : Lists) → IsSettledFor lists (D.history store.old.disk) → IsSettledFor lists (D.history store.new.disk)) }
 
         // After Ok the octets are a file, and a crash leaves it so. No other file has changed, and their names are synced.

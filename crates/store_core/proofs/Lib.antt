@@ -18,6 +18,7 @@ pub mod MadeCallLemmas
 pub mod MadeLogLemmas
 pub mod MadePlaceLemmas
 pub mod MailChangeLemmas
+pub mod MailStayLemmas
 pub mod MapAppendLemmas
 pub mod MapCrashLemmas
 pub mod MapDueLemmas

@@ -79,7 +79,7 @@ apart_read name other a octets absent there e = let w : None ≡ Some octets = s
 
 -- ---- what a store reads
 
-all_parts : {X Y : Type 0} → (P : Y → Type 0) (f : X → List Y) (xs : List X) → All P (flat_map f xs) → All (λ x. All P (f x)) xs
+pub all_parts : {X Y : Type 0} → (P : Y → Type 0) (f : X → List Y) (xs : List X) → All P (flat_map f xs) → All (λ x. All P (f x)) xs
 all_parts P f [] a = All-nil (λ x. All P (f x))
 all_parts P f (x ∷ xs) a = All-cons (λ y. All P (f y)) x xs (front (f x) a) (all_parts P f xs (behind (f x) a))
   where

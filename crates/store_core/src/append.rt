@@ -2,7 +2,7 @@
 ghost use Rattle.std.specs.Prelude.{◌≡◌, ◌≢◌, ◌<◌, ◌≤◌, ◌∷◌, ◌++◌, [], ℕ, List, length, slice_get, Some, All, IfSome, IfNone, OnOk, IsErr, IsErrOf};
 ghost use Rattle.std.specs.Option.{option_map};
 ghost use Rattle.box_index.specs.Row.{IsAdded};
-ghost use Rattle.disk_model.specs.Disk.{SameButFor, Grows};
+ghost use Rattle.disk_model.specs.Disk.{EachImage, OthersStay, SameButFor, Grows};
 ghost use Rattle.disk_model.specs.FaultCounts.{NoFault, ChangeFaultCounted};
 ghost use Rattle.gate_log.specs.Log.{Reads, Holds};
 ghost use Rattle.gate_log.specs.State.{IsSameLog};
@@ -28,6 +28,7 @@ fn append_text<D: Disk>(log: &mut GateLog, disk: &mut D, entry: &BoxEntry) -> Re
     requires range { BoxInRange entry.now }
     requires room { entry_room ≤ log.old.room }
     ensures any_moment { AddsText log.old (box_text entry.now) (D.history disk.old) (D.history disk.new) }
+    ensures others_stay { EachImage (λ _ image. OthersStay log.old.name (D.history disk.old) image) (D.history disk.old) (D.history disk.new) }
     ensures grows { Grows (D.history disk.old) (D.history disk.new) }
     ensures added { OnOk result ((entries : List (List ℕ)) → Reads log.old entries (D.history disk.old) → Reads log.new (entries ++ box_text entry.now ∷ []) (D.history disk.new)) }
     ensures held { OnOk result ((entries : List (List ℕ)) → Holds log.old entries (D.history disk.old) → Holds log.new (entries ++ box_text entry.now ∷ []) (D.history disk.new)) }
@@ -53,6 +54,7 @@ pub(crate) fn append_in<D: Disk>(
     requires fits { BoxFits open_box.old.index.meaning entry.now }
     requires room { entry_room ≤ open_box.old.log.room }
     ensures any_moment { (IsErrOf result step_error.NoMemory → ⊥) → AddsText open_box.old.log (box_text entry.now) (D.history disk.old) (D.history disk.new) }
+    ensures others_stay { (IsErrOf result step_error.NoMemory → ⊥) → EachImage (λ _ image. OthersStay open_box.old.log.name (D.history disk.old) image) (D.history disk.old) (D.history disk.new) }
     ensures grows { Grows (D.history disk.old) (D.history disk.new) }
     ensures added { OnOk result ((entries : List (List ℕ)) → Reads open_box.old.log entries (D.history disk.old) → Reads open_box.new.log (entries ++ box_text entry.now ∷ []) (D.history disk.new)) }
     ensures held { OnOk result ((entries : List (List ℕ)) → Holds open_box.old.log entries (D.history disk.old) → Holds open_box.new.log (entries ++ box_text entry.now ∷ []) (D.history disk.new)) }

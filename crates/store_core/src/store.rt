@@ -8,10 +8,11 @@ ghost use Rattle.disk_model.specs.FaultCounts.{NoFault, ChangeFaultCounted};
 ghost use Rattle.mdbox_base.specs.declared.entries.BoxEntry.{BoxEntry};
 ghost use Rattle.model_appends.specs.Amounts.{IsAccounted, due_by_box, HoldsAdded};
 ghost use Rattle.model_appends.specs.Appending.{lists_by, meanings_by};
+ghost use Rattle.model_kept.specs.Kept.{MailIsKept};
 ghost use Rattle.model_lists.specs.Lists.{Lists};
 ghost use Rattle.model_logs.specs.Entries.{BoxInRange};
 ghost use Rattle.model_meaning.specs.BoxMeaning.{BoxMeaning, box_meaning, row_made};
-ghost use Rattle.model_meaning.specs.MapMeaning.{count_of};
+ghost use Rattle.model_meaning.specs.MapMeaning.{MapMeaning, count_of};
 ghost use Rattle.model_store.specs.Opening.{HasItsRecord};
 ghost use Rattle.model_store.specs.Settled.{IsSettledFor, Leaves};
 ghost use Rattle.sis_store.specs.Instances.{AreInstances};
@@ -259,6 +260,7 @@ impl<D: Disk> Store<D> {
         // Of a settled disk each image at every moment is safe for its lists, or for those that the entry gives, whichever call
         // fails; and after Ok the disk is settled for the latter.
         ensures any_moment { (lists : Lists) (octets : List ℕ) → Brings self.old.map entry.now octets (D.history self.old.disk) → IsSettledFor lists (D.history self.old.disk) → Leaves lists (lists_by mailbox.0 octets entry.now lists) (D.history self.old.disk) (D.history self.new.disk) }
+        ensures mail_stays { (m : MapMeaning) → MailIsKept m (D.history self.old.disk) (D.history self.new.disk) }
         ensures settled { OnOk result ((lists : Lists) (octets : List ℕ) → Brings self.old.map entry.now octets (D.history self.old.disk) → IsSettledFor lists (D.history self.old.disk) → IsSettledFor (lists_by mailbox.0 octets entry.now lists) (D.history self.new.disk)) }
 
         // After Ok the logs mean what they did, with the entry, and so does what is due. The leak stays, whatever is answered.

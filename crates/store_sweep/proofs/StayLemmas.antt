@@ -9,8 +9,8 @@ use Rattle.disk_model.specs.declared.name.FileName.TheVariants as file
 use Rattle.disk_model.proofs.MomentLemmas.{if_told-all, if_told-both}
 use Rattle.mdbox_base.specs.declared.entries.InstRow.{InstRow}
 use Rattle.model_meaning.specs.MapMeaning.{MapRecord, MapBox, MapMeaning, is_sealed}
-use Rattle.model_kept.specs.Kept.{StaysTo, MailIsKept}
-use Rattle.model_kept.proofs.KeptLemmas.{IsUnknownTo, ReadsImage, StaysAfter, left_stays, kept_then, kept_unchanged, kept_change, kept_failed, kept_fails_still, kept_beside, log_is_unknown}
+use Rattle.model_kept.specs.Kept.{StaysTo, MailIsKept, IsUnknownTo}
+use Rattle.model_kept.proofs.KeptLemmas.{ReadsImage, StaysAfter, left_stays, kept_then, kept_unchanged, kept_change, kept_failed, kept_fails_still, kept_beside, log_is_unknown}
 use Rattle.model_kept.proofs.CutFileLemmas.{half_cut_stays, cut_stays, synced_narrows}
 use Rattle.store_files.specs.Regions.{has_region}
 use Rattle.store_sweep.specs.Wanted.{row_names, is_wanted, EndBy}

@@ -1,16 +1,17 @@
 // Appends to the map log.
 ghost use Rattle.std.specs.Prelude.{◌≡◌, ◌↔◌, ◌⊎◌, ◌<◌, ◌≤◌, ◌+◌, ◌++◌, ◌∷◌, [], ℕ, List, All, Some, IfOk, IfSome, IfNone, OnOk, OnErr, IsErr, IsErrOf, true, false, length, vec_len, vec_capacity};
-ghost use Rattle.disk_model.specs.Disk.{Grows, SameButFor};
+ghost use Rattle.disk_model.specs.Disk.{EachImage, Grows, OthersStay, SameButFor};
 ghost use Rattle.disk_model.specs.FaultCounts.{NoFault, ChangeFaultCounted};
 ghost use Rattle.gate_log.specs.Log.{Reads, Holds};
 ghost use Rattle.gate_log.specs.State.{IsSameLog};
 ghost use Rattle.map_index.specs.Needs.{TakesMemory};
 ghost use Rattle.mdbox_base.specs.Words.{IsNumber, IsOctets};
 ghost use Rattle.model_appends.specs.Amounts.{due_by, leak_by};
+ghost use Rattle.model_kept.specs.Kept.{MailIsKept};
 ghost use Rattle.model_lists.specs.Lists.{Lists};
 ghost use Rattle.model_logs.specs.Entries.{map_text, MapInRange};
 ghost use Rattle.model_meaning.specs.MapFits.{MapFits, HasRecord};
-ghost use Rattle.model_meaning.specs.MapMeaning.{MapRecord, map_applied, record_at, record_made};
+ghost use Rattle.model_meaning.specs.MapMeaning.{MapMeaning, MapRecord, map_applied, record_at, record_made};
 ghost use Rattle.model_store.specs.Settled.{IsSettledFor, Leaves};
 ghost use Rattle.store_core.specs.Append.{AddsText};
 ghost use Rattle.store_core.specs.Dues.{due_at, listed_at, leak_at, IsSpared, KeepsStored};
@@ -82,6 +83,7 @@ impl<D: Disk> Store<D> {
         // Of a settled disk each image at every moment is safe for its lists, whichever call fails; and after Ok it is settled
         // for them still. The region of a message that is stored has to be synced, and an own save to store its detached form.
         ensures any_moment { (lists : Lists) → IsReadyToStore entry.now (D.history self.old.disk) → IsSettledFor lists (D.history self.old.disk) → Leaves lists lists (D.history self.old.disk) (D.history self.new.disk) }
+        ensures mail_stays { (m : MapMeaning) → MailIsKept m (D.history self.old.disk) (D.history self.new.disk) }
         ensures settled { OnOk result ((lists : Lists) → IsReadyToStore entry.now (D.history self.old.disk) → IsSettledFor lists (D.history self.old.disk) → IsSettledFor lists (D.history self.new.disk)) }
 
         // After Ok the map means what it did, with the entry, and so do what is due and what leaks. Mailboxes stay.
@@ -253,6 +255,7 @@ fn append_entry<D: Disk>(
     requires text { IsLaidOut text entry.now }
     requires room { length (map_text entry.now) + 5 ≤ log.old.room }
     ensures any_moment { AddsText log.old (map_text entry.now) (D.history disk.old) (D.history disk.new) }
+    ensures others_stay { EachImage (λ _ image. OthersStay log.old.name (D.history disk.old) image) (D.history disk.old) (D.history disk.new) }
     ensures grows { Grows (D.history disk.old) (D.history disk.new) }
     ensures added { OnOk result ((entries : List (List ℕ)) → Reads log.old entries (D.history disk.old) → Reads log.new (entries ++ map_text entry.now ∷ []) (D.history disk.new)) }
     ensures held { OnOk result ((entries : List (List ℕ)) → Holds log.old entries (D.history disk.old) → Holds log.new (entries ++ map_text entry.now ∷ []) (D.history disk.new)) }

@@ -9,12 +9,13 @@ ghost use Rattle.gate_log.specs.State.{IsSameLog};
 ghost use Rattle.map_index.specs.Value.{HasRoomFor};
 ghost use Rattle.mdbox_base.specs.Words.{IsName, IsNumber};
 ghost use Rattle.mdbox_base.specs.declared.entries.MapEntry.TheVariants as map_entry;
+ghost use Rattle.model_kept.specs.Kept.{MailIsKept};
 ghost use Rattle.model_lists.specs.Lists.{Lists, empty_mailbox};
 ghost use Rattle.model_logs.specs.Entries.{map_text, MapInRange};
 ghost use Rattle.model_logs.specs.declared.log_head.LogKind.TheVariants as kind;
 ghost use Rattle.model_meaning.specs.BoxMeaning.{box_meaning};
 ghost use Rattle.model_meaning.specs.MapFits.{MapFits};
-ghost use Rattle.model_meaning.specs.MapMeaning.{map_applied};
+ghost use Rattle.model_meaning.specs.MapMeaning.{MapMeaning, map_applied};
 ghost use Rattle.model_store.specs.Settled.{IsSettledFor, Leaves};
 ghost use Rattle.model_store.specs.Stands.{head_of};
 ghost use Rattle.store_core.specs.Append.{AddsText};
@@ -80,6 +81,7 @@ impl<D: Disk> Store<D> {
         // Of a settled disk each image at every moment is safe for its lists, whichever call fails; and after Ok the disk is
         // settled for them again. Each record stores what it stored.
         ensures any_moment { (lists : Lists) → IsSettledFor lists (D.history self.old.disk) → Leaves lists lists (D.history self.old.disk) (D.history self.new.disk) }
+        ensures mail_stays { (m : MapMeaning) → MailIsKept m (D.history self.old.disk) (D.history self.new.disk) }
         ensures settled { OnOk result ((lists : Lists) → IsSettledFor lists (D.history self.old.disk) → IsSettledFor lists (D.history self.new.disk)) }
         ensures stored { OnOk result (KeepsStored (D.history self.old.disk) (D.history self.new.disk)) }
 
@@ -120,6 +122,7 @@ impl<D: Disk> Store<D> {
         // Of a settled disk each image at every moment is safe for its lists, whichever call fails; and after Ok the disk is
         // settled for them again. Each record stores what it stored.
         ensures any_moment { (lists : Lists) → IsSettledFor lists (D.history self.old.disk) → Leaves lists lists (D.history self.old.disk) (D.history self.new.disk) }
+        ensures mail_stays { (m : MapMeaning) → MailIsKept m (D.history self.old.disk) (D.history self.new.disk) }
         ensures settled { OnOk result ((lists : Lists) → IsSettledFor lists (D.history self.old.disk) → IsSettledFor lists (D.history self.new.disk)) }
         ensures stored { OnOk result (KeepsStored (D.history self.old.disk) (D.history self.new.disk)) }
 
@@ -152,6 +155,7 @@ impl<D: Disk> Store<D> {
         // Of a settled disk each image at every moment is safe for its lists, or for those with an empty mailbox more, whichever
         // call fails; and after Ok the disk is settled for the latter. Each record stores what it stored.
         ensures any_moment { (lists : Lists) → IsSettledFor lists (D.history self.old.disk) → Leaves lists (lists ++ empty_mailbox mailbox.0 name.now ∷ []) (D.history self.old.disk) (D.history self.new.disk) }
+        ensures mail_stays { (m : MapMeaning) → MailIsKept m (D.history self.old.disk) (D.history self.new.disk) }
         ensures settled { OnOk result ((lists : Lists) → IsSettledFor lists (D.history self.old.disk) → IsSettledFor (lists ++ empty_mailbox mailbox.0 name.now ∷ []) (D.history self.new.disk)) }
         ensures stored { OnOk result (KeepsStored (D.history self.old.disk) (D.history self.new.disk)) }
 
@@ -291,6 +295,7 @@ fn append_name<D: Disk>(log: &mut GateLog, disk: &mut D, entry: &MapEntry) -> Re
     requires short { length (map_text entry.now) ≤ 265 }
     requires room { length (map_text entry.now) + 5 ≤ log.old.room }
     ensures any_moment { AddsText log.old (map_text entry.now) (D.history disk.old) (D.history disk.new) }
+    ensures others_stay { EachImage (λ _ image. OthersStay log.old.name (D.history disk.old) image) (D.history disk.old) (D.history disk.new) }
     ensures grows { Grows (D.history disk.old) (D.history disk.new) }
     ensures added { OnOk result ((entries : List (List ℕ)) → Reads log.old entries (D.history disk.old) → Reads log.new (entries ++ map_text entry.now ∷ []) (D.history disk.new)) }
     ensures held { OnOk result ((entries : List (List ℕ)) → Holds log.old entries (D.history disk.old) → Holds log.new (entries ++ map_text entry.now ∷ []) (D.history disk.new)) }

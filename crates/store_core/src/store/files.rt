@@ -4,6 +4,7 @@ ghost use Rattle.disk_model.specs.Disk.{Between, Grows, IfTold, IsIdle, Keeps, S
 ghost use Rattle.disk_model.specs.FaultCounts.{NoFault, ChangeFaultCounted, ReadFaultCounted};
 ghost use Rattle.disk_model.specs.declared.name.FileName.TheVariants.{Mail};
 ghost use Rattle.model_appends.specs.Appending.{LeavesAsRead};
+ghost use Rattle.model_kept.specs.Kept.{MailIsKept};
 ghost use Rattle.model_lists.specs.Lists.{Lists};
 ghost use Rattle.model_meaning.specs.MapFits.{IsFree};
 ghost use Rattle.model_store.specs.Settled.{IsSettledFor, Leaves};
@@ -92,6 +93,7 @@ impl<D: Disk> Store<D> {
         // Of a settled disk each image at every moment is safe for its lists, whichever call fails; and after Ok the disk is
         // settled for them again.
         ensures any_moment { (lists : Lists) → IsSettledFor lists (D.history self.old.disk) → Leaves lists lists (D.history self.old.disk) (D.history self.new.disk) }
+        ensures mail_stays { MailIsKept self.old.map (D.history self.old.disk) (D.history self.new.disk) }
         ensures settled { OnOk result ((lists : Lists) → IsSettledFor lists (D.history self.old.disk) → IsSettledFor lists (D.history self.new.disk)) }
 
         // After Ok the file is there, and a crash leaves it so. No other file has changed, and their names are synced.
@@ -124,6 +126,7 @@ impl<D: Disk> Store<D> {
         // Of a settled disk each image at every moment is safe for its lists, whichever call fails; and after Ok the disk is
         // settled for them again, and of a disk that is settled then a crash leaves the file as it reads.
         ensures any_moment { (lists : Lists) → IsSettledFor lists (D.history self.old.disk) → Leaves lists lists (D.history self.old.disk) (D.history self.new.disk) }
+        ensures mail_stays { MailIsKept self.old.map (D.history self.old.disk) (D.history self.new.disk) }
         ensures settled { OnOk result ((lists : Lists) → IsSettledFor lists (D.history self.old.disk) → IsSettledFor lists (D.history self.new.disk)) }
         ensures held { OnOk result ((lists : Lists) → IsSettledFor lists (D.history self.new.disk) → IfTold (D.history self.new.disk) (LeavesAsRead (Mail file.0))) }
 

@@ -3,6 +3,7 @@ ghost use Rattle.std.specs.Prelude.{◌≡◌, ◌≢◌, ◌↔◌, ◌<◌, �
 ghost use Rattle.disk_model.specs.Disk.{Grows, IfTold, IsIdle, Keeps, reading};
 ghost use Rattle.disk_model.specs.FaultCounts.{NoFault, ChangeFaultCounted, ReadFaultCounted};
 ghost use Rattle.mdbox_base.specs.declared.entries.InstRow.{InstRow};
+ghost use Rattle.model_kept.specs.Kept.{MailIsKept};
 ghost use Rattle.model_lists.specs.Lists.{Lists};
 ghost use Rattle.model_store.specs.Settled.{IsSettledFor, Leaves};
 ghost use Rattle.sis_store.specs.Instances.{IsInstanceKnown, after_placing, candidate_in, holders_in, instance_past, next_id, with_holders};
@@ -115,6 +116,7 @@ impl<D: Disk> Store<D> {
         // Of a settled disk each image at every moment is safe for its lists, whichever call fails; and after Ok the disk is
         // settled for them again.
         ensures any_moment { (lists : Lists) → IsSettledFor lists (D.history self.old.disk) → Leaves lists lists (D.history self.old.disk) (D.history self.new.disk) }
+        ensures mail_stays { MailIsKept self.old.map (D.history self.old.disk) (D.history self.new.disk) }
         ensures settled { OnOk result ((lists : Lists) → IsSettledFor lists (D.history self.old.disk) → IsSettledFor lists (D.history self.new.disk)) }
 
         // After Ok the octets are a file, and a crash leaves it so. No other file has changed, and their names are synced.

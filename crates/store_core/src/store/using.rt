@@ -4,8 +4,9 @@ ghost use Rattle.std.specs.List.{list_any};
 ghost use Rattle.disk_model.specs.Disk.{Between, Grows, IfTold, Keeps, MayLeave, SameButFor, reading};
 ghost use Rattle.disk_model.specs.FaultCounts.{NoFault, ChangeFaultCounted};
 ghost use Rattle.disk_model.specs.declared.name.FileName.TheVariants.{Mail};
+ghost use Rattle.model_kept.specs.Kept.{MailIsKept};
 ghost use Rattle.model_lists.specs.Lists.{Lists};
-ghost use Rattle.model_meaning.specs.MapMeaning.{is_sealed};
+ghost use Rattle.model_meaning.specs.MapMeaning.{MapMeaning, is_sealed};
 ghost use Rattle.model_store.specs.Settled.{IsSettledFor, Leaves};
 ghost use Rattle.storage_files.specs.declared.file.MailFile.{MailFile};
 ghost use Rattle.storage_files.specs.Files.{IsUntakenFile, IsGiven, IsTakeNew, after_take, place_begun_in, changed_in, end_in, ending_at, file_in, is_doomed_in, is_emptied_in, is_taken_in, pins_in, placing_begun, placing_ended, to_empty, with_pins, without_file};
@@ -107,6 +108,7 @@ impl<D: Disk> Store<D> {
         requires fits { (end : ℕ) × (end_in file.0 self.old.files.files ≡ Some end) × (end + length octets.now ≤ 4294967295) }
 
         ensures any_moment { (lists : Lists) → IsSettledFor lists (D.history self.old.disk) → Leaves lists lists (D.history self.old.disk) (D.history self.new.disk) }
+        ensures mail_stays { MailIsKept self.old.map (D.history self.old.disk) (D.history self.new.disk) }
         ensures settled { OnOk result ((lists : Lists) → IsSettledFor lists (D.history self.old.disk) → IsSettledFor lists (D.history self.new.disk)) }
 
         ensures added { OnOk result (Between (λ old new. IsPieceAdded octets.now (old (Mail file.0)) (new (Mail file.0))) (D.history self.old.disk) (D.history self.new.disk)) }
@@ -119,6 +121,7 @@ impl<D: Disk> Store<D> {
         ensures fault { ChangeFaultCounted (IsErr result) (D.faults self.old.disk) (D.faults self.new.disk) }
         ensures unfailed { OnOk result (NoFault (D.faults self.old.disk) (D.faults self.new.disk)) }
     {
+        self.files.known_facts();
         match self.files.add_piece(&mut self.disk, file, octets) {
             Ok(()) => Ok(()),
             Err(_fault) => {
@@ -136,6 +139,7 @@ impl<D: Disk> Store<D> {
         requires fits { (end : ℕ) × (end_in file.0 self.old.files.files ≡ Some end) × (end ≤ 4294967295) }
 
         ensures any_moment { (lists : Lists) → IsSettledFor lists (D.history self.old.disk) → Leaves lists lists (D.history self.old.disk) (D.history self.new.disk) }
+        ensures mail_stays { (m : MapMeaning) → MailIsKept m (D.history self.old.disk) (D.history self.new.disk) }
         ensures settled { OnOk result ((lists : Lists) → IsSettledFor lists (D.history self.old.disk) → IsSettledFor lists (D.history self.new.disk)) }
 
         ensures count { IfOk result (λ count. (start : ℕ) → place_begun_in file.0 self.old.files.files ≡ Some start → end_in file.0 self.old.files.files ≡ Some (start + count)) }
@@ -172,6 +176,7 @@ impl<D: Disk> Store<D> {
         // Of a settled disk each image at every moment is safe for its lists, whichever call fails; and after Ok the disk is
         // settled for them again.
         ensures any_moment { (lists : Lists) → IsSettledFor lists (D.history self.old.disk) → Leaves lists lists (D.history self.old.disk) (D.history self.new.disk) }
+        ensures mail_stays { MailIsKept self.old.map (D.history self.old.disk) (D.history self.new.disk) }
         ensures settled { OnOk result ((lists : Lists) → IsSettledFor lists (D.history self.old.disk) → IsSettledFor lists (D.history self.new.disk)) }
 
         ensures gone { OnOk result (IfTold (D.history self.new.disk) (λ now. reading (now (Mail file.0)) ≡ None)) }

@@ -1,10 +1,7 @@
-use Rattle.std.proofs.Common.{inl, sym, subst}
-use Rattle.std.specs.Prelude.{All}
-use Rattle.store_core.specs.Value.{StoreValue}
+use Rattle.std.proofs.Common.{inl}
 use Rattle.mail_fetch.specs.Events.{with_piece}
-use Rattle.mail_fetch.specs.Parts.{KnowsSource}
-use Rattle.mail_fetch.specs.declared.parts.Part.{Part}
-use Rattle.mail_fetch.proofs.LastPieceLemmas.{last_piece, goes_on_reading, left_on, known_on, fewer_on}
+use Rattle.mail_fetch.proofs.LastPieceLemmas.{last_piece, goes_on_reading, left_on, fewer_on}
+use Rattle.mail_fetch.proofs.ReadyLemmas.{ready_on}
 use Rattle.mail_fetch.proofs.task.read_piece.Goals as goal
 
 pub returns-in-Ok-clause-read : goal.returns-in-Ok-clause-read
@@ -22,12 +19,13 @@ returns-in-Ok-2-clause-left g c =
     let p = c.in-Ok-2.ensures.piece in
     left_on c.args.region c.read_next.new.self p.0 c.requires.left p.2 (λ none. let yes = c.is_read.ensures.1 none in let not_yet = c.if-is_read.false in cc (yes, not_yet))
 
-pub returns-in-Ok-2-clause-knows : goal.returns-in-Ok-2-clause-knows
-returns-in-Ok-2-clause-knows g c =
-    let p = c.in-Ok-2.ensures.piece in
-    subst (λ (s : StoreValue _). All (λ (part : Part). KnowsSource s.instances.known part.source) c.read_next.new.self.left) (sym c.in-Ok-2.ensures.same) (known_on c.args.store.now.instances.known c.args.region c.read_next.new.self p.0 c.requires.known p.2)
-
 pub returns-in-Ok-2-clause-fewer : goal.returns-in-Ok-2-clause-fewer
 returns-in-Ok-2-clause-fewer g c =
     let p = c.in-Ok-2.ensures.piece in
     fewer_on c.args.region c.read_next.new.self p.0 c.requires.left p.2
+
+pub returns-in-Ok-clause-ready : goal.returns-in-Ok-clause-ready
+returns-in-Ok-clause-ready g c = λ ready. ready_on c.args.region _ c.args.store.now c.read_next.new.store (g.D.Disk.history c.args.store.now.disk) (g.D.Disk.faults c.args.store.now.disk) (g.D.Disk.faults c.read_next.new.store.disk) c.in-Ok.ensures.same (returns-in-Ok-clause-read g c) ready
+
+pub returns-in-Ok-2-clause-ready : goal.returns-in-Ok-2-clause-ready
+returns-in-Ok-2-clause-ready g c = λ ready. ready_on c.args.region _ c.args.store.now c.read_next.new.store (g.D.Disk.history c.args.store.now.disk) (g.D.Disk.faults c.args.store.now.disk) (g.D.Disk.faults c.read_next.new.store.disk) c.in-Ok-2.ensures.same (returns-in-Ok-2-clause-read g c) ready

@@ -37,6 +37,7 @@ returns-in-Ok-clause-added g c =
           drawn = ap (λ v. v.drawn) o.same;
           files = ap (λ v. v.files) o.same;
           rest = o.same ∙ sym (ap (λ v. record c.args.store.now { disk = v.disk; map_log = v.map_log; map = v.map; boxes = v.boxes; drawn = v.drawn; dues = v.dues; stopped = v.stopped }) o.same);
+          stays = o.mail_stays;
           grows = o.grows;
           reads = o.fault.reads;
           changes = o.fault.changes;
@@ -69,6 +70,7 @@ returns-in-Err-Stopped-clause-refused g c =
           drawn = ap (λ v. v.drawn) o.same;
           files = ap (λ v. v.files) o.same;
           rest = o.same ∙ sym (ap (λ v. record c.args.store.now { disk = v.disk; map_log = v.map_log; map = v.map; boxes = v.boxes; drawn = v.drawn; dues = v.dues; stopped = v.stopped }) o.same);
+          stays = o.mail_stays;
           grows = o.grows;
           reads = o.fault.reads;
           changes = o.fault.changes;

@@ -14,6 +14,7 @@ use Rattle.mail_ops.proofs.RemovalLemmas.{store_tells}
 use Rattle.mail_ops.proofs.KeptUidLemmas.{flags_left, logs_keep}
 use Rattle.task_claims.specs.Claims.{no_claims}
 use Rattle.mail_ops.proofs.EventLemmas.{fall}
+use Rattle.mail_ops.proofs.KeptMailLemmas.{fell_spares, spared_none, took_spares}
 use Rattle.mail_ops.proofs.LeavingLemmas.{flag_leaves, same_leaves}
 use Rattle.mail_ops.proofs.flagging.flag.Goals as goal
 
@@ -161,3 +162,19 @@ returns-in-Ok-clause-leaves g c = λ runs.
 
 pub returns-in-Err-Stopped-clause-leaves : goal.returns-in-Err-Stopped-clause-leaves
 returns-in-Err-Stopped-clause-leaves g c = λ runs. absurd (fall _ (c.in-Err-Stopped.ensures.stopped.0 (ap Err c.in-Err-Stopped.field-0-is)) runs)
+
+pub returns-then-stopped-clause-mail : goal.returns-then-stopped-clause-mail
+returns-then-stopped-clause-mail g c = spared_none _ _
+
+pub returns-in_default-clause-mail : goal.returns-in_default-clause-mail
+returns-in_default-clause-mail g c = spared_none _ _
+
+pub returns-then-is_none-clause-mail : goal.returns-then-is_none-clause-mail
+returns-then-is_none-clause-mail g c = spared_none _ _
+
+pub returns-in-Ok-clause-mail : goal.returns-in-Ok-clause-mail
+returns-in-Ok-clause-mail g c = took_spares _ _ _ c.in-Ok.ensures.mail_stays c.in-Ok.ensures.others
+
+pub returns-in-Err-Stopped-clause-mail : goal.returns-in-Err-Stopped-clause-mail
+returns-in-Err-Stopped-clause-mail g c =
+    fell_spares c.args.store.now c.append_box.new.self _ _ (sym c.stopped.ensures ∙ c.if-stopped.false) (c.in-Err-Stopped.ensures.stopped.0 (ap Err c.in-Err-Stopped.field-0-is)) c.in-Err-Stopped.ensures.mail_stays

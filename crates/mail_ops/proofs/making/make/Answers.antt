@@ -17,6 +17,7 @@ returns-in-Ok-clause-made g c =
       others = o.others;
       runs = not_true _ (λ e. ok_is_none _ (o.stopped.1 e));
       same = o.same;
+      stays = o.mail_stays;
       grows = o.grows;
       reads = o.fault.reads;
       changes = o.fault.changes;

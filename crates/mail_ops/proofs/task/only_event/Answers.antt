@@ -7,6 +7,7 @@ use Rattle.mail_ops.specs.Requests.{Replies, lists_after, lists_by_reply}
 use Rattle.store_seen.specs.Seeing.{seen_of}
 use Rattle.mail_ops.proofs.SettledFlagLemmas.{list_leaves_settled, uncounted, not_both}
 use Rattle.task_claims.specs.Claims.{no_claims}
+use Rattle.mail_ops.proofs.KeptMailLemmas.{spared_none}
 use Rattle.mail_ops.proofs.LeavingLemmas.{same_leaves}
 use Rattle.mail_ops.proofs.task.only_event.Goals as goal
 
@@ -46,3 +47,6 @@ returns-in-List-clause-keeps g c = λ name uid held k. k
 
 pub returns-in-List-clause-leaves : goal.returns-in-List-clause-leaves
 returns-in-List-clause-leaves g c = λ runs. same_leaves g.D.Disk.history no_claims c.args.store.now c.args.store.now refl
+
+pub returns-in-List-clause-mail : goal.returns-in-List-clause-mail
+returns-in-List-clause-mail g c = spared_none _ _

@@ -1,3 +1,4 @@
+use Rattle.model_kept.proofs.KeptLemmas.{kept_begins}
 use Rattle.mail_save.proofs.AddLemmas.{adds_at, added_at}
 use Rattle.mail_save.proofs.MailFileLemmas.{mail_kept}
 use Rattle.mail_save.proofs.add.add_message.Goals as goal
@@ -16,3 +17,6 @@ returns-in-Err-NoMemory-clause-any_moment g c = adds_at c.args.name.now c.args.a
 
 pub returns-in-Ok-clause-mail : goal.returns-in-Ok-clause-mail
 returns-in-Ok-clause-mail g c = mail_kept _ _ c.in-Ok.ensures.others
+
+pub returns-in_err-number-clause-mail_stays : goal.returns-in_err-number-clause-mail_stays
+returns-in_err-number-clause-mail_stays g c = kept_begins _ _

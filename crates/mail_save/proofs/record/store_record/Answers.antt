@@ -4,6 +4,8 @@ use Rattle.mdbox_base.specs.declared.entries.InstRow.{InstRow}
 use Rattle.model_logs.specs.Entries.{RowInRange}
 use Rattle.model_meaning.specs.MapMeaning.{MapRecord, record_at}
 use Rattle.model_store.specs.Settled.{IsSettledFor, Leaves}
+use Rattle.model_kept.specs.Kept.{MailIsKept}
+use Rattle.mail_save.proofs.StayingLemmas.{kept_same}
 use Rattle.mail_save.proofs.PlaceLemmas.{unchanged_leaves, unchanged_settled}
 use Rattle.mail_save.proofs.RecordLemmas.{rows_in_range, file_drawn, guid_drawn, record_fits, record_below, record_lies, ready_as}
 use Rattle.mail_save.proofs.SaveEventLemmas.{uids_full, unfallen}
@@ -109,4 +111,14 @@ returns-clause-settled g c = elim c.match-append_map.branch [
   | in-Err-Stopped w ↦ rw w.store-is (λ ran. absurd (unfallen c.append_map.new.self.stopped (w.in-Err-Stopped.ensures.stopped.0 (ap Err w.in-Err-Stopped.field-0-is)) ran))
   | in-Err-NoMemory w ↦ rw w.store-is (λ ran lists ready s.
       unchanged_settled g.D.Disk.history c.args.store.now.disk w.release-in-Err-NoMemory.new.self.disk (ap (λ v. v.disk) w.release-in-Err-NoMemory.ensures.same ∙ ap (λ v. v.disk) (w.in-Err-NoMemory.ensures.memory (ap Err w.in-Err-NoMemory.field-0-is)).0) lists s)
+]
+
+pub returns-in_default-clause-mail_stays : goal.returns-in_default-clause-mail_stays
+returns-in_default-clause-mail_stays g c = kept_same g.D.Disk.history _ c.args.store.now.disk c.release.new.self.disk (ap (λ v. v.disk) c.release.ensures.same)
+
+pub returns-clause-mail_stays : goal.returns-clause-mail_stays
+returns-clause-mail_stays g c = elim c.match-append_map.branch [
+  | in-Ok w ↦ subst (λ d. MailIsKept c.args.store.now.map (g.D.Disk.history c.args.store.now.disk) (g.D.Disk.history d)) (ap (λ v. v.disk) (sym (w.store-is ∙ w.release-in-Ok.ensures.same))) (c.append_map.ensures.mail_stays _)
+  | in-Err-Stopped w ↦ subst (λ d. MailIsKept c.args.store.now.map (g.D.Disk.history c.args.store.now.disk) (g.D.Disk.history d)) (ap (λ v. v.disk) (sym w.store-is)) (c.append_map.ensures.mail_stays _)
+  | in-Err-NoMemory w ↦ subst (λ d. MailIsKept c.args.store.now.map (g.D.Disk.history c.args.store.now.disk) (g.D.Disk.history d)) (ap (λ v. v.disk) (sym (w.store-is ∙ w.release-in-Err-NoMemory.ensures.same))) (c.append_map.ensures.mail_stays _)
 ]

@@ -1,4 +1,5 @@
 use Rattle.std.proofs.Common.{inl, inr, sym, subst, refl, arith}
+use Rattle.model_kept.proofs.KeptLemmas.{kept_begins}
 use Rattle.store_core.proofs.BoxCrashLemmas.{leaves_none}
 use Rattle.store_core.proofs.DueLemmas.{keeps_itself}
 use Rattle.mdbox_base.specs.declared.progress.Did.TheVariants as did
@@ -42,6 +43,7 @@ returns-in-Err g c = λ size.
       replies = c.in-Err.ensures.refused;
       did_is = c.did_fail.ensures;
       moments = λ lists s. leaves_none h lists lists s;
+      stays = kept_begins _ h;
       rests = λ ran lists s. s;
       ready = λ e. absurd (done_goes_on _ e);
       left = λ e. absurd (done_goes_on _ e);

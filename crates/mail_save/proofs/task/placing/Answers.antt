@@ -6,9 +6,6 @@ use Rattle.mdbox_base.specs.declared.ids.FileNo.{FileNo}
 use Rattle.mdbox_base.specs.declared.progress.Progress.TheVariants as progress
 use Rattle.mdbox_base.specs.declared.replies.Refusal.TheVariants as refusal
 use Rattle.mdbox_base.specs.declared.replies.Reply.TheVariants as reply
-use Rattle.model_appends.specs.Appending.{LeavesAsRead}
-use Rattle.model_lists.specs.Lists.{Lists}
-use Rattle.model_store.specs.Settled.{IsSettledFor}
 use Rattle.save_instances.proofs.FoundLemmas.{of_parts_kept}
 use Rattle.save_instances.specs.Attaching.{AreHeld}
 use Rattle.saved_message.specs.Region.{unknown_guid}
@@ -26,6 +23,8 @@ use Rattle.mail_save.proofs.SaveEventLemmas.{done_goes_on, faults_by, is_false, 
 use Rattle.mail_save.proofs.StoringLemmas.{spared_kept}
 use Rattle.mail_save.specs.Held.{save_amounts}
 use Rattle.mail_save.specs.MailFiles.{HasAppended}
+use Rattle.mail_save.specs.Ready.{IsLeftSoOrGone}
+use Rattle.mail_save.proofs.PlacedLemmas.{appended_left}
 use Rattle.mail_save.specs.SaveEffects.{LetsGo, PlacesParts}
 use Rattle.mail_save.specs.Task.{Saves}
 use Rattle.mail_save.specs.declared.task.SaveStage.TheVariants as stage
@@ -70,6 +69,7 @@ returns-in-Ok g c = λ size_now.
       replies = tt;
       did_is = refl;
       moments = o.any_moment;
+      stays = o.mail_stays;
       rests = λ ran. o.settled;
       mail = λ ran prepared is. subst (λ (region : List ℕ). HasAppended region c.args.file.0 before after) (o.set c.args.name.now c.args.time prepared (ids_in parts.rows) unknown_guid is.laid).region o.appended;
       ready = λ e octets h. (
@@ -78,7 +78,7 @@ returns-in-Ok g c = λ size_now.
             (o.set c.args.name.now c.args.time h.1.prepared (ids_in parts.rows) unknown_guid h.1.laid.laid) (o.long ∙ sym size) (instances_are parts.rows h.1.prepared.parts old.instances.known before h.1.found h.1.one_each)
             (subst (λ (f : FileNo). IfTold after (λ now. EndsWith at_place.offset laid.region (now (Mail f.0)))) (sym o.file) o.written)
             (instances_there parts.rows h.1.prepared.parts new.instances.known after (of_parts_kept parts.rows h.1.prepared.parts old new before after keeps h.1.found) h.1.one_each)
-            (subst (λ (f : FileNo). (lists : Lists) → IsSettledFor lists after → IfTold after (LeavesAsRead (Mail f.0))) (sym o.file) o.held),
+            (subst (λ (f : FileNo). IfTold after (IsLeftSoOrGone (Mail f.0))) (sym o.file) (appended_left laid.region c.args.file.0 before after o.appended)),
       );
       left = λ e. (o.placed, omega (arith, some, size), holds_attached c.args.name.now c.args.time parts new after (is_attached_on c.args.name.now c.args.time parts old new before after keeps same c.requires.left.0));
       fewer = λ e. omega arith;
@@ -109,6 +109,7 @@ returns g c = λ size_now.
       replies = refl;
       did_is = refl;
       moments = o.any_moment;
+      stays = o.mail_stays;
       rests = λ ran. absurd (unfallen left.stopped fell ran);
       mail = λ ran. absurd (unfallen left.stopped fell ran);
       ready = λ e. absurd (done_goes_on _ e);

@@ -36,7 +36,7 @@ loop-reply-preserved g c =
           let parts = c.ready_saves_have_parts.ensures c.loop-reply.task.stage c.loop-reply.task.name c.loop-reply.task.time c.loop-reply.task.size octets c.loop-reply.store (g.D.Disk.history c.loop-reply.store.disk) ready in
           save_goes_on g.D.Disk.history g.D.Disk.faults c.args.name c.args.time c.loop-reply.task.size octets c.args.prepared c.args.store.now c.loop-reply.store c.step.new.store c.loop-reply.task.stage c.step.new.self.stage c.step.new.self.did c.step.result c.in_default.is (now.so_far octets small is)
           (save_said_of g.D.Disk.history g.D.Disk.faults c.args.name c.loop-reply.task.name c.args.time c.loop-reply.task.time c.loop-reply.task.size octets c.loop-reply.task.stage c.step.new.self.stage c.loop-reply.store c.step.new.store c.step.new.self.did c.step.result now.name_is now.time_is
-          (record { is = c.facts.ensures.store; ready = ready; had = now.left; moments = step.moments octets ready; settled = λ runs. step.settled runs octets ready; says = step.saves; does = step.does octets (λ file. 0) _ parts (λ runs. ready) }));
+          (record { is = c.facts.ensures.store; reads = g.met.D.Disk.reads_image c.loop-reply.store.disk; ready = ready; had = now.left; moments = step.moments octets ready; settled = λ runs. step.settled runs octets ready; says = step.saves; does = step.does octets (λ file. 0) _ parts (λ runs. ready) }));
     }
 
 pub returns-in-Done : goal.returns-in-Done
@@ -47,7 +47,7 @@ returns-in-Done g c = λ octets small is.
     let parts = c.ready_saves_have_parts.ensures c.loop-reply.task.stage c.loop-reply.task.name c.loop-reply.task.time c.loop-reply.task.size octets c.loop-reply.store (g.D.Disk.history c.loop-reply.store.disk) ready in
     save_ends g.D.Disk.history g.D.Disk.faults c.args.name c.args.time c.loop-reply.task.size octets c.args.prepared c.args.store.now c.loop-reply.store c.step.new.store c.loop-reply.task.stage c.step.new.self.stage c.step.new.self.did c.step.result c.in-Done.reply c.in-Done.is (now.so_far octets small is)
     (save_said_of g.D.Disk.history g.D.Disk.faults c.args.name c.loop-reply.task.name c.args.time c.loop-reply.task.time c.loop-reply.task.size octets c.loop-reply.task.stage c.step.new.self.stage c.loop-reply.store c.step.new.store c.step.new.self.did c.step.result now.name_is now.time_is
-    (record { is = c.facts.ensures.store; ready = ready; had = now.left; moments = step.moments octets ready; settled = λ runs. step.settled runs octets ready; says = step.saves; does = step.does octets (λ file. 0) _ parts (λ runs. ready) }))
+    (record { is = c.facts.ensures.store; reads = g.met.D.Disk.reads_image c.loop-reply.store.disk; ready = ready; had = now.left; moments = step.moments octets ready; settled = λ runs. step.settled runs octets ready; says = step.saves; does = step.does octets (λ file. 0) _ parts (λ runs. ready) }))
     c.facts-in-Done.ensures.store c.facts-in-Done.ensures.instances
 
 pub loop-reply-smaller : goal.loop-reply-smaller

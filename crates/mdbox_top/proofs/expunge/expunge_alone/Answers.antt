@@ -25,6 +25,7 @@ returns-in-Ok-clause-done g c =
         carried = o.carried (λ f. absurd f);
         swept = (o.swept.0, o.swept.2);
         stays = o.mail_stays;
+        reads = g.met.D.Disk.reads_image c.in-Ok.store.disk;
         closed_well = o.closed_well;
       };
       later = c.facts-in-Ok.ensures.store;

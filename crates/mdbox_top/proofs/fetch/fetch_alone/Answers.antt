@@ -1,12 +1,19 @@
-use Rattle.std.proofs.Common.{sym, subst}
+use Rattle.std.proofs.Common.{sym, subst, arith}
 use Rattle.mdbox_base.specs.declared.requests.Request.TheVariants as request
 use Rattle.mdbox_top.specs.Alone.{IsDoneAlone}
 use Rattle.mdbox_top.proofs.FetchedLemmas.{fetch_done}
-use Rattle.mdbox_top.proofs.OpenedLemmas.{none_doomed}
+use Rattle.mdbox_top.proofs.KnownFirstLemmas.{none_held}
+use Rattle.mdbox_top.proofs.OpenedLemmas.{none_doomed, none_pinned}
 use Rattle.mdbox_top.proofs.fetch.fetch_alone.Goals as goal
 
 pub take_message-reply-requires-clause-undoomed : goal.take_message-reply-requires-clause-undoomed
 take_message-reply-requires-clause-undoomed g c file = none_doomed c.in-Ok.store (g.D.Disk.history c.args.disk) c.in-Ok.ensures.files file
+
+pub take_message-reply-requires-clause-room : goal.take_message-reply-requires-clause-room
+take_message-reply-requires-clause-room g c = record {
+  pins = λ file. let none = none_pinned c.in-Ok.store (g.D.Disk.history c.args.disk) c.in-Ok.ensures.files file in omega (arith, none);
+  holds = λ id. let none = none_held c.in-Ok.store c.in-Ok.ensures.instances id in omega (arith, none);
+}
 
 pub returns-in-Ok-clause-done : goal.returns-in-Ok-clause-done
 returns-in-Ok-clause-done g c =
@@ -30,6 +37,7 @@ returns-in-Ok-clause-done g c =
         carried = o.carried (λ f. absurd f);
         swept = (o.swept.0, o.swept.2);
         stays = o.mail_stays;
+        reads = g.met.D.Disk.reads_image c.in-Ok.store.disk;
         closed_well = o.closed_well;
       };
       later = c.facts-in-Ok.ensures.store;

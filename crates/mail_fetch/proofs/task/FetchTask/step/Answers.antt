@@ -1,91 +1,193 @@
-use Rattle.std.proofs.Common.{Some, None, refl, sym, ◌∙◌, subst}
-use Rattle.disk_model.proofs.IdleLemmas.{idle-begins}
+use Rattle.std.proofs.Common.{refl, sym, ◌∙◌, subst}
 use Rattle.mdbox_base.specs.declared.progress.Did.TheVariants as did
+use Rattle.mdbox_base.specs.declared.progress.Progress.TheVariants as progress
 use Rattle.mdbox_base.specs.declared.replies.Refusal.TheVariants as refusal
 use Rattle.mdbox_base.specs.declared.replies.Reply.TheVariants as reply
-use Rattle.task_claims.proofs.RestLemmas.{idle_leaves}
-use Rattle.task_steps.specs.Step.{ended_by}
+use Rattle.mail_fetch.specs.Claims.{HasFetchRoom, IsReadyToFetch, claims_of_pinned}
 use Rattle.mail_fetch.specs.Task.{HasPieceLeft}
+use Rattle.mail_fetch.specs.declared.task.FetchStage.{FetchStage}
 use Rattle.mail_fetch.specs.declared.task.FetchStage.TheVariants as stage
-use Rattle.mail_fetch.proofs.ClaimLemmas.{begun_ended, fall, first_claims, more_is, reading_leaves, reading_moves}
-use Rattle.mail_fetch.proofs.StepLemmas.{stopped_steps, begin_steps, read_steps, unpin_steps}
-use Rattle.mail_fetch.proofs.StepViewLemmas.{step_seen, undoomed_at}
+use Rattle.mail_fetch.proofs.StageLemmas.{first_says, reading_says, says_seen, stage_seen, stopped_says, unpinning_says}
 use Rattle.mail_fetch.proofs.task.FetchTask.step.Goals as goal
 
+pub begin-next-requires-clause-room : goal.begin-next-requires-clause-room
+begin-next-requires-clause-room g c =
+    subst (λ (s : FetchStage). HasFetchRoom s c.args.store.now) (stage_seen _ c.args.self.now stage.First c.self.view_is (sym c.replace.ensures.value ∙ c.in-First.is)) (c.requires.room (sym c.stopped.ensures ∙ c.if-stopped.false))
+
+pub read_piece-requires-clause-known : goal.read_piece-requires-clause-known
+read_piece-requires-clause-known g c =
+    (subst (λ (s : FetchStage). IsReadyToFetch s c.args.store.now) (stage_seen _ c.args.self.now (stage.Reading c.in-Reading.region) c.self.view_is (sym c.replace.ensures.value ∙ c.in-Reading.is)) (c.requires.ready (sym c.stopped.ensures ∙ c.if-stopped.false))).left
+
+pub give_back-requires : goal.give_back-requires
+give_back-requires g c =
+    subst (λ (s : FetchStage). IsReadyToFetch s c.args.store.now) (stage_seen _ c.args.self.now (stage.Unpinning c.in-Unpinning.from c.in-Unpinning.reply) c.self.view_is (sym c.replace.ensures.value ∙ c.in-Unpinning.is)) (c.requires.ready (sym c.stopped.ensures ∙ c.if-stopped.false))
+
 pub returns-then-stopped-clause-does : goal.returns-then-stopped-clause-does
-returns-then-stopped-clause-does g c = λ around after others undoomed.
-    let history = g.D.Disk.history c.args.store.now.disk in
-    let faults = g.D.Disk.faults c.args.store.now.disk in
-    step_seen around after others _ c.args.self.now c.self.inside.stage c.self.inside.stage c.self.inside.stage c.args.store.now c.args.store.now history history faults faults did.Quiet (Some (reply.Refused refusal.Stopped)) c.self.view_is refl refl
-    (stopped_steps around after others c.self.inside.name c.self.inside.uid c.self.inside.stage c.args.store.now history faults c.self.invariant (sym c.stopped.ensures ∙ c.if-stopped.true))
-
-pub returns-then-stopped-clause-idle : goal.returns-then-stopped-clause-idle
-returns-then-stopped-clause-idle g c = idle-begins _
-
-pub returns-in-First-clause-does : goal.returns-in-First-clause-does
-returns-in-First-clause-does g c = λ around after others undoomed.
-    let history = g.D.Disk.history c.args.store.now.disk in
-    let faults = g.D.Disk.faults c.args.store.now.disk in
-    let how = c.did_begin-self-inside.result in
-    step_seen around after others _ c.args.self.now stage.First c.begin-next.result.0 c.begin-next.result.0 c.args.store.now c.args.store.now history history faults faults how (ended_by c.begin-next.result.1) c.self.view_is (sym c.replace.ensures.value ∙ c.in-First.is) refl
-    (begin_steps around after others c.self.inside.name c.self.inside.uid c.args.store.now history faults c.begin-next.result.0 c.begin-next.result.1 how c.facts.ensures.store (sym c.stopped.ensures ∙ c.if-stopped.false) c.begin-next.ensures.begun c.did_begin-self-inside.ensures)
-
-pub returns-in-First-clause-idle : goal.returns-in-First-clause-idle
-returns-in-First-clause-idle g c = idle-begins _
-
-pub returns-in-Reading-clause-does : goal.returns-in-Reading-clause-does
-returns-in-Reading-clause-does g c = λ around after others undoomed.
-    let history = g.D.Disk.history c.args.store.now.disk in
-    let then_history = g.D.Disk.history c.read_piece.new.store.disk in
-    let faults = g.D.Disk.faults c.args.store.now.disk in
-    let then_faults = g.D.Disk.faults c.read_piece.new.store.disk in
-    let at = sym c.replace.ensures.value ∙ c.in-Reading.is in
-    let read = c.read_piece.ensures in
-    step_seen around after others _ c.args.self.now (stage.Reading c.in-Reading.region) c.read_piece.result c.read_piece.result c.args.store.now c.read_piece.new.store history then_history faults then_faults did.Quiet None c.self.view_is at refl
-    (read_steps around after others c.self.inside.name c.self.inside.uid c.in-Reading.region c.args.store.now c.read_piece.new.store history then_history faults then_faults c.read_piece.result (subst HasPieceLeft at c.self.invariant) (sym c.stopped.ensures ∙ c.if-stopped.false) read.same read.idle read.fault read.read)
-
-pub returns-clause-does : goal.returns-clause-does
-returns-clause-does g c = λ around after others undoomed.
-    let history = g.D.Disk.history c.args.store.now.disk in
-    let faults = g.D.Disk.faults c.args.store.now.disk in
-    step_seen around after others _ c.args.self.now (stage.Unpinning c.in-Unpinning.from c.in-Unpinning.reply) stage.First c.replace.new.dest c.args.store.now c.args.store.now history history faults faults did.Quiet (Some c.in-Unpinning.reply) c.self.view_is (sym c.replace.ensures.value ∙ c.in-Unpinning.is) c.replace.ensures.after
-    (unpin_steps around after others c.self.inside.name c.self.inside.uid c.in-Unpinning.from c.in-Unpinning.reply c.args.store.now history faults (sym c.stopped.ensures ∙ c.if-stopped.false) (undoomed_at _ c.args.self.now c.args.store.now c.in-Unpinning.from c.in-Unpinning.reply c.self.view_is (sym c.replace.ensures.value ∙ c.in-Unpinning.is) undoomed))
-
-pub returns-clause-idle : goal.returns-clause-idle
-returns-clause-idle g c = idle-begins _
+returns-then-stopped-clause-does g c =
+    let runs_not = sym c.stopped.ensures ∙ c.if-stopped.true in
+    let says = says_seen g.D.Disk.history g.D.Disk.faults _ c.args.self.now c.self.inside.stage c.self.inside.stage c.self.inside.stage c.args.store.now c.args.store.now did.Quiet (progress.Done (reply.Refused refusal.Stopped)) c.self.view_is refl refl
+    (stopped_says g.D.Disk.history g.D.Disk.faults c.self.inside.name c.self.inside.uid c.self.inside.stage c.args.store.now c.self.invariant runs_not) in
+    says.does
 
 pub returns-then-stopped-clause-claims : goal.returns-then-stopped-clause-claims
-returns-then-stopped-clause-claims g c = λ mine thing. refl
+returns-then-stopped-clause-claims g c =
+    let runs_not = sym c.stopped.ensures ∙ c.if-stopped.true in
+    let says = says_seen g.D.Disk.history g.D.Disk.faults _ c.args.self.now c.self.inside.stage c.self.inside.stage c.self.inside.stage c.args.store.now c.args.store.now did.Quiet (progress.Done (reply.Refused refusal.Stopped)) c.self.view_is refl refl
+    (stopped_says g.D.Disk.history g.D.Disk.faults c.self.inside.name c.self.inside.uid c.self.inside.stage c.args.store.now c.self.invariant runs_not) in
+    says.claims
 
 pub returns-then-stopped-clause-leaves : goal.returns-then-stopped-clause-leaves
-returns-then-stopped-clause-leaves g c = λ mine. idle_leaves mine _ _ _ (idle-begins _)
+returns-then-stopped-clause-leaves g c =
+    let runs_not = sym c.stopped.ensures ∙ c.if-stopped.true in
+    let says = says_seen g.D.Disk.history g.D.Disk.faults _ c.args.self.now c.self.inside.stage c.self.inside.stage c.self.inside.stage c.args.store.now c.args.store.now did.Quiet (progress.Done (reply.Refused refusal.Stopped)) c.self.view_is refl refl
+    (stopped_says g.D.Disk.history g.D.Disk.faults c.self.inside.name c.self.inside.uid c.self.inside.stage c.args.store.now c.self.invariant runs_not) in
+    says.leaves
 
 pub returns-then-stopped-clause-ended : goal.returns-then-stopped-clause-ended
-returns-then-stopped-clause-ended g c = λ given is runs. absurd (fall _ (sym c.stopped.ensures ∙ c.if-stopped.true) runs)
+returns-then-stopped-clause-ended g c =
+    let runs_not = sym c.stopped.ensures ∙ c.if-stopped.true in
+    let says = says_seen g.D.Disk.history g.D.Disk.faults _ c.args.self.now c.self.inside.stage c.self.inside.stage c.self.inside.stage c.args.store.now c.args.store.now did.Quiet (progress.Done (reply.Refused refusal.Stopped)) c.self.view_is refl refl
+    (stopped_says g.D.Disk.history g.D.Disk.faults c.self.inside.name c.self.inside.uid c.self.inside.stage c.args.store.now c.self.invariant runs_not) in
+    says.ended
+
+pub returns-then-stopped-clause-alone : goal.returns-then-stopped-clause-alone
+returns-then-stopped-clause-alone g c =
+    let runs_not = sym c.stopped.ensures ∙ c.if-stopped.true in
+    let says = says_seen g.D.Disk.history g.D.Disk.faults _ c.args.self.now c.self.inside.stage c.self.inside.stage c.self.inside.stage c.args.store.now c.args.store.now did.Quiet (progress.Done (reply.Refused refusal.Stopped)) c.self.view_is refl refl
+    (stopped_says g.D.Disk.history g.D.Disk.faults c.self.inside.name c.self.inside.uid c.self.inside.stage c.args.store.now c.self.invariant runs_not) in
+    says.alone
+
+pub returns-in-First-clause-does : goal.returns-in-First-clause-does
+returns-in-First-clause-does g c =
+    let runs = sym c.stopped.ensures ∙ c.if-stopped.false in
+    let begun = c.begin-next.ensures in
+    let says = says_seen g.D.Disk.history g.D.Disk.faults _ c.args.self.now stage.First c.begin-next.result.0 c.begin-next.result.0 c.args.store.now c.begin-next.new.store c.did_begin-self-inside.result c.begin-next.result.1 c.self.view_is (sym c.replace.ensures.value ∙ c.in-First.is) refl
+    (first_says g.D.Disk.history g.D.Disk.faults c.self.inside.name c.self.inside.uid c.begin-next.result.0 c.args.store.now c.begin-next.new.store c.did_begin-self-inside.result c.begin-next.result.1 c.facts.ensures.store runs begun.begun begun.there begun.same begun.claims begun.leaves begun.ready c.did_begin-self-inside.ensures) in
+    says.does
 
 pub returns-in-First-clause-claims : goal.returns-in-First-clause-claims
-returns-in-First-clause-claims g c = λ mine thing. refl
+returns-in-First-clause-claims g c =
+    let runs = sym c.stopped.ensures ∙ c.if-stopped.false in
+    let begun = c.begin-next.ensures in
+    let says = says_seen g.D.Disk.history g.D.Disk.faults _ c.args.self.now stage.First c.begin-next.result.0 c.begin-next.result.0 c.args.store.now c.begin-next.new.store c.did_begin-self-inside.result c.begin-next.result.1 c.self.view_is (sym c.replace.ensures.value ∙ c.in-First.is) refl
+    (first_says g.D.Disk.history g.D.Disk.faults c.self.inside.name c.self.inside.uid c.begin-next.result.0 c.args.store.now c.begin-next.new.store c.did_begin-self-inside.result c.begin-next.result.1 c.facts.ensures.store runs begun.begun begun.there begun.same begun.claims begun.leaves begun.ready c.did_begin-self-inside.ensures) in
+    says.claims
 
 pub returns-in-First-clause-leaves : goal.returns-in-First-clause-leaves
-returns-in-First-clause-leaves g c = λ mine. idle_leaves mine _ _ _ (idle-begins _)
+returns-in-First-clause-leaves g c =
+    let runs = sym c.stopped.ensures ∙ c.if-stopped.false in
+    let begun = c.begin-next.ensures in
+    let says = says_seen g.D.Disk.history g.D.Disk.faults _ c.args.self.now stage.First c.begin-next.result.0 c.begin-next.result.0 c.args.store.now c.begin-next.new.store c.did_begin-self-inside.result c.begin-next.result.1 c.self.view_is (sym c.replace.ensures.value ∙ c.in-First.is) refl
+    (first_says g.D.Disk.history g.D.Disk.faults c.self.inside.name c.self.inside.uid c.begin-next.result.0 c.args.store.now c.begin-next.new.store c.did_begin-self-inside.result c.begin-next.result.1 c.facts.ensures.store runs begun.begun begun.there begun.same begun.claims begun.leaves begun.ready c.did_begin-self-inside.ensures) in
+    says.leaves
 
 pub returns-in-First-clause-ended : goal.returns-in-First-clause-ended
-returns-in-First-clause-ended g c = λ given is runs. begun_ended _ _ c.args.store.now c.begin-next.result.0 c.begin-next.result.1 given c.begin-next.ensures.begun is
+returns-in-First-clause-ended g c =
+    let runs = sym c.stopped.ensures ∙ c.if-stopped.false in
+    let begun = c.begin-next.ensures in
+    let says = says_seen g.D.Disk.history g.D.Disk.faults _ c.args.self.now stage.First c.begin-next.result.0 c.begin-next.result.0 c.args.store.now c.begin-next.new.store c.did_begin-self-inside.result c.begin-next.result.1 c.self.view_is (sym c.replace.ensures.value ∙ c.in-First.is) refl
+    (first_says g.D.Disk.history g.D.Disk.faults c.self.inside.name c.self.inside.uid c.begin-next.result.0 c.args.store.now c.begin-next.new.store c.did_begin-self-inside.result c.begin-next.result.1 c.facts.ensures.store runs begun.begun begun.there begun.same begun.claims begun.leaves begun.ready c.did_begin-self-inside.ensures) in
+    says.ended
+
+pub returns-in-First-clause-alone : goal.returns-in-First-clause-alone
+returns-in-First-clause-alone g c =
+    let runs = sym c.stopped.ensures ∙ c.if-stopped.false in
+    let begun = c.begin-next.ensures in
+    let says = says_seen g.D.Disk.history g.D.Disk.faults _ c.args.self.now stage.First c.begin-next.result.0 c.begin-next.result.0 c.args.store.now c.begin-next.new.store c.did_begin-self-inside.result c.begin-next.result.1 c.self.view_is (sym c.replace.ensures.value ∙ c.in-First.is) refl
+    (first_says g.D.Disk.history g.D.Disk.faults c.self.inside.name c.self.inside.uid c.begin-next.result.0 c.args.store.now c.begin-next.new.store c.did_begin-self-inside.result c.begin-next.result.1 c.facts.ensures.store runs begun.begun begun.there begun.same begun.claims begun.leaves begun.ready c.did_begin-self-inside.ensures) in
+    says.alone
+
+pub returns-in-Reading-clause-does : goal.returns-in-Reading-clause-does
+returns-in-Reading-clause-does g c =
+    let runs = sym c.stopped.ensures ∙ c.if-stopped.false in
+    let at = sym c.replace.ensures.value ∙ c.in-Reading.is in
+    let read = c.read_piece.ensures in
+    let ready = subst (λ (s : FetchStage). IsReadyToFetch s c.args.store.now) (stage_seen _ c.args.self.now (stage.Reading c.in-Reading.region) c.self.view_is at) (c.requires.ready runs) in
+    let says = says_seen g.D.Disk.history g.D.Disk.faults _ c.args.self.now (stage.Reading c.in-Reading.region) c.read_piece.result c.read_piece.result c.args.store.now c.read_piece.new.store did.Quiet progress.More c.self.view_is at refl
+    (reading_says g.D.Disk.history g.D.Disk.faults c.self.inside.name c.self.inside.uid c.in-Reading.region c.read_piece.result c.args.store.now c.read_piece.new.store (subst HasPieceLeft at c.self.invariant) runs read.same read.idle read.fault read.unfailed read.read (read.ready ready)) in
+    says.does
 
 pub returns-in-Reading-clause-claims : goal.returns-in-Reading-clause-claims
-returns-in-Reading-clause-claims g c = reading_moves c.args.store.now c.read_piece.new.store c.read_piece.ensures.same
+returns-in-Reading-clause-claims g c =
+    let runs = sym c.stopped.ensures ∙ c.if-stopped.false in
+    let at = sym c.replace.ensures.value ∙ c.in-Reading.is in
+    let read = c.read_piece.ensures in
+    let ready = subst (λ (s : FetchStage). IsReadyToFetch s c.args.store.now) (stage_seen _ c.args.self.now (stage.Reading c.in-Reading.region) c.self.view_is at) (c.requires.ready runs) in
+    let says = says_seen g.D.Disk.history g.D.Disk.faults _ c.args.self.now (stage.Reading c.in-Reading.region) c.read_piece.result c.read_piece.result c.args.store.now c.read_piece.new.store did.Quiet progress.More c.self.view_is at refl
+    (reading_says g.D.Disk.history g.D.Disk.faults c.self.inside.name c.self.inside.uid c.in-Reading.region c.read_piece.result c.args.store.now c.read_piece.new.store (subst HasPieceLeft at c.self.invariant) runs read.same read.idle read.fault read.unfailed read.read (read.ready ready)) in
+    says.claims
 
 pub returns-in-Reading-clause-leaves : goal.returns-in-Reading-clause-leaves
-returns-in-Reading-clause-leaves g c = reading_leaves c.args.store.now c.read_piece.new.store _ _ c.read_piece.ensures.same c.read_piece.ensures.idle
+returns-in-Reading-clause-leaves g c =
+    let runs = sym c.stopped.ensures ∙ c.if-stopped.false in
+    let at = sym c.replace.ensures.value ∙ c.in-Reading.is in
+    let read = c.read_piece.ensures in
+    let ready = subst (λ (s : FetchStage). IsReadyToFetch s c.args.store.now) (stage_seen _ c.args.self.now (stage.Reading c.in-Reading.region) c.self.view_is at) (c.requires.ready runs) in
+    let says = says_seen g.D.Disk.history g.D.Disk.faults _ c.args.self.now (stage.Reading c.in-Reading.region) c.read_piece.result c.read_piece.result c.args.store.now c.read_piece.new.store did.Quiet progress.More c.self.view_is at refl
+    (reading_says g.D.Disk.history g.D.Disk.faults c.self.inside.name c.self.inside.uid c.in-Reading.region c.read_piece.result c.args.store.now c.read_piece.new.store (subst HasPieceLeft at c.self.invariant) runs read.same read.idle read.fault read.unfailed read.read (read.ready ready)) in
+    says.leaves
 
 pub returns-in-Reading-clause-ended : goal.returns-in-Reading-clause-ended
-returns-in-Reading-clause-ended g c = λ given is runs. absurd (more_is given is)
+returns-in-Reading-clause-ended g c =
+    let runs = sym c.stopped.ensures ∙ c.if-stopped.false in
+    let at = sym c.replace.ensures.value ∙ c.in-Reading.is in
+    let read = c.read_piece.ensures in
+    let ready = subst (λ (s : FetchStage). IsReadyToFetch s c.args.store.now) (stage_seen _ c.args.self.now (stage.Reading c.in-Reading.region) c.self.view_is at) (c.requires.ready runs) in
+    let says = says_seen g.D.Disk.history g.D.Disk.faults _ c.args.self.now (stage.Reading c.in-Reading.region) c.read_piece.result c.read_piece.result c.args.store.now c.read_piece.new.store did.Quiet progress.More c.self.view_is at refl
+    (reading_says g.D.Disk.history g.D.Disk.faults c.self.inside.name c.self.inside.uid c.in-Reading.region c.read_piece.result c.args.store.now c.read_piece.new.store (subst HasPieceLeft at c.self.invariant) runs read.same read.idle read.fault read.unfailed read.read (read.ready ready)) in
+    says.ended
 
-pub returns-clause-claims : goal.returns-clause-claims
-returns-clause-claims g c = λ mine thing. refl
+pub returns-in-Reading-clause-alone : goal.returns-in-Reading-clause-alone
+returns-in-Reading-clause-alone g c =
+    let runs = sym c.stopped.ensures ∙ c.if-stopped.false in
+    let at = sym c.replace.ensures.value ∙ c.in-Reading.is in
+    let read = c.read_piece.ensures in
+    let ready = subst (λ (s : FetchStage). IsReadyToFetch s c.args.store.now) (stage_seen _ c.args.self.now (stage.Reading c.in-Reading.region) c.self.view_is at) (c.requires.ready runs) in
+    let says = says_seen g.D.Disk.history g.D.Disk.faults _ c.args.self.now (stage.Reading c.in-Reading.region) c.read_piece.result c.read_piece.result c.args.store.now c.read_piece.new.store did.Quiet progress.More c.self.view_is at refl
+    (reading_says g.D.Disk.history g.D.Disk.faults c.self.inside.name c.self.inside.uid c.in-Reading.region c.read_piece.result c.args.store.now c.read_piece.new.store (subst HasPieceLeft at c.self.invariant) runs read.same read.idle read.fault read.unfailed read.read (read.ready ready)) in
+    says.alone
 
-pub returns-clause-leaves : goal.returns-clause-leaves
-returns-clause-leaves g c = λ mine. idle_leaves mine _ _ _ (idle-begins _)
+pub returns-in-Unpinning-clause-does : goal.returns-in-Unpinning-clause-does
+returns-in-Unpinning-clause-does g c =
+    let runs = sym c.stopped.ensures ∙ c.if-stopped.false in
+    let at = sym c.replace.ensures.value ∙ c.in-Unpinning.is in
+    let claimed = subst (λ (s : FetchStage). IsReadyToFetch s c.args.store.now) (stage_seen _ c.args.self.now (stage.Unpinning c.in-Unpinning.from c.in-Unpinning.reply) c.self.view_is at) (c.requires.ready runs) in
+    let says = says_seen g.D.Disk.history g.D.Disk.faults _ c.args.self.now (stage.Unpinning c.in-Unpinning.from c.in-Unpinning.reply) stage.First c.replace.new.dest c.args.store.now c.give_back.new.store did.Quiet (progress.Done c.in-Unpinning.reply) c.self.view_is at c.replace.ensures.after
+    (unpinning_says g.D.Disk.history g.D.Disk.faults c.self.inside.name c.self.inside.uid c.in-Unpinning.from c.in-Unpinning.reply c.args.store.now c.give_back.new.store runs claimed c.give_back.ensures.same c.give_back.ensures.claims (c.give_back.ensures.leaves (claims_of_pinned c.in-Unpinning.from))) in
+    says.does
 
-pub returns-clause-ended : goal.returns-clause-ended
-returns-clause-ended g c = λ given is runs. first_claims _ c.replace.ensures.after
+pub returns-in-Unpinning-clause-claims : goal.returns-in-Unpinning-clause-claims
+returns-in-Unpinning-clause-claims g c =
+    let runs = sym c.stopped.ensures ∙ c.if-stopped.false in
+    let at = sym c.replace.ensures.value ∙ c.in-Unpinning.is in
+    let claimed = subst (λ (s : FetchStage). IsReadyToFetch s c.args.store.now) (stage_seen _ c.args.self.now (stage.Unpinning c.in-Unpinning.from c.in-Unpinning.reply) c.self.view_is at) (c.requires.ready runs) in
+    let says = says_seen g.D.Disk.history g.D.Disk.faults _ c.args.self.now (stage.Unpinning c.in-Unpinning.from c.in-Unpinning.reply) stage.First c.replace.new.dest c.args.store.now c.give_back.new.store did.Quiet (progress.Done c.in-Unpinning.reply) c.self.view_is at c.replace.ensures.after
+    (unpinning_says g.D.Disk.history g.D.Disk.faults c.self.inside.name c.self.inside.uid c.in-Unpinning.from c.in-Unpinning.reply c.args.store.now c.give_back.new.store runs claimed c.give_back.ensures.same c.give_back.ensures.claims (c.give_back.ensures.leaves (claims_of_pinned c.in-Unpinning.from))) in
+    says.claims
+
+pub returns-in-Unpinning-clause-leaves : goal.returns-in-Unpinning-clause-leaves
+returns-in-Unpinning-clause-leaves g c =
+    let runs = sym c.stopped.ensures ∙ c.if-stopped.false in
+    let at = sym c.replace.ensures.value ∙ c.in-Unpinning.is in
+    let claimed = subst (λ (s : FetchStage). IsReadyToFetch s c.args.store.now) (stage_seen _ c.args.self.now (stage.Unpinning c.in-Unpinning.from c.in-Unpinning.reply) c.self.view_is at) (c.requires.ready runs) in
+    let says = says_seen g.D.Disk.history g.D.Disk.faults _ c.args.self.now (stage.Unpinning c.in-Unpinning.from c.in-Unpinning.reply) stage.First c.replace.new.dest c.args.store.now c.give_back.new.store did.Quiet (progress.Done c.in-Unpinning.reply) c.self.view_is at c.replace.ensures.after
+    (unpinning_says g.D.Disk.history g.D.Disk.faults c.self.inside.name c.self.inside.uid c.in-Unpinning.from c.in-Unpinning.reply c.args.store.now c.give_back.new.store runs claimed c.give_back.ensures.same c.give_back.ensures.claims (c.give_back.ensures.leaves (claims_of_pinned c.in-Unpinning.from))) in
+    says.leaves
+
+pub returns-in-Unpinning-clause-ended : goal.returns-in-Unpinning-clause-ended
+returns-in-Unpinning-clause-ended g c =
+    let runs = sym c.stopped.ensures ∙ c.if-stopped.false in
+    let at = sym c.replace.ensures.value ∙ c.in-Unpinning.is in
+    let claimed = subst (λ (s : FetchStage). IsReadyToFetch s c.args.store.now) (stage_seen _ c.args.self.now (stage.Unpinning c.in-Unpinning.from c.in-Unpinning.reply) c.self.view_is at) (c.requires.ready runs) in
+    let says = says_seen g.D.Disk.history g.D.Disk.faults _ c.args.self.now (stage.Unpinning c.in-Unpinning.from c.in-Unpinning.reply) stage.First c.replace.new.dest c.args.store.now c.give_back.new.store did.Quiet (progress.Done c.in-Unpinning.reply) c.self.view_is at c.replace.ensures.after
+    (unpinning_says g.D.Disk.history g.D.Disk.faults c.self.inside.name c.self.inside.uid c.in-Unpinning.from c.in-Unpinning.reply c.args.store.now c.give_back.new.store runs claimed c.give_back.ensures.same c.give_back.ensures.claims (c.give_back.ensures.leaves (claims_of_pinned c.in-Unpinning.from))) in
+    says.ended
+
+pub returns-in-Unpinning-clause-alone : goal.returns-in-Unpinning-clause-alone
+returns-in-Unpinning-clause-alone g c =
+    let runs = sym c.stopped.ensures ∙ c.if-stopped.false in
+    let at = sym c.replace.ensures.value ∙ c.in-Unpinning.is in
+    let claimed = subst (λ (s : FetchStage). IsReadyToFetch s c.args.store.now) (stage_seen _ c.args.self.now (stage.Unpinning c.in-Unpinning.from c.in-Unpinning.reply) c.self.view_is at) (c.requires.ready runs) in
+    let says = says_seen g.D.Disk.history g.D.Disk.faults _ c.args.self.now (stage.Unpinning c.in-Unpinning.from c.in-Unpinning.reply) stage.First c.replace.new.dest c.args.store.now c.give_back.new.store did.Quiet (progress.Done c.in-Unpinning.reply) c.self.view_is at c.replace.ensures.after
+    (unpinning_says g.D.Disk.history g.D.Disk.faults c.self.inside.name c.self.inside.uid c.in-Unpinning.from c.in-Unpinning.reply c.args.store.now c.give_back.new.store runs claimed c.give_back.ensures.same c.give_back.ensures.claims (c.give_back.ensures.leaves (claims_of_pinned c.in-Unpinning.from))) in
+    says.alone

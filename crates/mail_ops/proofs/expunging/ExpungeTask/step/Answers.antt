@@ -2,7 +2,7 @@ use Rattle.std.proofs.Common.{sym, ◌∙◌}
 use Rattle.task_steps.proofs.OneEventLemmas.{leaves_none}
 use Rattle.mail_ops.proofs.ExpungeStepLemmas.{expunge_known, stopped_known}
 use Rattle.mail_ops.proofs.KeepingLemmas.{expunge_keeps}
-use Rattle.mail_ops.proofs.KeptMailLemmas.{same_mail, expunge_mail}
+use Rattle.mail_ops.proofs.KeptMailLemmas.{spared_none, expunge_mail}
 use Rattle.mail_ops.proofs.KeptRestLemmas.{expunge_rest}
 use Rattle.task_claims.proofs.RestLemmas.{due_claims}
 use Rattle.mail_ops.specs.Expunging.{expunge_dues}
@@ -60,10 +60,10 @@ pub returns-clause-rest : goal.returns-clause-rest
 returns-clause-rest g c = expunge_rest _ _ c.replace-now.result c.next_event-next.result.0 c.next_event-next.result.1 c.next_event-next.result.2 c.args.store.now c.next_event-next.new.store _ _ _ _ c.next_event-next.ensures
 
 pub returns-then-stopped-clause-mail : goal.returns-then-stopped-clause-mail
-returns-then-stopped-clause-mail g c = λ same. same_mail _
+returns-then-stopped-clause-mail g c = spared_none _ _
 
 pub returns-clause-mail : goal.returns-clause-mail
-returns-clause-mail g c = λ same. expunge_mail g.D.Disk.history _ _ c.replace-now.result c.next_event-next.result.0 c.next_event-next.result.1 c.next_event-next.result.2 c.args.store.now c.next_event-next.new.store _ _ (sym c.stopped.ensures ∙ c.if-stopped.false) same c.next_event-next.ensures
+returns-clause-mail g c = expunge_mail g.D.Disk.history _ _ c.replace-now.result c.next_event-next.result.0 c.next_event-next.result.1 c.next_event-next.result.2 c.args.store.now c.next_event-next.new.store _ _ (sym c.stopped.ensures ∙ c.if-stopped.false) c.next_event-next.ensures
 
 pub returns-then-stopped-clause-claims : goal.returns-then-stopped-clause-claims
 returns-then-stopped-clause-claims g c = λ runs. absurd (fall _ (sym c.stopped.ensures ∙ c.if-stopped.true) runs)

@@ -1,6 +1,6 @@
 use Rattle.std.proofs.Common.{sym, ◌∙◌}
 use Rattle.task_steps.proofs.OneEventLemmas.{leaves_none}
-use Rattle.mail_ops.proofs.KeptMailLemmas.{same_mail, mail_unnamed}
+use Rattle.mail_ops.proofs.KeptMailLemmas.{spared_none}
 use Rattle.mail_ops.proofs.MakeStepLemmas.{make_known_by, make_stopped}
 use Rattle.mail_ops.proofs.EventLemmas.{fall}
 use Rattle.mail_ops.proofs.MakeClaimLemmas.{make_changes, make_ended, make_leaves, make_moves}
@@ -58,7 +58,7 @@ pub returns-clause-replies : goal.returns-clause-replies
 returns-clause-replies g c = λ ran. (make_known_by g.D.Disk.history g.D.Disk.faults _ _ c.next_event-next.result.0 c.next_event-next.result.1 c.next_event-next.result.2 c.args.store.now c.next_event-next.new.store c.self.view_is c.facts.ensures.store (sym c.stopped.ensures ∙ c.if-stopped.false) c.known_name.ensures (c.requires.ready (sym c.stopped.ensures ∙ c.if-stopped.false)) c.known_logs.ensures.made c.next_event-next.ensures).replies
 
 pub returns-then-stopped-clause-mail : goal.returns-then-stopped-clause-mail
-returns-then-stopped-clause-mail g c = λ same. mail_unnamed _ _ (same_mail _)
+returns-then-stopped-clause-mail g c = spared_none _ _
 
 pub returns-clause-mail : goal.returns-clause-mail
 returns-clause-mail g c = (make_known_by g.D.Disk.history g.D.Disk.faults _ _ c.next_event-next.result.0 c.next_event-next.result.1 c.next_event-next.result.2 c.args.store.now c.next_event-next.new.store c.self.view_is c.facts.ensures.store (sym c.stopped.ensures ∙ c.if-stopped.false) c.known_name.ensures (c.requires.ready (sym c.stopped.ensures ∙ c.if-stopped.false)) c.known_logs.ensures.made c.next_event-next.ensures).mail
@@ -80,7 +80,7 @@ returns-clause-claims g c = λ runs.
 pub returns-clause-leaves : goal.returns-clause-leaves
 returns-clause-leaves g c = λ runs.
     let k = (make_known_by g.D.Disk.history g.D.Disk.faults _ _ c.next_event-next.result.0 c.next_event-next.result.1 c.next_event-next.result.2 c.args.store.now c.next_event-next.new.store c.self.view_is c.facts.ensures.store (sym c.stopped.ensures ∙ c.if-stopped.false) c.known_name.ensures (c.requires.ready (sym c.stopped.ensures ∙ c.if-stopped.false)) c.known_logs.ensures.made c.next_event-next.ensures) in
-    make_leaves c.args.self.now.stage c.next_event-next.result.0 c.args.store.now c.next_event-next.new.store _ _ (make_changes _ c.args.self.now.stage c.next_event-next.result.0 c.next_event-next.result.1 c.args.store.now c.next_event-next.new.store _ _ runs (c.requires.ready (sym c.stopped.ensures ∙ c.if-stopped.false)) k.replies) k.moves k.rest (k.mail (runs ∙ sym (sym c.stopped.ensures ∙ c.if-stopped.false))) k.keeps
+    make_leaves c.args.self.now.stage c.next_event-next.result.0 c.args.store.now c.next_event-next.new.store _ _ (make_changes _ c.args.self.now.stage c.next_event-next.result.0 c.next_event-next.result.1 c.args.store.now c.next_event-next.new.store _ _ runs (c.requires.ready (sym c.stopped.ensures ∙ c.if-stopped.false)) k.replies) k.moves k.rest (k.mail.left (runs ∙ sym (sym c.stopped.ensures ∙ c.if-stopped.false))) k.keeps
 
 pub returns-clause-ended : goal.returns-clause-ended
 returns-clause-ended g c = λ given is runs. make_ended _ c.args.self.now.stage c.next_event-next.result.0 c.next_event-next.result.1 c.args.store.now c.next_event-next.new.store _ _ given ((make_known_by g.D.Disk.history g.D.Disk.faults _ _ c.next_event-next.result.0 c.next_event-next.result.1 c.next_event-next.result.2 c.args.store.now c.next_event-next.new.store c.self.view_is c.facts.ensures.store (sym c.stopped.ensures ∙ c.if-stopped.false) c.known_name.ensures (c.requires.ready (sym c.stopped.ensures ∙ c.if-stopped.false)) c.known_logs.ensures.made c.next_event-next.ensures)).replies is runs

@@ -2,7 +2,7 @@ use Rattle.std.proofs.Common.{sym, ◌∙◌}
 use Rattle.task_steps.proofs.OneEventLemmas.{leaves_none}
 use Rattle.mail_ops.proofs.MoveStepLemmas.{move_known_by, move_ready, move_stopped}
 use Rattle.mail_ops.proofs.KeepingLemmas.{move_keeps}
-use Rattle.mail_ops.proofs.KeptMailLemmas.{same_mail, move_mail}
+use Rattle.mail_ops.proofs.KeptMailLemmas.{spared_none, move_mail}
 use Rattle.mail_ops.proofs.KeptRestLemmas.{move_rest}
 use Rattle.task_claims.proofs.RestLemmas.{due_claims}
 use Rattle.mail_ops.specs.Moving.{move_dues}
@@ -63,10 +63,10 @@ pub returns-clause-rest : goal.returns-clause-rest
 returns-clause-rest g c = move_rest _ _ _ c.replace-now.result c.next_event-next.result.0 c.next_event-next.result.1 c.next_event-next.result.2 c.args.store.now c.next_event-next.new.store _ _ _ _ c.next_event-next.ensures
 
 pub returns-then-stopped-clause-mail : goal.returns-then-stopped-clause-mail
-returns-then-stopped-clause-mail g c = λ same. same_mail _
+returns-then-stopped-clause-mail g c = spared_none _ _
 
 pub returns-clause-mail : goal.returns-clause-mail
-returns-clause-mail g c = λ same. move_mail g.D.Disk.history _ _ _ c.replace-now.result c.next_event-next.result.0 c.next_event-next.result.1 c.next_event-next.result.2 c.args.store.now c.next_event-next.new.store _ _ (sym c.stopped.ensures ∙ c.if-stopped.false) same c.next_event-next.ensures
+returns-clause-mail g c = move_mail g.D.Disk.history _ _ _ c.replace-now.result c.next_event-next.result.0 c.next_event-next.result.1 c.next_event-next.result.2 c.args.store.now c.next_event-next.new.store _ _ (sym c.stopped.ensures ∙ c.if-stopped.false) c.next_event-next.ensures
 
 pub returns-then-stopped-clause-claims : goal.returns-then-stopped-clause-claims
 returns-then-stopped-clause-claims g c = λ runs. absurd (fall _ (sym c.stopped.ensures ∙ c.if-stopped.true) runs)

@@ -1,8 +1,11 @@
 use Rattle.std.proofs.Common.{rules, ◌<◌, ◌^◌, refl, sym, ◌∙◌}
 use Rattle.store_core.proofs.BoxCrashLemmas.{leaves_none}
+use Rattle.mail_save.proofs.SaveClaimLemmas.{save_ended, save_moves}
 use Rattle.mail_save.proofs.SaveDoesLemmas.{IsOpenStore, seen_does, seen_stopped}
-use Rattle.mail_save.proofs.SaveEventLemmas.{seen_saves, unfallen}
+use Rattle.mail_save.proofs.SaveEventLemmas.{done_goes_on, seen_saves, unfallen}
+use Rattle.mail_save.proofs.SaveLeavesLemmas.{save_leaves}
 use Rattle.mail_save.proofs.SaveMomentLemmas.{save_moments, save_rests}
+use Rattle.mail_save.proofs.SaveReadyLemmas.{save_ready}
 use Rattle.mail_save.proofs.SaveUidLemmas.{store_stays, uids_stay}
 use Rattle.mail_save.proofs.task.SaveTask.step.Goals as goal
 
@@ -18,8 +21,9 @@ returns-then-stopped-clause-does g c = λ octets pins after parts ready.
       kept = c.facts.ensures.instances.kept;
       id_long = c.known_id.ensures.long;
       id_octets = c.known_id.ensures.each;
+      own = g.met.D.Disk.reads_image c.args.store.now.disk;
     } in
-    seen_stopped pins g.D.Disk.history g.D.Disk.faults _ c.args.self.now octets c.args.store.now c.self.view_is known c.requires.left parts (sym c.stopped.ensures ∙ c.if-stopped.true) after
+    seen_stopped pins g.D.Disk.history g.D.Disk.faults _ c.args.self.now octets c.args.store.now c.self.view_is known parts (sym c.stopped.ensures ∙ c.if-stopped.true) after
 
 pub returns-clause-does : goal.returns-clause-does
 returns-clause-does g c = λ octets pins after parts ready.
@@ -32,8 +36,9 @@ returns-clause-does g c = λ octets pins after parts ready.
       kept = c.facts.ensures.instances.kept;
       id_long = c.known_id.ensures.long;
       id_octets = c.known_id.ensures.each;
+      own = g.met.D.Disk.reads_image c.args.store.now.disk;
     } in
-    seen_does pins g.D.Disk.history g.D.Disk.faults _ c.args.self.now c.replace-now.result _ octets _ _ c.args.store.now c.next_event-next.new.store c.self.view_is c.replace-now.ensures.value known timed ran c.requires.left parts (ready ran) c.next_event-next.ensures after
+    seen_does pins g.D.Disk.history g.D.Disk.faults _ c.args.self.now c.replace-now.result _ octets _ _ c.args.store.now c.next_event-next.new.store c.self.view_is c.replace-now.ensures.value known timed ran (c.requires.left ran) parts (ready ran) c.next_event-next.ensures after
 
 pub returns-then-stopped-clause-moments : goal.returns-then-stopped-clause-moments
 returns-then-stopped-clause-moments g c = λ octets ready lists at. leaves_none _ lists _ at
@@ -44,12 +49,12 @@ returns-then-stopped-clause-settled g c = λ ran octets ready lists at. absurd (
 pub returns-clause-moments : goal.returns-clause-moments
 returns-clause-moments g c = λ octets ready lists at.
     let s = seen_saves _ c.args.self.now c.replace-now.result _ _ _ _ _ _ _ _ _ c.self.view_is c.replace-now.ensures.value c.next_event-next.ensures in
-    save_moments c.args.self.now.stage _ _ _ _ _ _ c.args.store.now _ _ _ _ _ c.listings_are_shown.ensures.logs c.facts.ensures.store (sym c.stopped.ensures ∙ c.if-stopped.false) s octets ready lists at
+    save_moments c.args.self.now.stage _ _ _ _ _ _ c.args.store.now _ _ _ _ _ c.listings_are_shown.ensures.logs c.facts.ensures.store (sym c.stopped.ensures ∙ c.if-stopped.false) (g.met.D.Disk.reads_image c.args.store.now.disk) (c.requires.left (sym c.stopped.ensures ∙ c.if-stopped.false)) s octets ready lists at
 
 pub returns-clause-settled : goal.returns-clause-settled
 returns-clause-settled g c = λ ran octets ready lists at.
     let s = seen_saves _ c.args.self.now c.replace-now.result _ _ _ _ _ _ _ _ _ c.self.view_is c.replace-now.ensures.value c.next_event-next.ensures in
-    save_rests c.args.self.now.stage _ _ _ _ _ _ c.args.store.now _ _ _ _ _ c.listings_are_shown.ensures.logs c.facts.ensures.store (sym c.stopped.ensures ∙ c.if-stopped.false) s ran octets ready lists at
+    save_rests c.args.self.now.stage _ _ _ _ _ _ c.args.store.now _ _ _ _ _ c.listings_are_shown.ensures.logs c.facts.ensures.store (sym c.stopped.ensures ∙ c.if-stopped.false) (g.met.D.Disk.reads_image c.args.store.now.disk) (c.requires.left (sym c.stopped.ensures ∙ c.if-stopped.false)) s ran octets ready lists at
 
 pub returns-then-stopped-clause-keeps : goal.returns-then-stopped-clause-keeps
 returns-then-stopped-clause-keeps g c = store_stays c.args.store.now c.args.store.now refl
@@ -65,3 +70,35 @@ returns-then-stopped-clause-instances g c = λ ran. absurd (unfallen c.args.stor
 pub returns-clause-instances : goal.returns-clause-instances
 returns-clause-instances g c = λ ran.
     (seen_saves _ c.args.self.now c.replace-now.result _ _ _ _ _ _ _ _ _ c.self.view_is c.replace-now.ensures.value c.next_event-next.ensures).instances ran
+
+pub returns-then-stopped-clause-ready : goal.returns-then-stopped-clause-ready
+returns-then-stopped-clause-ready g c = λ more. absurd (done_goes_on _ more)
+
+pub returns-clause-ready : goal.returns-clause-ready
+returns-clause-ready g c = λ more octets ready.
+    let s = seen_saves _ c.args.self.now c.replace-now.result _ _ _ _ _ _ _ _ _ c.self.view_is c.replace-now.ensures.value c.next_event-next.ensures in
+    save_ready c.args.self.now.stage _ _ _ _ _ _ c.args.store.now _ _ _ _ _ s more octets ready
+
+pub returns-then-stopped-clause-claims : goal.returns-then-stopped-clause-claims
+returns-then-stopped-clause-claims g c = λ ran. absurd (unfallen c.args.store.now.stopped (sym c.stopped.ensures ∙ c.if-stopped.true) ran)
+
+pub returns-clause-claims : goal.returns-clause-claims
+returns-clause-claims g c = λ ran.
+    let s = seen_saves _ c.args.self.now c.replace-now.result _ _ _ _ _ _ _ _ _ c.self.view_is c.replace-now.ensures.value c.next_event-next.ensures in
+    save_moves c.args.self.now.stage _ _ _ _ _ _ c.args.store.now _ _ _ _ _ c.facts.ensures.files (c.requires.left (sym c.stopped.ensures ∙ c.if-stopped.false)) ran s
+
+pub returns-then-stopped-clause-ended : goal.returns-then-stopped-clause-ended
+returns-then-stopped-clause-ended g c = λ given is ran. absurd (unfallen c.args.store.now.stopped (sym c.stopped.ensures ∙ c.if-stopped.true) ran)
+
+pub returns-clause-ended : goal.returns-clause-ended
+returns-clause-ended g c = λ given is ran.
+    let s = seen_saves _ c.args.self.now c.replace-now.result _ _ _ _ _ _ _ _ _ c.self.view_is c.replace-now.ensures.value c.next_event-next.ensures in
+    save_ended c.args.self.now.stage _ _ _ _ _ given c.args.store.now _ s.effects is
+
+pub returns-then-stopped-clause-leaves : goal.returns-then-stopped-clause-leaves
+returns-then-stopped-clause-leaves g c = λ ran. absurd (unfallen c.args.store.now.stopped (sym c.stopped.ensures ∙ c.if-stopped.true) ran)
+
+pub returns-clause-leaves : goal.returns-clause-leaves
+returns-clause-leaves g c = λ ran.
+    let s = seen_saves _ c.args.self.now c.replace-now.result _ _ _ _ _ _ _ _ _ c.self.view_is c.replace-now.ensures.value c.next_event-next.ensures in
+    save_leaves c.args.self.now.stage _ _ _ _ _ _ c.args.store.now _ _ _ _ _ c.facts.ensures.store (sym c.stopped.ensures ∙ c.if-stopped.false) c.facts.ensures.files (c.requires.left (sym c.stopped.ensures ∙ c.if-stopped.false)) ran s

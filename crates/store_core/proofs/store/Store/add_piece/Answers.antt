@@ -9,6 +9,9 @@ use Rattle.store_core.proofs.StoreFileLemmas.{placed_leaves, settled_then, store
 use Rattle.store_core.proofs.PieceLemmas.{pieced_store, change_pieced}
 use Rattle.store_core.proofs.MadeLogLemmas.{made_beside}
 use Rattle.store_core.proofs.KnownInstanceLemmas.{instances_placed}
+use Rattle.model_kept.specs.Kept.{MailIsKept}
+use Rattle.storage_files.specs.Files.{place_begun_in}
+use Rattle.store_core.proofs.MailStayLemmas.{added_kept, placing_taken}
 use Rattle.store_core.proofs.store.Store.add_piece.Goals as goal
 
 pub add_piece-requires-clause-known : goal.add_piece-requires-clause-known
@@ -54,3 +57,17 @@ pub returns-in-Ok-clause-stored : goal.returns-in-Ok-clause-stored
 returns-in-Ok-clause-stored g c =
     subst (λ v. KeepsStored (g.D.Disk.history v.disk) (g.D.Disk.history c.add_piece.new.disk)) c.self.view_is
     (stored_then c.args.file.0 _ _ (change_pieced c.args.file.0 c.requires.fits.0 c.args.octets.now _ _ (g.met.D.Disk.reads_image c.add_piece.new.disk) c.in-Ok.ensures.others c.in-Ok.ensures.added (c.add_piece.ensures.any_moment c.requires.fits.0 (ap (λ v. end_in c.args.file.0 v.files.files) c.self.view_is ∙ c.requires.fits.1))))
+
+pub returns-in-Ok-clause-mail_stays : goal.returns-in-Ok-clause-mail_stays
+returns-in-Ok-clause-mail_stays g c =
+    let ends = ap (λ v. end_in c.args.file.0 v.files.files) c.self.view_is ∙ c.requires.fits.1 in
+    let taken = placing_taken c.args.file.0 c.requires.begun.0 _ c.known_facts.ensures.used (ap (λ v. place_begun_in c.args.file.0 v.files.files) c.self.view_is ∙ c.requires.begun.1) in
+    subst (λ v. MailIsKept v.map (g.D.Disk.history v.disk) (g.D.Disk.history c.add_piece.new.disk)) c.self.view_is
+    (added_kept c.args.file.0 c.requires.fits.0 _ _ _ c.self.invariant.1 taken ends (c.add_piece.ensures.any_moment c.requires.fits.0 ends))
+
+pub returns-in-Err-clause-mail_stays : goal.returns-in-Err-clause-mail_stays
+returns-in-Err-clause-mail_stays g c =
+    let ends = ap (λ v. end_in c.args.file.0 v.files.files) c.self.view_is ∙ c.requires.fits.1 in
+    let taken = placing_taken c.args.file.0 c.requires.begun.0 _ c.known_facts.ensures.used (ap (λ v. place_begun_in c.args.file.0 v.files.files) c.self.view_is ∙ c.requires.begun.1) in
+    subst (λ v. MailIsKept v.map (g.D.Disk.history v.disk) (g.D.Disk.history c.add_piece.new.disk)) c.self.view_is
+    (added_kept c.args.file.0 c.requires.fits.0 _ _ _ c.self.invariant.1 taken ends (c.add_piece.ensures.any_moment c.requires.fits.0 ends))

@@ -17,6 +17,10 @@ use Rattle.store_core.proofs.PlacingLemmas.{placed, place_below, must_be, read_t
 use Rattle.store_core.proofs.MadeLogLemmas.{made_stopped}
 use Rattle.store_core.proofs.MadePlaceLemmas.{made_placed}
 use Rattle.store_core.proofs.KnownInstanceLemmas.{instances_boxed, instances_stopped}
+use Rattle.model_kept.specs.Kept.{MailIsKept}
+use Rattle.model_kept.proofs.KeptLemmas.{kept_begins}
+use Rattle.store_core.proofs.BoxAppendLemmas.{own_box}
+use Rattle.store_core.proofs.MailStayLemmas.{box_log_kept}
 use Rattle.store_core.proofs.store.Store.append_box.Goals as goal
 
 pub unreachable-requires : goal.unreachable-requires
@@ -114,3 +118,21 @@ pub returns-in-Ok-clause-others : goal.returns-in-Ok-clause-others
 returns-in-Ok-clause-others g c =
     subst (λ v. KeepsMail (g.D.Disk.history v.disk) (g.D.Disk.history c.append_in.new.disk)) c.self.view_is
     (mail_boxed _ _ _ c.in-Some.place c.index_mut.result.now c.args.mailbox.0 c.args.entry.now (placed _ _ c.args.self.now c.deref.result.now c.in-Some.place c.index_mut.result.now c.args.mailbox.0 c.args.entry.now c.self.invariant.1 c.self.view_is c.deref.ensures.value c.requires.running c.requires.range c.requires.fits c.requires.held c.requires.record c.in-Some.ensures.some c.index_mut.ensures.value) c.in-Ok.ensures.others)
+
+pub returns-in-Ok-clause-mail_stays : goal.returns-in-Ok-clause-mail_stays
+returns-in-Ok-clause-mail_stays g c = λ m.
+    let q = own_box _ _ c.in-Some.place c.index_mut.result.now c.args.mailbox.0 c.args.entry.now (placed _ _ c.args.self.now c.deref.result.now c.in-Some.place c.index_mut.result.now c.args.mailbox.0 c.args.entry.now c.self.invariant.1 c.self.view_is c.deref.ensures.value c.requires.running c.requires.range c.requires.fits c.requires.held c.requires.record c.in-Some.ensures.some c.index_mut.ensures.value) in
+    subst (λ v. MailIsKept m (g.D.Disk.history v.disk) (g.D.Disk.history c.append_in.new.disk)) c.self.view_is
+    (box_log_kept m c.index_mut.result.now.log.name q.box.number q.box.generation _ _ q.name (c.in-Ok.ensures.others_stay (λ no. absurd (cc no))))
+
+pub returns-in-Err-Stopped-clause-mail_stays : goal.returns-in-Err-Stopped-clause-mail_stays
+returns-in-Err-Stopped-clause-mail_stays g c = λ m.
+    let q = own_box _ _ c.in-Some.place c.index_mut.result.now c.args.mailbox.0 c.args.entry.now (placed _ _ c.args.self.now c.deref.result.now c.in-Some.place c.index_mut.result.now c.args.mailbox.0 c.args.entry.now c.self.invariant.1 c.self.view_is c.deref.ensures.value c.requires.running c.requires.range c.requires.fits c.requires.held c.requires.record c.in-Some.ensures.some c.index_mut.ensures.value) in
+    subst (λ v. MailIsKept m (g.D.Disk.history v.disk) (g.D.Disk.history c.append_in.new.disk)) c.self.view_is
+    (box_log_kept m c.index_mut.result.now.log.name q.box.number q.box.generation _ _ q.name (c.in-Err-Stopped.ensures.others_stay (λ no. absurd (cc no))))
+
+pub returns-in-Err-NoMemory-clause-mail_stays : goal.returns-in-Err-NoMemory-clause-mail_stays
+returns-in-Err-NoMemory-clause-mail_stays g c = λ m.
+    subst (λ d. MailIsKept m (g.D.Disk.history c.args.self.now.disk) (g.D.Disk.history d))
+    (ap (λ v. v.disk) (sym c.self.view_is) ∙ sym (c.in-Err-NoMemory.ensures.memory (ap Err c.in-Err-NoMemory.field-0-is)).1)
+    (kept_begins m (g.D.Disk.history c.args.self.now.disk))

@@ -19,6 +19,9 @@ use Rattle.store_core.proofs.MadeCallLemmas.{left_others}
 use Rattle.store_core.proofs.KeptMailLemmas.{mail_mapped}
 use Rattle.store_core.proofs.NamingLemmas.{same_records, leaves_named, settled_named, stored_named}
 use Rattle.store_core.proofs.NamingCallLemmas.{AddsRead, AddsHeld, can_name, some_name, read_named, store_after_naming, made_after_naming, room_after_naming, indexes_more, due_stays, leak_stays}
+use Rattle.model_kept.specs.Kept.{MailIsKept}
+use Rattle.model_kept.proofs.KeptLemmas.{kept_begins}
+use Rattle.store_core.proofs.MailStayLemmas.{map_log_kept}
 use Rattle.store_core.proofs.store.Store.append_made.Goals as goal
 
 pub returns-in_err-entry-clause-any_moment : goal.returns-in_err-entry-clause-any_moment
@@ -112,3 +115,21 @@ pub returns-in-Ok-clause-others : goal.returns-in-Ok-clause-others
 returns-in-Ok-clause-others g c =
     subst (λ v. KeepsMail (g.D.Disk.history v.disk) (g.D.Disk.history c.append_name.new.disk)) c.self.view_is
     (mail_mapped c.take_naming.new.log.name c.self.invariant.1.generation _ _ (ap (λ (l : LogState). l.name) c.take_naming.ensures.log ∙ c.self.invariant.1.map_name) c.in-Ok.ensures.others)
+
+pub returns-in_err-entry-clause-mail_stays : goal.returns-in_err-entry-clause-mail_stays
+returns-in_err-entry-clause-mail_stays g c = λ m.
+    subst (λ v. MailIsKept m (g.D.Disk.history v.disk) (g.D.Disk.history c.self.inside.disk)) c.self.view_is
+    (kept_begins m _)
+
+pub returns-in-Ok-clause-mail_stays : goal.returns-in-Ok-clause-mail_stays
+returns-in-Ok-clause-mail_stays g c = λ m.
+    subst (λ v. MailIsKept m (g.D.Disk.history v.disk) (g.D.Disk.history c.append_name.new.disk)) c.self.view_is
+    (map_log_kept m c.take_naming.new.log.name c.self.invariant.1.generation _ _ (ap (λ (l : LogState). l.name) c.take_naming.ensures.log ∙ c.self.invariant.1.map_name) c.append_name.ensures.others_stay)
+
+pub returns-in-Err-clause-mail_stays : goal.returns-in-Err-clause-mail_stays
+returns-in-Err-clause-mail_stays g c = λ m.
+    let left : MailIsKept m (g.D.Disk.history c.args.self.now.disk) (g.D.Disk.history c.append_name.new.disk) =
+    subst (λ v. MailIsKept m (g.D.Disk.history v.disk) (g.D.Disk.history c.append_name.new.disk)) c.self.view_is
+    (map_log_kept m c.take_naming.new.log.name c.self.invariant.1.generation _ _ (ap (λ (l : LogState). l.name) c.take_naming.ensures.log ∙ c.self.invariant.1.map_name) c.append_name.ensures.others_stay) in
+    let same : c.match-entry.self.disk ≡ c.append_name.new.disk = search rules in
+    subst (λ d. MailIsKept m (g.D.Disk.history c.args.self.now.disk) (g.D.Disk.history d)) (sym same) left

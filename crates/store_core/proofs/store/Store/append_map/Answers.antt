@@ -16,6 +16,9 @@ use Rattle.store_core.proofs.MapCrashLemmas.{leaves_with, settled_with, stored_w
 use Rattle.store_core.proofs.MapDueLemmas.{adds, mailboxes_stay, found_with}
 use Rattle.store_core.proofs.MadePlaceLemmas.{made_with_entry}
 use Rattle.store_core.proofs.KnownInstanceLemmas.{instances_with}
+use Rattle.model_kept.specs.Kept.{MailIsKept}
+use Rattle.model_kept.proofs.KeptLemmas.{kept_begins}
+use Rattle.store_core.proofs.MailStayLemmas.{map_log_kept}
 use Rattle.store_core.proofs.store.Store.append_map.Goals as goal
 
 pub append_entry-requires-clause-read : goal.append_entry-requires-clause-read
@@ -90,3 +93,21 @@ pub returns-in-Ok-clause-others : goal.returns-in-Ok-clause-others
 returns-in-Ok-clause-others g c =
     subst (λ v. KeepsMail (g.D.Disk.history v.disk) (g.D.Disk.history c.append_entry.new.disk)) c.self.view_is
     (mail_mapped c.take_room.new.log.name c.self.invariant.1.generation _ _ (ap (λ (l : LogState). l.name) c.take_room.ensures.log ∙ c.self.invariant.1.map_name) c.in-Ok.ensures.others)
+
+pub returns-in_err-text-clause-mail_stays : goal.returns-in_err-text-clause-mail_stays
+returns-in_err-text-clause-mail_stays g c = λ m.
+    subst (λ v. MailIsKept m (g.D.Disk.history v.disk) (g.D.Disk.history c.self.inside.disk)) c.self.view_is
+    (kept_begins m _)
+
+pub returns-in-Ok-clause-mail_stays : goal.returns-in-Ok-clause-mail_stays
+returns-in-Ok-clause-mail_stays g c = λ m.
+    subst (λ v. MailIsKept m (g.D.Disk.history v.disk) (g.D.Disk.history c.append_entry.new.disk)) c.self.view_is
+    (map_log_kept m c.take_room.new.log.name c.self.invariant.1.generation _ _ (ap (λ (l : LogState). l.name) c.take_room.ensures.log ∙ c.self.invariant.1.map_name) c.append_entry.ensures.others_stay)
+
+pub returns-in-Err-clause-mail_stays : goal.returns-in-Err-clause-mail_stays
+returns-in-Err-clause-mail_stays g c = λ m.
+    let left : MailIsKept m (g.D.Disk.history c.args.self.now.disk) (g.D.Disk.history c.append_entry.new.disk) =
+    subst (λ v. MailIsKept m (g.D.Disk.history v.disk) (g.D.Disk.history c.append_entry.new.disk)) c.self.view_is
+    (map_log_kept m c.take_room.new.log.name c.self.invariant.1.generation _ _ (ap (λ (l : LogState). l.name) c.take_room.ensures.log ∙ c.self.invariant.1.map_name) c.append_entry.ensures.others_stay) in
+    let same : c.match-copy.self.disk ≡ c.append_entry.new.disk = search rules in
+    subst (λ d. MailIsKept m (g.D.Disk.history c.args.self.now.disk) (g.D.Disk.history d)) (sym same) left

@@ -11,6 +11,9 @@ use Rattle.store_core.proofs.BoxCrashLemmas.{leaves_none}
 use Rattle.store_core.proofs.KnownInstanceLemmas.{instances_logged}
 use Rattle.store_core.proofs.MadeCallLemmas.{created, one_more, keeps_others, logged_as, room_same}
 use Rattle.store_core.proofs.UnnamedLogLemmas.{besides, leaves_beside, named_but, settled_then, store_beside, stored_then}
+use Rattle.model_kept.specs.Kept.{MailIsKept}
+use Rattle.model_kept.proofs.KeptLemmas.{kept_begins}
+use Rattle.store_core.proofs.MailStayLemmas.{box_log_kept}
 use Rattle.store_core.proofs.store.Store.create_box.Goals as goal
 
 pub returns-in_err-room-clause-any_moment : goal.returns-in_err-room-clause-any_moment
@@ -73,3 +76,26 @@ returns-in-Ok-clause-others g c = subst (λ v. NamedButFor (file.Box c.args.numb
 pub returns-in-Ok-clause-spared : goal.returns-in-Ok-clause-spared
 returns-in-Ok-clause-spared g c = λ other apart has.
     keeps_others other _ _ c.keep_log.new.made.items c.keep_log.ensures.0 c.keep_log.ensures.1 c.reserve_one.ensures.same (subst (λ v. has_made_log other v ≡ true) (sym c.self.view_is) has)
+
+pub returns-in_err-room-clause-mail_stays : goal.returns-in_err-room-clause-mail_stays
+returns-in_err-room-clause-mail_stays g c = λ m.
+    kept_begins m _
+
+pub returns-in_err-index-clause-mail_stays : goal.returns-in_err-index-clause-mail_stays
+returns-in_err-index-clause-mail_stays g c = λ m.
+    kept_begins m _
+
+pub returns-in_err-reserve_one-clause-mail_stays : goal.returns-in_err-reserve_one-clause-mail_stays
+returns-in_err-reserve_one-clause-mail_stays g c = λ m.
+    subst (λ v. MailIsKept m (g.D.Disk.history v.disk) (g.D.Disk.history c.self.inside.disk)) c.self.view_is
+    (kept_begins m _)
+
+pub returns-in-Ok-clause-mail_stays : goal.returns-in-Ok-clause-mail_stays
+returns-in-Ok-clause-mail_stays g c = λ m.
+    subst (λ v. MailIsKept m (g.D.Disk.history v.disk) (g.D.Disk.history c.make_log.new.disk)) c.self.view_is
+    (box_log_kept m _ c.args.number.0 1 _ _ refl c.make_log.ensures.any_moment)
+
+pub returns-in-Err-clause-mail_stays : goal.returns-in-Err-clause-mail_stays
+returns-in-Err-clause-mail_stays g c = λ m.
+    subst (λ v. MailIsKept m (g.D.Disk.history v.disk) (g.D.Disk.history c.make_log.new.disk)) c.self.view_is
+    (box_log_kept m _ c.args.number.0 1 _ _ refl c.make_log.ensures.any_moment)

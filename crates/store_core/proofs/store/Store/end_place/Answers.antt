@@ -7,6 +7,8 @@ use Rattle.store_core.proofs.StoreFileLemmas.{settled_then, stored_then, room_ke
 use Rattle.store_core.proofs.PieceLemmas.{synced_store, change_synced, left_leaves}
 use Rattle.store_core.proofs.MadeLogLemmas.{made_beside}
 use Rattle.store_core.proofs.KnownInstanceLemmas.{instances_placed}
+use Rattle.model_kept.specs.Kept.{MailIsKept}
+use Rattle.store_core.proofs.MailStayLemmas.{synced_kept}
 use Rattle.store_core.proofs.store.Store.end_place.Goals as goal
 
 pub end_place-requires-clause-known : goal.end_place-requires-clause-known
@@ -41,3 +43,13 @@ pub returns-in-Ok-clause-stored : goal.returns-in-Ok-clause-stored
 returns-in-Ok-clause-stored g c =
     subst (λ v. KeepsStored (g.D.Disk.history v.disk) (g.D.Disk.history c.end_place.new.disk)) c.self.view_is
     (stored_then c.args.file.0 _ _ (change_synced c.args.file.0 _ _ (g.met.D.Disk.reads_image c.self.inside.disk) c.in-Ok.ensures.others c.in-Ok.ensures.synced))
+
+pub returns-in-Ok-clause-mail_stays : goal.returns-in-Ok-clause-mail_stays
+returns-in-Ok-clause-mail_stays g c = λ m.
+    subst (λ v. MailIsKept m (g.D.Disk.history v.disk) (g.D.Disk.history c.end_place.new.disk)) c.self.view_is
+    (synced_kept m c.args.file.0 _ _ c.end_place.ensures.any_moment)
+
+pub returns-in-Err-clause-mail_stays : goal.returns-in-Err-clause-mail_stays
+returns-in-Err-clause-mail_stays g c = λ m.
+    subst (λ v. MailIsKept m (g.D.Disk.history v.disk) (g.D.Disk.history c.end_place.new.disk)) c.self.view_is
+    (synced_kept m c.args.file.0 _ _ c.end_place.ensures.any_moment)

@@ -8,6 +8,10 @@ use Rattle.store_core.proofs.StoreFileLemmas.{made_store, made_leaves, change_ma
 use Rattle.disk_model.specs.declared.name.FileName.TheVariants as file
 use Rattle.store_core.proofs.MadeLogLemmas.{made_named}
 use Rattle.store_core.proofs.KnownInstanceLemmas.{instances_made}
+use Rattle.model_kept.specs.Kept.{MailIsKept}
+use Rattle.std.proofs.Common.{length}
+use Rattle.storage_files.specs.OnDisk.{IsNewOrNone}
+use Rattle.store_core.proofs.MailStayLemmas.{beside_kept, unmade_unknown}
 use Rattle.store_core.proofs.store.Store.make_file.Goals as goal
 
 pub invariant_of-self-in_default : goal.invariant_of-self-in_default
@@ -53,3 +57,17 @@ pub returns-clause-ends : goal.returns-clause-ends
 returns-clause-ends g c =
     let taken = ap (λ v. is_taken_in c.args.file.0 v.files.files) c.self.view_is ∙ c.requires.taken in
     ends_made c.args.file.0 _ c.self.inside.files c.make_file.new.self taken c.in_default.ensures.ok
+
+pub returns-clause-mail_stays : goal.returns-clause-mail_stays
+returns-clause-mail_stays g c =
+    let absent = ap (λ v. end_in c.args.file.0 v.files.files) c.self.view_is ∙ c.requires.absent in
+    let taken = ap (λ v. is_taken_in c.args.file.0 v.files.files) c.self.view_is ∙ c.requires.taken in
+    subst (λ v. MailIsKept v.map (g.D.Disk.history v.disk) (g.D.Disk.history c.make_file.new.disk)) c.self.view_is
+    (beside_kept _ (file.Mail c.args.file.0) (IsNewOrNone (file.Mail c.args.file.0) (length c.args.header.now)) _ _ (unmade_unknown _ _ c.args.file.0 c.self.invariant.1 taken absent) c.make_file.ensures.any_moment)
+
+pub returns-in-Err-clause-mail_stays : goal.returns-in-Err-clause-mail_stays
+returns-in-Err-clause-mail_stays g c =
+    let absent = ap (λ v. end_in c.args.file.0 v.files.files) c.self.view_is ∙ c.requires.absent in
+    let taken = ap (λ v. is_taken_in c.args.file.0 v.files.files) c.self.view_is ∙ c.requires.taken in
+    subst (λ v. MailIsKept v.map (g.D.Disk.history v.disk) (g.D.Disk.history c.make_file.new.disk)) c.self.view_is
+    (beside_kept _ (file.Mail c.args.file.0) (IsNewOrNone (file.Mail c.args.file.0) (length c.args.header.now)) _ _ (unmade_unknown _ _ c.args.file.0 c.self.invariant.1 taken absent) c.make_file.ensures.any_moment)

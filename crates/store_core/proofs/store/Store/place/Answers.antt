@@ -10,6 +10,9 @@ use Rattle.store_core.proofs.StoreFileLemmas.{placed_store, placed_leaves, chang
 use Rattle.disk_model.specs.declared.name.FileName.TheVariants as file
 use Rattle.store_core.proofs.MadeLogLemmas.{made_beside}
 use Rattle.store_core.proofs.KnownInstanceLemmas.{instances_placed}
+use Rattle.model_kept.specs.Kept.{MailIsKept}
+use Rattle.storage_files.specs.Files.{is_taken_in}
+use Rattle.store_core.proofs.MailStayLemmas.{added_kept}
 use Rattle.store_core.proofs.store.Store.place.Goals as goal
 
 pub invariant_of-self : goal.invariant_of-self
@@ -70,3 +73,17 @@ returns-in-Ok-clause-ends g c = ends_longer c.args.file.0 c.in-Ok.offset _ c.sel
 pub returns-in-Ok-clause-added : goal.returns-in-Ok-clause-added
 returns-in-Ok-clause-added g c =
     subst (λ v. Between (λ old new. IsAddedTo c.args.octets.now (old (file.Mail c.args.file.0)) (new (file.Mail c.args.file.0))) (g.D.Disk.history v.disk) (g.D.Disk.history c.place.new.disk)) c.self.view_is c.in-Ok.ensures.added
+
+pub returns-in-Ok-clause-mail_stays : goal.returns-in-Ok-clause-mail_stays
+returns-in-Ok-clause-mail_stays g c =
+    let ends = ap (λ v. end_in c.args.file.0 v.files.files) c.self.view_is ∙ c.requires.fits.1 in
+    let taken = ap (λ v. is_taken_in c.args.file.0 v.files.files) c.self.view_is ∙ c.requires.taken in
+    subst (λ v. MailIsKept v.map (g.D.Disk.history v.disk) (g.D.Disk.history c.place.new.disk)) c.self.view_is
+    (added_kept c.args.file.0 c.requires.fits.0 _ _ _ c.self.invariant.1 taken ends (c.place.ensures.any_moment c.requires.fits.0 ends))
+
+pub returns-in-Err-clause-mail_stays : goal.returns-in-Err-clause-mail_stays
+returns-in-Err-clause-mail_stays g c =
+    let ends = ap (λ v. end_in c.args.file.0 v.files.files) c.self.view_is ∙ c.requires.fits.1 in
+    let taken = ap (λ v. is_taken_in c.args.file.0 v.files.files) c.self.view_is ∙ c.requires.taken in
+    subst (λ v. MailIsKept v.map (g.D.Disk.history v.disk) (g.D.Disk.history c.place.new.disk)) c.self.view_is
+    (added_kept c.args.file.0 c.requires.fits.0 _ _ _ c.self.invariant.1 taken ends (c.place.ensures.any_moment c.requires.fits.0 ends))

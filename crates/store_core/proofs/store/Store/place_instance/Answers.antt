@@ -11,6 +11,9 @@ use Rattle.store_core.proofs.HolderLemmas.{placing_moves}
 use Rattle.store_core.proofs.MadeLogLemmas.{made_named, made_stopped}
 use Rattle.store_core.proofs.PlacedInstanceLemmas.{next_absent, file_made, placed_safe, placed_settled, placed_stored, placed_store, placed_known, stopped_store, stopped_known, room_placed, number_left, stopped_full, stopped_memory, stopped_fault}
 use Rattle.store_core.proofs.PlacedKeepingLemmas.{found_placed, is_placed, placing_kept}
+use Rattle.model_kept.specs.Kept.{MailIsKept}
+use Rattle.model_kept.proofs.KeptLemmas.{kept_begins, kept_beside}
+use Rattle.store_core.proofs.MailStayLemmas.{next_unknown}
 use Rattle.store_core.proofs.store.Store.place_instance.Goals as goal
 
 pub invariant_of-self : goal.invariant_of-self
@@ -107,3 +110,25 @@ pub returns-in-Ok-clause-moves : goal.returns-in-Ok-clause-moves
 returns-in-Ok-clause-moves g c =
     let less = number_left c.self.inside.instances.highest c.known_facts.ensures.last (λ e. absurd (cc (c.in-Ok.ensures.full e))) in
     placing_moves c.args.hash (length c.args.octets.now) _ c.args.self.now c.place_instance.new.self c.in-Ok.id c.self.view_is c.known_facts.ensures less c.known_facts-in-Ok.ensures c.in-Ok.ensures.ok c.in-Ok.ensures.id
+
+pub returns-in-Ok-clause-mail_stays : goal.returns-in-Ok-clause-mail_stays
+returns-in-Ok-clause-mail_stays g c =
+    let less = number_left c.self.inside.instances.highest c.known_facts.ensures.last (λ e. absurd (cc (c.in-Ok.ensures.full e))) in
+    subst (λ v. MailIsKept v.map (g.D.Disk.history v.disk) (g.D.Disk.history c.place_instance.new.disk)) c.self.view_is
+    (kept_beside _ (next_instance_file c.args.hash c.self.inside.instances) _ _ (next_unknown c.args.hash _ _ c.self.invariant.4 c.known_facts.ensures less) c.place_instance.ensures.any_moment)
+
+pub returns-in-Err-DiskFault-clause-mail_stays : goal.returns-in-Err-DiskFault-clause-mail_stays
+returns-in-Err-DiskFault-clause-mail_stays g c =
+    let failed = subst (λ (f : PlaceFault). IsPlaceError c.self.inside.instances c.place_instance.new.self f) c.in-Err-DiskFault.field-0-is c.in-Err-DiskFault.ensures.refused in
+    subst (λ v. MailIsKept v.map (g.D.Disk.history v.disk) (g.D.Disk.history c.place_instance.new.disk)) c.self.view_is
+    (kept_beside _ (next_instance_file c.args.hash c.self.inside.instances) _ _ (next_unknown c.args.hash _ _ c.self.invariant.4 c.known_facts.ensures failed.0) c.place_instance.ensures.any_moment)
+
+pub returns-in-Err-Full-clause-mail_stays : goal.returns-in-Err-Full-clause-mail_stays
+returns-in-Err-Full-clause-mail_stays g c =
+    subst (λ v. MailIsKept v.map (g.D.Disk.history v.disk) (g.D.Disk.history c.place_instance.new.disk)) c.self.view_is
+    (subst (λ h. MailIsKept c.self.inside.map.meaning (g.D.Disk.history c.self.inside.disk) h) (sym (c.in-Err-Full.ensures.untouched (λ e. absurd (cc (e, c.in-Err-Full.field-0-is))))) (kept_begins _ _))
+
+pub returns-in-Err-NoMemory-clause-mail_stays : goal.returns-in-Err-NoMemory-clause-mail_stays
+returns-in-Err-NoMemory-clause-mail_stays g c =
+    subst (λ v. MailIsKept v.map (g.D.Disk.history v.disk) (g.D.Disk.history c.place_instance.new.disk)) c.self.view_is
+    (subst (λ h. MailIsKept c.self.inside.map.meaning (g.D.Disk.history c.self.inside.disk) h) (sym (c.in-Err-NoMemory.ensures.untouched (λ e. absurd (cc (e, c.in-Err-NoMemory.field-0-is))))) (kept_begins _ _))

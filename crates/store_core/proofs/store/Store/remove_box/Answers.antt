@@ -8,6 +8,8 @@ use Rattle.store_core.specs.MadeLogs.{IsUnnamed, has_made_log}
 use Rattle.store_core.proofs.KnownInstanceLemmas.{instances_logged}
 use Rattle.store_core.proofs.MadeCallLemmas.{left_others, removed, room_same}
 use Rattle.store_core.proofs.UnnamedLogLemmas.{besides, leaves_beside, named_but, settled_then, store_beside, stored_then}
+use Rattle.model_kept.specs.Kept.{MailIsKept}
+use Rattle.store_core.proofs.MailStayLemmas.{box_log_kept}
 use Rattle.store_core.proofs.store.Store.remove_box.Goals as goal
 
 pub invariant_of-self-2 : goal.invariant_of-self-2
@@ -52,3 +54,13 @@ returns-clause-spared g c = λ other apart has. left_others c.args.number.0 othe
 
 pub returns-clause-others : goal.returns-clause-others
 returns-clause-others g c = subst (λ v. NamedButFor (file.Box c.args.number.0 1) (g.D.Disk.history v.disk) (g.D.Disk.history c.remove_log.new.disk)) c.self.view_is c.in_default.ensures.others
+
+pub returns-clause-mail_stays : goal.returns-clause-mail_stays
+returns-clause-mail_stays g c = λ m.
+    subst (λ v. MailIsKept m (g.D.Disk.history v.disk) (g.D.Disk.history c.remove_log.new.disk)) c.self.view_is
+    (box_log_kept m _ c.args.number.0 1 _ _ refl c.remove_log.ensures.any_moment)
+
+pub returns-in-Err-clause-mail_stays : goal.returns-in-Err-clause-mail_stays
+returns-in-Err-clause-mail_stays g c = λ m.
+    subst (λ v. MailIsKept m (g.D.Disk.history v.disk) (g.D.Disk.history c.remove_log.new.disk)) c.self.view_is
+    (box_log_kept m _ c.args.number.0 1 _ _ refl c.remove_log.ensures.any_moment)

@@ -8,6 +8,10 @@ use Rattle.store_core.proofs.StoreFileLemmas.{room_kept}
 use Rattle.store_core.proofs.RemovalLemmas.{removed_store, removed_leaves, settled_removed, stored_but, known_there}
 use Rattle.store_core.proofs.MadeLogLemmas.{made_beside}
 use Rattle.store_core.proofs.KnownInstanceLemmas.{instances_placed}
+use Rattle.model_kept.specs.Kept.{MailIsKept}
+use Rattle.model_kept.proofs.KeptLemmas.{kept_beside}
+use Rattle.model_meaning.specs.MapMeaning.{is_sealed}
+use Rattle.store_core.proofs.MailStayLemmas.{bare_unknown}
 use Rattle.store_core.proofs.store.Store.remove_file.Goals as goal
 
 pub invariant_of-self-in_default : goal.invariant_of-self-in_default
@@ -50,3 +54,17 @@ pub returns-clause-stored : goal.returns-clause-stored
 returns-clause-stored g c =
     subst (λ v. KeepsStoredBut c.args.file.0 (g.D.Disk.history v.disk) (g.D.Disk.history c.remove_file.new.disk)) c.self.view_is
     (stored_but c.args.file.0 _ _ c.in_default.ensures.others)
+
+pub returns-clause-mail_stays : goal.returns-clause-mail_stays
+returns-clause-mail_stays g c =
+    let unused = subst (λ v. AreElsewhere c.args.file.0 v.map.records) (sym c.self.view_is) c.requires.unused in
+    let unsealed = ap (λ v. is_sealed v.map c.args.file.0) c.self.view_is ∙ c.requires.unsealed in
+    subst (λ v. MailIsKept v.map (g.D.Disk.history v.disk) (g.D.Disk.history c.remove_file.new.disk)) c.self.view_is
+    (kept_beside _ (file.Mail c.args.file.0) _ _ (bare_unknown _ c.args.file.0 unused unsealed) c.remove_file.ensures.others_stay)
+
+pub returns-in-Err-clause-mail_stays : goal.returns-in-Err-clause-mail_stays
+returns-in-Err-clause-mail_stays g c =
+    let unused = subst (λ v. AreElsewhere c.args.file.0 v.map.records) (sym c.self.view_is) c.requires.unused in
+    let unsealed = ap (λ v. is_sealed v.map c.args.file.0) c.self.view_is ∙ c.requires.unsealed in
+    subst (λ v. MailIsKept v.map (g.D.Disk.history v.disk) (g.D.Disk.history c.remove_file.new.disk)) c.self.view_is
+    (kept_beside _ (file.Mail c.args.file.0) _ _ (bare_unknown _ c.args.file.0 unused unsealed) c.remove_file.ensures.others_stay)

@@ -1,0 +1,8 @@
+use Rattle.std.proofs.Common.{List, Some, ◌∙◌, ap}
+use Rattle.folder_mem.specs.declared.note.Change.{Change}
+use Rattle.folder_mem.specs.Seen.{modelled_by}
+use Rattle.folder_mem.proofs.NoteLemmas.{system-none}
+use Rattle.folder_mem.proofs.folder.MemFolder.empty.Goals as goal
+
+pub returns : goal.returns
+returns c = ap (λ (l : List Change). Some (modelled_by 0 l)) c.new.ensures.items ∙ ap (λ s. Some (record { start = s; now = s })) system-none

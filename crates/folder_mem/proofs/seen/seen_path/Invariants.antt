@@ -1,0 +1,7 @@
+use Rattle.std.proofs.Common.{◌≤◌, take}
+use Rattle.folder_mem.specs.Notes.{system_after}
+use Rattle.folder_mem.specs.Seen.{IsSeenPath}
+use Rattle.folder_mem.proofs.seen.seen_path.Given as goal
+
+abbrev pub invariant-loop-change : goal.invariant-loop-change
+invariant-loop-change l = (l.seen.count ≤ l.change-index) × IsSeenPath l.path l.seen (system_after (take l.change-index l.changes))

@@ -1,0 +1,110 @@
+// A folder in memory.
+ghost use Rattle.std.specs.Prelude.{◌≡◌, ◌≤◌, length};
+
+use crate::note::Change;
+use crate::plan::{Plan, Turn};
+use folder_model::CallError;
+use mdbox_base::{NoMemory, Seq};
+use std::alloc::Global;
+
+/// An open file of a folder in memory.
+#[derive(Drop)]
+pub struct MemFile {
+    pub(crate) number: u64,
+}
+
+/// The system's files in memory, as one process has them. Each change is kept, and what reads is found from all of them.
+///
+/// Its calls go as they are listed to, and fail where there is no memory.
+#[derive(Drop)]
+pub struct MemFolder {
+    pub(crate) alloc: Global,
+    pub(crate) changes: Vec<Change>,
+    /// How many changes there were as the process began.
+    pub(crate) from: usize,
+    pub(crate) plan: Plan,
+    /// Whether another process has the lock.
+    pub(crate) is_held: bool,
+    ghost begun: { from ≤ length changes.items },
+}
+
+impl MemFolder {
+    ghost use Rattle.std.specs.Prelude.{Some, IfOk, OnOk, OnErr, string_bytes};
+    ghost use Rattle.folder_model.specs.System.{after_end};
+    ghost use Rattle.folder_model.specs.Calls.{done_by};
+    ghost use Rattle.folder_mem.specs.Notes.{empty_system, changes_to, system_after};
+    ghost use Rattle.folder_mem.specs.Mem.{mem_model};
+
+    /// An empty folder.
+    pub fn empty(alloc: Global) -> MemFolder
+        ensures { mem_model result ≡ Some (record { start = empty_system; now = empty_system }) }
+    {
+        MemFolder {
+            alloc,
+            changes: Vec::new(alloc),
+            from: 0,
+            plan: Plan {
+                turns: Seq::empty(alloc),
+                call: 0,
+            },
+            is_held: false,
+        }
+    }
+
+    /// The same folder, whose calls go so, by their numbers, counted from 1 after this call.
+    pub fn going(self, turns: Seq<(u64, Turn)>) -> MemFolder
+        ensures model { mem_model result ≡ mem_model self }
+        ensures plan { result.plan ≡ record { turns = turns; call = 0 } }
+    {
+        let mut folder = self;
+        folder.plan.turns = turns;
+        folder.plan.call = 0;
+        folder
+    }
+
+    /// The same folder, of which another process has the lock, or none.
+    pub fn held(self, is_held: bool) -> MemFolder
+        ensures { mem_model result ≡ mem_model self }
+    {
+        let mut folder = self;
+        folder.is_held = is_held;
+        folder
+    }
+
+    /// What a new process finds after this one has ended.
+    pub fn kill(self) -> Result<MemFolder, NoMemory>
+        ensures { IfOk result (λ folder. let now = after_end (system_after self.changes.items) in mem_model folder ≡ Some (record { start = now; now = now })) }
+    {
+        let mut folder = self;
+        folder.changes.push(Change::Ended)?;
+        folder.from = folder.changes.len();
+        Ok(folder)
+    }
+
+    /// Makes a change.
+    pub(crate) fn note(&mut self, change: Change) -> Result<(), NoMemory>
+        ensures ok { OnOk result (mem_model self.new ≡ done_by (changes_to change) (mem_model self.old)) }
+        ensures err { OnErr result (mem_model self.new ≡ mem_model self.old) }
+    {
+        self.changes.push(change)?;
+        Ok(())
+    }
+
+    /// How the next call goes. An error where nothing is to be done.
+    pub(crate) fn begin(&mut self) -> Result<Turn, CallError>
+        ensures { mem_model self.new ≡ mem_model self.old }
+    {
+        match self.plan.next() {
+            Turn::Interrupted => Err(CallError::Interrupted),
+            Turn::Refused => Err(CallError::Failed),
+            turn => Ok(turn),
+        }
+    }
+
+    /// A path as a text of its own.
+    pub(crate) fn text_of(&self, path: &str) -> Result<String, NoMemory>
+        ensures { IfOk result (λ text. string_bytes text ≡ path.now) }
+    {
+        Ok(String::from_str(self.alloc, path)?)
+    }
+}

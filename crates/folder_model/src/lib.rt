@@ -1,0 +1,8 @@
+//! The system's files as a process sees them by its calls, and what a crash may leave of them.
+#![tactic(auto)]
+
+pub use folder::{CallError, Folder, Kind};
+pub use laws::writes_join;
+
+mod folder;
+mod laws;

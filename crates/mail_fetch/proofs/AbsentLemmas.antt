@@ -1,0 +1,42 @@
+-- A message whose storage file isn't there: fewer octets are read than it has.
+use Rattle.std.proofs.Common.{◌≡◌, ◌≤◌, ◌<◌, ◌+◌, ℕ, List, [], ◌∷◌, ◌++◌, length, map, take, drop, Option, Some, None, refl, sym, ◌∙◌, ap, subst, arith}
+use Rattle.std.specs.Prelude.{min, sum_by}
+use Rattle.std.proofs.lemmas.List.{length-append, length-take}
+use Rattle.std.proofs.lemmas.List.Sums.{sum_by-cons}
+use Rattle.disk_model.specs.Disk.{Files}
+use Rattle.disk_model.specs.declared.name.FileName.TheVariants.{Mail}
+use Rattle.mdbox_base.specs.declared.entries.InstRow.{InstRow}
+use Rattle.model_meaning.specs.BoxMeaning.{LogRow}
+use Rattle.model_meaning.specs.MapMeaning.{MapRecord}
+use Rattle.storage_files.specs.OnDisk.{piece_read}
+use Rattle.mail_fetch.specs.Parts.{instance_part, octets_to_read, part_read, parts_read, parts_to_read, region_part, source_file}
+use Rattle.mail_fetch.specs.declared.parts.Source.TheVariants as source
+use Rattle.mail_fetch.specs.Region.{HoldsWhole, stored_at}
+use Rattle.mail_fetch.proofs.PartLemmas.{reads_of_parts}
+
+piece_few : (offset size : ℕ) (o : Option (List ℕ)) → length (piece_read offset size o) ≤ size
+piece_few offset size None = omega arith
+piece_few offset size (Some octets) = let e = length-take size (drop offset octets) in omega (arith, e)
+
+rows_few : (files : Files) (rows : List InstRow) → length (parts_read files (map instance_part rows)) ≤ sum_by (λ row. row.size) rows
+rows_few files [] = omega arith
+rows_few files (row ∷ rows) =
+    let one = piece_few 0 row.size (files (source_file (source.Instance row))) in
+    let rest = rows_few files rows in
+    let long = length-append (part_read files (instance_part row)) (parts_read files (map instance_part rows)) in
+    let sum = sum_by-cons (λ (r : InstRow). r.size) row rows in
+    omega (arith, one, rest, long, sum)
+
+few_read : (files : Files) (row : LogRow) (entry : MapRecord) → files (Mail entry.file) ≡ None → 1 ≤ entry.size → length (parts_read files (parts_to_read (stored_at row entry))) < octets_to_read (stored_at row entry)
+few_read files row entry none some =
+    let region : part_read files (region_part (stored_at row entry)) ≡ [] = ap (piece_read entry.offset entry.size) none in
+    let all = ap length (reads_of_parts files (stored_at row entry) ∙ ap (λ (xs : List ℕ). xs ++ parts_read files (map instance_part entry.instances)) region) in
+    let rest = rows_few files entry.instances in
+    omega (arith, all, rest, some)
+
+pub absent_damaged : (files : Files) (row : LogRow) (entry : MapRecord) (octets : List ℕ) → files (Mail entry.file) ≡ None → 1 ≤ entry.size → HoldsWhole (stored_at row entry) (parts_read files (parts_to_read (stored_at row entry))) octets → ⊥
+absent_damaged files row entry octets none some holds = let few = few_read files row entry none some in let long = holds.long in omega (arith, few, long)
+
+-- nor does it hold a message if nothing is read
+pub nothing_damaged : (row : LogRow) (entry : MapRecord) (octets : List ℕ) → 1 ≤ entry.size → HoldsWhole (stored_at row entry) [] octets → ⊥
+nothing_damaged row entry octets some holds = let long : 0 ≡ entry.size + sum_by (λ row. row.size) entry.instances = holds.long in omega (arith, long, some)

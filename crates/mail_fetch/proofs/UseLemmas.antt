@@ -1,0 +1,300 @@
+-- What pins and holds change of a store, and what they leave of it.
+use Rattle.std.specs.Prelude.{is_some, is_none, nat_le, nat_lt}
+use Rattle.std.specs.List.{list_any}
+use Rattle.std.specs.Option.{option_map, option_map_or, option_and_then}
+use Rattle.std.specs.Str.{bytes_eq}
+use Rattle.std.proofs.Common.{◌≡◌, ◌≢◌, ◌≤◌, ◌+◌, ◌-◌, ◌==◌, ◌&&◌, ◌||◌, inl, inr, ℕ, Bool, true, false, List, [], ◌∷◌, ◌++◌, Option, Some, None, All, refl, sym, ◌∙◌, ap, subst, arith}
+use Rattle.std.proofs.Math.Path.{fun_ext}
+use Rattle.std.proofs.lemmas.Bool.{cases_eq, cond-true, cond-false, eq-eqb, eqb-true, ne_eqb}
+use Rattle.std.proofs.lemmas.List.{append-nil}
+use Rattle.std.proofs.lemmas.List.Elements.{All-head, All-tail}
+use Rattle.disk_model.specs.Disk.{Faults, History, reading}
+use Rattle.disk_model.specs.declared.name.FileName.TheVariants as file
+use Rattle.disk_model.proofs.BetweenLemmas.{between-begins}
+use Rattle.disk_model.proofs.IdleLemmas.{idle-begins}
+use Rattle.mdbox_base.specs.declared.entries.InstRow.{InstRow}
+use Rattle.mdbox_base.specs.declared.ids.InstId.{InstId}
+use Rattle.model_meaning.specs.MapMeaning.{MapRecord, is_own, number_at}
+use Rattle.save_instances.specs.Attaching.{found_let_go}
+use Rattle.sis_store.specs.Instances.{holders_in, instance_in}
+use Rattle.sis_store.specs.declared.instance.KnownInstance.{KnownInstance}
+use Rattle.storage_files.specs.Files.{changed_in, end_in, file_in, is_doomed_in, pins_in, with_pins}
+use Rattle.storage_files.specs.declared.file.MailFile.{MailFile}
+use Rattle.storage_files.proofs.FileListLemmas.{file-here, file-other}
+use Rattle.store_core.specs.Files.{LiesBelowEnd}
+use Rattle.store_core.specs.Keeping.{KeepsInstances, MovesHolds, holds_of}
+use Rattle.store_core.specs.Knows.{knows_file, knows_instance, may_have_given}
+use Rattle.store_core.specs.Value.{StoreValue}
+use Rattle.store_seen.specs.Seeing.{may_be_barred, may_be_used}
+use Rattle.task_claims.specs.Claims.{AreIn, Claims, Due, Emptied, Held, Made, MovesClaims, Pinned, Placing, Removing, Taken, no_claims, one_if}
+use Rattle.task_claims.specs.Leaving.{LeavesOthers, LeavesPinnedFile, LeavesFile, IsSameOrSynced}
+use Rattle.task_claims.proofs.RestLemmas.{instance_kept, record_kept}
+use Rattle.task_steps.specs.Step.{Seen}
+use Rattle.mail_fetch.specs.Claims.{claims_of_pinned, held_for, with_claims, with_use, without_claims}
+use Rattle.mail_fetch.specs.Task.{one_pin, pins_kept_in, seen_in}
+use Rattle.mail_fetch.specs.declared.parts.StoredAt.{StoredAt}
+use Rattle.mail_fetch.proofs.ClaimLemmas.{idle_syncs}
+
+-- ---- a storage file with other pins
+
+-- what isn't of the pins stays
+pub but_pins : {X : Type 0} → (value : Option MailFile → X) (n m pins : ℕ) (files : List MailFile) → ((f : MailFile) → value (Some (with_pins pins f)) ≡ value (Some f)) → value (file_in m (changed_in n (with_pins pins) files)) ≡ value (file_in m files)
+but_pins value n m pins files stays = elim (cases_eq m n) [
+  | inl same ↦ subst (λ (k : ℕ). value (file_in k (changed_in n (with_pins pins) files)) ≡ value (file_in k files)) (sym same) (ap value (file-here n (with_pins pins) files (λ f. refl)) ∙ by_file (file_in n files))
+  | inr apart ↦ ap value (file-other n m (with_pins pins) files (λ f. refl) apart)
+]
+  where
+    by_file : (o : Option MailFile) → value (option_map (with_pins pins) o) ≡ value o
+    by_file None = refl
+    by_file (Some f) = stays f
+
+pub doomed_still : (n m pins : ℕ) (files : List MailFile) → is_doomed_in m (changed_in n (with_pins pins) files) ≡ is_doomed_in m files
+doomed_still n m pins files = but_pins (λ (o : Option MailFile). option_map_or (λ f. f.doomed) o false) n m pins files (λ f. refl)
+
+pub ends_still : (n m pins : ℕ) (files : List MailFile) → end_in m (changed_in n (with_pins pins) files) ≡ end_in m files
+ends_still n m pins files = but_pins (λ (o : Option MailFile). option_and_then (λ f. f.end) o) n m pins files (λ f. refl)
+
+pins_of_file : Option MailFile → ℕ
+pins_of_file o = option_map_or (λ f. f.pins) o 0
+
+pins_here : (n pins : ℕ) (files : List MailFile) → is_some (file_in n files) ≡ true → pins_in n (changed_in n (with_pins pins) files) ≡ pins
+unfolding pins_of_file
+pins_here n pins files there = ap pins_of_file (file-here n (with_pins pins) files (λ f. refl)) ∙ by_file (file_in n files) there
+  where
+    by_file : (o : Option MailFile) → is_some o ≡ true → pins_of_file (option_map (with_pins pins) o) ≡ pins
+    by_file None e = absurd (let k : false ≡ true = e in cc k)
+    by_file (Some f) e = refl
+
+pins_other : (n m pins : ℕ) (files : List MailFile) → m ≢ n → pins_in m (changed_in n (with_pins pins) files) ≡ pins_in m files
+unfolding pins_of_file
+pins_other n m pins files apart = ap pins_of_file (file-other n m (with_pins pins) files (λ f. refl) apart)
+
+own_one : (n : ℕ) → one_pin n n ≡ 1
+own_one n = cond-true (n == n) 1 0 (eq-eqb n n refl)
+
+none_of_other : (n m : ℕ) → m ≢ n → one_pin n m ≡ 0
+none_of_other n m apart = cond-false (n == m) 1 0 (ne_eqb n m (λ e. apart (sym e)))
+
+pub one_end : (n : ℕ) (files : List MailFile) (end : ℕ) → end_in n files ≡ Some end → is_some (file_in n files) ≡ true
+one_end n files end e = by_file (file_in n files) e
+  where
+    by_file : (o : Option MailFile) → option_and_then (λ f. f.end) o ≡ Some end → is_some o ≡ true
+    by_file None k = absurd (let z : None ≡ Some end = k in cc z)
+    by_file (Some f) k = refl
+
+pinned_there : (n : ℕ) (files : List MailFile) → 1 ≤ pins_in n files → is_some (file_in n files) ≡ true
+pinned_there n files some = by_file (file_in n files) some
+  where
+    by_file : (o : Option MailFile) → 1 ≤ option_map_or (λ f. f.pins) o 0 → is_some o ≡ true
+    by_file None k = absurd (let z : 1 ≤ 0 = k in omega (arith, z))
+    by_file (Some f) k = refl
+
+pub pins_more : (n m : ℕ) (files : List MailFile) → is_some (file_in n files) ≡ true → pins_in m (changed_in n (with_pins (pins_in n files + 1)) files) ≡ pins_in m files + one_pin n m
+pins_more n m files there = elim (cases_eq m n) [
+  | inl same ↦
+      let here = pins_here n (pins_in n files + 1) files there in
+      let one = own_one n in
+      subst (λ (k : ℕ). pins_in k (changed_in n (with_pins (pins_in n files + 1)) files) ≡ pins_in k files + one_pin n k) (sym same) (omega (arith, here, one))
+  | inr apart ↦ let other = pins_other n m (pins_in n files + 1) files apart in let none = none_of_other n m apart in omega (arith, other, none)
+]
+
+pub pins_fewer : (n m : ℕ) (files : List MailFile) → 1 ≤ pins_in n files → pins_in m (changed_in n (with_pins (pins_in n files - 1)) files) + one_pin n m ≡ pins_in m files
+pins_fewer n m files some = elim (cases_eq m n) [
+  | inl same ↦
+      let here = pins_here n (pins_in n files - 1) files (pinned_there n files some) in
+      let one = own_one n in
+      subst (λ (k : ℕ). pins_in k (changed_in n (with_pins (pins_in n files - 1)) files) + one_pin n k ≡ pins_in k files) (sym same) (omega (arith, here, one, some))
+  | inr apart ↦ let other = pins_other n m (pins_in n files - 1) files apart in let none = none_of_other n m apart in omega (arith, other, none)
+]
+
+-- what a task claims is pinned
+pub own_pinned : {D : Type 0} → (from : StoredAt) (store : StoreValue D) → AreIn store (claims_of_pinned from) → 1 ≤ pins_in from.file.0 store.files.files
+own_pinned from store claimed = let mine : one_pin from.file.0 from.file.0 ≤ pins_in from.file.0 store.files.files = claimed (Pinned from.file.0) in let one = own_one from.file.0 in omega (arith, mine, one)
+
+-- a file that isn't doomed is nobody's to remove, whatever its pins
+removing_same : (n m pins : ℕ) (files : List MailFile) → is_doomed_in n files ≡ false → (is_doomed_in m (changed_in n (with_pins pins) files) && (pins_in m (changed_in n (with_pins pins) files) == 0)) ≡ (is_doomed_in m files && (pins_in m files == 0))
+removing_same n m pins files undoomed = elim (cases_eq m n) [
+  | inl same ↦
+      subst (λ (k : ℕ). (is_doomed_in k (changed_in n (with_pins pins) files) && (pins_in k (changed_in n (with_pins pins) files) == 0)) ≡ (is_doomed_in k files && (pins_in k files == 0))) (sym same)
+      (ap (λ (b : Bool). b && (pins_in n (changed_in n (with_pins pins) files) == 0)) (doomed_still n n pins files ∙ undoomed) ∙ sym (ap (λ (b : Bool). b && (pins_in n files == 0)) undoomed))
+  | inr apart ↦
+      ap (λ (b : Bool). b && (pins_in m (changed_in n (with_pins pins) files) == 0)) (doomed_still n m pins files)
+      ∙ ap (λ (k : ℕ). is_doomed_in m files && (k == 0)) (pins_other n m pins files apart)
+]
+
+-- ---- claims
+
+plain : (a b : ℕ) → a ≡ b → a + 0 ≡ b + 0
+plain a b e = ap (λ (n : ℕ). n + 0) e
+
+-- One pin more, and one hold more for each row.
+pub use_begins : {D : Type 0} → (from : StoredAt) (known : List KnownInstance) (store : StoreValue D) → is_some (file_in from.file.0 store.files.files) ≡ true → is_doomed_in from.file.0 store.files.files ≡ false → ((id : InstId) → holders_in id known + 0 ≡ holders_in id store.instances.known + holds_of from.instances id)
+    → MovesClaims no_claims (claims_of_pinned from) store (with_use from (pins_in from.file.0 store.files.files + 1) known store)
+use_begins from known store there undoomed held (Due uid) = refl
+use_begins from known store there undoomed held (Pinned file) = let more = pins_more from.file.0 file store.files.files there in omega (arith, more)
+use_begins from known store there undoomed held (Taken file) =
+    ap (λ (b : Bool). one_if b + 0) (but_pins (λ (o : Option MailFile). option_map_or (λ f. f.taken) o false) from.file.0 file (pins_in from.file.0 store.files.files + 1) store.files.files (λ f. refl))
+use_begins from known store there undoomed held (Emptied file) =
+    ap (λ (b : Bool). one_if b + 0) (but_pins (λ (o : Option MailFile). option_map_or (λ f. f.emptied) o false) from.file.0 file (pins_in from.file.0 store.files.files + 1) store.files.files (λ f. refl))
+use_begins from known store there undoomed held (Placing file) =
+    ap (λ (b : Bool). one_if b + 0) (but_pins (λ (o : Option MailFile). is_some (option_and_then (λ f. f.begun) o)) from.file.0 file (pins_in from.file.0 store.files.files + 1) store.files.files (λ f. refl))
+use_begins from known store there undoomed held (Removing file) = ap (λ (b : Bool). one_if b + 0) (removing_same from.file.0 file (pins_in from.file.0 store.files.files + 1) store.files.files undoomed)
+use_begins from known store there undoomed held (Held id) = held id
+use_begins from known store there undoomed held (Made number) = refl
+
+-- One pin less, and one hold less for each row.
+pub use_ends : {D : Type 0} → (from : StoredAt) (known : List KnownInstance) (store : StoreValue D) → 1 ≤ pins_in from.file.0 store.files.files → is_doomed_in from.file.0 store.files.files ≡ false → ((id : InstId) → holders_in id known + holds_of from.instances id ≡ holders_in id store.instances.known + 0)
+    → MovesClaims (claims_of_pinned from) no_claims store (with_use from (pins_in from.file.0 store.files.files - 1) known store)
+use_ends from known store pinned undoomed held (Due uid) = refl
+use_ends from known store pinned undoomed held (Pinned file) = let less = pins_fewer from.file.0 file store.files.files pinned in omega (arith, less)
+use_ends from known store pinned undoomed held (Taken file) =
+    ap (λ (b : Bool). one_if b + 0) (but_pins (λ (o : Option MailFile). option_map_or (λ f. f.taken) o false) from.file.0 file (pins_in from.file.0 store.files.files - 1) store.files.files (λ f. refl))
+use_ends from known store pinned undoomed held (Emptied file) =
+    ap (λ (b : Bool). one_if b + 0) (but_pins (λ (o : Option MailFile). option_map_or (λ f. f.emptied) o false) from.file.0 file (pins_in from.file.0 store.files.files - 1) store.files.files (λ f. refl))
+use_ends from known store pinned undoomed held (Placing file) =
+    ap (λ (b : Bool). one_if b + 0) (but_pins (λ (o : Option MailFile). is_some (option_and_then (λ f. f.begun) o)) from.file.0 file (pins_in from.file.0 store.files.files - 1) store.files.files (λ f. refl))
+use_ends from known store pinned undoomed held (Removing file) = ap (λ (b : Bool). one_if b + 0) (removing_same from.file.0 file (pins_in from.file.0 store.files.files - 1) store.files.files undoomed)
+use_ends from known store pinned undoomed held (Held id) = held id
+use_ends from known store pinned undoomed held (Made number) = refl
+
+-- ---- what is left to others
+
+stays : (n : ℕ) → n ≤ n
+stays n = omega arith
+
+file_left : {D : Type 0} → (from : StoredAt) (pins number : ℕ) (known : List KnownInstance) (store : StoreValue D) (history : Option History) → LeavesFile number store (with_use from pins known store) history history
+file_left from pins number known store history = record {
+  known = but_pins (λ (o : Option MailFile). option_map (with_pins 0) o) from.file.0 number pins store.files.files (λ f. refl);
+  records = refl;
+  guids = λ guid of all. all;
+  state = between-begins (λ a b. IsSameOrSynced (a (file.Mail number)) (b (file.Mail number))) history (λ disk. inl refl);
+}
+
+pinned_left : {D : Type 0} → (from : StoredAt) (pins number : ℕ) (known : List KnownInstance) (store : StoreValue D) (history : Option History) → LeavesPinnedFile number store (with_use from pins known store) history history
+pinned_left from pins number known store history = record {
+  there = λ end is. (end, ends_still from.file.0 number pins store.files.files ∙ is, stays end);
+  reads = between-begins (λ a b. (octets : List ℕ) → reading (a (file.Mail number)) ≡ Some octets → (more : List ℕ) × (reading (b (file.Mail number)) ≡ Some (octets ++ more))) history (λ disk octets is. ([], is ∙ ap Some (sym (append-nil octets))));
+}
+
+-- with the same instances, and other pins
+pub keeps_beside : {D : Type 0} → (from : StoredAt) (pins : ℕ) (known : List KnownInstance) (old : StoreValue D) (before after : Option History) → KeepsInstances old (record old { instances = record old.instances { known = known } }) before after → KeepsInstances old (with_use from pins known old) before after
+keeps_beside from pins known old before after k = record { store = k.store; drawn = k.drawn; known = k.known; reads = k.reads; first = k.first; compared = k.compared }
+
+use_leaves_at : {D : Type 0} → (mine : Claims) (from : StoredAt) (pins : ℕ) (known : List KnownInstance) (store : StoreValue D) (history : Option History) → KeepsInstances store (with_use from pins known store) history history → LeavesOthers mine store (with_use from pins known store) history history
+use_leaves_at mine from pins known store history keeps = record {
+  records = λ uid row more there. record_kept uid row store (with_use from pins known store) history history (idle_syncs history history (idle-begins history)) refl there;
+  unlisted = λ uid row none found listed. (listed, refl);
+  files = λ number took. file_left from pins number known store history;
+  pinned = λ number more. pinned_left from pins number known store history;
+  instances = λ row is more. instance_kept row store (with_use from pins known store) history history keeps is;
+  store = keeps.store;
+  drawn = keeps.drawn;
+  compared = keeps.compared;
+  uids = λ name uid held k. record { m = k.m; named = k.named; below = k.below; same = k.same };
+  told = between-begins (λ a b. Unit {0}) history (λ disk. tt);
+}
+
+pub use_leaves : {D : Type 0} → (H : D → Option History) (mine : Claims) (from : StoredAt) (pins : ℕ) (known : List KnownInstance) (old held new : StoreValue D) → held ≡ record old { instances = record old.instances { known = known } } → KeepsInstances old held (H old.disk) (H held.disk) → new ≡ with_use from pins known old
+    → LeavesOthers mine old new (H old.disk) (H new.disk)
+use_leaves H mine from pins known old held new same keeps is =
+    subst (λ (s : StoreValue _). LeavesOthers mine old s (H old.disk) (H s.disk)) (sym is)
+    (use_leaves_at mine from pins known old (H old.disk) (keeps_beside from pins known old (H old.disk) (H old.disk) (subst (λ (s : StoreValue _). KeepsInstances old s (H old.disk) (H s.disk)) same keeps)))
+
+-- ---- what is seen
+
+map_twice : {X Y Z : Type 0} → (f : Y → Z) (g : X → Y) (d : Z) (o : Option X) → option_map_or f (option_map g o) d ≡ option_map_or (λ x. f (g x)) o d
+map_twice f g d None = refl
+map_twice f g d (Some x) = refl
+
+-- as it was seen, with other pins, and told these of its files and instances
+abbrev seen_with : Seen → (ℕ → ℕ) → (ℕ → Bool) → (ℕ → Bool) → (ℕ → Bool) → (List ℕ → Bool) → (ℕ → Bool) → (InstRow → Bool) → Seen
+seen_with was pins doomed used barred gave files instances = record was { pins = pins; doomed = doomed; used = used; barred = barred; gave = gave; files = files; instances = instances }
+
+seen_same : (was : Seen) (pins : ℕ → ℕ) (doomed used barred : ℕ → Bool) (gave : List ℕ → Bool) (files : ℕ → Bool) (instances : InstRow → Bool) → ((f : ℕ) → doomed f ≡ was.doomed f) → ((f : ℕ) → used f ≡ was.used f) → ((f : ℕ) → barred f ≡ was.barred f) → ((g : List ℕ) → gave g ≡ was.gave g)
+    → ((f : ℕ) → files f ≡ was.files f) → ((i : InstRow) → instances i ≡ was.instances i) → seen_with was pins doomed used barred gave files instances ≡ record was { pins = pins }
+seen_same was pins doomed used barred gave files instances d u b v f i =
+    ap (λ (x : ℕ → Bool). seen_with was pins x used barred gave files instances) (fun_ext d)
+    ∙ ap (λ (x : ℕ → Bool). seen_with was pins was.doomed x barred gave files instances) (fun_ext u)
+    ∙ ap (λ (x : ℕ → Bool). seen_with was pins was.doomed was.used x gave files instances) (fun_ext b)
+    ∙ ap (λ (x : List ℕ → Bool). seen_with was pins was.doomed was.used was.barred x files instances) (fun_ext v)
+    ∙ ap (λ (x : ℕ → Bool). seen_with was pins was.doomed was.used was.barred was.gave x instances) (fun_ext f)
+    ∙ ap (λ (x : InstRow → Bool). seen_with was pins was.doomed was.used was.barred was.gave was.files x) (fun_ext i)
+
+instance_same : (known other : List KnownInstance) (i : InstRow) → option_map (λ k. k.row) (instance_in i.id known) ≡ option_map (λ k. k.row) (instance_in i.id other)
+    → option_map_or (λ k. bytes_eq k.row.hash.0 i.hash.0) (instance_in i.id known) false ≡ option_map_or (λ k. bytes_eq k.row.hash.0 i.hash.0) (instance_in i.id other) false
+instance_same known other i rows =
+    sym (map_twice (λ (r : InstRow). bytes_eq r.hash.0 i.hash.0) (λ (k : KnownInstance). k.row) false (instance_in i.id known))
+    ∙ (ap (λ (o : Option InstRow). option_map_or (λ r. bytes_eq r.hash.0 i.hash.0) o false) rows ∙ map_twice (λ (r : InstRow). bytes_eq r.hash.0 i.hash.0) (λ (k : KnownInstance). k.row) false (instance_in i.id other))
+
+-- It is seen as it was, but for its pins.
+pub use_seen : {D : Type 0} → (from : StoredAt) (pins : ℕ) (known : List KnownInstance) (store : StoreValue D) (history : Option History) (faults : Faults) → ((id : InstId) → option_map (λ k. k.row) (instance_in id known) ≡ option_map (λ k. k.row) (instance_in id store.instances.known))
+    → seen_in (with_use from pins known store) history faults ≡ record (seen_in store history faults) { pins = pins_kept_in (with_use from pins known store) }
+use_seen from pins known store history faults rows =
+    seen_same (seen_in store history faults) (pins_kept_in (with_use from pins known store)) (λ f. is_doomed_in f (with_use from pins known store).files.files) (may_be_used (with_use from pins known store)) (may_be_barred (with_use from pins known store)) (may_have_given (with_use from pins known store))
+    (knows_file (with_use from pins known store)) (knows_instance (with_use from pins known store))
+    (λ f. doomed_still from.file.0 f pins store.files.files)
+    (λ f. but_pins (λ (o : Option MailFile). nat_le f store.drawn.file && option_map_or (λ g. g.doomed || is_none g.end) o true) from.file.0 f pins store.files.files (λ g. refl))
+    (λ f. but_pins (λ (o : Option MailFile). nat_le f store.drawn.file && option_map_or (λ g. g.barred) o true) from.file.0 f pins store.files.files (λ g. refl))
+    (λ g. ap (λ (o : Option ℕ). is_own store.map.store g && (nat_le (number_at 8 g) store.drawn.file && option_map_or (λ end. nat_lt (number_at 12 g) end) o true)) (ends_still from.file.0 (number_at 8 g) pins store.files.files))
+    (λ f. ap (λ (o : Option ℕ). is_some o) (ends_still from.file.0 f pins store.files.files))
+    (λ i. instance_same known store.instances.known i (rows i.id))
+
+-- ---- from what the calls say
+
+-- an element passes the test, of which holds what holds of each
+any_with : {X : Type 0} → (p : X → Bool) (Q : X → Type 0) (xs : List X) → list_any p xs ≡ true → All Q xs → (x : X) × (p x ≡ true) × Q x
+any_with p Q [] e all = absurd (let k : false ≡ true = e in cc k)
+any_with p Q (x ∷ xs) e all = by_test (p x) refl (λ t. any_with p Q xs (sym (ap (λ (b : Bool). b || list_any p xs) t) ∙ e) (All-tail Q x xs all))
+  where
+    by_test : (b : Bool) → p x ≡ b → (p x ≡ false → (y : _) × (p y ≡ true) × Q y) → (y : _) × (p y ≡ true) × Q y
+    by_test true t rest = (x, t, All-head Q x xs all)
+    by_test false t rest = rest t
+
+-- a file in which a record has its region isn't doomed
+pub region_undoomed : (n : ℕ) (store : List ℕ) (files : List MailFile) (rows : List MapRecord) → list_any (λ row. row.file == n) rows ≡ true → All (LiesBelowEnd store files) rows → is_doomed_in n files ≡ false
+region_undoomed n store files rows has below =
+    let found = any_with (λ (row : MapRecord). row.file == n) (LiesBelowEnd store files) rows has below in
+    ap (λ (k : ℕ). is_doomed_in k files) (sym (eqb-true found.0.file n found.1)) ∙ found.2.undoomed
+
+-- first the instances are held or let go, and then the file is pinned or unpinned
+abbrev with_known : {D : Type 0} → StoreValue D → List KnownInstance → StoreValue D
+with_known store known = record store { instances = record store.instances { known = known } }
+
+abbrev with_files : {D : Type 0} → StoreValue D → List MailFile → StoreValue D
+with_files store files = record store { files = record store.files { files = files } }
+
+pub claimed_same : {D : Type 0} → (from : StoredAt) (rows : List InstRow) (old held new : StoreValue D) → rows ≡ from.instances → held ≡ with_known old (held_for rows old.instances.known) → new ≡ with_files held (changed_in from.file.0 (with_pins (pins_in from.file.0 held.files.files + 1)) held.files.files) → new ≡ with_claims from old
+claimed_same from rows old held new same held_is new_is =
+    new_is ∙ ap (λ (s : StoreValue _). with_files s (changed_in from.file.0 (with_pins (pins_in from.file.0 s.files.files + 1)) s.files.files)) held_is
+    ∙ ap (λ (rs : List InstRow). with_use from (pins_in from.file.0 old.files.files + 1) (held_for rs old.instances.known) old) same
+
+pub claimed_moves : {D : Type 0} → (from : StoredAt) (rows : List InstRow) (old held new : StoreValue D) (end : ℕ) → rows ≡ from.instances → held ≡ with_known old (held_for rows old.instances.known) → new ≡ with_claims from old → end_in from.file.0 old.files.files ≡ Some end → is_doomed_in from.file.0 old.files.files ≡ false
+    → MovesHolds (λ id. 0) (holds_of rows) old held → MovesClaims no_claims (claims_of_pinned from) old new
+claimed_moves from rows old held new end same held_is new_is ends undoomed moves =
+    subst (λ (s : StoreValue _). MovesClaims no_claims (claims_of_pinned from) old s) (sym new_is)
+    (use_begins from (held_for from.instances old.instances.known) old (one_end from.file.0 old.files.files end ends) undoomed
+    (subst (λ (rs : List InstRow). (id : InstId) → holders_in id (held_for rs old.instances.known) + 0 ≡ holders_in id old.instances.known + holds_of rs id) same
+    (subst (λ (s : StoreValue _). (id : InstId) → holders_in id s.instances.known + 0 ≡ holders_in id old.instances.known + holds_of rows id) held_is moves)))
+
+pub claimed_leaves : {D : Type 0} → (H : D → Option History) (mine : Claims) (from : StoredAt) (rows : List InstRow) (old held new : StoreValue D) → rows ≡ from.instances → held ≡ with_known old (held_for rows old.instances.known) → KeepsInstances old held (H old.disk) (H held.disk) → new ≡ with_claims from old
+    → LeavesOthers mine old new (H old.disk) (H new.disk)
+claimed_leaves H mine from rows old held new same held_is keeps new_is =
+    use_leaves H mine from (pins_in from.file.0 old.files.files + 1) (held_for from.instances old.instances.known) old held new (held_is ∙ ap (λ (rs : List InstRow). with_known old (held_for rs old.instances.known)) same) keeps new_is
+
+pub given_same : {D : Type 0} → (from : StoredAt) (rows : List InstRow) (old held new : StoreValue D) → rows ≡ from.instances → held ≡ with_known old (found_let_go rows old.instances.known) → new ≡ with_files held (changed_in from.file.0 (with_pins (pins_in from.file.0 held.files.files - 1)) held.files.files) → new ≡ without_claims from old
+given_same from rows old held new same held_is new_is =
+    new_is ∙ ap (λ (s : StoreValue _). with_files s (changed_in from.file.0 (with_pins (pins_in from.file.0 s.files.files - 1)) s.files.files)) held_is
+    ∙ ap (λ (rs : List InstRow). with_use from (pins_in from.file.0 old.files.files - 1) (found_let_go rs old.instances.known) old) same
+
+pub given_moves : {D : Type 0} → (from : StoredAt) (rows : List InstRow) (old held new : StoreValue D) → rows ≡ from.instances → held ≡ with_known old (found_let_go rows old.instances.known) → new ≡ without_claims from old → AreIn old (claims_of_pinned from) → is_doomed_in from.file.0 old.files.files ≡ false
+    → MovesHolds (holds_of rows) (λ id. 0) old held → MovesClaims (claims_of_pinned from) no_claims old new
+given_moves from rows old held new same held_is new_is claimed undoomed moves =
+    subst (λ (s : StoreValue _). MovesClaims (claims_of_pinned from) no_claims old s) (sym new_is)
+    (use_ends from (found_let_go from.instances old.instances.known) old (own_pinned from old claimed) undoomed
+    (subst (λ (rs : List InstRow). (id : InstId) → holders_in id (found_let_go rs old.instances.known) + holds_of rs id ≡ holders_in id old.instances.known + 0) same
+    (subst (λ (s : StoreValue _). (id : InstId) → holders_in id s.instances.known + holds_of rows id ≡ holders_in id old.instances.known + 0) held_is moves)))
+
+pub given_leaves : {D : Type 0} → (H : D → Option History) (mine : Claims) (from : StoredAt) (rows : List InstRow) (old held new : StoreValue D) → rows ≡ from.instances → held ≡ with_known old (found_let_go rows old.instances.known) → KeepsInstances old held (H old.disk) (H held.disk) → new ≡ without_claims from old
+    → LeavesOthers mine old new (H old.disk) (H new.disk)
+given_leaves H mine from rows old held new same held_is keeps new_is =
+    use_leaves H mine from (pins_in from.file.0 old.files.files - 1) (found_let_go from.instances old.instances.known) old held new (held_is ∙ ap (λ (rs : List InstRow). with_known old (found_let_go rs old.instances.known)) same) keeps new_is

@@ -1,0 +1,16 @@
+-- Storage files and instances that stay over the calls of an event.
+use Rattle.std.proofs.Common.{◌≡◌, Option, sym, subst}
+use Rattle.disk_model.specs.Disk.{History}
+use Rattle.model_kept.specs.Kept.{MailIsKept}
+use Rattle.model_kept.proofs.KeptLemmas.{kept_begins}
+use Rattle.model_meaning.specs.MapMeaning.{MapMeaning}
+use Rattle.store_core.specs.Value.{StoreValue}
+
+-- nothing has happened
+pub kept_same : {D : Type 0} → (history : D → Option History) (m : MapMeaning) (old new : D) → new ≡ old → MailIsKept m (history old) (history new)
+kept_same {D = D} history m old new same = subst (λ (d : D). MailIsKept m (history old) (history d)) (sym same) (kept_begins m (history old))
+
+-- a store had the same map and the same disk before
+pub kept_since : {D : Type 0} → (history : D → Option History) (old now : StoreValue D) (after : Option History) → now.map ≡ old.map → now.disk ≡ old.disk → MailIsKept now.map (history now.disk) after → MailIsKept old.map (history old.disk) after
+kept_since {D = D} history old now after map disk kept =
+    subst (λ (m : MapMeaning). MailIsKept m (history old.disk) after) map (subst (λ (d : D). MailIsKept now.map (history d) after) disk kept)

@@ -1,0 +1,4 @@
+pub mod Judging
+pub mod NamedInstances
+pub mod Rebuild
+pub mod Taken
