@@ -1,4 +1,5 @@
 mod BesideLemmas
 mod HeldLemmas
+mod RaceLemmas
 mod StepLemmas
 mod TurnLemmas

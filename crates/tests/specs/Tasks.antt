@@ -18,10 +18,10 @@ task_amounts (any.Copy task) = copy_amounts task.stage
 task_amounts (any.Move task) = move_amounts task.stage
 task_amounts (any.Expunge task) = expunge_amounts task.stage
 
-abbrev pub IsReadyTask : {D : Type 0} → AnyTask → StoreValue D → Type 0
-IsReadyTask (any.Copy task) store = IsReadyToCopy task.name task.uid task.stage store
-IsReadyTask (any.Move task) store = IsReadyToMove task.name task.uid task.stage store
-IsReadyTask (any.Expunge task) store = AreDueIn store (expunge_amounts task.stage)
+abbrev pub IsReadyRacer : {D : Type 0} → AnyTask → StoreValue D → Type 0
+IsReadyRacer (any.Copy task) store = IsReadyToCopy task.name task.uid task.stage store
+IsReadyRacer (any.Move task) store = IsReadyToMove task.name task.uid task.stage store
+IsReadyRacer (any.Expunge task) store = AreDueIn store (expunge_amounts task.stage)
 
 abbrev pub HasNotStarted : AnyTask → Type 0
 HasNotStarted (any.Copy task) = task.stage ≡ copy_stage.First
@@ -30,6 +30,6 @@ HasNotStarted (any.Expunge task) = task.stage ≡ expunge_stage.First
 
 -- Both are ready, and what both hold and owe is due.
 pub record AreReadyTasks {D : Type 0} (one two : AnyTask) (store : StoreValue D) : Type 0 where
-  pub one_ready : IsReadyTask one store
-  pub two_ready : IsReadyTask two store
+  pub one_ready : IsReadyRacer one store
+  pub two_ready : IsReadyRacer two store
   pub due : AreDueIn store (both_amounts (task_amounts one) (task_amounts two))

@@ -15,13 +15,14 @@ pub struct Makes<D: Disk> {
 
 impl<D: Disk> Model for Makes<D> {
     ghost use Rattle.store_core.specs.Value.{StoreValue};
+    ghost use Rattle.std.specs.Prelude.{◌≡◌, false};
     ghost use Rattle.tests.specs.Makes.{AreReadyMakes};
 
     ghost Value = { StoreValue D };
 
     ghost view = { λ makes. makes.store };
 
-    ghost invariant = { λ makes. AreReadyMakes makes.one.stage makes.two.stage makes.store };
+    ghost invariant = { λ makes. makes.store.stopped ≡ false → AreReadyMakes makes.one.stage makes.two.stage makes.store };
 }
 
 impl<D: Disk> Makes<D> {

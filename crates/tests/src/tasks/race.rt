@@ -1,7 +1,8 @@
 // Two tasks over one store, whose events take turns.
+ghost use Rattle.std.specs.Prelude.{◌≡◌, false, true};
 ghost use Rattle.store_core.specs.Dues.{Moves, amounts_in};
 ghost use Rattle.store_core.specs.Keeping.{KeepsUids};
-ghost use Rattle.tests.specs.Tasks.{task_amounts, IsReadyTask, HasNotStarted};
+ghost use Rattle.tests.specs.Tasks.{task_amounts, IsReadyRacer, HasNotStarted};
 
 use disk_model::Disk;
 use mail_ops::{CopyTask, ExpungeTask, MoveTask, others_stay_ready};
@@ -38,8 +39,9 @@ impl AnyTask {
 
     /// Does the next event.
     fn step<D: Disk>(&mut self, store: &mut Store<D>) -> Progress
-        requires ready { IsReadyTask self.old store.old }
-        ensures ready { IsReadyTask self.new store.new }
+        requires ready { store.old.stopped ≡ false → IsReadyRacer self.old store.old }
+        ensures ready { store.new.stopped ≡ false → IsReadyRacer self.new store.new }
+        ensures still { store.old.stopped ≡ true → store.new.stopped ≡ true }
         ensures moves { Moves (task_amounts self.old) (task_amounts self.new) (amounts_in store.old) (amounts_in store.new) }
         ensures keeps { KeepsUids store.old store.new }
     {
@@ -60,13 +62,14 @@ pub struct Race<D: Disk> {
 
 impl<D: Disk> Model for Race<D> {
     ghost use Rattle.store_core.specs.Value.{StoreValue};
+    ghost use Rattle.std.specs.Prelude.{◌≡◌, false};
     ghost use Rattle.tests.specs.Tasks.{AreReadyTasks};
 
     ghost Value = { StoreValue D };
 
     ghost view = { λ race. race.store };
 
-    ghost invariant = { λ race. AreReadyTasks race.one race.two race.store };
+    ghost invariant = { λ race. race.store.stopped ≡ false → AreReadyTasks race.one race.two race.store };
 }
 
 /// Whose event is the next.
