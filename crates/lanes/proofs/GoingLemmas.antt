@@ -9,30 +9,29 @@ use Rattle.mdbox_base.specs.declared.progress.Progress.TheVariants as progress
 use Rattle.mdbox_base.specs.declared.replies.Reply.{Reply}
 use Rattle.mdbox_base.specs.declared.requests.Request.{Request}
 use Rattle.model_lists.specs.Lists.{Lists}
-use Rattle.list_machine.specs.Run.{Run, RunEvent, and_then}
-use Rattle.journal.specs.Events.{Around}
+use Rattle.list_machine.specs.Run.{Run, and_then}
 use Rattle.journal.specs.Journal.{Broken, JournalStep, Requests, left_by}
 use Rattle.journal.specs.JournalExamples.{nothing_around}
 use Rattle.serving.specs.Accounts.{IsReadyLane, LanesAccount, lane_claims}
 use Rattle.serving.specs.Lanes.{IsInTurn, LaneStands, LaneValue, lane_behind, replies_behind, said_by}
-use Rattle.serving.specs.Serving.{HaveLanes, IsServing}
+use Rattle.serving.specs.Serving.{IsServing}
 use Rattle.serving.specs.Standing.{OthersStandOn}
 use Rattle.serving.proofs.AccountLemmas.{accounted_on, lane_beside, task_beside}
 use Rattle.serving.proofs.LaneLemmas.{get_set_other, get_set_same, journal_behind, nat_cases, one_some}
 use Rattle.serving.proofs.ServingLemmas.{lane_goes_on}
 use Rattle.serving.proofs.TakeUpLemmas.{TakesUp, serving_taken_up}
 use Rattle.store_core.specs.Value.{StoreValue}
-use Rattle.task_claims.specs.Claims.{Claims, ClaimsNothing, MovesClaims, Thing, amount_in, no_claims}
+use Rattle.task_claims.specs.Claims.{Claims, ClaimsNothing, MovesClaims, amount_in}
 use Rattle.task_claims.specs.Leaving.{LeavesOthers}
 use Rattle.task_steps.specs.Serves.{IsTurn}
-use Rattle.task_steps.specs.Step.{DidEvent, FindsRoom, HasNotBegun, Seen, and_told, ended_by}
+use Rattle.task_steps.specs.Step.{DidEvent, FindsRoom, Seen, and_told, ended_by}
 use Rattle.mail_fetch.specs.Clause.{ReadsSafe}
 use Rattle.lane_tasks.specs.Clause.{AnswersByFiles, PassesBy, around_at, seen_by_all}
 use Rattle.lane_tasks.specs.Tasks.{BeginsTask, IsReadyTask, StandsTask, claims_at, did_of}
 use Rattle.lane_tasks.specs.declared.task.Task.{Task}
 use Rattle.lane_tasks.proofs.StandLemmas.{begins_ready, begins_standing, begins_unclaimed, task_stable, task_stands}
 use Rattle.lanes.specs.Going.{AreWaiting, IsGoing, WaitsWithTask, stands_in}
-use Rattle.lanes.specs.Rows.{LaneRow, RowGoesOn, lane_value, lanes_of, next_in_turn, queue_in, row_behind}
+use Rattle.lanes.specs.Rows.{LaneRow, RowGoesOn, lane_value, lanes_of, next_in_turn, queue_in, after_event}
 use Rattle.lanes.specs.declared.lane.LaneEvent.{LaneEvent}
 use Rattle.lanes.specs.declared.lane.Queued.{Queued}
 
@@ -130,8 +129,8 @@ others_stand rows k row first next old new before after there was ran moves leav
 -- ---- the lane
 
 -- its request goes on
-value_more : (row : LaneRow) (first : Queued) (next : Task) → row.current ≡ Some first → lane_behind None next (lane_value row) ≡ lane_value (row_behind None (record first { task = next }) row.waiting)
-value_more row first next was = ap (λ (queue : List ℕ). record (lane_value (row_behind None (record first { task = next }) row.waiting)) { queue = queue }) (queue_is row first was)
+value_more : (row : LaneRow) (first : Queued) (next : Task) → row.current ≡ Some first → lane_behind None next (lane_value row) ≡ lane_value (after_event None (record first { task = next }) row.waiting)
+value_more row first next was = ap (λ (queue : List ℕ). record (lane_value (after_event None (record first { task = next }) row.waiting)) { queue = queue }) (queue_is row first was)
 
 -- it is answered, and no task is taken up yet
 value_done : (row : LaneRow) (first : Queued) (next : Task) (given : Reply) → row.current ≡ Some first → lane_behind (Some given) next (lane_value row) ≡ record { queue = map (λ (q : Queued). q.place) row.waiting; task = None }
@@ -156,9 +155,9 @@ takes_up start script run journal broken replies began now lanes k was (next ∷
 
 serves_row : {D : Type 0} → (start : Lists) (script : Requests) (run : Run) (journal : List JournalStep) (broken : Broken) (replies : List (Option Reply)) (began now : Seen) (rows : List LaneRow) (k : ℕ) (row : LaneRow) (first : Queued) (next : Task) (store : StoreValue D) (history : Option History) (ended : Option Reply)
     → slice_get rows k ≡ Some row → row.current ≡ Some first → AreWaiting script (k + 1) row.waiting → IsServing (stands_in store history) start script run journal broken replies began now (slice_set (lanes_of rows) k (lane_behind ended next (lane_value row)))
-    → IsServing (stands_in store history) start script run journal broken replies began now (lanes_of (slice_set rows k (row_behind ended (record first { task = next }) row.waiting)))
+    → IsServing (stands_in store history) start script run journal broken replies began now (lanes_of (slice_set rows k (after_event ended (record first { task = next }) row.waiting)))
 serves_row start script run journal broken replies began now rows k row first next store history None there was are s =
-    subst (λ (vs : List (LaneValue Task)). IsServing (stands_in store history) start script run journal broken replies began now vs) (ap (slice_set (lanes_of rows) k) (value_more row first next was) ∙ sym (rows_set rows k (row_behind None (record first { task = next }) row.waiting))) s
+    subst (λ (vs : List (LaneValue Task)). IsServing (stands_in store history) start script run journal broken replies began now vs) (ap (slice_set (lanes_of rows) k) (value_more row first next was) ∙ sym (rows_set rows k (after_event None (record first { task = next }) row.waiting))) s
 serves_row start script run journal broken replies began now rows k row first next store history (Some given) there was are s =
     subst (λ (vs : List (LaneValue Task)). IsServing (stands_in store history) start script run journal broken replies began now vs) (sym (rows_set rows k (next_in_turn row.waiting)))
     (takes_up start script run journal broken replies began now (lanes_of rows) k (lane_value row) row.waiting store history (value_at rows k row there) are
@@ -171,7 +170,7 @@ as_many [] k now = refl
 as_many (a ∷ more) zero now = refl
 as_many (a ∷ more) (suc k) now = let h = as_many more k now in omega (arith, h)
 
-waiting_behind : (script : Requests) (lane : ℕ) (ended : Option Reply) (first : Queued) (waiting : List Queued) → AreWaiting script lane waiting → AreWaiting script lane (row_behind ended first waiting).waiting
+waiting_behind : (script : Requests) (lane : ℕ) (ended : Option Reply) (first : Queued) (waiting : List Queued) → AreWaiting script lane waiting → AreWaiting script lane (after_event ended first waiting).waiting
 waiting_behind script lane None first waiting are = are
 waiting_behind script lane (Some given) first waiting are = next_waiting script lane waiting are
 
@@ -188,13 +187,13 @@ all_waiting script rows k row now there own all j other is = by_case (nat_cases 
 -- ---- the store
 
 moves_row : {D : Type 0} → (script : Requests) (lane : ℕ) (ended : Option Reply) (first : Queued) (next : Task) (waiting : List Queued) (old new : StoreValue D) → AreWaiting script lane waiting → (ended ≢ None → ClaimsNothing (claims_at next)) → MovesClaims (claims_at first.task) (claims_at next) old new
-    → MovesClaims (claims_at first.task) (lane_claims claims_at (lane_value (row_behind ended (record first { task = next }) waiting))) old new
+    → MovesClaims (claims_at first.task) (lane_claims claims_at (lane_value (after_event ended (record first { task = next }) waiting))) old new
 moves_row script lane None first next waiting old new are nothing moves = moves
 moves_row script lane (Some given) first next waiting old new are nothing moves =
     moved_none (claims_at first.task) (claims_at next) (lane_claims claims_at (lane_value (next_in_turn waiting))) old new (nothing (λ e. absurd (let z : Some given ≡ None = e in cc z))) (next_unclaimed script lane waiting are) moves
 
 ready_row : {D : Type 0} → (script : Requests) (lane : ℕ) (ended : Option Reply) (first : Queued) (next : Task) (waiting : List Queued) (store : StoreValue D) (history : Option History) → AreWaiting script lane waiting → IsReadyTask next store history
-    → IsReadyLane IsReadyTask (lane_value (row_behind ended (record first { task = next }) waiting)) store history
+    → IsReadyLane IsReadyTask (lane_value (after_event ended (record first { task = next }) waiting)) store history
 ready_row script lane None first next waiting store history are ready = λ t has. subst (λ (t : Task). IsReadyTask t store history) (one_some next t has) ready
 ready_row script lane (Some given) first next waiting store history are ready = next_ready script lane waiting store history are
 
@@ -204,7 +203,7 @@ done_by (progress.Done given) some = (given, refl)
 
 accounts_row : {D : Type 0} → (script : Requests) (rows : List LaneRow) (k : ℕ) (row now : LaneRow) (event : LaneEvent) (old new : StoreValue D) (before after : Option History) (first second : Faults) → slice_get rows k ≡ Some row → AreWaiting script (k + 1) row.waiting → new.stopped ≡ false
     → (g : RowGoesOn row now event old new before after first second) → LanesAccount claims_at IsReadyTask old before (lanes_of rows)
-    → LanesAccount claims_at IsReadyTask new after (lanes_of (slice_set rows k (row_behind (ended_by event.ended) (record g.queued { task = g.next }) row.waiting)))
+    → LanesAccount claims_at IsReadyTask new after (lanes_of (slice_set rows k (after_event (ended_by event.ended) (record g.queued { task = g.next }) row.waiting)))
 accounts_row {D} script rows k row now event old new before after first second there are runs g all =
     subst (λ (vs : List (LaneValue Task)). LanesAccount claims_at IsReadyTask new after vs) (sym (rows_set rows k then))
     (accounted_on claims_at IsReadyTask task_stable (lanes_of rows) k (lane_value row) (lane_value then) old new before after (value_at rows k row there)
@@ -213,7 +212,7 @@ accounts_row {D} script rows k row now event old new before after first second t
     (subst (λ (c : Claims). LeavesOthers c old new before after) mine (g.goes.leaves runs)) (ready_row script (k + 1) (ended_by event.ended) g.queued g.next row.waiting new after are (g.goes.ready runs)) all)
   where
     then : LaneRow
-    then = row_behind (ended_by event.ended) (record g.queued { task = g.next }) row.waiting
+    then = after_event (ended_by event.ended) (record g.queued { task = g.next }) row.waiting
 
     mine : claims_at g.queued.task ≡ lane_claims claims_at (lane_value row)
     mine = sym (claims_are row g.queued g.was)
@@ -236,7 +235,7 @@ going_on {D} start script began replies rows k row now event old new before afte
     }))
   where
     then : LaneRow
-    then = row_behind (ended_by event.ended) (record g.queued { task = g.next }) row.waiting
+    then = after_event (ended_by event.ended) (record g.queued { task = g.next }) row.waiting
 
     are : AreWaiting script (k + 1) row.waiting
     are = s.waiting k row there
@@ -246,7 +245,7 @@ going_on {D} start script began replies rows k row now event old new before afte
 
     d : (d : DidEvent nothing_around nothing_around s.run (k + 1) g.queued.place (said_by s.journal g.queued.place) turn.0 (left_by start s.journal) (seen_by_all old before first) (seen_by_all new after second) (did_of g.next) (ended_by event.ended))
         × (ended_by event.ended ≡ None → StandsTask g.next new after turn.0 (and_then s.run d.makes.event) g.queued.place (and_told (said_by s.journal g.queued.place) d.makes.answer))
-    d = g.goes.steps turn.0 nothing_around nothing_around s.run (k + 1) g.queued.place (said_by s.journal g.queued.place) (left_by start s.journal) s.serving.serves.come s.serving.serves.shown (finds_room g.queued.task turn.0 old s.run) (λ by_files runs. reads_safe g.queued.task (left_by start s.journal) before by_files) turn.2
+    d = g.goes.steps turn.0 nothing_around nothing_around s.run (k + 1) g.queued.place (said_by s.journal g.queued.place) (left_by start s.journal) s.serving.serves.come s.serving.serves.shown (λ runs. finds_room g.queued.task turn.0 old s.run) (λ by_files runs. reads_safe g.queued.task (left_by start s.journal) before by_files) turn.2
 
     ran : new.stopped ≡ false → old.stopped ≡ false
     ran = ran_before (seen_by_all old before first) (seen_by_all new after second) d.0.ends.still

@@ -39,9 +39,9 @@ abbrev pub next_in_turn : List Queued → LaneRow
 next_in_turn [] = record { current = None; waiting = [] }
 next_in_turn (next ∷ rest) = record { current = Some next; waiting = rest }
 
-abbrev pub row_behind : Option Reply → Queued → List Queued → LaneRow
-row_behind None queued waiting = record { current = Some queued; waiting = waiting }
-row_behind (Some given) queued waiting = next_in_turn waiting
+abbrev pub after_event : Option Reply → Queued → List Queued → LaneRow
+after_event None queued waiting = record { current = Some queued; waiting = waiting }
+after_event (Some given) queued waiting = next_in_turn waiting
 
 -- An event of a request's task is one by the clause of a task's step: what it found, what it did and claims, and whether it goes on.
 pub record TaskGoesOn {D : Type 0} (queued : Queued) (next : Task) (event : LaneEvent) (old new : StoreValue D) (before after : Option History) (first second : Faults) : Type 0 where
@@ -65,4 +65,4 @@ pub record RowGoesOn {D : Type 0} (row now : LaneRow) (event : LaneEvent) (old n
   pub was : row.current ≡ Some queued
   pub next : Task
   pub goes : TaskGoesOn queued next event old new before after first second
-  pub now_is : now ≡ row_behind (ended_by event.ended) (record queued { task = next }) row.waiting
+  pub now_is : now ≡ after_event (ended_by event.ended) (record queued { task = next }) row.waiting
