@@ -1,0 +1,45 @@
+-- How the states of a disk follow the files of the system under it.
+use Rattle.std.specs.Prelude.{◌≡◌, ℕ, ◌<◌, ◌≤◌, false, true, List, slice_get, Option, Some, None, codes}
+use Rattle.disk_model.specs.Disk.{Files, FileState, DiskState, IsImage, reading}
+use Rattle.disk_model.specs.declared.name.FileName.{FileName}
+use Rattle.file_paths.specs.Paths.{path_text, IsStoreFile}
+use Rattle.folder_model.specs.Paths.{folder_at}
+use Rattle.folder_model.specs.System.{Node, Nothing, PlainFile, AFolder, Another, System, MayStand, IsLeftByCrash}
+
+-- the octets of what stands at a path, if it is a plain file
+abbrev pub octets_at : System → Node → Option (List ℕ)
+octets_at s Nothing = None
+octets_at s (PlainFile number) = Some (s.content number).octets
+octets_at s AFolder = None
+octets_at s Another = None
+
+-- the files of a store, as they read
+abbrev pub files_of : System → Files
+files_of s name = octets_at s (s.node (path_text name))
+
+-- What a crash may leave of the one file, it may leave of the other.
+pub record CoversFile (wide narrow : FileState) : Type 0 where
+  pub least : wide.least ≤ narrow.least
+  pub greatest : narrow.greatest ≤ wide.greatest
+  pub firm : (i : ℕ) → i < wide.least → wide.is_loose i ≡ false → narrow.is_loose i ≡ false
+  pub same : (i : ℕ) → i < wide.least → wide.is_loose i ≡ false → slice_get narrow.octets i ≡ slice_get wide.octets i
+
+-- A crash leaves this folder, and those above it.
+pub data StaysFolder (s : System) : List ℕ → Type 0 where
+  Current : StaysFolder s (codes ".")
+  Below : (path : List ℕ) → ((node : Node) → MayStand s path node → node ≡ AFolder) → StaysFolder s (folder_at path) → StaysFolder s path
+
+-- A file of the disk follows what stands at its path and may stand there after a crash.
+pub record FollowsPath (f : FileState) (s : System) (path : List ℕ) : Type 0 where
+  pub reads : reading f ≡ octets_at s (s.node path)
+  pub holds : (number : ℕ) → MayStand s path (PlainFile number) → CoversFile f (s.content number)
+  pub firm : f.is_name_loose ≡ false → (node : Node) → MayStand s path node → node ≡ s.node path
+  pub stays : f.is_name_loose ≡ false → f.is_there ≡ true → StaysFolder s (folder_at path)
+
+-- each file of a disk follows what stands at its path
+abbrev pub FollowsSystem : DiskState → System → Type 0
+FollowsSystem disk s = (name : FileName) → FollowsPath (disk name) s (path_text name)
+
+-- what a crash may leave of the system is an image of the disk
+abbrev pub CoversSystem : DiskState → System → Type 0
+CoversSystem disk s = (after : System) → IsLeftByCrash s after → IsImage disk (files_of after)
