@@ -90,4 +90,4 @@ left_by_crash f s after path follows left = elim (left.node path) [
 ]
 
 pub covered : (disk : DiskState) (s : System) → FollowsSystem disk s → CoversSystem disk s
-covered disk s follows after left name = left_by_crash (disk name) s after (path_text name) (follows name) left
+covered disk s follows after left name file = left_by_crash (disk name) s after (path_text name) (follows name file) left

@@ -1,6 +1,6 @@
 -- How the states of a disk follow the files of the system under it.
 use Rattle.std.specs.Prelude.{◌≡◌, ℕ, ◌<◌, ◌≤◌, false, true, List, slice_get, Option, Some, None, codes}
-use Rattle.disk_model.specs.Disk.{Files, FileState, DiskState, IsImage, reading}
+use Rattle.disk_model.specs.Disk.{Files, FileState, DiskState, MayLeave, reading}
 use Rattle.disk_model.specs.declared.name.FileName.{FileName}
 use Rattle.file_paths.specs.Paths.{path_text, IsStoreFile}
 use Rattle.folder_model.specs.Paths.{folder_at}
@@ -36,10 +36,22 @@ pub record FollowsPath (f : FileState) (s : System) (path : List ℕ) : Type 0 w
   pub firm : f.is_name_loose ≡ false → (node : Node) → MayStand s path node → node ≡ s.node path
   pub stays : f.is_name_loose ≡ false → f.is_there ≡ true → StaysFolder s (folder_at path)
 
--- each file of a disk follows what stands at its path
+-- each file of a store follows what stands at its path
 abbrev pub FollowsSystem : DiskState → System → Type 0
-FollowsSystem disk s = (name : FileName) → FollowsPath (disk name) s (path_text name)
+FollowsSystem disk s = (name : FileName) → IsStoreFile name → FollowsPath (disk name) s (path_text name)
 
--- what a crash may leave of the system is an image of the disk
+-- what a crash may leave of the system is, for each file of a store, what it may leave of the disk
 abbrev pub CoversSystem : DiskState → System → Type 0
-CoversSystem disk s = (after : System) → IsLeftByCrash s after → IsImage disk (files_of after)
+CoversSystem disk s = (after : System) → IsLeftByCrash s after → (name : FileName) → IsStoreFile name → MayLeave (disk name) (files_of after name)
+
+-- No file has two paths, and at no path may two files stand.
+pub record HasOwnFiles (s : System) : Type 0 where
+  pub own : (path other : List ℕ) (number : ℕ) → MayStand s path (PlainFile number) → MayStand s other (PlainFile number) → path ≡ other
+  pub one : (path : List ℕ) (number other : ℕ) → MayStand s path (PlainFile number) → MayStand s path (PlainFile other) → number ≡ other
+
+-- Two changes of files do alike: what the wide one covered it still covers.
+pub record ChangesAlike (step other : FileState → FileState) (f g : FileState) : Type 0 where
+  pub there : (step f).is_there ≡ f.is_there
+  pub loose : (step f).is_name_loose ≡ f.is_name_loose
+  pub octets : f.octets ≡ g.octets → (step f).octets ≡ (other g).octets
+  pub covers : f.octets ≡ g.octets → CoversFile f g → CoversFile (step f) (other g)

@@ -1,6 +1,6 @@
 //! A disk over the system's files.
 #![tactic(auto)]
 
-pub use laws::images_are_covered;
+pub use laws::{cuts_are_followed, images_are_covered, syncs_are_followed, writes_are_followed};
 
 mod laws;

@@ -1,0 +1,8 @@
+use Rattle.std.proofs.Common.{if◌then◌else◌}
+use Rattle.disk_model.specs.Disk.{written, cut_to, synced}
+use Rattle.disk_files.proofs.StepLemmas.{content_follows, written-alike, cut-alike, synced-alike}
+use Rattle.disk_files.proofs.laws.cuts_are_followed.Goals as goal
+
+pub returns : goal.returns
+returns c = λ disk s name number end owns file stands follows.
+    content_follows number (cut_to end) (cut_to end) s name disk c.files_have_own_paths.ensures owns file stands (cut-alike end (disk name) (s.content number)) follows
