@@ -1,12 +1,11 @@
 -- What a crash leaves of a system is an image of a disk that follows it.
-use Rattle.std.proofs.Common.{◌≡◌, ◌≢◌, ◌⊎◌, inl, inr, ℕ, ◌<◌, ◌≤◌, Bool, true, false, List, length, slice_get, Option, Some, None, codes, refl, sym, ◌∙◌, ap, subst, arith}
+use Rattle.std.proofs.Common.{◌≡◌, ◌≢◌, ◌⊎◌, inl, inr, ℕ, ◌≤◌, true, false, List, length, Option, Some, None, refl, sym, ◌∙◌, ap, subst, arith}
 use Rattle.std.proofs.lemmas.Bool.{cases_Bool, cond-true, cond-false}
-use Rattle.disk_model.specs.Disk.{Files, FileState, DiskState, MayHold, MayLeave, IsImage, reading, still}
-use Rattle.disk_model.specs.declared.name.FileName.{FileName}
+use Rattle.disk_model.specs.Disk.{FileState, DiskState, MayHold, MayLeave, reading}
 use Rattle.file_paths.specs.Paths.{path_text}
 use Rattle.folder_model.specs.Paths.{folder_at}
 use Rattle.folder_model.specs.System.{Node, Nothing, PlainFile, AFolder, Another, System, MayStand, IsLeftByCrash}
-use Rattle.disk_files.specs.Follows.{octets_at, files_of, CoversFile, StaysFolder, Current, Below, FollowsPath, FollowsSystem, CoversSystem}
+use Rattle.disk_files.specs.Follows.{octets_at, CoversFile, StaysFolder, Current, Below, FollowsPath, FollowsSystem, CoversSystem}
 
 -- octets that the narrow file may hold, the wide one may
 pub covers-hold : (wide narrow : FileState) (octets : List ℕ) → (wide.is_there ≡ true) ⊎ (wide.is_name_loose ≡ true) → CoversFile wide narrow → MayHold narrow octets → MayHold wide octets
@@ -76,9 +75,9 @@ left_without : (f : FileState) (s after : System) (path : List ℕ) → FollowsP
 left_without f s after path follows left gone = elim (cases_Bool f.is_name_loose) [
   | inl loose ↦ inr loose
   | inr firm ↦ elim (cases_Bool f.is_there) [
-      | inl there ↦ absurd (gone (folder_stays s after (folder_at path) left (follows.stays firm there)))
-      | inr none ↦ inl none
-    ]
+    | inl there ↦ absurd (gone (folder_stays s after (folder_at path) left (follows.stays firm there)))
+    | inr none ↦ inl none
+  ]
 ]
 
 pub left_by_crash : (f : FileState) (s after : System) (path : List ℕ) → FollowsPath f s path → IsLeftByCrash s after → MayLeave f (octets_at after (after.node path))

@@ -1,2 +1,3 @@
 pub mod ImageLemmas
+pub mod NameStepLemmas
 pub mod StepLemmas

@@ -1,7 +1,6 @@
 -- Changes of a file of the disk and of the system's file under it.
-use Rattle.std.proofs.Common.{◌≡◌, ◌≢◌, ◌⊎◌, inl, inr, ℕ, ◌+◌, ◌==◌, ◌<◌, ◌≤◌, min, max, Bool, true, false, ◌||◌, if◌then◌else◌, List, length, take, slice_get, Option, Some, None, refl, sym, ◌∙◌, ap, subst, arith}
+use Rattle.std.proofs.Common.{◌≡◌, ◌≢◌, inl, inr, ℕ, ◌==◌, ◌≤◌, Bool, true, false, ◌||◌, if◌then◌else◌, List, length, take, slice_get, Some, None, refl, sym, ◌∙◌, ap, subst, arith}
 use Rattle.std.proofs.lemmas.Bool.{cases_Bool, cond-true, cond-false, eqb-true, eq-eqb, false≢true}
-use Rattle.std.proofs.lemmas.List.{length-take, length-take-le}
 use Rattle.disk_model.specs.Disk.{FileState, DiskState, reading, covers, overlaid, written, cut_to, synced, change}
 use Rattle.disk_model.specs.Name.{same_name}
 use Rattle.disk_model.specs.declared.name.FileName.{FileName}
@@ -9,8 +8,7 @@ use Rattle.disk_model.proofs.NameLemmas.{same_name-true, same_name-eq}
 use Rattle.file_paths.specs.Paths.{path_text, IsStoreFile}
 use Rattle.file_paths.specs.OneFile.{HaveOwnPaths}
 use Rattle.folder_model.specs.Paths.{folder_at}
-use Rattle.folder_model.specs.System.{Node, Nothing, PlainFile, AFolder, Another, System, MayStand, IsContent, with_content}
-use Rattle.folder_model.proofs.PartLemmas.{overlaid-get}
+use Rattle.folder_model.specs.System.{Node, Nothing, PlainFile, AFolder, Another, System, MayStand, with_content}
 use Rattle.disk_files.specs.Follows.{octets_at, CoversFile, StaysFolder, Current, Below, FollowsPath, FollowsSystem, HasOwnFiles, ChangesAlike}
 
 -- a folder that a crash leaves, where fewer things may stand

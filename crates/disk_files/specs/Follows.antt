@@ -55,3 +55,12 @@ pub record ChangesAlike (step other : FileState → FileState) (f g : FileState)
   pub loose : (step f).is_name_loose ≡ f.is_name_loose
   pub octets : f.octets ≡ g.octets → (step f).octets ≡ (other g).octets
   pub covers : f.octets ≡ g.octets → CoversFile f g → CoversFile (step f) (other g)
+
+-- a crash leaves at a path what stands there
+abbrev pub StaysAsRead : System → List ℕ → Type 0
+StaysAsRead s path = (node : Node) → MayStand s path node → node ≡ s.node path
+
+-- The names of a store's files are durable, and so are the folders of those that stand.
+pub record HasDurableNames (s : System) : Type 0 where
+  pub stays : (name : FileName) → IsStoreFile name → StaysAsRead s (path_text name)
+  pub folders : (name : FileName) (number : ℕ) → IsStoreFile name → s.node (path_text name) ≡ PlainFile number → StaysFolder s (folder_at (path_text name))

@@ -1,6 +1,5 @@
-use Rattle.std.proofs.Common.{if◌then◌else◌}
-use Rattle.disk_model.specs.Disk.{written, cut_to, synced}
-use Rattle.disk_files.proofs.StepLemmas.{content_follows, written-alike, cut-alike, synced-alike}
+use Rattle.disk_model.specs.Disk.{cut_to}
+use Rattle.disk_files.proofs.StepLemmas.{content_follows, cut-alike}
 use Rattle.disk_files.proofs.laws.cuts_are_followed.Goals as goal
 
 pub returns : goal.returns

@@ -1,6 +1,6 @@
 use Rattle.std.proofs.Common.{if◌then◌else◌}
-use Rattle.disk_model.specs.Disk.{written, cut_to, synced}
-use Rattle.disk_files.proofs.StepLemmas.{content_follows, written-alike, cut-alike, synced-alike}
+use Rattle.disk_model.specs.Disk.{synced}
+use Rattle.disk_files.proofs.StepLemmas.{content_follows, synced-alike}
 use Rattle.disk_files.proofs.laws.syncs_are_followed.Goals as goal
 
 pub returns : goal.returns
