@@ -14,8 +14,8 @@ octets_at s AFolder = None
 octets_at s Another = None
 
 -- the files of a store, as they read
-abbrev pub files_of : System → Files
-files_of s name = octets_at s (s.node (path_text name))
+abbrev pub files_at : System → Files
+files_at s name = octets_at s (s.node (path_text name))
 
 -- What a crash may leave of the one file, it may leave of the other.
 pub record CoversFile (wide narrow : FileState) : Type 0 where
@@ -42,7 +42,7 @@ FollowsSystem disk s = (name : FileName) → IsStoreFile name → FollowsPath (d
 
 -- what a crash may leave of the system is, for each file of a store, what it may leave of the disk
 abbrev pub CoversSystem : DiskState → System → Type 0
-CoversSystem disk s = (after : System) → IsLeftByCrash s after → (name : FileName) → IsStoreFile name → MayLeave (disk name) (files_of after name)
+CoversSystem disk s = (after : System) → IsLeftByCrash s after → (name : FileName) → IsStoreFile name → MayLeave (disk name) (files_at after name)
 
 -- No file has two paths, and at no path may two files stand.
 pub record HasOwnFiles (s : System) : Type 0 where
