@@ -202,7 +202,7 @@ numbered s path number system (inr earlier) =
     subst F earlier.2 (system.earlier path earlier.0 (PlainFile number) earlier.1)
 
 -- before a new file was made
-new_cases : (s : System) (path q : List ℕ) (node : Node) → MayStand (with_new_file path s) q node → ((q ≡ path) × (node ≡ PlainFile s.count)) ⊎ MayStand s q node
+pub new_cases : (s : System) (path q : List ℕ) (node : Node) → MayStand (with_new_file path s) q node → ((q ≡ path) × (node ≡ PlainFile s.count)) ⊎ MayStand s q node
 new_cases s path q node may = may_cases path q (PlainFile s.count) node s may
 
 new_content : (s : System) (path : List ℕ) → (with_new_file path s).content s.count ≡ still []

@@ -3,7 +3,7 @@ ghost use Rattle.std.specs.Prelude.{◌≡◌, ◌≢◌, true, ℕ, List};
 ghost use Rattle.disk_model.specs.Disk.{DiskState, change, change_all, written, cut_to, synced, made, removed, named};
 ghost use Rattle.disk_model.specs.declared.name.FileName.{FileName};
 ghost use Rattle.file_paths.specs.Paths.{path_text, IsStoreFile};
-ghost use Rattle.folder_model.specs.System.{System, IsSystem, Nothing, PlainFile, AFolder, with_node, with_new_file, with_content, with_synced_file, with_synced_names};
+ghost use Rattle.folder_model.specs.System.{System, IsSystem, Nothing, PlainFile, AFolder, with_node, with_new_file, with_content, with_synced_file, with_synced_names, MayStand};
 ghost use Rattle.disk_files.specs.Follows.{FollowsSystem, CoversSystem, HasOwnFiles, HasDurableNames};
 
 use file_paths::files_have_own_paths;
@@ -63,4 +63,12 @@ pub fn folders_are_followed()
 pub fn names_are_followed()
     ensures folder { (disk : DiskState) (s : System) (folder : List ℕ) → FollowsSystem disk s → FollowsSystem disk (with_synced_names folder s) }
     ensures all { (disk : DiskState) (s : System) → HasDurableNames s → FollowsSystem disk s → FollowsSystem (change_all named disk) s }
+{}
+
+/// The files of a store stay its own, if none is made where another may stand after a crash.
+pub fn files_stay_own()
+    ensures removal { (s : System) (path : List ℕ) → HasOwnFiles s → HasOwnFiles (with_node path Nothing s) }
+    ensures folder { (s : System) (path : List ℕ) → HasOwnFiles s → HasOwnFiles (with_node path AFolder s) }
+    ensures making { (s : System) (path : List ℕ) → IsSystem s → ((number : ℕ) → MayStand s path (PlainFile number) → ⊥) → HasOwnFiles s → HasOwnFiles (with_new_file path s) }
+    ensures names { (s : System) (folder : List ℕ) → HasOwnFiles s → HasOwnFiles (with_synced_names folder s) }
 {}
