@@ -143,3 +143,24 @@ synced-alike sound f g is =
             same = λ i below firm. ap (λ l. slice_get l i) (sym same);
           });
     }
+
+-- the same files, whoever has the lock and whether a sync has failed
+abbrev pub with_flags : Bool → Bool → System → System
+with_flags sound locked s = record s { is_sound = sound; is_locked = locked }
+
+octets_flagged : (sound locked : Bool) (s : System) (node : Node) → octets_at s node ≡ octets_at (with_flags sound locked s) node
+octets_flagged sound locked s Nothing = refl
+octets_flagged sound locked s (PlainFile number) = refl
+octets_flagged sound locked s AFolder = refl
+octets_flagged sound locked s Another = refl
+
+pub flags_follow : (sound locked : Bool) (disk : DiskState) (s : System) → FollowsSystem disk s → FollowsSystem disk (with_flags sound locked s)
+flags_follow sound locked disk s follows n is =
+    let path = path_text n in
+    let old = follows n is in
+    record {
+      reads = old.reads ∙ octets_flagged sound locked s (s.node path);
+      holds = λ number may. old.holds number may;
+      firm = λ firm node may. old.firm firm node may;
+      stays = λ firm there. stays-like s (with_flags sound locked s) (λ p node m. m) (folder_at path) (old.stays firm there);
+    }

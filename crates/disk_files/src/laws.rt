@@ -3,7 +3,7 @@ ghost use Rattle.std.specs.Prelude.{◌≡◌, ◌≢◌, true, ℕ, List};
 ghost use Rattle.disk_model.specs.Disk.{DiskState, change, change_all, written, cut_to, synced, made, removed, named};
 ghost use Rattle.disk_model.specs.declared.name.FileName.{FileName};
 ghost use Rattle.file_paths.specs.Paths.{path_text, IsStoreFile};
-ghost use Rattle.folder_model.specs.System.{System, IsSystem, Nothing, PlainFile, AFolder, with_node, with_new_file, with_content, with_synced_file, with_synced_names, MayStand};
+ghost use Rattle.folder_model.specs.System.{System, IsSystem, Nothing, PlainFile, AFolder, with_node, with_new_file, with_content, with_synced_file, with_synced_names, MayStand, with_lock, with_failed_sync, after_end};
 ghost use Rattle.disk_files.specs.Follows.{FollowsSystem, CoversSystem, HasOwnFiles, HasDurableNames};
 
 use file_paths::files_have_own_paths;
@@ -71,4 +71,12 @@ pub fn files_stay_own()
     ensures folder { (s : System) (path : List ℕ) → HasOwnFiles s → HasOwnFiles (with_node path AFolder s) }
     ensures making { (s : System) (path : List ℕ) → IsSystem s → ((number : ℕ) → MayStand s path (PlainFile number) → ⊥) → HasOwnFiles s → HasOwnFiles (with_new_file path s) }
     ensures names { (s : System) (folder : List ℕ) → HasOwnFiles s → HasOwnFiles (with_synced_names folder s) }
+{}
+
+/// A disk follows a system as it is when the process gets the lock, when a sync fails, and after the process has ended: what a
+/// killed process left, durable or not, is followed by a disk whose files are loose.
+pub fn ends_are_followed()
+    ensures lock { (disk : DiskState) (s : System) → FollowsSystem disk s → FollowsSystem disk (with_lock s) }
+    ensures failed { (disk : DiskState) (s : System) → FollowsSystem disk s → FollowsSystem disk (with_failed_sync s) }
+    ensures end { (disk : DiskState) (s : System) → FollowsSystem disk s → FollowsSystem disk (after_end s) }
 {}
