@@ -1,6 +1,7 @@
 -- Changes of a file of the disk and of the system's file under it.
 use Rattle.std.proofs.Common.{◌≡◌, ◌≢◌, inl, inr, ℕ, ◌==◌, ◌≤◌, Bool, true, false, ◌||◌, if◌then◌else◌, List, length, take, slice_get, Some, None, refl, sym, ◌∙◌, ap, subst, arith}
 use Rattle.std.proofs.lemmas.Bool.{cases_Bool, cond-true, cond-false, eqb-true, eq-eqb, false≢true}
+use Rattle.std.proofs.lemmas.Bool.Decides.{nat_tests}
 use Rattle.disk_model.specs.Disk.{FileState, DiskState, reading, covers, overlaid, written, cut_to, synced, change}
 use Rattle.disk_model.specs.Name.{same_name}
 use Rattle.disk_model.specs.declared.name.FileName.{FileName}
@@ -8,8 +9,8 @@ use Rattle.disk_model.proofs.NameLemmas.{same_name-true, same_name-eq}
 use Rattle.file_paths.specs.Paths.{path_text, IsStoreFile}
 use Rattle.file_paths.specs.OneFile.{HaveOwnPaths}
 use Rattle.folder_model.specs.Paths.{folder_at}
-use Rattle.folder_model.specs.System.{Node, Nothing, PlainFile, AFolder, Another, System, MayStand, with_content}
-use Rattle.disk_files.specs.Follows.{octets_at, CoversFile, StaysFolder, Current, Below, FollowsPath, FollowsSystem, HasOwnFiles, ChangesAlike}
+use Rattle.folder_model.specs.System.{Node, Nothing, PlainFile, AFolder, Another, System, MayStand, IsHalfWritten, with_content}
+use Rattle.disk_files.specs.Follows.{octets_at, CoversFile, StaysFolder, Current, Below, FollowsPath, FollowsSystem, HasOwnFiles, ChangesAlike, half_written_as}
 
 -- a folder that a crash leaves, where fewer things may stand
 pub stays-like : (s t : System) → ((path : List ℕ) (node : Node) → MayStand t path node → MayStand s path node) → (path : List ℕ) → StaysFolder s path → StaysFolder t path
@@ -164,3 +165,25 @@ flags_follow sound locked disk s follows n is =
       firm = λ firm node may. old.firm firm node may;
       stays = λ firm there. stays-like s (with_flags sound locked s) (λ p node m. m) (folder_at path) (old.stays firm there);
     }
+
+-- a part of a range
+covers-part : (at size n i : ℕ) → size ≤ n → covers at n i ≡ false → covers at size i ≡ false
+covers-part at size n i fewer apart = grind (arith, nat_tests)
+
+pub half-alike : (at n : ℕ) (f g h : FileState) → IsHalfWritten at n g h → ChangesAlike (half_written_as at n h.octets) (λ _. h) f g
+half-alike at n f g h half = record {
+  there = refl;
+  loose = refl;
+  octets = λ same. refl;
+  covers = λ same covered.
+      let F : FileState → Type 0 = λ k. CoversFile (half_written_as at n k.octets f) k in
+      let fewer : half.size ≤ n = half.at_most in
+      subst F (sym half.is) (record {
+        least = covered.least;
+        greatest = let a : g.greatest ≤ f.greatest = covered.greatest in omega arith;
+        firm = λ i below is.
+            let parts = or_false (f.is_loose i) (covers at n i) is in
+            or_false_from (g.is_loose i) (covers at half.size i) (covered.firm i below parts.0) (covers-part at half.size n i fewer parts.1);
+        same = λ i below is. refl;
+      });
+}

@@ -1,6 +1,6 @@
 -- How the states of a disk follow the files of the system under it.
 use Rattle.std.specs.Prelude.{◌≡◌, ℕ, ◌<◌, ◌≤◌, false, true, List, slice_get, Option, Some, None, codes}
-use Rattle.disk_model.specs.Disk.{Files, FileState, DiskState, MayLeave, reading}
+use Rattle.disk_model.specs.Disk.{Files, FileState, DiskState, MayLeave, half_written, reading}
 use Rattle.disk_model.specs.declared.name.FileName.{FileName}
 use Rattle.file_paths.specs.Paths.{path_text, IsStoreFile}
 use Rattle.folder_model.specs.Paths.{folder_at}
@@ -64,3 +64,7 @@ StaysAsRead s path = (node : Node) → MayStand s path node → node ≡ s.node 
 pub record HasDurableNames (s : System) : Type 0 where
   pub stays : (name : FileName) → IsStoreFile name → StaysAsRead s (path_text name)
   pub folders : (name : FileName) (number : ℕ) → IsStoreFile name → s.node (path_text name) ≡ PlainFile number → StaysFolder s (folder_at (path_text name))
+
+-- after a write of n octets that failed, where these octets read then
+abbrev pub half_written_as : ℕ → ℕ → List ℕ → FileState → FileState
+half_written_as at n octets f = record (half_written at n f) { octets = octets }

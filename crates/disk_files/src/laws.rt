@@ -1,10 +1,10 @@
 // Laws of disks that follow a system.
 ghost use Rattle.std.specs.Prelude.{◌≡◌, ◌≢◌, true, ℕ, List};
-ghost use Rattle.disk_model.specs.Disk.{DiskState, change, change_all, written, cut_to, synced, made, removed, named};
+ghost use Rattle.disk_model.specs.Disk.{FileState, DiskState, change, change_all, written, cut_to, synced, made, removed, named};
 ghost use Rattle.disk_model.specs.declared.name.FileName.{FileName};
 ghost use Rattle.file_paths.specs.Paths.{path_text, IsStoreFile};
-ghost use Rattle.folder_model.specs.System.{System, IsSystem, Nothing, PlainFile, AFolder, with_node, with_new_file, with_content, with_synced_file, with_synced_names, MayStand, with_lock, with_failed_sync, after_end};
-ghost use Rattle.disk_files.specs.Follows.{FollowsSystem, CoversSystem, HasOwnFiles, HasDurableNames};
+ghost use Rattle.folder_model.specs.System.{System, IsSystem, Nothing, PlainFile, AFolder, with_node, with_new_file, with_content, with_synced_file, with_synced_names, MayStand, with_lock, with_failed_sync, after_end, IsHalfWritten};
+ghost use Rattle.disk_files.specs.Follows.{FollowsSystem, CoversSystem, HasOwnFiles, HasDurableNames, half_written_as};
 
 use file_paths::files_have_own_paths;
 
@@ -17,6 +17,14 @@ pub fn images_are_covered()
 pub fn writes_are_followed()
     ensures { (disk : DiskState) (s : System) (name : FileName) (number at : ℕ) (octets : List ℕ) → HasOwnFiles s → IsStoreFile name → s.node (path_text name) ≡ PlainFile number
         → FollowsSystem disk s → FollowsSystem (change name (written at octets) disk) (with_content number (written at octets) s) }
+{
+    files_have_own_paths();
+}
+
+/// A disk follows a system through a write that failed and did a part.
+pub fn failed_writes_are_followed()
+    ensures { (disk : DiskState) (s : System) (name : FileName) (number at n : ℕ) (f : FileState) → HasOwnFiles s → IsStoreFile name → s.node (path_text name) ≡ PlainFile number
+        → IsHalfWritten at n (s.content number) f → FollowsSystem disk s → FollowsSystem (change name (half_written_as at n f.octets) disk) (with_content number (λ _. f) s) }
 {
     files_have_own_paths();
 }
