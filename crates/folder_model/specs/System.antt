@@ -115,9 +115,10 @@ pub record ArePathsIn (s : System) (folder : List ℕ) (paths : List (List ℕ))
 abbrev pub MayStand : System → List ℕ → Node → Type 0
 MayStand s path node = (node ≡ s.node path) ⊎ Contains (s.earlier path) node
 
--- What a crash leaves: at each path a thing that may stand there, or nothing where its folder is gone; and of each file octets that
--- it may hold. All of it is durable.
+-- What a crash leaves: the current folder; at each path a thing that may stand there, or nothing where its folder is gone; and of
+-- each file octets that it may hold. All of it is durable.
 pub record IsLeftByCrash (before after : System) : Type 0 where
+  pub current : after.node (codes ".") ≡ AFolder
   pub node : (path : List ℕ) → MayStand before path (after.node path) ⊎ ((after.node path ≡ Nothing) × (after.node (folder_at path) ≢ AFolder))
   pub earlier : (path : List ℕ) → after.earlier path ≡ []
   pub content : (number : ℕ) → (octets : List ℕ) × MayHold (before.content number) octets × (after.content number ≡ still octets)

@@ -39,7 +39,7 @@ once row rows =
     at_least : (all one rest : ℕ) → all ≡ one + rest → one ≡ 1 → 1 ≤ all
     at_least all one rest sum is = omega (arith, sum, is)
 
-holds_few : (rows : List InstRow) (id : InstId) → holds_of rows id ≤ length rows
+pub holds_few : (rows : List InstRow) (id : InstId) → holds_of rows id ≤ length rows
 holds_few rows id = count_by-le-length (λ (row : InstRow). bytes_eq row.id.0 id.0) rows
 
 fewer : (now before mine left long : ℕ) → now + left ≡ before + mine → 1 ≤ left → mine ≤ long → long ≤ 65535 → before + 65535 ≤ 4294967295 → now < 4294967295

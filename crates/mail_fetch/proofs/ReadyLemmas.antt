@@ -1,5 +1,5 @@
 -- Behind each of its events a fetch is ready for the next.
-use Rattle.std.proofs.Common.{◌≡◌, ◌≤◌, ◌+◌, ◌-◌, ℕ, zero, suc, Bool, true, false, cond, List, [], ◌∷◌, map, Option, inl, inr, refl, sym, ◌∙◌, subst, arith, All}
+use Rattle.std.proofs.Common.{◌≡◌, ◌≤◌, ◌+◌, ◌-◌, ℕ, zero, suc, Bool, true, false, cond, List, [], ◌∷◌, length, map, Option, inl, inr, refl, sym, ◌∙◌, subst, arith, All}
 use Rattle.std.specs.Prelude.{filter}
 use Rattle.std.proofs.lemmas.List.Elements.{All-cons, All-nil, All-head, All-map, All-tail, All-weaker}
 use Rattle.disk_model.specs.Disk.{History, Faults}
@@ -7,7 +7,7 @@ use Rattle.mdbox_base.specs.declared.entries.InstRow.{InstRow}
 use Rattle.store_core.specs.StoreInstances.{HasKnownInstances, IsKnownRow}
 use Rattle.store_core.specs.Value.{StoreValue}
 use Rattle.task_claims.specs.Claims.{AreIn, Claims, MovesClaims, amount_in, no_claims}
-use Rattle.mail_fetch.specs.Claims.{IsClaimedPart, IsClaimedTo, IsReadyToFetch, IsReadyToRead, claims_of_pinned, with_claims}
+use Rattle.mail_fetch.specs.Claims.{HasClaimed, IsClaimedPart, IsClaimedTo, IsReadyToFetch, IsReadyToRead, claims_of_pinned, with_claims}
 use Rattle.mail_fetch.specs.Events.{GoesOnWith, IsPieceRead, IsPinned, with_piece}
 use Rattle.mail_fetch.specs.Parts.{has_octets, instance_part, left_after, parts_to_read, pieces_left, region_part}
 use Rattle.mail_fetch.specs.Region.{RegionValue, stored_at}
@@ -45,37 +45,41 @@ claimed_now : {D : Type 0} → (mine : Claims) (old new : StoreValue D) → Move
 claimed_now mine old new moves thing = let m : amount_in thing new + 0 ≡ amount_in thing old + mine thing = moves thing in omega (arith, m)
 
 -- behind the first event
-pub pinned_ready : {D : Type 0} → (history : Option History) (name : List ℕ) (uid : ℕ) (old new : StoreValue D) (region : RegionValue) → HasKnownInstances history old → new ≡ with_claims region.from old → MovesClaims no_claims (claims_of_pinned region.from) old new → IsPinned name uid old region → IsReadyToRead region new
-pinned_ready history name uid old new region k same moves (row, entry, stored, is) =
+pub pinned_ready : {D : Type 0} → (history : Option History) (name : List ℕ) (uid : ℕ) (old new : StoreValue D) (region : RegionValue) → HasKnownInstances history old → new ≡ with_claims region.from old → MovesClaims no_claims (claims_of_pinned region.from) old new → length region.from.instances ≤ 65535 → IsPinned name uid old region
+    → IsReadyToRead region new
+pinned_ready history name uid old new region k same moves few (row, entry, stored, is) =
     let keeps : (r : InstRow) → IsKnownRow old.instances.known r → IsKnownRow new.instances.known r = λ r there. subst (λ (s : StoreValue _). IsKnownRow s.instances.known r) (sym same) (rows_held region.from.instances r.id old.instances.known ∙ there) in
     let named : All (IsKnownRow new.instances.known) entry.instances = All-weaker (IsKnownRow old.instances.known) (IsKnownRow new.instances.known) keeps entry.instances (named_each (IsKnownRow old.instances.known) old.map row.map_uid entry stored.stored k.kept.named) in
-    subst (λ (r : RegionValue). MovesClaims no_claims (claims_of_pinned r.from) old new → IsReadyToRead r new) (sym is)
-    (λ m. record { parts = all_claimed (stored_at row entry); left = parts_known new.instances.known row entry named; instances = named; claimed = claimed_now (claims_of_pinned (stored_at row entry)) old new m }) moves
+    subst (λ (r : RegionValue). MovesClaims no_claims (claims_of_pinned r.from) old new → length r.from.instances ≤ 65535 → IsReadyToRead r new) (sym is)
+    (λ m most. record { parts = all_claimed (stored_at row entry); left = parts_known new.instances.known row entry named; instances = named; own = record { claimed = claimed_now (claims_of_pinned (stored_at row entry)) old new m; few = most } }) moves few
 
 -- behind a piece
 goes_ready : {D : Type 0} → (region : RegionValue) (piece : List ℕ) (next : FetchStage) (store : StoreValue D) → IsReadyToRead region store → GoesOnWith (with_piece region piece) next → IsReadyToFetch next store
 goes_ready region piece next store ready goes = by_left (pieces_left (left_after region.left)) refl
   where
     by_left : (n : ℕ) → pieces_left (left_after region.left) ≡ n → IsReadyToFetch next store
-    by_left zero e = let l = goes.last e in subst (λ (s : FetchStage). IsReadyToFetch s store) (sym l.1) ready.claimed
+    by_left zero e = let l = goes.last e in subst (λ (s : FetchStage). IsReadyToFetch s store) (sym l.1) ready.own
     by_left (suc n) e =
         subst (λ (s : FetchStage). IsReadyToFetch s store) (sym (goes.more (omega (arith, e))))
-        (record { parts = left_claimed region.from region.left ready.parts; left = known_after store.instances.known region.left ready.left; instances = ready.instances; claimed = ready.claimed })
+        (record { parts = left_claimed region.from region.left ready.parts; left = known_after store.instances.known region.left ready.left; instances = ready.instances; own = ready.own })
 
 read_ready : {D : Type 0} → (region : RegionValue) (next : FetchStage) (store : StoreValue D) (history : Option History) (old new : Faults) → IsReadyToRead region store → IsPieceRead region next history old new → IsReadyToFetch next store
 read_ready region next store history old new ready (inl (piece, told, goes)) = goes_ready region piece next store ready goes
-read_ready region next store history old new ready (inr failed) = subst (λ (s : FetchStage). IsReadyToFetch s store) (sym failed.1) ready.claimed
+read_ready region next store history old new ready (inr failed) = subst (λ (s : FetchStage). IsReadyToFetch s store) (sym failed.1) ready.own
 
 -- on another disk
+own_at : {D : Type 0} → (from : StoredAt) (store : StoreValue D) (disk : D) → HasClaimed from store → HasClaimed from (record store { disk = disk })
+own_at from store disk own = record { claimed = λ thing. subst (λ (n : ℕ). claims_of_pinned from thing ≤ n) (sym (same_amount store disk thing)) (own.claimed thing); few = own.few }
+
 at_disk : {D : Type 0} → (now : FetchStage) (store : StoreValue D) (disk : D) → IsReadyToFetch now store → IsReadyToFetch now (record store { disk = disk })
 at_disk stage.First store disk ready = tt
 at_disk (stage.Reading region) store disk ready = record {
   parts = ready.parts;
   left = ready.left;
   instances = ready.instances;
-  claimed = λ thing. subst (λ (n : ℕ). claims_of_pinned region.from thing ≤ n) (sym (same_amount store disk thing)) (ready.claimed thing);
+  own = own_at region.from store disk ready.own;
 }
-at_disk (stage.Unpinning from given) store disk ready = λ thing. subst (λ (n : ℕ). claims_of_pinned from thing ≤ n) (sym (same_amount store disk thing)) (ready thing)
+at_disk (stage.Unpinning from given) store disk ready = own_at from store disk ready
 
 pub ready_on : {D : Type 0} → (region : RegionValue) (next : FetchStage) (old new : StoreValue D) (history : Option History) (began faults : Faults) → new ≡ record old { disk = new.disk } → IsPieceRead region next history began faults → IsReadyToRead region old → IsReadyToFetch next new
 ready_on region next old new history began faults same read ready =

@@ -1,5 +1,5 @@
 -- A fetch stays ready beside every event of every other task.
-use Rattle.std.proofs.Common.{◌≡◌, ◌≢◌, ◌≤◌, ◌+◌, ◌==◌, ℕ, false, List, [], ◌∷◌, ◌++◌, length, map, get_or, Option, Some, None, refl, sym, ◌∙◌, ap, subst, arith, All}
+use Rattle.std.proofs.Common.{◌≡◌, ◌≢◌, ◌≤◌, ◌+◌, ◌==◌, ℕ, Bool, true, false, List, [], ◌∷◌, ◌++◌, length, map, get_or, Option, Some, None, refl, sym, ◌∙◌, ap, subst, arith, All}
 use Rattle.std.specs.Prelude.{if◌then◌else◌}
 use Rattle.std.specs.Str.{bytes_eq}
 use Rattle.std.proofs.lemmas.Bool.{cond-true, eq-eqb, ne_eqb}
@@ -23,6 +23,7 @@ use Rattle.store_core.specs.Keeping.{holds_of}
 use Rattle.store_core.specs.StoreInstances.{IsKnownRow}
 use Rattle.store_core.specs.Value.{StoreValue}
 use Rattle.store_core.proofs.MailChangeLemmas.{part_behind}
+use Rattle.task_claims.specs.Claims.{Held, Pinned}
 use Rattle.task_claims.specs.Leaving.{HasRegionOctets, LeavesInstance}
 use Rattle.task_claims.specs.Stable.{Beside, IsStable}
 use Rattle.task_claims.proofs.LeftLemmas.{claim_left, instance_left, pinned_left}
@@ -38,6 +39,7 @@ use Rattle.mail_fetch.specs.declared.parts.Source.TheVariants as source
 use Rattle.mail_fetch.specs.declared.parts.StoredAt.{StoredAt}
 use Rattle.mail_fetch.specs.declared.task.FetchStage.{FetchStage}
 use Rattle.mail_fetch.specs.declared.task.FetchStage.TheVariants as stage
+use Rattle.mail_fetch.proofs.HoldLemmas.{holds_few}
 use Rattle.mail_fetch.proofs.PartLemmas.{reads_of_parts}
 
 -- ---- its own claims
@@ -92,12 +94,12 @@ parts_left region old new before after b ready = λ i d lt. let part = get_or re
 
 pub fetch_stable : {D : Type 0} → (now : FetchStage) → IsStable {D = D} (fetch_claims now) (λ store history. IsReadyToFetch now store)
 fetch_stable stage.First old new before after b ready = tt
-fetch_stable (stage.Unpinning from given) old new before after b ready = λ thing. claim_left (claims_of_pinned from) old new before after thing b
+fetch_stable (stage.Unpinning from given) old new before after b ready = record { claimed = λ thing. claim_left (claims_of_pinned from) old new before after thing b; few = ready.few }
 fetch_stable (stage.Reading region) old new before after b ready = record {
   parts = ready.parts;
   left = λ i d lt. still_known old new before after (get_or region.left i d).source (parts_left region old new before after b ready i d lt);
   instances = λ i d lt. (rows_left region old new before after b ready.instances i d lt).known;
-  claimed = λ thing. claim_left (claims_of_pinned region.from) old new before after thing b;
+  own = record { claimed = λ thing. claim_left (claims_of_pinned region.from) old new before after thing b; few = ready.own.few };
 }
 
 -- ---- what the disk stores
@@ -201,6 +203,22 @@ pub stored_stable : {D : Type 0} → (now : FetchStage) (octets : List ℕ) → 
 stored_stable stage.First octets old new before after b ready = (tt, tt)
 stored_stable (stage.Unpinning from given) octets old new before after b ready = (fetch_stable (stage.Unpinning from given) old new before after b ready.0, tt)
 stored_stable (stage.Reading region) octets old new before after b ready = (fetch_stable (stage.Reading region) old new before after b ready.0, reads_stay region octets old new before after b ready.0 ready.1)
+
+-- ---- how much it claims
+
+pub claims_few : {D : Type 0} → (now : FetchStage) (store : StoreValue D) (id : InstId) → IsReadyToFetch now store → fetch_claims now (Held id) ≤ 65535
+claims_few stage.First store id ready = omega arith
+claims_few (stage.Reading region) store id ready = let few = holds_few region.from.instances id in let most = ready.own.few in omega (arith, few, most)
+claims_few (stage.Unpinning from given) store id ready = let few = holds_few from.instances id in let most = ready.few in omega (arith, few, most)
+
+one_at_most : (b : Bool) → (if b then 1 else 0) ≤ 1
+one_at_most true = omega arith
+one_at_most false = omega arith
+
+pub claims_one_pin : (now : FetchStage) (file : ℕ) → fetch_claims now (Pinned file) ≤ 1
+claims_one_pin stage.First file = omega arith
+claims_one_pin (stage.Reading region) file = one_at_most (region.from.file.0 == file)
+claims_one_pin (stage.Unpinning from given) file = one_at_most (from.file.0 == file)
 
 -- ---- where it stands
 

@@ -19,10 +19,10 @@ use Rattle.sis_store.specs.Instances.{InstancesValue}
 use Rattle.storage_files.specs.Files.{FilesValue, end_in, is_doomed_in, pins_in}
 use Rattle.store_core.specs.Running.{IsStore}
 use Rattle.store_core.specs.Value.{StoreValue}
-use Rattle.task_claims.specs.Claims.{AreIn, ClaimsNothing, MovesClaims, Thing, amount_in, no_claims}
+use Rattle.task_claims.specs.Claims.{ClaimsNothing, MovesClaims, Thing, amount_in, no_claims}
 use Rattle.task_claims.specs.Leaving.{LeavesOthers}
 use Rattle.task_steps.specs.Step.{ended_by}
-use Rattle.mail_fetch.specs.Claims.{IsReadyToFetch, claims_of_pinned, fetch_claims, used_by, with_claims, without_claims}
+use Rattle.mail_fetch.specs.Claims.{HasClaimed, IsReadyToFetch, claims_of_pinned, fetch_claims, used_by, with_claims, without_claims}
 use Rattle.mail_fetch.specs.Clause.{FetchSteps, FetchesAlone}
 use Rattle.mail_fetch.specs.Events.{FetchesNext, IsBegun, IsPieceRead, NoChangeFault, fetch_refusal}
 use Rattle.mail_fetch.specs.Failed.{HasFailedRead}
@@ -155,14 +155,14 @@ reading_says H F name uid region next old new left runs same idle fault unfailed
 
 -- ---- the last event
 
-pub unpinning_says : {D : Type 0} → (H : D → Option History) (F : D → Faults) (name : List ℕ) (uid : Uid) (from : StoredAt) (given : Reply) (old new : StoreValue D) → old.stopped ≡ false → AreIn old (claims_of_pinned from) → new ≡ without_claims from old
+pub unpinning_says : {D : Type 0} → (H : D → Option History) (F : D → Faults) (name : List ℕ) (uid : Uid) (from : StoredAt) (given : Reply) (old new : StoreValue D) → old.stopped ≡ false → HasClaimed from old → new ≡ without_claims from old
     → (UnpinsUndoomed (stage.Unpinning from given) old → MovesClaims (claims_of_pinned from) no_claims old new) → LeavesOthers (claims_of_pinned from) old new (H old.disk) (H new.disk) → StepSays H F name uid (stage.Unpinning from given) stage.First old new did.Quiet (progress.Done given)
-unpinning_says {D = D} H F name uid from given old new runs claimed same claims leaves =
+unpinning_says {D = D} H F name uid from given old new runs own same claims leaves =
     let disk : new.disk ≡ old.disk = ap (λ (s : StoreValue D). s.disk) same in
     record {
       does = λ around after undoomed.
           subst (λ (s : StoreValue D). FetchSteps around after name uid (stage.Unpinning from given) stage.First old s (H old.disk) (H s.disk) (F old.disk) (F s.disk) did.Quiet (Some given)) (sym same)
-          (unpin_steps around after name uid from given old (H old.disk) (F old.disk) runs undoomed claimed);
+          (unpin_steps around after name uid from given old (H old.disk) (F old.disk) runs undoomed own.claimed);
       claims = λ runs_now undoomed. claims undoomed;
       leaves = λ runs_now. leaves;
       ended = λ answer e runs_now thing. refl;

@@ -1,5 +1,5 @@
 -- What a fetch claims between its events, and what it needs for the next.
-use Rattle.std.specs.Prelude.{◌≡◌, ◌≤◌, ◌<◌, ◌+◌, ◌-◌, ℕ, List, [], ◌∷◌, All, Option}
+use Rattle.std.specs.Prelude.{◌≡◌, ◌≤◌, ◌<◌, ◌+◌, ◌-◌, ℕ, List, [], ◌∷◌, length, All, Option}
 use Rattle.disk_model.specs.Disk.{History}
 use Rattle.mdbox_base.specs.declared.entries.InstRow.{InstRow}
 use Rattle.mdbox_base.specs.declared.ids.InstId.{InstId}
@@ -73,21 +73,24 @@ IsClaimedTo from end (source.Instance row) = 1 ≤ holds_of from.instances row.i
 abbrev pub IsClaimedPart : StoredAt → Part → Type 0
 IsClaimedPart from part = IsClaimedTo from (part.offset + part.size) part.source
 
--- A fetch reads parts that it claims, and the store knows its instances and those that are left to read. What it claims is among
--- what all tasks do.
+-- What it claims of a message is among what all tasks do, and a record names 65,535 instances at the most.
+pub record HasClaimed {D : Type 0} (from : StoredAt) (store : StoreValue D) : Type 0 where
+  pub claimed : AreIn store (claims_of_pinned from)
+  pub few : length from.instances ≤ 65535
+
+-- A fetch reads parts that it claims, and the store knows its instances and those that are left to read.
 pub record IsReadyToRead {D : Type 0} (region : RegionValue) (store : StoreValue D) : Type 0 where
   pub parts : All (IsClaimedPart region.from) region.left
   pub left : All (λ part. KnowsSource store.instances.known part.source) region.left
   pub instances : All (IsKnownRow store.instances.known) region.from.instances
-  pub claimed : AreIn store (claims_of_pinned region.from)
+  pub own : HasClaimed region.from store
 
 abbrev pub IsReadyToFetch : {D : Type 0} → FetchStage → StoreValue D → Type 0
 IsReadyToFetch stage.First store = Unit {0}
 IsReadyToFetch (stage.Reading region) store = IsReadyToRead region store
-IsReadyToFetch (stage.Unpinning from given) store = AreIn store (claims_of_pinned from)
+IsReadyToFetch (stage.Unpinning from given) store = HasClaimed from store
 
--- For its first event each storage file can be pinned once more, and each instance held 65,535 times more: a record names so many
--- at the most.
+-- For its first event each storage file can be pinned once more, and each instance held 65,535 times more.
 pub record HasUseRoom {D : Type 0} (store : StoreValue D) : Type 0 where
   pub pins : (file : ℕ) → pins_in file store.files.files < 4294967295
   pub holds : (id : InstId) → holders_in id store.instances.known + 65535 ≤ 4294967295

@@ -1,5 +1,5 @@
 // Laws of fetches.
-ghost use Rattle.std.specs.Prelude.{◌≡◌, ◌≢◌, ℕ, false, List, All, Option, length};
+ghost use Rattle.std.specs.Prelude.{◌≡◌, ◌≢◌, ◌≤◌, ℕ, false, List, All, Option, length};
 ghost use Rattle.disk_model.specs.Disk.{Faults, Files, History};
 ghost use Rattle.model_meaning.specs.BoxMeaning.{LogRow};
 ghost use Rattle.model_meaning.specs.MapMeaning.{MapRecord};
@@ -8,6 +8,8 @@ ghost use Rattle.model_store.specs.Stands.{StoresMessage};
 ghost use Rattle.list_machine.specs.Run.{Run, RunEvent, and_then};
 ghost use Rattle.mdbox_base.specs.declared.replies.Reply.{Reply};
 ghost use Rattle.store_core.specs.Value.{StoreValue};
+ghost use Rattle.mdbox_base.specs.declared.ids.InstId.{InstId};
+ghost use Rattle.task_claims.specs.Claims.{Held, Pinned};
 ghost use Rattle.task_claims.specs.Stable.{Beside, IsStable};
 ghost use Rattle.task_steps.specs.Step.{Seen, IsKept};
 ghost use Rattle.mail_fetch.specs.Claims.{IsReadyToFetch, ReadsStored, fetch_claims};
@@ -33,6 +35,12 @@ pub fn stored_messages_are_fetched()
 pub fn fetches_are_stable<D>()
     ensures ready { (now : FetchStage) → IsStable (fetch_claims now) (λ (store : StoreValue D) (history : Option History). IsReadyToFetch now store) }
     ensures stored { (now : FetchStage) (octets : List ℕ) → IsStable (fetch_claims now) (λ (store : StoreValue D) (history : Option History). IsReadyToFetch now store × ReadsStored now octets history) }
+{}
+
+/// A fetch that is ready claims one pin at the most, and 65,535 holds of an instance.
+pub fn fetches_claim_few<D>()
+    ensures held { (now : FetchStage) (store : StoreValue D) (id : InstId) → IsReadyToFetch now store → fetch_claims now (Held id) ≤ 65535 }
+    ensures pinned { (now : FetchStage) (file : ℕ) → fetch_claims now (Pinned file) ≤ 1 }
 {}
 
 /// Beside an event of another request, that is of any other task, a fetch that is ready stands where it stood. Nothing is asked of the

@@ -2,7 +2,8 @@
 #![tactic(auto)]
 
 pub use laws::{
-    fetch_stages_are_kept, fetches_are_stable, fetches_stay_beside, stored_messages_are_fetched,
+    fetch_stages_are_kept, fetches_are_stable, fetches_claim_few, fetches_stay_beside,
+    stored_messages_are_fetched,
 };
 pub use parts::{Part, Source, StoredAt};
 pub use region::Region;

@@ -43,7 +43,7 @@ needs_stored m n rows uid at is =
 -- that from which a store opened, but for the generations of mailbox logs
 needs_opened : (m n : MapMeaning) → MeansSame m n → NeedsAllOf n m
 needs_opened m n same = record {
-  sealed = λ number is. subst (λ (sealed : List ℕ). is_sealed (record m { sealed = sealed }) number ≡ true) (sym same.sealed) is;
+  sealed = λ number is. ap (λ (sealed : List ℕ). list_any (λ f. f == number) sealed) same.sealed ∙ is;
   records = subst (λ (rows : List MapRecord). All (IsPlacedIn n) rows) same.records (placed_itself n.records n (λ row own. own));
 }
 

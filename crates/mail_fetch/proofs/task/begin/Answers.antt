@@ -37,7 +37,7 @@ returns-in-Ok-clause-leaves g c = c.claim.ensures.leaves no_claims
 
 pub returns-in-Ok-clause-ready : goal.returns-in-Ok-clause-ready
 returns-in-Ok-clause-ready g c =
-    pinned_ready _ c.args.name.now c.args.uid.0 c.args.store.now c.claim.new.store c.in-Ok.region c.facts.ensures.instances (returns-in-Ok-clause-same g c) (returns-in-Ok-clause-claims g c) c.in-Ok.ensures.pinned.1
+    pinned_ready _ c.args.name.now c.args.uid.0 c.args.store.now c.claim.new.store c.in-Ok.region c.facts.ensures.instances (returns-in-Ok-clause-same g c) (returns-in-Ok-clause-claims g c) c.in-Ok.ensures.few c.in-Ok.ensures.pinned.1
 
 pub returns-in-Ok-clause-left : goal.returns-in-Ok-clause-left
 returns-in-Ok-clause-left g c = pinned_left _ c.args.store.now c.args.name.now c.args.uid.0 c.in-Ok.region c.facts.ensures.store c.in-Ok.ensures.pinned.1

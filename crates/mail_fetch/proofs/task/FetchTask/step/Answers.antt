@@ -20,7 +20,7 @@ read_piece-requires-clause-known g c =
 
 pub give_back-requires : goal.give_back-requires
 give_back-requires g c =
-    subst (λ (s : FetchStage). IsReadyToFetch s c.args.store.now) (stage_seen _ c.args.self.now (stage.Unpinning c.in-Unpinning.from c.in-Unpinning.reply) c.self.view_is (sym c.replace.ensures.value ∙ c.in-Unpinning.is)) (c.requires.ready (sym c.stopped.ensures ∙ c.if-stopped.false))
+    (subst (λ (s : FetchStage). IsReadyToFetch s c.args.store.now) (stage_seen _ c.args.self.now (stage.Unpinning c.in-Unpinning.from c.in-Unpinning.reply) c.self.view_is (sym c.replace.ensures.value ∙ c.in-Unpinning.is)) (c.requires.ready (sym c.stopped.ensures ∙ c.if-stopped.false))).claimed
 
 pub returns-then-stopped-clause-does : goal.returns-then-stopped-clause-does
 returns-then-stopped-clause-does g c =

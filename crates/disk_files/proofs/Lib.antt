@@ -1,0 +1,4 @@
+pub mod ImageLemmas
+pub mod NameStepLemmas
+pub mod OwnLemmas
+pub mod StepLemmas
