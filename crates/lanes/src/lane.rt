@@ -1,6 +1,17 @@
-// A request of a lane, and an event of it.
+// A lane: the request in turn with its task, and those behind it.
+ghost use Rattle.std.specs.Prelude.{◌≡◌, false, None, IfSome, IsNone};
+ghost use Rattle.lane_tasks.specs.Tasks.{IsReadyTask, did_of};
+ghost use Rattle.lane_tasks.specs.Clause.{HasTaskRoom};
+ghost use Rattle.lane_tasks.specs.declared.task.Task.{Task as TaskValue};
+ghost use Rattle.task_steps.specs.Step.{ended_by};
+ghost use Rattle.lanes.specs.Rows.{IsReadyRow, RowGoesOn, TaskGoesOn, goes_on_by};
+
+use disk_model::Disk;
 use lane_tasks::Task;
 use mdbox_base::{Did, Progress};
+use std::collections::VecDeque;
+use std::marker::Model;
+use store_core::Store;
 
 /// A request of a lane: its place in the script, counted from 0, and its task.
 #[derive(Drop)]
@@ -9,10 +20,103 @@ pub struct Queued {
     pub task: Task,
 }
 
+/// A lane.
+#[derive(Drop)]
+pub struct Lane {
+    /// The request in turn.
+    current: Option<Queued>,
+    /// Those behind it, in script order. None of them has begun.
+    waiting: VecDeque<Queued>,
+}
+
 /// An event of a lane: of the request at this place, what it did, and whether the request was answered by it.
 #[derive(Drop)]
 pub struct LaneEvent {
     pub place: u32,
     pub did: Did,
     pub ended: Progress,
+}
+
+impl Model for Lane {
+    ghost use Rattle.lanes.specs.Rows.{LaneRow};
+
+    ghost Value = { LaneRow };
+
+    ghost view = { λ lane. record { current = lane.current; waiting = lane.waiting.items } };
+}
+
+impl Lane {
+    /// Does the next event of the request in turn; if that answers it, the next one is in turn. None if the lane has no request left.
+    #[tactic(none)]
+    pub fn advance<D: Disk>(&mut self, store: &mut Store<D>) -> Option<LaneEvent>
+        requires ready { store.old.stopped ≡ false → IsReadyRow self.old store.old (D.history store.old.disk) }
+        ensures some { IfSome result (λ event. RowGoesOn self.old self.new event store.old store.new (D.history store.old.disk) (D.history store.new.disk) (D.faults store.old.disk) (D.faults store.new.disk)) }
+        ensures none { IsNone result → (self.old.current ≡ None) × (self.new ≡ self.old) × (store.new ≡ store.old) }
+    {
+        let Some(first) = self.current.take() else {
+            return None;
+        };
+        let (event, goes_on) = event_of(first, store);
+        let next = match goes_on {
+            Some(first) => Some(first),
+            None => self.waiting.pop_front(),
+        };
+        put(&mut self.current, next);
+        Some(event)
+    }
+}
+
+/// Puts the request in turn in its place.
+fn put<T: Drop>(place: &mut Option<T>, next: Option<T>)
+    ensures { place.new ≡ next }
+{
+    *place = next;
+}
+
+/// Lets go of what is no longer needed.
+fn let_go<T: Drop>(_answered: T) {}
+
+/// Does the next event of a request's task. The request is given back if it goes on.
+#[tactic(none)]
+fn event_of<D: Disk>(first: Queued, store: &mut Store<D>) -> (LaneEvent, Option<Queued>)
+    requires ready { store.old.stopped ≡ false → IsReadyTask first.task store.old (D.history store.old.disk) }
+    requires room { store.old.stopped ≡ false → HasTaskRoom first.task store.old }
+    ensures { (next : TaskValue) × TaskGoesOn first next result.0 store.old store.new (D.history store.old.disk) (D.history store.new.disk) (D.faults store.old.disk) (D.faults store.new.disk) × (result.1 ≡ goes_on_by (ended_by result.0.ended) (record first { task = next })) }
+{
+    let mut first = first;
+    let ended = first.task.step(store);
+    let event = LaneEvent {
+        place: first.place,
+        did: last_did(&first.task),
+        ended,
+    };
+    let goes_on = if_more(first, &event.ended);
+    (event, goes_on)
+}
+
+/// The request, if it goes on.
+fn if_more(first: Queued, ended: &Progress) -> Option<Queued>
+    ensures { result ≡ goes_on_by (ended_by ended.now) first }
+{
+    match ended {
+        Progress::More => Some(first),
+        Progress::Done(_) => {
+            let_go(first);
+            None
+        }
+    }
+}
+
+/// What the last event of a task did.
+fn last_did(task: &Task) -> Did
+    ensures { result ≡ did_of task.now }
+{
+    match task {
+        Task::Ops(task) => task.did(),
+        Task::Counts(task) => task.did(),
+        Task::Make(task) => task.did(),
+        Task::Copy(task) => task.did(),
+        Task::Move(task) => task.did(),
+        Task::Expunge(task) => task.did(),
+    }
 }

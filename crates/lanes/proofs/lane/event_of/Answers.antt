@@ -1,0 +1,21 @@
+use Rattle.std.proofs.Common.{refl}
+use Rattle.lanes.proofs.lane.event_of.Goals as goal
+
+pub step-ended-requires-clause-ready : goal.step-ended-requires-clause-ready
+step-ended-requires-clause-ready g c = c.requires.ready
+
+pub returns : goal.returns
+returns g c = (
+  c.step-ended.new.self,
+  record {
+    place_is = refl;
+    did_is = c.last_did.ensures;
+    steps = c.step-ended.ensures.does;
+    claims = c.step-ended.ensures.claims;
+    leaves = c.step-ended.ensures.leaves;
+    ready = c.step-ended.ensures.ready;
+    unclaimed = c.step-ended.ensures.ended;
+    left = c.step-ended.ensures.left;
+  },
+  c.if_more-goes_on.ensures,
+)
