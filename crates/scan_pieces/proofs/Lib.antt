@@ -1,0 +1,5 @@
+pub mod FillLemmas
+pub mod HeaderPieceLemmas
+pub mod LongLemmas
+pub mod PieceLemmas
+pub mod WindowLemmas
