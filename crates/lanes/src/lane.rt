@@ -47,7 +47,6 @@ impl Model for Lane {
 
 impl Lane {
     /// Does the next event of the request in turn; if that answers it, the next one is in turn. None if the lane has no request left.
-    #[tactic(none)]
     pub fn advance<D: Disk>(&mut self, store: &mut Store<D>) -> Option<LaneEvent>
         requires ready { store.old.stopped ≡ false → IsReadyRow self.old store.old (D.history store.old.disk) }
         ensures some { IfSome result (λ event. RowGoesOn self.old self.new event store.old store.new (D.history store.old.disk) (D.history store.new.disk) (D.faults store.old.disk) (D.faults store.new.disk)) }
@@ -77,7 +76,6 @@ fn put<T: Drop>(place: &mut Option<T>, next: Option<T>)
 fn let_go<T: Drop>(_answered: T) {}
 
 /// Does the next event of a request's task. The request is given back if it goes on.
-#[tactic(none)]
 fn event_of<D: Disk>(first: Queued, store: &mut Store<D>) -> (LaneEvent, Option<Queued>)
     requires ready { store.old.stopped ≡ false → IsReadyTask first.task store.old (D.history store.old.disk) }
     requires room { store.old.stopped ≡ false → HasTaskRoom first.task store.old }
