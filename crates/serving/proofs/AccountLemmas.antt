@@ -48,7 +48,7 @@ lane_beside claims lanes k j value other mine_now old new before after adds firs
       (two_are_in (map (lane_claims claims) lanes) k j no_claims old (in_row claims lanes k value first) (in_row claims lanes j other second) apart adds));
 }
 
-task_beside : {T D : Type 0} → (claims : T → Claims) (other : LaneValue T) (task : T) (old new : StoreValue D) (before after : Option History) → other.task ≡ Some task → Beside (lane_claims claims other) old new before after → Beside (claims task) old new before after
+pub task_beside : {T D : Type 0} → (claims : T → Claims) (other : LaneValue T) (task : T) (old new : StoreValue D) (before after : Option History) → other.task ≡ Some task → Beside (lane_claims claims other) old new before after → Beside (claims task) old new before after
 task_beside claims other task old new before after is b = subst (λ (o : Option _). Beside (lane_claims claims (record other { task = o })) old new before after) is b
 
 -- ---- an event

@@ -82,6 +82,17 @@ serving_done Was Is start script run journal broken replies began now new lanes 
     same : {j : ℕ} → place ≡ j → (place == j) ≡ true
     same e = grind (arith, common_steps, e)
 
+-- An event of a lane whose request goes on or is answered by it.
+pub lane_goes_on : {T : Type 0} → (Was Is : T → Request → Run → ℕ → List Reply → Type 0) (start : Lists) (script : Requests) (run : Run) (journal : List JournalStep) (broken : Broken) (replies : List (Option Reply))
+    (began now new : Seen) (lanes : List (LaneValue T)) (k place : ℕ) (rest : List ℕ) (value : LaneValue T) (request : Request) (next : T) (around after : Around) (how : Did) (ended : Option Reply)
+    → IsServing Was start script run journal broken replies began now lanes → OthersStandOn Was Is lanes k → slice_get lanes k ≡ Some value → value.queue ≡ place ∷ rest → slice_get script place ≡ Some (k + 1, request)
+    → (d : DidEvent around after run (k + 1) place (said_by journal place) request (left_by start journal) now new how ended) → (ended ≡ None → Is next request (and_then run d.makes.event) place (and_told (said_by journal place) d.makes.answer))
+    → (failed : Broken) × IsServing Is start script (and_then run d.makes.event) (journal_behind run request journal d.makes.event d.makes.answer d.left) failed (replies_behind ended place replies) began new (slice_set lanes k (lane_behind ended next value))
+lane_goes_on Was Is start script run journal broken replies began now new lanes k place rest value request next around after how None s stays there queue asked d stands =
+    serving_more Was Is start script run journal broken replies began now new lanes k place rest value request next around after how s stays there queue asked d (stands refl)
+lane_goes_on Was Is start script run journal broken replies began now new lanes k place rest value request next around after how (Some given) s stays there queue asked d stands =
+    serving_done Was Is start script run journal broken replies began now new lanes k place rest value request next around after how given s stays there queue asked d
+
 -- The step of a task, which goes on or answers its request.
 pub lane_serves : {T : Type 0} → (Was Is : T → Request → Run → ℕ → List Reply → Type 0) (start : Lists) (script : Requests) (run : Run) (journal : List JournalStep) (broken : Broken) (replies : List (Option Reply))
     (began now new : Seen) (lanes : List (LaneValue T)) (k place : ℕ) (rest : List ℕ) (value : LaneValue T) (request : Request) (next : T) (around after : Around) (how : Did) (ended : Option Reply)
@@ -90,17 +101,8 @@ pub lane_serves : {T : Type 0} → (Was Is : T → Request → Run → ℕ → L
 lane_serves Was Is start script run journal broken replies began now new lanes k place rest value request next around after how ended s stays there queue asked steps =
     let first = first_turn Was script run journal replies (k + 1) place rest value request (s.lanes_at k value there) queue asked in
     let did = steps run (k + 1) place (said_by journal place) (left_by start journal) s.serves.come s.serves.shown first.1 in
-    by_end ended did.0 did.1
-  where
-    by_end : (end : Option Reply) → (d : DidEvent around after run (k + 1) place (said_by journal place) request (left_by start journal) now new how end)
-        → (end ≡ None → Is next request (and_then run d.makes.event) place (and_told (said_by journal place) d.makes.answer))
-        → (then : Run) × (steps : List JournalStep) × (failed : Broken) × IsServing Is start script then steps failed (replies_behind end place replies) began new (slice_set lanes k (lane_behind end next value))
-    by_end None d stands =
-        let r = serving_more Was Is start script run journal broken replies began now new lanes k place rest value request next around after how s stays there queue asked d (stands refl) in
-        (and_then run d.makes.event, journal_behind run request journal d.makes.event d.makes.answer d.left, r.0, r.1)
-    by_end (Some given) d stands =
-        let r = serving_done Was Is start script run journal broken replies began now new lanes k place rest value request next around after how given s stays there queue asked d in
-        (and_then run d.makes.event, journal_behind run request journal d.makes.event d.makes.answer d.left, r.0, r.1)
+    let r = lane_goes_on Was Is start script run journal broken replies began now new lanes k place rest value request next around after how ended s stays there queue asked did.0 did.1 in
+    (and_then run did.0.makes.event, journal_behind run request journal did.0.makes.event did.0.makes.answer did.0.left, r.0, r.1)
 
 -- ---- the end
 

@@ -1,0 +1,256 @@
+-- A script that lanes of tasks serve goes on with an event of any lane.
+use Rattle.std.proofs.Common.{◌≡◌, ◌<◌, ◌≤◌, ◌+◌, ℕ, zero, suc, Bool, true, false, List, [], ◌∷◌, map, slice_set, All, Option, Some, None, refl, sym, ◌∙◌, ap, subst, arith, inl, inr}
+use Rattle.std.specs.Prelude.{◌≢◌, ◌⊎◌, length, slice_get, option_map}
+use Rattle.std.proofs.lemmas.Option.{slice_get-map}
+use Rattle.std.proofs.lemmas.List.Elements.{All-head, All-tail, All-nil}
+use Rattle.disk_model.specs.Disk.{History, Faults}
+use Rattle.mdbox_base.specs.declared.progress.Progress.{Progress}
+use Rattle.mdbox_base.specs.declared.progress.Progress.TheVariants as progress
+use Rattle.mdbox_base.specs.declared.replies.Reply.{Reply}
+use Rattle.mdbox_base.specs.declared.requests.Request.{Request}
+use Rattle.model_lists.specs.Lists.{Lists}
+use Rattle.list_machine.specs.Run.{Run, and_then}
+use Rattle.journal.specs.Journal.{Broken, JournalStep, Requests, left_by}
+use Rattle.journal.specs.JournalExamples.{nothing_around}
+use Rattle.serving.specs.Accounts.{IsReadyLane, LanesAccount, lane_claims}
+use Rattle.serving.specs.Lanes.{IsInTurn, LaneStands, LaneValue, lane_behind, replies_behind, said_by}
+use Rattle.serving.specs.Serving.{IsServing}
+use Rattle.serving.specs.Standing.{OthersStandOn}
+use Rattle.serving.proofs.AccountLemmas.{accounted_on, lane_beside, task_beside}
+use Rattle.serving.proofs.LaneLemmas.{get_set_other, get_set_same, journal_behind, nat_cases, one_some}
+use Rattle.serving.proofs.ServingLemmas.{lane_goes_on}
+use Rattle.serving.proofs.TakeUpLemmas.{TakesUp, serving_taken_up}
+use Rattle.store_core.specs.Value.{StoreValue}
+use Rattle.task_claims.specs.Claims.{Claims, ClaimsNothing, MovesClaims, amount_in}
+use Rattle.task_claims.specs.Leaving.{LeavesOthers}
+use Rattle.task_steps.specs.Serves.{IsTurn}
+use Rattle.task_steps.specs.Step.{DidEvent, FindsRoom, Seen, and_told, ended_by}
+use Rattle.mail_fetch.specs.Clause.{ReadsSafe}
+use Rattle.lane_tasks.specs.Clause.{AnswersByFiles, PassesBy, around_at, seen_by_all}
+use Rattle.lane_tasks.specs.Tasks.{BeginsTask, IsReadyTask, StandsTask, claims_at, did_of}
+use Rattle.lane_tasks.specs.declared.task.Task.{Task}
+use Rattle.lane_tasks.proofs.StandLemmas.{begins_ready, begins_standing, begins_unclaimed, task_stable, task_stands}
+use Rattle.lanes.specs.Going.{AreWaiting, IsGoing, WaitsWithTask, stands_in}
+use Rattle.lanes.specs.Rows.{LaneRow, RowGoesOn, lane_value, lanes_of, next_in_turn, queue_in, after_event}
+use Rattle.lanes.specs.declared.lane.LaneEvent.{LaneEvent}
+use Rattle.lanes.specs.declared.lane.Queued.{Queued}
+
+-- ---- rows
+
+value_at : (rows : List LaneRow) (k : ℕ) (row : LaneRow) → slice_get rows k ≡ Some row → slice_get (lanes_of rows) k ≡ Some (lane_value row)
+value_at rows k row there = slice_get-map lane_value rows k ∙ ap (λ (o : Option LaneRow). option_map lane_value o) there
+
+rows_set : (rows : List LaneRow) (k : ℕ) (now : LaneRow) → lanes_of (slice_set rows k now) ≡ slice_set (lanes_of rows) k (lane_value now)
+rows_set [] k now = refl
+rows_set (a ∷ more) zero now = refl
+rows_set (a ∷ more) (suc k) now = ap (λ (vs : List (LaneValue Task)). lane_value a ∷ vs) (rows_set more k now)
+
+set_twice : {X : Type 0} → (xs : List X) (k : ℕ) (x y : X) → slice_set (slice_set xs k x) k y ≡ slice_set xs k y
+set_twice [] k x y = refl
+set_twice (a ∷ more) zero x y = refl
+set_twice (a ∷ more) (suc k) x y = ap (λ (vs : List _). a ∷ vs) (set_twice more k x y)
+
+-- ---- what the tasks are asked beside
+
+-- no task takes files yet
+finds_room : {D : Type 0} → (t : Task) (asked : Request) (store : StoreValue D) (run : Run) → FindsRoom (around_at t asked store nothing_around) run
+finds_room t asked store run = tt
+
+-- and none answers by what files read
+reads_safe : (t : Task) (lists : Lists) (history : Option History) → AnswersByFiles t → ReadsSafe lists history
+reads_safe t lists history by_files = absurd by_files
+
+-- ---- claims
+
+moved_none : {D : Type 0} → (mine next : Claims) (now : Claims) (old new : StoreValue D) → ClaimsNothing next → ClaimsNothing now → MovesClaims mine next old new → MovesClaims mine now old new
+moved_none mine next now old new none nothing moves thing = sums (amount_in thing new + mine thing) (amount_in thing old) (next thing) (now thing) (moves thing) (none thing) (nothing thing)
+  where
+    sums : (all old next now : ℕ) → all ≡ old + next → next ≡ 0 → now ≡ 0 → all ≡ old + now
+    sums all old next now e n z = omega (arith, e, n, z)
+
+-- what follows the first request begins, and claims nothing
+next_unclaimed : (script : Requests) (lane : ℕ) (waiting : List Queued) → AreWaiting script lane waiting → ClaimsNothing (lane_claims claims_at (lane_value (next_in_turn waiting)))
+next_unclaimed script lane [] are = λ thing. refl
+next_unclaimed script lane (next ∷ rest) are = let b = All-head (WaitsWithTask script lane) next rest are in begins_unclaimed b.0 next.task b.2
+
+next_ready : {D : Type 0} → (script : Requests) (lane : ℕ) (waiting : List Queued) (store : StoreValue D) (history : Option History) → AreWaiting script lane waiting → IsReadyLane IsReadyTask (lane_value (next_in_turn waiting)) store history
+next_ready script lane [] store history are task has = absurd (let z : None ≡ Some task = has in cc z)
+next_ready script lane (next ∷ rest) store history are task has = let b = All-head (WaitsWithTask script lane) next rest are in subst (λ (t : Task). IsReadyTask t store history) (one_some next.task task has) (begins_ready b.0 next.task store history b.2)
+
+pub next_waiting : (script : Requests) (lane : ℕ) (waiting : List Queued) → AreWaiting script lane waiting → AreWaiting script lane (next_in_turn waiting).waiting
+next_waiting script lane [] are = All-nil (WaitsWithTask script lane)
+next_waiting script lane (next ∷ rest) are = All-tail (WaitsWithTask script lane) next rest are
+
+-- ---- the request in turn
+
+queue_is : (row : LaneRow) (first : Queued) → row.current ≡ Some first → queue_in row ≡ first.place ∷ map (λ (q : Queued). q.place) row.waiting
+queue_is row first was = ap (λ (o : Option Queued). queue_in (record row { current = o })) was
+
+task_is : (row : LaneRow) (first : Queued) → row.current ≡ Some first → option_map (λ (q : Queued). q.task) row.current ≡ Some first.task
+task_is row first was = ap (option_map (λ (q : Queued). q.task)) was
+
+claims_are : (row : LaneRow) (first : Queued) → row.current ≡ Some first → lane_claims claims_at (lane_value row) ≡ claims_at first.task
+claims_are row first was = ap (λ (o : Option Queued). lane_claims claims_at (lane_value (record row { current = o }))) was
+
+in_turn : {D : Type 0} → (start : Lists) (script : Requests) (run : Run) (journal : List JournalStep) (broken : Broken) (replies : List (Option Reply)) (began now : Seen) (rows : List LaneRow) (k : ℕ) (row : LaneRow) (first : Queued) (store : StoreValue D) (history : Option History) → slice_get rows k ≡ Some row → row.current ≡ Some first
+    → IsServing (stands_in store history) start script run journal broken replies began now (lanes_of rows)
+    → (request : Request) × IsTurn script journal replies (k + 1) first.place request × StandsTask first.task store history request run first.place (said_by journal first.place)
+in_turn start script run journal broken replies began now rows k row first store history there was s =
+    let l = s.lanes_at k (lane_value row) (value_at rows k row there) in
+    let t = subst (λ (ps : List ℕ). IsInTurn (stands_in store history) script run journal replies (k + 1) (lane_value row) ps) (queue_is row first was) l.in_turn in
+    (t.0.0, t.0.1, subst (λ (o : Option Task). LaneStands (stands_in store history) o t.0.0 run first.place (said_by journal first.place)) (task_is row first was) t.0.2)
+
+-- ---- other lanes
+
+-- a store that runs after an event ran before it
+ran_before : (old new : Seen) → (old.stopped ≡ true → new ≡ record old { pins = new.pins }) → new.stopped ≡ false → old.stopped ≡ false
+ran_before old new still runs = by_test old.stopped refl
+  where
+    by_test : (b : Bool) → old.stopped ≡ b → old.stopped ≡ false
+    by_test true is = absurd (let e : new.stopped ≡ old.stopped = ap (λ (s : Seen). s.stopped) (still is) in let z : true ≡ false = sym is ∙ (sym e ∙ runs) in cc z)
+    by_test false is = is
+
+others_stand : {D : Type 0} → (rows : List LaneRow) (k : ℕ) (row : LaneRow) (first : Queued) (next : Task) (old new : StoreValue D) (before after : Option History) → slice_get rows k ≡ Some row → row.current ≡ Some first → (new.stopped ≡ false → old.stopped ≡ false)
+    → (new.stopped ≡ false → MovesClaims (claims_at first.task) (claims_at next) old new) → (new.stopped ≡ false → LeavesOthers (claims_at first.task) old new before after) → (old.stopped ≡ false → LanesAccount claims_at IsReadyTask old before (lanes_of rows))
+    → OthersStandOn (stands_in old before) (stands_in new after) (lanes_of rows) k
+others_stand rows k row first next old new before after there was ran moves leaves accounts j other apart is t asked has run place said event differ gives stood = task_stands t old new before after asked run place said event passes differ gives stood
+  where
+    mine : claims_at first.task ≡ lane_claims claims_at (lane_value row)
+    mine = sym (claims_are row first was)
+
+    passes : PassesBy t old new before after
+    passes runs = (
+      ran runs,
+      task_beside claims_at other t old new before after has
+          (lane_beside claims_at (lanes_of rows) k j (lane_value row) other (claims_at next) old new before after (accounts (ran runs)).adds_up (value_at rows k row there) is apart
+          (subst (λ (c : Claims). MovesClaims c (claims_at next) old new) mine (moves runs)) (subst (λ (c : Claims). LeavesOthers c old new before after) mine (leaves runs))),
+    )
+
+-- ---- the lane
+
+-- its request goes on
+value_more : (row : LaneRow) (first : Queued) (next : Task) → row.current ≡ Some first → lane_behind None next (lane_value row) ≡ lane_value (after_event None (record first { task = next }) row.waiting)
+value_more row first next was = ap (λ (queue : List ℕ). record (lane_value (after_event None (record first { task = next }) row.waiting)) { queue = queue }) (queue_is row first was)
+
+-- it is answered, and no task is taken up yet
+value_done : (row : LaneRow) (first : Queued) (next : Task) (given : Reply) → row.current ≡ Some first → lane_behind (Some given) next (lane_value row) ≡ record { queue = map (λ (q : Queued). q.place) row.waiting; task = None }
+value_done row first next given was = ap (λ (o : Option Queued). lane_behind (Some given) next (lane_value (record row { current = o }))) was
+
+takes_up : {D : Type 0} → (start : Lists) (script : Requests) (run : Run) (journal : List JournalStep) (broken : Broken) (replies : List (Option Reply)) (began now : Seen) (lanes : List (LaneValue Task)) (k : ℕ) (was : LaneValue Task) (waiting : List Queued) (store : StoreValue D) (history : Option History)
+    → slice_get lanes k ≡ Some was → AreWaiting script (k + 1) waiting → IsServing (stands_in store history) start script run journal broken replies began now (slice_set lanes k (record { queue = map (λ (q : Queued). q.place) waiting; task = None }))
+    → IsServing (stands_in store history) start script run journal broken replies began now (slice_set lanes k (lane_value (next_in_turn waiting)))
+takes_up start script run journal broken replies began now lanes k was [] store history there are s = s
+takes_up start script run journal broken replies began now lanes k was (next ∷ rest) store history there are s =
+    subst (λ (vs : List (LaneValue Task)). IsServing (stands_in store history) start script run journal broken replies began now vs) (set_twice lanes k untaken (record untaken { task = Some next.task }))
+    (serving_taken_up (stands_in store history) start script run journal broken replies began now (slice_set lanes k untaken) k untaken next.task (get_set_same lanes k untaken was there) refl begins s)
+  where
+    untaken : LaneValue Task
+    untaken = record { queue = next.place ∷ map (λ (q : Queued). q.place) rest; task = None }
+
+    begins : TakesUp (stands_in store history) script run journal (k + 1) untaken.queue next.task
+    begins request asked unbegun =
+        let b = All-head (WaitsWithTask script (k + 1)) next rest are in
+        let same : b.0 ≡ request = ap (λ (q : ℕ × Request). q.1) (one_some (k + 1, b.0) (k + 1, request) (sym b.1 ∙ asked)) in
+        begins_standing request next.task store history run next.place (said_by journal next.place) (subst (λ (q : Request). BeginsTask q next.task) same b.2) unbegun
+
+serves_row : {D : Type 0} → (start : Lists) (script : Requests) (run : Run) (journal : List JournalStep) (broken : Broken) (replies : List (Option Reply)) (began now : Seen) (rows : List LaneRow) (k : ℕ) (row : LaneRow) (first : Queued) (next : Task) (store : StoreValue D) (history : Option History) (ended : Option Reply)
+    → slice_get rows k ≡ Some row → row.current ≡ Some first → AreWaiting script (k + 1) row.waiting → IsServing (stands_in store history) start script run journal broken replies began now (slice_set (lanes_of rows) k (lane_behind ended next (lane_value row)))
+    → IsServing (stands_in store history) start script run journal broken replies began now (lanes_of (slice_set rows k (after_event ended (record first { task = next }) row.waiting)))
+serves_row start script run journal broken replies began now rows k row first next store history None there was are s =
+    subst (λ (vs : List (LaneValue Task)). IsServing (stands_in store history) start script run journal broken replies began now vs) (ap (slice_set (lanes_of rows) k) (value_more row first next was) ∙ sym (rows_set rows k (after_event None (record first { task = next }) row.waiting))) s
+serves_row start script run journal broken replies began now rows k row first next store history (Some given) there was are s =
+    subst (λ (vs : List (LaneValue Task)). IsServing (stands_in store history) start script run journal broken replies began now vs) (sym (rows_set rows k (next_in_turn row.waiting)))
+    (takes_up start script run journal broken replies began now (lanes_of rows) k (lane_value row) row.waiting store history (value_at rows k row there) are
+    (subst (λ (v : LaneValue Task). IsServing (stands_in store history) start script run journal broken replies began now (slice_set (lanes_of rows) k v)) (value_done row first next given was) s))
+
+-- ---- all lanes
+
+as_many : (rows : List LaneRow) (k : ℕ) (now : LaneRow) → length (lanes_of (slice_set rows k now)) ≡ length (lanes_of rows)
+as_many [] k now = refl
+as_many (a ∷ more) zero now = refl
+as_many (a ∷ more) (suc k) now = let h = as_many more k now in omega (arith, h)
+
+waiting_behind : (script : Requests) (lane : ℕ) (ended : Option Reply) (first : Queued) (waiting : List Queued) → AreWaiting script lane waiting → AreWaiting script lane (after_event ended first waiting).waiting
+waiting_behind script lane None first waiting are = are
+waiting_behind script lane (Some given) first waiting are = next_waiting script lane waiting are
+
+all_waiting : (script : Requests) (rows : List LaneRow) (k : ℕ) (row now : LaneRow) → slice_get rows k ≡ Some row → AreWaiting script (k + 1) now.waiting → ((j : ℕ) (other : LaneRow) → slice_get rows j ≡ Some other → AreWaiting script (j + 1) other.waiting)
+    → (j : ℕ) (other : LaneRow) → slice_get (slice_set rows k now) j ≡ Some other → AreWaiting script (j + 1) other.waiting
+all_waiting script rows k row now there own all j other is = by_case (nat_cases k j)
+  where
+    by_case : (k ≡ j) ⊎ (k ≢ j) → AreWaiting script (j + 1) other.waiting
+    by_case (inl e) =
+        let same : now ≡ other = one_some now other (sym (get_set_same rows k now row there) ∙ (ap (λ (n : ℕ). slice_get (slice_set rows k now) n) e ∙ is)) in
+        subst (λ (n : ℕ). AreWaiting script (n + 1) other.waiting) e (subst (λ (r : LaneRow). AreWaiting script (k + 1) r.waiting) same own)
+    by_case (inr apart) = all j other (sym (get_set_other rows k j now apart) ∙ is)
+
+-- ---- the store
+
+moves_row : {D : Type 0} → (script : Requests) (lane : ℕ) (ended : Option Reply) (first : Queued) (next : Task) (waiting : List Queued) (old new : StoreValue D) → AreWaiting script lane waiting → (ended ≢ None → ClaimsNothing (claims_at next)) → MovesClaims (claims_at first.task) (claims_at next) old new
+    → MovesClaims (claims_at first.task) (lane_claims claims_at (lane_value (after_event ended (record first { task = next }) waiting))) old new
+moves_row script lane None first next waiting old new are nothing moves = moves
+moves_row script lane (Some given) first next waiting old new are nothing moves =
+    moved_none (claims_at first.task) (claims_at next) (lane_claims claims_at (lane_value (next_in_turn waiting))) old new (nothing (λ e. absurd (let z : Some given ≡ None = e in cc z))) (next_unclaimed script lane waiting are) moves
+
+ready_row : {D : Type 0} → (script : Requests) (lane : ℕ) (ended : Option Reply) (first : Queued) (next : Task) (waiting : List Queued) (store : StoreValue D) (history : Option History) → AreWaiting script lane waiting → IsReadyTask next store history
+    → IsReadyLane IsReadyTask (lane_value (after_event ended (record first { task = next }) waiting)) store history
+ready_row script lane None first next waiting store history are ready = λ t has. subst (λ (t : Task). IsReadyTask t store history) (one_some next t has) ready
+ready_row script lane (Some given) first next waiting store history are ready = next_ready script lane waiting store history are
+
+done_by : (p : Progress) → ended_by p ≢ None → (given : Reply) × (p ≡ progress.Done given)
+done_by progress.More some = absurd (some refl)
+done_by (progress.Done given) some = (given, refl)
+
+accounts_row : {D : Type 0} → (script : Requests) (rows : List LaneRow) (k : ℕ) (row now : LaneRow) (event : LaneEvent) (old new : StoreValue D) (before after : Option History) (first second : Faults) → slice_get rows k ≡ Some row → AreWaiting script (k + 1) row.waiting → new.stopped ≡ false
+    → (g : RowGoesOn row now event old new before after first second) → LanesAccount claims_at IsReadyTask old before (lanes_of rows)
+    → LanesAccount claims_at IsReadyTask new after (lanes_of (slice_set rows k (after_event (ended_by event.ended) (record g.queued { task = g.next }) row.waiting)))
+accounts_row {D} script rows k row now event old new before after first second there are runs g all =
+    subst (λ (vs : List (LaneValue Task)). LanesAccount claims_at IsReadyTask new after vs) (sym (rows_set rows k then))
+    (accounted_on claims_at IsReadyTask task_stable (lanes_of rows) k (lane_value row) (lane_value then) old new before after (value_at rows k row there)
+    (subst (λ (c : Claims). MovesClaims c (lane_claims claims_at (lane_value then)) old new) mine
+    (moves_row script (k + 1) (ended_by event.ended) g.queued g.next row.waiting old new are (λ some. let d = done_by event.ended some in g.goes.unclaimed d.0 d.1 runs) (g.goes.claims runs)))
+    (subst (λ (c : Claims). LeavesOthers c old new before after) mine (g.goes.leaves runs)) (ready_row script (k + 1) (ended_by event.ended) g.queued g.next row.waiting new after are (g.goes.ready runs)) all)
+  where
+    then : LaneRow
+    then = after_event (ended_by event.ended) (record g.queued { task = g.next }) row.waiting
+
+    mine : claims_at g.queued.task ≡ lane_claims claims_at (lane_value row)
+    mine = sym (claims_are row g.queued g.was)
+
+-- ---- an event
+
+pub going_on : {D : Type 0} → (start : Lists) (script : Requests) (began : Seen) (replies : List (Option Reply)) (rows : List LaneRow) (k : ℕ) (row now : LaneRow) (event : LaneEvent) (old new : StoreValue D) (before after : Option History) (first second : Faults) → slice_get rows k ≡ Some row → RowGoesOn row now event old new before after first second
+    → IsGoing start script began old before first replies rows → IsGoing start script began new after second (replies_behind (ended_by event.ended) event.place replies) (slice_set rows k now)
+going_on {D} start script began replies rows k row now event old new before after first second there g s =
+    subst (λ (r : LaneRow). IsGoing start script began new after second (replies_behind (ended_by event.ended) event.place replies) (slice_set rows k r)) (sym g.now_is)
+    (subst (λ (n : ℕ). IsGoing start script began new after second (replies_behind (ended_by event.ended) n replies) (slice_set rows k then)) (sym g.goes.place_is) (record {
+      run = and_then s.run d.0.makes.event;
+      journal = journal_behind s.run turn.0 s.journal d.0.makes.event d.0.makes.answer d.0.left;
+      broken = goes.0;
+      serving = serves_row start script (and_then s.run d.0.makes.event) (journal_behind s.run turn.0 s.journal d.0.makes.event d.0.makes.answer d.0.left) goes.0 (replies_behind (ended_by event.ended) g.queued.place replies) began (seen_by_all new after second) rows k row g.queued g.next new after (ended_by event.ended) there g.was are
+          goes.1;
+      lanes = subst (λ (n : ℕ). All (λ (asked : ℕ × Request). (0 < asked.0) × (asked.0 ≤ n)) script) (sym (as_many rows k then)) s.lanes;
+      waiting = all_waiting script rows k row then there (waiting_behind script (k + 1) (ended_by event.ended) (record g.queued { task = g.next }) row.waiting are) s.waiting;
+      accounts = λ runs. accounts_row script rows k row now event old new before after first second there are runs g (s.accounts (ran runs));
+    }))
+  where
+    then : LaneRow
+    then = after_event (ended_by event.ended) (record g.queued { task = g.next }) row.waiting
+
+    are : AreWaiting script (k + 1) row.waiting
+    are = s.waiting k row there
+
+    turn : (request : Request) × IsTurn script s.journal replies (k + 1) g.queued.place request × StandsTask g.queued.task old before request s.run g.queued.place (said_by s.journal g.queued.place)
+    turn = in_turn start script s.run s.journal s.broken replies began (seen_by_all old before first) rows k row g.queued old before there g.was s.serving
+
+    d : (d : DidEvent nothing_around nothing_around s.run (k + 1) g.queued.place (said_by s.journal g.queued.place) turn.0 (left_by start s.journal) (seen_by_all old before first) (seen_by_all new after second) (did_of g.next) (ended_by event.ended))
+        × (ended_by event.ended ≡ None → StandsTask g.next new after turn.0 (and_then s.run d.makes.event) g.queued.place (and_told (said_by s.journal g.queued.place) d.makes.answer))
+    d = g.goes.steps turn.0 nothing_around nothing_around s.run (k + 1) g.queued.place (said_by s.journal g.queued.place) (left_by start s.journal) s.serving.serves.come s.serving.serves.shown (λ runs. finds_room g.queued.task turn.0 old s.run) (λ by_files runs. reads_safe g.queued.task (left_by start s.journal) before by_files) turn.2
+
+    ran : new.stopped ≡ false → old.stopped ≡ false
+    ran = ran_before (seen_by_all old before first) (seen_by_all new after second) d.0.ends.still
+
+    goes : (failed : Broken) × IsServing (stands_in new after) start script (and_then s.run d.0.makes.event) (journal_behind s.run turn.0 s.journal d.0.makes.event d.0.makes.answer d.0.left) failed (replies_behind (ended_by event.ended) g.queued.place replies) began (seen_by_all new after second)
+        (slice_set (lanes_of rows) k (lane_behind (ended_by event.ended) g.next (lane_value row)))
+    goes = lane_goes_on (stands_in old before) (stands_in new after) start script s.run s.journal s.broken replies began (seen_by_all old before first) (seen_by_all new after second) (lanes_of rows) k g.queued.place (map (λ (q : Queued). q.place) row.waiting) (lane_value row) turn.0 g.next nothing_around nothing_around (did_of g.next) (ended_by event.ended)
+        s.serving (others_stand rows k row g.queued g.next old new before after there g.was ran g.goes.claims g.goes.leaves s.accounts) (value_at rows k row there) (queue_is row g.queued g.was) turn.1.asked d.0 d.1

@@ -1,0 +1,8 @@
+//! Lanes over one store: each does its requests one after another, an event at a time.
+#![tactic(auto)]
+
+pub use lane::{LaneEvent, Queued};
+pub use laws::lanes_go_on;
+
+mod lane;
+mod laws;
