@@ -36,8 +36,9 @@ pub fn tasks_begin<D: Disk>()
     ensures stands { (asked : Request) (task : Task) (store : StoreValue D) (history : Option History) (run : Run) (place : ℕ) (said : List Reply) → BeginsTask asked task → HasNotBegun run place said → StandsTask task store history asked run place said }
 {}
 
-/// A storage file that events of a request took and haven't given back is claimed by its task.
+/// A storage file that events of a request took and haven't given back is claimed by its task. Files are numbered from 1; where
+/// an event took no target, 0 stands for it.
 pub fn tasks_have_taken<D: Disk>()
-    ensures { (task : Task) (store : StoreValue D) (history : Option History) (asked : Request) (run : Run) (place : ℕ) (said : List Reply) (file : ℕ) → StandsTask task store history asked run place said
+    ensures { (task : Task) (store : StoreValue D) (history : Option History) (asked : Request) (run : Run) (place : ℕ) (said : List Reply) (file : ℕ) → StandsTask task store history asked run place said → 1 ≤ file
         → list_any (took_file file) (own_events place run) ≡ true → gave_back file (own_events place run) ≡ false → (1 ≤ claims_at task (Taken file)) ⊎ (1 ≤ claims_at task (Emptied file)) }
 {}

@@ -196,10 +196,14 @@ moves_row script lane None first next waiting old new are nothing moves = moves
 moves_row script lane (Some given) first next waiting old new are nothing moves =
     moved_none (claims_at first.task) (claims_at next) (lane_claims claims_at (lane_value (next_in_turn waiting))) old new (nothing (λ e. absurd (let z : Some given ≡ None = e in cc z))) (next_unclaimed script lane waiting are) moves
 
-ready_row : {D : Type 0} → (script : Requests) (lane : ℕ) (ended : Option Reply) (first : Queued) (next : Task) (waiting : List Queued) (store : StoreValue D) (history : Option History) → AreWaiting script lane waiting → IsReadyTask next store history
+ready_row : {D : Type 0} → (script : Requests) (lane : ℕ) (ended : Option Reply) (first : Queued) (next : Task) (waiting : List Queued) (store : StoreValue D) (history : Option History) → AreWaiting script lane waiting → (ended ≡ None → IsReadyTask next store history)
     → IsReadyLane IsReadyTask (lane_value (after_event ended (record first { task = next }) waiting)) store history
-ready_row script lane None first next waiting store history are ready = λ t has. subst (λ (t : Task). IsReadyTask t store history) (one_some next t has) ready
+ready_row script lane None first next waiting store history are ready = λ t has. subst (λ (t : Task). IsReadyTask t store history) (one_some next t has) (ready refl)
 ready_row script lane (Some given) first next waiting store history are ready = next_ready script lane waiting store history are
+
+more_by : (p : Progress) → ended_by p ≡ None → p ≡ progress.More
+more_by progress.More none = refl
+more_by (progress.Done given) none = absurd (let z : Some given ≡ None = none in cc z)
 
 done_by : (p : Progress) → ended_by p ≢ None → (given : Reply) × (p ≡ progress.Done given)
 done_by progress.More some = absurd (some refl)
@@ -213,7 +217,7 @@ accounts_row {D} script rows k row now event old new before after first second t
     (accounted_on claims_at IsReadyTask task_stable (lanes_of rows) k (lane_value row) (lane_value then) old new before after (value_at rows k row there)
     (subst (λ (c : Claims). MovesClaims c (lane_claims claims_at (lane_value then)) old new) mine
     (moves_row script (k + 1) (ended_by event.ended) g.queued g.next row.waiting old new are (λ some. let d = done_by event.ended some in g.goes.unclaimed d.0 d.1 runs) (g.goes.claims runs)))
-    (subst (λ (c : Claims). LeavesOthers c old new before after) mine (g.goes.leaves runs)) (ready_row script (k + 1) (ended_by event.ended) g.queued g.next row.waiting new after are (g.goes.ready runs)) all)
+    (subst (λ (c : Claims). LeavesOthers c old new before after) mine (g.goes.leaves runs)) (ready_row script (k + 1) (ended_by event.ended) g.queued g.next row.waiting new after are (λ more. g.goes.ready (more_by event.ended more) runs)) all)
   where
     then : LaneRow
     then = after_event (ended_by event.ended) (record g.queued { task = g.next }) row.waiting

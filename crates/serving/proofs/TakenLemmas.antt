@@ -87,8 +87,8 @@ is_one false le = absurd (let h : 1 ≤ 0 = le in omega (arith, h))
 
 pub taken_in_use : {T D : Type 0} → (At : T → Request → Run → ℕ → List Reply → Type 0) (claims : T → Claims) (start : Lists) (script : Requests) (run : Run) (journal : List JournalStep) (broken : Broken) (replies : List (Option Reply)) (began now : Seen) (lanes : List (LaneValue T)) (store : StoreValue D) (file : ℕ)
     → IsServing At start script run journal broken replies began now lanes → HaveLanes script lanes → AddsUp store (map (lane_claims claims) lanes)
-    → ((task : T) (request : Request) (place : ℕ) (said : List Reply) → At task request run place said → ClaimsTaken (own_events place run) (claims task)) → is_taken run file ≡ true → IsInUse store file
-taken_in_use {T} At claims start script run journal broken replies began now lanes store file s have adds take is = by_event (found_at _ run.events is)
+    → ((task : T) (request : Request) (place : ℕ) (said : List Reply) → At task request run place said → ClaimsTaken (own_events place run) (claims task)) → 1 ≤ file → is_taken run file ≡ true → IsInUse store file
+taken_in_use {T} At claims start script run journal broken replies began now lanes store file s have adds take numbered is = by_event (found_at _ run.events is)
   where
     by_claim : (k : ℕ) (value : LaneValue T) (task : T) → slice_get lanes k ≡ Some value → value.task ≡ Some task → (1 ≤ claims task (Taken file)) ⊎ (1 ≤ claims task (Emptied file)) → IsInUse store file
     by_claim k value task there has (inl c) =
@@ -104,7 +104,7 @@ taken_in_use {T} At claims start script run journal broken replies began now lan
 
     by_task : (k : ℕ) (value : LaneValue T) (task : Option T) (request : Request) (place : ℕ) → slice_get lanes k ≡ Some value → value.task ≡ task → LaneStands At task request run place (said_by journal place) → list_any (took_file file) (own_events place run) ≡ true → gave_back file (own_events place run) ≡ false → IsInUse store file
     by_task k value None request place there has stands took kept = absurd (has_some file (own_events place run) took stands.0)
-    by_task k value (Some task) request place there has stands took kept = by_claim k value task there has (take task request place (said_by journal place) stands file took kept)
+    by_task k value (Some task) request place there has stands took kept = by_claim k value task there has (take task request place (said_by journal place) stands file numbered took kept)
 
     by_queue : (k : ℕ) (value : LaneValue T) (queue : List ℕ) (place : ℕ) → slice_get lanes k ≡ Some value → IsInTurn At script run journal replies (k + 1) value queue → IsWaiting place queue → list_any (took_file file) (own_events place run) ≡ true → gave_back file (own_events place run) ≡ false → IsInUse store file
     by_queue k value [] place there turn waits took kept = absurd waits

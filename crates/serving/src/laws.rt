@@ -1,5 +1,5 @@
 // A script that lanes serve, event by event.
-ghost use Rattle.std.specs.Prelude.{◌≡◌, ◌≢◌, ◌<◌, ◌+◌, ◌++◌, ◌∷◌, [], true, false, ℕ, List, length, map, slice_get, slice_set, Option, Some, None};
+ghost use Rattle.std.specs.Prelude.{◌≡◌, ◌≢◌, ◌<◌, ◌≤◌, ◌+◌, ◌++◌, ◌∷◌, [], true, false, ℕ, List, length, map, slice_get, slice_set, Option, Some, None};
 ghost use Rattle.disk_model.specs.Disk.{History};
 ghost use Rattle.mdbox_base.specs.declared.progress.Did.{Did};
 ghost use Rattle.mdbox_base.specs.declared.replies.Reply.{Reply};
@@ -81,7 +81,7 @@ pub fn expunges_are_served()
 /// back, and the tasks' claims add up, the store has it as taken.
 pub fn taken_files_are_in_use<D>()
     ensures { (claims : OwnWork → Claims) (start : Lists) (script : Requests) (run : Run) (journal : List JournalStep) (broken : Broken) (replies : List (Option Reply)) (began now : Seen) (lanes : List (LaneValue OwnWork)) (store : StoreValue D) (file : ℕ) → IsServing HasWorked start script run journal broken replies began now lanes → HaveLanes script lanes
-        → AddsUp store (map (lane_claims claims) lanes) → ((work : OwnWork) → ClaimsTaken work.events (claims work)) → is_taken run file ≡ true → IsInUse store file }
+        → AddsUp store (map (lane_claims claims) lanes) → ((work : OwnWork) → ClaimsTaken work.events (claims work)) → 1 ≤ file → is_taken run file ≡ true → IsInUse store file }
 {}
 
 /// Lanes account for a store: for one of which no task claims anything, as long as no lane has a task; and behind an event of a lane's
