@@ -1,5 +1,5 @@
 // A script that lanes serve, event by event.
-ghost use Rattle.std.specs.Prelude.{◌≡◌, ◌≢◌, ◌<◌, ◌≤◌, ◌+◌, ◌++◌, ◌∷◌, [], true, false, ℕ, List, length, map, slice_get, slice_set, Option, Some, None};
+ghost use Rattle.std.specs.Prelude.{◌≡◌, ◌≢◌, ◌<◌, ◌≤◌, ◌+◌, ◌++◌, ◌∷◌, [], true, false, ℕ, Bool, List, length, map, slice_get, slice_set, Option, Some, None};
 ghost use Rattle.disk_model.specs.Disk.{History};
 ghost use Rattle.mdbox_base.specs.declared.progress.Did.{Did};
 ghost use Rattle.mdbox_base.specs.declared.replies.Reply.{Reply};
@@ -53,12 +53,18 @@ pub fn all_replied()
         → (i : ℕ) → i < length script → (given : Reply) × HasReply replies i given × (reply_of i run ≡ Some given) }
 {}
 
-/// A trace of turns goes on with the run: a turn that worked makes the next event, an idle one makes none. The n-th turn that worked
-/// is the lane's of the n-th event.
+/// A trace of turns goes on with the run: a turn that worked makes its lane's next event, and an event that finishes the lanes is
+/// nobody's turn. An idle turn makes none, of a lane that has no request left. The n-th turn that worked is of the lane of the n-th event.
 pub fn turns_pass()
-    ensures worked { (turns : List LaneTurn) (run : Run) (event : RunEvent) → IsTraceOf turns run → IsTraceOf (turns ++ record { lane = event.lane; idle = false } ∷ []) (and_then run event) }
-    ensures idle { (turns : List LaneTurn) (run : Run) (lane : ℕ) → IsTraceOf turns run → IsTraceOf (turns ++ record { lane = lane; idle = true } ∷ []) run }
-    ensures made { (turns : List LaneTurn) (run : Run) (n : ℕ) (event : RunEvent) → IsTraceOf turns run → slice_get run.events n ≡ Some event → slice_get (lanes_worked turns) n ≡ Some event.lane }
+    ensures begun { (run : Run) (lanes : List (LaneValue OwnWork)) → run.events ≡ [] → IsTraceOf false [] run lanes }
+    ensures worked { (turns : List LaneTurn) (run : Run) (lanes : List (LaneValue OwnWork)) (k : ℕ) (value : LaneValue OwnWork) (work : OwnWork) (event : RunEvent) (ended : Option Reply) → slice_get lanes k ≡ Some value → event.lane ≡ k + 1 → IsTraceOf false turns run lanes
+        → IsTraceOf false (turns ++ record { lane = k + 1; idle = false } ∷ []) (and_then run event) (slice_set lanes k (lane_behind ended work value)) }
+    ensures finishing { (finished : Bool) (turns : List LaneTurn) (run : Run) (lanes : List (LaneValue OwnWork)) (k : ℕ) (value : LaneValue OwnWork) (work : OwnWork) (event : RunEvent) (ended : Option Reply) → slice_get lanes k ≡ Some value → IsTraceOf finished turns run lanes
+        → IsTraceOf true turns (and_then run event) (slice_set lanes k (lane_behind ended work value)) }
+    ensures idle { (finished : Bool) (turns : List LaneTurn) (run : Run) (lanes : List (LaneValue OwnWork)) (k : ℕ) (value : LaneValue OwnWork) → slice_get lanes k ≡ Some value → value.queue ≡ [] → IsTraceOf finished turns run lanes
+        → IsTraceOf finished (turns ++ record { lane = k + 1; idle = true } ∷ []) run lanes }
+    ensures made { (turns : List LaneTurn) (run : Run) (lanes : List (LaneValue OwnWork)) (n : ℕ) (event : RunEvent) → IsTraceOf false turns run lanes → slice_get run.events n ≡ Some event → slice_get (lanes_worked turns) n ≡ Some event.lane }
+    ensures turned { (finished : Bool) (turns : List LaneTurn) (run : Run) (lanes : List (LaneValue OwnWork)) (n lane : ℕ) → IsTraceOf finished turns run lanes → slice_get (lanes_worked turns) n ≡ Some lane → (event : RunEvent) × (slice_get run.events n ≡ Some event) × (event.lane ≡ lane) }
 {}
 
 /// The next request of a lane takes its turn, once the one before it is answered.
