@@ -21,23 +21,23 @@ seen_by_all store history faults = seen_of (λ file. pins_in file store.files.fi
 
 -- ---- what it needs beside being ready
 
--- The store has room for the pins and holds of its next event, and no purge has doomed the file that it unpins: nothing of most tasks.
+-- What the store has for its next event beside. As yet this says nothing: no task of these kinds pins a file or holds instances.
 abbrev pub HasTaskRoom : {D : Type 0} → Task → StoreValue D → Type 0
 HasTaskRoom task store = Unit {0}
 
--- What an event of the task finds of files and instances: of most tasks nothing is asked, so it may be this.
+-- What an event of the task finds of files and instances. As yet it may be anything: no task of these kinds reads them.
 abbrev pub around_at : {D : Type 0} → Task → Request → StoreValue D → Around → Around
 around_at task asked store around = around
 
--- The task answers by what the files of messages read: as yet none does.
+-- The task answers by what the files of messages read. As yet none does.
 abbrev pub AnswersByFiles : Task → Type 0
 AnswersByFiles task = ⊥
 
 -- ---- the clause
 
 -- Of every run that has come to the store, of any lists that it shows, and where the task stands, unless the store runs and a request
--- has taken the file that it finds; of lists for which the files are safe, if it answers by what they read. It is `Steps`, with the store and what its
--- disk tells.
+-- has taken the file that it finds; of lists for which the files are safe, if it answers by what they read. It is `Steps`, with the
+-- store and what its disk tells: as yet no task finds a file or answers by files, and these two premises say nothing.
 abbrev pub StepsTask : {D : Type 0} → Task → Task → StoreValue D → StoreValue D → Option History → Option History → Faults → Faults → Option Reply → Type 0
 StepsTask task next old new before after began now ended =
     (asked : Request) (around behind : Around) (run : Run) (lane place : ℕ) (said : List Reply) (lists : Lists) → HasComeTo run (seen_by_all old before began) → ShowsSeen (seen_by_all old before began) lists

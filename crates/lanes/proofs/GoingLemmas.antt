@@ -2,6 +2,7 @@
 use Rattle.std.proofs.Common.{◌≡◌, ◌<◌, ◌≤◌, ◌+◌, ℕ, zero, suc, Bool, true, false, List, [], ◌∷◌, map, slice_set, All, Option, Some, None, refl, sym, ◌∙◌, ap, subst, arith, inl, inr}
 use Rattle.std.specs.Prelude.{◌≢◌, ◌⊎◌, ◌++◌, is_some, length, slice_get, option_map}
 use Rattle.std.proofs.lemmas.Option.{slice_get-map}
+use Rattle.std.proofs.lemmas.List.{length-set}
 use Rattle.std.proofs.lemmas.List.Elements.{All-head, All-tail, All-nil}
 use Rattle.disk_model.specs.Disk.{History, Faults}
 use Rattle.mdbox_base.specs.declared.progress.Did.{Did}
@@ -258,6 +259,7 @@ going_on {D} start script run journal broken replies began rows k row now event 
   subst (λ (r : LaneRow). IsGoing start script then_run then_journal goes.0 (replies_behind (ended_by event.ended) event.place replies) began new after second (slice_set rows k r)) (sym g.now_is)
       (subst (λ (n : ℕ). IsGoing start script then_run then_journal goes.0 (replies_behind (ended_by event.ended) n replies) began new after second (slice_set rows k then)) (sym g.goes.place_is) (record {
         serving = serves_row start script then_run then_journal goes.0 (replies_behind (ended_by event.ended) g.queued.place replies) began (seen_by_all new after second) rows k row g.queued g.next new after (ended_by event.ended) there g.was are goes.1;
+        few = subst (λ (n : ℕ). n ≤ 64) (sym (length-set rows k then)) s.few;
         lanes = subst (λ (n : ℕ). All (λ (asked : ℕ × Request). (0 < asked.0) × (asked.0 ≤ n)) script) (sym (as_many rows k then)) s.lanes;
         waiting = all_waiting script rows k row then there (waiting_behind script (k + 1) (ended_by event.ended) (record g.queued { task = g.next }) row.waiting are) s.waiting;
         accounts = λ runs. accounts_row script rows k row now event old new before after first second there are runs g (s.accounts (ran runs));

@@ -1,5 +1,5 @@
 -- A script that lanes of tasks serve.
-use Rattle.std.specs.Prelude.{◌≡◌, ◌+◌, ◌∷◌, ℕ, false, List, [], All, map, slice_get, Option, Some}
+use Rattle.std.specs.Prelude.{◌≡◌, ◌≤◌, ◌+◌, ◌∷◌, ℕ, false, List, [], All, length, map, slice_get, Option, Some}
 use Rattle.disk_model.specs.Disk.{History, Faults, told_calls}
 use Rattle.mdbox_base.specs.declared.progress.Did.{Did}
 use Rattle.mdbox_base.specs.declared.progress.Did.TheVariants as did
@@ -31,12 +31,13 @@ WaitsWithTask script lane queued = (asked : Request) × (slice_get script queued
 abbrev pub AreWaiting : Requests → ℕ → List Queued → Type 0
 AreWaiting script lane waiting = All (WaitsWithTask script lane) waiting
 
--- A script is being served by lanes, from these lists and from a store as it was seen then, by the events of this run: with this
--- journal, these broken steps and these replies so far, each lane's request in turn stands where its task does, those behind it begin;
--- and unless the store is stopped, the lanes account for it.
+-- A script is being served by lanes, of which there are 64 at most, from these lists and from a store as it was seen then, by the
+-- events of this run: with this journal, these broken steps and these replies so far, each lane's request in turn stands where its task
+-- does, those behind it begin; and unless the store is stopped, the lanes account for it.
 pub record IsGoing {D : Type 0} (start : Lists) (script : Requests) (run : Run) (journal : List JournalStep) (broken : Broken) (replies : List (Option Reply)) (began : Seen) (store : StoreValue D) (history : Option History) (faults : Faults) (rows : List LaneRow) : Type 0 where
   pub serving : IsServing (stands_in store history) start script run journal broken replies began (seen_by_all store history faults) (lanes_of rows)
   pub lanes : HaveLanes script (lanes_of rows)
+  pub few : length rows ≤ 64
   pub waiting : (k : ℕ) (row : LaneRow) → slice_get rows k ≡ Some row → AreWaiting script (k + 1) row.waiting
   pub accounts : store.stopped ≡ false → LanesAccount claims_at IsReadyTask store history (lanes_of rows)
 
