@@ -14,11 +14,11 @@ use Rattle.journal.specs.Events.{Around}
 use Rattle.journal.specs.GoesOn.{RepliesAlso}
 use Rattle.journal.specs.Journal.{Requests, JournalStep, Broken, HasReply, left_by}
 use Rattle.journal.proofs.FaultLemmas.{faults_have_events}
-use Rattle.task_steps.specs.Step.{Seen, DidEvent, Steps, and_told}
+use Rattle.task_steps.specs.Step.{Seen, DidEvent, and_told}
 use Rattle.task_steps.proofs.FollowingLemmas.{follows_on, replies_on, replies_stay, told_on}
 use Rattle.task_steps.proofs.GoingLemmas.{serves_on}
 use Rattle.task_steps.proofs.ReplyingLemmas.{reply_on}
-use Rattle.serving.specs.Lanes.{IsWaiting, LaneStands, LaneValue, lane_behind, replies_behind, said_by}
+use Rattle.serving.specs.Lanes.{IsWaiting, LaneValue, lane_behind, replies_behind, said_by}
 use Rattle.serving.specs.Standing.{OthersStandOn}
 use Rattle.serving.specs.Serving.{AreIdle, HaveLanes, IsServing}
 use Rattle.serving.proofs.LaneLemmas.{first_turn, get_set_other, get_set_same, journal_behind, lanes_on, none_earlier, one_some, own_done, own_more}
@@ -92,17 +92,6 @@ lane_goes_on Was Is start script run journal broken replies began now new lanes 
     serving_more Was Is start script run journal broken replies began now new lanes k place rest value request next around after how s stays there queue asked d (stands refl)
 lane_goes_on Was Is start script run journal broken replies began now new lanes k place rest value request next around after how (Some given) s stays there queue asked d stands =
     serving_done Was Is start script run journal broken replies began now new lanes k place rest value request next around after how given s stays there queue asked d
-
--- The step of a task, which goes on or answers its request.
-pub lane_serves : {T : Type 0} → (Was Is : T → Request → Run → ℕ → List Reply → Type 0) (start : Lists) (script : Requests) (run : Run) (journal : List JournalStep) (broken : Broken) (replies : List (Option Reply))
-    (began now new : Seen) (lanes : List (LaneValue T)) (k place : ℕ) (rest : List ℕ) (value : LaneValue T) (request : Request) (next : T) (around after : Around) (how : Did) (ended : Option Reply)
-    → IsServing Was start script run journal broken replies began now lanes → OthersStandOn Was Is lanes k → slice_get lanes k ≡ Some value → value.queue ≡ place ∷ rest → slice_get script place ≡ Some (k + 1, request) → Steps (LaneStands Was value.task request) (Is next request) around after request now new how ended
-    → (then : Run) × (steps : List JournalStep) × (failed : Broken) × IsServing Is start script then steps failed (replies_behind ended place replies) began new (slice_set lanes k (lane_behind ended next value))
-lane_serves Was Is start script run journal broken replies began now new lanes k place rest value request next around after how ended s stays there queue asked steps =
-    let first = first_turn Was script run journal replies (k + 1) place rest value request (s.lanes_at k value there) queue asked in
-    let did = steps run (k + 1) place (said_by journal place) (left_by start journal) s.serves.come s.serves.shown first.1 in
-    let r = lane_goes_on Was Is start script run journal broken replies began now new lanes k place rest value request next around after how ended s stays there queue asked did.0 did.1 in
-    (and_then run did.0.makes.event, journal_behind run request journal did.0.makes.event did.0.makes.answer did.0.left, r.0, r.1)
 
 -- ---- the end
 

@@ -10,14 +10,13 @@ ghost use Rattle.journal.specs.Events.{Around};
 ghost use Rattle.journal.specs.Found.{is_taken};
 ghost use Rattle.journal.specs.Journal.{Requests, JournalStep, Broken, HasReply, left_by, no_broken};
 ghost use Rattle.journal.specs.Makes.{steps_made};
-ghost use Rattle.journal.specs.Stages.{Stage};
 ghost use Rattle.store_core.specs.Value.{StoreValue};
 ghost use Rattle.task_claims.specs.Claims.{AddsUp, AreIn, Claims, HasNoTask, MovesClaims};
 ghost use Rattle.task_claims.specs.Leaving.{LeavesOthers};
 ghost use Rattle.task_steps.specs.Serves.{IsTurn};
-ghost use Rattle.task_steps.specs.Step.{Seen, HasComeTo, ShowsSeen, DidEvent, IsKept, Steps, and_told};
-ghost use Rattle.serving.specs.Lanes.{AreFresh, LaneStands, LaneValue, lane_behind, replies_behind, said_by};
-ghost use Rattle.serving.specs.OwnWork.{HasWorked, IsExpunging, OwnWork};
+ghost use Rattle.task_steps.specs.Step.{Seen, HasComeTo, ShowsSeen, DidEvent, and_told};
+ghost use Rattle.serving.specs.Lanes.{AreFresh, LaneValue, lane_behind, replies_behind, said_by};
+ghost use Rattle.serving.specs.OwnWork.{HasWorked, OwnWork};
 ghost use Rattle.serving.specs.Serving.{AreIdle, HaveLanes, IsServing, unreplied};
 ghost use Rattle.serving.specs.Accounts.{lane_claims};
 ghost use Rattle.serving.specs.OwnClaims.{AreAccounted, own_claims};
@@ -71,16 +70,6 @@ pub fn turns_pass()
 pub fn requests_take_turns()
     ensures { (script : Requests) (journal : List JournalStep) (replies after : List (Option Reply)) (lane place next : ℕ) (request following : Request) → IsTurn script journal replies lane place request → place < next → slice_get script next ≡ Some (lane, following)
         → ((j : ℕ) → place ≢ j → slice_get after j ≡ slice_get replies j) → IsTurn script journal after lane next following }
-{}
-
-/// Lanes of expunges: a step that does as the clause of a step says, from where the lane stands to the next stage, is the lane's next
-/// event, whatever other lanes there are.
-pub fn expunges_are_served()
-    ensures kept { (stage : Stage) (request : Request) → IsKept (IsExpunging stage request) }
-    ensures serves { (start : Lists) (script : Requests) (run : Run) (journal : List JournalStep) (broken : Broken) (replies : List (Option Reply)) (began now new : Seen) (lanes : List (LaneValue Stage)) (k place : ℕ) (rest : List ℕ) (value : LaneValue Stage) (request : Request) (next : Stage) (around after : Around) (how : Did) (ended : Option Reply)
-        → IsServing IsExpunging start script run journal broken replies began now lanes → slice_get lanes k ≡ Some value → value.queue ≡ place ∷ rest → slice_get script place ≡ Some (k + 1, request)
-        → Steps (LaneStands IsExpunging value.task request) (IsExpunging next request) around after request now new how ended
-        → (then : Run) × (steps : List JournalStep) × (failed : Broken) × IsServing IsExpunging start script then steps failed (replies_behind ended place replies) began new (slice_set lanes k (lane_behind ended next value)) }
 {}
 
 /// A storage file that the run calls taken is in use: where each task claims the files that its request's events took and haven't given
