@@ -1,6 +1,6 @@
 -- A script that is being served goes on by one event, until every request has its reply, whatever tasks its lanes have.
 use Rattle.std.proofs.Common.{◌≡◌, ◌<◌, ◌≤◌, ◌+◌, ◌-◌, ◌==◌, ℕ, zero, suc, true, false, List, [], ◌∷◌, slice_set, Option, Some, None, refl, sym, ◌∙◌, ap, subst, arith, inl, inr}
-use Rattle.std.specs.Prelude.{◌⊎◌, All, length, slice_get}
+use Rattle.std.specs.Prelude.{◌⊎◌, All, Contains, length, slice_get}
 use Rattle.std.proofs.lemmas.Grind.{common_steps}
 use Rattle.std.proofs.lemmas.Option.{slice_get_within}
 use Rattle.std.proofs.lemmas.List.{length-set}
@@ -18,10 +18,10 @@ use Rattle.task_steps.specs.Step.{Seen, DidEvent, and_told}
 use Rattle.task_steps.proofs.FollowingLemmas.{follows_on, replies_on, replies_stay, told_on}
 use Rattle.task_steps.proofs.GoingLemmas.{serves_on}
 use Rattle.task_steps.proofs.ReplyingLemmas.{reply_on}
-use Rattle.serving.specs.Lanes.{IsWaiting, LaneValue, lane_behind, replies_behind, said_by}
+use Rattle.serving.specs.Lanes.{LaneValue, lane_behind, replies_behind, said_by}
 use Rattle.serving.specs.Standing.{OthersStandOn}
 use Rattle.serving.specs.Serving.{AreIdle, HaveLanes, IsServing}
-use Rattle.serving.proofs.LaneLemmas.{first_turn, get_set_other, get_set_same, journal_behind, lanes_on, none_earlier, one_some, own_done, own_more}
+use Rattle.serving.proofs.LaneLemmas.{first_turn, get_set_other, get_set_same, journal_behind, lanes_on, none_earlier, none_waits, one_some, own_done, own_more}
 
 -- The event of a lane whose request goes on.
 pub serving_more : {T : Type 0} → (Was Is : T → Request → Run → ℕ → List Reply → Type 0) (start : Lists) (script : Requests) (run : Run) (journal : List JournalStep) (broken : Broken) (replies : List (Option Reply))
@@ -116,8 +116,8 @@ all_replied At start script run journal broken replies began now lanes s have id
     let lane = some_at lanes (asked.0.0 - 1) (omega (arith, low, high)) in
     let none = all_at (λ (value : LaneValue _). value.queue ≡ []) lanes (asked.0.0 - 1) lane.0 idle lane.1 in
     let each = (s.lanes_at (asked.0.0 - 1) lane.0 lane.1).each i asked.0 asked.1 (omega (arith, low)) in
-    by_case (subst (λ (ps : List ℕ). IsWaiting i ps ⊎ ((r : Reply) × HasReply replies i r)) none each)
+    by_case (subst (λ (ps : List ℕ). Contains ps i ⊎ ((r : Reply) × HasReply replies i r)) none each)
   where
-    by_case : IsWaiting i [] ⊎ ((r : Reply) × HasReply replies i r) → (given : Reply) × HasReply replies i given × (reply_of i run ≡ Some given)
-    by_case (inl is) = absurd is
+    by_case : Contains [] i ⊎ ((r : Reply) × HasReply replies i r) → (given : Reply) × HasReply replies i given × (reply_of i run ≡ Some given)
+    by_case (inl is) = absurd (none_waits i is)
     by_case (inr h) = (h.0, h.1, one_some (reply_of i run) (Some h.0) (sym (s.given.1 i within) ∙ h.1))
