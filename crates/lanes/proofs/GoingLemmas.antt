@@ -88,7 +88,7 @@ next_waiting script lane (next ∷ rest) are = All-tail (WaitsWithTask script la
 
 -- ---- the request in turn
 
-queue_is : (row : LaneRow) (first : Queued) → row.current ≡ Some first → queue_in row ≡ first.place ∷ map (λ (q : Queued). q.place) row.waiting
+pub queue_is : (row : LaneRow) (first : Queued) → row.current ≡ Some first → queue_in row ≡ first.place ∷ map (λ (q : Queued). q.place) row.waiting
 queue_is row first was = ap (λ (o : Option Queued). queue_in (record row { current = o })) was
 
 task_is : (row : LaneRow) (first : Queued) → row.current ≡ Some first → option_map (λ (q : Queued). q.task) row.current ≡ Some first.task

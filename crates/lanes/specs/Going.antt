@@ -10,13 +10,14 @@ use Rattle.model_lists.specs.Lists.{Lists}
 use Rattle.list_machine.specs.Run.{Run, RunEvent}
 use Rattle.journal.specs.Journal.{Broken, JournalStep, Requests}
 use Rattle.serving.specs.Accounts.{LanesAccount}
+use Rattle.serving.specs.Lanes.{queue_of}
 use Rattle.serving.specs.Serving.{HaveLanes, IsServing}
 use Rattle.store_core.specs.Value.{StoreValue}
 use Rattle.task_steps.specs.Step.{Seen, ended_by}
 use Rattle.lane_tasks.specs.Clause.{seen_by_all}
 use Rattle.lane_tasks.specs.Tasks.{BeginsTask, IsReadyTask, StandsTask, claims_at}
 use Rattle.lane_tasks.specs.declared.task.Task.{Task}
-use Rattle.lanes.specs.Rows.{LaneRow, lanes_of}
+use Rattle.lanes.specs.Rows.{LaneRow, lanes_of, queue_in}
 use Rattle.lanes.specs.declared.lane.LaneEvent.{LaneEvent}
 use Rattle.lanes.specs.declared.lane.Queued.{Queued}
 
@@ -56,3 +57,14 @@ pub record AddsEvent (lane : ℕ) (event : LaneEvent) (history : Option History)
   pub reply_is : added.reply ≡ ended_by event.ended
   pub moment_is : added.moment ≡ told_calls history
   pub halves_are : map (λ step. step.half) steps ≡ halves_told event.did
+
+-- ---- how lanes begin
+
+-- A lane begins with all its requests of the script, in order, each with the task with which it begins.
+pub record IsFreshRow (script : Requests) (lane : ℕ) (row : LaneRow) : Type 0 where
+  pub all : queue_in row ≡ queue_of lane 0 script
+  pub first : (queued : Queued) → row.current ≡ Some queued → WaitsWithTask script lane queued
+  pub behind : AreWaiting script lane row.waiting
+
+abbrev pub AreFreshRows : Requests → List LaneRow → Type 0
+AreFreshRows script rows = (k : ℕ) (row : LaneRow) → slice_get rows k ≡ Some row → IsFreshRow script (k + 1) row
