@@ -1,6 +1,5 @@
 // A script that lanes serve, event by event.
 ghost use Rattle.std.specs.Prelude.{◌≡◌, ◌≢◌, ◌<◌, ◌≤◌, ◌+◌, ◌++◌, ◌∷◌, [], true, false, ℕ, Bool, List, length, map, slice_get, slice_set, Option, Some, None};
-ghost use Rattle.disk_model.specs.Disk.{History};
 ghost use Rattle.mdbox_base.specs.declared.progress.Did.{Did};
 ghost use Rattle.mdbox_base.specs.declared.replies.Reply.{Reply};
 ghost use Rattle.mdbox_base.specs.declared.requests.Request.{Request};
@@ -11,15 +10,13 @@ ghost use Rattle.journal.specs.Found.{is_taken};
 ghost use Rattle.journal.specs.Journal.{Requests, JournalStep, Broken, HasReply, left_by, no_broken};
 ghost use Rattle.journal.specs.Makes.{steps_made};
 ghost use Rattle.store_core.specs.Value.{StoreValue};
-ghost use Rattle.task_claims.specs.Claims.{AddsUp, AreIn, Claims, HasNoTask, MovesClaims};
-ghost use Rattle.task_claims.specs.Leaving.{LeavesOthers};
+ghost use Rattle.task_claims.specs.Claims.{AddsUp, Claims};
 ghost use Rattle.task_steps.specs.Serves.{IsTurn};
 ghost use Rattle.task_steps.specs.Step.{Seen, HasComeTo, ShowsSeen, DidEvent, and_told};
 ghost use Rattle.serving.specs.Lanes.{AreFresh, LaneValue, lane_behind, replies_behind, said_by};
 ghost use Rattle.serving.specs.OwnWork.{HasWorked, OwnWork};
 ghost use Rattle.serving.specs.Serving.{AreIdle, HaveLanes, IsServing, unreplied};
 ghost use Rattle.serving.specs.Accounts.{lane_claims};
-ghost use Rattle.serving.specs.OwnClaims.{AreAccounted, own_claims};
 ghost use Rattle.serving.specs.Taken.{ClaimsTaken, IsInUse};
 ghost use Rattle.serving.specs.Turns.{IsTraceOf, LaneTurn, lanes_worked};
 
@@ -77,12 +74,4 @@ pub fn requests_take_turns()
 pub fn taken_files_are_in_use<D>()
     ensures { (claims : OwnWork → Claims) (start : Lists) (script : Requests) (run : Run) (journal : List JournalStep) (broken : Broken) (replies : List (Option Reply)) (began now : Seen) (lanes : List (LaneValue OwnWork)) (store : StoreValue D) (file : ℕ) → IsServing HasWorked start script run journal broken replies began now lanes → HaveLanes script lanes
         → AddsUp store (map (lane_claims claims) lanes) → ((work : OwnWork) → ClaimsTaken work.events (claims work)) → 1 ≤ file → is_taken run file ≡ true → IsInUse store file }
-{}
-
-/// Lanes account for a store: for one of which no task claims anything, as long as no lane has a task; and behind an event of a lane's
-/// task that moves only its own claims and leaves to the others what is theirs. Here of tasks that are known by what they claim.
-pub fn lanes_account<D>()
-    ensures fresh { (lanes : List (LaneValue Claims)) (store : StoreValue D) (history : Option History) → HasNoTask store → ((k : ℕ) (value : LaneValue Claims) → slice_get lanes k ≡ Some value → value.task ≡ None) → AreAccounted store history lanes }
-    ensures on { (lanes : List (LaneValue Claims)) (k : ℕ) (value now : LaneValue Claims) (old new : StoreValue D) (before after : Option History) → slice_get lanes k ≡ Some value → MovesClaims (lane_claims own_claims value) (lane_claims own_claims now) old new → LeavesOthers (lane_claims own_claims value) old new before after
-        → AreAccounted old before lanes → AreIn new (lane_claims own_claims now) → AreAccounted new after (slice_set lanes k now) }
 {}

@@ -2,7 +2,7 @@
 #![tactic(auto)]
 
 pub use laws::{
-    all_replied, lanes_account, requests_take_turns, serving_done, serving_more, serving_start,
+    all_replied, requests_take_turns, serving_done, serving_more, serving_start,
     taken_files_are_in_use, turns_pass,
 };
 
