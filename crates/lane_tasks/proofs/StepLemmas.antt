@@ -1,12 +1,12 @@
 -- The clause of a task's step, from that of its kind.
-use Rattle.std.proofs.Common.{◌≡◌, ℕ, List, [], Option, None, refl, sym, ◌∙◌, ap, subst}
+use Rattle.std.proofs.Common.{◌≡◌, ℕ, List, Option, refl, sym, ◌∙◌, ap, subst}
 use Rattle.disk_model.specs.Disk.{History, Faults}
 use Rattle.mdbox_base.specs.declared.ids.Uid.{Uid}
 use Rattle.mdbox_base.specs.declared.progress.Did.{Did}
 use Rattle.mdbox_base.specs.declared.replies.Reply.{Reply}
 use Rattle.mdbox_base.specs.declared.requests.Request.{Request}
 use Rattle.mdbox_base.specs.declared.requests.Request.TheVariants as request
-use Rattle.list_machine.specs.Run.{Run, RunEvent}
+use Rattle.list_machine.specs.Run.{Run}
 use Rattle.journal.specs.Events.{Around, DidPart}
 use Rattle.storage_files.specs.Files.{FilesValue, pins_in}
 use Rattle.store_core.specs.Keeping.{KeepsRest}
