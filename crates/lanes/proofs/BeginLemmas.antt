@@ -22,7 +22,7 @@ use Rattle.serving.specs.Serving.{HaveLanes, IsServing, unreplied}
 use Rattle.serving.proofs.LaneLemmas.{one_some}
 use Rattle.serving.proofs.StartLemmas.{serving_start}
 use Rattle.serving.proofs.TakeUpLemmas.{TakesUp, lane_taken_up}
-use Rattle.lane_tasks.specs.Clause.{seen_by_all}
+use Rattle.mail_fetch.specs.Task.{seen_in}
 use Rattle.lane_tasks.specs.Tasks.{BeginsTask, IsReadyTask, claims_at}
 use Rattle.lane_tasks.specs.declared.task.Task.{Task}
 use Rattle.lane_tasks.proofs.StandLemmas.{begins_ready, begins_standing, begins_unclaimed}
@@ -34,7 +34,7 @@ use Rattle.lanes.proofs.GoingLemmas.{queue_is}
 -- ---- the store
 
 -- its run has come to it, also as all tasks see it, since nothing is pinned
-seen_come : {D : Type 0} → (run : Run) (store : StoreValue D) (history : Option History) (faults : Faults) → IsAtOpening run store → HasCome run store.map store.drawn (told_calls history) → HasNoTask store → HasComeTo run (seen_by_all store history faults)
+seen_come : {D : Type 0} → (run : Run) (store : StoreValue D) (history : Option History) (faults : Faults) → IsAtOpening run store → HasCome run store.map store.drawn (told_calls history) → HasNoTask store → HasComeTo run (seen_in store history faults)
 seen_come {D} run store history faults at come none = record {
   come = first.come;
   keeps = λ runs. record {
@@ -103,8 +103,8 @@ lane_begins {D} script run k row store history fresh at = by_current row.current
 
 -- ---- all lanes
 
-serving_begins : {D : Type 0} → (start : Lists) (script : Requests) (run : Run) (rows : List LaneRow) (store : StoreValue D) (history : Option History) (faults : Faults) → run.events ≡ [] → HasComeTo run (seen_by_all store history faults) → ShowsSeen (seen_by_all store history faults) start → store.stopped ≡ false → AreFreshRows script rows
-    → IsServing (stands_in store history) start script run [] no_broken (unreplied script) (seen_by_all store history faults) (seen_by_all store history faults) (lanes_of rows)
+serving_begins : {D : Type 0} → (start : Lists) (script : Requests) (run : Run) (rows : List LaneRow) (store : StoreValue D) (history : Option History) (faults : Faults) → run.events ≡ [] → HasComeTo run (seen_in store history faults) → ShowsSeen (seen_in store history faults) start → store.stopped ≡ false → AreFreshRows script rows
+    → IsServing (stands_in store history) start script run [] no_broken (unreplied script) (seen_in store history faults) (seen_in store history faults) (lanes_of rows)
 serving_begins {D} start script run rows store history faults empty come shows runs fresh = record {
   serves = s.serves;
   follows = s.follows;
@@ -119,8 +119,8 @@ serving_begins {D} start script run rows store history faults empty come shows r
     all_fresh : AreFresh script (map untaken rows)
     all_fresh k value there = let r = row_of untaken rows k value there in sym r.2 ∙ ap (λ (q : List ℕ). record (untaken r.0) { queue = q }) (fresh k r.0 r.1).all
 
-    s : IsServing (stands_in store history) start script run [] no_broken (unreplied script) (seen_by_all store history faults) (seen_by_all store history faults) (map untaken rows)
-    s = serving_start (stands_in store history) start script run (seen_by_all store history faults) (map untaken rows) empty come shows runs all_fresh
+    s : IsServing (stands_in store history) start script run [] no_broken (unreplied script) (seen_in store history faults) (seen_in store history faults) (map untaken rows)
+    s = serving_start (stands_in store history) start script run (seen_in store history faults) (map untaken rows) empty come shows runs all_fresh
 
 none_in_all : {T : Type 0} → (claims : T → Claims) (lanes : List (LaneValue T)) (thing : Thing) → ((k : ℕ) (value : LaneValue T) → slice_get lanes k ≡ Some value → ClaimsNothing (lane_claims claims value)) → 0 ≡ total_claims (map (lane_claims claims) lanes) thing
 none_in_all claims [] thing none = refl
@@ -130,8 +130,8 @@ none_in_all claims (a ∷ more) thing none =
     let s = sum_by-cons (λ (c : Claims). c thing) (lane_claims claims a) (map (lane_claims claims) more) in
     omega (arith, first, rest, s)
 
-pub all_begin : {D : Type 0} → (start : Lists) (script : Requests) (run : Run) (rows : List LaneRow) (store : StoreValue D) (history : Option History) (faults : Faults) → IsAtOpening run store → HasCome run store.map store.drawn (told_calls history) → HasNoTask store → store.stopped ≡ false → ShowsSeen (seen_by_all store history faults) start
-    → AreFreshRows script rows → HaveLanes script (lanes_of rows) → length rows ≤ 64 → IsGoing start script run [] no_broken (unreplied script) (seen_by_all store history faults) store history faults rows
+pub all_begin : {D : Type 0} → (start : Lists) (script : Requests) (run : Run) (rows : List LaneRow) (store : StoreValue D) (history : Option History) (faults : Faults) → IsAtOpening run store → HasCome run store.map store.drawn (told_calls history) → HasNoTask store → store.stopped ≡ false → ShowsSeen (seen_in store history faults) start
+    → AreFreshRows script rows → HaveLanes script (lanes_of rows) → length rows ≤ 64 → IsGoing start script run [] no_broken (unreplied script) (seen_in store history faults) store history faults rows
 all_begin {D} start script run rows store history faults at come none runs shows fresh lanes few = record {
   serving = serving_begins start script run rows store history faults at.empty (seen_come run store history faults at come none) shows runs fresh;
   lanes = lanes;

@@ -31,7 +31,8 @@ use Rattle.task_claims.specs.Leaving.{LeavesOthers}
 use Rattle.task_steps.specs.Serves.{IsTurn}
 use Rattle.task_steps.specs.Step.{DidEvent, FindsRoom, Seen, Went, and_told, ended_by}
 use Rattle.mail_fetch.specs.Clause.{ReadsSafe}
-use Rattle.lane_tasks.specs.Clause.{AnswersByFiles, PassesBy, around_at, seen_by_all}
+use Rattle.mail_fetch.specs.Task.{seen_in}
+use Rattle.lane_tasks.specs.Clause.{AnswersByFiles, PassesBy, around_at}
 use Rattle.lane_tasks.specs.Tasks.{BeginsTask, IsReadyTask, StandsTask, claims_at, did_of}
 use Rattle.lane_tasks.specs.declared.task.Task.{Task}
 use Rattle.lane_tasks.proofs.StandLemmas.{begins_ready, begins_standing, begins_unclaimed, task_stable, task_stands}
@@ -254,11 +255,11 @@ going_on {D} start script run journal broken replies began rows k row now event 
     request_is = d.0.makes.request_is ∙ sym g.goes.place_is;
     reply_is = d.0.makes.ended_is;
     moment_is = d.0.makes.moment_is;
-    halves_are = halves_made (did_of g.next) turn.0 run (left_by start journal) d.0.left d.0.makes.event d.0.makes.answer (seen_by_all old before first) (seen_by_all new after second) d.0.went ∙ ap halves_told (sym g.goes.did_is);
+    halves_are = halves_made (did_of g.next) turn.0 run (left_by start journal) d.0.left d.0.makes.event d.0.makes.answer (seen_in old before first) (seen_in new after second) d.0.went ∙ ap halves_told (sym g.goes.did_is);
   },
   subst (λ (r : LaneRow). IsGoing start script then_run then_journal goes.0 (replies_behind (ended_by event.ended) event.place replies) began new after second (slice_set rows k r)) (sym g.now_is)
       (subst (λ (n : ℕ). IsGoing start script then_run then_journal goes.0 (replies_behind (ended_by event.ended) n replies) began new after second (slice_set rows k then)) (sym g.goes.place_is) (record {
-        serving = serves_row start script then_run then_journal goes.0 (replies_behind (ended_by event.ended) g.queued.place replies) began (seen_by_all new after second) rows k row g.queued g.next new after (ended_by event.ended) there g.was are goes.1;
+        serving = serves_row start script then_run then_journal goes.0 (replies_behind (ended_by event.ended) g.queued.place replies) began (seen_in new after second) rows k row g.queued g.next new after (ended_by event.ended) there g.was are goes.1;
         few = subst (λ (n : ℕ). n ≤ 64) (sym (length-set rows k then)) s.few;
         lanes = subst (λ (n : ℕ). All (λ (asked : ℕ × Request). (0 < asked.0) × (asked.0 ≤ n)) script) (sym (as_many rows k then)) s.lanes;
         waiting = all_waiting script rows k row then there (waiting_behind script (k + 1) (ended_by event.ended) (record g.queued { task = g.next }) row.waiting are) s.waiting;
@@ -273,9 +274,9 @@ going_on {D} start script run journal broken replies began rows k row now event 
     are = s.waiting k row there
 
     turn : (request : Request) × IsTurn script journal replies (k + 1) g.queued.place request × StandsTask g.queued.task old before request run g.queued.place (said_by journal g.queued.place)
-    turn = in_turn start script run journal broken replies began (seen_by_all old before first) rows k row g.queued old before there g.was s.serving
+    turn = in_turn start script run journal broken replies began (seen_in old before first) rows k row g.queued old before there g.was s.serving
 
-    d : (d : DidEvent nothing_around nothing_around run (k + 1) g.queued.place (said_by journal g.queued.place) turn.0 (left_by start journal) (seen_by_all old before first) (seen_by_all new after second) (did_of g.next) (ended_by event.ended))
+    d : (d : DidEvent nothing_around nothing_around run (k + 1) g.queued.place (said_by journal g.queued.place) turn.0 (left_by start journal) (seen_in old before first) (seen_in new after second) (did_of g.next) (ended_by event.ended))
         × (ended_by event.ended ≡ None → StandsTask g.next new after turn.0 (and_then run d.makes.event) g.queued.place (and_told (said_by journal g.queued.place) d.makes.answer))
     d = g.goes.steps turn.0 nothing_around nothing_around run (k + 1) g.queued.place (said_by journal g.queued.place) (left_by start journal) s.serving.serves.come s.serving.serves.shown (λ runs. finds_room g.queued.task turn.0 old run) (λ by_files runs. reads_safe g.queued.task (left_by start journal) before by_files) turn.2
 
@@ -286,8 +287,8 @@ going_on {D} start script run journal broken replies began rows k row now event 
     then_journal = journal_behind run turn.0 journal d.0.makes.event d.0.makes.answer d.0.left
 
     ran : new.stopped ≡ false → old.stopped ≡ false
-    ran = ran_before (seen_by_all old before first) (seen_by_all new after second) d.0.ends.still
+    ran = ran_before (seen_in old before first) (seen_in new after second) d.0.ends.still
 
-    goes : (failed : Broken) × IsServing (stands_in new after) start script then_run then_journal failed (replies_behind (ended_by event.ended) g.queued.place replies) began (seen_by_all new after second) (slice_set (lanes_of rows) k (lane_behind (ended_by event.ended) g.next (lane_value row)))
-    goes = lane_goes_on (stands_in old before) (stands_in new after) start script run journal broken replies began (seen_by_all old before first) (seen_by_all new after second) (lanes_of rows) k g.queued.place (map (λ (q : Queued). q.place) row.waiting) (lane_value row) turn.0 g.next nothing_around nothing_around (did_of g.next) (ended_by event.ended)
+    goes : (failed : Broken) × IsServing (stands_in new after) start script then_run then_journal failed (replies_behind (ended_by event.ended) g.queued.place replies) began (seen_in new after second) (slice_set (lanes_of rows) k (lane_behind (ended_by event.ended) g.next (lane_value row)))
+    goes = lane_goes_on (stands_in old before) (stands_in new after) start script run journal broken replies began (seen_in old before first) (seen_in new after second) (lanes_of rows) k g.queued.place (map (λ (q : Queued). q.place) row.waiting) (lane_value row) turn.0 g.next nothing_around nothing_around (did_of g.next) (ended_by event.ended)
         s.serving (others_stand rows k row g.queued g.next old new before after there g.was ran g.goes.claims g.goes.leaves s.accounts) (value_at rows k row there) (queue_is row g.queued g.was) turn.1.asked d.0 d.1

@@ -14,7 +14,7 @@ use Rattle.serving.specs.Lanes.{queue_of}
 use Rattle.serving.specs.Serving.{HaveLanes, IsServing}
 use Rattle.store_core.specs.Value.{StoreValue}
 use Rattle.task_steps.specs.Step.{Seen, ended_by}
-use Rattle.lane_tasks.specs.Clause.{seen_by_all}
+use Rattle.mail_fetch.specs.Task.{seen_in}
 use Rattle.lane_tasks.specs.Tasks.{BeginsTask, IsReadyTask, StandsTask, claims_at}
 use Rattle.lane_tasks.specs.declared.task.Task.{Task}
 use Rattle.lanes.specs.Rows.{LaneRow, lanes_of, queue_in}
@@ -36,7 +36,7 @@ AreWaiting script lane waiting = All (WaitsWithTask script lane) waiting
 -- events of this run: with this journal, these broken steps and these replies so far, each lane's request in turn stands where its task
 -- does, those behind it begin; and unless the store is stopped, the lanes account for it.
 pub record IsGoing {D : Type 0} (start : Lists) (script : Requests) (run : Run) (journal : List JournalStep) (broken : Broken) (replies : List (Option Reply)) (began : Seen) (store : StoreValue D) (history : Option History) (faults : Faults) (rows : List LaneRow) : Type 0 where
-  pub serving : IsServing (stands_in store history) start script run journal broken replies began (seen_by_all store history faults) (lanes_of rows)
+  pub serving : IsServing (stands_in store history) start script run journal broken replies began (seen_in store history faults) (lanes_of rows)
   pub lanes : HaveLanes script (lanes_of rows)
   pub few : length rows ≤ 64
   pub waiting : (k : ℕ) (row : LaneRow) → slice_get rows k ≡ Some row → AreWaiting script (k + 1) row.waiting

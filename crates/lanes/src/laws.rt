@@ -12,7 +12,7 @@ ghost use Rattle.store_core.specs.Value.{StoreValue};
 ghost use Rattle.store_seen.specs.Seeing.{IsAtOpening};
 ghost use Rattle.task_claims.specs.Claims.{HasNoTask};
 ghost use Rattle.task_steps.specs.Step.{Seen, ShowsSeen, ended_by};
-ghost use Rattle.lane_tasks.specs.Clause.{seen_by_all};
+ghost use Rattle.mail_fetch.specs.Task.{seen_in};
 ghost use Rattle.lanes.specs.Going.{AddsEvent, AreFreshRows, IsGoing};
 ghost use Rattle.lanes.specs.Rows.{LaneRow, RowGoesOn, lanes_of};
 ghost use Rattle.lanes.specs.declared.lane.LaneEvent.{LaneEvent};
@@ -22,8 +22,8 @@ use disk_model::Disk;
 /// Lanes begin to serve a script over a store that was opened, and that no task has claimed anything of: each with all its requests, and
 /// with the tasks with which these begin.
 pub fn lanes_begin<D: Disk>()
-    ensures { (start : Lists) (script : Requests) (run : Run) (rows : List LaneRow) (store : StoreValue D) (history : Option History) (faults : Faults) → IsAtOpening run store → HasCome run store.map store.drawn (told_calls history) → HasNoTask store → store.stopped ≡ false → ShowsSeen (seen_by_all store history faults) start
-        → AreFreshRows script rows → HaveLanes script (lanes_of rows) → length rows ≤ 64 → IsGoing start script run [] no_broken (unreplied script) (seen_by_all store history faults) store history faults rows }
+    ensures { (start : Lists) (script : Requests) (run : Run) (rows : List LaneRow) (store : StoreValue D) (history : Option History) (faults : Faults) → IsAtOpening run store → HasCome run store.map store.drawn (told_calls history) → HasNoTask store → store.stopped ≡ false → ShowsSeen (seen_in store history faults) start
+        → AreFreshRows script rows → HaveLanes script (lanes_of rows) → length rows ≤ 64 → IsGoing start script run [] no_broken (unreplied script) (seen_in store history faults) store history faults rows }
 {}
 
 /// A script that lanes serve is served with an event more of any lane, whatever the other lanes do: the run and the journal go on with
