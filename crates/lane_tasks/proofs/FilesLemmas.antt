@@ -1,5 +1,5 @@
 -- Events of requests that read or change mailboxes take no storage file.
-use Rattle.std.proofs.Common.{◌≡◌, ◌==◌, ℕ, Bool, true, false, List, [], ◌∷◌, ◌++◌, Option, Some, None, refl, sym, ◌∙◌, ap, subst}
+use Rattle.std.proofs.Common.{◌≡◌, ◌==◌, ℕ, Bool, false, List, [], ◌∷◌, Option, Some, None, refl, sym, ◌∙◌, ap, subst}
 use Rattle.std.specs.Prelude.{◌≢◌, ◌&&◌, ◌||◌, All, is_none}
 use Rattle.std.specs.List.{list_any}
 use Rattle.std.proofs.lemmas.Bool.{eq-eqb, ne_eqb}
@@ -11,7 +11,7 @@ use Rattle.mdbox_base.specs.declared.requests.Request.TheVariants as request
 use Rattle.model_lists.specs.Lists.{ListedMessage, Lists}
 use Rattle.list_machine.specs.Machine.{message_at}
 use Rattle.list_machine.specs.Run.{EventPart, First, Last, SecondHalf, GivesBack, RunEvent, Run, TakenFile, and_then, own_events}
-use Rattle.journal.specs.Events.{Around, DidCopy, DidMake, DidPart, RemovesIfThere}
+use Rattle.journal.specs.Events.{Around, DidCopy, DidPart, RemovesIfThere}
 use Rattle.journal.specs.Found.{took_file}
 use Rattle.journal.proofs.OwnEventLemmas.{own_more, own_other}
 use Rattle.lane_tasks.specs.Tasks.{TookNoFile}

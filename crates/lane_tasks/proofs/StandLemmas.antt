@@ -1,6 +1,6 @@
 -- Where tasks begin, and that they stay where they stand, and ready, beside events of others.
-use Rattle.std.proofs.Common.{◌≡◌, ℕ, true, false, List, [], Option, None, refl, sym, ◌∙◌, ap, subst, arith, inl, inr}
-use Rattle.std.specs.Prelude.{◌≢◌, ◌⊎◌, ◌≤◌, All}
+use Rattle.std.proofs.Common.{◌≡◌, ℕ, true, false, List, [], Option, None, refl, sym, ◌∙◌, ap, subst, arith, inl}
+use Rattle.std.specs.Prelude.{◌≢◌, ◌⊎◌, ◌≤◌, All, if◌then◌else◌, nat_lt}
 use Rattle.std.specs.List.{list_any}
 use Rattle.std.proofs.lemmas.List.Elements.{All-nil}
 use Rattle.disk_model.specs.Disk.{History}
@@ -18,7 +18,7 @@ use Rattle.task_steps.proofs.SeenLemmas.{not_begun_stays}
 use Rattle.mail_ops.specs.Claims.{copy_claims, expunge_claims, make_claims, move_claims}
 use Rattle.mail_ops.specs.Copy.{IsAtCopy, IsReadyToCopy, copy_dues}
 use Rattle.mail_ops.specs.Expunging.{IsAtExpunge, expunge_amounts, expunge_dues}
-use Rattle.mail_ops.specs.Making.{IsAtMake, IsReadyToMake}
+use Rattle.mail_ops.specs.Making.{IsAtMake, IsReadyToMake, make_left}
 use Rattle.mail_ops.specs.Moving.{IsAtMove, IsReadyToMove, move_dues}
 use Rattle.mail_ops.specs.Owing.{AreDueIn}
 use Rattle.mail_ops.specs.Task.{IsAt}
@@ -39,7 +39,7 @@ use Rattle.mail_ops.proofs.MoveStepLemmas.{move_kept}
 use Rattle.mail_ops.proofs.StableLemmas.{copy_stable, expunge_stable, make_stable, move_stable}
 use Rattle.mail_ops.proofs.StageLemmas.{stages_kept}
 use Rattle.lane_tasks.specs.Clause.{PassesBy}
-use Rattle.lane_tasks.specs.Tasks.{BeginsTask, IsAtFirst, IsAtTask, IsReadyTask, StandsTask, TookNoFile, claims_at}
+use Rattle.lane_tasks.specs.Tasks.{BeginsTask, IsAtFirst, IsAtTask, IsReadyTask, StandsTask, TookNoFile, claims_at, work_left}
 use Rattle.lane_tasks.specs.declared.task.Task.{Task}
 use Rattle.lane_tasks.specs.declared.task.Task.TheVariants as task
 use Rattle.lane_tasks.proofs.FilesLemmas.{none_taken, took_none_other}
@@ -136,3 +136,17 @@ begins_standing asked t store history run place said b begun = record {
 
 pub no_file_taken : (claims : Claims) (run : Run) (place : ℕ) (file : ℕ) → TookNoFile run place → list_any (took_file file) (own_events place run) ≡ true → (1 ≤ claims (Taken file)) ⊎ (1 ≤ claims (Emptied file))
 no_file_taken claims run place file took is = absurd (let e : true ≡ false = sym is ∙ none_taken file (own_events place run) took in cc e)
+
+-- ---- the events that are still to come
+
+make_is_left : {D : Type 0} → (s : MakeStage) (old new : StoreValue D) → new.map.highest.mailbox ≡ old.map.highest.mailbox → make_left s new ≡ make_left s old
+make_is_left make_stage.First old new same = refl
+make_is_left (make_stage.Naming number) old new same = ap (λ (n : ℕ). if nat_lt n number.0 then 1 else 3) same
+
+pub work_is_left : {D : Type 0} → (t : Task) (old new : StoreValue D) → new.map.highest.mailbox ≡ old.map.highest.mailbox → work_left t new ≡ work_left t old
+work_is_left (task.Make t) old new same = make_is_left t.stage old new same
+work_is_left (task.Ops t) old new same = refl
+work_is_left (task.Counts t) old new same = refl
+work_is_left (task.Copy t) old new same = refl
+work_is_left (task.Move t) old new same = refl
+work_is_left (task.Expunge t) old new same = refl

@@ -1,12 +1,12 @@
 -- The clause of a task's step, from that of its kind.
-use Rattle.std.proofs.Common.{◌≡◌, ℕ, List, [], Option, None, refl, sym, ◌∙◌, ap, subst}
+use Rattle.std.proofs.Common.{◌≡◌, ℕ, List, Option, refl, sym, ◌∙◌, ap, subst}
 use Rattle.disk_model.specs.Disk.{History, Faults}
 use Rattle.mdbox_base.specs.declared.ids.Uid.{Uid}
 use Rattle.mdbox_base.specs.declared.progress.Did.{Did}
 use Rattle.mdbox_base.specs.declared.replies.Reply.{Reply}
 use Rattle.mdbox_base.specs.declared.requests.Request.{Request}
 use Rattle.mdbox_base.specs.declared.requests.Request.TheVariants as request
-use Rattle.list_machine.specs.Run.{Run, RunEvent}
+use Rattle.list_machine.specs.Run.{Run}
 use Rattle.journal.specs.Events.{Around, DidPart}
 use Rattle.storage_files.specs.Files.{FilesValue, pins_in}
 use Rattle.store_core.specs.Keeping.{KeepsRest}
@@ -19,7 +19,8 @@ use Rattle.mail_ops.specs.Making.{IsAtMake, KeepsAllButLogs, MakeValue}
 use Rattle.mail_ops.specs.Moving.{IsAtMove, MoveValue}
 use Rattle.mail_ops.specs.Requests.{IsOpsRequest, Replies}
 use Rattle.mail_ops.specs.Task.{IsAt, TaskValue}
-use Rattle.lane_tasks.specs.Clause.{StepsTask, seen_by_all}
+use Rattle.mail_fetch.specs.Task.{seen_in}
+use Rattle.lane_tasks.specs.Clause.{StepsTask}
 use Rattle.lane_tasks.specs.Tasks.{IsAtTask, IsTaskOf, did_of}
 use Rattle.lane_tasks.specs.declared.task.Task.{Task}
 use Rattle.lane_tasks.specs.declared.task.Task.TheVariants as task
@@ -32,11 +33,11 @@ pub steps_by : {D : Type 0} → (t next : Task) (q : Request) (old new : StoreVa
     → StepsTask t next old new before after began now ended
 steps_by t next q old new before after began now ended is none files steps asked around behind run lane place said lists come shown room reads stood =
     let same = (is asked stood.is_of).0 in
-    let seen : Steps (IsAtTask t old before q) (IsAtTask next new after q) around behind q (seen_by_all old before began) (seen_by_all new after now) (did_of next) ended =
-    subst (λ (kept : FilesValue). Steps (IsAtTask t old before q) (IsAtTask next new after q) around behind q (seen_by_all old before began) (seen_of (λ file. pins_in file kept.files) new after now) (did_of next) ended) (sym files)
+    let seen : Steps (IsAtTask t old before q) (IsAtTask next new after q) around behind q (seen_in old before began) (seen_in new after now) (did_of next) ended =
+    subst (λ (kept : FilesValue). Steps (IsAtTask t old before q) (IsAtTask next new after q) around behind q (seen_in old before began) (seen_of (λ file. pins_in file kept.files) new after now) (did_of next) ended) (sym files)
     (steps around behind (λ file. pins_in file old.files.files)) in
-    let does : Steps (IsAtTask t old before asked) (IsAtTask next new after asked) around behind asked (seen_by_all old before began) (seen_by_all new after now) (did_of next) ended =
-    subst (λ (k : Request). Steps (IsAtTask t old before k) (IsAtTask next new after k) around behind k (seen_by_all old before began) (seen_by_all new after now) (did_of next) ended) (sym same) seen in
+    let does : Steps (IsAtTask t old before asked) (IsAtTask next new after asked) around behind asked (seen_in old before began) (seen_in new after now) (did_of next) ended =
+    subst (λ (k : Request). Steps (IsAtTask t old before k) (IsAtTask next new after k) around behind k (seen_in old before began) (seen_in new after now) (did_of next) ended) (sym same) seen in
     let d = does run lane place said lists come shown stood.at in (
       d.0,
       λ more. record {

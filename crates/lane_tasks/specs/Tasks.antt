@@ -107,7 +107,7 @@ IsAtTask (task.Expunge t) store history asked run place said = IsAtExpunge t.sta
 abbrev pub TookNoFile : Run → ℕ → Type 0
 TookNoFile run place = All (λ event. event.refused ≡ None → event.files ≡ []) (own_events place run)
 
--- the files that it took: only a delivery takes some
+-- The files that it took. As yet no kind of task takes any.
 abbrev pub TookFiles : Task → Run → ℕ → Type 0
 TookFiles t run place = TookNoFile run place
 

@@ -53,10 +53,10 @@ impl Task {
 
     /// Does the next event. A task that has given its reply begins anew; one that was stopped stays where it was.
     pub fn step<D: Disk>(&mut self, store: &mut Store<D>) -> Progress
-        // Unless the store is stopped, it is ready for its event, and has room for it; and afterwards it is ready for the next.
+        // Unless the store is stopped, it is ready for its event, and has room for it; and if it goes on, it is ready for the next.
         requires ready { store.old.stopped ≡ false → IsReadyTask self.old store.old (D.history store.old.disk) }
         requires room { store.old.stopped ≡ false → HasTaskRoom self.old store.old }
-        ensures ready { store.new.stopped ≡ false → IsReadyTask self.new store.new (D.history store.new.disk) }
+        ensures ready { result ≡ progress.More → store.new.stopped ≡ false → IsReadyTask self.new store.new (D.history store.new.disk) }
 
         // Of every run that has come to the store: which event it was, what it answered, and which crash images it leaves.
         ensures does { StepsTask self.old self.new store.old store.new (D.history store.old.disk) (D.history store.new.disk) (D.faults store.old.disk) (D.faults store.new.disk) (ended_by result) }

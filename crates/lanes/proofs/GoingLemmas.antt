@@ -1,17 +1,22 @@
 -- A script that lanes of tasks serve goes on with an event of any lane.
 use Rattle.std.proofs.Common.{◌≡◌, ◌<◌, ◌≤◌, ◌+◌, ℕ, zero, suc, Bool, true, false, List, [], ◌∷◌, map, slice_set, All, Option, Some, None, refl, sym, ◌∙◌, ap, subst, arith, inl, inr}
-use Rattle.std.specs.Prelude.{◌≢◌, ◌⊎◌, length, slice_get, option_map}
+use Rattle.std.specs.Prelude.{◌≢◌, ◌⊎◌, ◌++◌, is_some, length, slice_get, option_map}
 use Rattle.std.proofs.lemmas.Option.{slice_get-map}
+use Rattle.std.proofs.lemmas.List.{length-set}
 use Rattle.std.proofs.lemmas.List.Elements.{All-head, All-tail, All-nil}
 use Rattle.disk_model.specs.Disk.{History, Faults}
+use Rattle.mdbox_base.specs.declared.progress.Did.{Did}
+use Rattle.mdbox_base.specs.declared.progress.Did.TheVariants as did
 use Rattle.mdbox_base.specs.declared.progress.Progress.{Progress}
 use Rattle.mdbox_base.specs.declared.progress.Progress.TheVariants as progress
 use Rattle.mdbox_base.specs.declared.replies.Reply.{Reply}
 use Rattle.mdbox_base.specs.declared.requests.Request.{Request}
+use Rattle.mdbox_base.specs.declared.script.Half.{Half}
 use Rattle.model_lists.specs.Lists.{Lists}
-use Rattle.list_machine.specs.Run.{Run, and_then}
-use Rattle.journal.specs.Journal.{Broken, JournalStep, Requests, left_by}
+use Rattle.list_machine.specs.Run.{Run, RunEvent, and_then}
+use Rattle.journal.specs.Journal.{Broken, JournalStep, Requests, half_of, left_by}
 use Rattle.journal.specs.JournalExamples.{nothing_around}
+use Rattle.journal.specs.Makes.{steps_made}
 use Rattle.serving.specs.Accounts.{IsReadyLane, LanesAccount, lane_claims}
 use Rattle.serving.specs.Lanes.{IsInTurn, LaneStands, LaneValue, lane_behind, replies_behind, said_by}
 use Rattle.serving.specs.Serving.{IsServing}
@@ -24,13 +29,14 @@ use Rattle.store_core.specs.Value.{StoreValue}
 use Rattle.task_claims.specs.Claims.{Claims, ClaimsNothing, MovesClaims, amount_in}
 use Rattle.task_claims.specs.Leaving.{LeavesOthers}
 use Rattle.task_steps.specs.Serves.{IsTurn}
-use Rattle.task_steps.specs.Step.{DidEvent, FindsRoom, Seen, and_told, ended_by}
+use Rattle.task_steps.specs.Step.{DidEvent, FindsRoom, Seen, Went, and_told, ended_by}
 use Rattle.mail_fetch.specs.Clause.{ReadsSafe}
-use Rattle.lane_tasks.specs.Clause.{AnswersByFiles, PassesBy, around_at, seen_by_all}
+use Rattle.mail_fetch.specs.Task.{seen_in}
+use Rattle.lane_tasks.specs.Clause.{AnswersByFiles, PassesBy, around_at}
 use Rattle.lane_tasks.specs.Tasks.{BeginsTask, IsReadyTask, StandsTask, claims_at, did_of}
 use Rattle.lane_tasks.specs.declared.task.Task.{Task}
 use Rattle.lane_tasks.proofs.StandLemmas.{begins_ready, begins_standing, begins_unclaimed, task_stable, task_stands}
-use Rattle.lanes.specs.Going.{AreWaiting, IsGoing, WaitsWithTask, stands_in}
+use Rattle.lanes.specs.Going.{AddsEvent, AreWaiting, IsGoing, WaitsWithTask, halves_told, stands_in}
 use Rattle.lanes.specs.Rows.{LaneRow, RowGoesOn, lane_value, lanes_of, next_in_turn, queue_in, after_event}
 use Rattle.lanes.specs.declared.lane.LaneEvent.{LaneEvent}
 use Rattle.lanes.specs.declared.lane.Queued.{Queued}
@@ -83,7 +89,7 @@ next_waiting script lane (next ∷ rest) are = All-tail (WaitsWithTask script la
 
 -- ---- the request in turn
 
-queue_is : (row : LaneRow) (first : Queued) → row.current ≡ Some first → queue_in row ≡ first.place ∷ map (λ (q : Queued). q.place) row.waiting
+pub queue_is : (row : LaneRow) (first : Queued) → row.current ≡ Some first → queue_in row ≡ first.place ∷ map (λ (q : Queued). q.place) row.waiting
 queue_is row first was = ap (λ (o : Option Queued). queue_in (record row { current = o })) was
 
 task_is : (row : LaneRow) (first : Queued) → row.current ≡ Some first → option_map (λ (q : Queued). q.task) row.current ≡ Some first.task
@@ -192,10 +198,14 @@ moves_row script lane None first next waiting old new are nothing moves = moves
 moves_row script lane (Some given) first next waiting old new are nothing moves =
     moved_none (claims_at first.task) (claims_at next) (lane_claims claims_at (lane_value (next_in_turn waiting))) old new (nothing (λ e. absurd (let z : Some given ≡ None = e in cc z))) (next_unclaimed script lane waiting are) moves
 
-ready_row : {D : Type 0} → (script : Requests) (lane : ℕ) (ended : Option Reply) (first : Queued) (next : Task) (waiting : List Queued) (store : StoreValue D) (history : Option History) → AreWaiting script lane waiting → IsReadyTask next store history
+ready_row : {D : Type 0} → (script : Requests) (lane : ℕ) (ended : Option Reply) (first : Queued) (next : Task) (waiting : List Queued) (store : StoreValue D) (history : Option History) → AreWaiting script lane waiting → (ended ≡ None → IsReadyTask next store history)
     → IsReadyLane IsReadyTask (lane_value (after_event ended (record first { task = next }) waiting)) store history
-ready_row script lane None first next waiting store history are ready = λ t has. subst (λ (t : Task). IsReadyTask t store history) (one_some next t has) ready
+ready_row script lane None first next waiting store history are ready = λ t has. subst (λ (t : Task). IsReadyTask t store history) (one_some next t has) (ready refl)
 ready_row script lane (Some given) first next waiting store history are ready = next_ready script lane waiting store history are
+
+more_by : (p : Progress) → ended_by p ≡ None → p ≡ progress.More
+more_by progress.More none = refl
+more_by (progress.Done given) none = absurd (let z : Some given ≡ None = none in cc z)
 
 done_by : (p : Progress) → ended_by p ≢ None → (given : Reply) × (p ≡ progress.Done given)
 done_by progress.More some = absurd (some refl)
@@ -209,7 +219,7 @@ accounts_row {D} script rows k row now event old new before after first second t
     (accounted_on claims_at IsReadyTask task_stable (lanes_of rows) k (lane_value row) (lane_value then) old new before after (value_at rows k row there)
     (subst (λ (c : Claims). MovesClaims c (lane_claims claims_at (lane_value then)) old new) mine
     (moves_row script (k + 1) (ended_by event.ended) g.queued g.next row.waiting old new are (λ some. let d = done_by event.ended some in g.goes.unclaimed d.0 d.1 runs) (g.goes.claims runs)))
-    (subst (λ (c : Claims). LeavesOthers c old new before after) mine (g.goes.leaves runs)) (ready_row script (k + 1) (ended_by event.ended) g.queued g.next row.waiting new after are (g.goes.ready runs)) all)
+    (subst (λ (c : Claims). LeavesOthers c old new before after) mine (g.goes.leaves runs)) (ready_row script (k + 1) (ended_by event.ended) g.queued g.next row.waiting new after are (λ more. g.goes.ready (more_by event.ended more) runs)) all)
   where
     then : LaneRow
     then = after_event (ended_by event.ended) (record g.queued { task = g.next }) row.waiting
@@ -219,20 +229,43 @@ accounts_row {D} script rows k row now event old new before after first second t
 
 -- ---- an event
 
-pub going_on : {D : Type 0} → (start : Lists) (script : Requests) (began : Seen) (replies : List (Option Reply)) (rows : List LaneRow) (k : ℕ) (row now : LaneRow) (event : LaneEvent) (old new : StoreValue D) (before after : Option History) (first second : Faults) → slice_get rows k ≡ Some row → RowGoesOn row now event old new before after first second
-    → IsGoing start script began old before first replies rows → IsGoing start script began new after second (replies_behind (ended_by event.ended) event.place replies) (slice_set rows k now)
-going_on {D} start script began replies rows k row now event old new before after first second there g s =
-    subst (λ (r : LaneRow). IsGoing start script began new after second (replies_behind (ended_by event.ended) event.place replies) (slice_set rows k r)) (sym g.now_is)
-    (subst (λ (n : ℕ). IsGoing start script began new after second (replies_behind (ended_by event.ended) n replies) (slice_set rows k then)) (sym g.goes.place_is) (record {
-      run = and_then s.run d.0.makes.event;
-      journal = journal_behind s.run turn.0 s.journal d.0.makes.event d.0.makes.answer d.0.left;
-      broken = goes.0;
-      serving = serves_row start script (and_then s.run d.0.makes.event) (journal_behind s.run turn.0 s.journal d.0.makes.event d.0.makes.answer d.0.left) goes.0 (replies_behind (ended_by event.ended) g.queued.place replies) began (seen_by_all new after second) rows k row g.queued g.next new after (ended_by event.ended) there g.was are
-          goes.1;
-      lanes = subst (λ (n : ℕ). All (λ (asked : ℕ × Request). (0 < asked.0) × (asked.0 ≤ n)) script) (sym (as_many rows k then)) s.lanes;
-      waiting = all_waiting script rows k row then there (waiting_behind script (k + 1) (ended_by event.ended) (record g.queued { task = g.next }) row.waiting are) s.waiting;
-      accounts = λ runs. accounts_row script rows k row now event old new before after first second there are runs g (s.accounts (ran runs));
-    }))
+-- an event that answers nothing has no entry, and one that answers has one of its half
+none_made : (run : Run) (request : Request) (event : RunEvent) (answer : Option Reply) (left : Lists) → answer ≡ None → map (λ (s : JournalStep). s.half) (steps_made run request event answer left) ≡ []
+none_made run request event answer left none = ap (λ (o : Option Reply). map (λ (s : JournalStep). s.half) (steps_made run request event o left)) none
+
+one_made : (run : Run) (request : Request) (event : RunEvent) (answer : Option Reply) (left : Lists) (half : Half) → is_some answer ≡ true → half_of request event.part ≡ half → map (λ (s : JournalStep). s.half) (steps_made run request event answer left) ≡ half ∷ []
+one_made run request event None left half some is = absurd (let z : false ≡ true = some in cc z)
+one_made run request event (Some given) left half some is = ap (λ (h : Half). h ∷ []) is
+
+halves_made : (how : Did) (request : Request) (run : Run) (lists left : Lists) (event : RunEvent) (answer : Option Reply) (old new : Seen) → Went how request run lists left event answer old new → map (λ (s : JournalStep). s.half) (steps_made run request event answer left) ≡ halves_told how
+halves_made did.Quiet request run lists left event answer old new w = none_made run request event answer left w.0
+halves_made (did.Step half) request run lists left event answer old new w = one_made run request event answer left half w.0 w.1
+halves_made did.Failed request run lists left event answer old new w = none_made run request event answer left w.0.unanswered
+halves_made (did.Broken half) request run lists left event answer old new w = none_made run request event answer left w.0.unanswered
+
+pub going_on : {D : Type 0} → (start : Lists) (script : Requests) (run : Run) (journal : List JournalStep) (broken : Broken) (replies : List (Option Reply)) (began : Seen) (rows : List LaneRow) (k : ℕ) (row now : LaneRow) (event : LaneEvent) (old new : StoreValue D) (before after : Option History) (first second : Faults) → slice_get rows k ≡ Some row
+    → RowGoesOn row now event old new before after first second → IsGoing start script run journal broken replies began old before first rows
+    → (added : RunEvent) × (steps : List JournalStep) × (failed : Broken) × AddsEvent (k + 1) event after added steps × IsGoing start script (and_then run added) (journal ++ steps) failed (replies_behind (ended_by event.ended) event.place replies) began new after second (slice_set rows k now)
+going_on {D} start script run journal broken replies began rows k row now event old new before after first second there g s = (
+  d.0.makes.event,
+  steps_made run turn.0 d.0.makes.event d.0.makes.answer d.0.left,
+  goes.0,
+  record {
+    lane_is = d.0.makes.lane_is;
+    request_is = d.0.makes.request_is ∙ sym g.goes.place_is;
+    reply_is = d.0.makes.ended_is;
+    moment_is = d.0.makes.moment_is;
+    halves_are = halves_made (did_of g.next) turn.0 run (left_by start journal) d.0.left d.0.makes.event d.0.makes.answer (seen_in old before first) (seen_in new after second) d.0.went ∙ ap halves_told (sym g.goes.did_is);
+  },
+  subst (λ (r : LaneRow). IsGoing start script then_run then_journal goes.0 (replies_behind (ended_by event.ended) event.place replies) began new after second (slice_set rows k r)) (sym g.now_is)
+      (subst (λ (n : ℕ). IsGoing start script then_run then_journal goes.0 (replies_behind (ended_by event.ended) n replies) began new after second (slice_set rows k then)) (sym g.goes.place_is) (record {
+        serving = serves_row start script then_run then_journal goes.0 (replies_behind (ended_by event.ended) g.queued.place replies) began (seen_in new after second) rows k row g.queued g.next new after (ended_by event.ended) there g.was are goes.1;
+        few = subst (λ (n : ℕ). n ≤ 64) (sym (length-set rows k then)) s.few;
+        lanes = subst (λ (n : ℕ). All (λ (asked : ℕ × Request). (0 < asked.0) × (asked.0 ≤ n)) script) (sym (as_many rows k then)) s.lanes;
+        waiting = all_waiting script rows k row then there (waiting_behind script (k + 1) (ended_by event.ended) (record g.queued { task = g.next }) row.waiting are) s.waiting;
+        accounts = λ runs. accounts_row script rows k row now event old new before after first second there are runs g (s.accounts (ran runs));
+      })),
+)
   where
     then : LaneRow
     then = after_event (ended_by event.ended) (record g.queued { task = g.next }) row.waiting
@@ -240,17 +273,22 @@ going_on {D} start script began replies rows k row now event old new before afte
     are : AreWaiting script (k + 1) row.waiting
     are = s.waiting k row there
 
-    turn : (request : Request) × IsTurn script s.journal replies (k + 1) g.queued.place request × StandsTask g.queued.task old before request s.run g.queued.place (said_by s.journal g.queued.place)
-    turn = in_turn start script s.run s.journal s.broken replies began (seen_by_all old before first) rows k row g.queued old before there g.was s.serving
+    turn : (request : Request) × IsTurn script journal replies (k + 1) g.queued.place request × StandsTask g.queued.task old before request run g.queued.place (said_by journal g.queued.place)
+    turn = in_turn start script run journal broken replies began (seen_in old before first) rows k row g.queued old before there g.was s.serving
 
-    d : (d : DidEvent nothing_around nothing_around s.run (k + 1) g.queued.place (said_by s.journal g.queued.place) turn.0 (left_by start s.journal) (seen_by_all old before first) (seen_by_all new after second) (did_of g.next) (ended_by event.ended))
-        × (ended_by event.ended ≡ None → StandsTask g.next new after turn.0 (and_then s.run d.makes.event) g.queued.place (and_told (said_by s.journal g.queued.place) d.makes.answer))
-    d = g.goes.steps turn.0 nothing_around nothing_around s.run (k + 1) g.queued.place (said_by s.journal g.queued.place) (left_by start s.journal) s.serving.serves.come s.serving.serves.shown (λ runs. finds_room g.queued.task turn.0 old s.run) (λ by_files runs. reads_safe g.queued.task (left_by start s.journal) before by_files) turn.2
+    d : (d : DidEvent nothing_around nothing_around run (k + 1) g.queued.place (said_by journal g.queued.place) turn.0 (left_by start journal) (seen_in old before first) (seen_in new after second) (did_of g.next) (ended_by event.ended))
+        × (ended_by event.ended ≡ None → StandsTask g.next new after turn.0 (and_then run d.makes.event) g.queued.place (and_told (said_by journal g.queued.place) d.makes.answer))
+    d = g.goes.steps turn.0 nothing_around nothing_around run (k + 1) g.queued.place (said_by journal g.queued.place) (left_by start journal) s.serving.serves.come s.serving.serves.shown (λ runs. finds_room g.queued.task turn.0 old run) (λ by_files runs. reads_safe g.queued.task (left_by start journal) before by_files) turn.2
+
+    then_run : Run
+    then_run = and_then run d.0.makes.event
+
+    then_journal : List JournalStep
+    then_journal = journal_behind run turn.0 journal d.0.makes.event d.0.makes.answer d.0.left
 
     ran : new.stopped ≡ false → old.stopped ≡ false
-    ran = ran_before (seen_by_all old before first) (seen_by_all new after second) d.0.ends.still
+    ran = ran_before (seen_in old before first) (seen_in new after second) d.0.ends.still
 
-    goes : (failed : Broken) × IsServing (stands_in new after) start script (and_then s.run d.0.makes.event) (journal_behind s.run turn.0 s.journal d.0.makes.event d.0.makes.answer d.0.left) failed (replies_behind (ended_by event.ended) g.queued.place replies) began (seen_by_all new after second)
-        (slice_set (lanes_of rows) k (lane_behind (ended_by event.ended) g.next (lane_value row)))
-    goes = lane_goes_on (stands_in old before) (stands_in new after) start script s.run s.journal s.broken replies began (seen_by_all old before first) (seen_by_all new after second) (lanes_of rows) k g.queued.place (map (λ (q : Queued). q.place) row.waiting) (lane_value row) turn.0 g.next nothing_around nothing_around (did_of g.next) (ended_by event.ended)
+    goes : (failed : Broken) × IsServing (stands_in new after) start script then_run then_journal failed (replies_behind (ended_by event.ended) g.queued.place replies) began (seen_in new after second) (slice_set (lanes_of rows) k (lane_behind (ended_by event.ended) g.next (lane_value row)))
+    goes = lane_goes_on (stands_in old before) (stands_in new after) start script run journal broken replies began (seen_in old before first) (seen_in new after second) (lanes_of rows) k g.queued.place (map (λ (q : Queued). q.place) row.waiting) (lane_value row) turn.0 g.next nothing_around nothing_around (did_of g.next) (ended_by event.ended)
         s.serving (others_stand rows k row g.queued g.next old new before after there g.was ran g.goes.claims g.goes.leaves s.accounts) (value_at rows k row there) (queue_is row g.queued g.was) turn.1.asked d.0 d.1

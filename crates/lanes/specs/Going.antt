@@ -1,19 +1,24 @@
 -- A script that lanes of tasks serve.
-use Rattle.std.specs.Prelude.{◌≡◌, ◌+◌, ℕ, false, List, All, slice_get, Option, Some}
-use Rattle.disk_model.specs.Disk.{History, Faults}
+use Rattle.std.specs.Prelude.{◌≡◌, ◌≤◌, ◌+◌, ◌∷◌, ℕ, false, List, [], All, length, map, slice_get, Option, Some}
+use Rattle.disk_model.specs.Disk.{History, Faults, told_calls}
+use Rattle.mdbox_base.specs.declared.progress.Did.{Did}
+use Rattle.mdbox_base.specs.declared.progress.Did.TheVariants as did
 use Rattle.mdbox_base.specs.declared.replies.Reply.{Reply}
 use Rattle.mdbox_base.specs.declared.requests.Request.{Request}
+use Rattle.mdbox_base.specs.declared.script.Half.{Half}
 use Rattle.model_lists.specs.Lists.{Lists}
-use Rattle.list_machine.specs.Run.{Run}
+use Rattle.list_machine.specs.Run.{Run, RunEvent}
 use Rattle.journal.specs.Journal.{Broken, JournalStep, Requests}
 use Rattle.serving.specs.Accounts.{LanesAccount}
+use Rattle.serving.specs.Lanes.{queue_of}
 use Rattle.serving.specs.Serving.{HaveLanes, IsServing}
 use Rattle.store_core.specs.Value.{StoreValue}
-use Rattle.task_steps.specs.Step.{Seen}
-use Rattle.lane_tasks.specs.Clause.{seen_by_all}
+use Rattle.task_steps.specs.Step.{Seen, ended_by}
+use Rattle.mail_fetch.specs.Task.{seen_in}
 use Rattle.lane_tasks.specs.Tasks.{BeginsTask, IsReadyTask, StandsTask, claims_at}
 use Rattle.lane_tasks.specs.declared.task.Task.{Task}
-use Rattle.lanes.specs.Rows.{LaneRow, lanes_of}
+use Rattle.lanes.specs.Rows.{LaneRow, lanes_of, queue_in}
+use Rattle.lanes.specs.declared.lane.LaneEvent.{LaneEvent}
 use Rattle.lanes.specs.declared.lane.Queued.{Queued}
 
 -- where a task stands, in a store and by what its disk tells
@@ -27,13 +32,39 @@ WaitsWithTask script lane queued = (asked : Request) × (slice_get script queued
 abbrev pub AreWaiting : Requests → ℕ → List Queued → Type 0
 AreWaiting script lane waiting = All (WaitsWithTask script lane) waiting
 
--- A script is being served by lanes, from these lists and from a store as it was seen then, with these replies so far: each lane's
--- request in turn stands where its task does, those behind it begin; and unless the store is stopped, the lanes account for it.
-pub record IsGoing {D : Type 0} (start : Lists) (script : Requests) (began : Seen) (store : StoreValue D) (history : Option History) (faults : Faults) (replies : List (Option Reply)) (rows : List LaneRow) : Type 0 where
-  pub run : Run
-  pub journal : List JournalStep
-  pub broken : Broken
-  pub serving : IsServing (stands_in store history) start script run journal broken replies began (seen_by_all store history faults) (lanes_of rows)
+-- A script is being served by lanes, of which there are 64 at most, from these lists and from a store as it was seen then, by the
+-- events of this run: with this journal, these broken steps and these replies so far, each lane's request in turn stands where its task
+-- does, those behind it begin; and unless the store is stopped, the lanes account for it.
+pub record IsGoing {D : Type 0} (start : Lists) (script : Requests) (run : Run) (journal : List JournalStep) (broken : Broken) (replies : List (Option Reply)) (began : Seen) (store : StoreValue D) (history : Option History) (faults : Faults) (rows : List LaneRow) : Type 0 where
+  pub serving : IsServing (stands_in store history) start script run journal broken replies began (seen_in store history faults) (lanes_of rows)
   pub lanes : HaveLanes script (lanes_of rows)
+  pub few : length rows ≤ 64
   pub waiting : (k : ℕ) (row : LaneRow) → slice_get rows k ≡ Some row → AreWaiting script (k + 1) row.waiting
   pub accounts : store.stopped ≡ false → LanesAccount claims_at IsReadyTask store history (lanes_of rows)
+
+-- ---- what an event of a lane adds to the run and to the journal
+
+-- the step that it was, if it was one
+abbrev pub halves_told : Did → List Half
+halves_told (did.Step half) = half ∷ []
+halves_told other = []
+
+-- It is an event of this lane and of its request, with the reply that it gave, and ended at the disk's present moment; and it has an
+-- entry in the journal if it was a step.
+pub record AddsEvent (lane : ℕ) (event : LaneEvent) (history : Option History) (added : RunEvent) (steps : List JournalStep) : Type 0 where
+  pub lane_is : added.lane ≡ lane
+  pub request_is : added.request ≡ event.place
+  pub reply_is : added.reply ≡ ended_by event.ended
+  pub moment_is : added.moment ≡ told_calls history
+  pub halves_are : map (λ step. step.half) steps ≡ halves_told event.did
+
+-- ---- how lanes begin
+
+-- A lane begins with all its requests of the script, in order, each with the task with which it begins.
+pub record IsFreshRow (script : Requests) (lane : ℕ) (row : LaneRow) : Type 0 where
+  pub all : queue_in row ≡ queue_of lane 0 script
+  pub first : (queued : Queued) → row.current ≡ Some queued → WaitsWithTask script lane queued
+  pub behind : AreWaiting script lane row.waiting
+
+abbrev pub AreFreshRows : Requests → List LaneRow → Type 0
+AreFreshRows script rows = (k : ℕ) (row : LaneRow) → slice_get rows k ≡ Some row → IsFreshRow script (k + 1) row

@@ -50,7 +50,7 @@ pub record TaskGoesOn {D : Type 0} (queued : Queued) (next : Task) (event : Lane
   pub steps : StepsTask queued.task next old new before after first second (ended_by event.ended)
   pub claims : new.stopped ≡ false → MovesClaims (claims_at queued.task) (claims_at next) old new
   pub leaves : new.stopped ≡ false → LeavesOthers (claims_at queued.task) old new before after
-  pub ready : new.stopped ≡ false → IsReadyTask next new after
+  pub ready : event.ended ≡ progress.More → new.stopped ≡ false → IsReadyTask next new after
   pub unclaimed : (given : Reply) → event.ended ≡ progress.Done given → new.stopped ≡ false → ClaimsNothing (claims_at next)
   pub left : event.ended ≡ progress.More → work_left next new < work_left queued.task old
 

@@ -1,5 +1,5 @@
 // A lane: the request in turn with its task, and those behind it.
-ghost use Rattle.std.specs.Prelude.{◌≡◌, false, None, IfSome, IsNone};
+ghost use Rattle.std.specs.Prelude.{◌≡◌, false, [], None, IfSome, IsNone};
 ghost use Rattle.lane_tasks.specs.Tasks.{IsReadyTask, did_of};
 ghost use Rattle.lane_tasks.specs.Clause.{HasTaskRoom};
 ghost use Rattle.lane_tasks.specs.declared.task.Task.{Task as TaskValue};
@@ -25,7 +25,7 @@ pub struct Queued {
 pub struct Lane {
     /// The request in turn.
     current: Option<Queued>,
-    /// Those behind it, in script order. None of them has begun.
+    /// Those behind it, in script order. None of them has begun. There are none unless one is in turn.
     waiting: VecDeque<Queued>,
 }
 
@@ -38,11 +38,15 @@ pub struct LaneEvent {
 }
 
 impl Model for Lane {
+    ghost use Rattle.std.specs.Prelude.{◌≡◌, [], None};
     ghost use Rattle.lanes.specs.Rows.{LaneRow};
 
     ghost Value = { LaneRow };
 
     ghost view = { λ lane. record { current = lane.current; waiting = lane.waiting.items } };
+
+    // No request waits unless one is in turn.
+    ghost invariant = { λ lane. lane.current ≡ None → lane.waiting.items ≡ [] };
 }
 
 impl Lane {
@@ -50,7 +54,7 @@ impl Lane {
     pub fn advance<D: Disk>(&mut self, store: &mut Store<D>) -> Option<LaneEvent>
         requires ready { store.old.stopped ≡ false → IsReadyRow self.old store.old (D.history store.old.disk) }
         ensures some { IfSome result (λ event. RowGoesOn self.old self.new event store.old store.new (D.history store.old.disk) (D.history store.new.disk) (D.faults store.old.disk) (D.faults store.new.disk)) }
-        ensures none { IsNone result → (self.old.current ≡ None) × (self.new ≡ self.old) × (store.new ≡ store.old) }
+        ensures none { IsNone result → (self.old.current ≡ None) × (self.old.waiting ≡ []) × (self.new ≡ self.old) × (store.new ≡ store.old) }
     {
         let Some(first) = self.current.take() else {
             return None;

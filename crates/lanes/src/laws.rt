@@ -1,21 +1,43 @@
-// Lanes go on.
-ghost use Rattle.std.specs.Prelude.{◌≡◌, ℕ, List, slice_get, slice_set, Option, Some};
-ghost use Rattle.disk_model.specs.Disk.{History, Faults};
+// Lanes begin, go on and end.
+ghost use Rattle.std.specs.Prelude.{◌≡◌, ◌<◌, ◌≤◌, ◌+◌, ◌++◌, ℕ, false, List, [], length, slice_get, slice_set, Option, Some};
+ghost use Rattle.disk_model.specs.Disk.{History, Faults, told_calls};
 ghost use Rattle.mdbox_base.specs.declared.replies.Reply.{Reply};
 ghost use Rattle.model_lists.specs.Lists.{Lists};
-ghost use Rattle.journal.specs.Journal.{Requests};
+ghost use Rattle.list_machine.specs.Run.{Run, RunEvent, and_then, reply_of};
+ghost use Rattle.journal.specs.Journal.{Broken, HasReply, JournalStep, Requests, no_broken};
+ghost use Rattle.journal.specs.Makes.{HasCome};
 ghost use Rattle.serving.specs.Lanes.{replies_behind};
+ghost use Rattle.serving.specs.Serving.{AreIdle, HaveLanes, unreplied};
 ghost use Rattle.store_core.specs.Value.{StoreValue};
-ghost use Rattle.task_steps.specs.Step.{Seen, ended_by};
-ghost use Rattle.lanes.specs.Going.{IsGoing};
-ghost use Rattle.lanes.specs.Rows.{LaneRow, RowGoesOn};
+ghost use Rattle.store_seen.specs.Seeing.{IsAtOpening};
+ghost use Rattle.task_claims.specs.Claims.{HasNoTask};
+ghost use Rattle.task_steps.specs.Step.{Seen, ShowsSeen, ended_by};
+ghost use Rattle.mail_fetch.specs.Task.{seen_in};
+ghost use Rattle.lanes.specs.Going.{AddsEvent, AreFreshRows, IsGoing};
+ghost use Rattle.lanes.specs.Rows.{LaneRow, RowGoesOn, lanes_of};
 ghost use Rattle.lanes.specs.declared.lane.LaneEvent.{LaneEvent};
 
 use disk_model::Disk;
 
-/// A script that lanes serve is served with an event more of any lane, whatever the other lanes do: its reply, if it has one, stands at
-/// its place, and the lanes account for the store, unless that is stopped.
+/// Lanes begin to serve a script over a store that was opened, and that no task has claimed anything of: each with all its requests, and
+/// with the tasks with which these begin.
+pub fn lanes_begin<D: Disk>()
+    ensures { (start : Lists) (script : Requests) (run : Run) (rows : List LaneRow) (store : StoreValue D) (history : Option History) (faults : Faults) → IsAtOpening run store → HasCome run store.map store.drawn (told_calls history) → HasNoTask store → store.stopped ≡ false → ShowsSeen (seen_in store history faults) start
+        → AreFreshRows script rows → HaveLanes script (lanes_of rows) → length rows ≤ 64 → IsGoing start script run [] no_broken (unreplied script) (seen_in store history faults) store history faults rows }
+{}
+
+/// A script that lanes serve is served with an event more of any lane, whatever the other lanes do: the run and the journal go on with
+/// what that event adds to them and are otherwise as they were, its reply, if it has one, stands at its place, and the lanes account for
+/// the store, unless that is stopped.
 pub fn lanes_go_on<D: Disk>()
-    ensures { (start : Lists) (script : Requests) (began : Seen) (replies : List (Option Reply)) (rows : List LaneRow) (k : ℕ) (row now : LaneRow) (event : LaneEvent) (old new : StoreValue D) (before after : Option History) (first second : Faults) → slice_get rows k ≡ Some row → RowGoesOn row now event old new before after first second
-        → IsGoing start script began old before first replies rows → IsGoing start script began new after second (replies_behind (ended_by event.ended) event.place replies) (slice_set rows k now) }
+    ensures { (start : Lists) (script : Requests) (run : Run) (journal : List JournalStep) (broken : Broken) (replies : List (Option Reply)) (began : Seen) (rows : List LaneRow) (k : ℕ) (row now : LaneRow) (event : LaneEvent) (old new : StoreValue D) (before after : Option History) (first second : Faults)
+        → slice_get rows k ≡ Some row → RowGoesOn row now event old new before after first second → IsGoing start script run journal broken replies began old before first rows
+        → (added : RunEvent) × (steps : List JournalStep) × (failed : Broken) × AddsEvent (k + 1) event after added steps
+        × IsGoing start script (and_then run added) (journal ++ steps) failed (replies_behind (ended_by event.ended) event.place replies) began new after second (slice_set rows k now) }
+{}
+
+/// No lane has a request left: every request of the script has its reply, which is that of its events.
+pub fn lanes_end<D: Disk>()
+    ensures { (start : Lists) (script : Requests) (run : Run) (journal : List JournalStep) (broken : Broken) (replies : List (Option Reply)) (began : Seen) (store : StoreValue D) (history : Option History) (faults : Faults) (rows : List LaneRow) → IsGoing start script run journal broken replies began store history faults rows
+        → AreIdle (lanes_of rows) → (i : ℕ) → i < length script → (given : Reply) × HasReply replies i given × (reply_of i run ≡ Some given) }
 {}

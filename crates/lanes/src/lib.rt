@@ -2,7 +2,7 @@
 #![tactic(auto)]
 
 pub use lane::{Lane, LaneEvent, Queued};
-pub use laws::lanes_go_on;
+pub use laws::{lanes_begin, lanes_end, lanes_go_on};
 
 mod lane;
 mod laws;

@@ -1,13 +1,11 @@
 -- Lanes account for a store as one of them makes an event.
-use Rattle.std.proofs.Common.{◌≡◌, ◌<◌, ◌+◌, ℕ, zero, suc, List, [], ◌∷◌, map, length, slice_set, slice_index_or, Option, Some, None, refl, sym, ◌∙◌, ap, subst, arith, inl, inr}
+use Rattle.std.proofs.Common.{◌≡◌, ◌<◌, ℕ, zero, suc, List, [], ◌∷◌, map, length, slice_set, slice_index_or, Option, Some, None, refl, sym, ◌∙◌, ap, subst, arith, inl, inr}
 use Rattle.std.specs.Prelude.{◌≢◌, ◌⊎◌, slice_get}
-use Rattle.std.proofs.lemmas.List.Sums.{sum_by-cons}
 use Rattle.disk_model.specs.Disk.{History}
 use Rattle.store_core.specs.Value.{StoreValue}
-use Rattle.task_claims.specs.Claims.{AddsUp, AreIn, Claims, HasNoTask, MovesClaims, Thing, both_claims, no_claims, total_claims}
+use Rattle.task_claims.specs.Claims.{AddsUp, AreIn, Claims, MovesClaims, both_claims, no_claims}
 use Rattle.task_claims.specs.Leaving.{LeavesOthers}
 use Rattle.task_claims.specs.Stable.{Beside, IsStable}
-use Rattle.task_claims.proofs.OpenedLemmas.{none_claimed}
 use Rattle.task_claims.proofs.StayLemmas.{adds_up_on, two_are_in}
 use Rattle.serving.specs.Accounts.{LanesAccount, IsReadyLane, lane_claims}
 use Rattle.serving.specs.Lanes.{LaneValue}
@@ -68,24 +66,3 @@ accounted_on claims Ready stable lanes k value now old new before after there mo
     by_case j other is (inr apart) =
         let was = sym (get_set_other lanes k j now apart) ∙ is in
         λ task has. stable task old new before after (task_beside claims other task old new before after has (lane_beside claims lanes k j value other (lane_claims claims now) old new before after all.adds_up there was apart moves leaves)) (all.ready j other was task has)
-
--- ---- a lane that takes up a task, or lays one down, that claims nothing
-
-same_amounts : (total after mine now none : ℕ) → after + mine ≡ total + now → mine ≡ 0 → now ≡ 0 → total ≡ after
-same_amounts total after mine now none s m n = omega (arith, s, m, n)
-
--- ---- the beginning
-
-unclaimed : {T : Type 0} → (claims : T → Claims) (lanes : List (LaneValue T)) (thing : Thing) → ((k : ℕ) (value : LaneValue T) → slice_get lanes k ≡ Some value → value.task ≡ None) → 0 ≡ total_claims (map (lane_claims claims) lanes) thing
-unclaimed claims [] thing idle = refl
-unclaimed claims (a ∷ more) thing idle =
-    let first : lane_claims claims a thing ≡ 0 = ap (λ (o : Option _). lane_claims claims (record a { task = o }) thing) (idle 0 a refl) in
-    let rest = unclaimed claims more thing (λ k value there. idle (suc k) value there) in
-    let s = sum_by-cons (λ (c : Claims). c thing) (lane_claims claims a) (map (lane_claims claims) more) in
-    omega (arith, first, rest, s)
-
-pub accounted_fresh : {T D : Type 0} → (claims : T → Claims) (Ready : T → StoreValue D → Option History → Type 0) (lanes : List (LaneValue T)) (store : StoreValue D) (history : Option History) → HasNoTask store → ((k : ℕ) (value : LaneValue T) → slice_get lanes k ≡ Some value → value.task ≡ None) → LanesAccount claims Ready store history lanes
-accounted_fresh claims Ready lanes store history none idle = record {
-  adds_up = λ thing. none_claimed store none thing ∙ unclaimed claims lanes thing idle;
-  ready = λ k value there task has. absurd (let z : None ≡ Some task = sym (idle k value there) ∙ has in cc z);
-}

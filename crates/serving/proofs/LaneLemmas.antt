@@ -1,6 +1,6 @@
 -- Where lanes stand as an event more is made, whatever tasks they have.
 use Rattle.std.proofs.Common.{◌≡◌, ◌<◌, ◌≤◌, ◌+◌, ◌==◌, ℕ, zero, suc, Bool, true, false, List, [], ◌∷◌, ◌++◌, map, slice_set, Option, Some, None, refl, sym, ◌∙◌, ap, subst, arith, inl, inr}
-use Rattle.std.specs.Prelude.{◌≢◌, ◌⊎◌, slice_get}
+use Rattle.std.specs.Prelude.{◌≢◌, ◌⊎◌, Contains, length, slice_get, slice_index_or}
 use Rattle.std.proofs.lemmas.Grind.{common_steps}
 use Rattle.std.proofs.lemmas.Option.{slice_get_within}
 use Rattle.mdbox_base.specs.declared.replies.Reply.{Reply}
@@ -13,7 +13,7 @@ use Rattle.journal.proofs.OwnEventLemmas.{own_other}
 use Rattle.task_steps.specs.Serves.{IsTurn}
 use Rattle.task_steps.specs.Step.{GivesNew, and_told}
 use Rattle.task_steps.proofs.ReplyingLemmas.{answers_more, steps_other, turn_of_other, turn_stays}
-use Rattle.serving.specs.Lanes.{AreBehind, IsInTurn, IsWaiting, LaneAt, LaneStands, LaneValue, LanesAt, lane_behind, said_by, tail_of}
+use Rattle.serving.specs.Lanes.{AreBehind, IsInTurn, LaneAt, LaneStands, LaneValue, LanesAt, lane_behind, said_by, tail_of}
 use Rattle.serving.specs.Standing.{OthersStandOn, StandsOn}
 
 -- ---- lists
@@ -48,10 +48,32 @@ differ_test a b other = by_test (a == b) refl
 
 -- ---- the requests of a lane
 
-behind_all : (script : Requests) (run : Run) (lane place : ℕ) (rest : List ℕ) (i : ℕ) → AreBehind script run lane place rest → IsWaiting i rest → place < i
-behind_all script run lane place [] i behind is = absurd is
-behind_all script run lane place (next ∷ rest) i behind (inl e) = let l = behind.0 in omega (arith, l, e)
-behind_all script run lane place (next ∷ rest) i behind (inr is) = let l = behind.0 in let m = behind_all script run lane next rest i behind.3 is in omega (arith, l, m)
+-- what waits in a queue is the first of it, or waits behind that
+first_at : (place : ℕ) (rest : List ℕ) (i k : ℕ) → k < length (place ∷ rest) → slice_index_or (place ∷ rest) k i ≡ i → (i ≡ place) ⊎ Contains rest i
+first_at place rest i zero within is = inl (sym is)
+first_at place rest i (suc k) within is = inr (k, omega (arith, within), is)
+
+pub first_or_behind : (place : ℕ) (rest : List ℕ) (i : ℕ) → Contains (place ∷ rest) i → (i ≡ place) ⊎ Contains rest i
+first_or_behind place rest i is = first_at place rest i is.0 is.1 is.2
+
+pub waits_in : (place : ℕ) (rest : List ℕ) (i : ℕ) → (i ≡ place) ⊎ Contains rest i → Contains (place ∷ rest) i
+waits_in place rest i (inl e) = (0, omega arith, sym e)
+waits_in place rest i (inr is) = (suc is.0, (let h = is.1 in omega (arith, h)), is.2)
+
+pub none_waits : (i : ℕ) → Contains [] i → ⊥
+none_waits i is = let h : is.0 < 0 = is.1 in omega (arith, h)
+
+waits_or : {P : Type 0} → (place : ℕ) (rest : List ℕ) (i : ℕ) → Contains (place ∷ rest) i ⊎ P → ((i ≡ place) ⊎ Contains rest i) ⊎ P
+waits_or place rest i (inl is) = inl (first_or_behind place rest i is)
+waits_or place rest i (inr p) = inr p
+
+behind_all : (script : Requests) (run : Run) (lane place : ℕ) (rest : List ℕ) (i : ℕ) → AreBehind script run lane place rest → Contains rest i → place < i
+behind_all script run lane place [] i behind is = absurd (none_waits i is)
+behind_all script run lane place (next ∷ rest) i behind is = by_case (behind_all script run lane next rest i behind.3) (first_or_behind next rest i is)
+  where
+    by_case : (Contains rest i → next < i) → (i ≡ next) ⊎ Contains rest i → place < i
+    by_case more (inl e) = let l = behind.0 in omega (arith, l, e)
+    by_case more (inr is) = let l = behind.0 in let m = more is in omega (arith, l, m)
 
 -- the turn of the first
 pub first_turn : {T : Type 0} → (At : T → Request → Run → ℕ → List Reply → Type 0) (script : Requests) (run : Run) (journal : List JournalStep) (replies : List (Option Reply)) (lane place : ℕ) (rest : List ℕ) (value : LaneValue T) (request : Request)
@@ -69,9 +91,9 @@ first_turn At script run journal replies lane place rest value request l queue a
 pub none_earlier : {T : Type 0} → (At : T → Request → Run → ℕ → List Reply → Type 0) (script : Requests) (run : Run) (journal : List JournalStep) (replies : List (Option Reply)) (lane place : ℕ) (rest : List ℕ) (value : LaneValue T) → value.queue ≡ place ∷ rest → AreBehind script run lane place rest
     → LaneAt At script run journal replies lane value → AreReplies script run replies → (i : ℕ) (q : ℕ × Request) → i < place → slice_get script i ≡ Some q → q.0 ≡ lane → reply_of i run ≢ None
 none_earlier At script run journal replies lane place rest value queue behind at given i q less asked on none =
-    by_case (subst (λ (ps : List ℕ). IsWaiting i ps ⊎ ((r : Reply) × HasReply replies i r)) queue (at.each i q asked on))
+    by_case (waits_or place rest i (subst (λ (ps : List ℕ). Contains ps i ⊎ ((r : Reply) × HasReply replies i r)) queue (at.each i q asked on)))
   where
-    by_case : IsWaiting i (place ∷ rest) ⊎ ((r : Reply) × HasReply replies i r) → ⊥
+    by_case : ((i ≡ place) ⊎ Contains rest i) ⊎ ((r : Reply) × HasReply replies i r) → ⊥
     by_case (inl (inl e)) = omega (arith, less, e)
     by_case (inl (inr is)) = let m = behind_all script run lane place rest i behind is in omega (arith, less, m)
     by_case (inr h) =
@@ -141,7 +163,7 @@ pub own_done : {T : Type 0} → (Was Is : T → Request → Run → ℕ → List
 own_done Was Is script run journal replies after lane place rest value request task event answer left given queue turn behind at here others l =
     subst (λ (ps : List ℕ). LaneAt Is script (and_then run event) (journal_behind run request journal event answer left) after lane (record { queue = tail_of ps; task = None })) (sym queue) (record {
       in_turn = next_turn rest behind;
-      each = λ i asked is on. by_place i (subst (λ (ps : List ℕ). IsWaiting i ps ⊎ ((r : Reply) × HasReply replies i r)) queue (l.each i asked is on)) (cases i);
+      each = λ i asked is on. by_place i (waits_or place rest i (subst (λ (ps : List ℕ). Contains ps i ⊎ ((r : Reply) × HasReply replies i r)) queue (l.each i asked is on))) (cases i);
     })
   where
     cases : (i : ℕ) → (place ≡ i) ⊎ (place ≢ i)
@@ -154,7 +176,7 @@ own_done Was Is script run journal replies after lane place rest value request t
             same : place ≡ i → (place == i) ≡ true
             same k = grind (arith, common_steps, k)
 
-    by_place : (i : ℕ) → IsWaiting i (place ∷ rest) ⊎ ((r : Reply) × HasReply replies i r) → (place ≡ i) ⊎ (place ≢ i) → IsWaiting i rest ⊎ ((r : Reply) × HasReply after i r)
+    by_place : (i : ℕ) → ((i ≡ place) ⊎ Contains rest i) ⊎ ((r : Reply) × HasReply replies i r) → (place ≡ i) ⊎ (place ≢ i) → Contains rest i ⊎ ((r : Reply) × HasReply after i r)
     by_place i h (inl e) = inr (given, ap (λ (n : ℕ). slice_get after n) (sym e) ∙ here)
     by_place i (inl (inl e)) (inr other) = absurd (other (sym e))
     by_place i (inl (inr is)) (inr other) = inl is
@@ -184,7 +206,7 @@ other_lane Was Is script run journal replies after mine lane place value request
   each = λ i q is k. by_case i (l.each i q is k) (elsewhere script place i mine lane request q.1 asked (is ∙ ap (λ (n : ℕ). Some (n, q.1)) k) apart);
 }
   where
-    by_case : (i : ℕ) → IsWaiting i value.queue ⊎ ((r : Reply) × HasReply replies i r) → place ≢ i → IsWaiting i value.queue ⊎ ((r : Reply) × HasReply after i r)
+    by_case : (i : ℕ) → Contains value.queue i ⊎ ((r : Reply) × HasReply replies i r) → place ≢ i → Contains value.queue i ⊎ ((r : Reply) × HasReply after i r)
     by_case i (inl is) other = inl is
     by_case i (inr h) other = inr (h.0, others i other ∙ h.1)
 

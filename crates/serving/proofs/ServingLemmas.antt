@@ -1,6 +1,6 @@
 -- A script that is being served goes on by one event, until every request has its reply, whatever tasks its lanes have.
 use Rattle.std.proofs.Common.{◌≡◌, ◌<◌, ◌≤◌, ◌+◌, ◌-◌, ◌==◌, ℕ, zero, suc, true, false, List, [], ◌∷◌, slice_set, Option, Some, None, refl, sym, ◌∙◌, ap, subst, arith, inl, inr}
-use Rattle.std.specs.Prelude.{◌⊎◌, All, length, slice_get}
+use Rattle.std.specs.Prelude.{◌⊎◌, All, Contains, length, slice_get}
 use Rattle.std.proofs.lemmas.Grind.{common_steps}
 use Rattle.std.proofs.lemmas.Option.{slice_get_within}
 use Rattle.std.proofs.lemmas.List.{length-set}
@@ -14,14 +14,14 @@ use Rattle.journal.specs.Events.{Around}
 use Rattle.journal.specs.GoesOn.{RepliesAlso}
 use Rattle.journal.specs.Journal.{Requests, JournalStep, Broken, HasReply, left_by}
 use Rattle.journal.proofs.FaultLemmas.{faults_have_events}
-use Rattle.task_steps.specs.Step.{Seen, DidEvent, Steps, and_told}
+use Rattle.task_steps.specs.Step.{Seen, DidEvent, and_told}
 use Rattle.task_steps.proofs.FollowingLemmas.{follows_on, replies_on, replies_stay, told_on}
 use Rattle.task_steps.proofs.GoingLemmas.{serves_on}
 use Rattle.task_steps.proofs.ReplyingLemmas.{reply_on}
-use Rattle.serving.specs.Lanes.{IsWaiting, LaneStands, LaneValue, lane_behind, replies_behind, said_by}
+use Rattle.serving.specs.Lanes.{LaneValue, lane_behind, replies_behind, said_by}
 use Rattle.serving.specs.Standing.{OthersStandOn}
 use Rattle.serving.specs.Serving.{AreIdle, HaveLanes, IsServing}
-use Rattle.serving.proofs.LaneLemmas.{first_turn, get_set_other, get_set_same, journal_behind, lanes_on, none_earlier, one_some, own_done, own_more}
+use Rattle.serving.proofs.LaneLemmas.{first_turn, get_set_other, get_set_same, journal_behind, lanes_on, none_earlier, none_waits, one_some, own_done, own_more}
 
 -- The event of a lane whose request goes on.
 pub serving_more : {T : Type 0} → (Was Is : T → Request → Run → ℕ → List Reply → Type 0) (start : Lists) (script : Requests) (run : Run) (journal : List JournalStep) (broken : Broken) (replies : List (Option Reply))
@@ -93,17 +93,6 @@ lane_goes_on Was Is start script run journal broken replies began now new lanes 
 lane_goes_on Was Is start script run journal broken replies began now new lanes k place rest value request next around after how (Some given) s stays there queue asked d stands =
     serving_done Was Is start script run journal broken replies began now new lanes k place rest value request next around after how given s stays there queue asked d
 
--- The step of a task, which goes on or answers its request.
-pub lane_serves : {T : Type 0} → (Was Is : T → Request → Run → ℕ → List Reply → Type 0) (start : Lists) (script : Requests) (run : Run) (journal : List JournalStep) (broken : Broken) (replies : List (Option Reply))
-    (began now new : Seen) (lanes : List (LaneValue T)) (k place : ℕ) (rest : List ℕ) (value : LaneValue T) (request : Request) (next : T) (around after : Around) (how : Did) (ended : Option Reply)
-    → IsServing Was start script run journal broken replies began now lanes → OthersStandOn Was Is lanes k → slice_get lanes k ≡ Some value → value.queue ≡ place ∷ rest → slice_get script place ≡ Some (k + 1, request) → Steps (LaneStands Was value.task request) (Is next request) around after request now new how ended
-    → (then : Run) × (steps : List JournalStep) × (failed : Broken) × IsServing Is start script then steps failed (replies_behind ended place replies) began new (slice_set lanes k (lane_behind ended next value))
-lane_serves Was Is start script run journal broken replies began now new lanes k place rest value request next around after how ended s stays there queue asked steps =
-    let first = first_turn Was script run journal replies (k + 1) place rest value request (s.lanes_at k value there) queue asked in
-    let did = steps run (k + 1) place (said_by journal place) (left_by start journal) s.serves.come s.serves.shown first.1 in
-    let r = lane_goes_on Was Is start script run journal broken replies began now new lanes k place rest value request next around after how ended s stays there queue asked did.0 did.1 in
-    (and_then run did.0.makes.event, journal_behind run request journal did.0.makes.event did.0.makes.answer did.0.left, r.0, r.1)
-
 -- ---- the end
 
 pub some_at : {X : Type 0} → (xs : List X) (i : ℕ) → i < length xs → (x : X) × (slice_get xs i ≡ Some x)
@@ -127,8 +116,8 @@ all_replied At start script run journal broken replies began now lanes s have id
     let lane = some_at lanes (asked.0.0 - 1) (omega (arith, low, high)) in
     let none = all_at (λ (value : LaneValue _). value.queue ≡ []) lanes (asked.0.0 - 1) lane.0 idle lane.1 in
     let each = (s.lanes_at (asked.0.0 - 1) lane.0 lane.1).each i asked.0 asked.1 (omega (arith, low)) in
-    by_case (subst (λ (ps : List ℕ). IsWaiting i ps ⊎ ((r : Reply) × HasReply replies i r)) none each)
+    by_case (subst (λ (ps : List ℕ). Contains ps i ⊎ ((r : Reply) × HasReply replies i r)) none each)
   where
-    by_case : IsWaiting i [] ⊎ ((r : Reply) × HasReply replies i r) → (given : Reply) × HasReply replies i given × (reply_of i run ≡ Some given)
-    by_case (inl is) = absurd is
+    by_case : Contains [] i ⊎ ((r : Reply) × HasReply replies i r) → (given : Reply) × HasReply replies i given × (reply_of i run ≡ Some given)
+    by_case (inl is) = absurd (none_waits i is)
     by_case (inr h) = (h.0, h.1, one_some (reply_of i run) (Some h.0) (sym (s.given.1 i within) ∙ h.1))

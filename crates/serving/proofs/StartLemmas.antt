@@ -1,6 +1,6 @@
 -- A script begins: each lane waits with all its requests.
 use Rattle.std.proofs.Common.{◌≡◌, ◌<◌, ◌+◌, ◌==◌, ℕ, zero, suc, Bool, true, false, cond, List, [], ◌∷◌, Option, Some, None, refl, sym, ◌∙◌, ap, subst, arith, inl, inr}
-use Rattle.std.specs.Prelude.{count_by, length, slice_get}
+use Rattle.std.specs.Prelude.{Contains, count_by, length, slice_get}
 use Rattle.std.proofs.lemmas.Grind.{common_steps}
 use Rattle.std.proofs.lemmas.List.Elements.{All-nil}
 use Rattle.std.proofs.lemmas.List.Sums.{sum_by-cons}
@@ -12,8 +12,9 @@ use Rattle.journal.specs.Journal.{Requests, HasReply, is_read_fault, no_broken}
 use Rattle.journal.specs.JournalExamples.{nothing_around}
 use Rattle.task_steps.specs.Step.{Seen, HasComeTo, ShowsSeen}
 use Rattle.task_steps.proofs.ReplyingLemmas.{serves_start}
-use Rattle.serving.specs.Lanes.{AreBehind, AreFresh, IsInTurn, IsWaiting, LaneAt, LaneValue, queue_of}
+use Rattle.serving.specs.Lanes.{AreBehind, AreFresh, IsInTurn, LaneAt, LaneValue, queue_of}
 use Rattle.serving.specs.Serving.{IsServing, unreplied}
+use Rattle.serving.proofs.LaneLemmas.{waits_in}
 
 -- ---- no replies
 
@@ -104,20 +105,20 @@ turn_start At script (asked ∷ more) run lane n value empty none part = by_test
         )
     by_test false t others = others
 
-waits_start : (back : Requests) (lane n j : ℕ) (q : ℕ × Request) → slice_get back j ≡ Some q → q.0 ≡ lane → IsWaiting (n + j) (queue_of lane n back)
+waits_start : (back : Requests) (lane n j : ℕ) (q : ℕ × Request) → slice_get back j ≡ Some q → q.0 ≡ lane → Contains (queue_of lane n back) (n + j)
 waits_start [] lane n j q there on = absurd (let z : None ≡ Some q = there in cc z)
 waits_start (asked ∷ more) lane n zero q there on =
-    subst (λ (t : Bool). IsWaiting (n + 0) (cond t (n ∷ queue_of lane (n + 1) more) (queue_of lane (n + 1) more))) (sym (number_test asked.0 lane (ap (λ (p : ℕ × Request). p.0) (some_pair asked q there) ∙ on))) (inl (zero_more n))
-waits_start (asked ∷ more) lane n (suc j) q there on = by_test (asked.0 == lane) (subst (λ (m : ℕ). IsWaiting m (queue_of lane (n + 1) more)) (one_more n j) (waits_start more lane (n + 1) j q there on))
+    subst (λ (t : Bool). Contains (cond t (n ∷ queue_of lane (n + 1) more) (queue_of lane (n + 1) more)) (n + 0)) (sym (number_test asked.0 lane (ap (λ (p : ℕ × Request). p.0) (some_pair asked q there) ∙ on))) (waits_in n (queue_of lane (n + 1) more) (n + 0) (inl (zero_more n)))
+waits_start (asked ∷ more) lane n (suc j) q there on = by_test (asked.0 == lane) (subst (λ (m : ℕ). Contains (queue_of lane (n + 1) more) m) (one_more n j) (waits_start more lane (n + 1) j q there on))
   where
-    by_test : (t : Bool) → IsWaiting (n + suc j) (queue_of lane (n + 1) more) → IsWaiting (n + suc j) (cond t (n ∷ queue_of lane (n + 1) more) (queue_of lane (n + 1) more))
-    by_test true waits = inr waits
+    by_test : (t : Bool) → Contains (queue_of lane (n + 1) more) (n + suc j) → Contains (cond t (n ∷ queue_of lane (n + 1) more) (queue_of lane (n + 1) more)) (n + suc j)
+    by_test true waits = waits_in n (queue_of lane (n + 1) more) (n + suc j) (inr waits)
     by_test false waits = waits
 
 fresh_lane : {T : Type 0} → (At : T → Request → Run → ℕ → List Reply → Type 0) (script : Requests) (run : Run) (lane : ℕ) → run.events ≡ [] → LaneAt At script run [] (unreplied script) lane (record { queue = queue_of lane 0 script; task = None })
 fresh_lane {T} At script run lane empty = record {
   in_turn = turn_start At script script run lane 0 none empty refl (λ j. ap (λ (m : ℕ). slice_get script m) (none_more j));
-  each = λ i q there on. inl (subst (λ (m : ℕ). IsWaiting m (queue_of lane 0 script)) (none_more i) (waits_start script lane 0 i q there on));
+  each = λ i q there on. inl (subst (λ (m : ℕ). Contains (queue_of lane 0 script) m) (none_more i) (waits_start script lane 0 i q there on));
 }
   where
     none : LaneValue T

@@ -1,6 +1,6 @@
 -- A storage file that a run calls taken is claimed by the task of a lane, so the store has it as taken.
 use Rattle.std.proofs.Common.{◌≡◌, ◌<◌, ◌≤◌, ◌+◌, ◌-◌, ◌==◌, ◌&&◌, ℕ, zero, suc, Bool, true, false, cond, List, [], ◌∷◌, map, length, Option, Some, None, refl, sym, ◌∙◌, ap, arith, inl, inr}
-use Rattle.std.specs.Prelude.{◌⊎◌, ◌||◌, filter, is_none, not, slice_get}
+use Rattle.std.specs.Prelude.{◌⊎◌, ◌||◌, Contains, filter, is_none, not, slice_get}
 use Rattle.std.specs.List.{list_any}
 use Rattle.std.proofs.lemmas.List.Sums.{sum_by-cons}
 use Rattle.std.proofs.lemmas.Option.{slice_get_within}
@@ -15,10 +15,10 @@ use Rattle.storage_files.specs.Files.{is_emptied_in, is_taken_in}
 use Rattle.store_core.specs.Value.{StoreValue}
 use Rattle.task_claims.specs.Claims.{AddsUp, Claims, Emptied, Taken, Thing, one_if, total_claims}
 use Rattle.serving.specs.Accounts.{lane_claims}
-use Rattle.serving.specs.Lanes.{AreBehind, IsInTurn, IsWaiting, LaneStands, LaneValue, said_by}
+use Rattle.serving.specs.Lanes.{AreBehind, IsInTurn, LaneStands, LaneValue, said_by}
 use Rattle.serving.specs.Serving.{HaveLanes, IsServing}
 use Rattle.serving.specs.Taken.{ClaimsTaken, IsInUse}
-use Rattle.serving.proofs.LaneLemmas.{one_some}
+use Rattle.serving.proofs.LaneLemmas.{first_or_behind, none_waits, one_some}
 use Rattle.serving.proofs.ServingLemmas.{all_at, some_at}
 
 -- ---- lists
@@ -61,10 +61,13 @@ any_kept keep test (a ∷ more) (suc n) x there k t = by_keep (keep a) refl (any
 has_some : (file : ℕ) (own : List RunEvent) → list_any (took_file file) own ≡ true → own ≡ [] → ⊥
 has_some file own any none = let z : false ≡ true = sym (ap (list_any (took_file file)) none) ∙ any in cc z
 
-waiting_none : (script : Requests) (run : Run) (lane place : ℕ) (rest : List ℕ) (i : ℕ) → AreBehind script run lane place rest → IsWaiting i rest → own_events i run ≡ []
-waiting_none script run lane place [] i behind is = absurd is
-waiting_none script run lane place (next ∷ rest) i behind (inl e) = ap (λ (n : ℕ). own_events n run) e ∙ behind.2
-waiting_none script run lane place (next ∷ rest) i behind (inr is) = waiting_none script run lane next rest i behind.3 is
+waiting_none : (script : Requests) (run : Run) (lane place : ℕ) (rest : List ℕ) (i : ℕ) → AreBehind script run lane place rest → Contains rest i → own_events i run ≡ []
+waiting_none script run lane place [] i behind is = absurd (none_waits i is)
+waiting_none script run lane place (next ∷ rest) i behind is = by_case (waiting_none script run lane next rest i behind.3) (first_or_behind next rest i is)
+  where
+    by_case : (Contains rest i → own_events i run ≡ []) → (i ≡ next) ⊎ Contains rest i → own_events i run ≡ []
+    by_case more (inl e) = ap (λ (n : ℕ). own_events n run) e ∙ behind.2
+    by_case more (inr is) = more is
 
 -- ---- claims
 
@@ -87,8 +90,8 @@ is_one false le = absurd (let h : 1 ≤ 0 = le in omega (arith, h))
 
 pub taken_in_use : {T D : Type 0} → (At : T → Request → Run → ℕ → List Reply → Type 0) (claims : T → Claims) (start : Lists) (script : Requests) (run : Run) (journal : List JournalStep) (broken : Broken) (replies : List (Option Reply)) (began now : Seen) (lanes : List (LaneValue T)) (store : StoreValue D) (file : ℕ)
     → IsServing At start script run journal broken replies began now lanes → HaveLanes script lanes → AddsUp store (map (lane_claims claims) lanes)
-    → ((task : T) (request : Request) (place : ℕ) (said : List Reply) → At task request run place said → ClaimsTaken (own_events place run) (claims task)) → is_taken run file ≡ true → IsInUse store file
-taken_in_use {T} At claims start script run journal broken replies began now lanes store file s have adds take is = by_event (found_at _ run.events is)
+    → ((task : T) (request : Request) (place : ℕ) (said : List Reply) → At task request run place said → ClaimsTaken (own_events place run) (claims task)) → 1 ≤ file → is_taken run file ≡ true → IsInUse store file
+taken_in_use {T} At claims start script run journal broken replies began now lanes store file s have adds take numbered is = by_event (found_at _ run.events is)
   where
     by_claim : (k : ℕ) (value : LaneValue T) (task : T) → slice_get lanes k ≡ Some value → value.task ≡ Some task → (1 ≤ claims task (Taken file)) ⊎ (1 ≤ claims task (Emptied file)) → IsInUse store file
     by_claim k value task there has (inl c) =
@@ -104,15 +107,18 @@ taken_in_use {T} At claims start script run journal broken replies began now lan
 
     by_task : (k : ℕ) (value : LaneValue T) (task : Option T) (request : Request) (place : ℕ) → slice_get lanes k ≡ Some value → value.task ≡ task → LaneStands At task request run place (said_by journal place) → list_any (took_file file) (own_events place run) ≡ true → gave_back file (own_events place run) ≡ false → IsInUse store file
     by_task k value None request place there has stands took kept = absurd (has_some file (own_events place run) took stands.0)
-    by_task k value (Some task) request place there has stands took kept = by_claim k value task there has (take task request place (said_by journal place) stands file took kept)
+    by_task k value (Some task) request place there has stands took kept = by_claim k value task there has (take task request place (said_by journal place) stands file numbered took kept)
 
-    by_queue : (k : ℕ) (value : LaneValue T) (queue : List ℕ) (place : ℕ) → slice_get lanes k ≡ Some value → IsInTurn At script run journal replies (k + 1) value queue → IsWaiting place queue → list_any (took_file file) (own_events place run) ≡ true → gave_back file (own_events place run) ≡ false → IsInUse store file
-    by_queue k value [] place there turn waits took kept = absurd waits
-    by_queue k value (first ∷ rest) place there turn (inl e) took kept =
+    by_first : (k : ℕ) (value : LaneValue T) (first : ℕ) (rest : List ℕ) (place : ℕ) → slice_get lanes k ≡ Some value → IsInTurn At script run journal replies (k + 1) value (first ∷ rest) → (place ≡ first) ⊎ Contains rest place → list_any (took_file file) (own_events place run) ≡ true → gave_back file (own_events place run) ≡ false → IsInUse store file
+    by_first k value first rest place there turn (inl e) took kept =
         by_task k value value.task turn.0.0 first there refl turn.0.2 (ap (λ (n : ℕ). list_any (took_file file) (own_events n run)) (sym e) ∙ took) (ap (λ (n : ℕ). gave_back file (own_events n run)) (sym e) ∙ kept)
-    by_queue k value (first ∷ rest) place there turn (inr waits) took kept = absurd (has_some file (own_events place run) took (waiting_none script run (k + 1) first rest place turn.1 waits))
+    by_first k value first rest place there turn (inr waits) took kept = absurd (has_some file (own_events place run) took (waiting_none script run (k + 1) first rest place turn.1 waits))
 
-    by_each : (k : ℕ) (value : LaneValue T) (place : ℕ) (asked : ℕ × Request) → slice_get lanes k ≡ Some value → slice_get script place ≡ Some asked → IsWaiting place value.queue ⊎ ((given : Reply) × HasReply replies place given) → reply_of place run ≡ None → list_any (took_file file) (own_events place run) ≡ true → gave_back file (own_events place run) ≡ false → IsInUse store file
+    by_queue : (k : ℕ) (value : LaneValue T) (queue : List ℕ) (place : ℕ) → slice_get lanes k ≡ Some value → IsInTurn At script run journal replies (k + 1) value queue → Contains queue place → list_any (took_file file) (own_events place run) ≡ true → gave_back file (own_events place run) ≡ false → IsInUse store file
+    by_queue k value [] place there turn waits took kept = absurd (none_waits place waits)
+    by_queue k value (first ∷ rest) place there turn waits took kept = by_first k value first rest place there turn (first_or_behind first rest place waits) took kept
+
+    by_each : (k : ℕ) (value : LaneValue T) (place : ℕ) (asked : ℕ × Request) → slice_get lanes k ≡ Some value → slice_get script place ≡ Some asked → Contains value.queue place ⊎ ((given : Reply) × HasReply replies place given) → reply_of place run ≡ None → list_any (took_file file) (own_events place run) ≡ true → gave_back file (own_events place run) ≡ false → IsInUse store file
     by_each k value place asked there request (inl waits) none took kept = by_queue k value value.queue place there (s.lanes_at k value there).in_turn waits took kept
     by_each k value place asked there request (inr given) none took kept =
         let e = sym (s.given.1 place (slice_get_within script place asked request)) ∙ given.1 in

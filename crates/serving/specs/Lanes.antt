@@ -1,5 +1,5 @@
 -- Where the requests of a script stand that lanes serve, each lane one after another.
-use Rattle.std.specs.Prelude.{◌≡◌, ◌<◌, ◌+◌, ◌==◌, ◌⊎◌, ℕ, List, [], ◌∷◌, map, slice_get, slice_set, if◌then◌else◌, Option, Some, None}
+use Rattle.std.specs.Prelude.{◌≡◌, ◌<◌, ◌+◌, ◌==◌, ◌⊎◌, ℕ, List, [], ◌∷◌, map, slice_get, slice_set, if◌then◌else◌, Option, Some, None, Contains}
 use Rattle.mdbox_base.specs.declared.replies.Reply.{Reply}
 use Rattle.mdbox_base.specs.declared.requests.Request.{Request}
 use Rattle.list_machine.specs.Run.{Run, own_events}
@@ -22,11 +22,6 @@ abbrev pub LaneStands : {T : Type 0} → (T → Request → Run → ℕ → List
 LaneStands At None request = HasNotBegun
 LaneStands At (Some task) request = At task request
 
--- the place is one of a queue
-abbrev pub IsWaiting : ℕ → List ℕ → Type 0
-IsWaiting i [] = ⊥
-IsWaiting i (place ∷ rest) = (i ≡ place) ⊎ IsWaiting i rest
-
 -- The requests behind one place are of the lane, stand in script order, and have no event.
 abbrev pub AreBehind : Requests → Run → ℕ → ℕ → List ℕ → Type 0
 AreBehind script run lane place [] = Unit {0}
@@ -41,7 +36,7 @@ IsInTurn At script run journal replies lane value (place ∷ rest) =
 -- A lane stands so: its first request is in turn, and each request of the lane waits in it or is answered.
 pub record LaneAt {T : Type 0} (At : T → Request → Run → ℕ → List Reply → Type 0) (script : Requests) (run : Run) (journal : List JournalStep) (replies : List (Option Reply)) (lane : ℕ) (value : LaneValue T) : Type 0 where
   pub in_turn : IsInTurn At script run journal replies lane value value.queue
-  pub each : (i : ℕ) (asked : ℕ × Request) → slice_get script i ≡ Some asked → asked.0 ≡ lane → IsWaiting i value.queue ⊎ ((given : Reply) × HasReply replies i given)
+  pub each : (i : ℕ) (asked : ℕ × Request) → slice_get script i ≡ Some asked → asked.0 ≡ lane → Contains value.queue i ⊎ ((given : Reply) × HasReply replies i given)
 
 -- Each lane stands so; lanes are numbered from 1.
 abbrev pub LanesAt : {T : Type 0} → (T → Request → Run → ℕ → List Reply → Type 0) → Requests → Run → List JournalStep → List (Option Reply) → List (LaneValue T) → Type 0

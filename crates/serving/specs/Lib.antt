@@ -1,6 +1,5 @@
 pub mod Accounts
 pub mod Lanes
-pub mod OwnClaims
 pub mod OwnWork
 pub mod Serving
 pub mod Standing

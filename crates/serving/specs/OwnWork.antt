@@ -3,8 +3,6 @@ use Rattle.std.specs.Prelude.{◌≡◌, ℕ, List}
 use Rattle.mdbox_base.specs.declared.replies.Reply.{Reply}
 use Rattle.mdbox_base.specs.declared.requests.Request.{Request}
 use Rattle.list_machine.specs.Run.{RunEvent, Run, own_events}
-use Rattle.journal.specs.Stages.{Stage}
-use Rattle.task_steps.specs.ExpungeStages.{StandsAtStage}
 
 -- What a request has done: its events, and the answers of its steps.
 pub record OwnWork : Type 0 where
@@ -14,7 +12,3 @@ pub record OwnWork : Type 0 where
 -- its events of the run are these, and its steps answered this
 abbrev pub HasWorked : OwnWork → Request → Run → ℕ → List Reply → Type 0
 HasWorked work request run place said = (own_events place run ≡ work.events) × (said ≡ work.answers)
-
--- where an expunge stands, whatever message it is of
-abbrev pub IsExpunging : Stage → Request → Run → ℕ → List Reply → Type 0
-IsExpunging stage request = StandsAtStage stage

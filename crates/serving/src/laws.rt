@@ -1,6 +1,5 @@
 // A script that lanes serve, event by event.
-ghost use Rattle.std.specs.Prelude.{◌≡◌, ◌≢◌, ◌<◌, ◌+◌, ◌++◌, ◌∷◌, [], true, false, ℕ, List, length, map, slice_get, slice_set, Option, Some, None};
-ghost use Rattle.disk_model.specs.Disk.{History};
+ghost use Rattle.std.specs.Prelude.{◌≡◌, ◌≢◌, ◌<◌, ◌≤◌, ◌+◌, ◌++◌, ◌∷◌, [], true, false, ℕ, Bool, List, length, map, slice_get, slice_set, Option, Some, None};
 ghost use Rattle.mdbox_base.specs.declared.progress.Did.{Did};
 ghost use Rattle.mdbox_base.specs.declared.replies.Reply.{Reply};
 ghost use Rattle.mdbox_base.specs.declared.requests.Request.{Request};
@@ -10,17 +9,14 @@ ghost use Rattle.journal.specs.Events.{Around};
 ghost use Rattle.journal.specs.Found.{is_taken};
 ghost use Rattle.journal.specs.Journal.{Requests, JournalStep, Broken, HasReply, left_by, no_broken};
 ghost use Rattle.journal.specs.Makes.{steps_made};
-ghost use Rattle.journal.specs.Stages.{Stage};
 ghost use Rattle.store_core.specs.Value.{StoreValue};
-ghost use Rattle.task_claims.specs.Claims.{AddsUp, AreIn, Claims, HasNoTask, MovesClaims};
-ghost use Rattle.task_claims.specs.Leaving.{LeavesOthers};
+ghost use Rattle.task_claims.specs.Claims.{AddsUp, Claims};
 ghost use Rattle.task_steps.specs.Serves.{IsTurn};
-ghost use Rattle.task_steps.specs.Step.{Seen, HasComeTo, ShowsSeen, DidEvent, IsKept, Steps, and_told};
-ghost use Rattle.serving.specs.Lanes.{AreFresh, LaneStands, LaneValue, lane_behind, replies_behind, said_by};
-ghost use Rattle.serving.specs.OwnWork.{HasWorked, IsExpunging, OwnWork};
+ghost use Rattle.task_steps.specs.Step.{Seen, HasComeTo, ShowsSeen, DidEvent, and_told};
+ghost use Rattle.serving.specs.Lanes.{AreFresh, LaneValue, lane_behind, replies_behind, said_by};
+ghost use Rattle.serving.specs.OwnWork.{HasWorked, OwnWork};
 ghost use Rattle.serving.specs.Serving.{AreIdle, HaveLanes, IsServing, unreplied};
 ghost use Rattle.serving.specs.Accounts.{lane_claims};
-ghost use Rattle.serving.specs.OwnClaims.{AreAccounted, own_claims};
 ghost use Rattle.serving.specs.Taken.{ClaimsTaken, IsInUse};
 ghost use Rattle.serving.specs.Turns.{IsTraceOf, LaneTurn, lanes_worked};
 
@@ -53,12 +49,18 @@ pub fn all_replied()
         → (i : ℕ) → i < length script → (given : Reply) × HasReply replies i given × (reply_of i run ≡ Some given) }
 {}
 
-/// A trace of turns goes on with the run: a turn that worked makes the next event, an idle one makes none. The n-th turn that worked
-/// is the lane's of the n-th event.
+/// A trace of turns goes on with the run: a turn that worked makes its lane's next event, and an event that finishes the lanes is
+/// nobody's turn. An idle turn makes none, of a lane that has no request left. The n-th turn that worked is of the lane of the n-th event.
 pub fn turns_pass()
-    ensures worked { (turns : List LaneTurn) (run : Run) (event : RunEvent) → IsTraceOf turns run → IsTraceOf (turns ++ record { lane = event.lane; idle = false } ∷ []) (and_then run event) }
-    ensures idle { (turns : List LaneTurn) (run : Run) (lane : ℕ) → IsTraceOf turns run → IsTraceOf (turns ++ record { lane = lane; idle = true } ∷ []) run }
-    ensures made { (turns : List LaneTurn) (run : Run) (n : ℕ) (event : RunEvent) → IsTraceOf turns run → slice_get run.events n ≡ Some event → slice_get (lanes_worked turns) n ≡ Some event.lane }
+    ensures begun { (run : Run) (lanes : List (LaneValue OwnWork)) → run.events ≡ [] → IsTraceOf false [] run lanes }
+    ensures worked { (turns : List LaneTurn) (run : Run) (lanes : List (LaneValue OwnWork)) (k : ℕ) (value : LaneValue OwnWork) (work : OwnWork) (event : RunEvent) (ended : Option Reply) → slice_get lanes k ≡ Some value → event.lane ≡ k + 1 → IsTraceOf false turns run lanes
+        → IsTraceOf false (turns ++ record { lane = k + 1; idle = false } ∷ []) (and_then run event) (slice_set lanes k (lane_behind ended work value)) }
+    ensures finishing { (finished : Bool) (turns : List LaneTurn) (run : Run) (lanes : List (LaneValue OwnWork)) (k : ℕ) (value : LaneValue OwnWork) (work : OwnWork) (event : RunEvent) (ended : Option Reply) → slice_get lanes k ≡ Some value → IsTraceOf finished turns run lanes
+        → IsTraceOf true turns (and_then run event) (slice_set lanes k (lane_behind ended work value)) }
+    ensures idle { (finished : Bool) (turns : List LaneTurn) (run : Run) (lanes : List (LaneValue OwnWork)) (k : ℕ) (value : LaneValue OwnWork) → slice_get lanes k ≡ Some value → value.queue ≡ [] → IsTraceOf finished turns run lanes
+        → IsTraceOf finished (turns ++ record { lane = k + 1; idle = true } ∷ []) run lanes }
+    ensures made { (turns : List LaneTurn) (run : Run) (lanes : List (LaneValue OwnWork)) (n : ℕ) (event : RunEvent) → IsTraceOf false turns run lanes → slice_get run.events n ≡ Some event → slice_get (lanes_worked turns) n ≡ Some event.lane }
+    ensures turned { (finished : Bool) (turns : List LaneTurn) (run : Run) (lanes : List (LaneValue OwnWork)) (n lane : ℕ) → IsTraceOf finished turns run lanes → slice_get (lanes_worked turns) n ≡ Some lane → (event : RunEvent) × (slice_get run.events n ≡ Some event) × (event.lane ≡ lane) }
 {}
 
 /// The next request of a lane takes its turn, once the one before it is answered.
@@ -67,27 +69,9 @@ pub fn requests_take_turns()
         → ((j : ℕ) → place ≢ j → slice_get after j ≡ slice_get replies j) → IsTurn script journal after lane next following }
 {}
 
-/// Lanes of expunges: a step that does as the clause of a step says, from where the lane stands to the next stage, is the lane's next
-/// event, whatever other lanes there are.
-pub fn expunges_are_served()
-    ensures kept { (stage : Stage) (request : Request) → IsKept (IsExpunging stage request) }
-    ensures serves { (start : Lists) (script : Requests) (run : Run) (journal : List JournalStep) (broken : Broken) (replies : List (Option Reply)) (began now new : Seen) (lanes : List (LaneValue Stage)) (k place : ℕ) (rest : List ℕ) (value : LaneValue Stage) (request : Request) (next : Stage) (around after : Around) (how : Did) (ended : Option Reply)
-        → IsServing IsExpunging start script run journal broken replies began now lanes → slice_get lanes k ≡ Some value → value.queue ≡ place ∷ rest → slice_get script place ≡ Some (k + 1, request)
-        → Steps (LaneStands IsExpunging value.task request) (IsExpunging next request) around after request now new how ended
-        → (then : Run) × (steps : List JournalStep) × (failed : Broken) × IsServing IsExpunging start script then steps failed (replies_behind ended place replies) began new (slice_set lanes k (lane_behind ended next value)) }
-{}
-
 /// A storage file that the run calls taken is in use: where each task claims the files that its request's events took and haven't given
 /// back, and the tasks' claims add up, the store has it as taken.
 pub fn taken_files_are_in_use<D>()
     ensures { (claims : OwnWork → Claims) (start : Lists) (script : Requests) (run : Run) (journal : List JournalStep) (broken : Broken) (replies : List (Option Reply)) (began now : Seen) (lanes : List (LaneValue OwnWork)) (store : StoreValue D) (file : ℕ) → IsServing HasWorked start script run journal broken replies began now lanes → HaveLanes script lanes
-        → AddsUp store (map (lane_claims claims) lanes) → ((work : OwnWork) → ClaimsTaken work.events (claims work)) → is_taken run file ≡ true → IsInUse store file }
-{}
-
-/// Lanes account for a store: for one of which no task claims anything, as long as no lane has a task; and behind an event of a lane's
-/// task that moves only its own claims and leaves to the others what is theirs. Here of tasks that are known by what they claim.
-pub fn lanes_account<D>()
-    ensures fresh { (lanes : List (LaneValue Claims)) (store : StoreValue D) (history : Option History) → HasNoTask store → ((k : ℕ) (value : LaneValue Claims) → slice_get lanes k ≡ Some value → value.task ≡ None) → AreAccounted store history lanes }
-    ensures on { (lanes : List (LaneValue Claims)) (k : ℕ) (value now : LaneValue Claims) (old new : StoreValue D) (before after : Option History) → slice_get lanes k ≡ Some value → MovesClaims (lane_claims own_claims value) (lane_claims own_claims now) old new → LeavesOthers (lane_claims own_claims value) old new before after
-        → AreAccounted old before lanes → AreIn new (lane_claims own_claims now) → AreAccounted new after (slice_set lanes k now) }
+        → AddsUp store (map (lane_claims claims) lanes) → ((work : OwnWork) → ClaimsTaken work.events (claims work)) → 1 ≤ file → is_taken run file ≡ true → IsInUse store file }
 {}

@@ -2,8 +2,8 @@
 #![tactic(auto)]
 
 pub use laws::{
-    all_replied, expunges_are_served, lanes_account, requests_take_turns, serving_done,
-    serving_more, serving_start, taken_files_are_in_use, turns_pass,
+    all_replied, requests_take_turns, serving_done, serving_more, serving_start,
+    taken_files_are_in_use, turns_pass,
 };
 
 mod laws;

@@ -6,6 +6,6 @@ use Rattle.serving.proofs.TakenLemmas.{taken_in_use}
 use Rattle.serving.proofs.laws.taken_files_are_in_use.Goals as goal
 
 pub returns : goal.returns
-returns g c = λ claims start script run journal broken replies began now lanes store file s have adds take is.
+returns g c = λ claims start script run journal broken replies began now lanes store file s have adds take numbered is.
     taken_in_use HasWorked claims start script run journal broken replies began now lanes store file s have adds
-    (λ work request place said stands. subst (λ (own : List RunEvent). ClaimsTaken own (claims work)) (sym stands.0) (take work)) is
+    (λ work request place said stands. subst (λ (own : List RunEvent). ClaimsTaken own (claims work)) (sym stands.0) (take work)) numbered is

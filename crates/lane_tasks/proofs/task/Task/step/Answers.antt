@@ -1,4 +1,4 @@
-use Rattle.std.proofs.Common.{refl, sym, subst}
+use Rattle.std.proofs.Common.{sym, subst}
 use Rattle.task_claims.specs.Leaving.{LeavesOthers}
 use Rattle.task_steps.specs.Step.{ended_by}
 use Rattle.lane_tasks.specs.Clause.{StepsTask}
