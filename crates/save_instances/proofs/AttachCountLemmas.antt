@@ -1,5 +1,5 @@
 -- How many events are still to come.
-use Rattle.std.specs.Prelude.{filter, if◌then◌else◌}
+use Rattle.std.specs.Prelude.{filter, map, if◌then◌else◌}
 use Rattle.std.specs.Option.{option_map_or}
 use Rattle.std.specs.Ordering.{is_lt}
 use Rattle.std.specs.declared.cmp.Ordering.TheVariants.{Less}
@@ -14,7 +14,7 @@ use Rattle.mdbox_base.specs.declared.entries.InstRow.{InstRow}
 use Rattle.mdbox_base.specs.declared.ids.Hash.{Hash}
 use Rattle.mdbox_base.specs.declared.ids.InstId.{InstId}
 use Rattle.sis_store.specs.Comparing.{candidates_left}
-use Rattle.sis_store.specs.Instances.{InstancesValue, has_id, is_id_past, is_of_kind, with_holders, with_instance}
+use Rattle.sis_store.specs.Instances.{InstancesValue, after_placing, has_id, instance_placed, is_id_past, is_of_kind, with_holders, with_instance}
 use Rattle.sis_store.specs.declared.instance.KnownInstance.{KnownInstance}
 use Rattle.sis_store.proofs.IdLemmas.{by_octets, is_within, less_lt, turned}
 use Rattle.save_instances.specs.Attaching.{AttachingValue, attach_events_left, candidates_of, compared_to, next_attachment, numbers_left, parts_left, with_found}
@@ -160,3 +160,53 @@ placed_many new known =
     apart k e f =
         let g : is_lt (by_octets new.row.id.0 k.row.id.0) ≡ false = ap is_lt (turned k.row.id.0 new.row.id.0 Less (less_lt (by_octets k.row.id.0 new.row.id.0) e)) in
         true≢false (sym f ∙ g)
+
+-- An instance was placed for the next attachment, with the next number.
+pub placed_fewer : (value now : AttachingValue) (row : InstRow) (hash : Hash) (size : ℕ) (part : Detached) (instances later : InstancesValue) → next_attachment value ≡ Some part → now ≡ with_found row value → later ≡ after_placing hash size instances → later.highest ≤ 4294967294
+    → attach_events_left now later < attach_events_left value instances
+placed_fewer value now row hash size part instances later next is placed last =
+    let many : length later.known ≤ length instances.known + 1 = subst (λ (i : InstancesValue). length i.known ≤ length instances.known + 1) (sym placed) (placed_many (instance_placed instances hash size) instances.known) in
+    let drawn : later.highest ≡ instances.highest + 1 = ap (λ (i : InstancesValue). i.highest) placed in
+    found_fewer value now row part instances later next is (lower instances.highest later.highest (numbers_left instances) (numbers_left later) drawn refl refl)
+    (within (length instances.known) (length later.known) instances.highest later.highest (numbers_left instances) (numbers_left later) many drawn last refl refl)
+  where
+    lower : (a b h j : ℕ) → b ≡ a + 1 → h ≡ 4294967294 - a → j ≡ 4294967294 - b → j ≤ h
+    lower a b h j is one other = omega (arith, is, one, other)
+
+    within : (n m a b h j : ℕ) → m ≤ n + 1 → b ≡ a + 1 → b ≤ 4294967294 → h ≡ 4294967294 - a → j ≡ 4294967294 - b → m + j ≤ n + h
+    within n m a b h j many is most one other = omega (arith, many, is, most, one, other)
+
+-- ---- candidates beside holds
+
+-- the same instances are known, whoever holds them
+abbrev pub AreSameRows : List KnownInstance → List KnownInstance → Type 0
+AreSameRows known later = map (λ k. k.row) later ≡ map (λ k. k.row) known
+
+pub held_rows : (id : InstId) (holders : ℕ) (known : List KnownInstance) → AreSameRows known (with_holders id holders known)
+held_rows id holders [] = refl
+held_rows id holders (k ∷ known) = by (has_id id k) (held_rows id holders known)
+  where
+    by : (t : Bool) → AreSameRows known (with_holders id holders known) → (if t then record k { holders = holders } else k).row ∷ map (λ k. k.row) (with_holders id holders known) ≡ k.row ∷ map (λ k. k.row) known
+    by true same = ap (λ (rows : List InstRow). k.row ∷ rows) same
+    by false same = ap (λ (rows : List InstRow). k.row ∷ rows) same
+
+rows_counted : (hash : Hash) (size : ℕ) (after : Option InstId) (known : List KnownInstance) → candidates_left hash size after known ≡ length (filter (λ row. is_of_kind hash size row && is_id_past after row.id) (map (λ k. k.row) known))
+rows_counted hash size after [] = refl
+rows_counted hash size after (k ∷ known) = by (is_of_kind hash size k.row && is_id_past after k.row.id) (rows_counted hash size after known)
+  where
+    p : KnownInstance → Bool
+    p k = is_of_kind hash size k.row && is_id_past after k.row.id
+
+    q : InstRow → Bool
+    q row = is_of_kind hash size row && is_id_past after row.id
+
+    by : (t : Bool) → candidates_left hash size after known ≡ length (filter q (map (λ k. k.row) known)) → length (if t then k ∷ filter p known else filter p known) ≡ length (if t then k.row ∷ filter q (map (λ k. k.row) known) else filter q (map (λ k. k.row) known))
+    by true same = ap (λ (n : ℕ). suc n) same
+    by false same = same
+
+pub same_candidates : (known later : List KnownInstance) → AreSameRows known later → (hash : Hash) (size : ℕ) (after : Option InstId) → candidates_left hash size after later ≡ candidates_left hash size after known
+same_candidates known later same hash size after =
+    rows_counted hash size after later ∙ (ap (λ (rows : List InstRow). length (filter (λ row. is_of_kind hash size row && is_id_past after row.id) rows)) same ∙ sym (rows_counted hash size after known))
+
+pub same_many : (known later : List KnownInstance) → AreSameRows known later → length later ≡ length known
+same_many known later same = sym (length-map later (λ k. k.row)) ∙ (ap length same ∙ length-map known (λ k. k.row))
