@@ -40,10 +40,10 @@ use Rattle.mail_save.specs.declared.first.SavedParts.{SavedParts}
 use Rattle.mail_save.specs.declared.task.SaveStage.{SaveStage}
 use Rattle.mail_save.specs.declared.task.SaveStage.TheVariants as stage
 use Rattle.mail_save.proofs.SaveClauseLemmas.{EventOf, DeliveryClause, with_did}
-use Rattle.mail_save.proofs.SaveDidLemmas.{Lasts, or_none, step_calm, step_runs, HasRun, StaysSo}
+use Rattle.mail_save.proofs.SaveDidLemmas.{Lasts, or_none, same_changes, same_reads, step_calm, step_runs, HasRun, StaysSo}
 use Rattle.mail_save.proofs.SaveFrontLemmas.{SeesAround, compares_part, found_with, places_part}
 use Rattle.mail_save.proofs.SaveRefusedLemmas.{checked_save, comparing_at, ends_comparing, ends_placing_instance, fallen_save, forgotten_save, full_instances, placing_instance_at, unread_save}
-use Rattle.mail_save.proofs.SaveStepLemmas.{fell_by, memory_runs, memory_unread, more_differs, not_stopped, refused_differs, same_changes, same_reads, equal_reads, step_did, uid_full, untold_faults}
+use Rattle.mail_save.proofs.SaveStepLemmas.{fell_by, memory_runs, memory_unread, more_differs, not_stopped, refused_differs, equal_reads, step_did, uid_full, untold_faults}
 use Rattle.mail_save.proofs.SaveStoreLemmas.{TellsFiles, tells_same, drawn_instance, due_stays, gave_on, has_run, same_ends, sees_around, stays_so, tells_store}
 use Rattle.mail_save.proofs.SeenInstanceLemmas.{gone_on, knows_compared, knows_in, knows_with, knows_same, next_not_gone, next_number}
 
@@ -143,10 +143,6 @@ places_more pins parts attaching more next name time size octets how old new bef
       ungone = λ i some. next_not_gone old i e.kept e.id_long few (same_id i row (sym (among_list i row event.placed placed) ∙ some));
     }))
   where
-    still_there : (n : ℕ) (made : List ℕ) → made ≡ [] → (is_some (end_in n old.files.files) ≡ true) ⊎ (is_one_of made n ≡ true) → is_some (end_in n new.files.files) ≡ true
-    still_there n made none (inl was) = (same_ends old new files ends).there n was
-    still_there n made none (inr was) = absurd (let k : false ≡ true = sym (ap (λ (fs : List ℕ). is_one_of fs n) none) ∙ was in cc k)
-
     row : InstRow
     row = part_row p.part (next_id old.instances)
 
@@ -167,6 +163,10 @@ places_more pins parts attaching more next name time size octets how old new bef
 
     ends : (n : ℕ) → end_in n new.files.files ≡ end_in n old.files.files
     ends n = ap (λ (v : StoreValue _). end_in n v.files.files) p.same
+
+    still_there : (n : ℕ) (made : List ℕ) → made ≡ [] → (is_some (end_in n old.files.files) ≡ true) ⊎ (is_one_of made n ≡ true) → is_some (end_in n new.files.files) ≡ true
+    still_there n made none (inl was) = ap (λ (o : Option ℕ). is_some o) (ends n) ∙ was
+    still_there n made none (inr was) = absurd (let k : false ≡ true = sym (ap (λ (fs : List ℕ). is_one_of fs n) none) ∙ was in cc k)
 
     files : TellsFiles old new
     files = tells_same old new (let d = ap (λ (v : StoreValue _). v.drawn.file) p.same in omega (arith, d)) (ap (λ (v : StoreValue _). v.files.files) p.same)
