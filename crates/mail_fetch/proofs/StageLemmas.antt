@@ -38,7 +38,7 @@ use Rattle.mail_fetch.proofs.StepLemmas.{begin_steps, read_steps, stopped_steps,
 
 -- What a step says of a store as it was and as it is, but for how many events are left.
 pub record StepSays {D : Type 0} (H : D → Option History) (F : D → Faults) (name : List ℕ) (uid : Uid) (now next : FetchStage) (old new : StoreValue D) (how : Did) (answer : Progress) : Type 0 where
-  pub does : (around after : Around) → UnpinsUndoomed now old → FetchSteps around after name uid now next old new (H old.disk) (H new.disk) (F old.disk) (F new.disk) how (ended_by answer)
+  pub does : (around after : Around) → (old.stopped ≡ false → UnpinsUndoomed now old) → FetchSteps around after name uid now next old new (H old.disk) (H new.disk) (F old.disk) (F new.disk) how (ended_by answer)
   pub claims : new.stopped ≡ false → UnpinsUndoomed now old → MovesClaims (fetch_claims now) (fetch_claims next) old new
   pub leaves : new.stopped ≡ false → LeavesOthers (fetch_claims now) old new (H old.disk) (H new.disk)
   pub ended : (given : Reply) → answer ≡ progress.Done given → new.stopped ≡ false → ClaimsNothing (fetch_claims next)
@@ -162,7 +162,7 @@ unpinning_says {D = D} H F name uid from given old new runs own same claims leav
     record {
       does = λ around after undoomed.
           subst (λ (s : StoreValue D). FetchSteps around after name uid (stage.Unpinning from given) stage.First old s (H old.disk) (H s.disk) (F old.disk) (F s.disk) did.Quiet (Some given)) (sym same)
-          (unpin_steps around after name uid from given old (H old.disk) (F old.disk) runs undoomed own.claimed);
+          (unpin_steps around after name uid from given old (H old.disk) (F old.disk) runs (undoomed runs) own.claimed);
       claims = λ runs_now undoomed. claims undoomed;
       leaves = λ runs_now. leaves;
       ended = λ answer e runs_now thing. refl;
