@@ -55,7 +55,7 @@ use Rattle.mail_save.proofs.SaveReadyLemmas.{begins_ready as fresh_delivery}
 use Rattle.mail_save.proofs.SaveTakenLemmas.{taken_claimed}
 use Rattle.mail_save.proofs.StableSaveLemmas.{save_stable}
 use Rattle.lane_tasks.specs.Clause.{PassesBy}
-use Rattle.lane_tasks.specs.Tasks.{BeginsTask, IsAtDelivery, IsAtFirst, IsAtTask, IsFreshDelivery, IsReadyTask, StandsTask, TookFiles, TookNoFile, claims_at, work_left}
+use Rattle.lane_tasks.specs.Tasks.{BeginsTask, IsAtDelivery, IsAtFirst, IsAtTask, IsFreshDelivery, IsMakeNumber, IsReadyTask, StandsTask, TookFiles, TookNoFile, claims_at, work_left}
 use Rattle.lane_tasks.specs.declared.task.Task.{Task}
 use Rattle.lane_tasks.specs.declared.task.Task.TheVariants as task
 use Rattle.lane_tasks.proofs.FilesLemmas.{none_taken, took_none_other}
@@ -65,7 +65,7 @@ use Rattle.lane_tasks.proofs.FilesLemmas.{none_taken, took_none_other}
 pub task_stable : {D : Type 0} → (t : Task) → IsStable {D = D} (claims_at t) (λ store history. IsReadyTask t store history)
 task_stable (task.Ops t) old new before after b ready = tt
 task_stable (task.Counts t) old new before after b ready = tt
-task_stable (task.Make t) old new before after b ready = make_stable t.stage old new before after b ready
+task_stable (task.Make t) old new before after b ready = (make_stable t.stage old new before after b ready.0, ready.1)
 task_stable (task.Copy t) old new before after b ready = copy_stable t.name t.uid t.stage old new before after b ready
 task_stable (task.Move t) old new before after b ready = move_stable t.name t.uid t.stage old new before after b ready
 task_stable (task.Expunge t) old new before after b ready = expunge_stable t.stage old new before after b ready
@@ -180,7 +180,7 @@ delivery_ready t asked store history at = absurd at
 pub begins_ready : {D : Type 0} → (asked : Request) (t : Task) (store : StoreValue D) (history : Option History) → BeginsTask asked t → IsReadyTask t store history
 begins_ready asked (task.Ops t) store history b = tt
 begins_ready asked (task.Counts t) store history b = tt
-begins_ready asked (task.Make t) store history b = subst (λ (s : MakeStage). IsReadyToMake s store) (sym b.at) tt
+begins_ready asked (task.Make t) store history b = subst (λ (s : MakeStage). IsReadyToMake s store × IsMakeNumber s) (sym b.at) (tt, tt)
 begins_ready asked (task.Copy t) store history b = subst (λ (s : CopyStage). IsReadyToCopy t.name t.uid s store) (sym b.at) (record { due = λ other. omega arith; source = tt })
 begins_ready asked (task.Move t) store history b = subst (λ (s : MoveStage). IsReadyToMove t.name t.uid s store) (sym b.at) (record { due = λ other. omega arith; source = tt })
 begins_ready asked (task.Expunge t) store history b = subst (λ (s : ExpungeStage). AreDueIn store (expunge_amounts s)) (sym b.at) (λ other. omega arith)
@@ -245,17 +245,3 @@ task_taken (task.Move t) store history asked run place said file stood some is l
 task_taken (task.Expunge t) store history asked run place said file stood some is left = no_file_taken (claims_at (task.Expunge t)) run place file stood.took is
 task_taken (task.Fetch t) store history asked run place said file stood some is left = no_file_taken (claims_at (task.Fetch t)) run place file stood.took is
 task_taken (task.Deliver t) store history asked run place said file stood some is left = inl (delivery_taken t store history asked run place said file stood.at some is left)
-
--- ---- the events that are still to come
-
-make_is_left : {D : Type 0} → (s : MakeStage) (old new : StoreValue D) → new.map.highest.mailbox ≡ old.map.highest.mailbox → make_left s new ≡ make_left s old
-make_is_left make_stage.First old new same = refl
-make_is_left (make_stage.Naming number) old new same = ap (λ (n : ℕ). if nat_lt n number.0 then 1 else 3) same
-
-pub work_is_left : {D : Type 0} → (t : Task) (old new : StoreValue D) → new.map.highest.mailbox ≡ old.map.highest.mailbox → work_left t new ≡ work_left t old
-work_is_left (task.Make t) old new same = make_is_left t.stage old new same
-work_is_left (task.Ops t) old new same = refl
-work_is_left (task.Counts t) old new same = refl
-work_is_left (task.Copy t) old new same = refl
-work_is_left (task.Move t) old new same = refl
-work_is_left (task.Expunge t) old new same = refl

@@ -1,5 +1,5 @@
 -- The clause of a task's step, from that of its kind.
-use Rattle.std.proofs.Common.{◌≡◌, ℕ, Bool, true, false, List, [], Option, Some, None, refl, sym, ◌∙◌, ap, subst, arith}
+use Rattle.std.proofs.Common.{◌≡◌, ◌<◌, ◌-◌, ℕ, Bool, true, false, List, [], Option, Some, None, refl, sym, ◌∙◌, ap, subst, arith}
 use Rattle.disk_model.specs.Disk.{History, Faults}
 use Rattle.mdbox_base.specs.declared.ids.Uid.{Uid}
 use Rattle.mdbox_base.specs.declared.progress.Did.{Did}
@@ -12,30 +12,37 @@ use Rattle.mdbox_base.specs.declared.replies.Reply.TheVariants as reply
 use Rattle.mdbox_base.specs.declared.requests.Request.{Request}
 use Rattle.mdbox_base.specs.declared.requests.Request.TheVariants as request
 use Rattle.model_lists.specs.Lists.{Lists}
+use Rattle.model_meaning.specs.MapMeaning.{MapMeaning}
 use Rattle.list_machine.specs.Run.{Run, RunEvent, and_then}
 use Rattle.journal.specs.Events.{Around, DidPart}
 use Rattle.storage_files.specs.Files.{FilesValue, pins_in}
 use Rattle.store_core.specs.Keeping.{KeepsRest}
+use Rattle.store_core.specs.MadeLogs.{without_box}
 use Rattle.store_core.specs.Value.{StoreValue}
 use Rattle.store_seen.specs.Seeing.{seen_of}
 use Rattle.task_steps.specs.Step.{DidEvent, Fell, HasComeTo, HasNotBegun, Leads, Seen, Steps, Went, ended_by}
 use Rattle.task_claims.specs.Claims.{MovesClaims, Pinned}
 use Rattle.mail_ops.specs.Copy.{CopyValue, IsAtCopy}
 use Rattle.mail_ops.specs.Expunging.{ExpungeValue, IsAtExpunge}
-use Rattle.mail_ops.specs.Making.{IsAtMake, KeepsAllButLogs, MakeValue}
+use Rattle.mail_ops.specs.Making.{IsAtMake, KeepsAllButLogs, MakeAnswers, MakeValue, make_left, with_drawn_box}
 use Rattle.mail_ops.specs.Moving.{IsAtMove, MoveValue}
 use Rattle.mail_ops.specs.Requests.{IsOpsRequest, Replies}
 use Rattle.mail_ops.specs.Task.{IsAt, TaskValue}
+use Rattle.mail_ops.specs.declared.making.MakeStage.{MakeStage}
+use Rattle.mail_ops.specs.declared.making.MakeStage.TheVariants as make_stage
+use Rattle.mail_fetch.specs.Claims.{HasFetchRoom, HasUseRoom}
 use Rattle.mail_fetch.specs.Clause.{FetchSteps, StepsOnSafe}
 use Rattle.mail_fetch.specs.Stages.{IsAtFetch}
 use Rattle.mail_fetch.specs.Task.{FetchValue, UnpinsUndoomed, seen_in}
+use Rattle.mail_fetch.specs.declared.task.FetchStage.{FetchStage}
+use Rattle.mail_fetch.specs.declared.task.FetchStage.TheVariants as fetch_stage
 use Rattle.mail_save.specs.Claims.{save_claims}
 use Rattle.mail_save.specs.Ready.{IsReadyToSave}
 use Rattle.mail_save.specs.SaveSeen.{HasItsParts, IsAtSave, StepsWithRoom, around_saving}
 use Rattle.mail_save.specs.Task.{IsReadyToDeliver, SaveValue}
 use Rattle.mail_save.proofs.SavePartLemmas.{ready_has_parts}
-use Rattle.lane_tasks.specs.Clause.{StepsTask}
-use Rattle.lane_tasks.specs.Tasks.{IsAtTask, IsTaskOf, TookFiles, TookNoFile, did_of}
+use Rattle.lane_tasks.specs.Clause.{DoomsNothing, StepsTask}
+use Rattle.lane_tasks.specs.Tasks.{IsAtTask, IsMakeNumber, IsTaskOf, TookFiles, TookNoFile, did_of, work_left}
 use Rattle.lane_tasks.specs.declared.task.Task.{Task}
 use Rattle.lane_tasks.specs.declared.task.Task.TheVariants as task
 use Rattle.lane_tasks.proofs.FilesLemmas.{TakesNone, copy_takes_none, counts_takes_none, expunge_takes_none, fetch_takes_none, flag_takes_none, list_takes_none, make_takes_none, move_takes_none, took_none_more}
@@ -124,7 +131,43 @@ pub counts_does : {D : Type 0} → (t u : Did) (store : StoreValue D) (history :
     → StepsTask (task.Counts t) (task.Counts u) store store history history faults faults ended
 counts_does t u store history faults ended steps = steps_by (task.Counts t) (task.Counts u) request.Counts store store history history faults faults ended (λ asked is. (is, is)) counts_takes_none refl (λ run place took. took) (λ run place took. took) steps
 
+-- ---- a make
+
+-- a log that a make has made has a number in range
+pub make_numbered : {D : Type 0} → (name : List ℕ) (now next : MakeStage) (old new : StoreValue D) (before after : Option History) (answer : Progress) → MakeAnswers name now old new before after next answer → answer ≡ progress.More → IsMakeNumber next
+make_numbered name now make_stage.First old new before after answer said more = tt
+make_numbered name make_stage.First (make_stage.Naming number) old new before after progress.More said more = said.1.is_number.high
+make_numbered name make_stage.First (make_stage.Naming number) old new before after (progress.Done given) said more = absurd said
+make_numbered name (make_stage.Naming own) (make_stage.Naming number) old new before after progress.More said more = absurd said
+make_numbered name (make_stage.Naming own) (make_stage.Naming number) old new before after (progress.Done given) said more = absurd (let k : progress.Done given ≡ progress.More = more in cc k)
+
+-- a make that goes on has named no mailbox
+map_unnamed : {D : Type 0} → (old new : StoreValue D) (named : StoreValue D) → new ≡ named → named.map ≡ old.map → new.map ≡ old.map
+map_unnamed old new named same map = ap (λ (s : StoreValue _). s.map) same ∙ map
+
+make_unnamed : {D : Type 0} → (name : List ℕ) (now next : MakeStage) (old new : StoreValue D) (before after : Option History) (answer : Progress) → MakeAnswers name now old new before after next answer → answer ≡ progress.More → new.map ≡ old.map
+make_unnamed name make_stage.First (make_stage.Naming number) old new before after progress.More said more = map_unnamed old new (record (with_drawn_box number.0 old) { disk = new.disk; made = new.made }) said.1.same refl
+make_unnamed name make_stage.First make_stage.First old new before after progress.More said more = absurd said
+make_unnamed name (make_stage.Naming own) make_stage.First old new before after progress.More said more = map_unnamed old new (record old { disk = new.disk; made = without_box own.0 old.made }) said.2.same refl
+make_unnamed name (make_stage.Naming own) (make_stage.Naming number) old new before after progress.More said more = absurd said
+make_unnamed name now next old new before after (progress.Done given) said more = absurd (let k : progress.Done given ≡ progress.More = more in cc k)
+
+pub make_fewer : {D : Type 0} → (name : List ℕ) (t u : MakeValue) (old new : StoreValue D) (before after : Option History) (answer : Progress) → MakeAnswers name t.stage old new before after u.stage answer → answer ≡ progress.More → make_left u.stage new < make_left t.stage old → work_left (task.Make u) new < work_left (task.Make t) old
+make_fewer name t u old new before after answer said more fewer =
+    let same = ap (λ (m : MapMeaning). 4294967295 - m.highest.mailbox) (make_unnamed name t.stage u.stage old new before after answer said more) in
+    omega (arith, fewer, same)
+
 -- ---- a fetch
+
+pub use_room : {D : Type 0} → (now : FetchStage) (store : StoreValue D) → HasUseRoom store → HasFetchRoom now store
+use_room fetch_stage.First store room = room
+use_room (fetch_stage.Reading region) store room = tt
+use_room (fetch_stage.Unpinning from given) store room = tt
+
+pub unpins_undoomed : {D : Type 0} → (now : FetchStage) (store : StoreValue D) → DoomsNothing store → UnpinsUndoomed now store
+unpins_undoomed fetch_stage.First store none = tt
+unpins_undoomed (fetch_stage.Reading region) store none = tt
+unpins_undoomed (fetch_stage.Unpinning from given) store none = none from.file.0
 
 fetch_request : (t u : FetchValue) → (u.name ≡ t.name) × (u.uid ≡ t.uid) → request.Fetch t.name t.uid ≡ request.Fetch u.name u.uid
 fetch_request t u e = let n = e.0 in let i = e.1 in cc (n, i)
@@ -152,7 +195,7 @@ fetch_does t u old new before after began now ended same undoomed steps asked ar
 came_with : (run : Run) (new : Seen) (pins : ℕ → ℕ) → (new.stopped ≡ false → (file : ℕ) → pins file ≡ new.pins file) → HasComeTo run new → HasComeTo run (record new { pins = pins })
 came_with run new pins same c = record {
   come = c.come;
-  keeps = λ runs. let k = c.keeps runs in record { due = k.due; pins = λ file. k.pins file ∙ sym (same runs file); doomed = k.doomed; instances = k.instances };
+  keeps = λ runs. let k = c.keeps runs in record { due = k.due; pins = λ file. k.pins file ∙ sym (same runs file); doomed = k.doomed; instances = k.instances; files = k.files };
   used = c.used;
   barred = c.barred;
   gave = c.gave;
@@ -183,6 +226,7 @@ event_with around behind run lane place said q lists old new how ended pins same
   gives = d.gives;
   went = went_with how q run lists d.left d.makes.event d.makes.answer old new pins d.went;
   grows = d.grows;
+  mail = d.mail;
   ends = record {
     in_turn = d.ends.in_turn;
     replied = d.ends.replied;

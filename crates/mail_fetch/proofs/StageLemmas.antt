@@ -208,3 +208,7 @@ used_doomed {D = D} now next s t file e = ap (λ (v : StoreValue D). is_doomed_i
     by_stages (stage.Unpinning from given) stage.First = doomed_still from.file.0 file (pins_in from.file.0 s.files.files - 1) s.files.files
     by_stages (stage.Unpinning from given) (stage.Reading region) = refl
     by_stages (stage.Unpinning from given) (stage.Unpinning other reply) = refl
+
+-- a store that runs after an event ran before it
+pub used_runs : {D : Type 0} → (now next : FetchStage) (s t : StoreValue D) → t ≡ record (used_by now next s) { disk = t.disk } → t.stopped ≡ false → s.stopped ≡ false
+used_runs now next s t e runs = sym (ap (λ (v : StoreValue _). v.stopped) (used_only now next s t e)) ∙ runs
