@@ -1,0 +1,81 @@
+-- What tasks claim leaves room for their next events.
+use Rattle.std.proofs.Common.{◌≡◌, ◌<◌, ◌+◌, ◌*◌, ℕ, List, [], ◌∷◌, All, length, Option, refl, sym, subst, arith}
+use Rattle.std.specs.Prelude.{◌≤◌, sum_by}
+use Rattle.std.proofs.lemmas.List.Elements.{All-cons, All-nil, All-head, All-tail}
+use Rattle.std.proofs.lemmas.List.Sums.{sum_by-cons}
+use Rattle.disk_model.specs.Disk.{History}
+use Rattle.mdbox_base.specs.declared.ids.InstId.{InstId}
+use Rattle.store_core.specs.Value.{StoreValue}
+use Rattle.task_claims.specs.Claims.{AddsUp, Claims, Held, Pinned, Thing, total_claims}
+use Rattle.mail_ops.specs.declared.making.MakeStage.{MakeStage}
+use Rattle.mail_ops.specs.declared.making.MakeStage.TheVariants as make_stage
+use Rattle.mail_ops.specs.Claims.{make_claims}
+use Rattle.mail_fetch.proofs.StableLemmas.{claims_few, claims_one_pin}
+use Rattle.mail_save.proofs.SaveReadyLemmas.{holds_are_few}
+use Rattle.lane_tasks.specs.Clause.{ClaimsFew, DoomsNothing, HasTaskRoom}
+use Rattle.lane_tasks.specs.Tasks.{IsReadyTask, claims_at}
+use Rattle.lane_tasks.specs.declared.task.Task.{Task}
+use Rattle.lane_tasks.specs.declared.task.Task.TheVariants as task
+
+-- ---- each kind
+
+none_few : (mine : Claims) → ((file : ℕ) → mine (Pinned file) ≡ 0) → ((id : InstId) → mine (Held id) ≡ 0) → ClaimsFew mine
+none_few mine pins holds = record { pinned = λ file. let e = pins file in omega (arith, e); held = λ id. let e = holds id in omega (arith, e) }
+
+make_pins : (now : MakeStage) (file : ℕ) → make_claims now (Pinned file) ≡ 0
+make_pins make_stage.First file = refl
+make_pins (make_stage.Naming number) file = refl
+
+make_holds : (now : MakeStage) (id : InstId) → make_claims now (Held id) ≡ 0
+make_holds make_stage.First id = refl
+make_holds (make_stage.Naming number) id = refl
+
+pub task_claims_few : {D : Type 0} → (t : Task) (store : StoreValue D) (history : Option History) → IsReadyTask t store history → ClaimsFew (claims_at t)
+task_claims_few (task.Ops t) store history ready = none_few (claims_at (task.Ops t)) (λ file. refl) (λ id. refl)
+task_claims_few (task.Counts t) store history ready = none_few (claims_at (task.Counts t)) (λ file. refl) (λ id. refl)
+task_claims_few (task.Make t) store history ready = none_few (make_claims t.stage) (make_pins t.stage) (make_holds t.stage)
+task_claims_few (task.Copy t) store history ready = none_few (claims_at (task.Copy t)) (λ file. refl) (λ id. refl)
+task_claims_few (task.Move t) store history ready = none_few (claims_at (task.Move t)) (λ file. refl) (λ id. refl)
+task_claims_few (task.Expunge t) store history ready = none_few (claims_at (task.Expunge t)) (λ file. refl) (λ id. refl)
+task_claims_few (task.Fetch t) store history ready = record { pinned = claims_one_pin t.stage; held = λ id. claims_few t.stage store id ready }
+task_claims_few (task.Deliver t) store history ready = record {
+  pinned = λ file. omega arith;
+  held = λ id. let few = holds_are_few t.stage t.name t.time t.size ready.0 store history ready.1 id in omega (arith, few);
+}
+
+-- ---- all of them
+
+total_few : (thing : Thing) (most : ℕ) (each : List Claims) → All (λ mine. mine thing ≤ most) each → total_claims each thing ≤ length each * most
+total_few thing most [] few = omega arith
+total_few thing most (mine ∷ rest) few =
+    let sum = sum_by-cons (λ (one : Claims). one thing) mine rest in
+    let head = All-head (λ (one : Claims). one thing ≤ most) mine rest few in
+    let tail = total_few thing most rest (All-tail (λ (one : Claims). one thing ≤ most) mine rest few) in
+    let long : length (mine ∷ rest) ≡ length rest + 1 = omega arith in
+    subst (λ (n : ℕ). total_claims (mine ∷ rest) thing ≤ n * most) (sym long) (by_sum (mine thing) (total_claims rest thing) (length rest) (total_claims (mine ∷ rest) thing) sum head tail)
+  where
+    by_sum : (m r n t : ℕ) → t ≡ m + r → m ≤ most → r ≤ n * most → t ≤ (n + 1) * most
+    by_sum m r n t e a b = let d : (n + 1) * most ≡ n * most + most = omega arith in omega (arith, e, a, b, d)
+
+few_pins : (file : ℕ) (each : List Claims) → All ClaimsFew each → All (λ mine. mine (Pinned file) ≤ 1) each
+few_pins file [] few = All-nil (λ (mine : Claims). mine (Pinned file) ≤ 1)
+few_pins file (mine ∷ rest) few = All-cons (λ (one : Claims). one (Pinned file) ≤ 1) mine rest ((All-head ClaimsFew mine rest few).pinned file) (few_pins file rest (All-tail ClaimsFew mine rest few))
+
+few_holds : (id : InstId) (each : List Claims) → All ClaimsFew each → All (λ mine. mine (Held id) ≤ 65535) each
+few_holds id [] few = All-nil (λ (mine : Claims). mine (Held id) ≤ 65535)
+few_holds id (mine ∷ rest) few = All-cons (λ (one : Claims). one (Held id) ≤ 65535) mine rest ((All-head ClaimsFew mine rest few).held id) (few_holds id rest (All-tail ClaimsFew mine rest few))
+
+pub room_left : {D : Type 0} → (store : StoreValue D) (each : List Claims) → AddsUp store each → length each ≤ 64 → All ClaimsFew each → DoomsNothing store → HasTaskRoom store
+room_left store each adds short few undoomed = record {
+  uses = record {
+    pins = λ file.
+        let all = adds (Pinned file) in
+        let most = total_few (Pinned file) 1 each (few_pins file each few) in
+        omega (arith, all, most, short);
+    holds = λ id.
+        let all = adds (Held id) in
+        let most = total_few (Held id) 65535 each (few_holds id each few) in
+        omega (arith, all, most, short);
+  };
+  undoomed = undoomed;
+}
