@@ -1,18 +1,30 @@
 -- What tasks claim leaves room for their next events.
-use Rattle.std.proofs.Common.{◌≡◌, ◌<◌, ◌+◌, ◌*◌, ℕ, List, [], ◌∷◌, All, length, Option, refl, sym, subst, arith}
+use Rattle.std.proofs.Common.{◌≡◌, ◌+◌, ◌*◌, ℕ, false, List, [], ◌∷◌, All, length, Option, Some, None, refl, sym, ◌∙◌, ap, subst, arith}
 use Rattle.std.specs.Prelude.{◌≤◌, sum_by}
+use Rattle.std.specs.Option.{option_map_or}
 use Rattle.std.proofs.lemmas.List.Elements.{All-cons, All-nil, All-head, All-tail}
 use Rattle.std.proofs.lemmas.List.Sums.{sum_by-cons}
 use Rattle.disk_model.specs.Disk.{History}
 use Rattle.mdbox_base.specs.declared.ids.InstId.{InstId}
+use Rattle.mdbox_base.specs.declared.requests.Request.{Request}
+use Rattle.mdbox_base.specs.declared.requests.Request.TheVariants as request
+use Rattle.journal.specs.Events.{Around}
+use Rattle.storage_files.specs.Files.{AreFilesInOrder}
+use Rattle.storage_files.specs.declared.file.MailFile.{MailFile}
+use Rattle.store_core.specs.Running.{IsStore}
 use Rattle.store_core.specs.Value.{StoreValue}
 use Rattle.task_claims.specs.Claims.{AddsUp, Claims, Held, Pinned, Thing, total_claims}
 use Rattle.mail_ops.specs.declared.making.MakeStage.{MakeStage}
 use Rattle.mail_ops.specs.declared.making.MakeStage.TheVariants as make_stage
 use Rattle.mail_ops.specs.Claims.{make_claims}
 use Rattle.mail_fetch.proofs.StableLemmas.{claims_few, claims_one_pin}
+use Rattle.mail_save.specs.SaveSeen.{room_among, room_at}
+use Rattle.mail_save.specs.Task.{SaveValue}
+use Rattle.mail_save.specs.declared.task.SaveStage.{SaveStage}
+use Rattle.mail_save.specs.declared.task.SaveStage.TheVariants as save_stage
 use Rattle.mail_save.proofs.SaveReadyLemmas.{holds_are_few}
-use Rattle.lane_tasks.specs.Clause.{ClaimsFew, DoomsNothing, HasTaskRoom}
+use Rattle.mail_save.proofs.SaveRoomLemmas.{room_is}
+use Rattle.lane_tasks.specs.Clause.{ClaimsFew, DoomsNothing, HasTaskRoom, IsFreeToTake, around_at, found_saving}
 use Rattle.lane_tasks.specs.Tasks.{IsReadyTask, claims_at}
 use Rattle.lane_tasks.specs.declared.task.Task.{Task}
 use Rattle.lane_tasks.specs.declared.task.Task.TheVariants as task
@@ -79,3 +91,42 @@ room_left store each adds short few undoomed = record {
   };
   undoomed = undoomed;
 }
+
+-- ---- the file that is found
+
+no_room : (file : ℕ) (room : Option ℕ) → room ≡ None → room ≡ Some file → ⊥
+no_room file room none some = let k : None ≡ Some file = sym none ∙ some in cc k
+
+room_free : {D : Type 0} → (size file : ℕ) (store : StoreValue D) (history : Option History) → IsStore history store → AreFilesInOrder store.files → room_among size store.files.files ≡ Some file → IsFreeToTake file store
+room_free size file store history s order found =
+    let r = room_is size file store.files.files order.rising found in
+    let free = r.has.free.free in
+    record {
+      some = s.files.numbered file r.f r.found;
+      untaken = ap (λ (o : Option MailFile). option_map_or (λ f. f.taken) o false) r.found ∙ free.untaken;
+      unemptied = ap (λ (o : Option MailFile). option_map_or (λ f. f.emptied) o false) r.found ∙ free.unemptied;
+    }
+
+stage_free : {D : Type 0} → (now : SaveStage) (file : ℕ) (store : StoreValue D) (history : Option History) → IsStore history store → AreFilesInOrder store.files → room_at now store ≡ Some file → IsFreeToTake file store
+stage_free (save_stage.Taking parts) file store history s order found = room_free (length parts.laid.region) file store history s order found
+stage_free (save_stage.First prepared) file store history s order found = absurd (no_room file None refl found)
+stage_free (save_stage.Attaching parts attaching) file store history s order found = absurd (no_room file None refl found)
+stage_free (save_stage.Placing parts taken) file store history s order found = absurd (no_room file None refl found)
+stage_free (save_stage.Storing at rows room) file store history s order found = absurd (no_room file None refl found)
+stage_free (save_stage.Adding added room) file store history s order found = absurd (no_room file None refl found)
+stage_free (save_stage.GivingBack uid why room) file store history s order found = absurd (no_room file None refl found)
+stage_free save_stage.Ended file store history s order found = absurd (no_room file None refl found)
+
+delivery_free : {D : Type 0} → (t : SaveValue) (asked : Request) (store : StoreValue D) (history : Option History) (around : Around) (file : ℕ) → IsStore history store → AreFilesInOrder store.files → around.room ≡ None → (found_saving t asked store around).room ≡ Some file → IsFreeToTake file store
+delivery_free t (request.Deliver name time octets) store history around file s order none found = stage_free t.stage file store history s order found
+delivery_free t asked store history around file s order none found = absurd (no_room file around.room none found)
+
+pub found_free : {D : Type 0} → (t : Task) (asked : Request) (store : StoreValue D) (history : Option History) (around : Around) (file : ℕ) → IsStore history store → AreFilesInOrder store.files → around.room ≡ None → (around_at t asked store around).room ≡ Some file → IsFreeToTake file store
+found_free (task.Deliver t) asked store history around file s order none found = delivery_free t asked store history around file s order none found
+found_free (task.Ops t) asked store history around file s order none found = absurd (no_room file around.room none found)
+found_free (task.Counts t) asked store history around file s order none found = absurd (no_room file around.room none found)
+found_free (task.Make t) asked store history around file s order none found = absurd (no_room file around.room none found)
+found_free (task.Copy t) asked store history around file s order none found = absurd (no_room file around.room none found)
+found_free (task.Move t) asked store history around file s order none found = absurd (no_room file around.room none found)
+found_free (task.Expunge t) asked store history around file s order none found = absurd (no_room file around.room none found)
+found_free (task.Fetch t) asked store history around file s order none found = absurd (no_room file around.room none found)

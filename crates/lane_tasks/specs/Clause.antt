@@ -9,7 +9,7 @@ use Rattle.model_lists.specs.Lists.{Lists}
 use Rattle.list_machine.specs.Run.{Run, and_then}
 use Rattle.journal.specs.Events.{Around}
 use Rattle.store_core.specs.Value.{StoreValue}
-use Rattle.storage_files.specs.Files.{is_doomed_in}
+use Rattle.storage_files.specs.Files.{is_doomed_in, is_emptied_in, is_taken_in}
 use Rattle.task_claims.specs.Claims.{Claims, Held, Pinned}
 use Rattle.task_claims.specs.Stable.{Beside}
 use Rattle.task_steps.specs.Step.{ShowsSeen, HasComeTo, FindsRoom, DidEvent, and_told}
@@ -48,6 +48,12 @@ found_saving t other store around = around
 abbrev pub around_at : {D : Type 0} → Task → Request → StoreValue D → Around → Around
 around_at (task.Deliver t) asked store around = found_saving t asked store around
 around_at other asked store around = around
+
+-- a storage file that no task has taken, to add to it or to empty it
+pub record IsFreeToTake {D : Type 0} (file : ℕ) (store : StoreValue D) : Type 0 where
+  pub some : 1 ≤ file
+  pub untaken : is_taken_in file store.files.files ≡ false
+  pub unemptied : is_emptied_in file store.files.files ≡ false
 
 -- A task that answers by what the files of messages read needs them to be safe for the lists: a fetch does so.
 abbrev pub CanAnswer : Task → Lists → Option History → Type 0
