@@ -8,6 +8,7 @@ use Rattle.disk_model.specs.Disk.{History}
 use Rattle.mdbox_base.specs.declared.ids.InstId.{InstId}
 use Rattle.mdbox_base.specs.declared.requests.Request.{Request}
 use Rattle.mdbox_base.specs.declared.requests.Request.TheVariants as request
+use Rattle.model_lists.specs.Lists.{Lists}
 use Rattle.journal.specs.Events.{Around}
 use Rattle.storage_files.specs.Files.{AreFilesInOrder}
 use Rattle.storage_files.specs.declared.file.MailFile.{MailFile}
@@ -17,14 +18,16 @@ use Rattle.task_claims.specs.Claims.{AddsUp, Claims, Held, Pinned, Thing, total_
 use Rattle.mail_ops.specs.declared.making.MakeStage.{MakeStage}
 use Rattle.mail_ops.specs.declared.making.MakeStage.TheVariants as make_stage
 use Rattle.mail_ops.specs.Claims.{make_claims}
+use Rattle.mail_fetch.specs.Clause.{ReadsSafe}
 use Rattle.mail_fetch.proofs.StableLemmas.{claims_few, claims_one_pin}
+use Rattle.mail_fetch.proofs.StepLemmas.{safe_fetched}
 use Rattle.mail_save.specs.SaveSeen.{room_among, room_at}
 use Rattle.mail_save.specs.Task.{SaveValue}
 use Rattle.mail_save.specs.declared.task.SaveStage.{SaveStage}
 use Rattle.mail_save.specs.declared.task.SaveStage.TheVariants as save_stage
 use Rattle.mail_save.proofs.SaveReadyLemmas.{holds_are_few}
 use Rattle.mail_save.proofs.SaveRoomLemmas.{room_is}
-use Rattle.lane_tasks.specs.Clause.{ClaimsFew, DoomsNothing, HasTaskRoom, IsFreeToTake, around_at, found_saving}
+use Rattle.lane_tasks.specs.Clause.{CanAnswer, ClaimsFew, DoomsNothing, HasTaskRoom, IsFreeToTake, around_at, found_saving}
 use Rattle.lane_tasks.specs.Tasks.{IsReadyTask, claims_at}
 use Rattle.lane_tasks.specs.declared.task.Task.{Task}
 use Rattle.lane_tasks.specs.declared.task.Task.TheVariants as task
@@ -130,3 +133,15 @@ found_free (task.Copy t) asked store history around file s order none found = ab
 found_free (task.Move t) asked store history around file s order none found = absurd (no_room file around.room none found)
 found_free (task.Expunge t) asked store history around file s order none found = absurd (no_room file around.room none found)
 found_free (task.Fetch t) asked store history around file s order none found = absurd (no_room file around.room none found)
+
+-- ---- what files read
+
+pub safe_answered : {D : Type 0} → (t : Task) (lists : Lists) (store : StoreValue D) (history : Option History) → IsStore history store → store.stopped ≡ false → ReadsSafe lists history → CanAnswer t lists store history
+safe_answered (task.Fetch t) lists store history is runs safe = safe_fetched t.stage t.name t.uid store history lists is runs safe
+safe_answered (task.Ops t) lists store history is runs safe = tt
+safe_answered (task.Counts t) lists store history is runs safe = tt
+safe_answered (task.Make t) lists store history is runs safe = tt
+safe_answered (task.Copy t) lists store history is runs safe = tt
+safe_answered (task.Move t) lists store history is runs safe = tt
+safe_answered (task.Expunge t) lists store history is runs safe = tt
+safe_answered (task.Deliver t) lists store history is runs safe = tt

@@ -33,7 +33,7 @@ use Rattle.mail_ops.specs.Task.{IsAt, TaskValue}
 use Rattle.mail_ops.specs.declared.making.MakeStage.{MakeStage}
 use Rattle.mail_ops.specs.declared.making.MakeStage.TheVariants as make_stage
 use Rattle.mail_fetch.specs.Claims.{HasFetchRoom, HasUseRoom}
-use Rattle.mail_fetch.specs.Clause.{FetchSteps, StepsOnSafe}
+use Rattle.mail_fetch.specs.Clause.{CanFetch, FetchSteps, StepsOf}
 use Rattle.mail_fetch.specs.Events.{FetchesNext, fetch_refusal}
 use Rattle.mail_fetch.specs.Stages.{IsAtFetch}
 use Rattle.mail_fetch.specs.Task.{FetchValue, UnpinsUndoomed, seen_in}
@@ -207,8 +207,8 @@ pub fetch_does : {D : Type 0} → (t u : FetchValue) (old new : StoreValue D) (b
     → StepsTask (task.Fetch t) (task.Fetch u) old new before after began now ended
 fetch_does t u old new before after began now ended same undoomed steps asked around behind run lane place said lists come shown room reads stood =
     let is : asked ≡ request.Fetch t.name t.uid = stood.is_of in
-    let does : StepsOnSafe (IsAtFetch t.stage old.stopped before) (IsAtFetch u.stage new.stopped after) around behind asked (seen_in old before began) (seen_in new after now) u.did ended =
-        subst (λ (k : Request). StepsOnSafe (IsAtFetch t.stage old.stopped before) (IsAtFetch u.stage new.stopped after) around behind k (seen_in old before began) (seen_in new after now) u.did ended) (sym is) (steps around behind undoomed) in
+    let does : StepsOf (λ ls. CanFetch t.stage t.name t.uid ls old.map before) (IsAtFetch t.stage old.stopped before) (IsAtFetch u.stage new.stopped after) around behind asked (seen_in old before began) (seen_in new after now) u.did ended =
+        subst (λ (k : Request). StepsOf (λ ls. CanFetch t.stage t.name t.uid ls old.map before) (IsAtFetch t.stage old.stopped before) (IsAtFetch u.stage new.stopped after) around behind k (seen_in old before began) (seen_in new after now) u.did ended) (sym is) (steps around behind undoomed) in
     let d = does run lane place said lists come shown reads stood.at in (
       d.0,
       λ more. record {

@@ -5,6 +5,8 @@ ghost use Rattle.disk_model.specs.Disk.{History};
 ghost use Rattle.mdbox_base.specs.declared.replies.Reply.{Reply};
 ghost use Rattle.mdbox_base.specs.declared.requests.Request.{Request};
 ghost use Rattle.list_machine.specs.Run.{Run, RunEvent, and_then, own_events};
+ghost use Rattle.model_lists.specs.Lists.{Lists};
+ghost use Rattle.mail_fetch.specs.Clause.{ReadsSafe};
 ghost use Rattle.journal.specs.Events.{Around};
 ghost use Rattle.journal.specs.Found.{gave_back, took_file};
 ghost use Rattle.storage_files.specs.Files.{AreFilesInOrder};
@@ -13,7 +15,7 @@ ghost use Rattle.store_core.specs.Value.{StoreValue};
 ghost use Rattle.task_claims.specs.Claims.{AddsUp, Claims, ClaimsNothing, Emptied, Taken};
 ghost use Rattle.task_claims.specs.Stable.{IsStable};
 ghost use Rattle.task_steps.specs.Step.{GivesNew, HasNotBegun, IsKept};
-ghost use Rattle.lane_tasks.specs.Clause.{ClaimsFew, DoomsNothing, HasTaskRoom, IsFreeToTake, PassesBy, around_at};
+ghost use Rattle.lane_tasks.specs.Clause.{CanAnswer, ClaimsFew, DoomsNothing, HasTaskRoom, IsFreeToTake, PassesBy, around_at};
 ghost use Rattle.lane_tasks.specs.Tasks.{BeginsTask, IsReadyTask, StandsTask, claims_at};
 ghost use Rattle.lane_tasks.specs.declared.task.Task.{Task};
 
@@ -59,4 +61,9 @@ pub fn tasks_have_room<D: Disk>()
 /// The storage file that an event of a task finds to add to it is one that no task has taken.
 pub fn found_files_are_free<D: Disk>()
     ensures { (task : Task) (asked : Request) (store : StoreValue D) (history : Option History) (around : Around) (file : ℕ) → IsStore history store → AreFilesInOrder store.files → around.room ≡ None → (around_at task asked store around).room ≡ Some file → IsFreeToTake file store }
+{}
+
+/// Where the files are safe for the lists, a task can answer by what they read.
+pub fn safe_files_answer<D: Disk>()
+    ensures { (task : Task) (lists : Lists) (store : StoreValue D) (history : Option History) → IsStore history store → store.stopped ≡ false → ReadsSafe lists history → CanAnswer task lists store history }
 {}
