@@ -14,10 +14,10 @@ use Rattle.mdbox_base.specs.declared.entries.InstRow.{InstRow}
 use Rattle.mdbox_base.specs.declared.ids.Hash.{Hash}
 use Rattle.mdbox_base.specs.declared.ids.InstId.{InstId}
 use Rattle.sis_store.specs.Comparing.{candidates_left}
-use Rattle.sis_store.specs.Instances.{InstancesValue, after_placing, has_id, instance_placed, is_id_past, is_of_kind, with_holders, with_instance}
+use Rattle.sis_store.specs.Instances.{InstancesValue, after_placing, has_id, holders_in, instance_placed, is_id_past, is_of_kind, with_holders, with_instance}
 use Rattle.sis_store.specs.declared.instance.KnownInstance.{KnownInstance}
 use Rattle.sis_store.proofs.IdLemmas.{by_octets, is_within, less_lt, turned}
-use Rattle.save_instances.specs.Attaching.{AttachingValue, attach_events_left, candidates_of, compared_to, next_attachment, numbers_left, parts_left, with_found}
+use Rattle.save_instances.specs.Attaching.{AttachingValue, attach_events_left, candidates_of, compared_to, found_let_go, next_attachment, numbers_left, parts_left, with_found}
 
 -- ---- candidates are known instances
 
@@ -189,6 +189,10 @@ held_rows id holders (k ∷ known) = by (has_id id k) (held_rows id holders know
     by : (t : Bool) → AreSameRows known (with_holders id holders known) → (if t then record k { holders = holders } else k).row ∷ map (λ k. k.row) (with_holders id holders known) ≡ k.row ∷ map (λ k. k.row) known
     by true same = ap (λ (rows : List InstRow). k.row ∷ rows) same
     by false same = ap (λ (rows : List InstRow). k.row ∷ rows) same
+
+pub let_go_rows : (rows : List InstRow) (known : List KnownInstance) → AreSameRows known (found_let_go rows known)
+let_go_rows [] known = refl
+let_go_rows (row ∷ rows) known = let_go_rows rows (with_holders row.id (holders_in row.id known - 1) known) ∙ held_rows row.id (holders_in row.id known - 1) known
 
 rows_counted : (hash : Hash) (size : ℕ) (after : Option InstId) (known : List KnownInstance) → candidates_left hash size after known ≡ length (filter (λ row. is_of_kind hash size row && is_id_past after row.id) (map (λ k. k.row) known))
 rows_counted hash size after [] = refl
