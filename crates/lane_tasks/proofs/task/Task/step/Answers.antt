@@ -1,4 +1,4 @@
-use Rattle.std.proofs.Common.{◌≡◌, ◌<◌, Bool, true, false, sym, ◌∙◌, ap, subst}
+use Rattle.std.proofs.Common.{◌≡◌, ◌<◌, Bool, true, false, refl, sym, ◌∙◌, ap, subst}
 use Rattle.std.specs.Prelude.{◌↔◌}
 use Rattle.mdbox_base.specs.declared.progress.Progress.{Progress}
 use Rattle.mdbox_base.specs.declared.progress.Progress.TheVariants as progress
@@ -78,8 +78,8 @@ returns-in-Make-clause-left g c = λ more.
 
 -- ---- a fetch
 
-pub step-in-Fetch-requires-clause-room : goal.step-in-Fetch-requires-clause-room
-step-in-Fetch-requires-clause-room g c = λ runs. use_room c.in-Fetch.task.stage c.args.store.now (c.requires.room runs).uses
+pub step-requires-in-Fetch-clause-room : goal.step-requires-in-Fetch-clause-room
+step-requires-in-Fetch-clause-room g c = λ runs. use_room c.in-Fetch.task.stage c.args.store.now (c.requires.room runs).uses
 
 pub returns-in-Fetch-clause-does : goal.returns-in-Fetch-clause-does
 returns-in-Fetch-clause-does g c =
@@ -147,11 +147,11 @@ returns-in-Fetch-clause-undoomed g c = λ runs. doomed_as c.args.store.now c.ste
 
 -- ---- a delivery
 
-pub step-in-Deliver-requires-clause-left : goal.step-in-Deliver-requires-clause-left
-step-in-Deliver-requires-clause-left g c = λ runs.
+pub step-requires-in-Deliver : goal.step-requires-in-Deliver
+step-requires-in-Deliver g c = record { left = λ runs.
     let t = c.in-Deliver.task in
     let ready = subst (λ (k : Task). IsReadyTask k c.args.store.now (g.D.Disk.history c.args.store.now.disk)) c.in-Deliver.is (c.requires.ready runs) in
-    left_with_room t.stage t.name t.time t.size ready.0 c.args.store.now (g.D.Disk.history c.args.store.now.disk) ready.1 (c.requires.room runs).uses.holds
+    left_with_room t.stage t.name t.time t.size ready.0 c.args.store.now (g.D.Disk.history c.args.store.now.disk) ready.1 (c.requires.room runs).uses.holds }
 
 pub returns-in-Deliver-clause-ready : goal.returns-in-Deliver-clause-ready
 returns-in-Deliver-clause-ready g c = λ more runs.
