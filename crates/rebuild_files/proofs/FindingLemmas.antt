@@ -1,5 +1,5 @@
 -- What is found in storage files, file by file.
-use Rattle.std.specs.Prelude.{◌≡◌, ◌≢◌, ◌≤◌, ◌<◌, ◌+◌, ℕ, List, [], ◌∷◌, ◌++◌, length, take, drop, map, slice_get, get_or, Option, Some, None, Ok, Err, All, Contains, refl}
+use Rattle.std.specs.Prelude.{◌≡◌, ◌≢◌, ◌≤◌, ◌<◌, ◌+◌, ℕ, List, [], ◌∷◌, ◌++◌, length, take, drop, map, slice_get, get_or, Option, Some, None, Result, Ok, Err, OnOk, IsErrOf, All, Contains, refl}
 use Rattle.std.proofs.Common.{inl, inr, sym, ◌∙◌, ap, subst, arith, append_assoc, append-nil, length-drop}
 use Rattle.std.proofs.lemmas.Bool.{cond-true}
 use Rattle.std.proofs.lemmas.List.{map-append, length-map, get_or-map, take_all, take_more}
@@ -36,7 +36,7 @@ use Rattle.scan_pieces.specs.WindowValue.{WindowValue, GivesOn, HeaderOn, IsWind
 -- ---- one file
 
 -- the message at this place of a file
-pub message_found : ℕ → MessageAt → FoundAt
+abbrev pub message_found : ℕ → MessageAt → FoundAt
 message_found number at = record { file = record { 0 = number }; place = place.Message at }
 
 -- Up to this offset the messages of the file were added.
@@ -67,7 +67,6 @@ file_goes_on h number offset at old mid new f gives e = if_told-both (IsFoundToO
 
 -- the places of messages are those of what is stored
 stored_places : (number offset : ℕ) (ms : List Message) → map (message_found number) (message_places_from offset ms) ≡ map (found_at number) (stored_from offset ms)
-unfolding message_found
 stored_places number offset [] = refl
 stored_places number offset (m ∷ ms) = ap (λ (ps : List FoundAt). found_at number (Stored (place_at offset m) m) ∷ ps) (stored_places number (place_at offset m).end ms)
 
@@ -185,7 +184,7 @@ one_file_more disk done n old new p there adds =
      a.2 ∙ ap (λ (ps : List FoundAt). ps ++ map (found_at n.0) a.0) p.2 ∙ ap (λ (ps : List FoundAt). map file_found p.0 ++ ps) (sym (map_findings n.0 a.0)) ∙ sym (map-append file_found p.0 (findings_of n.0 a.0)))
 
 contains_mapped : {X Y : Type 0} → (f : X → Y) (xs : List X) (x : X) → Contains xs x → Contains (map f xs) (f x)
-contains_mapped f xs x c = let at = c.1 in let long = length-map xs f in (c.0, omega (arith, at, long), get_or-map f xs c.0 x at ∙ ap f c.2)
+contains_mapped f xs x c = let at = c.1 in let long = length-map xs f in (c.0, omega (arith, at, long), get_or-map f xs c.0 x (f x) at ∙ ap f c.2)
 
 pub found_goes_on : (h : Option History) (numbers : List FileNo) (k : ℕ) (n : FileNo) (old new : List FoundAt) → IfTold h (AreStorageNumbers numbers) → slice_get numbers k ≡ Some n → IfTold h (AreFoundIn (take k numbers) old) → IfTold h (AddsFindingsOn n.0 old new) → IfTold h (AreFoundIn (take (k + 1) numbers) new)
 found_goes_on None numbers k n old new are is p adds = tt
@@ -193,7 +192,7 @@ found_goes_on (Some h) numbers k n old new are is p adds =
     let less : k < length numbers = slice_get_within numbers k n is in
     let at : get_or numbers k n ≡ n = get_or_from_slice_get numbers k n n is in
     let there = subst (λ (m : FileNo). IsNumber m.0 × IsThere (h.now (file.Mail m.0))) at (All-get_or (λ (m : FileNo). IsNumber m.0 × IsThere (h.now (file.Mail m.0))) numbers k n less are.there) in
-    let more : take (k + 1) numbers ≡ take k numbers ++ n ∷ [] = take_more k numbers n less ∙ ap (λ (m : FileNo). take k numbers ++ m ∷ []) at in
+    let more : take (k + 1) numbers ≡ take k numbers ++ n ∷ [] = take_more numbers k n less ∙ ap (λ (m : FileNo). take k numbers ++ m ∷ []) at in
     subst (λ (ns : List FileNo). AreFoundIn ns new h.now) (sym more) (one_file_more h.now (take k numbers) n old new p there.1 adds)
 
 all_found : (numbers : List FileNo) (places : List FoundAt) (disk : DiskState) → AreStorageNumbers numbers disk → AreFoundIn numbers places disk → AreAllFindings places disk
@@ -217,3 +216,11 @@ all_found numbers places disk are p =
 pub found_ends : (h : Option History) (numbers : List FileNo) (k : ℕ) (places : List FoundAt) → IfTold h (AreStorageNumbers numbers) → length numbers ≤ k → IfTold h (AreFoundIn (take k numbers) places) → IfTold h (AreAllFindings places)
 found_ends None numbers k places are last p = tt
 found_ends (Some h) numbers k places are last p = all_found numbers places h.now are (subst (λ (ns : List FileNo). AreFoundIn ns places h.now) (take_all k numbers last) p)
+
+-- what follows where a call succeeds
+pub on_ok : {T E : Type 0} → (r : Result T E) (P Q : Type 0) → (P → Q) → OnOk r P → OnOk r Q
+on_ok (Ok x) P Q f p = f p
+on_ok (Err e) P Q f p = tt
+
+pub ok_no_error : {T E : Type 0} → (x : T) (e : E) → IsErrOf {T = T} {E = E} (Ok x) e → ⊥
+ok_no_error x e is = let k : Ok x ≡ Err e = is in cc

@@ -2,7 +2,7 @@
 use Rattle.std.specs.Prelude.{◌≡◌, ◌≢◌, ◌⊎◌, ◌≤◌, ◌<◌, ◌+◌, ◌==◌, max, ℕ, List, Bool, true, false, Option, Some, None, IsTrue, ◌↔◌, refl}
 use Rattle.std.proofs.Common.{inl, inr, sym, ◌∙◌, ap, subst, arith}
 use Rattle.std.proofs.Math.Nat.{le-max_left, le-max_right, max-eq_left, max-eq_right}
-use Rattle.std.proofs.lemmas.Bool.{cases_Bool, cases_order, false≢true, true≢false, cond-true, cond-false}
+use Rattle.std.proofs.lemmas.Bool.{cases_Bool, cases_order, false≢true, true≢false, cond-true, cond-false, eqb-true, eq-eqb}
 use Rattle.std.specs.declared.cmp.Ordering.TheVariants.{Less}
 use Rattle.disk_model.proofs.MomentLemmas.{if_told-all, if_told-map, if_told-both}
 use Rattle.disk_model.proofs.NameOrderLemmas.{order_cases, past_other}
@@ -58,10 +58,22 @@ pub none_free : (IsUsed : ℕ → Type 0) (g : ℕ) → 4294967295 ≤ g → Are
 unfolding AreUsedBelow
 none_free IsUsed g end below = inr (λ m number. below m number (let high = number.high in omega (arith, high, end)), refl)
 
+pub map_unused : (g : ℕ) (disk : DiskState) → (IsTrue false ↔ IsThere (disk (file.Map g))) → IsMapUsed (files_of disk) g → ⊥
+map_unused g disk told used = false≢true (told.1 (there_of (disk (file.Map g)) used))
+
+pub map_used : (g : ℕ) (disk : DiskState) → (IsTrue true ↔ IsThere (disk (file.Map g))) → IsMapUsed (files_of disk) g
+map_used g disk told = reads_some (disk (file.Map g)) (told.0 refl)
+
+pub box_unused : (g : ℕ) (disk : DiskState) → (IsTrue false ↔ IsBoxUsed (files_of disk) g) → IsBoxUsed (files_of disk) g → ⊥
+box_unused g disk told used = false≢true (told.1 used)
+
+pub box_used : (g : ℕ) (disk : DiskState) → (IsTrue true ↔ IsBoxUsed (files_of disk) g) → IsBoxUsed (files_of disk) g
+box_used g disk told = told.0 refl
+
 -- ---- logs of mailboxes
 
 same_number : (a b : ℕ) → (a == b) ≡ true → a ≡ b
-same_number a b e = omega (arith, e)
+same_number a b e = eqb-true a b e
 
 -- mailbox logs of this generation that are there stand past this name
 pub BoxesArePast : ℕ → FileName → DiskState → Type 0
@@ -83,7 +95,7 @@ pub box_found : (generation : ℕ) (name last : FileName) (h : Option History) �
 box_found generation name last h e next = if_told-map (IsNextLog ghosts.cmp last (Some name)) (λ now. IsTrue true ↔ IsBoxUsed (files_of now) generation) h (λ disk n. (λ t. box_named generation name disk e n.0, λ used. refl)) next
 
 itself : (generation : ℕ) → (generation == generation) ≡ true
-itself generation = let h : (generation == generation) ≡ true = omega arith in h
+itself generation = eq-eqb generation generation refl
 
 boxes_step : (generation : ℕ) (name last : FileName) (disk : DiskState) → is_box_of generation name ≡ false → BoxesArePast generation last disk → IsNextLog ghosts.cmp last (Some name) disk → BoxesArePast generation name disk
 unfolding BoxesArePast

@@ -1,70 +1,15 @@
 -- The numbers of storage files, as a walk finds them.
-use Rattle.std.specs.Prelude.{◌≡◌, ◌≤◌, ◌<◌, ◌+◌, ◌++◌, ◌∷◌, [], nat_lt, cond, ℕ, List, Bool, true, false, Option, Some, None, All, AllPairs, Contains, IfSome, refl}
-use Rattle.std.proofs.Common.{inl, inr, sym, ◌∙◌, ap, subst, arith, lit<}
-use Rattle.std.proofs.lemmas.Bool.{cases_Bool, cases_order}
+use Rattle.std.specs.Prelude.{◌≡◌, ◌≤◌, ◌<◌, ◌++◌, ◌∷◌, [], ℕ, List, Some, None, All, AllPairs, Contains}
+use Rattle.std.proofs.Common.{inl, inr, sym, subst, arith, Option}
+use Rattle.std.proofs.lemmas.Bool.{cases_order}
 use Rattle.std.proofs.lemmas.List.Elements.{All-nil, All-push, All-weaker, Contains-append_left, Contains-push}
-use Rattle.std.specs.Cmp.{nat_cmp_is}
-use Rattle.std.specs.Ordering.{nat_cmp}
-use Rattle.std.specs.declared.cmp.Ordering.TheVariants.{Less, Equal, Greater}
-use Rattle.disk_model.proofs.MomentLemmas.{if_told-all, if_told-map, if_told-both}
-use Rattle.disk_model.proofs.NameOrderLemmas.{mails-order}
-use Rattle.disk_model.specs.Disk.{DiskState, History, IfTold, IsNext, IsPast, IsThere}
-use Rattle.disk_model.specs.contracts.name.FileNameOrd.TheImpl.{ghosts}
-use Rattle.disk_model.specs.declared.name.FileName.{FileName}
+use Rattle.disk_model.proofs.MomentLemmas.{if_told-all, if_told-both}
+use Rattle.disk_model.specs.Disk.{DiskState, History, IfTold, IsThere}
 use Rattle.disk_model.specs.declared.name.FileName.TheVariants as file
 use Rattle.mdbox_base.specs.Words.{IsNumber}
 use Rattle.mdbox_base.specs.declared.ids.FileNo.{FileNo}
 use Rattle.model_octets.proofs.PairLemmas.{pairs_nil, pairs_push}
-use Rattle.rebuild_files.specs.Listing.{AreStorageNumbers, IsNextStorage, storage_number}
-
--- ---- the next storage file
-
-pub less_of : (x y : ℕ) → nat_cmp x y ≡ Less → x < y
-less_of x y e = elim (cases_order x y) [
-  | inl same ↦ absurd (let h : Equal ≡ nat_cmp x y = nat_cmp_is x y Equal same in let k : Equal ≡ Less = h ∙ e in cc)
-  | inr (inl l) ↦ l
-  | inr (inr g) ↦ absurd (let h : Greater ≡ nat_cmp x y = nat_cmp_is x y Greater g in let k : Greater ≡ Less = h ∙ e in cc)
-]
-
-below : (last n : ℕ) (b : Bool) → nat_lt n 4294967295 ≡ b → last < n → IfSome (cond b (Some n) None) (λ m. (last < m) × (m < 4294967295))
-below last n true e l = (l, omega (arith, e))
-below last n false e l = tt
-
-pub storage_past : (last : ℕ) (name : FileName) → ghosts.cmp (file.Mail last) name ≡ Less → IfSome (storage_number name) (λ m. (last < m) × (m < 4294967295))
-storage_past last file.Root past = tt
-storage_past last (file.Map g) past = tt
-storage_past last (file.Box k g) past = tt
-storage_past last (file.Mail n) past = below last n (nat_lt n 4294967295) refl (less_of last n past)
-storage_past last (file.Inst hash id) past = tt
-
--- a name that is the least past the last storage file
-NoneBefore : ℕ → FileName → DiskState → Type 0
-NoneBefore last name disk = (n : ℕ) → last < n → IsThere (disk (file.Mail n)) → ghosts.cmp (file.Mail n) name ≡ Less → ⊥
-
-none_before : (last : ℕ) (name : FileName) (disk : DiskState) → IsNext ghosts.cmp (Some (file.Mail last)) (Some name) disk → NoneBefore last name disk
-unfolding NoneBefore
-none_before last name disk next = λ n l there less. next.1 (file.Mail n) there (mails-order last n l) less
-
-of_mail : (last n : ℕ) (b : Bool) (disk : DiskState) → nat_lt n 4294967295 ≡ b → IsThere (disk (file.Mail n)) → NoneBefore last (file.Mail n) disk → IsNextStorage last (cond b (Some n) None) disk
-unfolding NoneBefore
-of_mail last n true disk e there none = (there, λ m l less t. none m l t (mails-order m n less))
-of_mail last n false disk e there none = λ m l small t. none m l t (mails-order m n (omega (arith, e, small)))
-
-pub storage_next : (last : ℕ) (name : FileName) (disk : DiskState) → ghosts.cmp (file.Mail last) name ≡ Less → IsNext ghosts.cmp (Some (file.Mail last)) (Some name) disk → IsNextStorage last (storage_number name) disk
-unfolding NoneBefore
-storage_next last file.Root disk past next = absurd (let k : Greater ≡ Less = past in cc)
-storage_next last (file.Map g) disk past next = absurd (let k : Greater ≡ Less = past in cc)
-storage_next last (file.Box k g) disk past next = absurd (let k : Greater ≡ Less = past in cc)
-storage_next last (file.Mail n) disk past next = of_mail last n (nat_lt n 4294967295) disk refl next.0 (none_before last (file.Mail n) disk next)
-storage_next last (file.Inst hash id) disk past next = λ n l small there. none_before last (file.Inst hash id) disk next n l there refl
-
-pub storage_none : (last : ℕ) (disk : DiskState) → IsNext ghosts.cmp (Some (file.Mail last)) None disk → IsNextStorage last None disk
-storage_none last disk next = λ n l small there. next (file.Mail n) there (mails-order last n l)
-
--- ---- the walk
-
-file_no : ℕ → FileNo
-file_no n = record { 0 = n }
+use Rattle.rebuild_files.specs.Listing.{AreStorageNumbers, IsNextStorage}
 
 -- the numbers of the storage files up to this number
 pub record NumbersUpTo (last : ℕ) (numbers : List FileNo) (disk : DiskState) : Type 0 where

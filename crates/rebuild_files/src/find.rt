@@ -2,13 +2,14 @@
 ghost use Rattle.std.specs.Prelude.{◌≡◌, ◌++◌, ◌∷◌, [], IfOk, IfErr, IsErrOf, OnOk};
 ghost use Rattle.disk_model.specs.Disk.{IfTold, IsIdle};
 ghost use Rattle.disk_model.specs.FaultCounts.{NoFault, ReadFaultCounted};
+ghost use Rattle.model_storage.specs.Places.{refusal_of};
 ghost use Rattle.rebuild_files.specs.Places.{AddsFindingsOn, AreAllFindings, AddsUnread};
 ghost use Rattle.rebuild_files.specs.declared.error.RebuildError.TheVariants as rebuild;
 
 use crate::error::RebuildError;
 use crate::found::{FoundAt, FoundPlace, unread};
 use crate::storage::storage_numbers;
-use dbox_file::ScanError;
+use dbox_file::{PlaceError, ScanError};
 use disk_model::Disk;
 use mdbox_base::{FileNo, Seq};
 use scan_pieces::Window;
@@ -51,18 +52,29 @@ fn find_in_file<D: Disk>(
         Err(error) => return add_unread(found, number, error),
     };
     while offset < window.size() {
-        match window.message(disk, offset)? {
-            Ok(place) => {
-                found.push(FoundAt {
-                    file: number,
-                    place: FoundPlace::Message(place),
-                })?;
-                offset = place.end;
-            }
-            Err(error) => return add_unread(found, number, ScanError::from(error)),
-        }
+        let place = match window.message(disk, offset)? {
+            Ok(place) => place,
+            Err(error) => return add_stop(found, number, error),
+        };
+        found.push(FoundAt {
+            file: number,
+            place: FoundPlace::Message(place),
+        })?;
+        offset = place.end;
     }
     Ok(())
+}
+
+/// Adds the place at which no message stands.
+fn add_stop(
+    found: &mut Seq<FoundAt>,
+    number: FileNo,
+    error: PlaceError,
+) -> Result<(), RebuildError>
+    ensures added { OnOk result (AddsUnread number.0 (refusal_of error) found.old found.new) }
+    ensures memory { IfErr result (λ refused. refused ≡ rebuild.NoMemory) }
+{
+    add_unread(found, number, ScanError::from(error))
 }
 
 /// Adds the place from which on nothing can be read.
