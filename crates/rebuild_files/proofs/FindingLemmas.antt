@@ -26,7 +26,7 @@ use Rattle.model_storage.specs.StorageFile.{Message, IsMessage, PlaceGives, Stop
 use Rattle.model_store.specs.Settled.{files_of}
 use Rattle.rebuild_files.proofs.ListingLemmas.{there_of}
 use Rattle.rebuild_files.specs.Listing.{AreStorageNumbers}
-use Rattle.rebuild_files.specs.Places.{found_at, file_found, AddsFindings, AddsFindingsOn, AddsUnread, AreAllFindings}
+use Rattle.rebuild_files.specs.Places.{found_at, place_in_file, AddsFindings, AddsFindingsOn, AddsUnread, AreAllFindings}
 use Rattle.rebuild_files.specs.declared.found.FoundAt.{FoundAt}
 use Rattle.rebuild_files.specs.declared.found.FoundPlace.{FoundPlace}
 use Rattle.rebuild_files.specs.declared.found.FoundPlace.TheVariants as place
@@ -57,13 +57,13 @@ pub file_goes_on : (h : Option History) (number offset : ℕ) (at : MessageAt) (
 unfolding IsFoundToOn
 file_goes_on h number offset at old mid new f gives e = if_told-both (IsFoundToOn number offset old mid) (GivesOn number offset (Ok at)) (IsFoundToOn number at.end old new) h
     (λ disk p q octets there.
-        let s = p octets there in
-        record {
-          places = s.places ++ at ∷ [];
-          scanned = scanned_message octets offset at s.places (s.places ++ at ∷ []) s.scanned (q octets there) refl;
-          added = e ∙ ap (λ (ps : List FoundAt). ps ++ message_found number at ∷ []) s.added ∙ append_assoc old (map (message_found number) s.places) (message_found number at ∷ [])
-              ∙ ap (λ (ps : List FoundAt). old ++ ps) (sym (map-append (message_found number) s.places (at ∷ [])));
-        }) f gives
+    let s = p octets there in
+    record {
+      places = s.places ++ at ∷ [];
+      scanned = scanned_message octets offset at s.places (s.places ++ at ∷ []) s.scanned (q octets there) refl;
+      added = e ∙ ap (λ (ps : List FoundAt). ps ++ message_found number at ∷ []) s.added ∙ append_assoc old (map (message_found number) s.places) (message_found number at ∷ [])
+          ∙ ap (λ (ps : List FoundAt). old ++ ps) (sym (map-append (message_found number) s.places (at ∷ [])));
+    }) f gives
 
 -- the places of messages are those of what is stored
 stored_places : (number offset : ℕ) (ms : List Message) → map (message_found number) (message_places_from offset ms) ≡ map (found_at number) (stored_from offset ms)
@@ -72,10 +72,11 @@ stored_places number offset (m ∷ ms) = ap (λ (ps : List FoundAt). found_at nu
 
 whole_file : (number : ℕ) (octets : List ℕ) (offset : ℕ) (old new : List FoundAt) → IsFoundTo number octets offset old new → length octets ≤ offset → AddsFindings number octets old new
 whole_file number octets offset old new f last =
-    let all = scanned_all octets offset f.places f.scanned last in
-    (stored_from (length all.0) all.1,
-     record { answer = Ok f.places; by = (all.0, all.1, all.2, all.3, refl) },
-     f.added ∙ ap (λ (ps : List FoundAt). old ++ ps) (ap (map (message_found number)) all.3 ∙ stored_places number (length all.0) all.1))
+    let all = scanned_all octets offset f.places f.scanned last in (
+      stored_from (length all.0) all.1,
+      record { answer = Ok f.places; by = (all.0, all.1, all.2, all.3, refl) },
+      f.added ∙ ap (λ (ps : List FoundAt). old ++ ps) (ap (map (message_found number)) all.3 ∙ stored_places number (length all.0) all.1),
+    )
 
 size_is : (w : WindowValue) (disk : DiskState) (number : ℕ) (octets : List ℕ) → IsWindowOn w disk → w.number ≡ number → reading (disk (file.Mail number)) ≡ Some octets → w.size ≡ length octets
 size_is w disk number octets is e there = (is octets (subst (λ (n : ℕ). reading (disk (file.Mail n)) ≡ Some octets) (sym e) there)).size
@@ -125,17 +126,19 @@ unread_added number octets offset why old mid new f e =
 
 cut_off : (number : ℕ) (octets : List ℕ) (offset : ℕ) (old mid new : List FoundAt) → IsFoundTo number octets offset old mid → offset < length octets → ¬ Begins IsMessage (drop offset octets) → IsFrontOf IsMessage (drop offset octets)
     → AddsUnread number (scan.Truncated offset) mid new → AddsFindings number octets old new
-cut_off number octets offset old mid new f less none front a =
-    (stored_from (length f.scanned.header) f.scanned.messages ++ Unread offset reason.Truncated ∷ [],
-     record { answer = Err (scan.Truncated offset); by = (record { rest = drop offset octets; stops = stop_of octets offset f.places f.scanned less none; are = refl }, front) },
-     unread_added number octets offset reason.Truncated old mid new f (a.2 ∙ ap (λ (p : FoundPlace). mid ++ record { file = record { 0 = number }; place = p } ∷ []) a.1))
+cut_off number octets offset old mid new f less none front a = (
+  stored_from (length f.scanned.header) f.scanned.messages ++ Unread offset reason.Truncated ∷ [],
+  record { answer = Err (scan.Truncated offset); by = (record { rest = drop offset octets; stops = stop_of octets offset f.places f.scanned less none; are = refl }, front) },
+  unread_added number octets offset reason.Truncated old mid new f (a.2 ∙ ap (λ (p : FoundPlace). mid ++ record { file = record { 0 = number }; place = p } ∷ []) a.1),
+)
 
 no_message : (number : ℕ) (octets : List ℕ) (offset : ℕ) (old mid new : List FoundAt) → IsFoundTo number octets offset old mid → offset < length octets → ¬ Begins IsMessage (drop offset octets) → ¬ IsFrontOf IsMessage (drop offset octets)
     → AddsUnread number (scan.BadMessage offset) mid new → AddsFindings number octets old new
-no_message number octets offset old mid new f less none front a =
-    (stored_from (length f.scanned.header) f.scanned.messages ++ Unread offset reason.BadMessage ∷ [],
-     record { answer = Err (scan.BadMessage offset); by = (record { rest = drop offset octets; stops = stop_of octets offset f.places f.scanned less none; are = refl }, front) },
-     unread_added number octets offset reason.BadMessage old mid new f (a.2 ∙ ap (λ (p : FoundPlace). mid ++ record { file = record { 0 = number }; place = p } ∷ []) a.1))
+no_message number octets offset old mid new f less none front a = (
+  stored_from (length f.scanned.header) f.scanned.messages ++ Unread offset reason.BadMessage ∷ [],
+  record { answer = Err (scan.BadMessage offset); by = (record { rest = drop offset octets; stops = stop_of octets offset f.places f.scanned less none; are = refl }, front) },
+  unread_added number octets offset reason.BadMessage old mid new f (a.2 ∙ ap (λ (p : FoundPlace). mid ++ record { file = record { 0 = number }; place = p } ∷ []) a.1),
+)
 
 place_bad : (number : ℕ) (octets : List ℕ) (offset : ℕ) (error : PlaceError) (old mid new : List FoundAt) → IsFoundTo number octets offset old mid → offset < length octets → PlaceGives octets offset (Err error) → AddsUnread number (refusal_of error) mid new → AddsFindings number octets old new
 place_bad number octets offset (at.Truncated n) old mid new f less p a = cut_off number octets offset old mid new f less p.1 p.2 (subst (λ (k : ℕ). AddsUnread number (scan.Truncated k) mid new) p.0 a)
@@ -157,7 +160,7 @@ file_at disk n = record { number = n.0; octets = (disk (file.Mail n.0)).octets }
 
 -- These are the places of what is found in the storage files with these numbers.
 pub AreFoundIn : List FileNo → List FoundAt → DiskState → Type 0
-AreFoundIn numbers places disk = (found : List FileFinding) × HaveFindings (map (file_at disk) numbers) found × (places ≡ map file_found found)
+AreFoundIn numbers places disk = (found : List FileFinding) × HaveFindings (map (file_at disk) numbers) found × (places ≡ map place_in_file found)
 
 pub found_begins : (h : Option History) (places : List FoundAt) → places ≡ [] → IfTold h (AreFoundIn [] places)
 unfolding AreFoundIn
@@ -168,7 +171,7 @@ findings_more [] found f fs e h = (fs, [], h, refl, ap (λ (xs : List FileFindin
 findings_more (g ∷ storage) found f fs p h =
     (p.0, p.1 ++ findings_of f.number fs, p.2, findings_more storage p.1 f fs p.3 h, ap (λ (xs : List FileFinding). xs ++ findings_of f.number fs) p.4 ∙ append_assoc (findings_of g.number p.0) p.1 (findings_of f.number fs))
 
-map_findings : (number : ℕ) (fs : List Finding) → map file_found (findings_of number fs) ≡ map (found_at number) fs
+map_findings : (number : ℕ) (fs : List Finding) → map place_in_file (findings_of number fs) ≡ map (found_at number) fs
 map_findings number [] = refl
 map_findings number (f ∷ fs) = ap (λ (ps : List FoundAt). found_at number f ∷ ps) (map_findings number fs)
 
@@ -178,10 +181,11 @@ octets_read f there = cond-true f.is_there (Some f.octets) None there
 one_file_more : (disk : DiskState) (done : List FileNo) (n : FileNo) (old new : List FoundAt) → AreFoundIn done old disk → IsThere (disk (file.Mail n.0)) → AddsFindingsOn n.0 old new disk → AreFoundIn (done ++ n ∷ []) new disk
 unfolding AreFoundIn
 one_file_more disk done n old new p there adds =
-    let a = adds (disk (file.Mail n.0)).octets (octets_read (disk (file.Mail n.0)) there) in
-    (p.0 ++ findings_of n.0 a.0,
-     subst (λ (storage : List NumberedFile). HaveFindings storage (p.0 ++ findings_of n.0 a.0)) (sym (map-append (file_at disk) done (n ∷ []))) (findings_more (map (file_at disk) done) p.0 (file_at disk n) a.0 p.1 a.1),
-     a.2 ∙ ap (λ (ps : List FoundAt). ps ++ map (found_at n.0) a.0) p.2 ∙ ap (λ (ps : List FoundAt). map file_found p.0 ++ ps) (sym (map_findings n.0 a.0)) ∙ sym (map-append file_found p.0 (findings_of n.0 a.0)))
+    let a = adds (disk (file.Mail n.0)).octets (octets_read (disk (file.Mail n.0)) there) in (
+      p.0 ++ findings_of n.0 a.0,
+      subst (λ (storage : List NumberedFile). HaveFindings storage (p.0 ++ findings_of n.0 a.0)) (sym (map-append (file_at disk) done (n ∷ []))) (findings_more (map (file_at disk) done) p.0 (file_at disk n) a.0 p.1 a.1),
+      a.2 ∙ ap (λ (ps : List FoundAt). ps ++ map (found_at n.0) a.0) p.2 ∙ ap (λ (ps : List FoundAt). map place_in_file p.0 ++ ps) (sym (map_findings n.0 a.0)) ∙ sym (map-append place_in_file p.0 (findings_of n.0 a.0)),
+    )
 
 contains_mapped : {X Y : Type 0} → (f : X → Y) (xs : List X) (x : X) → Contains xs x → Contains (map f xs) (f x)
 contains_mapped f xs x c = let at = c.1 in let long = length-map xs f in (c.0, omega (arith, at, long), get_or-map f xs c.0 x (f x) at ∙ ap f c.2)
@@ -197,21 +201,22 @@ found_goes_on (Some h) numbers k n old new are is p adds =
 
 all_found : (numbers : List FileNo) (places : List FoundAt) (disk : DiskState) → AreStorageNumbers numbers disk → AreFoundIn numbers places disk → AreAllFindings places disk
 unfolding AreFoundIn
-all_found numbers places disk are p =
-    (map (file_at disk) numbers,
-     p.0,
-     record {
-       rising = pairs_map (λ (a b : FileNo). a.0 < b.0) (λ (a b : NumberedFile). a.number < b.number) (file_at disk) (λ a b l. l) numbers are.rising;
-       there = all_map (λ (n : FileNo). IsNumber n.0 × IsThere (disk (file.Mail n.0))) (IsThereAs (files_of disk)) (file_at disk) (λ n t. (t.0, octets_read (disk (file.Mail n.0)) t.1)) numbers are.there;
-       every = λ f t.
-           let there = there_of (disk (file.Mail f.number)) (λ e. let k : Some f.octets ≡ None = sym t.1 ∙ e in cc) in
-           let read = octets_read (disk (file.Mail f.number)) there in
-           let same : (disk (file.Mail f.number)).octets ≡ f.octets = let k : Some (disk (file.Mail f.number)).octets ≡ Some f.octets = sym read ∙ t.1 in cc in
-           subst (λ (g : NumberedFile). Contains (map (file_at disk) numbers) g) (ap (λ (octets : List ℕ). record { number = f.number; octets = octets }) same)
-           (contains_mapped (file_at disk) numbers (record { 0 = f.number }) (are.every f.number t.0 there));
-     },
-     p.1,
-     p.2)
+all_found numbers places disk are p = (
+  map (file_at disk) numbers,
+  p.0,
+  record {
+    rising = pairs_map (λ (a b : FileNo). a.0 < b.0) (λ (a b : NumberedFile). a.number < b.number) (file_at disk) (λ a b l. l) numbers are.rising;
+    there = all_map (λ (n : FileNo). IsNumber n.0 × IsThere (disk (file.Mail n.0))) (IsThereAs (files_of disk)) (file_at disk) (λ n t. (t.0, octets_read (disk (file.Mail n.0)) t.1)) numbers are.there;
+    every = λ f t.
+        let there = there_of (disk (file.Mail f.number)) (λ e. let k : Some f.octets ≡ None = sym t.1 ∙ e in cc) in
+        let read = octets_read (disk (file.Mail f.number)) there in
+        let same : (disk (file.Mail f.number)).octets ≡ f.octets = let k : Some (disk (file.Mail f.number)).octets ≡ Some f.octets = sym read ∙ t.1 in cc in
+        subst (λ (g : NumberedFile). Contains (map (file_at disk) numbers) g) (ap (λ (octets : List ℕ). record { number = f.number; octets = octets }) same)
+        (contains_mapped (file_at disk) numbers (record { 0 = f.number }) (are.every f.number t.0 there));
+  },
+  p.1,
+  p.2,
+)
 
 pub found_ends : (h : Option History) (numbers : List FileNo) (k : ℕ) (places : List FoundAt) → IfTold h (AreStorageNumbers numbers) → length numbers ≤ k → IfTold h (AreFoundIn (take k numbers) places) → IfTold h (AreAllFindings places)
 found_ends None numbers k places are last p = tt

@@ -15,7 +15,7 @@ use Rattle.mdbox_base.specs.Words.{IsNumber}
 use Rattle.model_meaning.specs.MapMeaning.{instance_number}
 use Rattle.model_rebuild.specs.RebuildPlan.{IsBoxUsed, IsMapUsed, IsFreeGeneration, IsGreatest, IsInstanceNumber}
 use Rattle.model_store.specs.Settled.{files_of}
-use Rattle.rebuild_files.specs.Listing.{IsNextLog, is_box_of, number_in}
+use Rattle.rebuild_files.specs.Listing.{IsNextLog, is_box_of, instance_in_name}
 
 -- ---- a file that is there
 
@@ -48,11 +48,15 @@ used_more IsUsed g below is = λ m number less. elim (cases_order m g) [
 
 pub free_here : (IsUsed : ℕ → Type 0) (g : ℕ) → IsNumber g → AreUsedBelow IsUsed g → (IsUsed g → ⊥) → IsFreeGeneration IsUsed g
 unfolding AreUsedBelow
-free_here IsUsed g number below free = inl (number, free, λ m is unused. elim (cases_order g m) [
-  | inl same ↦ omega (arith, same)
-  | inr (inl l) ↦ omega (arith, l)
-  | inr (inr more) ↦ absurd (unused (below m is more))
-])
+free_here IsUsed g number below free = inl (
+  number,
+  free,
+  λ m is unused. elim (cases_order g m) [
+    | inl same ↦ omega (arith, same)
+    | inr (inl l) ↦ omega (arith, l)
+    | inr (inr more) ↦ absurd (unused (below m is more))
+  ],
+)
 
 pub none_free : (IsUsed : ℕ → Type 0) (g : ℕ) → 4294967295 ≤ g → AreUsedBelow IsUsed g → IsFreeGeneration IsUsed 1
 unfolding AreUsedBelow
@@ -121,10 +125,10 @@ boxes_end generation last h past none = if_told-both (BoxesArePast generation la
 
 -- up to this name this is the greatest running number of an instance
 pub record IsMostUpTo (store : List ℕ) (last : FileName) (most : ℕ) (disk : DiskState) : Type 0 where
-  pub least : (name : FileName) → IsThere (disk name) → (ghosts.cmp last name ≡ Less) ⊎ (number_in store name ≤ most)
+  pub least : (name : FileName) → IsThere (disk name) → (ghosts.cmp last name ≡ Less) ⊎ (instance_in_name store name ≤ most)
   pub reached : (most ≡ 0) ⊎ IsInstanceNumber (files_of disk) store most
 
-past_mail : (store : List ℕ) (name : FileName) → (ghosts.cmp (file.Mail 4294967295) name ≡ Less) ⊎ (number_in store name ≤ 0)
+past_mail : (store : List ℕ) (name : FileName) → (ghosts.cmp (file.Mail 4294967295) name ≡ Less) ⊎ (instance_in_name store name ≤ 0)
 past_mail store file.Root = inr (omega arith)
 past_mail store (file.Map g) = inr (omega arith)
 past_mail store (file.Box k g) = inr (omega arith)
@@ -134,7 +138,7 @@ past_mail store (file.Inst hash id) = inl refl
 pub most_begins : (store : List ℕ) (h : Option History) → IfTold h (IsMostUpTo store (file.Mail 4294967295) 0)
 most_begins store h = if_told-all (IsMostUpTo store (file.Mail 4294967295) 0) h (λ disk. record { least = λ name there. past_mail store name; reached = inl refl })
 
-number_reached : (store : List ℕ) (name : FileName) (disk : DiskState) → IsNameInRange name → IsThere (disk name) → (number_in store name ≡ 0) ⊎ IsInstanceNumber (files_of disk) store (number_in store name)
+number_reached : (store : List ℕ) (name : FileName) (disk : DiskState) → IsNameInRange name → IsThere (disk name) → (instance_in_name store name ≡ 0) ⊎ IsInstanceNumber (files_of disk) store (instance_in_name store name)
 number_reached store file.Root disk range there = inl refl
 number_reached store (file.Map g) disk range there = inl refl
 number_reached store (file.Box k g) disk range there = inl refl
@@ -148,24 +152,24 @@ max_reached P a b p q = elim (cases_order a b) [
   | inr (inr more) ↦ subst (λ (n : ℕ). (n ≡ 0) ⊎ P n) (sym (max-eq_left {n = a} {m = b} (omega (arith, more)))) p
 ]
 
-most_step : (store : List ℕ) (last name : FileName) (most : ℕ) (disk : DiskState) → IsMostUpTo store last most disk → IsNameInRange name → IsNext ghosts.cmp (Some last) (Some name) disk → IsMostUpTo store name (max most (number_in store name)) disk
+most_step : (store : List ℕ) (last name : FileName) (most : ℕ) (disk : DiskState) → IsMostUpTo store last most disk → IsNameInRange name → IsNext ghosts.cmp (Some last) (Some name) disk → IsMostUpTo store name (max most (instance_in_name store name)) disk
 most_step store last name most disk w range next = record {
   least = λ n there. elim (w.least n there) [
-    | inl past ↦ elim (order_of n past there) [ inl later ↦ inl later | inr le ↦ inr (let right = le-max_right most (number_in store name) in omega (arith, le, right)) ]
-    | inr le ↦ inr (let left = le-max_left most (number_in store name) in omega (arith, le, left))
+    | inl past ↦ elim (order_of n past there) [ inl later ↦ inl later | inr le ↦ inr (let right = le-max_right most (instance_in_name store name) in omega (arith, le, right)) ]
+    | inr le ↦ inr (let left = le-max_left most (instance_in_name store name) in omega (arith, le, left))
   ];
-  reached = max_reached (IsInstanceNumber (files_of disk) store) most (number_in store name) w.reached (number_reached store name disk range next.0);
+  reached = max_reached (IsInstanceNumber (files_of disk) store) most (instance_in_name store name) w.reached (number_reached store name disk range next.0);
 }
   where
-    order_of : (n : FileName) → ghosts.cmp last n ≡ Less → IsThere (disk n) → (ghosts.cmp name n ≡ Less) ⊎ (number_in store n ≤ number_in store name)
+    order_of : (n : FileName) → ghosts.cmp last n ≡ Less → IsThere (disk n) → (ghosts.cmp name n ≡ Less) ⊎ (instance_in_name store n ≤ instance_in_name store name)
     order_of n past there = elim (order_cases n name) [
       | inl less ↦ absurd (next.1 n there past less)
       | inr (inl later) ↦ inl later
-      | inr (inr same) ↦ inr (let e : number_in store n ≡ number_in store name = ap (number_in store) same in omega (arith, e))
+      | inr (inr same) ↦ inr (let e : instance_in_name store n ≡ instance_in_name store name = ap (instance_in_name store) same in omega (arith, e))
     ]
 
-pub most_goes_on : (store : List ℕ) (last name : FileName) (most : ℕ) (h : Option History) → IfTold h (IsMostUpTo store last most) → IsNameInRange name → IfTold h (IsNext ghosts.cmp (Some last) (Some name)) → IfTold h (IsMostUpTo store name (max most (number_in store name)))
-most_goes_on store last name most h w range next = if_told-both (IsMostUpTo store last most) (IsNext ghosts.cmp (Some last) (Some name)) (IsMostUpTo store name (max most (number_in store name))) h (λ disk p n. most_step store last name most disk p range n) w next
+pub most_goes_on : (store : List ℕ) (last name : FileName) (most : ℕ) (h : Option History) → IfTold h (IsMostUpTo store last most) → IsNameInRange name → IfTold h (IsNext ghosts.cmp (Some last) (Some name)) → IfTold h (IsMostUpTo store name (max most (instance_in_name store name)))
+most_goes_on store last name most h w range next = if_told-both (IsMostUpTo store last most) (IsNext ghosts.cmp (Some last) (Some name)) (IsMostUpTo store name (max most (instance_in_name store name))) h (λ disk p n. most_step store last name most disk p range n) w next
 
 most_of : (store : List ℕ) (last : FileName) (most : ℕ) (disk : DiskState) → IsMostUpTo store last most disk → IsNext ghosts.cmp (Some last) None disk → IsGreatest (IsInstanceNumber (files_of disk) store) most
 most_of store last most disk w none = record {

@@ -43,9 +43,9 @@ IsNextLog cmp last None disk = (name : FileName) → IsLogName name → IsThere 
 IsNextLog cmp last (Some next) disk = IsThere (disk next) × ((name : FileName) → IsThere (disk name) → cmp last name ≡ Less → cmp name next ≢ Less)
 
 -- the running number of the instance with this name, or 0
-abbrev pub number_in : List ℕ → FileName → ℕ
-number_in store file.Root = 0
-number_in store (file.Map generation) = 0
-number_in store (file.Box number generation) = 0
-number_in store (file.Mail number) = 0
-number_in store (file.Inst hash id) = instance_number store id
+abbrev pub instance_in_name : List ℕ → FileName → ℕ
+instance_in_name store file.Root = 0
+instance_in_name store (file.Map generation) = 0
+instance_in_name store (file.Box number generation) = 0
+instance_in_name store (file.Mail number) = 0
+instance_in_name store (file.Inst hash id) = instance_number store id

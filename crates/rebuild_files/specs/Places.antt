@@ -19,13 +19,13 @@ place_found (Unread offset why) = place.Unread offset why
 abbrev pub found_at : ℕ → Finding → FoundAt
 found_at number finding = record { file = record { 0 = number }; place = place_found finding }
 
-abbrev pub file_found : FileFinding → FoundAt
-file_found f = found_at f.number f.finding
+abbrev pub place_in_file : FileFinding → FoundAt
+place_in_file f = found_at f.number f.finding
 
 -- These are the places of all that is found in the storage files of the disk, in order.
 abbrev pub AreAllFindings : List FoundAt → DiskState → Type 0
 AreAllFindings places disk =
-    (storage : List NumberedFile) × (found : List FileFinding) × AreStorageFiles (files_of disk) storage × HaveFindings storage found × (places ≡ map file_found found)
+    (storage : List NumberedFile) × (found : List FileFinding) × AreStorageFiles (files_of disk) storage × HaveFindings storage found × (places ≡ map place_in_file found)
 
 -- What is found in a storage file of these octets was added.
 abbrev pub AddsFindings : ℕ → List ℕ → List FoundAt → List FoundAt → Type 0
@@ -36,12 +36,12 @@ abbrev pub AddsFindingsOn : ℕ → List FoundAt → List FoundAt → DiskState 
 AddsFindingsOn number old new disk = (octets : List ℕ) → reading (disk (file.Mail number)) ≡ Some octets → AddsFindings number octets old new
 
 -- the place from which on nothing can be read of a file that a scan refuses for this
-abbrev pub IsUnread : ScanError → FoundPlace → Type 0
-IsUnread scan.BadHeader at = at ≡ place.Unread 0 reason.BadHeader
-IsUnread (scan.HeaderSize size) at = at ≡ place.Unread 0 reason.HeaderSize
-IsUnread (scan.Truncated offset) at = at ≡ place.Unread offset reason.Truncated
-IsUnread (scan.BadMessage offset) at = at ≡ place.Unread offset reason.BadMessage
-IsUnread scan.NoMemory at = ⊥
+abbrev pub IsScanStop : ScanError → FoundPlace → Type 0
+IsScanStop scan.BadHeader at = at ≡ place.Unread 0 reason.BadHeader
+IsScanStop (scan.HeaderSize size) at = at ≡ place.Unread 0 reason.HeaderSize
+IsScanStop (scan.Truncated offset) at = at ≡ place.Unread offset reason.Truncated
+IsScanStop (scan.BadMessage offset) at = at ≡ place.Unread offset reason.BadMessage
+IsScanStop scan.NoMemory at = ⊥
 
 abbrev pub AddsUnread : ℕ → ScanError → List FoundAt → List FoundAt → Type 0
-AddsUnread number error old new = (at : FoundPlace) × IsUnread error at × (new ≡ old ++ record { file = record { 0 = number }; place = at } ∷ [])
+AddsUnread number error old new = (at : FoundPlace) × IsScanStop error at × (new ≡ old ++ record { file = record { 0 = number }; place = at } ∷ [])

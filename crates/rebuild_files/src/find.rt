@@ -66,11 +66,7 @@ fn find_in_file<D: Disk>(
 }
 
 /// Adds the place at which no message stands.
-fn add_stop(
-    found: &mut Seq<FoundAt>,
-    number: FileNo,
-    error: PlaceError,
-) -> Result<(), RebuildError>
+fn add_stop(found: &mut Seq<FoundAt>, number: FileNo, error: PlaceError) -> Result<(), RebuildError>
     ensures added { OnOk result (AddsUnread number.0 (refusal_of error) found.old found.new) }
     ensures memory { IfErr result (λ refused. refused ≡ rebuild.NoMemory) }
 {

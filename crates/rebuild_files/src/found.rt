@@ -1,6 +1,6 @@
 // What is found in storage files, by its places.
 ghost use Rattle.std.specs.Prelude.{◌≡◌, IfOk, IfErr};
-ghost use Rattle.rebuild_files.specs.Places.{IsUnread};
+ghost use Rattle.rebuild_files.specs.Places.{IsScanStop};
 ghost use Rattle.rebuild_files.specs.declared.error.RebuildError.TheVariants as rebuild;
 
 use crate::error::RebuildError;
@@ -27,7 +27,7 @@ pub struct FoundAt {
 /// The place from which on nothing can be read of a storage file that a scan refuses. Of a file whose header line is bad that is
 /// its beginning.
 pub(crate) fn unread(error: ScanError) -> Result<FoundPlace, RebuildError>
-    ensures place { IfOk result (IsUnread error) }
+    ensures place { IfOk result (IsScanStop error) }
     ensures memory { IfErr result (λ refused. refused ≡ rebuild.NoMemory) }
 {
     match error {

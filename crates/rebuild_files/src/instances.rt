@@ -5,7 +5,7 @@ ghost use Rattle.disk_model.specs.FaultCounts.{NoFault, ReadFaultCounted};
 ghost use Rattle.model_meaning.specs.MapMeaning.{instance_number, is_own, number_at};
 ghost use Rattle.model_rebuild.specs.RebuildPlan.{IsGreatest, IsInstanceNumber};
 ghost use Rattle.model_store.specs.Settled.{files_of};
-ghost use Rattle.rebuild_files.specs.Listing.{number_in};
+ghost use Rattle.rebuild_files.specs.Listing.{instance_in_name};
 
 use crate::device::next_name;
 use disk_model::{Disk, FileName};
@@ -23,15 +23,15 @@ pub fn highest_instance<D: Disk>(disk: &mut D, store: StoreId) -> Result<u32, Di
     let mut most: u32 = 0;
     let mut last = FileName::Mail(u32::MAX);
     while let Some(name) = next_name(disk, last)? {
-        most = most.max(number_in(store, name));
+        most = most.max(instance_in_name(store, name));
         last = name;
     }
     Ok(most)
 }
 
 /// The running number of an instance with this name, if its id has this store's form, else 0.
-fn number_in(store: StoreId, name: FileName) -> u32
-    ensures number { result ≡ number_in store.0 name }
+fn instance_in_name(store: StoreId, name: FileName) -> u32
+    ensures number { result ≡ instance_in_name store.0 name }
     ensures small { result < 4294967295 }
 {
     match name {

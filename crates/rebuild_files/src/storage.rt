@@ -56,5 +56,9 @@ fn storage_number(name: FileName) -> Option<u32>
 fn below_last(number: u32) -> Option<u32>
     ensures { result ≡ (if nat_lt number 4294967295 then Some number else None) }
 {
-    if number < u32::MAX { Some(number) } else { None }
+    if number < u32::MAX {
+        Some(number)
+    } else {
+        None
+    }
 }

@@ -24,7 +24,7 @@ returns-in-Err-clause-added g c =
     let new = g.D.Disk.history c.begin.new.disk in
     on_ok c.add_unread.result (AddsUnread c.args.number.0 c.in-Err.error c.args.found.now c.add_unread.new.found) (IfTold old (AddsFindingsOn c.args.number.0 c.args.found.now c.add_unread.new.found))
     (λ a. idle-back (AddsFindingsOn c.args.number.0 c.args.found.now c.add_unread.new.found) old new c.begin.ensures.idle
-        (header_stops new c.args.number.0 c.in-Err.error c.args.found.now c.add_unread.new.found (rw c.in-Err.is at c.in_ok-offset.ensures.header) a))
+    (header_stops new c.args.number.0 c.in-Err.error c.args.found.now c.add_unread.new.found (rw c.in-Err.is at c.in_ok-offset.ensures.header) a))
     c.add_unread.ensures.added
 
 pub returns-in_err-place-clause-idle : goal.returns-in_err-place-clause-idle
@@ -63,7 +63,7 @@ returns-in-Err-2-clause-added g c =
     let same = c.message.ensures.same.1 in
     on_ok c.add_stop.result (AddsUnread c.args.number.0 (refusal_of c.in-Err-2.error) c.loop-offset.found c.add_stop.new.found) (IfTold old (AddsFindingsOn c.args.number.0 c.args.found.now c.add_stop.new.found))
     (λ a. idle-back (AddsFindingsOn c.args.number.0 c.args.found.now c.add_stop.new.found) old new (idle-then _ _ _ c.loop-offset.invariant.idle c.message.ensures.idle)
-        (file_stops new c.message.new.self c.args.number.0 c.loop-offset.offset c.in-Err-2.error c.args.found.now c.loop-offset.found c.add_stop.new.found added c.message.ensures.window number (omega (arith, more, size, same)) gives a))
+    (file_stops new c.message.new.self c.args.number.0 c.loop-offset.offset c.in-Err-2.error c.args.found.now c.loop-offset.found c.add_stop.new.found added c.message.ensures.window number (omega (arith, more, size, same)) gives a))
     c.add_stop.ensures.added
 
 pub returns-in-Err-2-clause-idle : goal.returns-in-Err-2-clause-idle

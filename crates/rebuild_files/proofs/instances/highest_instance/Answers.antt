@@ -19,8 +19,8 @@ loop-name-smaller g c = walk_shrinks (Some c.loop-name.last) c.in-Some.name c.lo
 
 pub loop-name-preserved : goal.loop-name-preserved
 loop-name-preserved g c =
-    let is = c.max-most.ensures ∙ ap (max c.loop-name.most) c.number_in.ensures.number in
-    let small = max-le {a = c.loop-name.most} {b = c.number_in.result} {k = 4294967294} (let s = c.loop-name.invariant.small in omega (arith, s)) (let s = c.number_in.ensures.small in omega (arith, s)) in
+    let is = c.max-most.ensures ∙ ap (max c.loop-name.most) c.instance_in_name.ensures.number in
+    let small = max-le {a = c.loop-name.most} {b = c.instance_in_name.result} {k = 4294967294} (let s = c.loop-name.invariant.small in omega (arith, s)) (let s = c.instance_in_name.ensures.small in omega (arith, s)) in
     record {
       most = idle-on (IsMostUpTo c.args.store.0 c.in-Some.name c.max-most.result) (g.D.Disk.history c.loop-name.disk) (g.D.Disk.history c.next_name.new.disk) c.in_ok-name.ensures.idle
           (subst (λ (n : ℕ). IfTold (g.D.Disk.history c.loop-name.disk) (IsMostUpTo c.args.store.0 c.in-Some.name n)) (sym is)
