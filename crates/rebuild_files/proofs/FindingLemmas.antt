@@ -1,6 +1,6 @@
 -- What is found in storage files, file by file.
-use Rattle.std.specs.Prelude.{◌≡◌, ◌≢◌, ◌≤◌, ◌<◌, ◌+◌, ℕ, List, [], ◌∷◌, ◌++◌, length, take, drop, map, slice_get, get_or, Option, Some, None, Result, Ok, Err, OnOk, IsErrOf, All, Contains, refl}
-use Rattle.std.proofs.Common.{inl, inr, sym, ◌∙◌, ap, subst, arith, append_assoc, append-nil, length-drop}
+use Rattle.std.specs.Prelude.{◌≡◌, ◌≤◌, ◌<◌, ◌+◌, ℕ, List, [], ◌∷◌, ◌++◌, length, take, drop, map, slice_get, get_or, Option, Some, None, Result, Ok, Err, OnOk, IsErrOf, Contains, refl}
+use Rattle.std.proofs.Common.{sym, ◌∙◌, ap, subst, arith, append_assoc, append-nil, length-drop}
 use Rattle.std.proofs.lemmas.Bool.{cond-true}
 use Rattle.std.proofs.lemmas.List.{map-append, length-map, get_or-map, take_all, take_more}
 use Rattle.std.proofs.lemmas.List.Elements.{All-get_or}
@@ -11,7 +11,7 @@ use Rattle.disk_model.specs.Disk.{DiskState, FileState, History, IfTold, IsThere
 use Rattle.disk_model.specs.declared.name.FileName.TheVariants as file
 use Rattle.mdbox_base.specs.Words.{IsNumber}
 use Rattle.mdbox_base.specs.declared.ids.FileNo.{FileNo}
-use Rattle.model_found.specs.Findings.{NumberedFile, IsThereAs, AreStorageFiles, Finding, Stored, Unread, stored_from, HasFindings, FileFinding, findings_of, HaveFindings}
+use Rattle.model_found.specs.Findings.{NumberedFile, IsThereAs, Finding, Stored, Unread, stored_from, HasFindings, FileFinding, findings_of, HaveFindings}
 use Rattle.model_found.specs.declared.reason.Reason.{Reason}
 use Rattle.model_found.specs.declared.reason.Reason.TheVariants as reason
 use Rattle.model_octets.proofs.PairLemmas.{all_map, pairs_map}

@@ -1,5 +1,5 @@
 -- Walks over the names of logs and of instances.
-use Rattle.std.specs.Prelude.{◌≡◌, ◌≢◌, ◌⊎◌, ◌≤◌, ◌<◌, ◌+◌, ◌==◌, max, ℕ, List, Bool, true, false, Option, Some, None, IsTrue, ◌↔◌, refl}
+use Rattle.std.specs.Prelude.{◌≡◌, ◌≢◌, ◌⊎◌, ◌≤◌, ◌<◌, ◌+◌, ◌==◌, max, ℕ, List, true, false, Option, Some, None, IsTrue, ◌↔◌, refl}
 use Rattle.std.proofs.Common.{inl, inr, sym, ◌∙◌, ap, subst, arith}
 use Rattle.std.proofs.Math.Nat.{le-max_left, le-max_right, max-eq_left, max-eq_right}
 use Rattle.std.proofs.lemmas.Bool.{cases_Bool, cases_order, false≢true, true≢false, cond-true, cond-false, eqb-true, eq-eqb}
@@ -12,7 +12,6 @@ use Rattle.disk_model.specs.contracts.name.FileNameOrd.TheImpl.{ghosts}
 use Rattle.disk_model.specs.declared.name.FileName.{FileName}
 use Rattle.disk_model.specs.declared.name.FileName.TheVariants as file
 use Rattle.mdbox_base.specs.Words.{IsNumber}
-use Rattle.model_meaning.specs.MapMeaning.{instance_number}
 use Rattle.model_rebuild.specs.RebuildPlan.{IsBoxUsed, IsMapUsed, IsFreeGeneration, IsGreatest, IsInstanceNumber}
 use Rattle.model_store.specs.Settled.{files_of}
 use Rattle.rebuild_files.specs.Listing.{IsNextLog, is_box_of, instance_in_name}

@@ -1,5 +1,5 @@
 -- The root log, as it is removed.
-use Rattle.std.specs.Prelude.{◌≡◌, ◌≢◌, ◌⊎◌, ℕ, List, Bool, true, false, Option, Some, None, IsTrue, ◌↔◌, refl}
+use Rattle.std.specs.Prelude.{◌≡◌, ◌⊎◌, ℕ, List, true, false, Option, Some, None, IsTrue, ◌↔◌, refl}
 use Rattle.std.proofs.Common.{inl, inr, sym, ◌∙◌, ap, subst}
 use Rattle.std.proofs.lemmas.Bool.{cases_Bool, cond-false, false≢true}
 use Rattle.disk_model.proofs.BetweenLemmas.{between-after, between-if}
@@ -8,7 +8,6 @@ use Rattle.disk_model.proofs.MomentLemmas.{if_told-map, if_told-both, each_image
 use Rattle.disk_model.proofs.OneFileLemmas.{change-here, change-other, named-narrows}
 use Rattle.disk_model.specs.Disk.{Files, FileState, DiskState, History, IsImage, IsIdle, IsThere, IfTold, EachImage, Between, AfterFailed, MayLeave, after, change, change_all, half_removed, named, no_file, removed}
 use Rattle.disk_model.specs.Name.{IsLogName}
-use Rattle.disk_model.specs.declared.name.FileName.{FileName}
 use Rattle.disk_model.specs.declared.name.FileName.TheVariants as file
 use Rattle.model_rebuild.specs.RebuildMoments.{IsBeforeLogs, IsBeforeRoot, IsOldButForRoot}
 use Rattle.model_store.specs.Opening.{HasNoEntry}

@@ -2,7 +2,6 @@ use Rattle.std.proofs.Common.{◌↔◌, IsTrue, true, false, refl, arith}
 use Rattle.disk_model.proofs.FaultCountLemmas.{no_fault-then}
 use Rattle.disk_model.proofs.IdleLemmas.{idle-back, idle-begins, idle-on, idle-then}
 use Rattle.disk_model.proofs.MomentLemmas.{if_told-all, if_told-both, if_told-map}
-use Rattle.disk_model.specs.Disk.{DiskState, IfTold}
 use Rattle.model_rebuild.specs.RebuildPlan.{IsBoxUsed, IsFreeGeneration}
 use Rattle.model_store.specs.Settled.{files_of}
 use Rattle.rebuild_files.proofs.ListingLemmas.{AreUsedBelow, box_unused, box_used, free_here, none_free, none_used_below, used_more}

@@ -2,7 +2,7 @@ use Rattle.std.proofs.Common.{◌↔◌, IsTrue, true, false, refl, arith}
 use Rattle.disk_model.proofs.FaultCountLemmas.{no_fault-then}
 use Rattle.disk_model.proofs.IdleLemmas.{idle-back, idle-begins, idle-on, idle-then}
 use Rattle.disk_model.proofs.MomentLemmas.{if_told-all, if_told-both, if_told-map}
-use Rattle.disk_model.specs.Disk.{DiskState, IsThere, IfTold}
+use Rattle.disk_model.specs.Disk.{IsThere}
 use Rattle.disk_model.specs.declared.name.FileName.TheVariants as file
 use Rattle.model_rebuild.specs.RebuildPlan.{IsMapUsed, IsFreeGeneration}
 use Rattle.model_store.specs.Settled.{files_of}

@@ -2,7 +2,6 @@ use Rattle.std.proofs.Common.{refl, arith, sym}
 use Rattle.disk_model.proofs.FaultCountLemmas.{no_fault-then}
 use Rattle.disk_model.proofs.IdleLemmas.{idle-back, idle-begins, idle-on, idle-then}
 use Rattle.disk_model.proofs.NameOrderLemmas.{walk_shrinks}
-use Rattle.disk_model.specs.Disk.{IfTold}
 use Rattle.std.proofs.Common.{Some}
 use Rattle.rebuild_files.proofs.ListingLemmas.{BoxesArePast, box_found, boxes_begin, boxes_end, boxes_go_on}
 use Rattle.rebuild_files.proofs.generations.has_box_log.Goals as goal
