@@ -27,7 +27,7 @@ abbrev pub lock_name : List ℕ
 lock_name = codes "mdbox.lock"
 
 -- A name of what stands in a folder. "." is the folder itself, and ".." the one above.
-pub record IsName (name : List ℕ) : Type 0 where
+pub record IsPathName (name : List ℕ) : Type 0 where
   pub some : name ≢ []
   pub no_slash : IsTrue (list_all (is_other_than 47) name)
   pub not_itself : name ≢ codes "."
@@ -36,8 +36,8 @@ pub record IsName (name : List ℕ) : Type 0 where
 
 -- A path as it is spelled: names joined by single "/". So what stands at a path has no other one.
 pub data IsPath : List ℕ → Type 0 where
-  Single : (name : List ℕ) → IsName name → IsPath name
-  Within : (folder name : List ℕ) → IsPath folder → IsName name → IsPath (folder ++ 47 ∷ name)
+  Single : (name : List ℕ) → IsPathName name → IsPath name
+  Within : (folder name : List ℕ) → IsPath folder → IsPathName name → IsPath (folder ++ 47 ∷ name)
 
 -- the path of a folder: the current one, or one below it
 abbrev pub IsFolderPath : List ℕ → Type 0

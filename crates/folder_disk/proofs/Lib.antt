@@ -1,0 +1,5 @@
+pub mod FileLemmas
+pub mod NameTestLemmas
+pub mod OverLemmas
+pub mod StartLemmas
+pub mod WideLemmas
