@@ -1,5 +1,5 @@
 -- The paths of a store's files are of one spelling.
-use Rattle.std.proofs.Common.{◌≡◌, ◌≢◌, ℕ, suc, ◌<◌, ◌≤◌, ◌^◌, ◌+◌, ◌/◌, ◌%◌, ◌&&◌, Bool, true, false, List, [], ◌∷◌, ◌++◌, length, slice_index, codes, IsTrue, refl, sym, ◌∙◌, ap, subst, arith}
+use Rattle.std.proofs.Common.{◌≡◌, ◌≢◌, ℕ, suc, ◌<◌, ◌≤◌, ◌^◌, ◌+◌, ◌/◌, ◌%◌, ◌&&◌, Bool, true, false, List, [], ◌∷◌, ◌++◌, length, slice_index, get_or, codes, IsTrue, refl, sym, ◌∙◌, ap, subst, arith}
 use Rattle.std.specs.List.{list_all}
 use Rattle.std.proofs.lemmas.List.Folds.{list_all-append}
 use Rattle.std.proofs.lemmas.List.{length-append}
@@ -38,14 +38,24 @@ other_digits mark (b ∷ rest) low h =
 no_slash_in_number : (n : ℕ) → IsNumber n → HasNo 47 (decimal_text n)
 no_slash_in_number n is = others 47 (decimal_text n) refl (decimal_digits n (omega (arith, is)))
 
+-- a text that begins with another octet than ".", and differs from the lock's name at a place
+by_place : (k : ℕ) (text : List ℕ) → HasNo 47 text → get_or text 0 0 ≢ 46 → get_or text 0 0 ≢ 0 → get_or text k 0 ≢ get_or lock_name k 0 → IsPathName text
+by_place k text slash dot some lock = record {
+  some = λ e. some (ap (λ l. get_or l 0 0) e);
+  no_slash = slash;
+  not_itself = λ e. dot (ap (λ l. get_or l 0 0) e);
+  not_above = λ e. dot (ap (λ l. get_or l 0 0) e);
+  not_lock = λ e. lock (ap (λ l. get_or l k 0) e);
+}
+
 storage : IsPath (codes "storage")
-storage = Single (codes "storage") (record { some = λ e. cc; no_slash = refl; not_itself = λ e. cc; not_above = λ e. cc; not_lock = λ e. cc })
+storage = Single (codes "storage") (by_place 0 (codes "storage") refl (λ e. omega (arith, e)) (λ e. omega (arith, e)) (λ e. omega (arith, e)))
 
 mailboxes : IsPath (codes "mailboxes")
-mailboxes = Single (codes "mailboxes") (record { some = λ e. cc; no_slash = refl; not_itself = λ e. cc; not_above = λ e. cc; not_lock = λ e. cc })
+mailboxes = Single (codes "mailboxes") (by_place 1 (codes "mailboxes") refl (λ e. omega (arith, e)) (λ e. omega (arith, e)) (λ e. omega (arith, e)))
 
 attachments : IsPath (codes "attachments")
-attachments = Single (codes "attachments") (record { some = λ e. cc; no_slash = refl; not_itself = λ e. cc; not_above = λ e. cc; not_lock = λ e. cc })
+attachments = Single (codes "attachments") (by_place 0 (codes "attachments") refl (λ e. omega (arith, e)) (λ e. omega (arith, e)) (λ e. omega (arith, e)))
 
 -- the digits of one octet
 abbrev pub digits_of : ℕ → List ℕ
@@ -89,32 +99,20 @@ inst_name hash id is =
     (omega (arith, long, first, is.0)) (λ e. omega (arith, long, first, is.0, e))
 
 pub spelled : (name : FileName) → IsStoreFile name → IsPath (path_text name)
-spelled file.Root is = Within (codes "storage") (codes "root.log") storage (record { some = λ e. cc; no_slash = refl; not_itself = λ e. cc; not_above = λ e. cc; not_lock = λ e. cc })
+spelled file.Root is = Within (codes "storage") (codes "root.log") storage (by_place 0 (codes "root.log") refl (λ e. omega (arith, e)) (λ e. omega (arith, e)) (λ e. omega (arith, e)))
 spelled (file.Map generation) is =
-    Within (codes "storage") (codes "map." ++ (decimal_text generation ++ codes ".log")) storage (record {
-      some = λ e. cc;
-      no_slash = none_in 47 (decimal_text generation) (codes ".log") (no_slash_in_number generation is) refl;
-      not_itself = λ e. cc;
-      not_above = λ e. cc;
-      not_lock = λ e. cc;
-    })
+    let text = codes "map." ++ (decimal_text generation ++ codes ".log") in
+    Within (codes "storage") text storage (by_place 1 text (none_in 47 (decimal_text generation) (codes ".log") (no_slash_in_number generation is) refl)
+    (λ e. omega (arith, e)) (λ e. omega (arith, e)) (λ e. omega (arith, e)))
 spelled (file.Box number generation) is =
-    Within (codes "mailboxes") (codes "b." ++ (decimal_text number ++ (codes "." ++ (decimal_text generation ++ codes ".log")))) mailboxes (record {
-      some = λ e. cc;
-      no_slash = none_in 47 (decimal_text number) (codes "." ++ (decimal_text generation ++ codes ".log")) (no_slash_in_number number is.0)
-          (none_in 47 (decimal_text generation) (codes ".log") (no_slash_in_number generation is.1) refl);
-      not_itself = λ e. cc;
-      not_above = λ e. cc;
-      not_lock = λ e. cc;
-    })
+    let text = codes "b." ++ (decimal_text number ++ (codes "." ++ (decimal_text generation ++ codes ".log"))) in
+    Within (codes "mailboxes") text mailboxes (by_place 0 text
+    (none_in 47 (decimal_text number) (codes "." ++ (decimal_text generation ++ codes ".log")) (no_slash_in_number number is.0)
+    (none_in 47 (decimal_text generation) (codes ".log") (no_slash_in_number generation is.1) refl))
+    (λ e. omega (arith, e)) (λ e. omega (arith, e)) (λ e. omega (arith, e)))
 spelled (file.Mail number) is =
-    Within (codes "storage") (codes "m." ++ decimal_text number) storage (record {
-      some = λ e. cc;
-      no_slash = no_slash_in_number number is;
-      not_itself = λ e. cc;
-      not_above = λ e. cc;
-      not_lock = λ e. cc;
-    })
+    let text = codes "m." ++ decimal_text number in
+    Within (codes "storage") text storage (by_place 1 text (no_slash_in_number number is) (λ e. omega (arith, e)) (λ e. omega (arith, e)) (λ e. omega (arith, e)))
 spelled (file.Inst hash id) is =
     let first = slice_index hash 0 in
     let second = slice_index hash 1 in
