@@ -1,6 +1,10 @@
 -- The file at a path, as calls find it and change it.
 use Rattle.std.proofs.Common.{◌≡◌, ◌≢◌, ◌⊎◌, inl, inr, ℕ, ◌<◌, ◌≤◌, Bool, true, List, length, take, drop, Option, Some, None, refl, sym, ◌∙◌, ap, subst, arith}
 use Rattle.disk_model.specs.Disk.{FileState, written}
+use Rattle.disk_model.specs.declared.name.FileName.{FileName}
+use Rattle.file_paths.specs.Paths.{path_text, IsStoreFile}
+use Rattle.disk_files.proofs.SpelledLemmas.{spelled}
+use Rattle.folder_model.specs.Paths.{IsPath}
 use Rattle.folder_model.specs.System.{Node, Nothing, PlainFile, AFolder, Another, System, with_content, weakened}
 use Rattle.folder_model.specs.Calls.{Modelled, IfModelled, IfSound, IsPartlyDone, Becomes, AreSince, done_by, kind_of_node}
 use Rattle.folder_model.specs.declared.folder.Kind.{Kind}
@@ -68,3 +72,7 @@ on_way_at path number at octets old start past stands since s has = elim (since 
   | inl before ↦ inl before
   | inr way ↦ inr (both_told _ _ _ old (λ before is w. (number, is, w)) stands way)
 ]
+
+-- the path of a file is of one spelling
+pub path_is : (name : FileName) (path : List ℕ) → IsStoreFile name → path ≡ path_text name → IsPath path
+path_is name path file is = let F : List ℕ → Type 0 = IsPath in subst F (sym is) (spelled name file)

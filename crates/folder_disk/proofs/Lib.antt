@@ -1,5 +1,7 @@
+pub mod ChangeLemmas
 pub mod FileLemmas
 pub mod NameTestLemmas
 pub mod OverLemmas
+pub mod ReadLemmas
 pub mod StartLemmas
 pub mod WideLemmas

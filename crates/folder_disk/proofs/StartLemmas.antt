@@ -1,5 +1,5 @@
 -- A disk follows the system that its process began with.
-use Rattle.std.proofs.Common.{◌≡◌, ◌≢◌, ◌⊎◌, inl, inr, ℕ, suc, ◌<◌, ◌≤◌, ◌&&◌, ◌||◌, not, Bool, true, false, if◌then◌else◌, List, [], ◌∷◌, ◌++◌, length, Option, Some, None, Contains, codes, refl, sym, ◌∙◌, ap, subst, arith}
+use Rattle.std.proofs.Common.{◌≡◌, ◌≢◌, ◌⊎◌, inl, inr, ℕ, zero, suc, ◌<◌, ◌≤◌, ◌&&◌, ◌||◌, not, Bool, true, false, if◌then◌else◌, List, [], ◌∷◌, ◌++◌, length, Option, Some, None, Contains, codes, refl, sym, ◌∙◌, ap, subst, arith}
 use Rattle.std.proofs.lemmas.Bool.{cases_Bool, cond-true, cond-false, false≢true}
 use Rattle.std.proofs.lemmas.List.Elements.{Contains-append_right}
 use Rattle.disk_model.specs.Disk.{FileState, MayLeave, MayHold, no_file, reading}
@@ -99,7 +99,7 @@ current_stays : (s : System) (path : List ℕ) → same_octets path (codes ".") 
 current_stays s path e = let F : List ℕ → Type 0 = StaysFolder s in subst F (sym (same_octets-true path (codes ".") e)) Current
 
 keeps : (above : ℕ) (s : System) (path : List ℕ) → keeps_folder above s path ≡ true → StaysFolder s path
-keeps 0 s path e = current_stays s path e
+keeps zero s path e = current_stays s path e
 keeps (suc above) s path e = elim (or_cases (same_octets path (codes ".")) _ e) [
   | inl current ↦ current_stays s path current
   | inr kept ↦

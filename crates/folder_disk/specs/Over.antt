@@ -8,6 +8,7 @@ use Rattle.folder_model.specs.System.{Nothing, PlainFile, AFolder, System}
 use Rattle.folder_model.specs.Calls.{Modelled}
 use Rattle.disk_files.specs.Follows.{FollowsSystem, CoversSystem, HasOwnFiles}
 use Rattle.disk_record.specs.declared.change.Change.{Change}
+use Rattle.disk_record.specs.declared.change.Change.TheVariants as change
 use Rattle.disk_record.specs.Record.{history_of}
 use Rattle.folder_disk.specs.Start.{started_disk}
 
@@ -41,7 +42,8 @@ IsCovered h s = (disk : DiskState) × WasState h disk × CoversSystem disk s
 
 -- A disk over a modelled system, with the systems of the past. A disk whose change has failed reads nothing any more.
 pub record IsOver (m : Modelled) (past : List System) (changes : List (Change × List ℕ)) (is_spoiled : Bool) : Type 0 where
-  pub covered : (s : System) → Contains (m.now ∷ past) s → IsCovered (history_of (started_disk m.start) changes) s
+  pub covered : (s : System) → Contains past s → IsCovered (history_of (started_disk m.start) changes) s
+  pub now : CoversSystem (history_of (started_disk m.start) changes).now m.now
   pub disk : IsStoreDisk (history_of (started_disk m.start) changes).now
   pub is : is_spoiled ≡ false → IsDiskOf (history_of (started_disk m.start) changes).now m.now
 
@@ -54,3 +56,22 @@ IsDiskOver (Some m) past changes is_spoiled = IsOver m past changes is_spoiled
 abbrev pub told_history : Option Modelled → List (Change × List ℕ) → Option History
 told_history None changes = None
 told_history (Some m) changes = Some (history_of (started_disk m.start) changes)
+
+-- no call was made yet
+abbrev pub HasBegun : Option Modelled → List System → Type 0
+HasBegun None past = ⊤
+HasBegun (Some m) past = (m.start ≡ m.now) × (past ≡ [])
+
+-- A change that failed takes no image away, and what it was about reads as before.
+abbrev pub IsFailedChange : Change → Type 0
+IsFailedChange change.Nothing = ⊤
+IsFailedChange (change.Written name at) = ⊥
+IsFailedChange (change.HalfWritten name at n) = ⊤
+IsFailedChange (change.Cut name end) = ⊥
+IsFailedChange (change.HalfCut name end) = ⊤
+IsFailedChange (change.Synced name) = ⊥
+IsFailedChange (change.Made name) = ⊥
+IsFailedChange (change.HalfMade name) = ⊤
+IsFailedChange (change.Removed name) = ⊥
+IsFailedChange (change.HalfRemoved name) = ⊤
+IsFailedChange change.NamesSynced = ⊥

@@ -1,5 +1,5 @@
 -- The state of a disk as its process begins, by the system under it.
-use Rattle.std.specs.Prelude.{ℕ, suc, ◌==◌, ◌&&◌, ◌||◌, not, nat_le, nat_lt, Bool, true, false, if◌then◌else◌, List, [], ◌∷◌, length, Option, Some, None, codes}
+use Rattle.std.specs.Prelude.{ℕ, zero, suc, ◌==◌, ◌&&◌, ◌||◌, not, nat_le, nat_lt, Bool, true, false, if◌then◌else◌, List, [], ◌∷◌, length, Option, Some, None, codes}
 use Rattle.std.specs.List.{list_all}
 use Rattle.disk_model.specs.Disk.{FileState, DiskState, no_file}
 use Rattle.disk_model.specs.Name.{same_octets}
@@ -41,7 +41,7 @@ has_none (x ∷ xs) = false
 
 -- whether a crash leaves this folder, and those above it, so many at most
 abbrev pub keeps_folder : ℕ → System → List ℕ → Bool
-keeps_folder 0 s path = same_octets path (codes ".")
+keeps_folder zero s path = same_octets path (codes ".")
 keeps_folder (suc above) s path =
     same_octets path (codes ".") || (is_folder (s.node path) && (has_none (s.earlier path) && keeps_folder above s (folder_at path)))
 
