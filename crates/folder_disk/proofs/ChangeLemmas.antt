@@ -3,7 +3,7 @@ use Rattle.std.proofs.Common.{◌≡◌, ◌≢◌, ◌⊎◌, inl, inr, ℕ, �
 use Rattle.std.proofs.Math.Logic.{∥∥₁_elim, ∥∥₁_map}
 use Rattle.std.proofs.Props.{props}
 use Rattle.std.proofs.lemmas.Bool.{cases_Bool, cond-true, cond-false, false≢true}
-use Rattle.disk_model.specs.Disk.{FileState, DiskState, History, MayHold, MayLeave, IfTold, Reaches, reading, change, written, half_written, overlaid, after}
+use Rattle.disk_model.specs.Disk.{FileState, DiskState, History, MayHold, MayLeave, IfTold, Reaches, AfterFailed, reading, change, written, half_written, overlaid, after}
 use Rattle.disk_model.specs.Name.{same_name}
 use Rattle.disk_model.specs.declared.name.FileName.{FileName}
 use Rattle.disk_model.proofs.NameLemmas.{same_name-true}
@@ -22,7 +22,7 @@ use Rattle.disk_record.specs.Record.{state_after}
 use Rattle.folder_disk.specs.Files.{HasFile, IfFile, IsChanged, IsPartlyChanged, AreAfter}
 use Rattle.folder_disk.specs.Over.{IsStoreSystem, IsDiskOf, IsStoreDisk, IsOver, IsDiskOver, IsFailedChange, told_history}
 use Rattle.folder_disk.proofs.OverLemmas.{so_far, next_of, over_goes_on, hold_is}
-use Rattle.folder_disk.proofs.WideLemmas.{front_leaves, front_half_leaves, half_leaves, covers_more, change_leaves, covers_weakened, wider_leaves, wider_reads, failed_wider}
+use Rattle.folder_disk.proofs.WideLemmas.{front_leaves, front_half_leaves, half_leaves, covers_more, change_leaves, covers_weakened, wider_leaves, wider_reads, failed_wider, failed_after}
 
 -- a change of one file, of that file and of another
 by_name : (P : FileState → Type 0) (name n : FileName) (step : FileState → FileState) (disk : DiskState) → (n ≡ name → P (step (disk n))) → P (disk n) → P (change name step disk n)
@@ -208,3 +208,17 @@ reaches_told (Some m) past changes spoiled name path at over un file is reaches 
         let same = reads_there f (m.now.content number).octets reads in
         let G : List ℕ → Type 0 = λ l. at ≤ length l in
         subst G same.1 reaches.1)
+
+-- Where what is told is the same at a later moment.
+pub reaches_then : (old mid : Option History) (name : FileName) (at : ℕ) → mid ≡ old → IfTold old (λ disk. Reaches (disk name) at) → IfTold mid (λ disk. Reaches (disk name) at)
+reaches_then old mid name at same reaches = let F : Option History → Type 0 = λ h. IfTold h (λ disk. Reaches (disk name) at) in subst F (sym same) reaches
+
+pub after_then : (step : DiskState → DiskState) (old mid new : Option History) → mid ≡ old → new ≡ after step mid → new ≡ after step old
+after_then step old mid new same is = is ∙ ap (after step) same
+
+-- a write that failed
+pub half_written_then : (name : FileName) (at n : ℕ) (old mid new : Option History) → mid ≡ old → new ≡ after (change name (half_written at n)) mid
+    → AfterFailed (change name (half_written at n)) old new
+half_written_then name at n old mid new same is =
+    let F : Option History → Type 0 = AfterFailed (change name (half_written at n)) old in
+    subst F (sym (after_then (change name (half_written at n)) old mid new same is)) (failed_after (HalfWritten name at n) [] old tt)

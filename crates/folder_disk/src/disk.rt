@@ -35,9 +35,9 @@ pub struct FolderDisk<F: Folder> {
 }
 
 impl<F: Folder + Drop> FolderDisk<F> {
-    ghost use Rattle.std.specs.Prelude.{None, Some, Ok, ◌↔◌, [], IfOk, IfErr, IfSome, IfNone, IsErr, IsErrOf, OnOk, OnErr};
+    ghost use Rattle.std.specs.Prelude.{None, Some, Ok, ◌↔◌, [], IfOk, IfErr, IfSome, IfNone, IsErr, IsErrOf, OnOk, OnErr, string_bytes};
     ghost use Rattle.std.specs.Option.{option_map};
-    ghost use Rattle.disk_model.specs.Disk.{IfTold, ReadCause, ChangeCause, Reaches, Unchanged, after, change, written, half_written, reading};
+    ghost use Rattle.disk_model.specs.Disk.{IfTold, ReadCause, ChangeCause, Reaches, AfterFailed, Unchanged, after, change, written, half_written, reading};
     ghost use Rattle.disk_record.specs.Record.{state_after};
     ghost use Rattle.file_paths.specs.Paths.{path_text, IsStoreFile};
     ghost use Rattle.folder_model.specs.Paths.{IsPath};
@@ -228,6 +228,36 @@ impl<F: Folder + Drop> FolderDisk<F> {
                 self.failed_changes = self.failed_changes.saturating_add(1);
                 Err(DiskError::Failed)
             }
+        }
+    }
+
+    /// The path of a file that is to be changed, once this process has the store.
+    fn path_to_change(&mut self, name: FileName) -> Result<Option<String>, CallError>
+        ensures locked { OnOk result (IsLocked (F.Folder.modelled self.new.folder)) }
+        ensures sound { OnOk result (IsSound (F.Folder.modelled self.new.folder)) }
+        ensures spoiled { OnOk result (self.new.is_spoiled ≡ false) }
+        ensures file { IfOk result (λ found. IfSome found (λ path. IsStoreFile name × (string_bytes path ≡ path_text name))) }
+        ensures spelled { IfOk result (λ found. IfSome found (λ path. IsPath (string_bytes path))) }
+        ensures told { told_history (F.Folder.modelled self.new.folder) self.new.record.changes ≡ told_history (F.Folder.modelled self.old.folder) self.old.record.changes }
+        ensures same { (self.new.failed_reads ≡ self.old.failed_reads) × (self.new.failed_changes ≡ self.old.failed_changes) × (self.new.is_spoiled ≡ self.old.is_spoiled) }
+    {
+        self.ready()?;
+        path_of(self.alloc, name)
+    }
+
+    /// Writes all of `from` at `offset`, which is at most the file's length, and so may lengthen the file. A crash before its
+    /// sync may leave any octets in that range.
+    #[tactic(auto, using(crate::proofs::ChangeLemmas::reaches_then, crate::proofs::ChangeLemmas::after_then, crate::proofs::ChangeLemmas::half_written_then))]
+    pub fn write_at(&mut self, name: FileName, offset: u64, from: &[u8]) -> Result<(), DiskError>
+        requires { IfTold (told_history (F.Folder.modelled self.old.folder) self.old.record.changes) (λ disk. Reaches (disk name) offset) }
+        ensures state { OnOk result (told_history (F.Folder.modelled self.new.folder) self.new.record.changes ≡ after (change name (written offset from.now)) (told_history (F.Folder.modelled self.old.folder) self.old.record.changes)) }
+        ensures failed { OnErr result (AfterFailed (change name (half_written offset (length from.now))) (told_history (F.Folder.modelled self.old.folder) self.old.record.changes) (told_history (F.Folder.modelled self.new.folder) self.new.record.changes)) }
+        ensures fits { OnOk result (offset + length from.now < 2 ^ 64) }
+        ensures cause { ChangeCause result (record { reads = self.old.failed_reads; changes = self.old.failed_changes }) (record { reads = self.new.failed_reads; changes = self.new.failed_changes }) }
+    {
+        match self.path_to_change(name) {
+            Ok(Some(path)) => self.write_to(path.as_str(), name, offset, from),
+            Ok(None) | Err(_) => self.fail(&Change::HalfWritten(name, offset, from.len() as u64)),
         }
     }
 }
