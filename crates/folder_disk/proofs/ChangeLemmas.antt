@@ -33,7 +33,7 @@ by_name P name n step disk here elsewhere = elim (cases_Bool (same_name n name))
 ]
 
 -- a disk's files after a change of one that keeps it there
-changed_store : (name : FileName) (step : FileState → FileState) (disk : DiskState) → IsStoreFile name → MayLeave (step (disk name)) (reading (step (disk name))) → IsStoreDisk disk
+pub changed_store : (name : FileName) (step : FileState → FileState) (disk : DiskState) → IsStoreFile name → MayLeave (step (disk name)) (reading (step (disk name))) → IsStoreDisk disk
     → IsStoreDisk (change name step disk)
 changed_store name step disk file left store = record {
   reads = λ n. by_name (λ f. MayLeave f (reading f)) name n step disk
@@ -67,7 +67,7 @@ written_reads f at octets reaches fit left =
     })
 
 -- a change of content leaves the rest of the system
-content_stays : (number : ℕ) (step : FileState → FileState) (s : System) → IsStoreSystem s → IsStoreSystem (with_content number step s)
+pub content_stays : (number : ℕ) (step : FileState → FileState) (s : System) → IsStoreSystem s → IsStoreSystem (with_content number step s)
 content_stays number step s is = record { sound = is.sound; own = record { own = is.own.own; one = is.own.one }; folders = is.folders }
 
 -- a write on its way
@@ -81,7 +81,7 @@ way_covered m disk wide name at octets s file is more way =
     let F : System → Type 0 = CoversSystem wide in
     subst F (sym way.2.2) (covers_more (change name (written at part) disk) wide (with_content number (written at part) m.now) (more way.2.0) (covered (change name (written at part) disk) (with_content number (written at part) m.now) follows))
 
-by_path : (path : List ℕ) (name : FileName) (s : System) (P : ℕ → Type 0) → path ≡ path_text name → HasFile s path P → HasFile s (path_text name) P
+pub by_path : (path : List ℕ) (name : FileName) (s : System) (P : ℕ → Type 0) → path ≡ path_text name → HasFile s path P → HasFile s (path_text name) P
 by_path path name s P is has = let F : List ℕ → Type 0 = λ p. HasFile s p P in subst F is has
 
 -- a write was made

@@ -4,4 +4,5 @@ pub mod NameTestLemmas
 pub mod OverLemmas
 pub mod ReadLemmas
 pub mod StartLemmas
+pub mod SyncLemmas
 pub mod WideLemmas

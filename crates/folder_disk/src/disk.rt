@@ -3,7 +3,7 @@ ghost use Rattle.std.specs.Prelude.{◌≡◌, ◌+◌, ◌-◌, ◌^◌, ◌<�
 ghost use Rattle.folder_model.specs.Calls.{IfModelled, IsLocked};
 ghost use Rattle.folder_disk.specs.Over.{IsDiskOver};
 
-use crate::files::{length_at, read_at, write_at};
+use crate::files::{length_at, read_at, sync_at, write_at};
 use crate::lock::has_lock;
 use crate::paths::path_of;
 use disk_model::{DiskError, FileName};
@@ -37,7 +37,7 @@ pub struct FolderDisk<F: Folder> {
 impl<F: Folder + Drop> FolderDisk<F> {
     ghost use Rattle.std.specs.Prelude.{None, Some, Ok, ◌↔◌, [], IfOk, IfErr, IfSome, IfNone, IsErr, IsErrOf, OnOk, OnErr, string_bytes};
     ghost use Rattle.std.specs.Option.{option_map};
-    ghost use Rattle.disk_model.specs.Disk.{IfTold, ReadCause, ChangeCause, Reaches, AfterFailed, Unchanged, after, change, written, half_written, reading};
+    ghost use Rattle.disk_model.specs.Disk.{IfTold, ReadCause, ChangeCause, Reaches, IsThere, IsMoment, AfterFailed, Unchanged, after, change, written, half_written, synced, reading};
     ghost use Rattle.disk_record.specs.Record.{state_after};
     ghost use Rattle.file_paths.specs.Paths.{path_text, IsStoreFile};
     ghost use Rattle.folder_model.specs.Paths.{IsPath};
@@ -259,5 +259,56 @@ impl<F: Folder + Drop> FolderDisk<F> {
             Ok(Some(path)) => self.write_to(path.as_str(), name, offset, from),
             Ok(None) | Err(_) => self.fail(&Change::HalfWritten(name, offset, from.len() as u64)),
         }
+    }
+
+    /// Syncs a file at its path, once this process has the store.
+    #[tactic(auto, using(crate::proofs::SyncLemmas::unsynced_told))]
+    fn sync_to(&mut self, path: &str, name: FileName) -> Result<(), DiskError>
+        requires locked { IsLocked (F.Folder.modelled self.old.folder) }
+        requires sound { IsSound (F.Folder.modelled self.old.folder) }
+        requires spoiled { self.old.is_spoiled ≡ false }
+        requires spelled { IsPath path.now }
+        requires file { IsStoreFile name }
+        requires named { path.now ≡ path_text name }
+        ensures state { OnOk result (told_history (F.Folder.modelled self.new.folder) self.new.record.changes ≡ after (change name synced) (told_history (F.Folder.modelled self.old.folder) self.old.record.changes)) }
+        ensures failed { OnErr result (told_history (F.Folder.modelled self.new.folder) self.new.record.changes ≡ after (λ disk. disk) (told_history (F.Folder.modelled self.old.folder) self.old.record.changes)) }
+        ensures cause { ChangeCause result (record { reads = self.old.failed_reads; changes = self.old.failed_changes }) (record { reads = self.new.failed_reads; changes = self.new.failed_changes }) }
+    {
+        match sync_at(&mut self.folder, path) {
+            Ok(()) => {
+                self.record.note(&Change::Synced(name), &[]);
+                self.calls = self.calls.saturating_add(1);
+                Ok(())
+            }
+            Err(_) => {
+                self.record.note(&Change::Nothing, &[]);
+                self.calls = self.calls.saturating_add(1);
+                self.is_spoiled = true;
+                self.failed_changes = self.failed_changes.saturating_add(1);
+                Err(DiskError::Failed)
+            }
+        }
+    }
+
+    /// After this a crash leaves the file's octets as they read.
+    #[tactic(auto, using(crate::proofs::ChangeLemmas::after_then, crate::proofs::SyncLemmas::unsynced_then))]
+    pub fn sync(&mut self, name: FileName) -> Result<(), DiskError>
+        requires { IfTold (told_history (F.Folder.modelled self.old.folder) self.old.record.changes) (λ disk. IsThere (disk name)) }
+        ensures state { OnOk result (told_history (F.Folder.modelled self.new.folder) self.new.record.changes ≡ after (change name synced) (told_history (F.Folder.modelled self.old.folder) self.old.record.changes)) }
+        ensures failed { OnErr result (AfterFailed (λ disk. disk) (told_history (F.Folder.modelled self.old.folder) self.old.record.changes) (told_history (F.Folder.modelled self.new.folder) self.new.record.changes)) }
+        ensures cause { ChangeCause result (record { reads = self.old.failed_reads; changes = self.old.failed_changes }) (record { reads = self.new.failed_reads; changes = self.new.failed_changes }) }
+    {
+        match self.path_to_change(name) {
+            Ok(Some(path)) => self.sync_to(path.as_str(), name),
+            Ok(None) | Err(_) => self.fail(&Change::Nothing),
+        }
+    }
+
+    /// The present moment: how many calls have returned, as far as the type goes.
+    #[tactic(auto, using(crate::proofs::SyncLemmas::moment_is))]
+    pub fn moment(&self) -> u64
+        ensures { IsMoment (told_history (F.Folder.modelled self.now.folder) self.now.record.changes) result }
+    {
+        self.calls
     }
 }
