@@ -1,4 +1,5 @@
 pub mod ChangeLemmas
+pub mod CutLemmas
 pub mod FileLemmas
 pub mod NameTestLemmas
 pub mod OverLemmas

@@ -22,7 +22,7 @@ use Rattle.folder_disk.proofs.WideLemmas.{covers_weakened, failed_after}
 use Rattle.folder_disk.proofs.ChangeLemmas.{after_then, by_path, changed_store, content_stays}
 
 -- the system before a call was covered
-passed_covered : (m n : Modelled) (before after : List System) (changes : List (Change × List ℕ)) (spoiled : Bool) (wide : DiskState) → IsOver m before changes spoiled
+pub passed_covered : (m n : Modelled) (before after : List System) (changes : List (Change × List ℕ)) (spoiled : Bool) (wide : DiskState) → IsOver m before changes spoiled
     → HasPassed (Some m) before (Some n) after → AreSince (λ s. IsCovered (so_far m changes) s ⊎ CoversSystem wide s) before after
 passed_covered m n before after changes spoiled wide over (inl e) s has =
     let F : List System → Type 0 = λ l. Contains l s in

@@ -3,7 +3,7 @@ ghost use Rattle.std.specs.Prelude.{◌≡◌, ◌+◌, ◌-◌, ◌^◌, ◌<�
 ghost use Rattle.folder_model.specs.Calls.{IfModelled, IsLocked};
 ghost use Rattle.folder_disk.specs.Over.{IsDiskOver};
 
-use crate::files::{length_at, read_at, sync_at, write_at};
+use crate::files::{cut_at, length_at, read_at, sync_at, write_at};
 use crate::lock::has_lock;
 use crate::paths::path_of;
 use disk_model::{DiskError, FileName};
@@ -37,7 +37,7 @@ pub struct FolderDisk<F: Folder> {
 impl<F: Folder + Drop> FolderDisk<F> {
     ghost use Rattle.std.specs.Prelude.{None, Some, Ok, ◌↔◌, [], IfOk, IfErr, IfSome, IfNone, IsErr, IsErrOf, OnOk, OnErr, string_bytes};
     ghost use Rattle.std.specs.Option.{option_map};
-    ghost use Rattle.disk_model.specs.Disk.{IfTold, ReadCause, ChangeCause, Reaches, IsThere, IsMoment, AfterFailed, Unchanged, after, change, written, half_written, synced, reading};
+    ghost use Rattle.disk_model.specs.Disk.{IfTold, ReadCause, ChangeCause, Reaches, IsThere, IsMoment, IsImage, AfterFailed, Unchanged, after, change, written, half_written, cut_to, half_cut, synced, reading};
     ghost use Rattle.disk_record.specs.Record.{state_after};
     ghost use Rattle.file_paths.specs.Paths.{path_text, IsStoreFile};
     ghost use Rattle.folder_model.specs.Paths.{IsPath};
@@ -261,6 +261,49 @@ impl<F: Folder + Drop> FolderDisk<F> {
         }
     }
 
+    /// Shortens a file at its path, once this process has the store.
+    fn cut_to_end(&mut self, path: &str, name: FileName, end: u64) -> Result<(), DiskError>
+        requires locked { IsLocked (F.Folder.modelled self.old.folder) }
+        requires sound { IsSound (F.Folder.modelled self.old.folder) }
+        requires spoiled { self.old.is_spoiled ≡ false }
+        requires spelled { IsPath path.now }
+        requires file { IsStoreFile name }
+        requires named { path.now ≡ path_text name }
+        requires reaches { IfTold (told_history (F.Folder.modelled self.old.folder) self.old.record.changes) (λ disk. Reaches (disk name) end) }
+        ensures state { OnOk result (told_history (F.Folder.modelled self.new.folder) self.new.record.changes ≡ after (change name (cut_to end)) (told_history (F.Folder.modelled self.old.folder) self.old.record.changes)) }
+        ensures failed { OnErr result (told_history (F.Folder.modelled self.new.folder) self.new.record.changes ≡ after (change name (half_cut end)) (told_history (F.Folder.modelled self.old.folder) self.old.record.changes)) }
+        ensures cause { ChangeCause result (record { reads = self.old.failed_reads; changes = self.old.failed_changes }) (record { reads = self.new.failed_reads; changes = self.new.failed_changes }) }
+    {
+        match cut_at(&mut self.folder, path, end) {
+            Ok(()) => {
+                self.record.note(&Change::Cut(name, end), &[]);
+                self.calls = self.calls.saturating_add(1);
+                Ok(())
+            }
+            Err(_) => {
+                self.record.note(&Change::HalfCut(name, end), &[]);
+                self.calls = self.calls.saturating_add(1);
+                self.is_spoiled = true;
+                self.failed_changes = self.failed_changes.saturating_add(1);
+                Err(DiskError::Failed)
+            }
+        }
+    }
+
+    /// Shortens the file to this length, which is at most its own.
+    #[tactic(auto, using(crate::proofs::ChangeLemmas::reaches_then, crate::proofs::ChangeLemmas::after_then, crate::proofs::CutLemmas::half_cut_then))]
+    pub fn cut(&mut self, name: FileName, end: u64) -> Result<(), DiskError>
+        requires { IfTold (told_history (F.Folder.modelled self.old.folder) self.old.record.changes) (λ disk. Reaches (disk name) end) }
+        ensures state { OnOk result (told_history (F.Folder.modelled self.new.folder) self.new.record.changes ≡ after (change name (cut_to end)) (told_history (F.Folder.modelled self.old.folder) self.old.record.changes)) }
+        ensures failed { OnErr result (AfterFailed (change name (half_cut end)) (told_history (F.Folder.modelled self.old.folder) self.old.record.changes) (told_history (F.Folder.modelled self.new.folder) self.new.record.changes)) }
+        ensures cause { ChangeCause result (record { reads = self.old.failed_reads; changes = self.old.failed_changes }) (record { reads = self.new.failed_reads; changes = self.new.failed_changes }) }
+    {
+        match self.path_to_change(name) {
+            Ok(Some(path)) => self.cut_to_end(path.as_str(), name, end),
+            Ok(None) | Err(_) => self.fail(&Change::HalfCut(name, end)),
+        }
+    }
+
     /// Syncs a file at its path, once this process has the store.
     #[tactic(auto, using(crate::proofs::SyncLemmas::unsynced_told))]
     fn sync_to(&mut self, path: &str, name: FileName) -> Result<(), DiskError>
@@ -303,6 +346,14 @@ impl<F: Folder + Drop> FolderDisk<F> {
             Ok(None) | Err(_) => self.fail(&Change::Nothing),
         }
     }
+
+    /// What it reads is one of its images; and what a crash may leave of the system now, or of a system between two calls of the
+    /// past, is what it may leave of the disk at one of its moments.
+    #[tactic(auto, using(crate::proofs::OverLemmas::over_reads))]
+    pub fn known_images(&self)
+        ensures reads { IfTold (told_history (F.Folder.modelled self.now.folder) self.now.record.changes) (λ state. IsImage state (λ name. reading (state name))) }
+        ensures over { ∥ IsDiskOver (F.Folder.modelled self.now.folder) (F.Folder.past self.now.folder) self.now.record.changes self.now.is_spoiled ∥₁ }
+    {}
 
     /// The present moment: how many calls have returned, as far as the type goes.
     #[tactic(auto, using(crate::proofs::SyncLemmas::moment_is))]
