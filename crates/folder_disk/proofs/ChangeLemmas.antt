@@ -1,16 +1,16 @@
 -- A disk over a system, one change on.
-use Rattle.std.proofs.Common.{◌≡◌, ◌≢◌, ◌⊎◌, inl, inr, ℕ, ◌+◌, ◌<◌, ◌≤◌, max, Bool, true, false, if◌then◌else◌, List, [], ◌∷◌, length, take, All, Option, Some, None, refl, sym, ◌∙◌, ap, subst, arith}
+use Rattle.std.proofs.Common.{◌≡◌, inl, inr, ℕ, ◌<◌, ◌≤◌, Bool, true, false, List, [], ◌∷◌, length, take, All, Option, Some, None, refl, sym, ◌∙◌, ap, subst, arith}
 use Rattle.std.proofs.Math.Logic.{∥∥₁_elim, ∥∥₁_map}
 use Rattle.std.proofs.Props.{props}
 use Rattle.std.proofs.lemmas.Bool.{cases_Bool, cond-true, cond-false, false≢true}
-use Rattle.disk_model.specs.Disk.{FileState, DiskState, History, MayHold, MayLeave, IfTold, Reaches, AfterFailed, reading, change, written, half_written, overlaid, after}
+use Rattle.disk_model.specs.Disk.{FileState, DiskState, History, MayLeave, IfTold, Reaches, AfterFailed, reading, change, written, half_written, overlaid, after}
 use Rattle.disk_model.specs.Name.{same_name}
 use Rattle.disk_model.specs.declared.name.FileName.{FileName}
 use Rattle.disk_model.proofs.NameLemmas.{same_name-true}
 use Rattle.file_paths.specs.Paths.{path_text, IsStoreFile}
 use Rattle.file_paths.proofs.OneFileLemmas.{own_paths}
-use Rattle.folder_model.specs.System.{PlainFile, System, IsHalfWritten, with_content, weakened}
-use Rattle.folder_model.specs.Calls.{Modelled, IfModelled, IsLocked, Becomes, AreSince}
+use Rattle.folder_model.specs.System.{System, IsHalfWritten, with_content}
+use Rattle.folder_model.specs.Calls.{Modelled, IfModelled, IsLocked, Becomes}
 use Rattle.folder_model.proofs.PartLemmas.{length-overlaid, overlaid-octets}
 use Rattle.folder_calls.specs.Writing.{IsWriting}
 use Rattle.disk_files.specs.Follows.{octets_at, FollowsSystem, CoversSystem, half_written_as}
@@ -19,7 +19,7 @@ use Rattle.disk_files.proofs.StepLemmas.{content_follows, written-alike, half-al
 use Rattle.disk_record.specs.declared.change.Change.{Change}
 use Rattle.disk_record.specs.declared.change.Change.TheVariants.{Written, HalfWritten}
 use Rattle.disk_record.specs.Record.{state_after}
-use Rattle.folder_disk.specs.Files.{HasFile, IfFile, IsChanged, IsPartlyChanged, AreAfter}
+use Rattle.folder_disk.specs.Files.{HasFileAt, IfFile, IsChanged, IsPartlyChanged, AreAfter}
 use Rattle.folder_disk.specs.Over.{IsStoreSystem, IsDiskOf, IsStoreDisk, IsOver, IsDiskOver, IsFailedChange, told_history}
 use Rattle.folder_disk.proofs.OverLemmas.{so_far, next_of, over_goes_on, hold_is}
 use Rattle.folder_disk.proofs.WideLemmas.{front_leaves, front_half_leaves, half_leaves, covers_more, change_leaves, covers_weakened, wider_leaves, wider_reads, failed_wider, failed_after}
@@ -73,7 +73,7 @@ content_stays number step s is = record { sound = is.sound; own = record { own =
 -- a write on its way
 way_covered : (m : Modelled) (disk wide : DiskState) (name : FileName) (at : ℕ) (octets : List ℕ) (s : System) → IsStoreFile name → IsDiskOf disk m.now
     → ((done : ℕ) → (n : FileName) → (left : Option (List ℕ)) → MayLeave (change name (written at (take done octets)) disk n) left → MayLeave (wide n) left)
-    → HasFile m.now (path_text name) (λ k. IsWriting k at octets m.now s) → CoversSystem wide s
+    → HasFileAt m.now (path_text name) (λ k. IsWriting k at octets m.now s) → CoversSystem wide s
 way_covered m disk wide name at octets s file is more way =
     let number = way.0 in
     let part = take way.2.0 octets in
@@ -81,14 +81,14 @@ way_covered m disk wide name at octets s file is more way =
     let F : System → Type 0 = CoversSystem wide in
     subst F (sym way.2.2) (covers_more (change name (written at part) disk) wide (with_content number (written at part) m.now) (more way.2.0) (covered (change name (written at part) disk) (with_content number (written at part) m.now) follows))
 
-pub by_path : (path : List ℕ) (name : FileName) (s : System) (P : ℕ → Type 0) → path ≡ path_text name → HasFile s path P → HasFile s (path_text name) P
-by_path path name s P is has = let F : List ℕ → Type 0 = λ p. HasFile s p P in subst F is has
+pub by_path : (path : List ℕ) (name : FileName) (s : System) (P : ℕ → Type 0) → path ≡ path_text name → HasFileAt s path P → HasFileAt s (path_text name) P
+by_path path name s P is has = let F : List ℕ → Type 0 = λ p. HasFileAt s p P in subst F is has
 
 -- a write was made
 wrote : (m n : Modelled) (before after : List System) (changes : List (Change × List ℕ)) (name : FileName) (path : List ℕ) (at : ℕ) (octets : List ℕ)
     → IsStoreFile name → path ≡ path_text name → All (λ octet. octet < 256) octets → Reaches ((so_far m changes).now name) at
     → IsOver m before changes false → Becomes (IsChanged path (written at octets)) (Some m) (Some n)
-    → AreAfter (λ b s. HasFile b path (λ number. IsWriting number at octets b s)) (Some m) before after
+    → AreAfter (λ b s. HasFileAt b path (λ number. IsWriting number at octets b s)) (Some m) before after
     → IsOver n after ((Written name at, octets) ∷ changes) false
 wrote m n before after changes name path at octets file is fit reaches over becomes since =
     let disk = (so_far m changes).now in
@@ -115,7 +115,7 @@ wrote m n before after changes name path at octets file is fit reaches over beco
 pub wrote_over : (old new : Option Modelled) (before after : List System) (changes : List (Change × List ℕ)) (name : FileName) (path : List ℕ) (at : ℕ) (octets : List ℕ)
     → IsStoreFile name → path ≡ path_text name → All (λ octet. octet < 256) octets → IfTold (told_history old changes) (λ disk. Reaches (disk name) at)
     → ∥ IsDiskOver old before changes false ∥₁ → Becomes (IsChanged path (written at octets)) old new
-    → AreAfter (λ b s. HasFile b path (λ number. IsWriting number at octets b s)) old before after
+    → AreAfter (λ b s. HasFileAt b path (λ number. IsWriting number at octets b s)) old before after
     → ∥ IsDiskOver new after ((Written name at, octets) ∷ changes) false ∥₁
 wrote_over None new before after changes name path at octets file is fit reaches over becomes since =
     let F : Option Modelled → Type 0 = λ n. ∥ IsDiskOver n after ((Written name at, octets) ∷ changes) false ∥₁ in
@@ -128,7 +128,7 @@ wrote_over (Some m) (Some n) before after changes name path at octets file is fi
 half_wrote : (m n : Modelled) (before after : List System) (changes : List (Change × List ℕ)) (name : FileName) (path : List ℕ) (at : ℕ) (octets none : List ℕ)
     → IsStoreFile name → path ≡ path_text name → Reaches ((so_far m changes).now name) at
     → IsOver m before changes false → Becomes (IsPartlyChanged path (IsHalfWritten at (length octets))) (Some m) (Some n)
-    → AreAfter (λ b s. HasFile b path (λ number. IsWriting number at octets b s)) (Some m) before after
+    → AreAfter (λ b s. HasFileAt b path (λ number. IsWriting number at octets b s)) (Some m) before after
     → IsOver n after ((HalfWritten name at (length octets), none) ∷ changes) true
 half_wrote m n before after changes name path at octets none file is reaches over becomes since =
     let disk = (so_far m changes).now in
@@ -167,7 +167,7 @@ half_wrote m n before after changes name path at octets none file is reaches ove
 pub half_wrote_over : (old new : Option Modelled) (before after : List System) (changes : List (Change × List ℕ)) (name : FileName) (path : List ℕ) (at : ℕ) (octets none : List ℕ)
     → IsStoreFile name → path ≡ path_text name → IfTold (told_history old changes) (λ disk. Reaches (disk name) at)
     → ∥ IsDiskOver old before changes false ∥₁ → Becomes (IsPartlyChanged path (IsHalfWritten at (length octets))) old new
-    → AreAfter (λ b s. HasFile b path (λ number. IsWriting number at octets b s)) old before after
+    → AreAfter (λ b s. HasFileAt b path (λ number. IsWriting number at octets b s)) old before after
     → ∥ IsDiskOver new after ((HalfWritten name at (length octets), none) ∷ changes) true ∥₁
 half_wrote_over None new before after changes name path at octets none file is reaches over becomes since =
     let F : Option Modelled → Type 0 = λ n. ∥ IsDiskOver n after ((HalfWritten name at (length octets), none) ∷ changes) true ∥₁ in
@@ -204,10 +204,10 @@ reaches_told None past changes spoiled name path at over un file is reaches = tt
 reaches_told (Some m) past changes spoiled name path at over un file is reaches = λ number stands.
     let f = (so_far m changes).now name in
     ∥∥₁_elim over (hlevel props) (λ o.
-        let reads = ((o.is un).follows name file).reads ∙ ap (λ p. octets_at m.now (m.now.node p)) (sym is) ∙ ap (octets_at m.now) stands in
-        let same = reads_there f (m.now.content number).octets reads in
-        let G : List ℕ → Type 0 = λ l. at ≤ length l in
-        subst G same.1 reaches.1)
+    let reads = ((o.is un).follows name file).reads ∙ ap (λ p. octets_at m.now (m.now.node p)) (sym is) ∙ ap (octets_at m.now) stands in
+    let same = reads_there f (m.now.content number).octets reads in
+    let G : List ℕ → Type 0 = λ l. at ≤ length l in
+    subst G same.1 reaches.1)
 
 -- Where what is told is the same at a later moment.
 pub reaches_then : (old mid : Option History) (name : FileName) (at : ℕ) → mid ≡ old → IfTold old (λ disk. Reaches (disk name) at) → IfTold mid (λ disk. Reaches (disk name) at)

@@ -1,20 +1,19 @@
 -- The file at a path, as calls find it and change it.
-use Rattle.std.proofs.Common.{◌≡◌, ◌≢◌, ◌⊎◌, inl, inr, ℕ, ◌<◌, ◌≤◌, Bool, true, List, length, take, drop, Option, Some, None, refl, sym, ◌∙◌, ap, subst, arith}
-use Rattle.disk_model.specs.Disk.{FileState, written}
+use Rattle.std.proofs.Common.{◌≡◌, ◌≢◌, inl, inr, ℕ, List, Option, Some, None, refl, sym, ◌∙◌, ap, subst}
+use Rattle.disk_model.specs.Disk.{FileState}
 use Rattle.disk_model.specs.declared.name.FileName.{FileName}
 use Rattle.file_paths.specs.Paths.{path_text, IsStoreFile}
 use Rattle.disk_files.proofs.SpelledLemmas.{spelled}
 use Rattle.folder_model.specs.Paths.{IsPath}
-use Rattle.folder_model.specs.System.{Node, Nothing, PlainFile, AFolder, Another, System, with_content, weakened}
+use Rattle.folder_model.specs.System.{Node, Nothing, PlainFile, AFolder, Another, System, with_content}
 use Rattle.folder_model.specs.Calls.{Modelled, IfModelled, IfSound, IsPartlyDone, Becomes, AreSince, done_by, kind_of_node}
 use Rattle.folder_model.specs.declared.folder.Kind.{Kind}
 use Rattle.folder_model.specs.declared.folder.Kind.TheVariants as kind
-use Rattle.folder_model.proofs.PastLemmas.{since-none}
 use Rattle.folder_calls.specs.Writing.{IsWriting, IsOnItsWay}
-use Rattle.folder_disk.specs.Files.{IsOpened, IsSound, HasFile, HasNoFile, IfFile, IsChanged, IsPartlyChanged, AreAfter}
+use Rattle.folder_disk.specs.Files.{IsOpenedAt, IsSoundSystem, HasFileAt, IsChanged, IsPartlyChanged, AreAfter}
 
 -- a fact of a sound system
-pub by_sound : (P : System → Type 0) (m : Option Modelled) → IsSound m → IfSound m P → IfModelled m P
+pub by_sound : (P : System → Type 0) (m : Option Modelled) → IsSoundSystem m → IfSound m P → IfModelled m P
 by_sound P None sound is = tt
 by_sound P (Some m) sound is = is sound
 
@@ -34,11 +33,11 @@ kind_file AFolder e = absurd (let d : kind.File ≡ kind.Folder = e in cc)
 kind_file Another e = absurd (let d : kind.File ≡ kind.Other = e in cc)
 
 -- the file that was looked at was opened
-pub opened_is : {File : Type 0} (number : File → ℕ) (file : File) (node : Node) → kind.File ≡ kind_of_node node → ((n : ℕ) → node ≡ PlainFile n → number file ≡ n) → IsOpened number (Some file) node
+pub opened_is : {File : Type 0} (number : File → ℕ) (file : File) (node : Node) → kind.File ≡ kind_of_node node → ((n : ℕ) → node ≡ PlainFile n → number file ≡ n) → IsOpenedAt number (Some file) node
 opened_is number file node e same = let k = kind_file node e in k.1 ∙ ap PlainFile (sym (same k.0 k.1))
 
 -- what is no plain file isn't opened
-pub unopened : {File : Type 0} (number : File → ℕ) (k : Kind) (node : Node) → k ≡ kind_of_node node → k ≢ kind.File → IsOpened number None node
+pub unopened : {File : Type 0} (number : File → ℕ) (k : Kind) (node : Node) → k ≡ kind_of_node node → k ≢ kind.File → IsOpenedAt number None node
 unopened number k node e other n is = other (e ∙ ap kind_of_node is)
 
 -- a change of the file that stands at a path
@@ -67,7 +66,7 @@ not_changed path R (Some m) new e = let F : Option Modelled → Type 0 = Becomes
 
 -- the systems on the way of a write of this file
 pub on_way_at : (path : List ℕ) (number at : ℕ) (octets : List ℕ) (old : Option Modelled) (start past : List System) → IfModelled old (λ s. s.node path ≡ PlainFile number)
-    → AreSince (IsOnItsWay number at octets old) start past → AreAfter (λ before s. HasFile before path (λ k. IsWriting k at octets before s)) old start past
+    → AreSince (IsOnItsWay number at octets old) start past → AreAfter (λ before s. HasFileAt before path (λ k. IsWriting k at octets before s)) old start past
 on_way_at path number at octets old start past stands since s has = elim (since s has) [
   | inl before ↦ inl before
   | inr way ↦ inr (both_told _ _ _ old (λ before is w. (number, is, w)) stands way)

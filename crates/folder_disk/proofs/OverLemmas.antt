@@ -1,23 +1,22 @@
 -- A disk over a system, one call on.
-use Rattle.std.proofs.Common.{◌≡◌, ◌≢◌, ◌⊎◌, inl, inr, ℕ, ◌<◌, ◌≤◌, Bool, true, false, List, [], ◌∷◌, length, Option, Some, None, Contains, refl, sym, ◌∙◌, ap, subst, arith}
+use Rattle.std.proofs.Common.{◌≡◌, ◌⊎◌, inl, inr, ℕ, ◌<◌, Bool, true, false, List, [], ◌∷◌, Option, Some, None, Contains, refl, sym, ◌∙◌, ap, subst, arith}
 use Rattle.std.proofs.Math.Logic.{∥∥₁_elim, ∥∥₁_map}
 use Rattle.std.proofs.Props.{props}
 use Rattle.std.proofs.lemmas.Bool.{cases_Bool, cond-true, cond-false}
 use Rattle.std.proofs.lemmas.List.Elements.{Contains-append_right}
 use Rattle.disk_model.specs.Disk.{FileState, DiskState, History, MayHold, MayLeave, IsImage, IfTold, after, reading}
-use Rattle.disk_model.specs.declared.name.FileName.{FileName}
-use Rattle.folder_model.specs.System.{System, IsSystem, PlainFile, with_lock}
+use Rattle.folder_model.specs.System.{System, IsSystem, with_lock}
 use Rattle.folder_model.specs.Calls.{Modelled, IfModelled, IsLocked, HasPassed, AreSince, Becomes, done_by}
 use Rattle.folder_model.proofs.PastLemmas.{first_or_later}
-use Rattle.disk_files.specs.Follows.{FollowsSystem, CoversSystem, HasOwnFiles}
+use Rattle.disk_files.specs.Follows.{FollowsSystem, CoversSystem}
 use Rattle.disk_files.proofs.ImageLemmas.{covered}
 use Rattle.disk_files.proofs.StepLemmas.{flags_follow}
 use Rattle.disk_record.specs.declared.change.Change.{Change}
 use Rattle.disk_record.specs.declared.change.Change.TheVariants.{Nothing}
 use Rattle.disk_record.specs.Record.{history_of, state_after}
 use Rattle.folder_disk.specs.Start.{started_disk}
-use Rattle.folder_disk.specs.Over.{IsStoreSystem, IsDiskOf, IsStoreDisk, WasState, IsCovered, IsOver, IsDiskOver, HasBegun, told_history}
-use Rattle.folder_disk.specs.Files.{IsSound}
+use Rattle.folder_disk.specs.Over.{IsStoreSystem, IsDiskOf, IsStoreDisk, IsCovered, IsOver, IsDiskOver, HasBegun, told_history}
+use Rattle.folder_disk.specs.Files.{IsSoundSystem}
 use Rattle.folder_disk.proofs.StartLemmas.{start_follows, start_is_disk}
 
 more_in : {A : Type 0} (x y : A) (xs : List A) → Contains xs y → Contains (x ∷ xs) y
@@ -128,7 +127,7 @@ history_stays None changes octets = refl
 history_stays (Some m) changes octets = refl
 
 -- no sync has failed, of a disk that goes on
-pub over_sound : (m : Option Modelled) (past : List System) (changes : List (Change × List ℕ)) (spoiled : Bool) → ∥ IsDiskOver m past changes spoiled ∥₁ → spoiled ≡ false → IsSound m
+pub over_sound : (m : Option Modelled) (past : List System) (changes : List (Change × List ℕ)) (spoiled : Bool) → ∥ IsDiskOver m past changes spoiled ∥₁ → spoiled ≡ false → IsSoundSystem m
 over_sound None past changes spoiled over is = tt
 over_sound (Some m) past changes spoiled over is = ∥∥₁_elim over (hlevel props) (λ o. (o.is is).system.sound)
 

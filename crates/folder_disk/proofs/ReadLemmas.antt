@@ -1,10 +1,10 @@
 -- What a disk reads is what the system does.
-use Rattle.std.proofs.Common.{◌≡◌, ◌≢◌, ℕ, ◌≤◌, Bool, true, false, if◌then◌else◌, List, length, take, drop, Option, Some, None, Result, Ok, Err, IfOk, IfSome, IfNone, refl, inl, sym, ◌∙◌, ap, subst}
+use Rattle.std.proofs.Common.{◌≡◌, ◌≢◌, ℕ, Bool, false, List, length, take, drop, Option, Some, None, Result, Ok, Err, IfOk, IfSome, IfNone, refl, inl, sym, ◌∙◌, ap, subst}
 use Rattle.std.proofs.Math.Logic.{∥∥₁_elim}
 use Rattle.std.proofs.Props.{props}
-use Rattle.std.proofs.lemmas.Bool.{cond-true, cond-false}
+use Rattle.std.proofs.lemmas.Bool.{cond-false}
 use Rattle.std.specs.Option.{option_map}
-use Rattle.disk_model.specs.Disk.{FileState, DiskState, History, IfTold, Unchanged, after, reading}
+use Rattle.disk_model.specs.Disk.{History, IfTold, Unchanged, after, reading}
 use Rattle.disk_model.specs.declared.name.FileName.{FileName}
 use Rattle.file_paths.specs.Paths.{path_text, IsStoreFile}
 use Rattle.folder_model.specs.System.{Node, Nothing, PlainFile, AFolder, Another, System}
@@ -13,7 +13,7 @@ use Rattle.folder_model.specs.declared.folder.CallError.{CallError}
 use Rattle.disk_files.specs.Follows.{octets_at}
 use Rattle.disk_files.proofs.StepLemmas.{reads_there}
 use Rattle.disk_record.specs.declared.change.Change.{Change}
-use Rattle.folder_disk.specs.Files.{HasFile, HasNoFile}
+use Rattle.folder_disk.specs.Files.{HasFileAt, HasNoFile}
 use Rattle.folder_disk.specs.Over.{IsDiskOver, told_history}
 use Rattle.folder_disk.proofs.OverLemmas.{so_far}
 
@@ -36,7 +36,7 @@ no_octets s Another none = refl
 -- the file's length
 pub length_told : (m : Option Modelled) (past : List System) (changes : List (Change × List ℕ)) (spoiled : Bool) (name : FileName) (path : List ℕ) (n : ℕ)
     → ∥ IsDiskOver m past changes spoiled ∥₁ → spoiled ≡ false → IsStoreFile name → path ≡ path_text name
-    → IfModelled m (λ s. HasFile s path (λ number. n ≡ length (s.content number).octets))
+    → IfModelled m (λ s. HasFileAt s path (λ number. n ≡ length (s.content number).octets))
     → IfTold (told_history m changes) (λ disk. option_map length (reading (disk name)) ≡ Some n)
 length_told None past changes spoiled name path n over un file is has = tt
 length_told (Some m) past changes spoiled name path n over un file is has =
@@ -45,7 +45,7 @@ length_told (Some m) past changes spoiled name path n over un file is has =
 -- what was read of it
 pub octets_told : (m : Option Modelled) (past : List System) (changes : List (Change × List ℕ)) (spoiled : Bool) (name : FileName) (path : List ℕ) (offset size n : ℕ) (into : List ℕ)
     → ∥ IsDiskOver m past changes spoiled ∥₁ → spoiled ≡ false → IsStoreFile name → path ≡ path_text name
-    → IfModelled m (λ s. HasFile s path (λ number. take n into ≡ take size (drop offset (s.content number).octets)))
+    → IfModelled m (λ s. HasFileAt s path (λ number. take n into ≡ take size (drop offset (s.content number).octets)))
     → IfTold (told_history m changes) (λ disk. (reading (disk name) ≡ Some (disk name).octets) × (take n into ≡ take size (drop offset (disk name).octets)))
 octets_told None past changes spoiled name path offset size n into over un file is has = tt
 octets_told (Some m) past changes spoiled name path offset size n into over un file is has =
@@ -73,7 +73,7 @@ other_told (Some m) past changes spoiled name over other =
 -- The same of an answer of a call, for what the disk read before.
 pub length_found : (r : Result (Option ℕ) CallError) (m : Option Modelled) (past : List System) (changes : List (Change × List ℕ)) (spoiled : Bool) (name : FileName) (path : List ℕ) (told : Option History)
     → told_history m changes ≡ told → ∥ IsDiskOver m past changes spoiled ∥₁ → spoiled ≡ false → IsStoreFile name → path ≡ path_text name
-    → IfOk r (λ found. IfSome found (λ n. IfModelled m (λ s. HasFile s path (λ number. n ≡ length (s.content number).octets))))
+    → IfOk r (λ found. IfSome found (λ n. IfModelled m (λ s. HasFileAt s path (λ number. n ≡ length (s.content number).octets))))
     → IfOk r (λ found. IfSome found (λ n. IfTold told (λ disk. option_map length (reading (disk name)) ≡ Some n)))
 length_found (Ok (Some n)) m past changes spoiled name path told so over un file is has =
     let F : Option History → Type 0 = λ h. IfTold h (λ disk. option_map length (reading (disk name)) ≡ Some n) in
@@ -83,7 +83,7 @@ length_found (Err e) m past changes spoiled name path told so over un file is ha
 
 pub octets_found : (r : Result (Option ℕ) CallError) (m : Option Modelled) (past : List System) (changes : List (Change × List ℕ)) (spoiled : Bool) (name : FileName) (path : List ℕ) (offset size : ℕ) (into : List ℕ) (told : Option History)
     → told_history m changes ≡ told → ∥ IsDiskOver m past changes spoiled ∥₁ → spoiled ≡ false → IsStoreFile name → path ≡ path_text name
-    → IfOk r (λ found. IfSome found (λ n. IfModelled m (λ s. HasFile s path (λ number. take n into ≡ take size (drop offset (s.content number).octets)))))
+    → IfOk r (λ found. IfSome found (λ n. IfModelled m (λ s. HasFileAt s path (λ number. take n into ≡ take size (drop offset (s.content number).octets)))))
     → IfOk r (λ found. IfSome found (λ n. IfTold told (λ disk. (reading (disk name) ≡ Some (disk name).octets) × (take n into ≡ take size (drop offset (disk name).octets)))))
 octets_found (Ok (Some n)) m past changes spoiled name path offset size into told so over un file is has =
     let F : Option History → Type 0 = λ h. IfTold h (λ disk. (reading (disk name) ≡ Some (disk name).octets) × (take n into ≡ take size (drop offset (disk name).octets))) in

@@ -1,12 +1,11 @@
 -- A disk follows the system that its process began with.
-use Rattle.std.proofs.Common.{◌≡◌, ◌≢◌, ◌⊎◌, inl, inr, ℕ, zero, suc, ◌<◌, ◌≤◌, ◌&&◌, ◌||◌, not, Bool, true, false, if◌then◌else◌, List, [], ◌∷◌, ◌++◌, length, Option, Some, None, Contains, codes, refl, sym, ◌∙◌, ap, subst, arith}
+use Rattle.std.proofs.Common.{◌≡◌, ◌⊎◌, inl, inr, ℕ, zero, suc, ◌<◌, ◌&&◌, ◌||◌, not, Bool, true, false, if◌then◌else◌, List, [], ◌∷◌, Option, Some, None, Contains, codes, refl, sym, ◌∙◌, ap, subst, arith}
 use Rattle.std.proofs.lemmas.Bool.{cases_Bool, cond-true, cond-false, false≢true}
 use Rattle.std.proofs.lemmas.List.Elements.{Contains-append_right}
-use Rattle.disk_model.specs.Disk.{FileState, MayLeave, MayHold, no_file, reading}
+use Rattle.disk_model.specs.Disk.{FileState, MayLeave, no_file, reading}
 use Rattle.disk_model.specs.Name.{same_octets}
 use Rattle.disk_model.proofs.NameLemmas.{same_octets-true}
-use Rattle.disk_model.specs.declared.name.FileName.{FileName}
-use Rattle.file_paths.specs.Paths.{path_text, IsStoreFile}
+use Rattle.file_paths.specs.Paths.{path_text}
 use Rattle.folder_model.specs.Paths.{folder_at, IsPath}
 use Rattle.folder_model.specs.System.{Node, Nothing, PlainFile, AFolder, Another, System, MayStand, IsSystem, IsContent}
 use Rattle.folder_model.proofs.PastLemmas.{first_or_later}

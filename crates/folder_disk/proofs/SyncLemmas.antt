@@ -6,8 +6,8 @@ use Rattle.disk_model.specs.Disk.{FileState, DiskState, History, MayLeave, After
 use Rattle.disk_model.specs.declared.name.FileName.{FileName}
 use Rattle.file_paths.specs.Paths.{path_text, IsStoreFile}
 use Rattle.file_paths.proofs.OneFileLemmas.{own_paths}
-use Rattle.folder_model.specs.System.{System, with_content, with_synced_file, with_failed_sync}
-use Rattle.folder_model.specs.Calls.{Modelled, IsLocked, IsDoneOrNot, HasPassed, Becomes, AreSince, done_by}
+use Rattle.folder_model.specs.System.{System, with_synced_file, with_failed_sync}
+use Rattle.folder_model.specs.Calls.{Modelled, IsLocked, IsDoneOrNot, HasPassed, Becomes, AreSince}
 use Rattle.folder_model.proofs.PastLemmas.{first_or_later}
 use Rattle.disk_files.specs.Follows.{FollowsSystem, CoversSystem}
 use Rattle.disk_files.proofs.ImageLemmas.{covered}
@@ -15,7 +15,7 @@ use Rattle.disk_files.proofs.StepLemmas.{content_follows, synced-alike}
 use Rattle.disk_record.specs.declared.change.Change.{Change}
 use Rattle.disk_record.specs.declared.change.Change.TheVariants.{Nothing, Synced}
 use Rattle.disk_record.specs.Record.{history_of}
-use Rattle.folder_disk.specs.Files.{HasFile}
+use Rattle.folder_disk.specs.Files.{HasFileAt}
 use Rattle.folder_disk.specs.Over.{IsStoreSystem, IsCovered, IsOver, IsDiskOver, told_history}
 use Rattle.folder_disk.proofs.OverLemmas.{so_far, over_goes_on, hold_is, now_covered}
 use Rattle.folder_disk.proofs.WideLemmas.{covers_weakened, failed_after}
@@ -45,7 +45,7 @@ synced_reads f left = elim (cases_Bool f.is_there) [
 
 -- a file was synced
 synced_one : (m n : Modelled) (before after : List System) (changes : List (Change × List ℕ)) (name : FileName) (path none : List ℕ) → IsStoreFile name → path ≡ path_text name
-    → IsOver m before changes false → Becomes (λ b s. HasFile b path (λ number. s ≡ with_synced_file number b)) (Some m) (Some n) → HasPassed (Some m) before (Some n) after
+    → IsOver m before changes false → Becomes (λ b s. HasFileAt b path (λ number. s ≡ with_synced_file number b)) (Some m) (Some n) → HasPassed (Some m) before (Some n) after
     → IsOver n after ((Synced name, none) ∷ changes) false
 synced_one m n before after changes name path none file is over becomes has_passed =
     let disk = (so_far m changes).now in
@@ -65,7 +65,7 @@ synced_one m n before after changes name path none file is over becomes has_pass
     (λ e. record { follows = follows; system = system })
 
 pub synced_over : (old new : Option Modelled) (before after : List System) (changes : List (Change × List ℕ)) (name : FileName) (path none : List ℕ) → IsStoreFile name → path ≡ path_text name
-    → ∥ IsDiskOver old before changes false ∥₁ → Becomes (λ b s. HasFile b path (λ number. s ≡ with_synced_file number b)) old new → HasPassed old before new after
+    → ∥ IsDiskOver old before changes false ∥₁ → Becomes (λ b s. HasFileAt b path (λ number. s ≡ with_synced_file number b)) old new → HasPassed old before new after
     → ∥ IsDiskOver new after ((Synced name, none) ∷ changes) false ∥₁
 synced_over None new before after changes name path none file is over becomes has =
     let F : Option Modelled → Type 0 = λ n. ∥ IsDiskOver n after ((Synced name, none) ∷ changes) false ∥₁ in
@@ -83,14 +83,14 @@ unsynced_over (Some m) new before after changes none spoiled over (inl e) has =
     let F : Option Modelled → Type 0 = λ n. ∥ IsDiskOver n after ((Nothing, none) ∷ changes) true ∥₁ in
     let G : Option Modelled → Type 0 = λ n. HasPassed (Some m) before n after in
     subst F (sym e) (∥∥₁_map over (λ o.
-        over_goes_on m m before after changes Nothing none spoiled true o refl (passed_covered m m before after changes spoiled (so_far m changes).now o (subst G e has)) o.now o.disk (λ f. absurd (false≢true (sym f)))))
+    over_goes_on m m before after changes Nothing none spoiled true o refl (passed_covered m m before after changes spoiled (so_far m changes).now o (subst G e has)) o.now o.disk (λ f. absurd (false≢true (sym f)))))
 unsynced_over (Some m) new before after changes none spoiled over (inr e) has =
     let n = record m { now = with_failed_sync m.now } in
     let F : Option Modelled → Type 0 = λ k. ∥ IsDiskOver k after ((Nothing, none) ∷ changes) true ∥₁ in
     let G : Option Modelled → Type 0 = λ k. HasPassed (Some m) before k after in
     subst F (sym e) (∥∥₁_map over (λ o.
-        over_goes_on m n before after changes Nothing none spoiled true o refl (passed_covered m n before after changes spoiled (so_far m changes).now o (subst G e has))
-        (covers_weakened (so_far m changes).now false m.now o.now) o.disk (λ f. absurd (false≢true (sym f)))))
+    over_goes_on m n before after changes Nothing none spoiled true o refl (passed_covered m n before after changes spoiled (so_far m changes).now o (subst G e has))
+    (covers_weakened (so_far m changes).now false m.now o.now) o.disk (λ f. absurd (false≢true (sym f)))))
 
 pub unsynced_told : (old new : Option Modelled) (changes : List (Change × List ℕ)) (none : List ℕ) → IsDoneOrNot with_failed_sync old new
     → told_history new ((Nothing, none) ∷ changes) ≡ after (λ disk. disk) (told_history old changes)
@@ -101,7 +101,7 @@ unsynced_told (Some m) new changes none (inr e) = ap (λ n. told_history n ((Not
 
 -- the lock stays
 pub locked_synced : (old new : Option Modelled) (path : List ℕ) (held spoiled : Bool) → ∥ (held ≡ true → spoiled ≡ false → IsLocked old) ∥₁
-    → Becomes (λ b s. HasFile b path (λ number. s ≡ with_synced_file number b)) old new → ∥ (held ≡ true → spoiled ≡ false → IsLocked new) ∥₁
+    → Becomes (λ b s. HasFileAt b path (λ number. s ≡ with_synced_file number b)) old new → ∥ (held ≡ true → spoiled ≡ false → IsLocked new) ∥₁
 locked_synced None new path held spoiled locked becomes = let F : Option Modelled → Type 0 = IsLocked in ∣ (λ h s. subst F (sym becomes) tt) ∣₁
 locked_synced (Some m) None path held spoiled locked becomes = elim becomes [ ]
 locked_synced (Some m) (Some n) path held spoiled locked becomes = ∥∥₁_map locked (λ l h s.

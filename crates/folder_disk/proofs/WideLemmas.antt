@@ -1,20 +1,19 @@
 -- What a crash may leave of a disk after a part of a change it may leave after the change.
-use Rattle.std.proofs.Common.{◌≡◌, ◌≢◌, ◌⊎◌, inl, inr, ℕ, ◌+◌, ◌<◌, ◌≤◌, max, ◌||◌, ◌&&◌, if◌then◌else◌, Bool, true, false, List, [], ◌∷◌, length, take, drop, slice_get, All, Option, Some, None, Contains, refl, sym, ◌∙◌, ap, subst, arith}
+use Rattle.std.proofs.Common.{◌≡◌, inl, inr, ℕ, ◌+◌, ◌<◌, ◌≤◌, max, ◌||◌, if◌then◌else◌, Bool, true, false, List, length, take, slice_get, Option, Some, None, refl, sym, ◌∙◌, ap, subst, arith}
 use Rattle.std.proofs.lemmas.Bool.{cases_Bool, cond-true, cond-false, false≢true}
 use Rattle.std.proofs.lemmas.Bool.Decides.{nat_tests}
 use Rattle.std.proofs.lemmas.List.{length-take}
-use Rattle.std.proofs.lemmas.List.Elements.{All-take, All-nil}
-use Rattle.disk_model.specs.Disk.{Files, FileState, DiskState, History, AfterFailed, after, MayHold, MayLeave, reading, covers, overlaid, change, change_all, written, half_written, cut_to, half_cut, synced, made, half_made, removed, half_removed, named, no_file}
+use Rattle.disk_model.specs.Disk.{FileState, DiskState, History, AfterFailed, after, MayLeave, reading, covers, change, written, half_written, half_cut, half_made, half_removed}
 use Rattle.disk_model.specs.Name.{same_name}
 use Rattle.disk_model.specs.declared.name.FileName.{FileName}
-use Rattle.disk_model.proofs.NameLemmas.{same_name-true, same_name-eq}
-use Rattle.folder_model.specs.System.{System, IsLeftByCrash, IsHalfWritten, IsHalfCut, weakened}
-use Rattle.folder_model.proofs.PartLemmas.{overlaid-get, length-overlaid, overlaid-octets}
+use Rattle.disk_model.proofs.NameLemmas.{same_name-true}
+use Rattle.folder_model.specs.System.{System, IsHalfWritten, weakened}
+use Rattle.folder_model.proofs.PartLemmas.{overlaid-get}
 use Rattle.disk_record.specs.declared.change.Change.{Change}
 use Rattle.disk_record.specs.declared.change.Change.TheVariants as change
 use Rattle.disk_record.specs.Record.{state_after}
 use Rattle.folder_disk.specs.Over.{IsFailedChange}
-use Rattle.disk_files.specs.Follows.{files_at, octets_at, CoversSystem, half_written_as}
+use Rattle.disk_files.specs.Follows.{files_at, CoversSystem, half_written_as}
 
 -- what the one file may leave the other may
 abbrev pub Leaves : FileState → FileState → Type 0
@@ -120,14 +119,14 @@ pub record IsWider (f wide : FileState) : Type 0 where
   pub named : f.is_name_loose ≡ true → wide.is_name_loose ≡ true
 
 pub wider_leaves : (f wide : FileState) → IsWider f wide → Leaves f wide
-wider_leaves f wide is None left = elim left [ | inl gone ↦ inl (is.there ∙ gone) | inr loose ↦ inr (is.named loose) ]
+wider_leaves f wide is None left = elim left [ inl gone ↦ inl (is.there ∙ gone) | inr loose ↦ inr (is.named loose) ]
 wider_leaves f wide is (Some text) left =
     let least : wide.least ≤ f.least = is.least in
     let shortest : f.least ≤ length text = left.least in
     let greatest : f.greatest ≤ wide.greatest = is.greatest in
     let longest : length text ≤ f.greatest = left.greatest in
     record {
-      named = elim left.named [ | inl there ↦ inl (is.there ∙ there) | inr loose ↦ inr (is.named loose) ];
+      named = elim left.named [ inl there ↦ inl (is.there ∙ there) | inr loose ↦ inr (is.named loose) ];
       least = omega (arith, least, shortest);
       greatest = omega (arith, greatest, longest);
       same = λ i below firm. left.same i (omega (arith, below, least)) (is.firm i firm) ∙ ap (λ l. slice_get l i) (sym is.octets);

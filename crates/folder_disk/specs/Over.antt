@@ -1,10 +1,10 @@
 -- A disk over the system's files: what holds of its history at each moment.
 use Rattle.std.specs.Prelude.{◌≡◌, ◌≢◌, ◌⊎◌, ℕ, Bool, true, false, List, [], ◌∷◌, Option, Some, None, Contains, codes, ⊤}
-use Rattle.disk_model.specs.Disk.{DiskState, History, MayLeave, no_file, reading}
+use Rattle.disk_model.specs.Disk.{DiskState, History, MayLeave, reading}
 use Rattle.disk_model.specs.declared.name.FileName.{FileName}
 use Rattle.file_paths.specs.Paths.{IsStoreFile}
-use Rattle.folder_model.specs.Paths.{folder_at, IsPath}
-use Rattle.folder_model.specs.System.{Nothing, PlainFile, AFolder, System}
+use Rattle.folder_model.specs.Paths.{folder_at}
+use Rattle.folder_model.specs.System.{Nothing, AFolder, System}
 use Rattle.folder_model.specs.Calls.{Modelled}
 use Rattle.disk_files.specs.Follows.{FollowsSystem, CoversSystem, HasOwnFiles}
 use Rattle.disk_record.specs.declared.change.Change.{Change}

@@ -42,7 +42,7 @@ impl<F: Folder + Drop> FolderDisk<F> {
     ghost use Rattle.file_paths.specs.Paths.{path_text, IsStoreFile};
     ghost use Rattle.folder_model.specs.Paths.{IsPath};
     ghost use Rattle.disk_model.specs.declared.error.DiskError.TheVariants.{Absent};
-    ghost use Rattle.folder_disk.specs.Files.{IsSound};
+    ghost use Rattle.folder_disk.specs.Files.{IsSoundSystem};
     ghost use Rattle.folder_disk.specs.Over.{IsStoreSystem, IsFailedChange, HasBegun, told_history};
 
     /// The store's files in this folder, whose process has made no call yet. Nothing is looked at until the first call.
@@ -76,7 +76,7 @@ impl<F: Folder + Drop> FolderDisk<F> {
     #[tactic(auto, using(crate::proofs::OverLemmas::locked_of, crate::proofs::OverLemmas::over_sound))]
     fn ready(&mut self) -> Result<(), CallError>
         ensures locked { OnOk result (IsLocked (F.Folder.modelled self.new.folder)) }
-        ensures sound { OnOk result (IsSound (F.Folder.modelled self.new.folder)) }
+        ensures sound { OnOk result (IsSoundSystem (F.Folder.modelled self.new.folder)) }
         ensures spoiled { OnOk result (self.new.is_spoiled ≡ false) }
         ensures told { told_history (F.Folder.modelled self.new.folder) self.new.record.changes ≡ told_history (F.Folder.modelled self.old.folder) self.old.record.changes }
         ensures same { (self.new.failed_reads ≡ self.old.failed_reads) × (self.new.failed_changes ≡ self.old.failed_changes) × (self.new.is_spoiled ≡ self.old.is_spoiled) }
@@ -112,7 +112,12 @@ impl<F: Folder + Drop> FolderDisk<F> {
 
     /// Octets of a file, None where there is none.
     #[tactic(auto, using(crate::proofs::OverLemmas::over_same, crate::proofs::OverLemmas::locked_same))]
-    fn octets_of(&mut self, name: FileName, offset: u64, into: &mut [u8]) -> Result<Option<usize>, CallError>
+    fn octets_of(
+        &mut self,
+        name: FileName,
+        offset: u64,
+        into: &mut [u8],
+    ) -> Result<Option<usize>, CallError>
         ensures count { IfOk result (λ found. IfSome found (λ n. n ≤ length into.new)) }
         ensures octets { IfOk result (λ found. IfSome found (λ n. IfTold (told_history (F.Folder.modelled self.old.folder) self.old.record.changes) (λ disk. (reading (disk name) ≡ Some (disk name).octets) × (take n into.new ≡ take (length into.old) (drop offset (disk name).octets))))) }
         ensures none { IfOk result (λ found. IfNone found (IfTold (told_history (F.Folder.modelled self.old.folder) self.old.record.changes) (λ disk. reading (disk name) ≡ None))) }
@@ -162,7 +167,12 @@ impl<F: Folder + Drop> FolderDisk<F> {
     /// Fills the front of `into` with the file's octets from `offset` to the end of the file or of `into`, and answers how
     /// many. `Absent` if and only if there is no such file: `into` is then as before. After `Failed` it may hold any octets.
     #[tactic(auto, using(crate::proofs::ReadLemmas::unchanged))]
-    pub fn read_at(&mut self, name: FileName, offset: u64, into: &mut [u8]) -> Result<usize, DiskError>
+    pub fn read_at(
+        &mut self,
+        name: FileName,
+        offset: u64,
+        into: &mut [u8],
+    ) -> Result<usize, DiskError>
         ensures count { IfOk result (λ n. n ≤ length into.new) }
         ensures octets { IfOk result (λ n. IfTold (told_history (F.Folder.modelled self.old.folder) self.old.record.changes) (λ disk. (reading (disk name) ≡ Some (disk name).octets)
             × (take n into.new ≡ take (length into.old) (drop offset (disk name).octets)))) }
@@ -202,9 +212,15 @@ impl<F: Folder + Drop> FolderDisk<F> {
     }
 
     /// Writes to a file at its path, once this process has the store.
-    fn write_to(&mut self, path: &str, name: FileName, offset: u64, from: &[u8]) -> Result<(), DiskError>
+    fn write_to(
+        &mut self,
+        path: &str,
+        name: FileName,
+        offset: u64,
+        from: &[u8],
+    ) -> Result<(), DiskError>
         requires locked { IsLocked (F.Folder.modelled self.old.folder) }
-        requires sound { IsSound (F.Folder.modelled self.old.folder) }
+        requires sound { IsSoundSystem (F.Folder.modelled self.old.folder) }
         requires spoiled { self.old.is_spoiled ≡ false }
         requires spelled { IsPath path.now }
         requires file { IsStoreFile name }
@@ -222,7 +238,8 @@ impl<F: Folder + Drop> FolderDisk<F> {
                 Ok(())
             }
             Err(_) => {
-                self.record.note(&Change::HalfWritten(name, offset, from.len() as u64), &[]);
+                self.record
+                    .note(&Change::HalfWritten(name, offset, from.len() as u64), &[]);
                 self.calls = self.calls.saturating_add(1);
                 self.is_spoiled = true;
                 self.failed_changes = self.failed_changes.saturating_add(1);
@@ -234,7 +251,7 @@ impl<F: Folder + Drop> FolderDisk<F> {
     /// The path of a file that is to be changed, once this process has the store.
     fn path_to_change(&mut self, name: FileName) -> Result<Option<String>, CallError>
         ensures locked { OnOk result (IsLocked (F.Folder.modelled self.new.folder)) }
-        ensures sound { OnOk result (IsSound (F.Folder.modelled self.new.folder)) }
+        ensures sound { OnOk result (IsSoundSystem (F.Folder.modelled self.new.folder)) }
         ensures spoiled { OnOk result (self.new.is_spoiled ≡ false) }
         ensures file { IfOk result (λ found. IfSome found (λ path. IsStoreFile name × (string_bytes path ≡ path_text name))) }
         ensures spelled { IfOk result (λ found. IfSome found (λ path. IsPath (string_bytes path))) }
@@ -264,7 +281,7 @@ impl<F: Folder + Drop> FolderDisk<F> {
     /// Shortens a file at its path, once this process has the store.
     fn cut_to_end(&mut self, path: &str, name: FileName, end: u64) -> Result<(), DiskError>
         requires locked { IsLocked (F.Folder.modelled self.old.folder) }
-        requires sound { IsSound (F.Folder.modelled self.old.folder) }
+        requires sound { IsSoundSystem (F.Folder.modelled self.old.folder) }
         requires spoiled { self.old.is_spoiled ≡ false }
         requires spelled { IsPath path.now }
         requires file { IsStoreFile name }
@@ -308,7 +325,7 @@ impl<F: Folder + Drop> FolderDisk<F> {
     #[tactic(auto, using(crate::proofs::SyncLemmas::unsynced_told))]
     fn sync_to(&mut self, path: &str, name: FileName) -> Result<(), DiskError>
         requires locked { IsLocked (F.Folder.modelled self.old.folder) }
-        requires sound { IsSound (F.Folder.modelled self.old.folder) }
+        requires sound { IsSoundSystem (F.Folder.modelled self.old.folder) }
         requires spoiled { self.old.is_spoiled ≡ false }
         requires spelled { IsPath path.now }
         requires file { IsStoreFile name }

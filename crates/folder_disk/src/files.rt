@@ -5,7 +5,7 @@ ghost use Rattle.folder_model.specs.Paths.{IsPath};
 ghost use Rattle.folder_model.specs.System.{with_synced_file, with_failed_sync, IsHalfWritten, IsHalfCut};
 ghost use Rattle.folder_model.specs.Calls.{IfModelled, IsLocked, IsDoneOrNot, HasPassed, Becomes};
 ghost use Rattle.folder_calls.specs.Writing.{IsWriting};
-ghost use Rattle.folder_disk.specs.Files.{IsOpened, IsSound, IfFile, HasFile, HasNoFile, IsChanged, IsPartlyChanged, AreAfter};
+ghost use Rattle.folder_disk.specs.Files.{IsOpenedAt, IsSoundSystem, IfFile, HasFileAt, HasNoFile, IsChanged, IsPartlyChanged, AreAfter};
 
 use folder_calls::{read_all, write_all};
 use folder_model::{CallError, Folder, Kind};
@@ -17,9 +17,9 @@ pub(crate) fn open_at<F: Folder>(
     to_write: bool,
 ) -> Result<Option<F::File>, CallError>
     requires locked { IsLocked (F.modelled folder.old) }
-    requires sound { IsSound (F.modelled folder.old) }
+    requires sound { IsSoundSystem (F.modelled folder.old) }
     requires spelled { IsPath path.now }
-    ensures found { IfOk result (λ found. IfModelled (F.modelled folder.old) (λ s. IsOpened F.number found (s.node path.now))) }
+    ensures found { IfOk result (λ found. IfModelled (F.modelled folder.old) (λ s. IsOpenedAt F.number found (s.node path.now))) }
     ensures same { F.modelled folder.new ≡ F.modelled folder.old }
     ensures still { F.past folder.new ≡ F.past folder.old }
 {
@@ -32,9 +32,9 @@ pub(crate) fn open_at<F: Folder>(
 /// The length of the file at a path. None where none stands there.
 pub(crate) fn length_at<F: Folder>(folder: &mut F, path: &str) -> Result<Option<u64>, CallError>
     requires locked { IsLocked (F.modelled folder.old) }
-    requires sound { IsSound (F.modelled folder.old) }
+    requires sound { IsSoundSystem (F.modelled folder.old) }
     requires spelled { IsPath path.now }
-    ensures some { IfOk result (λ found. IfSome found (λ n. IfModelled (F.modelled folder.old) (λ s. HasFile s path.now (λ number. n ≡ length (s.content number).octets)))) }
+    ensures some { IfOk result (λ found. IfSome found (λ n. IfModelled (F.modelled folder.old) (λ s. HasFileAt s path.now (λ number. n ≡ length (s.content number).octets)))) }
     ensures none { IfOk result (λ found. IfNone found (IfModelled (F.modelled folder.old) (λ s. HasNoFile s path.now))) }
     ensures same { F.modelled folder.new ≡ F.modelled folder.old }
     ensures still { F.past folder.new ≡ F.past folder.old }
@@ -54,10 +54,10 @@ pub(crate) fn read_at<F: Folder>(
     into: &mut [u8],
 ) -> Result<Option<usize>, CallError>
     requires locked { IsLocked (F.modelled folder.old) }
-    requires sound { IsSound (F.modelled folder.old) }
+    requires sound { IsSoundSystem (F.modelled folder.old) }
     requires spelled { IsPath path.now }
     ensures count { IfOk result (λ found. IfSome found (λ n. n ≤ length into.new)) }
-    ensures some { IfOk result (λ found. IfSome found (λ n. IfModelled (F.modelled folder.old) (λ s. HasFile s path.now (λ number. take n into.new ≡ take (length into.old) (drop offset (s.content number).octets))))) }
+    ensures some { IfOk result (λ found. IfSome found (λ n. IfModelled (F.modelled folder.old) (λ s. HasFileAt s path.now (λ number. take n into.new ≡ take (length into.old) (drop offset (s.content number).octets))))) }
     ensures none { IfOk result (λ found. IfNone found (IfModelled (F.modelled folder.old) (λ s. HasNoFile s path.now))) }
     ensures rest { IfOk result (λ found. IfSome found (λ n. drop n into.new ≡ drop n into.old)) }
     ensures untouched { IfOk result (λ found. IfNone found (into.new ≡ into.old)) }
@@ -81,12 +81,12 @@ pub(crate) fn write_at<F: Folder>(
     from: &[u8],
 ) -> Result<(), CallError>
     requires locked { IsLocked (F.modelled folder.old) }
-    requires sound { IsSound (F.modelled folder.old) }
+    requires sound { IsSoundSystem (F.modelled folder.old) }
     requires spelled { IsPath path.now }
     requires reaches { IfModelled (F.modelled folder.old) (λ s. IfFile s path.now (λ number. offset ≤ length (s.content number).octets)) }
     ensures ok { OnOk result (Becomes (IsChanged path.now (written offset from.now)) (F.modelled folder.old) (F.modelled folder.new)) }
     ensures err { OnErr result (Becomes (IsPartlyChanged path.now (IsHalfWritten offset (length from.now))) (F.modelled folder.old) (F.modelled folder.new)) }
-    ensures passed { AreAfter (λ before s. HasFile before path.now (λ number. IsWriting number offset from.now before s)) (F.modelled folder.old) (F.past folder.old) (F.past folder.new) }
+    ensures passed { AreAfter (λ before s. HasFileAt before path.now (λ number. IsWriting number offset from.now before s)) (F.modelled folder.old) (F.past folder.old) (F.past folder.new) }
     ensures fits { OnOk result (offset + length from.now < 2 ^ 64) }
 {
     let Some(file) = open_at(folder, path, true)? else {
@@ -98,7 +98,7 @@ pub(crate) fn write_at<F: Folder>(
 /// Shortens the file at a path.
 pub(crate) fn cut_at<F: Folder>(folder: &mut F, path: &str, end: u64) -> Result<(), CallError>
     requires locked { IsLocked (F.modelled folder.old) }
-    requires sound { IsSound (F.modelled folder.old) }
+    requires sound { IsSoundSystem (F.modelled folder.old) }
     requires spelled { IsPath path.now }
     requires reaches { IfModelled (F.modelled folder.old) (λ s. IfFile s path.now (λ number. end ≤ length (s.content number).octets)) }
     ensures ok { OnOk result (Becomes (IsChanged path.now (cut_to end)) (F.modelled folder.old) (F.modelled folder.new)) }
@@ -114,9 +114,9 @@ pub(crate) fn cut_at<F: Folder>(folder: &mut F, path: &str, end: u64) -> Result<
 /// Syncs the file at a path.
 pub(crate) fn sync_at<F: Folder>(folder: &mut F, path: &str) -> Result<(), CallError>
     requires locked { IsLocked (F.modelled folder.old) }
-    requires sound { IsSound (F.modelled folder.old) }
+    requires sound { IsSoundSystem (F.modelled folder.old) }
     requires spelled { IsPath path.now }
-    ensures ok { OnOk result (Becomes (λ before s. HasFile before path.now (λ number. s ≡ with_synced_file number before)) (F.modelled folder.old) (F.modelled folder.new)) }
+    ensures ok { OnOk result (Becomes (λ before s. HasFileAt before path.now (λ number. s ≡ with_synced_file number before)) (F.modelled folder.old) (F.modelled folder.new)) }
     ensures err { OnErr result (IsDoneOrNot with_failed_sync (F.modelled folder.old) (F.modelled folder.new)) }
     ensures passed { HasPassed (F.modelled folder.old) (F.past folder.old) (F.modelled folder.new) (F.past folder.new) }
 {

@@ -1,8 +1,8 @@
-use Rattle.std.proofs.Common.{◌≡◌, List, Option, Some, subst}
-use Rattle.folder_model.specs.System.{System, PlainFile}
+use Rattle.std.proofs.Common.{List, Option, subst}
+use Rattle.folder_model.specs.System.{System}
 use Rattle.folder_model.specs.Calls.{Modelled, IfModelled, AreSince}
 use Rattle.folder_calls.specs.Writing.{IsOnItsWay}
-use Rattle.folder_disk.specs.Files.{IsOpened}
+use Rattle.folder_disk.specs.Files.{IsOpenedAt}
 use Rattle.folder_disk.proofs.FileLemmas.{on_way_at}
 use Rattle.folder_disk.proofs.files.write_at.Goals as goal
 
@@ -14,5 +14,5 @@ returns-clause-passed g c =
     let Q : Option Modelled → Type 0 = λ m. AreSince (IsOnItsWay number c.args.offset c.args.from.now m) (g.F.Folder.past c.open_at.new.folder) after in
     let R : List System → Type 0 = λ past. AreSince (IsOnItsWay number c.args.offset c.args.from.now old) past after in
     on_way_at c.args.path.now number c.args.offset c.args.from.now old (g.F.Folder.past c.args.folder.now) after
-    (subst (λ o. IfModelled old (λ s. IsOpened g.F.Folder.number o (s.node c.args.path.now))) c.in-Some.is c.in_ok-file.ensures.found)
+    (subst (λ o. IfModelled old (λ s. IsOpenedAt g.F.Folder.number o (s.node c.args.path.now))) c.in-Some.is c.in_ok-file.ensures.found)
     (subst R c.in_ok-file.ensures.still (subst Q c.in_ok-file.ensures.same c.write_all.ensures.passed))

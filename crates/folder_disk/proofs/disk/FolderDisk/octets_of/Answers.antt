@@ -1,4 +1,4 @@
-use Rattle.std.proofs.Common.{◌≡◌, length, IfSome, IfNone, None, string_bytes, subst}
+use Rattle.std.proofs.Common.{◌≡◌, length, IfSome, IfNone, string_bytes, subst}
 use Rattle.file_paths.specs.Paths.{path_text, IsStoreFile}
 use Rattle.folder_disk.specs.Over.{told_history}
 use Rattle.folder_disk.proofs.ReadLemmas.{octets_found, none_found, other_found}

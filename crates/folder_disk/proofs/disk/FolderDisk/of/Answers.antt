@@ -1,4 +1,4 @@
-use Rattle.std.proofs.Common.{◌≡◌, ℕ, List, false, sym, subst}
+use Rattle.std.proofs.Common.{ℕ, List, false, sym, subst}
 use Rattle.std.proofs.lemmas.Bool.{false≢true}
 use Rattle.disk_record.specs.declared.change.Change.{Change}
 use Rattle.folder_disk.specs.Over.{IsDiskOver}

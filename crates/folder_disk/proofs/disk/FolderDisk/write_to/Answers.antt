@@ -1,9 +1,9 @@
-use Rattle.std.proofs.Common.{◌≡◌, ◌<◌, ℕ, List, [], ◌∷◌, Bool, true, false, All, Fits, w8, get_or, sym, subst, arith}
+use Rattle.std.proofs.Common.{◌<◌, ℕ, List, [], ◌∷◌, Bool, true, All, Fits, w8, get_or, sym, subst, arith}
 use Rattle.std.proofs.lemmas.Bool.{false≢true}
 use Rattle.std.proofs.lemmas.List.Elements.{All-from_get_or}
 use Rattle.disk_model.specs.Disk.{written}
 use Rattle.disk_record.specs.declared.change.Change.{Change}
-use Rattle.disk_record.specs.declared.change.Change.TheVariants.{Written, HalfWritten}
+use Rattle.disk_record.specs.declared.change.Change.TheVariants.{Written}
 use Rattle.folder_disk.specs.Over.{IsDiskOver}
 use Rattle.folder_disk.proofs.ChangeLemmas.{wrote_over, half_wrote_over, locked_changed}
 use Rattle.folder_disk.proofs.disk.FolderDisk.write_to.Goals as goal
