@@ -1,0 +1,5 @@
+pub mod EndLemmas
+pub mod MailStaysLemmas
+pub mod OpenedLemmas
+pub mod RunBeginsLemmas
+pub mod ShownLemmas
