@@ -3,3 +3,4 @@ pub mod MailStaysLemmas
 pub mod OpenedLemmas
 pub mod RunBeginsLemmas
 pub mod ShownLemmas
+pub mod SomeListsLemmas

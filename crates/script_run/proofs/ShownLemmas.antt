@@ -58,7 +58,7 @@ shown_safe lists (Some h) store entries logs show safe opens =
     show (map_meaning store entries).boxes logs lists have
 
 -- what the lists show depends on the mailboxes by their numbers and names alone
-shows_same : (a b : List MapBox) (meanings : List BoxMeaning) (lists : Lists) → map (λ box. box.number) b ≡ map (λ box. box.number) a → map (λ box. box.name) b ≡ map (λ box. box.name) a → ShowLists a meanings lists → ShowLists b meanings lists
+pub shows_same : (a b : List MapBox) (meanings : List BoxMeaning) (lists : Lists) → map (λ box. box.number) b ≡ map (λ box. box.number) a → map (λ box. box.name) b ≡ map (λ box. box.name) a → ShowLists a meanings lists → ShowLists b meanings lists
 shows_same [] [] meanings lists n e s = s
 shows_same [] (y ∷ b) meanings lists n e s = absurd (cc n)
 shows_same (x ∷ a) [] meanings lists n e s = absurd (cc n)

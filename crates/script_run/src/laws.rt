@@ -15,3 +15,8 @@ pub fn safe_files_are_shown()
 {
     listings_are_shown();
 }
+
+/// Whatever logs a store opens with show some lists.
+pub fn opened_logs_show_lists()
+    ensures { (old : Option History) (m : MapMeaning) (meanings : List BoxMeaning) → IsOpenedAs old m meanings → (lists : Lists) × LogsShowLists m meanings lists }
+{}
