@@ -23,7 +23,7 @@ use Rattle.model_store.proofs.WellFormedLemmas.{well_formed}
 use Rattle.store_core.specs.Running.{IsStore}
 use Rattle.store_core.specs.Value.{StoreValue, indexes_of}
 use Rattle.store_open.specs.Opened.{IsOpenedAs}
-use Rattle.mdbox_top.specs.Served.{AreSafeFor}
+use Rattle.script_run.specs.Opening.{AreSafeFor, LogsShowLists}
 
 -- what a name finds depends on the mailboxes by their names alone
 named_same : (name : List ℕ) (a b : List MapBox) (meanings : List BoxMeaning) → map (λ box. box.name) a ≡ map (λ box. box.name) b → meaning_named name a meanings ≡ meaning_named name b meanings
@@ -58,7 +58,7 @@ shown_safe lists (Some h) store entries logs show safe opens =
     show (map_meaning store entries).boxes logs lists have
 
 -- what the lists show depends on the mailboxes by their numbers and names alone
-shows_same : (a b : List MapBox) (meanings : List BoxMeaning) (lists : Lists) → map (λ box. box.number) b ≡ map (λ box. box.number) a → map (λ box. box.name) b ≡ map (λ box. box.name) a → ShowLists a meanings lists → ShowLists b meanings lists
+pub shows_same : (a b : List MapBox) (meanings : List BoxMeaning) (lists : Lists) → map (λ box. box.number) b ≡ map (λ box. box.number) a → map (λ box. box.name) b ≡ map (λ box. box.name) a → ShowLists a meanings lists → ShowLists b meanings lists
 shows_same [] [] meanings lists n e s = s
 shows_same [] (y ∷ b) meanings lists n e s = absurd (cc n)
 shows_same (x ∷ a) [] meanings lists n e s = absurd (cc n)
@@ -75,13 +75,17 @@ safe_formed : (lists : Lists) (old : Option History) → AreSafeFor lists old �
 safe_formed lists None safe = absurd safe
 safe_formed lists (Some h) safe = well_formed (files_of h.now) lists (record { store = safe.store; entries = safe.entries; by = safe.by.stands })
 
--- what a store that was opened from safe files shows
-pub opened_shows : {D : Type 0} → (lists : Lists) (old : Option History) (s : StoreValue D) → IsOpenedAs old s.map (indexes_of s.boxes) → LogsShow → AreSafeFor lists old → AreWellFormed lists × ShowLists s.map.boxes (indexes_of s.boxes) lists
-opened_shows lists old s o show safe = (
+-- what logs show with which safe files opened
+pub opened_logs_show : (lists : Lists) (old : Option History) (m : MapMeaning) (meanings : List BoxMeaning) → IsOpenedAs old m meanings → LogsShow → AreSafeFor lists old → LogsShowLists m meanings lists
+opened_logs_show lists old m meanings o show safe = (
   safe_formed lists old safe,
-  subst (λ (ms : List BoxMeaning). ShowLists s.map.boxes ms lists) (sym o.meanings_are)
-      (shows_same (map_meaning s.map.store o.entries).boxes s.map.boxes (map box_meaning o.logs) lists o.means.numbers o.means.names (shown_safe lists old s.map.store o.entries o.logs show safe o.opens)),
+  subst (λ (ms : List BoxMeaning). ShowLists m.boxes ms lists) (sym o.meanings_are)
+      (shows_same (map_meaning m.store o.entries).boxes m.boxes (map box_meaning o.logs) lists o.means.numbers o.means.names (shown_safe lists old m.store o.entries o.logs show safe o.opens)),
 )
+
+-- what a store that was opened from them shows
+pub opened_shows : {D : Type 0} → (lists : Lists) (old : Option History) (s : StoreValue D) → IsOpenedAs old s.map (indexes_of s.boxes) → LogsShow → AreSafeFor lists old → AreWellFormed lists × ShowLists s.map.boxes (indexes_of s.boxes) lists
+opened_shows lists old s o show safe = opened_logs_show lists old s.map (indexes_of s.boxes) o show safe
 
 -- of files that were safe the listing is the list machine's reply
 pub answers_safe : (name : List ℕ) (old : Option History) (m : MapMeaning) (meanings : List BoxMeaning) → IsOpenedAs old m meanings → LogsShow → ListsAnswer

@@ -27,7 +27,7 @@ use Rattle.store_files.specs.Regions.{end_of, last_end, region_numbers}
 use Rattle.store_seen.specs.Seeing.{may_be_barred}
 use Rattle.store_instances.specs.FoundInstances.{IsFoundInstances}
 use Rattle.store_sweep.proofs.KnownFileLemmas.{found_in}
-use Rattle.mdbox_top.specs.Served.{barred_files}
+use Rattle.script_run.specs.Opening.{barred_files}
 
 -- ---- storage files
 
