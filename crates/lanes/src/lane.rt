@@ -1,5 +1,5 @@
 // A lane: the request in turn with its task, and those behind it.
-ghost use Rattle.std.specs.Prelude.{◌≡◌, false, [], None, IfSome, IsNone};
+ghost use Rattle.std.specs.Prelude.{◌≡◌, ◌↔◌, true, false, [], None, IfSome, IsNone};
 ghost use Rattle.lane_tasks.specs.Tasks.{IsReadyTask, did_of};
 ghost use Rattle.lane_tasks.specs.Clause.{HasTaskRoom};
 ghost use Rattle.lane_tasks.specs.declared.task.Task.{Task as TaskValue};
@@ -8,7 +8,8 @@ ghost use Rattle.lanes.specs.Rows.{IsReadyRow, RowGoesOn, TaskGoesOn, goes_on_by
 
 use disk_model::Disk;
 use lane_tasks::Task;
-use mdbox_base::{Did, Progress};
+use mdbox_base::{Did, NoMemory, Progress};
+use std::alloc::Global;
 use std::collections::VecDeque;
 use std::marker::Model;
 use store_core::Store;
@@ -50,6 +51,33 @@ impl Model for Lane {
 }
 
 impl Lane {
+    /// A lane without requests.
+    pub(crate) fn empty(alloc: Global) -> Lane
+        ensures { result ≡ record { current = None; waiting = [] } }
+    {
+        Lane {
+            current: None,
+            waiting: VecDeque::new(alloc),
+        }
+    }
+
+    /// Adds a request behind the others. Without memory the lane stays.
+    pub(crate) fn push(&mut self, queued: Queued) -> Result<(), NoMemory> {
+        if self.current.is_none() {
+            self.current = Some(queued);
+            return Ok(());
+        }
+        self.waiting.push_back(queued)?;
+        Ok(())
+    }
+
+    /// Whether it has no request left.
+    pub fn is_idle(&self) -> bool
+        ensures { (result ≡ true) ↔ (self.now.current ≡ None) }
+    {
+        self.current.is_none()
+    }
+
     /// Does the next event of the request in turn; if that answers it, the next one is in turn. None if the lane has no request left.
     pub fn advance<D: Disk>(&mut self, store: &mut Store<D>) -> Option<LaneEvent>
         requires ready { store.old.stopped ≡ false → IsReadyRow self.old store.old (D.history store.old.disk) }
