@@ -8,7 +8,7 @@ use Rattle.mdbox_base.specs.declared.progress.Progress.TheVariants as progress
 use Rattle.mdbox_base.specs.declared.replies.Refusal.{Refusal}
 use Rattle.mdbox_base.specs.declared.replies.Reply.{Reply}
 use Rattle.store_core.specs.Value.{StoreValue}
-use Rattle.task_claims.specs.Claims.{Claims, ClaimsNothing, Due, Emptied, Held, Made, Pinned, Placing, Removing, Taken, Thing, amount_in}
+use Rattle.task_claims.specs.Claims.{Claims, ClaimsNothing, Due, Emptied, Held, Made, Pinned, PlacingPieces, Removing, Taken, Thing, amount_in}
 use Rattle.task_claims.specs.Leaving.{IsSameOrSynced, LeavesOthers, SyncsMail}
 use Rattle.task_claims.proofs.RestLemmas.{rest_leaves}
 use Rattle.mail_fetch.specs.Claims.{fetch_claims}
@@ -22,7 +22,7 @@ same_amount store disk (Due uid) = refl
 same_amount store disk (Pinned file) = refl
 same_amount store disk (Taken file) = refl
 same_amount store disk (Emptied file) = refl
-same_amount store disk (Placing file) = refl
+same_amount store disk (PlacingPieces file) = refl
 same_amount store disk (Removing file) = refl
 same_amount store disk (Held id) = refl
 same_amount store disk (Made number) = refl

@@ -269,7 +269,7 @@ did_refuse around after run lane place said name uid lists seen why come shows s
   shown = shows;
   makes = refuse_makes around after run lane place name uid lists seen.map seen.drawn (told_calls seen.history) why come.come stage.0 step (answers event);
   found = tt;
-  come = comes_to_still run event seen come (comes_on run event seen.map seen.drawn (told_calls seen.history) come.come (omega arith) refl refl) (λ other. refl) (record { pins = refl; unpins = refl; doomed = refl; removed = refl; given = refl; placed = refl; gone = refl });
+  come = comes_to_still run event seen come (comes_on run event seen.map seen.drawn (told_calls seen.history) come.come (omega arith) refl refl) (λ other. refl) (record { made = refl; pins = refl; unpins = refl; doomed = refl; removed = refl; given = refl; placed = refl; gone = refl });
   gives = no_guids run event refl;
   went = (refl, refl, runs, nothing lists seen);
   grows = omega arith;
@@ -296,7 +296,7 @@ did_nothing around after run lane place said name uid lists seen why come shows 
   shown = shows;
   makes = unmade_makes around after run lane place name uid lists seen.map seen.drawn (told_calls seen.history) why come.come stage.0 none may;
   found = tt;
-  come = comes_to_still run event seen come (comes_on run event seen.map seen.drawn (told_calls seen.history) come.come (omega arith) refl refl) (λ other. refl) (record { pins = refl; unpins = refl; doomed = refl; removed = refl; given = refl; placed = refl; gone = refl });
+  come = comes_to_still run event seen come (comes_on run event seen.map seen.drawn (told_calls seen.history) come.come (omega arith) refl refl) (λ other. refl) (record { made = refl; pins = refl; unpins = refl; doomed = refl; removed = refl; given = refl; placed = refl; gone = refl });
   gives = no_guids run event refl;
   went = (refl, refl, nothing lists seen);
   grows = omega arith;

@@ -26,8 +26,8 @@ use Rattle.store_core.specs.Keeping.{KeepsInstances, MovesHolds, holds_of}
 use Rattle.store_core.specs.Knows.{knows_file, knows_instance, may_have_given}
 use Rattle.store_core.specs.Value.{StoreValue}
 use Rattle.store_seen.specs.Seeing.{may_be_barred, may_be_used}
-use Rattle.task_claims.specs.Claims.{AreIn, Claims, Due, Emptied, Held, Made, MovesClaims, Pinned, Placing, Removing, Taken, no_claims, one_if}
-use Rattle.task_claims.specs.Leaving.{LeavesOthers, LeavesPinnedFile, LeavesFile, IsSameOrSynced}
+use Rattle.task_claims.specs.Claims.{AreIn, Claims, Due, Emptied, Held, Made, MovesClaims, Pinned, PlacingPieces, Removing, Taken, no_claims, one_if}
+use Rattle.task_claims.specs.Leaving.{LeavesOthers, OnlyGrows, LeavesFile, IsSameOrSynced}
 use Rattle.task_claims.proofs.RestLemmas.{instance_kept, record_kept}
 use Rattle.task_steps.specs.Step.{Seen}
 use Rattle.mail_fetch.specs.Claims.{claims_of_pinned, held_for, with_claims, with_use, without_claims}
@@ -136,7 +136,7 @@ use_begins from known store there undoomed held (Taken file) =
     ap (λ (b : Bool). one_if b + 0) (but_pins (λ (o : Option MailFile). option_map_or (λ f. f.taken) o false) from.file.0 file (pins_in from.file.0 store.files.files + 1) store.files.files (λ f. refl))
 use_begins from known store there undoomed held (Emptied file) =
     ap (λ (b : Bool). one_if b + 0) (but_pins (λ (o : Option MailFile). option_map_or (λ f. f.emptied) o false) from.file.0 file (pins_in from.file.0 store.files.files + 1) store.files.files (λ f. refl))
-use_begins from known store there undoomed held (Placing file) =
+use_begins from known store there undoomed held (PlacingPieces file) =
     ap (λ (b : Bool). one_if b + 0) (but_pins (λ (o : Option MailFile). is_some (option_and_then (λ f. f.begun) o)) from.file.0 file (pins_in from.file.0 store.files.files + 1) store.files.files (λ f. refl))
 use_begins from known store there undoomed held (Removing file) = ap (λ (b : Bool). one_if b + 0) (removing_same from.file.0 file (pins_in from.file.0 store.files.files + 1) store.files.files undoomed)
 use_begins from known store there undoomed held (Held id) = held id
@@ -151,7 +151,7 @@ use_ends from known store pinned undoomed held (Taken file) =
     ap (λ (b : Bool). one_if b + 0) (but_pins (λ (o : Option MailFile). option_map_or (λ f. f.taken) o false) from.file.0 file (pins_in from.file.0 store.files.files - 1) store.files.files (λ f. refl))
 use_ends from known store pinned undoomed held (Emptied file) =
     ap (λ (b : Bool). one_if b + 0) (but_pins (λ (o : Option MailFile). option_map_or (λ f. f.emptied) o false) from.file.0 file (pins_in from.file.0 store.files.files - 1) store.files.files (λ f. refl))
-use_ends from known store pinned undoomed held (Placing file) =
+use_ends from known store pinned undoomed held (PlacingPieces file) =
     ap (λ (b : Bool). one_if b + 0) (but_pins (λ (o : Option MailFile). is_some (option_and_then (λ f. f.begun) o)) from.file.0 file (pins_in from.file.0 store.files.files - 1) store.files.files (λ f. refl))
 use_ends from known store pinned undoomed held (Removing file) = ap (λ (b : Bool). one_if b + 0) (removing_same from.file.0 file (pins_in from.file.0 store.files.files - 1) store.files.files undoomed)
 use_ends from known store pinned undoomed held (Held id) = held id
@@ -170,7 +170,7 @@ file_left from pins number known store history = record {
   state = between-begins (λ a b. IsSameOrSynced (a (file.Mail number)) (b (file.Mail number))) history (λ disk. inl refl);
 }
 
-pinned_left : {D : Type 0} → (from : StoredAt) (pins number : ℕ) (known : List KnownInstance) (store : StoreValue D) (history : Option History) → LeavesPinnedFile number store (with_use from pins known store) history history
+pinned_left : {D : Type 0} → (from : StoredAt) (pins number : ℕ) (known : List KnownInstance) (store : StoreValue D) (history : Option History) → OnlyGrows number store (with_use from pins known store) history history
 pinned_left from pins number known store history = record {
   there = λ end is. (end, ends_still from.file.0 number pins store.files.files ∙ is, stays end);
   reads = between-begins (λ a b. (octets : List ℕ) → reading (a (file.Mail number)) ≡ Some octets → (more : List ℕ) × (reading (b (file.Mail number)) ≡ Some (octets ++ more))) history (λ disk octets is. ([], is ∙ ap Some (sym (append-nil octets))));
@@ -185,7 +185,7 @@ use_leaves_at mine from pins known store history keeps = record {
   records = λ uid row more there. record_kept uid row store (with_use from pins known store) history history (idle_syncs history history (idle-begins history)) refl there;
   unlisted = λ uid row none found listed. (listed, refl);
   files = λ number took. file_left from pins number known store history;
-  pinned = λ number more. pinned_left from pins number known store history;
+  grow = λ number more. pinned_left from pins number known store history;
   instances = λ row is more. instance_kept row store (with_use from pins known store) history history keeps is;
   store = keeps.store;
   drawn = keeps.drawn;

@@ -276,7 +276,7 @@ copy_added name uid target held given Stands old new before after began faulted 
             ended_is = refl;
             unrefused = refl;
             undrawn = refl;
-            leaves = record { pins = refl; unpins = refl; doomed = refl; removed = refl; given = refl; placed = refl; gone = refl };
+            leaves = record { made = refl; pins = refl; unpins = refl; doomed = refl; removed = refl; given = refl; placed = refl; gone = refl };
             finds = tt;
             found = tt;
             part_is = adds_next around run q name uid target half_is.Whole held (own_events place run) first c one h;
@@ -404,7 +404,7 @@ given_back q name uid target half held why Stands old new before after began fau
             ended_is = refl;
             unrefused = refl;
             undrawn = refl;
-            leaves = record { pins = refl; unpins = refl; doomed = refl; removed = refl; given = refl; placed = refl; gone = refl };
+            leaves = record { made = refl; pins = refl; unpins = refl; doomed = refl; removed = refl; given = refl; placed = refl; gone = refl };
             finds = c.finds around event;
             found = c.found around run event GivesBack;
             part_is = gives_back_next around run q name uid target half why (own_events place run) first second c other two r;

@@ -70,7 +70,7 @@ counts_done store history faults a b c d runs records listed counts ids = λ aro
             ended_is = refl;
             unrefused = refl;
             undrawn = refl;
-            leaves = record { pins = refl; unpins = refl; doomed = refl; removed = refl; given = refl; placed = refl; gone = refl };
+            leaves = record { made = refl; pins = refl; unpins = refl; doomed = refl; removed = refl; given = refl; placed = refl; gone = refl };
             finds = tt;
             found = tt;
             part_is = ap (λ (es : List RunEvent). next_part around run q es) stood.0;

@@ -143,7 +143,7 @@ did_refused around after run lane place said q part lists old new why ended answ
       made = made;
       come = comes;
     };
-    come = comes_to_on run event old new come comes (λ uid. let d = stays.due uid in omega (arith, d)) (record { pins = refl; unpins = refl; doomed = refl; removed = refl; given = refl; placed = refl; gone = refl }) stays.tells;
+    come = comes_to_on run event old new come comes (λ uid. let d = stays.due uid in omega (arith, d)) (record { made = refl; pins = refl; unpins = refl; doomed = refl; removed = refl; given = refl; placed = refl; gone = refl }) stays.tells;
     gives = no_guids run event refl;
     went = went;
     grows = stays.grows;

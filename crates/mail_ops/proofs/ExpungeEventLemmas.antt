@@ -113,7 +113,7 @@ expunge_removed name uid owed old new before after began then is ran r = λ arou
       ended_is = refl;
       unrefused = refl;
       undrawn = refl;
-      leaves = record { pins = refl; unpins = refl; doomed = refl; removed = refl; given = refl; placed = refl; gone = refl };
+      leaves = record { made = refl; pins = refl; unpins = refl; doomed = refl; removed = refl; given = refl; placed = refl; gone = refl };
       finds = tt;
       found = tt;
       part_is = ap (λ (es : List RunEvent). next_part around run q es) stood.0;
@@ -228,7 +228,7 @@ expunge_lowered name uid owed old new before after began then ran due t = λ aro
             ended_is = refl;
             unrefused = refl;
             undrawn = refl;
-            leaves = record { pins = refl; unpins = refl; doomed = refl; removed = refl; given = refl; placed = refl; gone = refl };
+            leaves = record { made = refl; pins = refl; unpins = refl; doomed = refl; removed = refl; given = refl; placed = refl; gone = refl };
             finds = tt;
             found = tt;
             part_is = next_is around run name uid (own_events place run) at.0 at.1 at.2 at.3;

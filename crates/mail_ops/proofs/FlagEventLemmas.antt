@@ -156,7 +156,7 @@ flag_done around after run lane place said lists name number uid flags bits old 
   makes = flag_makes around after run lane place name uid flags number bits lists old new come a stage.0 f.answers;
   found = tt;
   come = comes_to_on run event old new come (come_along run event old new number uid bits come a refl (comes_on run event old.map old.drawn (told_calls old.history) come.come a.grows refl refl))
-      (λ other. let d = a.due_is other in omega (arith, d)) (record { pins = refl; unpins = refl; doomed = refl; removed = refl; given = refl; placed = refl; gone = refl }) a.same;
+      (λ other. let d = a.due_is other in omega (arith, d)) (record { made = refl; pins = refl; unpins = refl; doomed = refl; removed = refl; given = refl; placed = refl; gone = refl }) a.same;
   gives = no_guids run event refl;
   went = (
     refl,

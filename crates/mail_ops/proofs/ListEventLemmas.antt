@@ -73,7 +73,7 @@ does_list around after run lane place said name lists seen rows come shows stage
   shown = shows;
   makes = list_makes around after run lane place name lists seen.map seen.drawn (told_calls seen.history) rows come.come stage.0 answers;
   found = tt;
-  come = comes_to_still run (list_event lane place rows (told_calls seen.history)) seen come (comes_on run (list_event lane place rows (told_calls seen.history)) seen.map seen.drawn (told_calls seen.history) come.come (omega arith) refl refl) (λ uid. refl) (record { pins = refl; unpins = refl; doomed = refl; removed = refl; given = refl; placed = refl; gone = refl });
+  come = comes_to_still run (list_event lane place rows (told_calls seen.history)) seen come (comes_on run (list_event lane place rows (told_calls seen.history)) seen.map seen.drawn (told_calls seen.history) come.come (omega arith) refl refl) (λ uid. refl) (record { made = refl; pins = refl; unpins = refl; doomed = refl; removed = refl; given = refl; placed = refl; gone = refl });
   gives = no_guids run (list_event lane place rows (told_calls seen.history)) refl;
   went = (refl, refl, runs, nothing lists seen);
   grows = omega arith;

@@ -20,7 +20,7 @@ use Rattle.store_core.specs.Keeping.{KeepsUids}
 use Rattle.store_core.specs.MadeLogs.{has_made_log, without_box}
 use Rattle.store_core.specs.Value.{StoreValue, indexes_of, references_to}
 use Rattle.store_core.specs.declared.store.OpenBox.{OpenBox}
-use Rattle.task_claims.specs.Claims.{ClaimsNothing, Due, Emptied, Held, Made, MovesClaims, Pinned, Placing, Removing, Taken, amount_in, one_if}
+use Rattle.task_claims.specs.Claims.{ClaimsNothing, Due, Emptied, Held, Made, MovesClaims, Pinned, PlacingPieces, Removing, Taken, amount_in, one_if}
 use Rattle.task_claims.specs.Leaving.{LeavesOthers, SameButCounts, SyncsMail, but_count}
 use Rattle.task_claims.proofs.CountedLemmas.{same_map}
 use Rattle.task_claims.proofs.RestLemmas.{rest_leaves}
@@ -156,7 +156,7 @@ make_moves now next old new c moves rest (Due uid) = moves.due uid
 make_moves now next old new c moves rest (Pinned file) = ap (λ (v : StoreValue _). amount_in (Pinned file) v + 0) rest
 make_moves now next old new c moves rest (Taken file) = ap (λ (v : StoreValue _). amount_in (Taken file) v + 0) rest
 make_moves now next old new c moves rest (Emptied file) = ap (λ (v : StoreValue _). amount_in (Emptied file) v + 0) rest
-make_moves now next old new c moves rest (Placing file) = ap (λ (v : StoreValue _). amount_in (Placing file) v + 0) rest
+make_moves now next old new c moves rest (PlacingPieces file) = ap (λ (v : StoreValue _). amount_in (PlacingPieces file) v + 0) rest
 make_moves now next old new c moves rest (Removing file) = ap (λ (v : StoreValue _). amount_in (Removing file) v + 0) rest
 make_moves now next old new c moves rest (Held id) = ap (λ (v : StoreValue _). amount_in (Held id) v + 0) rest
 make_moves now next old new c moves rest (Made number) = c.logs number
@@ -176,7 +176,7 @@ first_claims_nothing (Due uid) = refl
 first_claims_nothing (Pinned file) = refl
 first_claims_nothing (Taken file) = refl
 first_claims_nothing (Emptied file) = refl
-first_claims_nothing (Placing file) = refl
+first_claims_nothing (PlacingPieces file) = refl
 first_claims_nothing (Removing file) = refl
 first_claims_nothing (Held id) = refl
 first_claims_nothing (Made number) = refl

@@ -242,7 +242,7 @@ did_drawing around after run lane place said name lists old new how refused ende
       made = refl;
       come = comes;
     };
-    come = comes_to_on run event old new come comes (λ uid. let e = d.due uid in omega (arith, e)) (record { pins = refl; unpins = drawn_unpins refused; doomed = refl; removed = refl; given = refl; placed = refl; gone = refl }) d.tells;
+    come = comes_to_on run event old new come comes (λ uid. let e = d.due uid in omega (arith, e)) (record { made = refl; pins = refl; unpins = drawn_unpins refused; doomed = refl; removed = refl; given = refl; placed = refl; gone = refl }) d.tells;
     gives = no_guids run event refl;
     went = went;
     grows = d.grows;
@@ -459,7 +459,7 @@ naming_overtaken name number old new before after began then ran free behind_it 
       ended_is = refl;
       unrefused = refl;
       undrawn = refl;
-      leaves = record { pins = refl; unpins = refl; doomed = refl; removed = refl; given = refl; placed = refl; gone = refl };
+      leaves = record { made = refl; pins = refl; unpins = refl; doomed = refl; removed = refl; given = refl; placed = refl; gone = refl };
       finds = tt;
       found = tt;
       part_is = naming_next around run name place said number.0 old.map stood come.come.map_is ∙ ap (λ (b : Bool). Some (naming_part b)) (overtaken_is number.0 old.map.highest.mailbox behind_it);

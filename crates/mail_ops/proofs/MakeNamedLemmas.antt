@@ -134,7 +134,7 @@ naming_done name number next old new before after began then is ran n named d = 
             ended_is = refl;
             unrefused = refl;
             undrawn = refl;
-            leaves = record { pins = refl; unpins = refl; doomed = refl; removed = refl; given = refl; placed = refl; gone = refl };
+            leaves = record { made = refl; pins = refl; unpins = refl; doomed = refl; removed = refl; given = refl; placed = refl; gone = refl };
             finds = tt;
             found = tt;
             part_is = naming_next around run name place said number.0 old.map stood come.come.map_is ∙ ap (λ (b : Bool). Some (naming_part b)) (above_not number.0 old.map.highest.mailbox n.can.above);

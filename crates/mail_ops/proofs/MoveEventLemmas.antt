@@ -82,7 +82,7 @@ move_added name uid target held copied old new before after began faulted is ran
       ended_is = refl;
       unrefused = refl;
       undrawn = refl;
-      leaves = record { pins = refl; unpins = refl; doomed = refl; removed = refl; given = refl; placed = refl; gone = refl };
+      leaves = record { made = refl; pins = refl; unpins = refl; doomed = refl; removed = refl; given = refl; placed = refl; gone = refl };
       finds = tt;
       found = tt;
       part_is = adds_next around run q name uid target half.CopyHalf held (own_events place run) first c one h;
@@ -173,7 +173,7 @@ move_gone name uid target held copied Stands store history faults why runs missi
             ended_is = refl;
             unrefused = refl;
             undrawn = refl;
-            leaves = record { pins = refl; unpins = refl; doomed = refl; removed = refl; given = refl; placed = refl; gone = refl };
+            leaves = record { made = refl; pins = refl; unpins = refl; doomed = refl; removed = refl; given = refl; placed = refl; gone = refl };
             finds = tt;
             found = tt;
             part_is = removes_next around run name uid target copied (own_events place run) first second two a;
@@ -225,7 +225,7 @@ move_removed name uid target held copied old new before after began faulted is r
       ended_is = refl;
       unrefused = refl;
       undrawn = refl;
-      leaves = record { pins = refl; unpins = refl; doomed = refl; removed = refl; given = refl; placed = refl; gone = refl };
+      leaves = record { made = refl; pins = refl; unpins = refl; doomed = refl; removed = refl; given = refl; placed = refl; gone = refl };
       finds = tt;
       found = tt;
       part_is = removes_next around run name uid target copied (own_events place run) first second two added;
@@ -347,7 +347,7 @@ move_lowered name uid target owed copied Stands old new before after began fault
             ended_is = refl;
             unrefused = refl;
             undrawn = refl;
-            leaves = record { pins = refl; unpins = refl; doomed = refl; removed = refl; given = refl; placed = refl; gone = refl };
+            leaves = record { made = refl; pins = refl; unpins = refl; doomed = refl; removed = refl; given = refl; placed = refl; gone = refl };
             finds = tt;
             found = tt;
             part_is = lowers_next around run name uid target (own_events place run) first second third three removed;

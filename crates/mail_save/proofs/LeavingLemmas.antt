@@ -258,7 +258,7 @@ leaves_by mine Own old new before after keeps uids rows known mail unlisted apar
     guids = rows.guids number (apart number took);
     state = between-map (SyncsBut Own) (λ a b. IsSameOrSynced (a (Mail number)) (b (Mail number))) before after (λ a b s. s number (apart number took)) mail.files;
   };
-  pinned = λ number more. record {
+  grow = λ number more. record {
     there = known.ends number;
     reads = between-map GrowsMail (λ a b. (octets : List ℕ) → reading (a (Mail number)) ≡ Some octets → (more : List ℕ) × (reading (b (Mail number)) ≡ Some (octets ++ more))) before after (λ a b m octets is. m.0 number octets is) mail.grows;
   };

@@ -24,7 +24,7 @@ use Rattle.store_core.specs.Dues.{Moves, amounts_in}
 use Rattle.store_core.specs.Keeping.{MovesHolds}
 use Rattle.store_core.specs.Value.{StoreValue}
 use Rattle.store_core.specs.declared.store.OpenBox.{OpenBox}
-use Rattle.task_claims.specs.Claims.{ClaimsNothing, Due, Emptied, Held, Made, MovesClaims, Pinned, Placing, Removing, Taken, one_if}
+use Rattle.task_claims.specs.Claims.{ClaimsNothing, Due, Emptied, Held, Made, MovesClaims, Pinned, PlacingPieces, Removing, Taken, one_if}
 use Rattle.mail_save.specs.Claims.{own_file_of, save_claims}
 use Rattle.mail_save.specs.Held.{save_amounts, save_holds}
 use Rattle.mail_save.specs.Left.{HoldsRegion}
@@ -221,7 +221,7 @@ claims_by now next old new moves holds m (Due uid) = moves.due uid
 claims_by now next old new moves holds m (Pinned file) = ap (λ (k : ℕ). k + 0) (m.pins file)
 claims_by now next old new moves holds m (Taken file) = m.taken file
 claims_by now next old new moves holds m (Emptied file) = ap (λ (b : Bool). one_if b + 0) (m.emptied file)
-claims_by now next old new moves holds m (Placing file) = ap (λ (o : Option ℕ). one_if (is_some o) + 0) (m.begun file)
+claims_by now next old new moves holds m (PlacingPieces file) = ap (λ (o : Option ℕ). one_if (is_some o) + 0) (m.begun file)
 claims_by now next old new moves holds m (Removing file) =
     ap (λ (b : Bool). one_if (b && (pins_in file new.files.files == 0)) + 0) (m.doomed file) ∙ ap (λ (k : ℕ). one_if (is_doomed_in file old.files.files && (k == 0)) + 0) (m.pins file)
 claims_by now next old new moves holds m (Held id) = holds id
@@ -239,7 +239,7 @@ ended_claims (Due uid) = refl
 ended_claims (Pinned file) = refl
 ended_claims (Taken file) = refl
 ended_claims (Emptied file) = refl
-ended_claims (Placing file) = refl
+ended_claims (PlacingPieces file) = refl
 ended_claims (Removing file) = refl
 ended_claims (Held id) = refl
 ended_claims (Made number) = refl

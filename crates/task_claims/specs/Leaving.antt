@@ -1,5 +1,5 @@
 -- What an event of a task leaves to the other tasks.
-use Rattle.std.specs.Prelude.{◌≡◌, ◌≢◌, ◌≤◌, ◌+◌, ◌==◌, ◌⊎◌, ◌++◌, ℕ, List, length, take, drop, All, map, filter, Option, Some}
+use Rattle.std.specs.Prelude.{◌≡◌, ◌≢◌, ◌≤◌, ◌+◌, ◌==◌, ◌⊎◌, ◌++◌, ℕ, List, length, take, drop, All, map, filter, Option, Some, IsSome}
 use Rattle.std.specs.Option.{option_map}
 use Rattle.disk_model.specs.Disk.{Files, FileState, History, Between, named, reading}
 use Rattle.disk_model.specs.declared.name.FileName.TheVariants as file
@@ -78,8 +78,13 @@ pub record LeavesFile {D : Type 0} (number : ℕ) (old new : StoreValue D) (befo
   pub guids : (guid : List ℕ) → number_at 8 guid ≡ number → All (λ row. row.guid ≢ guid) old.map.records → All (λ row. row.guid ≢ guid) new.map.records
   pub state : Between (λ a b. IsSameOrSynced (a (file.Mail number)) (b (file.Mail number))) before after
 
--- A file that others have pinned is there, and what it read is the beginning of what it reads.
-pub record LeavesPinnedFile {D : Type 0} (number : ℕ) (old new : StoreValue D) (before after : Option History) : Type 0 where
+-- Other tasks than this one have pinned a storage file; or it is there, and the task neither empties nor removes it. So it may only
+-- grow in an event of the task.
+abbrev pub MayOnlyGrow : {D : Type 0} → Claims → StoreValue D → ℕ → Type 0
+MayOnlyGrow mine store number = OthersClaim mine store (Pinned number) ⊎ (IsSome (end_in number store.files.files) × (mine (Emptied number) ≡ 0) × (mine (Removing number) ≡ 0))
+
+-- It is there and ends no earlier, and what it read is the beginning of what it reads.
+pub record OnlyGrows {D : Type 0} (number : ℕ) (old new : StoreValue D) (before after : Option History) : Type 0 where
   pub there : (end : ℕ) → end_in number old.files.files ≡ Some end → (now : ℕ) × (end_in number new.files.files ≡ Some now) × (end ≤ now)
   pub reads : Between (λ a b. (octets : List ℕ) → reading (a (file.Mail number)) ≡ Some octets → (more : List ℕ) × (reading (b (file.Mail number)) ≡ Some (octets ++ more))) before after
 
@@ -98,14 +103,14 @@ abbrev pub KeepsCompared : {D : Type 0} → StoreValue D → StoreValue D → Op
 KeepsCompared old new before after = (hash : Hash) (size : ℕ) (octets : List ℕ) (last : Option InstId) (drawn : ℕ) → drawn ≤ old.instances.highest
     → IsUnlikeCompared old.instances.store hash size octets last drawn old.instances.known before → IsUnlikeCompared old.instances.store hash size octets last drawn new.instances.known after
 
--- An event of a task that had these claims as it began, and that didn't stop the store, leaves to the other tasks what is theirs.
--- The last five are of no claim: the store of the instances, whose numbers rise; what was compared; the message with a UID; and a
+-- An event of a task that had these claims as it began, and that didn't stop the store, leaves to the other tasks what is theirs, and
+-- every storage file that it doesn't claim to empty or to remove. The last five are of no claim: the store of the instances, whose numbers rise; what was compared; the message with a UID; and a
 -- disk that is modelled stays so.
 pub record LeavesOthers {D : Type 0} (mine : Claims) (old new : StoreValue D) (before after : Option History) : Type 0 where
   pub records : (uid : ℕ) (row : MapRecord) → OthersClaim mine old (Due uid) → record_at old.map uid ≡ Some row → LeavesRecord uid row new before after
   pub unlisted : LeavesUnlisted mine old new
   pub files : (number : ℕ) → OthersTook mine old number → LeavesFile number old new before after
-  pub pinned : (number : ℕ) → OthersClaim mine old (Pinned number) → LeavesPinnedFile number old new before after
+  pub grow : (number : ℕ) → MayOnlyGrow mine old number → OnlyGrows number old new before after
   pub instances : (row : InstRow) → IsKnownRow old.instances.known row → OthersClaim mine old (Held row.id) → LeavesInstance row old new before after
   pub store : new.instances.store ≡ old.instances.store
   pub drawn : old.instances.highest ≤ new.instances.highest

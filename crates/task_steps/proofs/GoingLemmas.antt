@@ -7,7 +7,7 @@ use Rattle.std.proofs.lemmas.List.{append-nil, length-append, map-append, take-a
 use Rattle.std.proofs.lemmas.Option.{slice_get_within}
 use Rattle.std.proofs.lemmas.List.Elements.{All-nil, All-cons, All-head, All-tail, All-push, All-append, All-weaker, filter-append}
 use Rattle.std.proofs.lemmas.List.Sums.{sum_by-append, sum_by-cons}
-use Rattle.disk_model.specs.Disk.{Files, DiskState, History, IsImage, EachImage, calls, state_at, told_calls}
+use Rattle.disk_model.specs.Disk.{Files, DiskState, History, IfTold, IsImage, EachImage, calls, state_at, told_calls}
 use Rattle.mdbox_base.specs.Streams.{Rose}
 use Rattle.task_steps.specs.Step.{FaultsGrow, Seen, ShowsSeen, HasComeTo, Leads, Stops, Fell, Went, IsFault, DidEvent}
 use Rattle.disk_model.proofs.MomentLemmas.{each_image-map, each_image-then, state_at-only}
@@ -16,6 +16,8 @@ use Rattle.mdbox_base.specs.declared.replies.Refusal.{Refusal}
 use Rattle.mdbox_base.specs.declared.replies.Refusal.TheVariants as refusal
 use Rattle.mdbox_base.specs.declared.replies.Reply.{Reply}
 use Rattle.mdbox_base.specs.declared.replies.Reply.TheVariants as reply
+use Rattle.model_kept.specs.Kept.{MailIsKept}
+use Rattle.model_kept.proofs.KeptLemmas.{ReadsImage}
 use Rattle.model_lists.specs.Lists.{Lists}
 use Rattle.list_machine.specs.Run.{RunEvent, Run, before, and_then}
 use Rattle.journal.specs.Journal.{Requests, half_of, halves_of, JournalStep, IsStep, AreSteps, left_by, IsLegal, Broken, no_broken, as_if, AreBroken, Reached, HasReply, RoseBy, steps_of, IsFirstPart}
@@ -34,7 +36,8 @@ use Rattle.model_store.proofs.SettledLemmas.{settled_safe}
 use Rattle.model_store.specs.Settled.{Leaves, IsSettled, IsSettledFor}
 use Rattle.mdbox_base.specs.declared.progress.Did.{Did}
 use Rattle.mdbox_base.specs.declared.progress.Did.TheVariants as did
-use Rattle.task_steps.specs.Serves.{IsReached, NoneStopped, WasAt, AreTimely, Serves, IsTurn}
+use Rattle.task_steps.proofs.UnmovedLemmas.{mail_on}
+use Rattle.task_steps.specs.Serves.{IsReached, NoneMoved, NoneStopped, WasAt, AreTimely, Serves, IsTurn}
 
 -- ---- what an event adds to the journal
 
@@ -261,6 +264,7 @@ record Kept (start : Lists) (script : Requests) (run : Run) (journal : List Jour
   pub legal : IsLegal start script run journal replies began.faults now.faults
   pub come : HasComeTo run now
   pub shown : ShowsSeen now (left_by start journal)
+  pub mail : NoneMoved run.events → MailIsKept began.map began.history now.history
   pub reads : RoseBy (count_by is_faulted run.events) began.faults.reads now.faults.reads
   pub changes : began.faults.changes ≤ now.faults.changes
   pub halted : (i : ℕ) → HasReply replies i (reply.Refused refusal.Stopped) → now.stopped ≡ true
@@ -422,6 +426,7 @@ quiet_on start script run journal broken replies began now new request event ans
       timely = λ at. timely at now.stopped refl;
       unbroken = λ e. s.unbroken (sym same ∙ e);
       settled = λ e at. leads.settled (s.settled (sym same ∙ e) at);
+      mail = k.mail;
       reads = k.reads;
       changes = k.changes;
       fell = λ e. rose_later began.faults.changes now.faults.changes new.faults.changes (s.fell (sym same ∙ e)) t.faults.changes;
@@ -448,6 +453,7 @@ step_on start script run journal broken replies began now new request event answ
         (λ none. subst (λ (ls : Lists). IsSettledFor ls new.history) (sym (left_made run request start journal event answer left t.made)) (leads.settled (s.settled ran at)));
     unbroken = λ e. refl;
     settled = λ e at. subst (λ (ls : Lists). IsSettledFor ls new.history) (sym (left_made run request start journal event answer left t.made)) (leads.settled (s.settled ran at));
+    mail = t.kept.mail;
     reads = t.kept.reads;
     changes = t.kept.changes;
     fell = λ e. absurd (fall new.stopped e runs);
@@ -479,6 +485,7 @@ failed_on start script run journal broken replies began now new request event an
       timely = λ at. failed_timely start run request journal now new event answer left t.within t.moments t.moment_is (s.timely at) (same_states (left_by start journal) (left_by start journal) now new (stops (s.settled f.ran at))) f.refused f.unanswered;
       unbroken = λ e. absurd (fall new.stopped f.stopped e);
       settled = λ e at. absurd (fall new.stopped f.stopped e);
+      mail = k.mail;
       reads = k.reads;
       changes = k.changes;
       fell = λ e. rose_now began.faults.changes now.faults.changes new.faults.changes s.changes (t.faults.rose tt);
@@ -530,6 +537,7 @@ broken_on start script run journal broken replies began now new lane place reque
       timely = λ at. failed_timely start run request journal now new event answer left t.within t.moments t.moment_is (s.timely at) (same_states (left_by start journal) w.left now new (stops (s.settled f.ran at))) f.refused f.unanswered;
       unbroken = λ e. absurd (fall new.stopped f.stopped e);
       settled = λ e at. absurd (fall new.stopped f.stopped e);
+      mail = k.mail;
       reads = k.reads;
       changes = k.changes;
       fell = λ e. rose_now began.faults.changes now.faults.changes new.faults.changes s.changes (t.faults.rose fault);
@@ -564,10 +572,10 @@ makes_running request run lists left event answer now new (did.Broken half) w so
 
 -- A run of events goes on with one more, of any task that does as its clause says, in its turn.
 pub serves_on : (start : Lists) (script : Requests) (run : Run) (journal : List JournalStep) (broken : Broken) (replies : List (Option Reply)) (began now new : Seen) (around after : Around) (lane place : ℕ) (request : Request) (how : Did) (ended : Option Reply) → Serves start script run journal broken replies began now
-    → IsTurn script journal replies lane place request → (d : DidEvent around after run lane place (map (λ s. s.answer) (steps_of place journal)) request (left_by start journal) now new how ended)
+    → IsTurn script journal replies lane place request → (d : DidEvent around after run lane place (map (λ s. s.answer) (steps_of place journal)) request (left_by start journal) now new how ended) → IfTold now.history ReadsImage
     → (next : Broken) × Serves start script (and_then run d.makes.event) (journal ++ steps_made run request d.makes.event d.makes.answer d.left) next replies began new
     × (WouldDo script start run journal broken → WouldDo script start (and_then run d.makes.event) (journal ++ steps_made run request d.makes.event d.makes.answer d.left) next)
-serves_on start script run journal broken replies began now new around after lane place request how ended s turn d =
+serves_on start script run journal broken replies began now new around after lane place request how ended s turn d reads =
     by_way start script run journal broken replies began now new lane place request d.makes.event d.makes.answer d.left how turn.asked d.makes.lane_is d.makes.request_is s told d.went
   where
     halted : (i : ℕ) → HasReply replies i (reply.Refused refusal.Stopped) → new.stopped ≡ true
@@ -602,6 +610,7 @@ serves_on start script run journal broken replies began now new around after lan
             d.ends.faults.reads d.ends.faults.changes;
         come = d.come;
         shown = subst (λ (ls : Lists). ShowsSeen new ls) (sym (left_made run request start journal d.makes.event d.makes.answer d.left d.makes.made)) d.shown;
+        mail = mail_on run began.map now.map began.history now.history new.history s.begins.map_is s.come.come.map_is reads s.mail d.mail d.makes.event;
         reads = reads_more run.events d.makes.event began.faults.reads now.faults.reads new.faults.reads s.reads d.ends.faults.reads d.ends.reads;
         changes = (let a = s.changes in let b = d.ends.faults.changes in omega (arith, a, b));
         halted = halted;
