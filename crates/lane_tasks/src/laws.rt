@@ -11,7 +11,7 @@ ghost use Rattle.task_claims.specs.Claims.{ClaimsNothing, Emptied, Taken};
 ghost use Rattle.task_claims.specs.Stable.{IsStable};
 ghost use Rattle.task_steps.specs.Step.{GivesNew, HasNotBegun, IsKept};
 ghost use Rattle.lane_tasks.specs.Clause.{PassesBy};
-ghost use Rattle.lane_tasks.specs.Tasks.{BeginsTask, IsReadyTask, StandsTask, claims_at, work_left};
+ghost use Rattle.lane_tasks.specs.Tasks.{BeginsTask, IsReadyTask, StandsTask, claims_at};
 ghost use Rattle.lane_tasks.specs.declared.task.Task.{Task};
 
 use disk_model::Disk;
@@ -41,9 +41,4 @@ pub fn tasks_begin<D: Disk>()
 pub fn tasks_have_taken<D: Disk>()
     ensures { (task : Task) (store : StoreValue D) (history : Option History) (asked : Request) (run : Run) (place : ℕ) (said : List Reply) (file : ℕ) → StandsTask task store history asked run place said → 1 ≤ file
         → list_any (took_file file) (own_events place run) ≡ true → gave_back file (own_events place run) ≡ false → (1 ≤ claims_at task (Taken file)) ⊎ (1 ≤ claims_at task (Emptied file)) }
-{}
-
-/// An event that makes no mailbox leaves to every task as many events as were still to come.
-pub fn tasks_leave_work<D: Disk>()
-    ensures { (task : Task) (old new : StoreValue D) → new.map.highest.mailbox ≡ old.map.highest.mailbox → work_left task new ≡ work_left task old }
 {}

@@ -1,5 +1,5 @@
 -- The events of a fetch, which read the disk at most.
-use Rattle.std.proofs.Common.{◌≡◌, ◌≤◌, ◌+◌, ℕ, Bool, true, false, List, [], ◌∷◌, ◌++◌, Option, Some, None, refl, sym, ◌∙◌, ap, subst, arith, inl}
+use Rattle.std.proofs.Common.{◌≡◌, ◌≤◌, ◌+◌, ℕ, Bool, true, false, List, [], ◌∷◌, ◌++◌, Option, Some, None, refl, sym, ◌∙◌, ap, subst, arith, inl, inr}
 use Rattle.std.specs.Prelude.{◌≢◌, ◌↔◌, ◌⊎◌, length, slice_get, sum_by, if◌then◌else◌}
 use Rattle.std.specs.Option.{IfSome}
 use Rattle.std.proofs.lemmas.List.Elements.{All-nil}
@@ -21,17 +21,19 @@ use Rattle.mdbox_base.specs.declared.requests.Request.TheVariants as request
 use Rattle.mdbox_base.specs.declared.script.Half.TheVariants as half
 use Rattle.model_lists.specs.Lists.{Lists}
 use Rattle.model_meaning.specs.MapMeaning.{MapRecord, MapMeaning}
+use Rattle.model_kept.proofs.KeptLemmas.{kept_idle}
 use Rattle.model_store.specs.Safe.{Safe}
 use Rattle.model_store.specs.Settled.{IsSettled, IsSettledFor, Leaves}
 use Rattle.model_store.proofs.SettledLemmas.{settled_safe}
-use Rattle.list_machine.specs.Run.{EventPart, First, ReadsPiece, Unpins, RunEvent, event_of, Run, and_then, own_events}
+use Rattle.list_machine.specs.Run.{EventPart, First, ReadsPiece, Unpins, RunEvent, event_of, Run, and_then, is_one_of, own_events}
 use Rattle.list_machine.specs.Machine.{PartAnswers, first_refusal, part_checks, is_step}
 use Rattle.journal.specs.Journal.{halves_of, IsReplyOf}
 use Rattle.journal.specs.Events.{Around, DidPart, IsRecord, MayMeet, next_part, behind_event, piece_left, plain, IsRepliedBy, is_step_part, makes_step, begun_in, ended_in, pieces_to_read}
 use Rattle.journal.specs.Makes.{HasCome, Makes}
 use Rattle.journal.proofs.RunLemmas.{comes_on}
 use Rattle.task_steps.specs.Step.{Seen, ShowsSeen, HasComeTo, Leads, IsFault, DidEvent, HasNotBegun, pins_of, and_told}
-use Rattle.task_steps.proofs.SeenLemmas.{comes_to_still, no_guids, doomed_still, used_still, given_still, gone_still, file_still_known, placed_still}
+use Rattle.task_steps.proofs.SeenLemmas.{comes_to_still, no_guids, doomed_still, used_still, given_still, gone_still, file_still_known, placed_still, there_before}
+use Rattle.task_steps.proofs.UnmovedLemmas.{mail_still}
 use Rattle.task_steps.proofs.OneEventLemmas.{next_first, step_may, refusal_last, some_refusal, one_refusal, some_given, no_step, nothing, first_reply, still_faults}
 use Rattle.mail_fetch.specs.Events.{NoChangeFault}
 
@@ -69,9 +71,9 @@ sum_push f xs x = let h = sum_by-append f xs (x ∷ []) in let k = sum_by-cons f
 
 -- A run comes on with an event that may pin or unpin, and does nothing else.
 pub comes_with_pins : (run : Run) (event : RunEvent) (old : Seen) (history : Option History) (faults : Faults) (pins : ℕ → ℕ) → HasComeTo run old → HasCome (and_then run event) old.map old.drawn (told_calls history)
-    → ((uid : ℕ) → begun_in uid event ≡ ended_in uid event) → event.doomed ≡ [] → event.removed ≡ [] → event.given ≡ [] → event.placed ≡ [] → event.gone ≡ [] → (old.stopped ≡ false → (file : ℕ) → pins_of (and_then run event) file ≡ pins file)
+    → ((uid : ℕ) → begun_in uid event ≡ ended_in uid event) → event.made ≡ [] → event.doomed ≡ [] → event.removed ≡ [] → event.given ≡ [] → event.placed ≡ [] → event.gone ≡ [] → (old.stopped ≡ false → (file : ℕ) → pins_of (and_then run event) file ≡ pins file)
     → HasComeTo (and_then run event) (behind_reading old history faults pins)
-comes_with_pins run event old history faults pins h come due doomed removed given placed gone pinned = record {
+comes_with_pins run event old history faults pins h come due made doomed removed given placed gone pinned = record {
   come = come;
   keeps = λ runs.
       let k = h.keeps runs in
@@ -85,6 +87,7 @@ comes_with_pins run event old history faults pins h come due doomed removed give
         pins = pinned runs;
         doomed = λ file. doomed_still run event file doomed removed ∙ k.doomed file;
         instances = λ instance. placed_still run event instance placed gone ∙ k.instances instance;
+        files = λ file unsealed known. by_maker file (there_before run event old file k removed unsealed known);
       };
   used = λ file e. h.used file (sym (used_still run event file doomed removed) ∙ e);
   barred = h.barred;
@@ -92,6 +95,10 @@ comes_with_pins run event old history faults pins h come due doomed removed give
   gone = λ instance e. h.gone instance (sym (gone_still run event instance gone) ∙ e);
   files = λ file e. file_still_known run event file removed (h.files file e);
 }
+  where
+    by_maker : (file : ℕ) → (old.files file ≡ true) ⊎ (is_one_of event.made file ≡ true) → old.files file ≡ true
+    by_maker file (inl there) = there
+    by_maker file (inr is) = absurd (let k : false ≡ true = ap (λ (files : List ℕ). is_one_of files file) (sym made) ∙ is in cc k)
 
 -- ---- what an event is, beside what it did
 
@@ -169,10 +176,11 @@ did_pin around after run lane place said name uid lists old history faults pins 
     shown = shows;
     makes = pin_makes around after run lane place name uid lists old.map old.drawn (told_calls old.history) (told_calls history) entry octets come.come (idle_grows old.history history idle) stage.0 is_record answers;
     found = tt;
-    come = comes_with_pins run event old history faults pins come (comes_on run event old.map old.drawn (told_calls old.history) come.come (idle_grows old.history history idle) refl refl) (λ other. refl) refl refl refl refl refl pinned;
+    come = comes_with_pins run event old history faults pins come (comes_on run event old.map old.drawn (told_calls old.history) come.come (idle_grows old.history history idle) refl refl) (λ other. refl) refl refl refl refl refl refl pinned;
     gives = no_guids run event refl;
     went = (refl, refl, runs, idle_leads lists old history faults pins idle);
     grows = idle_grows old.history history idle;
+    mail = kept_idle old.map old.history history idle;
     ends = record {
       in_turn = λ some. in_turn name uid said stage.1;
       replied = λ given e. absurd (no_reply given e);
@@ -273,6 +281,7 @@ did_refuse around after run lane place said name uid lists seen why come shows s
   gives = no_guids run event refl;
   went = (refl, refl, runs, nothing lists seen);
   grows = omega arith;
+  mail = mail_still seen.map seen.history;
   ends = record {
     in_turn = λ some. in_turn name uid said stage.1;
     replied = first_reply (request.Fetch name uid) said (Some (reply.Refused why)) (reply.Refused why) stage.1 is;
@@ -300,6 +309,7 @@ did_nothing around after run lane place said name uid lists seen why come shows 
   gives = no_guids run event refl;
   went = (refl, refl, nothing lists seen);
   grows = omega arith;
+  mail = mail_still seen.map seen.history;
   ends = record {
     in_turn = λ some. absurd (let k : false ≡ true = some in cc k);
     replied = first_reply (request.Fetch name uid) said None (reply.Refused why) stage.1 is;
@@ -389,10 +399,11 @@ did_late around after run lane place said name uid lists old history faults pins
     shown = shows;
     makes = late_makes around after run lane place name uid lists old.map old.drawn (told_calls old.history) (told_calls history) part refused ended late come.come (idle_grows old.history history idle) next unstep may ends replied;
     found = tt;
-    come = comes_with_pins run event old history faults pins come (comes_on run event old.map old.drawn (told_calls old.history) come.come (idle_grows old.history history idle) refl refl) (λ other. refl) refl refl refl refl refl pinned;
+    come = comes_with_pins run event old history faults pins come (comes_on run event old.map old.drawn (told_calls old.history) come.come (idle_grows old.history history idle) refl refl) (λ other. refl) refl refl refl refl refl refl pinned;
     gives = no_guids run event refl;
     went = (refl, refl, idle_leads lists old history faults pins idle);
     grows = idle_grows old.history history idle;
+    mail = kept_idle old.map old.history history idle;
     ends = record {
       in_turn = λ some. absurd (let k : false ≡ true = some in cc k);
       replied = given;

@@ -175,9 +175,9 @@ first_pinned around after name uid store history faults row entry end is runs st
     let found : record_of store.map shown.message.guid ≡ Some entry = by_guid store.map row.map_uid entry shown.message.guid (store_is_sound history store is) stored.stored (stored.same ∙ guid) in
     let event = pin_event lane place entry.file (pieces_to_read entry) entry.instances (told_calls history) in
     let unpinned : has_unpinned place run ≡ false = ap (λ (es : List RunEvent). list_any is_unpinning es) stood.0 in
-    subst (λ (s : Seen). (d : DidEvent around after run lane place said (request.Fetch name uid) lists seen s (did.Step half.Whole) None) × (◌≡◌ {A = Option Reply} None None → IsAtFetch (stage.Reading (unread from)) s (and_then run d.makes.event) place (and_told said d.makes.answer))) (sym new_is)
+    subst (λ (s : Seen). (d : DidEvent around after run lane place said (request.Fetch name uid) lists seen s (did.Step half.Whole) None) × (◌≡◌ {A = Option Reply} None None → IsAtFetch (stage.Reading (unread from)) s.stopped s.history (and_then run d.makes.event) place (and_told said d.makes.answer))) (sym new_is)
     (stands_so around after run lane place said (request.Fetch name uid) lists seen new (did.Step half.Whole) None event (Some (reply.Fetched shown.message.octets))
-    (IsAtFetch (stage.Reading (unread from)) new)
+    (IsAtFetch (stage.Reading (unread from)) new.stopped new.history)
     (did_pin around after run lane place said name uid lists seen history faults pins entry shown.message.octets come shows stood runs (idle-begins history) (record { reads = omega arith; changes = refl })
     (shown.message, shown.there, ap (λ (m : MapMeaning). record_of m shown.message.guid) come.come.map_is ∙ found)
     (λ e. is_fetched run e store.map.boxes (indexes_of store.boxes) lists name uid stored.mailbox row shows.1 stored.named shown)
@@ -364,7 +364,7 @@ piece_more around after name uid region store disk history then_history faults t
     let seen = seen_in store history faults in
     let new = seen_in (record store { disk = disk }) then_history then_faults in
     let event = fetch_event ReadsPiece lane place None None (told_calls then_history) in
-    stands_so around after run lane place said (request.Fetch name uid) lists seen new did.Quiet None event None (IsAtFetch (stage.Reading (with_piece region piece)) new)
+    stands_so around after run lane place said (request.Fetch name uid) lists seen new did.Quiet None event None (IsAtFetch (stage.Reading (with_piece region piece)) new.stopped new.history)
     (read_did around after run lane place said name uid lists seen then_history then_faults region None come shows idle none runs stood.0 left.0 tt (λ e. absurd (let k : None ≡ Some refusal.ReadFault = e in cc k)))
     (λ goes_on. (
       (
@@ -384,7 +384,7 @@ piece_last around after name uid region store disk history then_history faults t
     let seen = seen_in store history faults in
     let new = seen_in (record store { disk = disk }) then_history then_faults in
     let event = fetch_event ReadsPiece lane place (Some why) None (told_calls then_history) in
-    stands_so around after run lane place said (request.Fetch name uid) lists seen new did.Quiet None event None (IsAtFetch (stage.Unpinning region.from given) new)
+    stands_so around after run lane place said (request.Fetch name uid) lists seen new did.Quiet None event None (IsAtFetch (stage.Unpinning region.from given) new.stopped new.history)
     (read_did around after run lane place said name uid lists seen then_history then_faults region (Some why) come shows idle none runs stood.0 left.0 may (λ e. rose (let k : why ≡ refusal.ReadFault = cc e in k)))
     (λ goes_on. (
       inr (
@@ -408,7 +408,7 @@ piece_whole around after name uid region store disk history then_history faults 
     let seen = seen_in store history faults in
     let new = seen_in (record store { disk = disk }) then_history then_faults in
     let event = fetch_event ReadsPiece lane place None None (told_calls then_history) in
-    stands_so around after run lane place said (request.Fetch name uid) lists seen new did.Quiet None event None (IsAtFetch (stage.Unpinning region.from given) new)
+    stands_so around after run lane place said (request.Fetch name uid) lists seen new did.Quiet None event None (IsAtFetch (stage.Unpinning region.from given) new.stopped new.history)
     (read_did around after run lane place said name uid lists seen then_history then_faults region None come shows idle none runs stood.0 left.0 tt (λ e. absurd (let k : None ≡ Some refusal.ReadFault = e in cc k)))
     (λ goes_on. (
       inl (
@@ -480,7 +480,7 @@ unpin_steps around after name uid from given store history faults runs undoomed 
     let pin = holds_pin from given place run stood.0 in
     let own_still : All (λ e. All (λ p. p.file ≡ from.file.0) e.pins) (own_events place (and_then run event)) =
     subst (All (λ e. All (λ p. p.file ≡ from.file.0) e.pins)) (sym (own_more place run event (eq-eqb place place refl))) (All-push (λ (e : RunEvent). All (λ (p : Pin). p.file ≡ from.file.0) e.pins) (own_events place run) event (own_files from given place run stood.0) (All-nil (λ (p : Pin). p.file ≡ from.file.0))) in
-    subst (λ (s : Seen). (d : DidEvent around after run lane place said (request.Fetch name uid) lists seen s did.Quiet (Some given)) × (Some given ≡ None → IsAtFetch stage.First s (and_then run d.makes.event) place (and_told said d.makes.answer))) (sym new_is) (
+    subst (λ (s : Seen). (d : DidEvent around after run lane place said (request.Fetch name uid) lists seen s did.Quiet (Some given)) × (Some given ≡ None → IsAtFetch stage.First s.stopped s.history (and_then run d.makes.event) place (and_told said d.makes.answer))) (sym new_is) (
       (did_late around after run lane place said name uid lists seen history faults pins Unpins None (Some given) (unpin_is_late name uid) come shows (idle-begins history) (record { reads = omega arith; changes = refl }) (next_unpins around name uid run place from given stood.0) tt tt
           (record { 0 = λ h. ends_here (leaves_doomed place (and_then run event)) (none_doomed place from.file.0 (and_then run event) own_still (doomed_still run event from.file.0 refl refl ∙ ((come.keeps runs).doomed from.file.0 ∙ undoomed))); 1 = λ e f. some_given given f })
           (last_with (own_events place run) event ∙ (none_or (last_refusal (own_events place run)) ∙ unpins_by from given (own_events place run) stood.0))
@@ -499,11 +499,11 @@ unpin_steps around after name uid from given store history faults runs undoomed 
 
 -- ---- the stages stay
 
-pub fetch_stays : (now : FetchStage) (seen : Seen) → IsKept (IsAtFetch now seen)
-fetch_stays stage.First seen = not_begun_stays
-fetch_stays (stage.Reading region) seen = λ run place said event other gives stood.
+pub fetch_stays : (now : FetchStage) (stopped : Bool) (history : Option History) → IsKept (IsAtFetch now stopped history)
+fetch_stays stage.First stopped history = not_begun_stays
+fetch_stays (stage.Reading region) stopped history = λ run place said event other gives stood.
     let same = own_other place run event (ne_eqb event.request place other) in
     (subst (HasReadAllBut region.from (pieces_left region.left)) (sym same) stood.0, stood.1)
-fetch_stays (stage.Unpinning from given) seen = λ run place said event other gives stood.
+fetch_stays (stage.Unpinning from given) stopped history = λ run place said event other gives stood.
     let same = own_other place run event (ne_eqb event.request place other) in
     (subst (UnpinsNext from given) (sym same) stood.0, stood.1)

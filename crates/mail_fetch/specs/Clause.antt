@@ -37,7 +37,7 @@ StepsOnSafe Stood Stands around after request old new did ended =
 -- It is so of a fetch that came from one stage to another, as a store is seen that has these pins.
 abbrev pub FetchSteps : {D : Type 0} → Around → Around → List ℕ → Uid → FetchStage → FetchStage → StoreValue D → StoreValue D → Option History → Option History → Faults → Faults → Did → Option Reply → Type 0
 FetchSteps around after name uid now next old new before later began faults did ended =
-    StepsOnSafe (IsAtFetch now (seen_in old before began)) (IsAtFetch next (seen_in new later faults)) around after (request.Fetch name uid) (seen_in old before began) (seen_in new later faults) did ended
+    StepsOnSafe (IsAtFetch now old.stopped before) (IsAtFetch next new.stopped later) around after (request.Fetch name uid) (seen_in old before began) (seen_in new later faults) did ended
 
 -- What an event says beside this. How it answers, over every disk, and what it did. The store is what the event made of it, but for
 -- its disk, of which nothing has changed, and no change was tried. No read failed, unless the task will reply so. Where the store

@@ -1,5 +1,5 @@
 -- Where a fetch stands in a run.
-use Rattle.std.specs.Prelude.{◌≡◌, ◌+◌, ◌⊎◌, ℕ, false, List, [], ◌∷◌, ◌++◌, length, Option, Some, None, All}
+use Rattle.std.specs.Prelude.{◌≡◌, ◌+◌, ◌⊎◌, ℕ, Bool, false, List, [], ◌∷◌, ◌++◌, length, Option, Some, None, All}
 use Rattle.disk_model.specs.Disk.{Files, History}
 use Rattle.mdbox_base.specs.declared.replies.Refusal.{Refusal}
 use Rattle.mdbox_base.specs.declared.replies.Refusal.TheVariants as refusal
@@ -12,7 +12,7 @@ use Rattle.model_store.specs.Settled.{files_of}
 use Rattle.model_store.specs.Stands.{StoresMessage}
 use Rattle.list_machine.specs.Run.{First, ReadsPiece, RunEvent, Run, own_events}
 use Rattle.journal.specs.Journal.{refusal_in}
-use Rattle.task_steps.specs.Step.{Seen, HasNotBegun}
+use Rattle.task_steps.specs.Step.{HasNotBegun}
 use Rattle.mail_fetch.specs.Parts.{parts_to_read, parts_read, pieces_left}
 use Rattle.mail_fetch.specs.Region.{RegionValue, stored_at}
 use Rattle.mail_fetch.specs.declared.parts.StoredAt.{StoredAt}
@@ -75,12 +75,12 @@ IsTrueReply octets given = (given ≡ reply.Fetched octets) ⊎ (given ≡ reply
 
 -- ---- the stages
 
--- Where the task stands, as a store is seen: what is true of the run, for the place of its request, and of the answers of its
--- steps. The first event has answered the octets of the message as it was listed then, and the disk still stores them, unless the
--- store is stopped.
-abbrev pub IsAtFetch : FetchStage → Seen → Run → ℕ → List Reply → Type 0
-IsAtFetch stage.First seen run place said = HasNotBegun run place said
-IsAtFetch (stage.Reading region) seen run place said =
-    HasReadAllBut region.from (pieces_left region.left) (own_events place run) × ((octets : List ℕ) × (said ≡ reply.Fetched octets ∷ []) × (seen.stopped ≡ false → Reading (IsFrontOfStored region octets) seen.history))
-IsAtFetch (stage.Unpinning from given) seen run place said =
+-- Where the task stands, by whether the store is stopped and by what its disk tells: what is true of the run, for the place of its
+-- request, and of the answers of its steps. The first event has answered the octets of the message as it was listed then, and the disk
+-- still stores them, unless the store is stopped.
+abbrev pub IsAtFetch : FetchStage → Bool → Option History → Run → ℕ → List Reply → Type 0
+IsAtFetch stage.First stopped history run place said = HasNotBegun run place said
+IsAtFetch (stage.Reading region) stopped history run place said =
+    HasReadAllBut region.from (pieces_left region.left) (own_events place run) × ((octets : List ℕ) × (said ≡ reply.Fetched octets ∷ []) × (stopped ≡ false → Reading (IsFrontOfStored region octets) history))
+IsAtFetch (stage.Unpinning from given) stopped history run place said =
     UnpinsNext from given (own_events place run) × ((octets : List ℕ) × (said ≡ reply.Fetched octets ∷ []) × IsTrueReply octets given)

@@ -1,6 +1,6 @@
 // Laws of fetches.
-ghost use Rattle.std.specs.Prelude.{◌≡◌, ◌≢◌, ◌≤◌, ℕ, false, List, All, Option, length};
-ghost use Rattle.disk_model.specs.Disk.{Faults, Files, History};
+ghost use Rattle.std.specs.Prelude.{◌≡◌, ◌≢◌, ◌≤◌, ℕ, Bool, false, List, All, Option, length};
+ghost use Rattle.disk_model.specs.Disk.{Files, History};
 ghost use Rattle.model_meaning.specs.BoxMeaning.{LogRow};
 ghost use Rattle.model_meaning.specs.MapMeaning.{MapRecord};
 ghost use Rattle.model_store.specs.Safe.{IsThereWhole};
@@ -11,17 +11,16 @@ ghost use Rattle.store_core.specs.Value.{StoreValue};
 ghost use Rattle.mdbox_base.specs.declared.ids.InstId.{InstId};
 ghost use Rattle.task_claims.specs.Claims.{Held, Pinned};
 ghost use Rattle.task_claims.specs.Stable.{Beside, IsStable};
-ghost use Rattle.task_steps.specs.Step.{Seen, IsKept};
+ghost use Rattle.task_steps.specs.Step.{IsKept};
 ghost use Rattle.mail_fetch.specs.Claims.{IsReadyToFetch, ReadsStored, fetch_claims};
 ghost use Rattle.mail_fetch.specs.Parts.{parts_to_read, parts_read};
 ghost use Rattle.mail_fetch.specs.Region.{stored_at, HoldsWhole};
 ghost use Rattle.mail_fetch.specs.Stages.{IsAtFetch};
-ghost use Rattle.mail_fetch.specs.Task.{seen_in};
 ghost use Rattle.mail_fetch.specs.declared.task.FetchStage.{FetchStage};
 
 /// The stages of a fetch are kept by every event of another request.
 pub fn fetch_stages_are_kept()
-    ensures { (stage : FetchStage) (seen : Seen) → IsKept (IsAtFetch stage seen) }
+    ensures { (stage : FetchStage) (stopped : Bool) (history : Option History) → IsKept (IsAtFetch stage stopped history) }
 {}
 
 /// Where files store a message of the size that its mailbox tells, and have its instances with their sizes, what they have at the
@@ -46,6 +45,6 @@ pub fn fetches_claim_few<D>()
 /// Beside an event of another request, that is of any other task, a fetch that is ready stands where it stood. Nothing is asked of the
 /// task that stopped the store, or found it stopped.
 pub fn fetches_stay_beside<D>()
-    ensures { (now : FetchStage) (old new : StoreValue D) (before later : Option History) (began faults : Faults) (run : Run) (event : RunEvent) (place : ℕ) (said : List Reply) → event.request ≢ place → (new.stopped ≡ false → old.stopped ≡ false) → (new.stopped ≡ false → Beside (fetch_claims now) old new before later × IsReadyToFetch now old)
-        → IsAtFetch now (seen_in old before began) run place said → IsAtFetch now (seen_in new later faults) (and_then run event) place said }
+    ensures { (now : FetchStage) (old new : StoreValue D) (before later : Option History) (run : Run) (event : RunEvent) (place : ℕ) (said : List Reply) → event.request ≢ place → (new.stopped ≡ false → old.stopped ≡ false) → (new.stopped ≡ false → Beside (fetch_claims now) old new before later × IsReadyToFetch now old)
+        → IsAtFetch now old.stopped before run place said → IsAtFetch now new.stopped later (and_then run event) place said }
 {}

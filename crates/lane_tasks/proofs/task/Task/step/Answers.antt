@@ -1,11 +1,19 @@
-use Rattle.std.proofs.Common.{sym, subst}
+use Rattle.std.proofs.Common.{◌≡◌, ◌<◌, Bool, true, false, sym, ◌∙◌, ap, subst}
+use Rattle.std.specs.Prelude.{◌↔◌}
+use Rattle.mdbox_base.specs.declared.progress.Progress.{Progress}
+use Rattle.mdbox_base.specs.declared.progress.Progress.TheVariants as progress
+use Rattle.mdbox_base.specs.declared.replies.Refusal.TheVariants as refusal
+use Rattle.mdbox_base.specs.declared.replies.Reply.TheVariants as reply
+use Rattle.store_core.specs.Value.{StoreValue}
+use Rattle.task_claims.specs.Claims.{MovesClaims}
 use Rattle.task_claims.specs.Leaving.{LeavesOthers}
 use Rattle.task_steps.specs.Step.{ended_by}
 use Rattle.lane_tasks.specs.Clause.{StepsTask}
-use Rattle.lane_tasks.specs.Tasks.{claims_at}
+use Rattle.lane_tasks.specs.Tasks.{claims_at, work_left}
 use Rattle.lane_tasks.specs.declared.task.Task.{Task}
 use Rattle.lane_tasks.specs.declared.task.Task.TheVariants as task
-use Rattle.lane_tasks.proofs.StepLemmas.{copy_does, counts_does, expunge_does, make_does, move_does, ops_asked, ops_does}
+use Rattle.mail_fetch.proofs.StageLemmas.{used_runs}
+use Rattle.lane_tasks.proofs.StepLemmas.{copy_does, counts_does, deliver_does, expunge_does, fetch_does, make_does, make_fewer, make_numbered, move_does, ops_asked, ops_does, ran_before, still_runs, unpins_undoomed, use_room}
 use Rattle.lane_tasks.proofs.task.Task.step.Goals as goal
 
 pub returns-in-Ops-clause-does : goal.returns-in-Ops-clause-does
@@ -45,3 +53,49 @@ returns-in-Make-clause-leaves g c = λ runs.
 pub returns-in-Expunge-clause-leaves : goal.returns-in-Expunge-clause-leaves
 returns-in-Expunge-clause-leaves g c = λ runs.
     subst (λ (t : Task). LeavesOthers (claims_at t) c.args.store.now c.step-in-Expunge.new.store (g.D.Disk.history c.args.store.now.disk) (g.D.Disk.history c.step-in-Expunge.new.store.disk)) (sym c.in-Expunge.is) (c.step-in-Expunge.ensures.leaves runs)
+
+-- a make that goes on ran in a store that runs
+make_ran : {D : Type 0} → (old new : StoreValue D) (answer : Progress) → ((answer ≡ progress.Done (reply.Refused refusal.Stopped)) ↔ (new.stopped ≡ true)) → (old.stopped ≡ true → new ≡ old) → answer ≡ progress.More → old.stopped ≡ false
+make_ran old new answer halts still more = by_test new.stopped refl
+  where
+    by_test : (b : Bool) → new.stopped ≡ b → old.stopped ≡ false
+    by_test true is = absurd (let k : progress.More ≡ progress.Done (reply.Refused refusal.Stopped) = sym more ∙ halts.1 is in cc k)
+    by_test false is = ran_before old.stopped new.stopped (λ stopped. ap (λ (s : StoreValue _). s.stopped) (still stopped) ∙ stopped) is
+
+pub returns-in-Make-clause-ready : goal.returns-in-Make-clause-ready
+returns-in-Make-clause-ready g c = λ more runs.
+    let step = c.step-in-Make.ensures in
+    let ran = make_ran c.args.store.now c.step-in-Make.new.store c.step-in-Make.result step.stopped (λ stopped. (step.still stopped).0) more in
+    (step.ready runs, make_numbered c.in-Make.task.name c.in-Make.task.stage c.step-in-Make.new.self.stage c.args.store.now c.step-in-Make.new.store _ _ c.step-in-Make.result (step.replies ran) more)
+
+pub returns-in-Make-clause-left : goal.returns-in-Make-clause-left
+returns-in-Make-clause-left g c = λ more.
+    let step = c.step-in-Make.ensures in
+    let ran = make_ran c.args.store.now c.step-in-Make.new.store c.step-in-Make.result step.stopped (λ stopped. (step.still stopped).0) more in
+    subst (λ (t : Task). work_left (task.Make c.step-in-Make.new.self) c.step-in-Make.new.store < work_left t c.args.store.now) (sym c.in-Make.is)
+    (make_fewer c.in-Make.task.name c.in-Make.task c.step-in-Make.new.self c.args.store.now c.step-in-Make.new.store _ _ c.step-in-Make.result (step.replies ran) more (step.left more))
+
+-- ---- a fetch
+
+pub step-in-Fetch-requires-clause-room : goal.step-in-Fetch-requires-clause-room
+step-in-Fetch-requires-clause-room g c = λ runs. use_room c.in-Fetch.task.stage c.args.store.now (c.requires.room runs).uses
+
+pub returns-in-Fetch-clause-does : goal.returns-in-Fetch-clause-does
+returns-in-Fetch-clause-does g c =
+    subst (λ (t : Task). StepsTask t (task.Fetch c.step-in-Fetch.new.self) c.args.store.now c.step-in-Fetch.new.store (g.D.Disk.history c.args.store.now.disk) (g.D.Disk.history c.step-in-Fetch.new.store.disk) (g.D.Disk.faults c.args.store.now.disk) (g.D.Disk.faults c.step-in-Fetch.new.store.disk) (ended_by c.step-in-Fetch.result)) (sym c.in-Fetch.is)
+    (fetch_does c.in-Fetch.task c.step-in-Fetch.new.self c.args.store.now c.step-in-Fetch.new.store (g.D.Disk.history c.args.store.now.disk) (g.D.Disk.history c.step-in-Fetch.new.store.disk) (g.D.Disk.faults c.args.store.now.disk) (g.D.Disk.faults c.step-in-Fetch.new.store.disk) (ended_by c.step-in-Fetch.result) c.step-in-Fetch.ensures.request
+    (λ runs. unpins_undoomed c.in-Fetch.task.stage c.args.store.now (c.requires.room runs).undoomed) c.step-in-Fetch.ensures.does)
+
+-- a store that runs after an event of a fetch ran before it
+pub returns-in-Fetch-clause-claims : goal.returns-in-Fetch-clause-claims
+returns-in-Fetch-clause-claims g c = λ runs.
+    let ran = used_runs c.in-Fetch.task.stage c.step-in-Fetch.new.self.stage c.args.store.now c.step-in-Fetch.new.store c.step-in-Fetch.ensures.alone.same runs in
+    subst (λ (t : Task). MovesClaims (claims_at t) (claims_at (task.Fetch c.step-in-Fetch.new.self)) c.args.store.now c.step-in-Fetch.new.store) (sym c.in-Fetch.is)
+    (c.step-in-Fetch.ensures.claims runs (unpins_undoomed c.in-Fetch.task.stage c.args.store.now (c.requires.room ran).undoomed))
+
+pub returns-in-Fetch-clause-leaves : goal.returns-in-Fetch-clause-leaves
+returns-in-Fetch-clause-leaves g c = λ runs.
+    subst (λ (t : Task). LeavesOthers (claims_at t) c.args.store.now c.step-in-Fetch.new.store (g.D.Disk.history c.args.store.now.disk) (g.D.Disk.history c.step-in-Fetch.new.store.disk)) (sym c.in-Fetch.is) (c.step-in-Fetch.ensures.leaves runs)
+
+pub returns-in-Fetch-clause-ready : goal.returns-in-Fetch-clause-ready
+returns-in-Fetch-clause-ready g c = λ more runs. c.step-in-Fetch.ensures.alone.ready runs
