@@ -1,14 +1,16 @@
 // A task of any kind.
-ghost use Rattle.std.specs.Prelude.{◌≡◌, ◌≤◌, ◌<◌, ℕ, false, List, length};
+ghost use Rattle.std.specs.Prelude.{◌≡◌, ◌≤◌, ◌<◌, ◌↔◌, ℕ, true, false, List, length};
 ghost use Rattle.attach_detach.specs.Prepared.{IsPrepared};
 ghost use Rattle.mdbox_base.specs.declared.progress.Progress.TheVariants as progress;
+ghost use Rattle.mdbox_base.specs.declared.replies.Refusal.TheVariants as refusal;
 ghost use Rattle.mdbox_base.specs.declared.replies.Reply.{Reply};
+ghost use Rattle.mdbox_base.specs.declared.replies.Reply.TheVariants as reply;
 ghost use Rattle.mdbox_base.specs.declared.requests.Request.{Request as RequestValue};
 ghost use Rattle.mdbox_base.specs.declared.requests.Request.TheVariants as request;
 ghost use Rattle.task_claims.specs.Claims.{ClaimsNothing, MovesClaims};
 ghost use Rattle.task_claims.specs.Leaving.{LeavesOthers};
 ghost use Rattle.task_steps.specs.Step.{ended_by};
-ghost use Rattle.lane_tasks.specs.Clause.{HasTaskRoom, StepsTask};
+ghost use Rattle.lane_tasks.specs.Clause.{DoomsNothing, HasTaskRoom, StepsTask};
 ghost use Rattle.lane_tasks.specs.Tasks.{BeginsTask, HasTask, IsReadyTask, IsTaskOf, claims_at, did_of, work_left};
 
 use attach_detach::Prepared;
@@ -100,6 +102,11 @@ impl Task {
         ensures claims { store.new.stopped ≡ false → MovesClaims (claims_at self.old) (claims_at self.new) store.old store.new }
         ensures leaves { store.new.stopped ≡ false → LeavesOthers (claims_at self.old) store.old store.new (D.history store.old.disk) (D.history store.new.disk) }
         ensures ended { (given : Reply) → result ≡ progress.Done given → store.new.stopped ≡ false → ClaimsNothing (claims_at self.new) }
+
+        // Exactly a stopped store answers so, which stays stopped; and no event dooms a storage file.
+        ensures stopped { (result ≡ progress.Done (reply.Refused refusal.Stopped)) ↔ (store.new.stopped ≡ true) }
+        ensures halted { store.old.stopped ≡ true → store.new.stopped ≡ true }
+        ensures undoomed { store.new.stopped ≡ false → DoomsNothing store.old → DoomsNothing store.new }
 
         // So it ends. It stays of its request.
         ensures left { result ≡ progress.More → work_left self.new store.new < work_left self.old store.old }
