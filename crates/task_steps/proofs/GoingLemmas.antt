@@ -37,7 +37,7 @@ use Rattle.model_store.specs.Settled.{Leaves, IsSettled, IsSettledFor}
 use Rattle.mdbox_base.specs.declared.progress.Did.{Did}
 use Rattle.mdbox_base.specs.declared.progress.Did.TheVariants as did
 use Rattle.task_steps.proofs.UnmovedLemmas.{mail_on}
-use Rattle.task_steps.specs.Serves.{IsReached, NoneMoved, NoneStopped, WasAt, AreTimely, Serves, IsTurn}
+use Rattle.task_steps.specs.Serves.{BreaksBy, IsReached, NoneMoved, NoneStopped, WasAt, AreTimely, Serves, IsTurn}
 
 -- ---- what an event adds to the journal
 
@@ -282,9 +282,9 @@ record Told (start : Lists) (script : Requests) (run : Run) (journal : List Jour
   pub moments : All (λ e. e.moment ≤ told_calls now.history) run.events
 
 -- the run goes on from one with this journal and these broken steps, and what the broken ones would have done follows too
-abbrev Going : Lists → Requests → Run → List JournalStep → Broken → Run → List JournalStep → List (Option Reply) → Seen → Seen → Type 0
-Going start script old steps before run journal replies began new =
-    (broken : Broken) × Serves start script run journal broken replies began new × (WouldDo script start old steps before → WouldDo script start run journal broken)
+abbrev Going : Lists → Requests → Run → List JournalStep → Broken → Run → List JournalStep → List (Option Reply) → Seen → Seen → Did → RunEvent → ℕ → Type 0
+Going start script old steps before run journal replies began new how event at =
+    (broken : Broken) × Serves start script run journal broken replies began new × (WouldDo script start old steps before → WouldDo script start run journal broken) × BreaksBy how old event at before broken
 
 -- no step: the images are safe for the lists that stay
 quiet_images : (start : Lists) (run : Run) (journal : List JournalStep) (broken : Broken) (began now new : Seen) (event : RunEvent) → All (λ s. s.event < length run.events) journal
@@ -396,11 +396,12 @@ falls_so request run lists left event answer now new did.Failed w ran e = w.0.re
 falls_so request run lists left event answer now new (did.Broken half) w ran e = w.0.refused
 
 quiet_on : (start : Lists) (script : Requests) (run : Run) (journal : List JournalStep) (broken : Broken) (replies : List (Option Reply)) (began now new : Seen) (request : Request) (event : RunEvent) (answer : Option Reply) (left : Lists) → Serves start script run journal broken replies began now
-    → Told start script run journal replies began now new request event answer left did.Quiet → answer ≡ None → new.stopped ≡ now.stopped → Leads (left_by start journal) (left_by start journal) now new → Going start script run journal broken (and_then run event) (journal_by run request journal event answer left) replies began new
+    → Told start script run journal replies began now new request event answer left did.Quiet → answer ≡ None → new.stopped ≡ now.stopped → Leads (left_by start journal) (left_by start journal) now new → Going start script run journal broken (and_then run event) (journal_by run request journal event answer left) replies began new did.Quiet event (told_calls now.history)
 quiet_on start script run journal broken replies began now new request event answer left s t none same leads = (
   broken,
   subst (λ (j : List JournalStep). Kept start script (and_then run event) j replies began new → Serves start script (and_then run event) j broken replies began new) (sym (unmade run request journal event answer left none)) all t.kept,
   unmade_would script start run request journal broken event answer left s.within none,
+  refl,
 )
   where
     crash : IsSettledFor start began.history → (b : Bool) → now.stopped ≡ b → EachImage (IsReached start (and_then run event) journal broken) began.history new.history
@@ -435,9 +436,9 @@ quiet_on start script run journal broken replies began now new request event ans
       unrefused = k.unrefused;
     }
 
-step_on : (start : Lists) (script : Requests) (run : Run) (journal : List JournalStep) (broken : Broken) (replies : List (Option Reply)) (began now new : Seen) (request : Request) (event : RunEvent) (answer : Option Reply) (left : Lists) (how : Did) → Serves start script run journal broken replies began now
-    → Told start script run journal replies began now new request event answer left how → is_some answer ≡ true → new.stopped ≡ false → now.stopped ≡ false → Leads (left_by start journal) left now new → Going start script run journal broken (and_then run event) (journal_by run request journal event answer left) replies began new
-step_on start script run journal broken replies began now new request event answer left how s t some runs ran leads = (
+step_on : (start : Lists) (script : Requests) (run : Run) (journal : List JournalStep) (broken : Broken) (replies : List (Option Reply)) (began now new : Seen) (request : Request) (event : RunEvent) (answer : Option Reply) (left : Lists) (half : Half) → Serves start script run journal broken replies began now
+    → Told start script run journal replies began now new request event answer left (did.Step half) → is_some answer ≡ true → new.stopped ≡ false → now.stopped ≡ false → Leads (left_by start journal) left now new → Going start script run journal broken (and_then run event) (journal_by run request journal event answer left) replies began new (did.Step half) event (told_calls now.history)
+step_on start script run journal broken replies began now new request event answer left half s t some runs ran leads = (
   no_broken,
   record {
     legal = t.kept.legal;
@@ -462,14 +463,16 @@ step_on start script run journal broken replies began now new request event answ
     unrefused = t.kept.unrefused;
   },
   λ d. none_would script start (and_then run event) (journal_by run request journal event answer left),
+  sym (s.unbroken ran),
 )
 
 failed_on : (start : Lists) (script : Requests) (run : Run) (journal : List JournalStep) (broken : Broken) (replies : List (Option Reply)) (began now new : Seen) (request : Request) (event : RunEvent) (answer : Option Reply) (left : Lists) → Serves start script run journal broken replies began now
-    → Told start script run journal replies began now new request event answer left did.Failed → Fell event answer now new → Stops (left_by start journal) (left_by start journal) now new → Going start script run journal broken (and_then run event) (journal_by run request journal event answer left) replies began new
+    → Told start script run journal replies began now new request event answer left did.Failed → Fell event answer now new → Stops (left_by start journal) (left_by start journal) now new → Going start script run journal broken (and_then run event) (journal_by run request journal event answer left) replies began new did.Failed event (told_calls now.history)
 failed_on start script run journal broken replies began now new request event answer left s t f stops = (
   broken,
   subst (λ (j : List JournalStep). Kept start script (and_then run event) j replies began new → Serves start script (and_then run event) j broken replies began new) (sym (unmade run request journal event answer left f.unanswered)) all t.kept,
   unmade_would script start run request journal broken event answer left s.within f.unanswered,
+  refl,
 )
   where
     all : Kept start script (and_then run event) journal replies began new → Serves start script (and_then run event) journal broken replies began new
@@ -494,14 +497,15 @@ failed_on start script run journal broken replies began now new request event an
       unrefused = k.unrefused;
     }
 
-broken_on : (start : Lists) (script : Requests) (run : Run) (journal : List JournalStep) (broken : Broken) (replies : List (Option Reply)) (began now new : Seen) (lane place : ℕ) (request : Request) (event : RunEvent) (answer : Option Reply) (left : Lists) (how : Did)
-    → slice_get script place ≡ Some (lane, request) → event.lane ≡ lane → event.request ≡ place → IsFault how → Serves start script run journal broken replies began now
-    → Told start script run journal replies began now new request event answer left how → Fell event answer now new → (w : WouldMake run request (left_by start journal) event) → Stops (left_by start journal) w.left now new → Going start script run journal broken (and_then run event) (journal_by run request journal event answer left) replies began new
-broken_on start script run journal broken replies began now new lane place request event answer left how asked on at fault s t f w stops = (
+broken_on : (start : Lists) (script : Requests) (run : Run) (journal : List JournalStep) (broken : Broken) (replies : List (Option Reply)) (began now new : Seen) (lane place : ℕ) (request : Request) (event : RunEvent) (answer : Option Reply) (left : Lists) (half : Half)
+    → slice_get script place ≡ Some (lane, request) → event.lane ≡ lane → event.request ≡ place → half_of request event.part ≡ half → Serves start script run journal broken replies began now
+    → Told start script run journal replies began now new request event answer left (did.Broken half) → Fell event answer now new → (w : WouldMake run request (left_by start journal) event) → Stops (left_by start journal) w.left now new → Going start script run journal broken (and_then run event) (journal_by run request journal event answer left) replies began new (did.Broken half) event (told_calls now.history)
+broken_on start script run journal broken replies began now new lane place request event answer left half asked on at is_half s t f w stops = (
   next,
   subst (λ (j : List JournalStep). Kept start script (and_then run event) j replies began new → Serves start script (and_then run event) j next replies began new) (sym (unmade run request journal event answer left f.unanswered)) all t.kept,
   λ d. subst (λ (j : List JournalStep). WouldDo script start (and_then run event) j next) (sym (unmade run request journal event answer left f.unanswered))
       (would_made script start run journal lane place request event w (told_calls now.history) step asked at refl),
+  (w.would, step, refl, w.lane_is, w.request_is, ap (half_of request) w.part_is ∙ is_half),
 )
   where
     step : JournalStep
@@ -540,7 +544,7 @@ broken_on start script run journal broken replies began now new lane place reque
       mail = k.mail;
       reads = k.reads;
       changes = k.changes;
-      fell = λ e. rose_now began.faults.changes now.faults.changes new.faults.changes s.changes (t.faults.rose fault);
+      fell = λ e. rose_now began.faults.changes now.faults.changes new.faults.changes s.changes (t.faults.rose tt);
       halted = k.halted;
       stopped_by = k.stopped_by;
       unrefused = k.unrefused;
@@ -555,13 +559,13 @@ ran_on now new runs still = by_test now.stopped refl
 
 by_way : (start : Lists) (script : Requests) (run : Run) (journal : List JournalStep) (broken : Broken) (replies : List (Option Reply)) (began now new : Seen) (lane place : ℕ) (request : Request) (event : RunEvent) (answer : Option Reply) (left : Lists) (how : Did)
     → slice_get script place ≡ Some (lane, request) → event.lane ≡ lane → event.request ≡ place → Serves start script run journal broken replies began now
-    → Told start script run journal replies began now new request event answer left how → Went how request run (left_by start journal) left event answer now new → Going start script run journal broken (and_then run event) (journal_by run request journal event answer left) replies began new
+    → Told start script run journal replies began now new request event answer left how → Went how request run (left_by start journal) left event answer now new → Going start script run journal broken (and_then run event) (journal_by run request journal event answer left) replies began new how event (told_calls now.history)
 by_way start script run journal broken replies began now new lane place request event answer left did.Quiet asked on at s t w = quiet_on start script run journal broken replies began now new request event answer left s t w.0 w.1 w.2
 by_way start script run journal broken replies began now new lane place request event answer left (did.Step half) asked on at s t w =
-    step_on start script run journal broken replies began now new request event answer left (did.Step half) s t w.0 w.2 (ran_on now new w.2 t.still) w.3
+    step_on start script run journal broken replies began now new request event answer left half s t w.0 w.2 (ran_on now new w.2 t.still) w.3
 by_way start script run journal broken replies began now new lane place request event answer left did.Failed asked on at s t w = failed_on start script run journal broken replies began now new request event answer left s t w.0 w.1
 by_way start script run journal broken replies began now new lane place request event answer left (did.Broken half) asked on at s t w =
-    broken_on start script run journal broken replies began now new lane place request event answer left (did.Broken half) asked on at tt s t w.0 w.2.0 w.2.1
+    broken_on start script run journal broken replies began now new lane place request event answer left half asked on at w.1 s t w.0 w.2.0 w.2.1
 
 -- a step is made only by a store that runs
 makes_running : (request : Request) (run : Run) (lists left : Lists) (event : RunEvent) (answer : Option Reply) (now new : Seen) (how : Did) → Went how request run lists left event answer now new → is_some answer ≡ true → new.stopped ≡ false
@@ -571,11 +575,12 @@ makes_running request run lists left event answer now new did.Failed w some = ab
 makes_running request run lists left event answer now new (did.Broken half) w some = absurd (fall (is_some answer) some (ap (λ (a : Option Reply). is_some a) w.0.unanswered))
 
 -- A run of events goes on with one more, of any task that does as its clause says, in its turn.
-pub serves_on : (start : Lists) (script : Requests) (run : Run) (journal : List JournalStep) (broken : Broken) (replies : List (Option Reply)) (began now new : Seen) (around after : Around) (lane place : ℕ) (request : Request) (how : Did) (ended : Option Reply) → Serves start script run journal broken replies began now
+pub serves_by : (start : Lists) (script : Requests) (run : Run) (journal : List JournalStep) (broken : Broken) (replies : List (Option Reply)) (began now new : Seen) (around after : Around) (lane place : ℕ) (request : Request) (how : Did) (ended : Option Reply) → Serves start script run journal broken replies began now
     → IsTurn script journal replies lane place request → (d : DidEvent around after run lane place (map (λ s. s.answer) (steps_of place journal)) request (left_by start journal) now new how ended) → IfTold now.history ReadsImage
     → (next : Broken) × Serves start script (and_then run d.makes.event) (journal ++ steps_made run request d.makes.event d.makes.answer d.left) next replies began new
     × (WouldDo script start run journal broken → WouldDo script start (and_then run d.makes.event) (journal ++ steps_made run request d.makes.event d.makes.answer d.left) next)
-serves_on start script run journal broken replies began now new around after lane place request how ended s turn d reads =
+    × BreaksBy how run d.makes.event (told_calls now.history) broken next
+serves_by start script run journal broken replies began now new around after lane place request how ended s turn d reads =
     by_way start script run journal broken replies began now new lane place request d.makes.event d.makes.answer d.left how turn.asked d.makes.lane_is d.makes.request_is s told d.went
   where
     halted : (i : ℕ) → HasReply replies i (reply.Refused refusal.Stopped) → new.stopped ≡ true
@@ -624,3 +629,10 @@ serves_on start script run journal broken replies began now new around after lan
       still = d.ends.still;
       faults = d.ends.faults;
     }
+
+-- The same, but for which steps are broken.
+pub serves_on : (start : Lists) (script : Requests) (run : Run) (journal : List JournalStep) (broken : Broken) (replies : List (Option Reply)) (began now new : Seen) (around after : Around) (lane place : ℕ) (request : Request) (how : Did) (ended : Option Reply) → Serves start script run journal broken replies began now
+    → IsTurn script journal replies lane place request → (d : DidEvent around after run lane place (map (λ s. s.answer) (steps_of place journal)) request (left_by start journal) now new how ended) → IfTold now.history ReadsImage
+    → (next : Broken) × Serves start script (and_then run d.makes.event) (journal ++ steps_made run request d.makes.event d.makes.answer d.left) next replies began new
+    × (WouldDo script start run journal broken → WouldDo script start (and_then run d.makes.event) (journal ++ steps_made run request d.makes.event d.makes.answer d.left) next)
+serves_on start script run journal broken replies began now new around after lane place request how ended s turn d reads = let s = serves_by start script run journal broken replies began now new around after lane place request how ended s turn d reads in (s.0, s.1, s.2)

@@ -6,6 +6,8 @@ use Rattle.disk_model.specs.Disk.{Files, DiskState, History, EachImage, state_at
 use Rattle.mdbox_base.specs.Streams.{Rose}
 use Rattle.mdbox_base.specs.declared.entries.MapEntry.{MapEntry}
 use Rattle.mdbox_base.specs.declared.entries.MapEntry.TheVariants as map_entry
+use Rattle.mdbox_base.specs.declared.progress.Did.{Did}
+use Rattle.mdbox_base.specs.declared.progress.Did.TheVariants as did
 use Rattle.mdbox_base.specs.declared.requests.Request.{Request}
 use Rattle.mdbox_base.specs.declared.replies.Refusal.TheVariants as refusal
 use Rattle.mdbox_base.specs.declared.replies.Reply.{Reply}
@@ -15,6 +17,7 @@ use Rattle.model_lists.specs.Lists.{Lists}
 use Rattle.list_machine.specs.Run.{RunEvent, Run, before}
 use Rattle.journal.specs.Journal.{Requests, JournalStep, left_by, IsLegal, Broken, no_broken, AreBroken, IsOfFailure, Reached, HasReply, RoseBy, steps_of}
 use Rattle.journal.specs.Found.{AgreeWithRun}
+use Rattle.journal.specs.GoesOn.{broken_by}
 use Rattle.journal.specs.Makes.{HasCome, AreNextEvents, lists_before}
 use Rattle.model_store.specs.Safe.{Safe}
 use Rattle.model_store.specs.Settled.{IsSettled, IsSettledFor}
@@ -93,3 +96,9 @@ pub record Follows (start : Lists) (script : Requests) (run : Run) (journal : Li
   pub after : ℕ → Around
   pub next : AreNextEvents around after script start run journal
   pub found : AgreeWithRun around script run
+
+-- Which steps are broken after an event: those that it would have made, if its append failed, which began as the event did; else
+-- those that were.
+abbrev pub BreaksBy : Did → Run → RunEvent → ℕ → Broken → Broken → Type 0
+BreaksBy (did.Broken half) run event began old next = (would : RunEvent) × (step : JournalStep) × (next ≡ broken_by run would began step) × (step.lane ≡ event.lane) × (step.request ≡ event.request) × (step.half ≡ half)
+BreaksBy other run event began old next = next ≡ old
