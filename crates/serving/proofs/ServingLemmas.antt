@@ -5,9 +5,11 @@ use Rattle.std.proofs.lemmas.Grind.{common_steps}
 use Rattle.std.proofs.lemmas.Option.{slice_get_within}
 use Rattle.std.proofs.lemmas.List.{length-set}
 use Rattle.std.proofs.lemmas.List.Elements.{All-head, All-tail}
+use Rattle.disk_model.specs.Disk.{IfTold}
 use Rattle.mdbox_base.specs.declared.progress.Did.{Did}
 use Rattle.mdbox_base.specs.declared.replies.Reply.{Reply}
 use Rattle.mdbox_base.specs.declared.requests.Request.{Request}
+use Rattle.model_kept.proofs.KeptLemmas.{ReadsImage}
 use Rattle.model_lists.specs.Lists.{Lists}
 use Rattle.list_machine.specs.Run.{Run, and_then, reply_of}
 use Rattle.journal.specs.Events.{Around}
@@ -27,13 +29,13 @@ use Rattle.serving.proofs.LaneLemmas.{first_turn, get_set_other, get_set_same, j
 pub serving_more : {T : Type 0} → (Was Is : T → Request → Run → ℕ → List Reply → Type 0) (start : Lists) (script : Requests) (run : Run) (journal : List JournalStep) (broken : Broken) (replies : List (Option Reply))
     (began now new : Seen) (lanes : List (LaneValue T)) (k place : ℕ) (rest : List ℕ) (value : LaneValue T) (request : Request) (task : T) (around after : Around) (how : Did)
     → IsServing Was start script run journal broken replies began now lanes → OthersStandOn Was Is lanes k → slice_get lanes k ≡ Some value → value.queue ≡ place ∷ rest → slice_get script place ≡ Some (k + 1, request)
-    → (d : DidEvent around after run (k + 1) place (said_by journal place) request (left_by start journal) now new how None) → Is task request (and_then run d.makes.event) place (and_told (said_by journal place) d.makes.answer)
+    → (d : DidEvent around after run (k + 1) place (said_by journal place) request (left_by start journal) now new how None) → IfTold now.history ReadsImage → Is task request (and_then run d.makes.event) place (and_told (said_by journal place) d.makes.answer)
     → (next : Broken) × IsServing Is start script (and_then run d.makes.event) (journal_behind run request journal d.makes.event d.makes.answer d.left) next replies began new (slice_set lanes k (lane_behind None task value))
-serving_more Was Is start script run journal broken replies began now new lanes k place rest value request task around after how s stays there queue asked d stands =
+serving_more Was Is start script run journal broken replies began now new lanes k place rest value request task around after how s stays there queue asked d reads stands =
     let first = first_turn Was script run journal replies (k + 1) place rest value request (s.lanes_at k value there) queue asked in
     let turn = first.0 in
     let behind = first.2 in
-    let s1 = serves_on start script run journal broken replies began now new around after (k + 1) place request how None s.serves turn d in
+    let s1 = serves_on start script run journal broken replies began now new around after (k + 1) place request how None s.serves turn d reads in
     let l = s.lanes_at k value there in (
       s1.0,
       record {
@@ -51,13 +53,13 @@ serving_more Was Is start script run journal broken replies began now new lanes 
 pub serving_done : {T : Type 0} → (Was Is : T → Request → Run → ℕ → List Reply → Type 0) (start : Lists) (script : Requests) (run : Run) (journal : List JournalStep) (broken : Broken) (replies : List (Option Reply))
     (began now new : Seen) (lanes : List (LaneValue T)) (k place : ℕ) (rest : List ℕ) (value : LaneValue T) (request : Request) (task : T) (around after : Around) (how : Did) (given : Reply)
     → IsServing Was start script run journal broken replies began now lanes → OthersStandOn Was Is lanes k → slice_get lanes k ≡ Some value → value.queue ≡ place ∷ rest → slice_get script place ≡ Some (k + 1, request)
-    → (d : DidEvent around after run (k + 1) place (said_by journal place) request (left_by start journal) now new how (Some given))
+    → (d : DidEvent around after run (k + 1) place (said_by journal place) request (left_by start journal) now new how (Some given)) → IfTold now.history ReadsImage
     → (next : Broken) × IsServing Is start script (and_then run d.makes.event) (journal_behind run request journal d.makes.event d.makes.answer d.left) next (slice_set replies place (Some given)) began new (slice_set lanes k (lane_behind (Some given) task value))
-serving_done Was Is start script run journal broken replies began now new lanes k place rest value request task around after how given s stays there queue asked d =
+serving_done Was Is start script run journal broken replies began now new lanes k place rest value request task around after how given s stays there queue asked d reads =
     let first = first_turn Was script run journal replies (k + 1) place rest value request (s.lanes_at k value there) queue asked in
     let turn = first.0 in
     let behind = first.2 in
-    let s1 = serves_on start script run journal broken replies began now new around after (k + 1) place request how (Some given) s.serves turn d in
+    let s1 = serves_on start script run journal broken replies began now new around after (k + 1) place request how (Some given) s.serves turn d reads in
     let l = s.lanes_at k value there in
     let f = follows_on start script run journal broken replies began now new around after (k + 1) place request how (Some given) s.serves turn s.given (none_earlier Was script run journal replies (k + 1) place rest value queue behind l s.given) (slice_get_within script place (k + 1, request) turn.asked) d s.follows in
     let also : RepliesAlso replies (slice_set replies place (Some given)) place given = record {
@@ -86,12 +88,12 @@ serving_done Was Is start script run journal broken replies began now new lanes 
 pub lane_goes_on : {T : Type 0} → (Was Is : T → Request → Run → ℕ → List Reply → Type 0) (start : Lists) (script : Requests) (run : Run) (journal : List JournalStep) (broken : Broken) (replies : List (Option Reply))
     (began now new : Seen) (lanes : List (LaneValue T)) (k place : ℕ) (rest : List ℕ) (value : LaneValue T) (request : Request) (next : T) (around after : Around) (how : Did) (ended : Option Reply)
     → IsServing Was start script run journal broken replies began now lanes → OthersStandOn Was Is lanes k → slice_get lanes k ≡ Some value → value.queue ≡ place ∷ rest → slice_get script place ≡ Some (k + 1, request)
-    → (d : DidEvent around after run (k + 1) place (said_by journal place) request (left_by start journal) now new how ended) → (ended ≡ None → Is next request (and_then run d.makes.event) place (and_told (said_by journal place) d.makes.answer))
+    → (d : DidEvent around after run (k + 1) place (said_by journal place) request (left_by start journal) now new how ended) → IfTold now.history ReadsImage → (ended ≡ None → Is next request (and_then run d.makes.event) place (and_told (said_by journal place) d.makes.answer))
     → (failed : Broken) × IsServing Is start script (and_then run d.makes.event) (journal_behind run request journal d.makes.event d.makes.answer d.left) failed (replies_behind ended place replies) began new (slice_set lanes k (lane_behind ended next value))
-lane_goes_on Was Is start script run journal broken replies began now new lanes k place rest value request next around after how None s stays there queue asked d stands =
-    serving_more Was Is start script run journal broken replies began now new lanes k place rest value request next around after how s stays there queue asked d (stands refl)
-lane_goes_on Was Is start script run journal broken replies began now new lanes k place rest value request next around after how (Some given) s stays there queue asked d stands =
-    serving_done Was Is start script run journal broken replies began now new lanes k place rest value request next around after how given s stays there queue asked d
+lane_goes_on Was Is start script run journal broken replies began now new lanes k place rest value request next around after how None s stays there queue asked d reads stands =
+    serving_more Was Is start script run journal broken replies began now new lanes k place rest value request next around after how s stays there queue asked d reads (stands refl)
+lane_goes_on Was Is start script run journal broken replies began now new lanes k place rest value request next around after how (Some given) s stays there queue asked d reads stands =
+    serving_done Was Is start script run journal broken replies began now new lanes k place rest value request next around after how given s stays there queue asked d reads
 
 -- ---- the end
 

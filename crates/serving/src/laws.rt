@@ -1,5 +1,6 @@
 // A script that lanes serve, event by event.
 ghost use Rattle.std.specs.Prelude.{◌≡◌, ◌≢◌, ◌<◌, ◌≤◌, ◌+◌, ◌++◌, ◌∷◌, [], true, false, ℕ, Bool, List, length, map, slice_get, slice_set, Option, Some, None};
+ghost use Rattle.disk_model.specs.Disk.{IfTold, IsImage, reading};
 ghost use Rattle.mdbox_base.specs.declared.progress.Did.{Did};
 ghost use Rattle.mdbox_base.specs.declared.replies.Reply.{Reply};
 ghost use Rattle.mdbox_base.specs.declared.requests.Request.{Request};
@@ -30,7 +31,7 @@ pub fn serving_start()
 pub fn serving_more()
     ensures { (start : Lists) (script : Requests) (run : Run) (journal : List JournalStep) (broken : Broken) (replies : List (Option Reply)) (began now new : Seen) (lanes : List (LaneValue OwnWork)) (k place : ℕ) (rest : List ℕ) (value : LaneValue OwnWork) (request : Request) (around after : Around) (how : Did)
         → IsServing HasWorked start script run journal broken replies began now lanes → slice_get lanes k ≡ Some value → value.queue ≡ place ∷ rest → slice_get script place ≡ Some (k + 1, request)
-        → (d : DidEvent around after run (k + 1) place (said_by journal place) request (left_by start journal) now new how None)
+        → (d : DidEvent around after run (k + 1) place (said_by journal place) request (left_by start journal) now new how None) → IfTold now.history (λ disk. IsImage disk (λ name. reading (disk name)))
         → (next : Broken) × IsServing HasWorked start script (and_then run d.makes.event) (journal ++ steps_made run request d.makes.event d.makes.answer d.left) next replies began new
         (slice_set lanes k (lane_behind None (record { events = own_events place (and_then run d.makes.event); answers = and_told (said_by journal place) d.makes.answer }) value)) }
 {}
@@ -39,7 +40,7 @@ pub fn serving_more()
 pub fn serving_done()
     ensures { (start : Lists) (script : Requests) (run : Run) (journal : List JournalStep) (broken : Broken) (replies : List (Option Reply)) (began now new : Seen) (lanes : List (LaneValue OwnWork)) (k place : ℕ) (rest : List ℕ) (value : LaneValue OwnWork) (request : Request) (work : OwnWork) (around after : Around) (how : Did) (given : Reply)
         → IsServing HasWorked start script run journal broken replies began now lanes → slice_get lanes k ≡ Some value → value.queue ≡ place ∷ rest → slice_get script place ≡ Some (k + 1, request)
-        → (d : DidEvent around after run (k + 1) place (said_by journal place) request (left_by start journal) now new how (Some given))
+        → (d : DidEvent around after run (k + 1) place (said_by journal place) request (left_by start journal) now new how (Some given)) → IfTold now.history (λ disk. IsImage disk (λ name. reading (disk name)))
         → (next : Broken) × IsServing HasWorked start script (and_then run d.makes.event) (journal ++ steps_made run request d.makes.event d.makes.answer d.left) next (replies_behind (Some given) place replies) began new (slice_set lanes k (lane_behind (Some given) work value)) }
 {}
 
