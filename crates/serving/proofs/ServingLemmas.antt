@@ -5,7 +5,7 @@ use Rattle.std.proofs.lemmas.Grind.{common_steps}
 use Rattle.std.proofs.lemmas.Option.{slice_get_within}
 use Rattle.std.proofs.lemmas.List.{length-set}
 use Rattle.std.proofs.lemmas.List.Elements.{All-head, All-tail}
-use Rattle.disk_model.specs.Disk.{IfTold}
+use Rattle.disk_model.specs.Disk.{IfTold, told_calls}
 use Rattle.mdbox_base.specs.declared.progress.Did.{Did}
 use Rattle.mdbox_base.specs.declared.replies.Reply.{Reply}
 use Rattle.mdbox_base.specs.declared.requests.Request.{Request}
@@ -16,9 +16,10 @@ use Rattle.journal.specs.Events.{Around}
 use Rattle.journal.specs.GoesOn.{RepliesAlso}
 use Rattle.journal.specs.Journal.{Requests, JournalStep, Broken, HasReply, left_by}
 use Rattle.journal.proofs.FaultLemmas.{faults_have_events}
+use Rattle.task_steps.specs.Serves.{BreaksBy}
 use Rattle.task_steps.specs.Step.{Seen, DidEvent, and_told}
 use Rattle.task_steps.proofs.FollowingLemmas.{follows_on, replies_on, replies_stay, told_on}
-use Rattle.task_steps.proofs.GoingLemmas.{serves_on}
+use Rattle.task_steps.proofs.GoingLemmas.{serves_by}
 use Rattle.task_steps.proofs.ReplyingLemmas.{reply_on}
 use Rattle.serving.specs.Lanes.{LaneValue, lane_behind, replies_behind, said_by}
 use Rattle.serving.specs.Standing.{OthersStandOn}
@@ -30,12 +31,12 @@ pub serving_more : {T : Type 0} → (Was Is : T → Request → Run → ℕ → 
     (began now new : Seen) (lanes : List (LaneValue T)) (k place : ℕ) (rest : List ℕ) (value : LaneValue T) (request : Request) (task : T) (around after : Around) (how : Did)
     → IsServing Was start script run journal broken replies began now lanes → OthersStandOn Was Is lanes k → slice_get lanes k ≡ Some value → value.queue ≡ place ∷ rest → slice_get script place ≡ Some (k + 1, request)
     → (d : DidEvent around after run (k + 1) place (said_by journal place) request (left_by start journal) now new how None) → IfTold now.history ReadsImage → Is task request (and_then run d.makes.event) place (and_told (said_by journal place) d.makes.answer)
-    → (next : Broken) × IsServing Is start script (and_then run d.makes.event) (journal_behind run request journal d.makes.event d.makes.answer d.left) next replies began new (slice_set lanes k (lane_behind None task value))
+    → (next : Broken) × IsServing Is start script (and_then run d.makes.event) (journal_behind run request journal d.makes.event d.makes.answer d.left) next replies began new (slice_set lanes k (lane_behind None task value)) × BreaksBy how run d.makes.event (told_calls now.history) broken next
 serving_more Was Is start script run journal broken replies began now new lanes k place rest value request task around after how s stays there queue asked d reads stands =
     let first = first_turn Was script run journal replies (k + 1) place rest value request (s.lanes_at k value there) queue asked in
     let turn = first.0 in
     let behind = first.2 in
-    let s1 = serves_on start script run journal broken replies began now new around after (k + 1) place request how None s.serves turn d reads in
+    let s1 = serves_by start script run journal broken replies began now new around after (k + 1) place request how None s.serves turn d reads in
     let l = s.lanes_at k value there in (
       s1.0,
       record {
@@ -47,6 +48,7 @@ serving_more Was Is start script run journal broken replies began now new lanes 
         lanes_at = lanes_on Was Is script run journal replies replies lanes k place value (lane_behind None task value) request d.makes.event d.makes.answer d.left there d.makes.lane_is d.makes.request_is turn.asked d.gives (λ j other. refl)
             (own_more Was Is script run journal replies (k + 1) place rest value request task d.makes.event d.makes.answer d.left queue turn behind d.makes.request_is stands l) s.lanes_at stays;
       },
+      s1.3,
     )
 
 -- The event of a lane that answers its request: the next one takes its turn.
@@ -54,12 +56,12 @@ pub serving_done : {T : Type 0} → (Was Is : T → Request → Run → ℕ → 
     (began now new : Seen) (lanes : List (LaneValue T)) (k place : ℕ) (rest : List ℕ) (value : LaneValue T) (request : Request) (task : T) (around after : Around) (how : Did) (given : Reply)
     → IsServing Was start script run journal broken replies began now lanes → OthersStandOn Was Is lanes k → slice_get lanes k ≡ Some value → value.queue ≡ place ∷ rest → slice_get script place ≡ Some (k + 1, request)
     → (d : DidEvent around after run (k + 1) place (said_by journal place) request (left_by start journal) now new how (Some given)) → IfTold now.history ReadsImage
-    → (next : Broken) × IsServing Is start script (and_then run d.makes.event) (journal_behind run request journal d.makes.event d.makes.answer d.left) next (slice_set replies place (Some given)) began new (slice_set lanes k (lane_behind (Some given) task value))
+    → (next : Broken) × IsServing Is start script (and_then run d.makes.event) (journal_behind run request journal d.makes.event d.makes.answer d.left) next (slice_set replies place (Some given)) began new (slice_set lanes k (lane_behind (Some given) task value)) × BreaksBy how run d.makes.event (told_calls now.history) broken next
 serving_done Was Is start script run journal broken replies began now new lanes k place rest value request task around after how given s stays there queue asked d reads =
     let first = first_turn Was script run journal replies (k + 1) place rest value request (s.lanes_at k value there) queue asked in
     let turn = first.0 in
     let behind = first.2 in
-    let s1 = serves_on start script run journal broken replies began now new around after (k + 1) place request how (Some given) s.serves turn d reads in
+    let s1 = serves_by start script run journal broken replies began now new around after (k + 1) place request how (Some given) s.serves turn d reads in
     let l = s.lanes_at k value there in
     let f = follows_on start script run journal broken replies began now new around after (k + 1) place request how (Some given) s.serves turn s.given (none_earlier Was script run journal replies (k + 1) place rest value queue behind l s.given) (slice_get_within script place (k + 1, request) turn.asked) d s.follows in
     let also : RepliesAlso replies (slice_set replies place (Some given)) place given = record {
@@ -79,6 +81,7 @@ serving_done Was Is start script run journal broken replies began now new lanes 
         lanes_at = lanes_on Was Is script run journal replies (slice_set replies place (Some given)) lanes k place value (lane_behind (Some given) task value) request d.makes.event d.makes.answer d.left there d.makes.lane_is d.makes.request_is turn.asked d.gives (λ j other. get_set_other replies place j (Some given) other)
             (own_done Was Is script run journal replies (slice_set replies place (Some given)) (k + 1) place rest value request task d.makes.event d.makes.answer d.left given queue turn behind d.makes.request_is also.here (λ j other. get_set_other replies place j (Some given) other) l) s.lanes_at stays;
       },
+      s1.3,
     )
   where
     same : {j : ℕ} → place ≡ j → (place == j) ≡ true
@@ -89,7 +92,7 @@ pub lane_goes_on : {T : Type 0} → (Was Is : T → Request → Run → ℕ → 
     (began now new : Seen) (lanes : List (LaneValue T)) (k place : ℕ) (rest : List ℕ) (value : LaneValue T) (request : Request) (next : T) (around after : Around) (how : Did) (ended : Option Reply)
     → IsServing Was start script run journal broken replies began now lanes → OthersStandOn Was Is lanes k → slice_get lanes k ≡ Some value → value.queue ≡ place ∷ rest → slice_get script place ≡ Some (k + 1, request)
     → (d : DidEvent around after run (k + 1) place (said_by journal place) request (left_by start journal) now new how ended) → IfTold now.history ReadsImage → (ended ≡ None → Is next request (and_then run d.makes.event) place (and_told (said_by journal place) d.makes.answer))
-    → (failed : Broken) × IsServing Is start script (and_then run d.makes.event) (journal_behind run request journal d.makes.event d.makes.answer d.left) failed (replies_behind ended place replies) began new (slice_set lanes k (lane_behind ended next value))
+    → (failed : Broken) × IsServing Is start script (and_then run d.makes.event) (journal_behind run request journal d.makes.event d.makes.answer d.left) failed (replies_behind ended place replies) began new (slice_set lanes k (lane_behind ended next value)) × BreaksBy how run d.makes.event (told_calls now.history) broken failed
 lane_goes_on Was Is start script run journal broken replies began now new lanes k place rest value request next around after how None s stays there queue asked d reads stands =
     serving_more Was Is start script run journal broken replies began now new lanes k place rest value request next around after how s stays there queue asked d reads (stands refl)
 lane_goes_on Was Is start script run journal broken replies began now new lanes k place rest value request next around after how (Some given) s stays there queue asked d reads stands =
