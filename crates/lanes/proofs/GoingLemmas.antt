@@ -3,8 +3,8 @@ use Rattle.std.proofs.Common.{◌≡◌, ◌<◌, ◌≤◌, ◌+◌, ℕ, zero,
 use Rattle.std.specs.Prelude.{◌≢◌, ◌⊎◌, ◌++◌, is_some, length, slice_get, option_map}
 use Rattle.std.proofs.lemmas.Option.{slice_get-map}
 use Rattle.std.proofs.lemmas.List.{length-set}
-use Rattle.std.proofs.lemmas.List.Elements.{All-head, All-tail, All-nil}
-use Rattle.disk_model.specs.Disk.{History, Faults}
+use Rattle.std.proofs.lemmas.List.Elements.{All-cons, All-head, All-tail, All-nil}
+use Rattle.disk_model.specs.Disk.{History, Faults, told_calls}
 use Rattle.mdbox_base.specs.declared.progress.Did.{Did}
 use Rattle.mdbox_base.specs.declared.progress.Did.TheVariants as did
 use Rattle.mdbox_base.specs.declared.progress.Progress.{Progress}
@@ -28,18 +28,18 @@ use Rattle.serving.proofs.TakeUpLemmas.{TakesUp, serving_taken_up}
 use Rattle.store_core.specs.Value.{StoreValue}
 use Rattle.task_claims.specs.Claims.{Claims, ClaimsNothing, MovesClaims, amount_in}
 use Rattle.task_claims.specs.Leaving.{LeavesOthers}
-use Rattle.task_steps.specs.Serves.{IsTurn}
+use Rattle.task_steps.specs.Serves.{BreaksBy, IsTurn}
 use Rattle.task_steps.specs.Step.{DidEvent, FindsRoom, Seen, Went, and_told, ended_by}
-use Rattle.mail_fetch.specs.Clause.{ReadsSafe}
 use Rattle.mail_fetch.specs.Task.{seen_in}
-use Rattle.lane_tasks.specs.Clause.{AnswersByFiles, PassesBy, around_at}
+use Rattle.lane_tasks.specs.Clause.{CanAnswer, PassesBy, around_at}
 use Rattle.lane_tasks.specs.Tasks.{BeginsTask, IsReadyTask, StandsTask, claims_at, did_of}
 use Rattle.lane_tasks.specs.declared.task.Task.{Task}
 use Rattle.lane_tasks.proofs.StandLemmas.{begins_ready, begins_standing, begins_unclaimed, task_stable, task_stands}
-use Rattle.lanes.specs.Going.{AddsEvent, AreWaiting, IsGoing, WaitsWithTask, halves_told, stands_in}
+use Rattle.lanes.specs.Going.{AddsEvent, AreWaiting, IsGoing, IsStepOf, WaitsWithTask, halves_told, stands_in}
 use Rattle.lanes.specs.Rows.{LaneRow, RowGoesOn, lane_value, lanes_of, next_in_turn, queue_in, after_event}
 use Rattle.lanes.specs.declared.lane.LaneEvent.{LaneEvent}
 use Rattle.lanes.specs.declared.lane.Queued.{Queued}
+use Rattle.lanes.proofs.FindingLemmas.{can_answer, finds_room, uses_taken}
 
 -- ---- rows
 
@@ -55,16 +55,6 @@ set_twice : {X : Type 0} → (xs : List X) (k : ℕ) (x y : X) → slice_set (sl
 set_twice [] k x y = refl
 set_twice (a ∷ more) zero x y = refl
 set_twice (a ∷ more) (suc k) x y = ap (λ (vs : List _). a ∷ vs) (set_twice more k x y)
-
--- ---- what the tasks are asked beside
-
--- no task takes files yet
-finds_room : {D : Type 0} → (t : Task) (asked : Request) (store : StoreValue D) (run : Run) → FindsRoom (around_at t asked store nothing_around) run
-finds_room t asked store run = tt
-
--- and none answers by what files read
-reads_safe : (t : Task) (lists : Lists) (history : Option History) → AnswersByFiles t → ReadsSafe lists history
-reads_safe t lists history by_files = absurd by_files
 
 -- ---- claims
 
@@ -127,6 +117,7 @@ others_stand rows k row first next old new before after there was ran moves leav
     passes : PassesBy t old new before after
     passes runs = (
       ran runs,
+      (accounts (ran runs)).ready j other is t has,
       task_beside claims_at other t old new before after has
           (lane_beside claims_at (lanes_of rows) k j (lane_value row) other (claims_at next) old new before after (accounts (ran runs)).adds_up (value_at rows k row there) is apart
           (subst (λ (c : Claims). MovesClaims c (claims_at next) old new) mine (moves runs)) (subst (λ (c : Claims). LeavesOthers c old new before after) mine (leaves runs))),
@@ -243,9 +234,14 @@ halves_made (did.Step half) request run lists left event answer old new w = one_
 halves_made did.Failed request run lists left event answer old new w = none_made run request event answer left w.0.unanswered
 halves_made (did.Broken half) request run lists left event answer old new w = none_made run request event answer left w.0.unanswered
 
+made_of : (lane place : ℕ) (run : Run) (request : Request) (event : RunEvent) (answer : Option Reply) (left : Lists) → event.lane ≡ lane → event.request ≡ place → All (IsStepOf lane place run) (steps_made run request event answer left)
+made_of lane place run request event None left on at = All-nil (IsStepOf lane place run)
+made_of lane place run request event (Some answer) left on at =
+    All-cons (IsStepOf lane place run) (record { lane = event.lane; request = event.request; half = half_of request event.part; event = length run.events; answer = answer; left = left }) [] (record { lane_is = on; request_is = at; event_is = refl }) (All-nil (IsStepOf lane place run))
+
 pub going_on : {D : Type 0} → (start : Lists) (script : Requests) (run : Run) (journal : List JournalStep) (broken : Broken) (replies : List (Option Reply)) (began : Seen) (rows : List LaneRow) (k : ℕ) (row now : LaneRow) (event : LaneEvent) (old new : StoreValue D) (before after : Option History) (first second : Faults) → slice_get rows k ≡ Some row
     → RowGoesOn row now event old new before after first second → IsGoing start script run journal broken replies began old before first rows
-    → (added : RunEvent) × (steps : List JournalStep) × (failed : Broken) × AddsEvent (k + 1) event after added steps × IsGoing start script (and_then run added) (journal ++ steps) failed (replies_behind (ended_by event.ended) event.place replies) began new after second (slice_set rows k now)
+    → (added : RunEvent) × (steps : List JournalStep) × (failed : Broken) × AddsEvent (k + 1) event run old.map before after added steps broken failed × IsGoing start script (and_then run added) (journal ++ steps) failed (replies_behind (ended_by event.ended) event.place replies) began new after second (slice_set rows k now)
 going_on {D} start script run journal broken replies began rows k row now event old new before after first second there g s = (
   d.0.makes.event,
   steps_made run turn.0 d.0.makes.event d.0.makes.answer d.0.left,
@@ -256,6 +252,9 @@ going_on {D} start script run journal broken replies began rows k row now event 
     reply_is = d.0.makes.ended_is;
     moment_is = d.0.makes.moment_is;
     halves_are = halves_made (did_of g.next) turn.0 run (left_by start journal) d.0.left d.0.makes.event d.0.makes.answer (seen_in old before first) (seen_in new after second) d.0.went ∙ ap halves_told (sym g.goes.did_is);
+    steps_are = made_of (k + 1) event.place run turn.0 d.0.makes.event d.0.makes.answer d.0.left d.0.makes.lane_is (d.0.makes.request_is ∙ sym g.goes.place_is);
+    breaks = subst (λ (how : Did). BreaksBy how run d.0.makes.event (told_calls before) broken goes.0) (sym g.goes.did_is) goes.2;
+    mail = d.0.mail;
   },
   subst (λ (r : LaneRow). IsGoing start script then_run then_journal goes.0 (replies_behind (ended_by event.ended) event.place replies) began new after second (slice_set rows k r)) (sym g.now_is)
       (subst (λ (n : ℕ). IsGoing start script then_run then_journal goes.0 (replies_behind (ended_by event.ended) n replies) began new after second (slice_set rows k then)) (sym g.goes.place_is) (record {
@@ -264,6 +263,8 @@ going_on {D} start script run journal broken replies began rows k row now event 
         lanes = subst (λ (n : ℕ). All (λ (asked : ℕ × Request). (0 < asked.0) × (asked.0 ≤ n)) script) (sym (as_many rows k then)) s.lanes;
         waiting = all_waiting script rows k row then there (waiting_behind script (k + 1) (ended_by event.ended) (record g.queued { task = g.next }) row.waiting are) s.waiting;
         accounts = λ runs. accounts_row script rows k row now event old new before after first second there are runs g (s.accounts (ran runs));
+        undoomed = λ runs. g.goes.undoomed runs (s.undoomed (ran runs));
+        fetched = s.fetched;
       })),
 )
   where
@@ -276,9 +277,15 @@ going_on {D} start script run journal broken replies began rows k row now event 
     turn : (request : Request) × IsTurn script journal replies (k + 1) g.queued.place request × StandsTask g.queued.task old before request run g.queued.place (said_by journal g.queued.place)
     turn = in_turn start script run journal broken replies began (seen_in old before first) rows k row g.queued old before there g.was s.serving
 
-    d : (d : DidEvent nothing_around nothing_around run (k + 1) g.queued.place (said_by journal g.queued.place) turn.0 (left_by start journal) (seen_in old before first) (seen_in new after second) (did_of g.next) (ended_by event.ended))
+    finds : old.stopped ≡ false → FindsRoom (around_at g.queued.task turn.0 old nothing_around) run
+    finds runs = finds_room g.queued.task turn.0 old run g.goes.files g.goes.ordered (uses_taken start script run journal broken replies began (seen_in old before first) old before (lanes_of rows) s.serving s.lanes (s.accounts runs).adds_up)
+
+    answers : old.stopped ≡ false → CanAnswer g.queued.task (left_by start journal) before
+    answers runs = can_answer g.queued.task turn.0 (left_by start journal) before turn.2.is_of (λ name uid is. s.serving.serves.settled runs (s.fetched g.queued.place (k + 1) name uid (turn.1.asked ∙ ap (λ (q : Request). Some (k + 1, q)) is)))
+
+    d : (d : DidEvent (around_at g.queued.task turn.0 old nothing_around) nothing_around run (k + 1) g.queued.place (said_by journal g.queued.place) turn.0 (left_by start journal) (seen_in old before first) (seen_in new after second) (did_of g.next) (ended_by event.ended))
         × (ended_by event.ended ≡ None → StandsTask g.next new after turn.0 (and_then run d.makes.event) g.queued.place (and_told (said_by journal g.queued.place) d.makes.answer))
-    d = g.goes.steps turn.0 nothing_around nothing_around run (k + 1) g.queued.place (said_by journal g.queued.place) (left_by start journal) s.serving.serves.come s.serving.serves.shown (λ runs. finds_room g.queued.task turn.0 old run) (λ by_files runs. reads_safe g.queued.task (left_by start journal) before by_files) turn.2
+    d = g.goes.steps turn.0 nothing_around nothing_around run (k + 1) g.queued.place (said_by journal g.queued.place) (left_by start journal) s.serving.serves.come s.serving.serves.shown finds answers turn.2
 
     then_run : Run
     then_run = and_then run d.0.makes.event
@@ -290,5 +297,6 @@ going_on {D} start script run journal broken replies began rows k row now event 
     ran = ran_before (seen_in old before first) (seen_in new after second) d.0.ends.still
 
     goes : (failed : Broken) × IsServing (stands_in new after) start script then_run then_journal failed (replies_behind (ended_by event.ended) g.queued.place replies) began (seen_in new after second) (slice_set (lanes_of rows) k (lane_behind (ended_by event.ended) g.next (lane_value row)))
-    goes = lane_goes_on (stands_in old before) (stands_in new after) start script run journal broken replies began (seen_in old before first) (seen_in new after second) (lanes_of rows) k g.queued.place (map (λ (q : Queued). q.place) row.waiting) (lane_value row) turn.0 g.next nothing_around nothing_around (did_of g.next) (ended_by event.ended)
-        s.serving (others_stand rows k row g.queued g.next old new before after there g.was ran g.goes.claims g.goes.leaves s.accounts) (value_at rows k row there) (queue_is row g.queued g.was) turn.1.asked d.0 d.1
+        × BreaksBy (did_of g.next) run d.0.makes.event (told_calls before) broken failed
+    goes = lane_goes_on (stands_in old before) (stands_in new after) start script run journal broken replies began (seen_in old before first) (seen_in new after second) (lanes_of rows) k g.queued.place (map (λ (q : Queued). q.place) row.waiting) (lane_value row) turn.0 g.next (around_at g.queued.task turn.0 old nothing_around) nothing_around (did_of g.next) (ended_by event.ended)
+        s.serving (others_stand rows k row g.queued g.next old new before after there g.was ran g.goes.claims g.goes.leaves s.accounts) (value_at rows k row there) (queue_is row g.queued g.was) turn.1.asked d.0 g.goes.image d.1
