@@ -79,7 +79,7 @@ uses_taken start script run journal broken replies began now store history lanes
 
 settled_reads : (lists : Lists) (history : Option History) → IsSettledFor lists history → ReadsSafe lists history
 settled_reads lists None settled = settled
-settled_reads lists (Some h) settled = (settled.store, settled.entries, settled.safe)
+settled_reads lists (Some h) settled = record { store = settled.store; entries = settled.entries; by = settled.safe }
 
 -- Only a fetch answers by the files of messages.
 pub can_answer : (t : Task) (asked : Request) (lists : Lists) (history : Option History) → IsTaskOf t asked → ((name : List ℕ) (uid : Uid) → asked ≡ request.Fetch name uid → IsSettledFor lists history) → CanAnswer t lists history
