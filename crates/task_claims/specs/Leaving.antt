@@ -8,7 +8,8 @@ use Rattle.mdbox_base.specs.declared.ids.Hash.{Hash}
 use Rattle.mdbox_base.specs.declared.ids.InstId.{InstId}
 use Rattle.model_meaning.specs.MapMeaning.{MapRecord, MapMeaning, record_at, number_at}
 use Rattle.model_store.specs.Settled.{files_of}
-use Rattle.sis_store.specs.Comparing.{IsUnlikeCompared}
+use Rattle.sis_store.specs.Comparing.{IsUnlikeCompared, candidates_left}
+use Rattle.sis_store.specs.Instances.{InstancesValue}
 use Rattle.sis_store.specs.OnDisk.{instance_file}
 use Rattle.storage_files.specs.Files.{end_in, file_in, with_pins}
 use Rattle.storage_files.specs.declared.file.MailFile.{MailFile}
@@ -96,6 +97,16 @@ pub record LeavesInstance {D : Type 0} (row : InstRow) (old new : StoreValue D) 
   pub reads : Between (λ a b. reading (b (instance_file row)) ≡ reading (a (instance_file row))) before after
   pub first : Between (λ a b. IsFirstKnown old.instances.known a row → IsFirstKnown new.instances.known b row) before after
 
+-- ---- what grows
+
+-- Each instance that is known more has drawn a number. Where none was drawn, of a kind no more are known past any id than before;
+-- where one was, it is a number.
+pub record PlacesFew (old new : InstancesValue) : Type 0 where
+  pub drawn : old.highest ≤ new.highest
+  pub few : length new.known + old.highest ≤ length old.known + new.highest
+  pub candidates : new.highest ≡ old.highest → (hash : Hash) (size : ℕ) (after : Option InstId) → candidates_left hash size after new.known ≤ candidates_left hash size after old.known
+  pub last : new.highest ≢ old.highest → new.highest ≤ 4294967294
+
 -- ---- all of it
 
 -- What was compared with candidates without success stays so, whatever is placed or removed.
@@ -104,8 +115,9 @@ KeepsCompared old new before after = (hash : Hash) (size : ℕ) (octets : List �
     → IsUnlikeCompared old.instances.store hash size octets last drawn old.instances.known before → IsUnlikeCompared old.instances.store hash size octets last drawn new.instances.known after
 
 -- An event of a task that had these claims as it began, and that didn't stop the store, leaves to the other tasks what is theirs, and
--- every storage file that it doesn't claim to empty or to remove. The last five are of no claim: the store of the instances, whose numbers rise; what was compared; the message with a UID; and a
--- disk that is modelled stays so.
+-- every storage file that it doesn't claim to empty or to remove. The last six are of no claim: the store of the
+-- instances, whose numbers rise; the numbers of mailboxes; what was compared; the message with a UID; and a disk that is modelled stays
+-- so. What grows here is what a task's work left is counted by, so that no event of another task adds to it.
 pub record LeavesOthers {D : Type 0} (mine : Claims) (old new : StoreValue D) (before after : Option History) : Type 0 where
   pub records : (uid : ℕ) (row : MapRecord) → OthersClaim mine old (Due uid) → record_at old.map uid ≡ Some row → LeavesRecord uid row new before after
   pub unlisted : LeavesUnlisted mine old new
@@ -113,7 +125,8 @@ pub record LeavesOthers {D : Type 0} (mine : Claims) (old new : StoreValue D) (b
   pub grow : (number : ℕ) → MayOnlyGrow mine old number → OnlyGrows number old new before after
   pub instances : (row : InstRow) → IsKnownRow old.instances.known row → OthersClaim mine old (Held row.id) → LeavesInstance row old new before after
   pub store : new.instances.store ≡ old.instances.store
-  pub drawn : old.instances.highest ≤ new.instances.highest
+  pub numbers : PlacesFew old.instances new.instances
+  pub mailboxes : old.map.highest.mailbox ≤ new.map.highest.mailbox
   pub compared : KeepsCompared old new before after
   pub uids : KeepsUids old new
   pub told : Between (λ a b. Unit {0}) before after

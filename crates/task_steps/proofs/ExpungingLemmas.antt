@@ -2,6 +2,7 @@
 use Rattle.std.proofs.Common.{◌≡◌, ◌≤◌, ◌+◌, ◌==◌, ℕ, Bool, true, false, List, [], ◌∷◌, ◌++◌, Option, Some, None, refl, sym, ◌∙◌, ap, subst, arith}
 use Rattle.std.specs.Prelude.{length, slice_get}
 use Rattle.disk_model.specs.Disk.{History, Faults}
+use Rattle.disk_model.specs.FaultCounts.{NoFault}
 use Rattle.mdbox_base.specs.declared.ids.Uid.{Uid}
 use Rattle.mdbox_base.specs.declared.replies.Refusal.{Refusal}
 use Rattle.mdbox_base.specs.declared.replies.Refusal.TheVariants as refusal
@@ -26,7 +27,7 @@ use Rattle.journal.proofs.ExpungeLemmas.{removal_makes, lowering_makes}
 use Rattle.disk_model.specs.Disk.{told_calls, Grows}
 use Rattle.mdbox_base.specs.declared.script.Half.TheVariants as half
 use Rattle.mdbox_base.specs.declared.progress.Did.TheVariants as did
-use Rattle.task_steps.specs.Step.{Seen, ShowsSeen, HasComeTo, Leads, and_told, DidEvent, IsKept}
+use Rattle.task_steps.specs.Step.{Seen, ShowsSeen, FaultsGrow, HasComeTo, Leads, and_told, DidEvent, IsKept}
 use Rattle.task_steps.specs.ExpungeStages.{StandsAtStage, one_due, behind_box, behind_lowering}
 use Rattle.task_steps.proofs.SeenLemmas.{comes_to_on, no_guids}
 
@@ -54,6 +55,9 @@ box_due owed uid due = omega arith
 lowering_due : (owed uid due before : ℕ) → due + one_due owed uid ≡ before → due + (0 + (0 + (0 + one_due owed uid))) ≡ before + 0
 lowering_due owed uid due before e = omega (arith, e)
 
+none_grew : (old new : Faults) → NoFault old new → FaultsGrow ⊥ old new
+none_grew old new same = subst (λ (f : Faults). FaultsGrow ⊥ old f) (sym same) (record { reads = omega arith; changes = omega arith; rose = λ x. absurd x })
+
 -- Both stages are kept by events of other requests.
 pub expunges_are_kept : (stage : Stage) → IsKept (StandsAtStage stage)
 expunges_are_kept ToRemove run place said event e new stood = (own_other place run event (ne_eqb event.request place e) ∙ stood.0, stood.1)
@@ -62,10 +66,10 @@ expunges_are_kept (ToLower uid) run place said event e new stood = (subst (λ (e
 -- The message is removed: a step, and the task goes on.
 pub removing : (around after : Around) (run : Run) (lane place : ℕ) (said : List Reply) (name : List ℕ) (uid : Uid) (lists : Lists) (old : Seen) (meanings : List BoxMeaning) (history : Option History) (faults : Faults) (mailbox : Mailbox) (row : MapRecord)
     → HasComeTo run old → StandsAtStage ToRemove run place said → old.stopped ≡ false → first_refusal run lists (part_checks run (removal lane place mailbox uid row.uid (told_calls history)) (request.Expunge name uid) First) ≡ None
-    → mailbox_named name lists ≡ Some mailbox → IsRecord run lists name uid.0 row → ShowsSeen (behind_box old meanings row.uid history faults) (expunge name uid.0 lists) → Leads lists (expunge name uid.0 lists) old (behind_box old meanings row.uid history faults) → Grows old.history history → MailIsKept old.map old.history history → old.faults.reads ≤ faults.reads → old.faults.changes ≤ faults.changes
+    → mailbox_named name lists ≡ Some mailbox → IsRecord run lists name uid.0 row → ShowsSeen (behind_box old meanings row.uid history faults) (expunge name uid.0 lists) → Leads lists (expunge name uid.0 lists) old (behind_box old meanings row.uid history faults) → Grows old.history history → MailIsKept old.map old.history history → NoFault old.faults faults
     → (d : DidEvent around after run lane place said (request.Expunge name uid) lists old (behind_box old meanings row.uid history faults) (did.Step half.Whole) None) × StandsAtStage (ToLower row.uid) (and_then run d.makes.event) place (and_told said d.makes.answer)
 unfolding removal_makes
-removing around after run lane place said name uid lists old meanings history faults mailbox row come stage runs allowed there is_record shows leads grows mail reads changes =
+removing around after run lane place said name uid lists old meanings history faults mailbox row come stage runs allowed there is_record shows leads grows mail unfailed =
     let event : RunEvent = removal lane place mailbox uid row.uid (told_calls history) in
     let k = removal_makes around after run lane place name uid lists old.map old.drawn (told_calls old.history) (told_calls history) mailbox row come.come grows stage.0 allowed there is_record in (
       record {
@@ -84,7 +88,8 @@ removing around after run lane place said name uid lists old meanings history fa
           halts = record { 0 = λ e. absurd (no_reply (reply.Refused refusal.Stopped) e); 1 = λ e. absurd (fall old.stopped e runs) };
           still = λ e. absurd (fall old.stopped e runs);
           reads = λ e. absurd (no_refusal refusal.ReadFault e);
-          faults = record { reads = reads; changes = changes; rose = λ x. absurd x };
+          faults = none_grew old.faults faults unfailed;
+          unfailed = λ read change. unfailed;
         };
       },
       (subst (λ (es : List RunEvent). IsAtStage (ToLower row.uid) es) (sym (own_more place run event (same_test place))) k.1, ap (λ (s : List Reply). s ++ reply.Done ∷ []) stage.1),
@@ -92,10 +97,10 @@ removing around after run lane place said name uid lists old meanings history fa
 
 -- The count is lowered: no step, and the request ends with what its step said.
 pub lowering_ends : (around after : Around) (run : Run) (lane place : ℕ) (said : List Reply) (name : List ℕ) (uid : Uid) (lists : Lists) (old : Seen) (owed : ℕ) (due : ℕ → ℕ) (history : Option History) (faults : Faults)
-    → HasComeTo run old → StandsAtStage (ToLower owed) run place said → old.stopped ≡ false → MapFits old.map (entry.D (record { 0 = owed } ∷ [])) → ((uid : ℕ) → due uid + one_due owed uid ≡ old.due uid) → ShowsSeen (behind_lowering old owed due history faults) lists → Leads lists lists old (behind_lowering old owed due history faults) → Grows old.history history → MailIsKept old.map old.history history → old.faults.reads ≤ faults.reads → old.faults.changes ≤ faults.changes
+    → HasComeTo run old → StandsAtStage (ToLower owed) run place said → old.stopped ≡ false → MapFits old.map (entry.D (record { 0 = owed } ∷ [])) → ((uid : ℕ) → due uid + one_due owed uid ≡ old.due uid) → ShowsSeen (behind_lowering old owed due history faults) lists → Leads lists lists old (behind_lowering old owed due history faults) → Grows old.history history → MailIsKept old.map old.history history → NoFault old.faults faults
     → DidEvent around after run lane place said (request.Expunge name uid) lists old (behind_lowering old owed due history faults) did.Quiet (Some reply.Done)
 unfolding lowering_makes
-lowering_ends around after run lane place said name uid lists old owed due history faults come stage runs fits owes shows leads grows mail reads changes = record {
+lowering_ends around after run lane place said name uid lists old owed due history faults come stage runs fits owes shows leads grows mail unfailed = record {
   left = lists;
   shown = shows;
   makes = lowering_makes around after run lane place name uid lists old.map old.drawn (told_calls old.history) (told_calls history) owed come.come grows stage.0 (subst (λ (m : MapMeaning). MapFits m (entry.D (record { 0 = owed } ∷ []))) (sym come.come.map_is) fits);
@@ -113,6 +118,7 @@ lowering_ends around after run lane place said name uid lists old owed due histo
     halts = record { 0 = λ e. absurd (done_is e); 1 = λ e. absurd (fall old.stopped e runs) };
     still = λ e. absurd (fall old.stopped e runs);
     reads = λ e. absurd (no_refusal refusal.ReadFault e);
-    faults = record { reads = reads; changes = changes; rose = λ x. absurd x };
+    faults = none_grew old.faults faults unfailed;
+    unfailed = λ read change. unfailed;
   };
 }

@@ -182,6 +182,7 @@ does_nothing around after run lane place said q lists seen why plain come shows 
     still = λ e. refl;
     reads = λ e. absurd (let k : false ≡ true = sym plain.reads ∙ subst (λ (r : Refusal). MayMeet First q r) (one_refusal why refusal.ReadFault e) may in cc k);
     faults = still_faults (IsFault did.Quiet) seen.faults (λ x. x);
+    unfailed = λ read change. refl;
   };
 }
 
@@ -210,6 +211,7 @@ does_refuse around after run lane place said q lists seen why plain come shows s
     still = λ e. refl;
     reads = λ e. absurd (reads why step (one_refusal why refusal.ReadFault e));
     faults = still_faults (IsFault (did.Step half.Whole)) seen.faults (λ x. x);
+    unfailed = λ read change. refl;
   };
 }
   where

@@ -4,6 +4,7 @@ use Rattle.std.specs.List.{list_any}
 use Rattle.std.specs.Option.{IfSome}
 use Rattle.std.specs.Str.{bytes_eq}
 use Rattle.disk_model.specs.Disk.{History, Faults}
+use Rattle.disk_model.specs.FaultCounts.{NoFault}
 use Rattle.mdbox_base.specs.Streams.{Rose}
 use Rattle.mdbox_base.specs.declared.entries.Highest.{Highest}
 use Rattle.mdbox_base.specs.declared.entries.InstRow.{InstRow}
@@ -141,7 +142,7 @@ pub record FaultsGrow (failed : Type 0) (old new : Faults) : Type 0 where
 
 -- A step is the next of its request. What a request is replied follows from the answers of its steps; exactly a stopped store
 -- replies so, and in one that was stopped nothing happens but that pins are taken away; an event is refused by a read fault
--- where a read failed.
+-- where a read failed. In an event that was refused by none, and in which no change failed, no call failed.
 pub record EndsRequest (request : Request) (said : List Reply) (event : RunEvent) (answer ended : Option Reply) (did : Did) (old new : Seen) : Type 0 where
   pub in_turn : is_some answer ≡ true → slice_get (halves_of request) (length said) ≡ Some (half_of request event.part)
   pub replied : (given : Reply) → ended ≡ Some given → IsReplyOf request (and_told said answer) given
@@ -149,6 +150,7 @@ pub record EndsRequest (request : Request) (said : List Reply) (event : RunEvent
   pub still : old.stopped ≡ true → new ≡ record old { pins = new.pins }
   pub reads : event.refused ≡ Some refusal.ReadFault → Rose old.faults.reads new.faults.reads
   pub faults : FaultsGrow (IsFault did) old.faults new.faults
+  pub unfailed : event.refused ≢ Some refusal.ReadFault → (IsFault did → ⊥) → NoFault old.faults new.faults
 
 -- ---- an event
 
