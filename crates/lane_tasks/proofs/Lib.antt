@@ -1,3 +1,4 @@
 pub mod FilesLemmas
+pub mod RoomLemmas
 pub mod StandLemmas
 pub mod StepLemmas

@@ -1,5 +1,6 @@
 -- The clause of a task's step, from that of its kind.
 use Rattle.std.proofs.Common.{◌≡◌, ◌<◌, ◌-◌, ℕ, Bool, true, false, List, [], Option, Some, None, refl, sym, ◌∙◌, ap, subst, arith}
+use Rattle.std.specs.Prelude.{if◌then◌else◌}
 use Rattle.disk_model.specs.Disk.{History, Faults}
 use Rattle.mdbox_base.specs.declared.ids.Uid.{Uid}
 use Rattle.mdbox_base.specs.declared.progress.Did.{Did}
@@ -15,7 +16,7 @@ use Rattle.model_lists.specs.Lists.{Lists}
 use Rattle.model_meaning.specs.MapMeaning.{MapMeaning}
 use Rattle.list_machine.specs.Run.{Run, RunEvent, and_then}
 use Rattle.journal.specs.Events.{Around, DidPart}
-use Rattle.storage_files.specs.Files.{FilesValue, pins_in}
+use Rattle.storage_files.specs.Files.{FilesValue, is_doomed_in, pins_in}
 use Rattle.store_core.specs.Keeping.{KeepsRest}
 use Rattle.store_core.specs.MadeLogs.{without_box}
 use Rattle.store_core.specs.Value.{StoreValue}
@@ -26,12 +27,14 @@ use Rattle.mail_ops.specs.Copy.{CopyValue, IsAtCopy}
 use Rattle.mail_ops.specs.Expunging.{ExpungeValue, IsAtExpunge}
 use Rattle.mail_ops.specs.Making.{IsAtMake, KeepsAllButLogs, MakeAnswers, MakeValue, make_left, with_drawn_box}
 use Rattle.mail_ops.specs.Moving.{IsAtMove, MoveValue}
-use Rattle.mail_ops.specs.Requests.{IsOpsRequest, Replies}
+use Rattle.mail_ops.specs.Flagging.{flag_refusal}
+use Rattle.mail_ops.specs.Requests.{AppendsNothing, IsOpsRequest, Replies}
 use Rattle.mail_ops.specs.Task.{IsAt, TaskValue}
 use Rattle.mail_ops.specs.declared.making.MakeStage.{MakeStage}
 use Rattle.mail_ops.specs.declared.making.MakeStage.TheVariants as make_stage
 use Rattle.mail_fetch.specs.Claims.{HasFetchRoom, HasUseRoom}
-use Rattle.mail_fetch.specs.Clause.{FetchSteps, StepsOnSafe}
+use Rattle.mail_fetch.specs.Clause.{CanFetch, FetchSteps, StepsOf}
+use Rattle.mail_fetch.specs.Events.{FetchesNext, fetch_refusal}
 use Rattle.mail_fetch.specs.Stages.{IsAtFetch}
 use Rattle.mail_fetch.specs.Task.{FetchValue, UnpinsUndoomed, seen_in}
 use Rattle.mail_fetch.specs.declared.task.FetchStage.{FetchStage}
@@ -41,7 +44,7 @@ use Rattle.mail_save.specs.Ready.{IsReadyToSave}
 use Rattle.mail_save.specs.SaveSeen.{HasItsParts, IsAtSave, StepsWithRoom, around_saving}
 use Rattle.mail_save.specs.Task.{IsReadyToDeliver, SaveValue}
 use Rattle.mail_save.proofs.SavePartLemmas.{ready_has_parts}
-use Rattle.lane_tasks.specs.Clause.{DoomsNothing, StepsTask}
+use Rattle.lane_tasks.specs.Clause.{DoomsNothing, StepsTask, around_at}
 use Rattle.lane_tasks.specs.Tasks.{IsAtTask, IsMakeNumber, IsTaskOf, TookFiles, TookNoFile, did_of, work_left}
 use Rattle.lane_tasks.specs.declared.task.Task.{Task}
 use Rattle.lane_tasks.specs.declared.task.Task.TheVariants as task
@@ -54,18 +57,19 @@ pub steps_by : {D : Type 0} → (t next : Task) (q : Request) (old new : StoreVa
     → StepsTask t next old new before after began now ended
 steps_by t next q old new before after began now ended is none files took_is took_so steps asked around behind run lane place said lists come shown room reads stood =
     let same = (is asked stood.is_of).0 in
-    let seen : Steps (IsAtTask t old before q) (IsAtTask next new after q) around behind q (seen_in old before began) (seen_in new after now) (did_of next) ended =
-    subst (λ (kept : FilesValue). Steps (IsAtTask t old before q) (IsAtTask next new after q) around behind q (seen_in old before began) (seen_of (λ file. pins_in file kept.files) new after now) (did_of next) ended) (sym files)
-    (steps around behind (λ file. pins_in file old.files.files)) in
-    let does : Steps (IsAtTask t old before asked) (IsAtTask next new after asked) around behind asked (seen_in old before began) (seen_in new after now) (did_of next) ended =
-    subst (λ (k : Request). Steps (IsAtTask t old before k) (IsAtTask next new after k) around behind k (seen_in old before began) (seen_in new after now) (did_of next) ended) (sym same) seen in
+    let found = around_at t asked old around in
+    let seen : Steps (IsAtTask t old before q) (IsAtTask next new after q) found behind q (seen_in old before began) (seen_in new after now) (did_of next) ended =
+    subst (λ (kept : FilesValue). Steps (IsAtTask t old before q) (IsAtTask next new after q) found behind q (seen_in old before began) (seen_of (λ file. pins_in file kept.files) new after now) (did_of next) ended) (sym files)
+    (steps found behind (λ file. pins_in file old.files.files)) in
+    let does : Steps (IsAtTask t old before asked) (IsAtTask next new after asked) found behind asked (seen_in old before began) (seen_in new after now) (did_of next) ended =
+    subst (λ (k : Request). Steps (IsAtTask t old before k) (IsAtTask next new after k) found behind k (seen_in old before began) (seen_in new after now) (did_of next) ended) (sym same) seen in
     let d = does run lane place said lists come shown stood.at in (
       d.0,
       λ more. record {
         is_of = (is asked stood.is_of).1;
         at = d.1 more;
         took = took_so (and_then run d.0.makes.event) place (took_none_more run place d.0.makes.event d.0.makes.request_is
-            (λ done. none around run lists d.0.makes.event d.0.makes.event.part (subst (λ (k : Request). DidPart around run lists k d.0.makes.event d.0.makes.event.part) same (d.0.makes.is_event.did done))) (took_is run place stood.took));
+            (λ done. none found run lists d.0.makes.event d.0.makes.event.part (subst (λ (k : Request). DidPart found run lists k d.0.makes.event d.0.makes.event.part) same (d.0.makes.is_event.did done))) (took_is run place stood.took));
       },
     )
 
@@ -75,10 +79,10 @@ steps_by t next q old new before after began now ended is none files took_is too
 abbrev pub StepsFrom : {D : Type 0} → (Run → ℕ → List Reply → Type 0) → (Run → ℕ → List Reply → Type 0) → Request → StoreValue D → StoreValue D → Option History → Option History → Faults → Faults → Did → Option Reply → Type 0
 StepsFrom Stood Stands q old new before after began now did ended = (around behind : Around) (pins : ℕ → ℕ) → Steps Stood Stands around behind q (seen_of pins old before began) (seen_of pins new after now) did ended
 
-rest_files : {D : Type 0} → (old new : StoreValue D) → KeepsRest old new → new.files ≡ old.files
+pub rest_files : {D : Type 0} → (old new : StoreValue D) → KeepsRest old new → new.files ≡ old.files
 rest_files old new rest = ap (λ (s : StoreValue _). s.files) rest
 
-logs_files : {D : Type 0} → (old new : StoreValue D) → KeepsAllButLogs old new → new.files ≡ old.files
+pub logs_files : {D : Type 0} → (old new : StoreValue D) → KeepsAllButLogs old new → new.files ≡ old.files
 logs_files old new rest = ap (λ (s : StoreValue _). s.files) rest
 
 copy_request : (t u : CopyValue) → (u.name ≡ t.name) × (u.uid ≡ t.uid) × (u.target ≡ t.target) → request.Copy t.name t.uid t.target ≡ request.Copy u.name u.uid u.target
@@ -131,6 +135,25 @@ pub counts_does : {D : Type 0} → (t u : Did) (store : StoreValue D) (history :
     → StepsTask (task.Counts t) (task.Counts u) store store history history faults faults ended
 counts_does t u store history faults ended steps = steps_by (task.Counts t) (task.Counts u) request.Counts store store history history faults faults ended (λ asked is. (is, is)) counts_takes_none refl (λ run place took. took) (λ run place took. took) steps
 
+-- ---- a store that is stopped, and files that are doomed
+
+pub stays_stopped : {D : Type 0} → (old new : StoreValue D) → (old.stopped ≡ true → new ≡ old) → old.stopped ≡ true → new.stopped ≡ true
+stays_stopped old new still stopped = ap (λ (s : StoreValue _). s.stopped) (still stopped) ∙ stopped
+
+refuses_flags : {D : Type 0} → (name : List ℕ) (uid : ℕ) (store : StoreValue D) → store.stopped ≡ true → flag_refusal name uid store ≡ Some refusal.Stopped
+refuses_flags name uid store stopped = ap (λ (b : Bool). if b then Some refusal.Stopped else flag_refusal name uid (record store { stopped = false })) stopped
+
+pub ops_halted : {D : Type 0} → (q : Request) (old new : StoreValue D) → IsOpsRequest q → (AppendsNothing q old → new ≡ old) → old.stopped ≡ true → new.stopped ≡ true
+ops_halted (request.List name) old new is same stopped = stays_stopped old new (λ t. same tt) stopped
+ops_halted (request.Flag name uid flags) old new is same stopped = stays_stopped old new (λ t. same (refusal.Stopped, refuses_flags name uid.0 old t)) stopped
+ops_halted other old new is same stopped = absurd is
+
+pub doomed_as : {D : Type 0} → (old new : StoreValue D) → ((file : ℕ) → is_doomed_in file new.files.files ≡ is_doomed_in file old.files.files) → DoomsNothing old → DoomsNothing new
+doomed_as old new same none file = same file ∙ none file
+
+pub doomed_rest : {D : Type 0} → (old new : StoreValue D) → new.files ≡ old.files → DoomsNothing old → DoomsNothing new
+doomed_rest old new same none file = ap (λ (f : FilesValue). is_doomed_in file f.files) same ∙ none file
+
 -- ---- a make
 
 -- a log that a make has made has a number in range
@@ -159,6 +182,13 @@ make_fewer name t u old new before after answer said more fewer =
 
 -- ---- a fetch
 
+-- the reply of a store that is stopped
+pub fetch_halts : {D : Type 0} → (name : List ℕ) (uid : ℕ) (now next : FetchStage) (answer : Progress) (store : StoreValue D) (history : Option History) (began faults : Faults) → FetchesNext name uid now next answer store history began faults → store.stopped ≡ true → answer ≡ progress.Done (reply.Refused refusal.Stopped)
+fetch_halts name uid fetch_stage.First next answer store history began faults said stopped =
+    (said.refused refusal.Stopped (ap (λ (b : Bool). if b then Some refusal.Stopped else fetch_refusal name uid (record store { stopped = false })) stopped)).0
+fetch_halts name uid (fetch_stage.Reading region) next answer store history began faults said stopped = (said.0 stopped).0
+fetch_halts name uid (fetch_stage.Unpinning from given) next answer store history began faults said stopped = (said.0 stopped).0
+
 pub use_room : {D : Type 0} → (now : FetchStage) (store : StoreValue D) → HasUseRoom store → HasFetchRoom now store
 use_room fetch_stage.First store room = room
 use_room (fetch_stage.Reading region) store room = tt
@@ -177,8 +207,8 @@ pub fetch_does : {D : Type 0} → (t u : FetchValue) (old new : StoreValue D) (b
     → StepsTask (task.Fetch t) (task.Fetch u) old new before after began now ended
 fetch_does t u old new before after began now ended same undoomed steps asked around behind run lane place said lists come shown room reads stood =
     let is : asked ≡ request.Fetch t.name t.uid = stood.is_of in
-    let does : StepsOnSafe (IsAtFetch t.stage old.stopped before) (IsAtFetch u.stage new.stopped after) around behind asked (seen_in old before began) (seen_in new after now) u.did ended =
-        subst (λ (k : Request). StepsOnSafe (IsAtFetch t.stage old.stopped before) (IsAtFetch u.stage new.stopped after) around behind k (seen_in old before began) (seen_in new after now) u.did ended) (sym is) (steps around behind undoomed) in
+    let does : StepsOf (λ ls. CanFetch t.stage t.name t.uid ls old.map before) (IsAtFetch t.stage old.stopped before) (IsAtFetch u.stage new.stopped after) around behind asked (seen_in old before began) (seen_in new after now) u.did ended =
+        subst (λ (k : Request). StepsOf (λ ls. CanFetch t.stage t.name t.uid ls old.map before) (IsAtFetch t.stage old.stopped before) (IsAtFetch u.stage new.stopped after) around behind k (seen_in old before began) (seen_in new after now) u.did ended) (sym is) (steps around behind undoomed) in
     let d = does run lane place said lists come shown reads stood.at in (
       d.0,
       λ more. record {
@@ -242,11 +272,11 @@ more_of progress.More e = refl
 more_of (progress.Done given) e = absurd (let k : Some given ≡ None = e in cc k)
 
 -- an event that goes on doesn't stop the store
-still_runs : (stopped : Bool) (ended : Option Reply) → (stopped ≡ true → ended ≡ Some (reply.Refused refusal.Stopped)) → ended ≡ None → stopped ≡ false
+pub still_runs : (stopped : Bool) (ended : Option Reply) → (stopped ≡ true → ended ≡ Some (reply.Refused refusal.Stopped)) → ended ≡ None → stopped ≡ false
 still_runs true ended halts none = absurd (let k : None ≡ Some (reply.Refused refusal.Stopped) = sym none ∙ halts refl in cc k)
 still_runs false ended halts none = refl
 
-ran_before : (old new : Bool) → (old ≡ true → new ≡ true) → new ≡ false → old ≡ false
+pub ran_before : (old new : Bool) → (old ≡ true → new ≡ true) → new ≡ false → old ≡ false
 ran_before true new still runs = sym (still refl) ∙ runs
 ran_before false new still runs = refl
 
@@ -263,6 +293,7 @@ pub deliver_does : {D : Type 0} → (t u : SaveValue) (old new : StoreValue D) (
     → ((octets : List ℕ) (pins : ℕ → ℕ) (behind : Around) → HasItsParts t.stage octets → (old.stopped ≡ false → IsReadyToSave t.stage t.name t.time t.size octets old before)
     → StepsWithRoom (IsAtSave t.stage) (IsAtSave u.stage) (around_saving octets t.stage old) behind (request.Deliver t.name t.time octets) (seen_of pins old before began) (seen_of pins new after now) u.did (ended_by result))
     → StepsTask (task.Deliver t) (task.Deliver u) old new before after began now (ended_by result)
+unfolding event_with
 deliver_does t u old new before after began now result same claims ready steps (request.Deliver name time octets) around behind run lane place said lists come shown room reads stood =
     let does : StepsWithRoom (IsAtSave t.stage) (IsAtSave u.stage) (around_saving octets t.stage old) behind (request.Deliver name time octets) (seen_in old before began) (seen_of (λ file. pins_in file old.files.files) new after now) u.did (ended_by result) =
         subst (λ (k : Request). StepsWithRoom (IsAtSave t.stage) (IsAtSave u.stage) (around_saving octets t.stage old) behind k (seen_in old before began) (seen_of (λ file. pins_in file old.files.files) new after now) u.did (ended_by result)) (deliver_request t name time octets stood.is_of)

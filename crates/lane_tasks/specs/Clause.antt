@@ -9,12 +9,12 @@ use Rattle.model_lists.specs.Lists.{Lists}
 use Rattle.list_machine.specs.Run.{Run, and_then}
 use Rattle.journal.specs.Events.{Around}
 use Rattle.store_core.specs.Value.{StoreValue}
-use Rattle.storage_files.specs.Files.{is_doomed_in}
+use Rattle.storage_files.specs.Files.{is_doomed_in, is_emptied_in, is_taken_in}
 use Rattle.task_claims.specs.Claims.{Claims, Held, Pinned}
 use Rattle.task_claims.specs.Stable.{Beside}
 use Rattle.task_steps.specs.Step.{ShowsSeen, HasComeTo, FindsRoom, DidEvent, and_told}
 use Rattle.mail_fetch.specs.Claims.{HasUseRoom}
-use Rattle.mail_fetch.specs.Clause.{ReadsSafe}
+use Rattle.mail_fetch.specs.Clause.{CanFetch}
 use Rattle.mail_fetch.specs.Task.{seen_in}
 use Rattle.mail_save.specs.SaveSeen.{around_saving}
 use Rattle.mail_save.specs.Task.{SaveValue}
@@ -49,20 +49,27 @@ abbrev pub around_at : {D : Type 0} → Task → Request → StoreValue D → Ar
 around_at (task.Deliver t) asked store around = found_saving t asked store around
 around_at other asked store around = around
 
--- A task that answers by what the files of messages read needs them to be safe for the lists: a fetch does so.
-abbrev pub CanAnswer : Task → Lists → Option History → Type 0
-CanAnswer (task.Fetch t) lists history = ReadsSafe lists history
-CanAnswer other lists history = Unit {0}
+-- a storage file that no task has taken, to add to it or to empty it
+pub record IsFreeToTake {D : Type 0} (file : ℕ) (store : StoreValue D) : Type 0 where
+  pub some : 1 ≤ file
+  pub untaken : is_taken_in file store.files.files ≡ false
+  pub unemptied : is_emptied_in file store.files.files ≡ false
+
+-- A task that answers by what the files of messages read needs them to store these for the lists: so a fetch does before its first
+-- event, of the one message.
+abbrev pub CanAnswer : {D : Type 0} → Task → Lists → StoreValue D → Option History → Type 0
+CanAnswer (task.Fetch t) lists store history = CanFetch t.stage t.name t.uid lists store.map history
+CanAnswer other lists store history = Unit {0}
 
 -- ---- the clause
 
 -- Of every run that has come to the store, of any lists that it shows, and where the task stands, unless the store runs and a request
--- has taken the file that it finds; of lists for which the files are safe, if it answers by what they read. It is `Steps`, with the
+-- has taken the file that it finds; of lists of which the files store what it answers by. It is `Steps`, with the
 -- store and what its disk tells.
 abbrev pub StepsTask : {D : Type 0} → Task → Task → StoreValue D → StoreValue D → Option History → Option History → Faults → Faults → Option Reply → Type 0
 StepsTask task next old new before after began now ended =
     (asked : Request) (around behind : Around) (run : Run) (lane place : ℕ) (said : List Reply) (lists : Lists) → HasComeTo run (seen_in old before began) → ShowsSeen (seen_in old before began) lists
-    → (old.stopped ≡ false → FindsRoom (around_at task asked old around) run) → (old.stopped ≡ false → CanAnswer task lists before) → StandsTask task old before asked run place said
+    → (old.stopped ≡ false → FindsRoom (around_at task asked old around) run) → (old.stopped ≡ false → CanAnswer task lists old before) → StandsTask task old before asked run place said
     → (d : DidEvent (around_at task asked old around) behind run lane place said asked lists (seen_in old before began) (seen_in new after now) (did_of next) ended)
     × (ended ≡ None → StandsTask next new after asked (and_then run d.makes.event) place (and_told said d.makes.answer))
 

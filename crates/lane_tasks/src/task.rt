@@ -103,7 +103,7 @@ impl Task {
         ensures leaves { store.new.stopped ≡ false → LeavesOthers (claims_at self.old) store.old store.new (D.history store.old.disk) (D.history store.new.disk) }
         ensures ended { (given : Reply) → result ≡ progress.Done given → store.new.stopped ≡ false → ClaimsNothing (claims_at self.new) }
 
-        // Exactly a stopped store answers so, which stays stopped; and no event dooms a storage file.
+        // It replies so if the store is stopped then, and a store that is stopped stays so. No file is doomed.
         ensures stopped { store.new.stopped ≡ true → result ≡ progress.Done (reply.Refused refusal.Stopped) }
         ensures halted { store.old.stopped ≡ true → store.new.stopped ≡ true }
         ensures undoomed { store.new.stopped ≡ false → DoomsNothing store.old → DoomsNothing store.new }

@@ -30,7 +30,7 @@ use Rattle.model_meaning.proofs.MapSoundLemmas.{map_sound}
 use Rattle.model_store.specs.Listing.{ShowLists}
 use Rattle.model_store.specs.Safe.{IsThereWhole}
 use Rattle.model_store.specs.Settled.{files_of}
-use Rattle.model_store.specs.Stands.{AreMailboxes}
+use Rattle.model_store.specs.Stands.{AreMailboxes, StoresMessage}
 use Rattle.model_store.proofs.StandsLemmas.{map_same}
 use Rattle.list_machine.specs.Run.{First, ReadsPiece, Unpins, RemovesFile, Pin, RunEvent, Run, and_then, own_events, is_unpinning, has_unpinned}
 use Rattle.list_machine.specs.Machine.{PartAnswers, is_step}
@@ -46,23 +46,23 @@ use Rattle.task_steps.specs.Step.{DidEvent, Seen, ShowsSeen, HasComeTo, IsKept, 
 use Rattle.task_steps.proofs.SeenLemmas.{pins_still, doomed_still, not_begun_stays}
 use Rattle.task_steps.proofs.OneEventLemmas.{when_stopped, memory_is, some_given, never_more}
 use Rattle.mail_fetch.specs.Claims.{claims_of_pinned, held_for, used_by, with_claims, without_claims}
-use Rattle.mail_fetch.specs.Clause.{FetchSteps, ReadsSafe}
+use Rattle.mail_fetch.specs.Clause.{CanFetch, FetchSteps, ReadsSafe}
 use Rattle.mail_fetch.specs.Events.{fetch_refusal, IsAbsent, IsBegun, IsStoredBy, IsPinned, IsPieceRead, next_piece, with_piece, NoChangeFault}
 use Rattle.mail_fetch.specs.Parts.{left_after, parts_to_read, pieces_left}
 use Rattle.mail_fetch.specs.Region.{stored_at, RegionValue, unread, IsReplyFor}
-use Rattle.mail_fetch.specs.Stages.{ReadPiece, HasPinned, HasReadAllBut, IsPieceRefusal, UnpinsNext, IsFrontOfStored, Reading, IsTrueReply, IsAtFetch}
+use Rattle.mail_fetch.specs.Stages.{ReadPiece, HasPinned, HasReadAllBut, IsPieceRefusal, StoresListed, UnpinsNext, IsFrontOfStored, Reading, IsTrueReply, IsAtFetch}
 use Rattle.mail_fetch.specs.Task.{HasPieceLeft, fetch_did, pins_kept_in, refusing_did, one_pin, seen_in}
 use Rattle.mail_fetch.specs.declared.parts.StoredAt.{StoredAt}
 use Rattle.mail_fetch.specs.declared.task.FetchStage.{FetchStage}
 use Rattle.mail_fetch.specs.declared.task.FetchStage.TheVariants as stage
-use Rattle.mail_fetch.proofs.InstanceLemmas.{named_each, pieces_told}
+use Rattle.mail_fetch.proofs.InstanceLemmas.{pieces_told}
 use Rattle.mail_fetch.proofs.OwnPinLemmas.{pins_begin, pins_end}
 use Rattle.mail_fetch.proofs.PartLemmas.{pieces_after}
 use Rattle.mail_fetch.proofs.FetchPartLemmas.{last_with, next_reads, next_unpins, unpins_by, holds_pin, own_files, none_doomed}
 use Rattle.mail_fetch.proofs.HoldLemmas.{rows_held, rows_let_go}
 use Rattle.mail_fetch.proofs.UseLemmas.{one_end, own_pinned, pins_fewer, pins_more, use_seen}
 use Rattle.mail_fetch.proofs.FetchEventLemmas.{behind_reading, DidSo, stands_so, did_refuse, did_nothing, pin_event, did_pin, fetch_event, IsLateRefusal, piece_is_late, unpin_is_late, did_late}
-use Rattle.mail_fetch.proofs.RecordLemmas.{shown_by, no_mailbox, no_message, is_fetched, by_guid, stored_by}
+use Rattle.mail_fetch.proofs.RecordLemmas.{IsShown, shown_by, no_mailbox, no_message, is_fetched, by_guid, listed_stored}
 use Rattle.mail_fetch.proofs.StoredRegionLemmas.{front_more, true_reply}
 
 fall : (b : Bool) → b ≡ true → b ≡ false → ⊥
@@ -174,6 +174,7 @@ first_pinned around after name uid store history faults row entry end is runs st
     let guid : row.guid ≡ shown.message.guid = ap (λ (r : ListRow). r.guid.0) shown.same in
     let found : record_of store.map shown.message.guid ≡ Some entry = by_guid store.map row.map_uid entry shown.message.guid (store_is_sound history store is) stored.stored (stored.same ∙ guid) in
     let event = pin_event lane place entry.file (pieces_to_read entry) entry.instances (told_calls history) in
+    let one_record : (other : MapRecord) → record_of store.map shown.message.guid ≡ Some other → other ≡ entry = λ other there. (let k : Some other ≡ Some entry = sym there ∙ found in cc k) in
     let unpinned : has_unpinned place run ≡ false = ap (λ (es : List RunEvent). list_any is_unpinning es) stood.0 in
     subst (λ (s : Seen). (d : DidEvent around after run lane place said (request.Fetch name uid) lists seen s (did.Step half.Whole) None) × (◌≡◌ {A = Option Reply} None None → IsAtFetch (stage.Reading (unread from)) s.stopped s.history (and_then run d.makes.event) place (and_told said d.makes.answer))) (sym new_is)
     (stands_so around after run lane place said (request.Fetch name uid) lists seen new (did.Step half.Whole) None event (Some (reply.Fetched shown.message.octets))
@@ -202,30 +203,39 @@ first_pinned around after name uid store history faults row entry end is runs st
       (
         shown.message.octets,
         ap (λ (s : List Reply). s ++ reply.Fetched shown.message.octets ∷ []) stood.1,
-        λ runs_now. reading_as (HaveMessages store.map lists) (IsFrontOfStored (unread (stored_at row entry)) shown.message.octets) history (λ files there. record {
+        λ runs_now. reading_as (StoresListed store.map shown.message) (IsFrontOfStored (unread (stored_at row entry)) shown.message.octets) history (λ files there. record {
           row = row;
           entry = entry;
           from = refl;
           listed = sym (ap (λ (r : ListRow). r.size) shown.same);
-          stores = stored_by files store.map store.map.boxes lists name uid.0 shown.message entry (store_is_sound history store is) there.boxes shown.there found;
-          sizes = named_each (IsThereWhole files) store.map row.map_uid entry stored.stored there.instances;
+          stores = subst (λ (r : MapRecord). StoresMessage files r shown.message.octets) (one_record there.entry there.found) there.stores;
+          sizes = subst (λ (r : MapRecord). All (IsThereWhole files) r.instances) (one_record there.entry there.found) there.sizes;
           front = refl;
-        }) (boxes_safe history store lists is runs (safe runs)),
+        }) (safe runs shown.message shown.there),
       ),
     )))
 
--- where the files are safe, the message's file is there
-pub absent_unsafe : {D : Type 0} → (name : List ℕ) (uid : Uid) (store : StoreValue D) (history : Option History) (lists : Lists) (why : Refusal) → IsStore history store → store.stopped ≡ false → IsAbsent name uid.0 store why → ShowLists store.map.boxes (indexes_of store.boxes) lists → ReadsSafe lists history → ⊥
-absent_unsafe name uid store None lists why is runs absent shows safe = safe
-absent_unsafe name uid store (Some h) lists why is runs (row, entry, stored, none, why_is) shows safe =
-    let there = boxes_safe (Some h) store lists is runs safe in
-    let shown = shown_by store.map.boxes (indexes_of store.boxes) lists name uid.0 stored.mailbox row shows stored.named stored.listed in
-    let guid : row.guid ≡ shown.message.guid = ap (λ (r : ListRow). r.guid.0) shown.same in
-    let found : record_of store.map shown.message.guid ≡ Some entry = by_guid store.map row.map_uid entry shown.message.guid (store_is_sound (Some h) store is) stored.stored (stored.same ∙ guid) in
-    let stores = stored_by (files_of h.now) store.map store.map.boxes lists name uid.0 shown.message entry (store_is_sound (Some h) store is) there.boxes shown.there found in
-    let known = (is.running runs).files_known entry.file in
-    let k : Some (length stores.stored.octets_there) ≡ None = ap (option_map length) (sym stores.stored.there) ∙ (known ∙ none) in
-    cc k
+-- where the files store the message, its file is there
+pub absent_unstored : {D : Type 0} → (name : List ℕ) (uid : Uid) (store : StoreValue D) (history : Option History) (lists : Lists) (why : Refusal) → IsStore history store → store.stopped ≡ false → IsAbsent name uid.0 store why → ShowLists store.map.boxes (indexes_of store.boxes) lists → CanFetch stage.First name uid lists store.map history → ⊥
+absent_unstored name uid store history lists why is runs (row, entry, stored, none, why_is) shows can = by_disk history is (can shown.message shown.there)
+  where
+    shown : IsShown name uid.0 lists row
+    shown = shown_by store.map.boxes (indexes_of store.boxes) lists name uid.0 stored.mailbox row shows stored.named stored.listed
+
+    guid : row.guid ≡ shown.message.guid
+    guid = ap (λ (r : ListRow). r.guid.0) shown.same
+
+    found : record_of store.map shown.message.guid ≡ Some entry
+    found = by_guid store.map row.map_uid entry shown.message.guid (store_is_sound history store is) stored.stored (stored.same ∙ guid)
+
+    by_disk : (told : Option History) → IsStore told store → Reading (StoresListed store.map shown.message) told → ⊥
+    by_disk None kept there = there
+    by_disk (Some h) kept there =
+        let same : there.entry ≡ entry = (let k : Some there.entry ≡ Some entry = sym there.found ∙ found in cc k) in
+        let stores = subst (λ (r : MapRecord). StoresMessage (files_of h.now) r shown.message.octets) same there.stores in
+        let known = (kept.running runs).files_known entry.file in
+        let k : Some (length stores.stored.octets_there) ≡ None = ap (option_map length) (sym stores.stored.there) ∙ (known ∙ none) in
+        cc k
 
 -- The first event of a store that isn't stopped.
 pub begin_steps : {D : Type 0} → (around after : Around) (name : List ℕ) (uid : Uid) (store : StoreValue D) (history : Option History) (faults : Faults) (next : FetchStage) (answer : Progress) (how : Did) → IsStore history store → store.stopped ≡ false → IsBegun name uid.0 store next answer
@@ -249,7 +259,7 @@ begin_steps around after name uid store history faults next answer how is runs b
         by_cause : (why : Refusal) → (answer ≡ progress.Done (reply.Refused why)) × (next ≡ stage.First) → (why ≡ refusal.NoMemory) ⊎ IsAbsent name uid.0 store why → FirstClause around after name uid store history faults next answer how
         by_cause why is_so (inl none) =
             done refusal.NoMemory (is_so.0 ∙ ap (λ (r : Refusal). progress.Done (reply.Refused r)) none, is_so.1) (first_memory around after name uid store history faults runs)
-        by_cause why is_so (inr absent) = λ run lane place said lists come shows safe stood. absurd (absent_unsafe name uid store history lists why is runs absent shows.1 (safe runs))
+        by_cause why is_so (inr absent) = λ run lane place said lists come shows safe stood. absurd (absent_unstored name uid store history lists why is runs absent shows.1 (safe runs))
 
         by_case : ((answer ≡ progress.More) × ((region : RegionValue) × IsPinned name uid.0 store region × (next ≡ stage.Reading region))) ⊎ ((why : Refusal) × ((why ≡ refusal.NoMemory) ⊎ IsAbsent name uid.0 store why) × (answer ≡ progress.Done (reply.Refused why)) × (next ≡ stage.First))
             → FirstClause around after name uid store history faults next answer how
@@ -507,3 +517,12 @@ fetch_stays (stage.Reading region) stopped history = λ run place said event oth
 fetch_stays (stage.Unpinning from given) stopped history = λ run place said event other gives stood.
     let same = own_other place run event (ne_eqb event.request place other) in
     (subst (UnpinsNext from given) (sym same) stood.0, stood.1)
+
+-- ---- files that are safe
+
+-- Files that are safe for the lists store each of their messages.
+pub safe_fetched : {D : Type 0} → (now : FetchStage) (name : List ℕ) (uid : Uid) (store : StoreValue D) (history : Option History) (lists : Lists) → IsStore history store → store.stopped ≡ false → ReadsSafe lists history → CanFetch now name uid lists store.map history
+safe_fetched stage.First name uid store history lists is runs safe = λ message listed.
+    reading_as (HaveMessages store.map lists) (StoresListed store.map message) history (λ files there. listed_stored files store.map store.map.boxes lists name uid.0 message (store_is_sound history store is) there.boxes there.instances listed) (boxes_safe history store lists is runs safe)
+safe_fetched (stage.Reading region) name uid store history lists is runs safe = tt
+safe_fetched (stage.Unpinning from given) name uid store history lists is runs safe = tt

@@ -6,7 +6,8 @@ use Rattle.mdbox_base.specs.declared.replies.Refusal.TheVariants as refusal
 use Rattle.mdbox_base.specs.declared.replies.Reply.{Reply}
 use Rattle.mdbox_base.specs.declared.replies.Reply.TheVariants as reply
 use Rattle.model_meaning.specs.BoxMeaning.{LogRow}
-use Rattle.model_meaning.specs.MapMeaning.{MapRecord}
+use Rattle.model_lists.specs.Lists.{ListedMessage}
+use Rattle.model_meaning.specs.MapMeaning.{MapMeaning, MapRecord, record_of}
 use Rattle.model_store.specs.Safe.{IsThereWhole}
 use Rattle.model_store.specs.Settled.{files_of}
 use Rattle.model_store.specs.Stands.{StoresMessage}
@@ -53,6 +54,13 @@ UnpinsNext from given own =
     ⊎ ((why : Refusal) × (front : List RunEvent) × (last : RunEvent) × (refusal_in given ≡ Some why) × IsPieceRefusal why × HasPinned from own (front ++ last ∷ []) × All (ReadPiece None) front × ReadPiece (Some why) last)
 
 -- ---- what the disk reads
+
+-- The files store a listed message: its record's region has its octets, and none of the record's instances is missing.
+pub record StoresListed (m : MapMeaning) (message : ListedMessage) (files : Files) : Type 0 where
+  pub entry : MapRecord
+  pub found : record_of m message.guid ≡ Some entry
+  pub stores : StoresMessage files entry message.octets
+  pub sizes : All (IsThereWhole files) entry.instances
 
 -- The files store this text where the fetch reads, and the octets that were read are the first of those that they have there.
 pub record IsFrontOfStored (region : RegionValue) (octets : List ℕ) (files : Files) : Type 0 where

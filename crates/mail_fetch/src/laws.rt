@@ -7,16 +7,22 @@ ghost use Rattle.model_store.specs.Safe.{IsThereWhole};
 ghost use Rattle.model_store.specs.Stands.{StoresMessage};
 ghost use Rattle.list_machine.specs.Run.{Run, RunEvent, and_then};
 ghost use Rattle.mdbox_base.specs.declared.replies.Reply.{Reply};
+ghost use Rattle.mdbox_base.specs.declared.ids.Uid.{Uid};
+ghost use Rattle.model_lists.specs.Lists.{Lists};
+ghost use Rattle.store_core.specs.Running.{IsStore};
 ghost use Rattle.store_core.specs.Value.{StoreValue};
 ghost use Rattle.mdbox_base.specs.declared.ids.InstId.{InstId};
 ghost use Rattle.task_claims.specs.Claims.{Held, Pinned};
 ghost use Rattle.task_claims.specs.Stable.{Beside, IsStable};
 ghost use Rattle.task_steps.specs.Step.{IsKept};
 ghost use Rattle.mail_fetch.specs.Claims.{IsReadyToFetch, ReadsStored, fetch_claims};
+ghost use Rattle.mail_fetch.specs.Clause.{CanFetch, ReadsSafe};
 ghost use Rattle.mail_fetch.specs.Parts.{parts_to_read, parts_read};
 ghost use Rattle.mail_fetch.specs.Region.{stored_at, HoldsWhole};
 ghost use Rattle.mail_fetch.specs.Stages.{IsAtFetch};
 ghost use Rattle.mail_fetch.specs.declared.task.FetchStage.{FetchStage};
+
+use disk_model::Disk;
 
 /// The stages of a fetch are kept by every event of another request.
 pub fn fetch_stages_are_kept()
@@ -27,6 +33,11 @@ pub fn fetch_stages_are_kept()
 /// record's region and as its instances holds it whole. So it is fetched, and no damage is replied.
 pub fn stored_messages_are_fetched()
     ensures { (files : Files) (row : LogRow) (entry : MapRecord) (octets : List ℕ) → StoresMessage files entry octets → All (IsThereWhole files) entry.instances → length octets ≡ row.size → HoldsWhole (stored_at row entry) (parts_read files (parts_to_read (stored_at row entry))) octets }
+{}
+
+/// Where the files are safe for the lists, they store each message that these have.
+pub fn safe_files_are_fetched<D: Disk>()
+    ensures { (now : FetchStage) (name : List ℕ) (uid : Uid) (store : StoreValue D) (history : Option History) (lists : Lists) → IsStore history store → store.stopped ≡ false → ReadsSafe lists history → CanFetch now name uid lists store.map history }
 {}
 
 /// A fetch stays ready for its next event beside each event of any other task that moves only its own claims and leaves to others what

@@ -12,8 +12,8 @@ use Rattle.lane_tasks.specs.Clause.{StepsTask}
 use Rattle.lane_tasks.specs.Tasks.{claims_at, work_left}
 use Rattle.lane_tasks.specs.declared.task.Task.{Task}
 use Rattle.lane_tasks.specs.declared.task.Task.TheVariants as task
-use Rattle.mail_fetch.proofs.StageLemmas.{used_runs}
-use Rattle.lane_tasks.proofs.StepLemmas.{copy_does, counts_does, deliver_does, expunge_does, fetch_does, make_does, make_fewer, make_numbered, move_does, ops_asked, ops_does, ran_before, still_runs, unpins_undoomed, use_room}
+use Rattle.mail_fetch.proofs.StageLemmas.{used_doomed, used_only, used_runs}
+use Rattle.lane_tasks.proofs.StepLemmas.{copy_does, counts_does, deliver_does, doomed_as, doomed_rest, expunge_does, fetch_does, fetch_halts, logs_files, make_does, make_fewer, make_numbered, move_does, ops_asked, ops_does, ops_halted, ran_before, rest_files, stays_stopped, unpins_undoomed, use_room}
 use Rattle.lane_tasks.proofs.task.Task.step.Goals as goal
 
 pub returns-in-Ops-clause-does : goal.returns-in-Ops-clause-does
@@ -99,3 +99,47 @@ returns-in-Fetch-clause-leaves g c = λ runs.
 
 pub returns-in-Fetch-clause-ready : goal.returns-in-Fetch-clause-ready
 returns-in-Fetch-clause-ready g c = λ more runs. c.step-in-Fetch.ensures.alone.ready runs
+
+-- ---- a store that is stopped, and files that are doomed
+
+pub returns-in-Ops-clause-halted : goal.returns-in-Ops-clause-halted
+returns-in-Ops-clause-halted g c = let r = c.step.ensures.replies in ops_halted c.in-Ops.task.request c.args.store.now c.step.new.store (ops_asked c.in-Ops.task.request c.args.store.now c.step.new.store r.0 r.2) c.step.ensures.same
+
+pub returns-in-Make-clause-halted : goal.returns-in-Make-clause-halted
+returns-in-Make-clause-halted g c = stays_stopped c.args.store.now c.step-in-Make.new.store (λ stopped. (c.step-in-Make.ensures.still stopped).0)
+
+pub returns-in-Copy-clause-halted : goal.returns-in-Copy-clause-halted
+returns-in-Copy-clause-halted g c = stays_stopped c.args.store.now c.step-in-Copy.new.store (λ stopped. (c.step-in-Copy.ensures.still stopped).0)
+
+pub returns-in-Move-clause-halted : goal.returns-in-Move-clause-halted
+returns-in-Move-clause-halted g c = stays_stopped c.args.store.now c.step-in-Move.new.store (λ stopped. (c.step-in-Move.ensures.still stopped).0)
+
+pub returns-in-Expunge-clause-halted : goal.returns-in-Expunge-clause-halted
+returns-in-Expunge-clause-halted g c = stays_stopped c.args.store.now c.step-in-Expunge.new.store (λ stopped. (c.step-in-Expunge.ensures.still stopped).0)
+
+pub returns-in-Fetch-clause-halted : goal.returns-in-Fetch-clause-halted
+returns-in-Fetch-clause-halted g c = λ stopped. ap (λ (s : StoreValue _). s.stopped) (used_only c.in-Fetch.task.stage c.step-in-Fetch.new.self.stage c.args.store.now c.step-in-Fetch.new.store c.step-in-Fetch.ensures.alone.same) ∙ stopped
+
+pub returns-in-Fetch-clause-stopped : goal.returns-in-Fetch-clause-stopped
+returns-in-Fetch-clause-stopped g c = λ stopped.
+    let alone = c.step-in-Fetch.ensures.alone in
+    let was = sym (ap (λ (s : StoreValue _). s.stopped) (used_only c.in-Fetch.task.stage c.step-in-Fetch.new.self.stage c.args.store.now c.step-in-Fetch.new.store alone.same)) ∙ stopped in
+    fetch_halts c.in-Fetch.task.name c.in-Fetch.task.uid.0 c.in-Fetch.task.stage c.step-in-Fetch.new.self.stage c.step-in-Fetch.result c.args.store.now _ _ _ alone.replies was
+
+pub returns-in-Ops-clause-undoomed : goal.returns-in-Ops-clause-undoomed
+returns-in-Ops-clause-undoomed g c = λ runs. doomed_rest c.args.store.now c.step.new.store (rest_files c.args.store.now c.step.new.store c.step.ensures.rest)
+
+pub returns-in-Copy-clause-undoomed : goal.returns-in-Copy-clause-undoomed
+returns-in-Copy-clause-undoomed g c = λ runs. doomed_rest c.args.store.now c.step-in-Copy.new.store (rest_files c.args.store.now c.step-in-Copy.new.store c.step-in-Copy.ensures.rest)
+
+pub returns-in-Move-clause-undoomed : goal.returns-in-Move-clause-undoomed
+returns-in-Move-clause-undoomed g c = λ runs. doomed_rest c.args.store.now c.step-in-Move.new.store (rest_files c.args.store.now c.step-in-Move.new.store c.step-in-Move.ensures.rest)
+
+pub returns-in-Expunge-clause-undoomed : goal.returns-in-Expunge-clause-undoomed
+returns-in-Expunge-clause-undoomed g c = λ runs. doomed_rest c.args.store.now c.step-in-Expunge.new.store (rest_files c.args.store.now c.step-in-Expunge.new.store c.step-in-Expunge.ensures.rest)
+
+pub returns-in-Make-clause-undoomed : goal.returns-in-Make-clause-undoomed
+returns-in-Make-clause-undoomed g c = λ runs. doomed_rest c.args.store.now c.step-in-Make.new.store (logs_files c.args.store.now c.step-in-Make.new.store c.step-in-Make.ensures.rest)
+
+pub returns-in-Fetch-clause-undoomed : goal.returns-in-Fetch-clause-undoomed
+returns-in-Fetch-clause-undoomed g c = λ runs. doomed_as c.args.store.now c.step-in-Fetch.new.store (λ file. used_doomed c.in-Fetch.task.stage c.step-in-Fetch.new.self.stage c.args.store.now c.step-in-Fetch.new.store file c.step-in-Fetch.ensures.alone.same)
