@@ -1,5 +1,5 @@
 // The task of a delivery.
-ghost use Rattle.std.specs.Prelude.{◌≡◌, ◌≢◌, ◌≤◌, ℕ, List, length, true, false, None, IsSome};
+ghost use Rattle.std.specs.Prelude.{◌≡◌, ◌≢◌, ◌≤◌, ◌<◌, ℕ, List, length, false, None, IsSome};
 ghost use Rattle.attach_detach.specs.Prepared.{IsPrepared};
 ghost use Rattle.attach_detach.specs.declared.message.Prepared.{Prepared as PreparedValue};
 ghost use Rattle.journal.specs.Events.{Around};
@@ -8,7 +8,6 @@ ghost use Rattle.mdbox_base.specs.Words.{IsName, IsOctets};
 ghost use Rattle.mdbox_base.specs.declared.progress.Did.TheVariants as did;
 ghost use Rattle.mdbox_base.specs.declared.progress.Progress.TheVariants as progress;
 ghost use Rattle.mdbox_base.specs.declared.replies.Refusal.TheVariants as refusal;
-ghost use Rattle.mdbox_base.specs.declared.replies.Reply.{Reply as ReplyValue};
 ghost use Rattle.mdbox_base.specs.declared.replies.Reply.TheVariants as reply;
 ghost use Rattle.mdbox_base.specs.declared.requests.Request.TheVariants as request;
 ghost use Rattle.model_lists.specs.Lists.{Lists};
@@ -18,7 +17,7 @@ ghost use Rattle.saved_message.specs.Laid.{IsLaid};
 ghost use Rattle.store_core.specs.Dues.{due_at};
 ghost use Rattle.store_core.specs.Keeping.{KeepsInstances, KeepsUids};
 ghost use Rattle.store_seen.specs.Seeing.{seen_of};
-ghost use Rattle.task_claims.specs.Claims.{ClaimsNothing, MovesClaims};
+ghost use Rattle.task_claims.specs.Claims.{MovesClaims};
 ghost use Rattle.task_claims.specs.Leaving.{LeavesOthers};
 ghost use Rattle.task_steps.specs.Step.{ended_by};
 ghost use Rattle.mail_save.specs.Claims.{save_claims};
@@ -26,7 +25,7 @@ ghost use Rattle.mail_save.specs.SaveEffects.{NamesFound};
 ghost use Rattle.mail_save.specs.declared.first.SavedParts.{SavedParts as SavedPartsValue};
 ghost use Rattle.mail_save.specs.Ready.{IsReadyToSave, save_lists, lists_delivered};
 ghost use Rattle.mail_save.specs.SaveSeen.{HasItsParts, IsAtSave, StepsWithRoom, around_saving};
-ghost use Rattle.mail_save.specs.Task.{HasLeft, IsAttached, IsReadyToDeliver, Saves, stopped_reply, refused_did, failing_did};
+ghost use Rattle.mail_save.specs.Task.{EndsSave, HasLeft, IsAttached, IsReadyToDeliver, Saves, save_events_left, refused_did, failing_did};
 ghost use Rattle.mail_save.specs.declared.task.SaveStage.TheVariants as stage;
 
 use crate::add::{Added, add_message};
@@ -161,13 +160,16 @@ impl SaveTask {
         // What another task has compared or found of the instances stays so, unless the store is stopped then.
         ensures instances { store.new.stopped ≡ false → KeepsInstances store.old store.new (D.history store.old.disk) (D.history store.new.disk) }
 
-        // Unless it stops the store, it moves only its own claims, and leaves to other tasks what is theirs. One that was replied claims
-        // nothing.
+        // Unless it stops the store, it moves only its own claims, and leaves to other tasks what is theirs.
         ensures claims { store.new.stopped ≡ false → MovesClaims (save_claims self.old.stage) (save_claims self.new.stage) store.old store.new }
         ensures leaves { store.new.stopped ≡ false → LeavesOthers (save_claims self.old.stage) store.old store.new (D.history store.old.disk) (D.history store.new.disk) }
-        ensures ended { (given : ReplyValue) → result ≡ progress.Done given → store.new.stopped ≡ false → ClaimsNothing (save_claims self.new.stage) }
 
-        ensures stopped { store.old.stopped ≡ true → (result ≡ stopped_reply) × (store.new ≡ store.old) × (self.new.stage ≡ self.old.stage) × (self.new.did ≡ did.Quiet) }
+        // It replies so if and only if the store is stopped then, and one that was stopped stays as it was. Else no storage file is
+        // doomed more, and a task that was replied claims nothing.
+        ensures ended { EndsSave self.new.stage result store.old store.new }
+
+        // So it ends.
+        ensures left { result ≡ progress.More → save_events_left self.new.stage store.new.instances < save_events_left self.old.stage store.old.instances }
         ensures request { (self.new.name ≡ self.old.name) × (self.new.time ≡ self.old.time) × (self.new.size ≡ self.old.size) }
     {
         listings_are_shown();

@@ -1,6 +1,6 @@
 use Rattle.std.proofs.Common.{rules, ◌<◌, ◌^◌, refl, sym, ◌∙◌}
 use Rattle.store_core.proofs.BoxCrashLemmas.{leaves_none}
-use Rattle.mail_save.proofs.SaveClaimLemmas.{save_ended, save_moves}
+use Rattle.mail_save.proofs.SaveClaimLemmas.{save_ends, save_moves, stopped_ends}
 use Rattle.mail_save.proofs.SaveDoesLemmas.{IsOpenStore, seen_does, seen_stopped}
 use Rattle.mail_save.proofs.SaveEventLemmas.{done_goes_on, seen_saves, unfallen}
 use Rattle.mail_save.proofs.SaveLeavesLemmas.{save_leaves}
@@ -88,12 +88,18 @@ returns-clause-claims g c = λ ran.
     save_moves c.args.self.now.stage _ _ _ _ _ _ c.args.store.now _ _ _ _ _ c.facts.ensures.files (c.requires.left (sym c.stopped.ensures ∙ c.if-stopped.false)) ran s
 
 pub returns-then-stopped-clause-ended : goal.returns-then-stopped-clause-ended
-returns-then-stopped-clause-ended g c = λ given is ran. absurd (unfallen c.args.store.now.stopped (sym c.stopped.ensures ∙ c.if-stopped.true) ran)
+returns-then-stopped-clause-ended g c = stopped_ends _ c.args.store.now (sym c.stopped.ensures ∙ c.if-stopped.true)
 
 pub returns-clause-ended : goal.returns-clause-ended
-returns-clause-ended g c = λ given is ran.
+returns-clause-ended g c =
     let s = seen_saves _ c.args.self.now c.replace-now.result _ _ _ _ _ _ _ _ _ c.self.view_is c.replace-now.ensures.value c.next_event-next.ensures in
-    save_ended c.args.self.now.stage _ _ _ _ _ given c.args.store.now _ s.effects is
+    save_ends c.args.self.now.stage _ _ _ _ _ _ c.args.store.now _ _ _ _ _ (sym c.stopped.ensures ∙ c.if-stopped.false) c.facts.ensures.files (c.requires.left (sym c.stopped.ensures ∙ c.if-stopped.false)) s
+
+pub returns-then-stopped-clause-left : goal.returns-then-stopped-clause-left
+returns-then-stopped-clause-left g c = λ more. absurd (done_goes_on _ more)
+
+pub returns-clause-left : goal.returns-clause-left
+returns-clause-left g c = (seen_saves _ c.args.self.now c.replace-now.result _ _ _ _ _ _ _ _ _ c.self.view_is c.replace-now.ensures.value c.next_event-next.ensures).fewer
 
 pub returns-then-stopped-clause-leaves : goal.returns-then-stopped-clause-leaves
 returns-then-stopped-clause-leaves g c = λ ran. absurd (unfallen c.args.store.now.stopped (sym c.stopped.ensures ∙ c.if-stopped.true) ran)
@@ -101,4 +107,4 @@ returns-then-stopped-clause-leaves g c = λ ran. absurd (unfallen c.args.store.n
 pub returns-clause-leaves : goal.returns-clause-leaves
 returns-clause-leaves g c = λ ran.
     let s = seen_saves _ c.args.self.now c.replace-now.result _ _ _ _ _ _ _ _ _ c.self.view_is c.replace-now.ensures.value c.next_event-next.ensures in
-    save_leaves c.args.self.now.stage _ _ _ _ _ _ c.args.store.now _ _ _ _ _ c.facts.ensures.store (sym c.stopped.ensures ∙ c.if-stopped.false) c.facts.ensures.files (c.requires.left (sym c.stopped.ensures ∙ c.if-stopped.false)) ran s
+    save_leaves c.args.self.now.stage _ _ _ _ _ _ c.args.store.now _ _ _ _ _ c.facts.ensures.store (sym c.stopped.ensures ∙ c.if-stopped.false) c.facts.ensures.files c.facts.ensures.instances.kept.highest (c.requires.left (sym c.stopped.ensures ∙ c.if-stopped.false)) ran s
