@@ -115,6 +115,8 @@ serving_begins {D} start script run rows store history faults empty come shows r
   told = s.told;
   given = s.given;
   would = s.would;
+  stays_stopped = s.stays_stopped;
+  replied_stopped = s.replied_stopped;
   lanes_at = λ k value there. let r = row_of lane_value rows k value there in
       subst (λ (v : LaneValue Task). LaneAt (stands_in store history) script run [] (unreplied script) (k + 1) v) r.2
       (lane_begins script run k r.0 store history (fresh k r.0 r.1) (s.lanes_at k (untaken r.0) (slice_get-map untaken rows k ∙ ap (λ (o : Option LaneRow). option_map untaken o) r.1)));
@@ -144,6 +146,7 @@ all_begin {D} start script run rows store history faults at come none runs shows
   waiting = λ k row there. (fresh k row there).behind;
   undoomed = λ still. at.undoomed;
   fetched = settled;
+  quiet = λ still unread. refl;
   accounts = λ still. record {
     adds_up = λ thing. none_claimed store none thing ∙ none_in_all claims_at (lanes_of rows) thing unclaimed;
     ready = λ k value there. let r = row_of lane_value rows k value there in subst (λ (v : LaneValue Task). IsReadyLane IsReadyTask v store history) r.2 (row_ready script (k + 1) r.0 store history (fresh k r.0 r.1));

@@ -5,10 +5,12 @@ use Rattle.std.proofs.lemmas.Option.{slice_get-map}
 use Rattle.std.proofs.lemmas.List.{length-set}
 use Rattle.std.proofs.lemmas.List.Elements.{All-cons, All-head, All-tail, All-nil}
 use Rattle.disk_model.specs.Disk.{History, Faults, told_calls}
+use Rattle.disk_model.specs.FaultCounts.{NoFault}
 use Rattle.mdbox_base.specs.declared.progress.Did.{Did}
 use Rattle.mdbox_base.specs.declared.progress.Did.TheVariants as did
 use Rattle.mdbox_base.specs.declared.progress.Progress.{Progress}
 use Rattle.mdbox_base.specs.declared.progress.Progress.TheVariants as progress
+use Rattle.mdbox_base.specs.declared.replies.Refusal.TheVariants as refusal
 use Rattle.mdbox_base.specs.declared.replies.Reply.{Reply}
 use Rattle.mdbox_base.specs.declared.requests.Request.{Request}
 use Rattle.mdbox_base.specs.declared.script.Half.{Half}
@@ -29,7 +31,7 @@ use Rattle.store_core.specs.Value.{StoreValue}
 use Rattle.task_claims.specs.Claims.{Claims, ClaimsNothing, MovesClaims, amount_in}
 use Rattle.task_claims.specs.Leaving.{LeavesOthers}
 use Rattle.task_steps.specs.Serves.{BreaksBy, IsTurn}
-use Rattle.task_steps.specs.Step.{DidEvent, FindsRoom, Seen, Went, and_told, ended_by}
+use Rattle.task_steps.specs.Step.{DidEvent, FindsRoom, IsFault, Seen, Went, and_told, ended_by}
 use Rattle.mail_fetch.specs.Task.{seen_in}
 use Rattle.lane_tasks.specs.Clause.{CanAnswer, PassesBy, around_at}
 use Rattle.lane_tasks.specs.Tasks.{BeginsTask, IsReadyTask, StandsTask, claims_at, did_of}
@@ -234,6 +236,25 @@ halves_made (did.Step half) request run lists left event answer old new w = one_
 halves_made did.Failed request run lists left event answer old new w = none_made run request event answer left w.0.unanswered
 halves_made (did.Broken half) request run lists left event answer old new w = none_made run request event answer left w.0.unanswered
 
+-- an event that was refused otherwise than by a read fault
+abbrev unread_event : RunEvent → Type 0
+unread_event event = event.refused ≢ Some refusal.ReadFault
+
+all_front : {X : Type 0} → (P : X → Type 0) (xs : List X) (x : X) → All P (xs ++ x ∷ []) → All P xs
+all_front P [] x all = All-nil P
+all_front P (a ∷ xs) x all = All-cons P a xs (All-head P a (xs ++ x ∷ []) all) (all_front P xs x (All-tail P a (xs ++ x ∷ []) all))
+
+all_last : {X : Type 0} → (P : X → Type 0) (xs : List X) (x : X) → All P (xs ++ x ∷ []) → P x
+all_last P [] x all = All-head P x [] all
+all_last P (a ∷ xs) x all = all_last P xs x (All-tail P a (xs ++ x ∷ []) all)
+
+-- in an event that leaves the store running no change failed
+unfaulted : (request : Request) (run : Run) (lists left : Lists) (event : RunEvent) (answer : Option Reply) (old new : Seen) (how : Did) → Went how request run lists left event answer old new → new.stopped ≡ false → IsFault how → ⊥
+unfaulted request run lists left event answer old new did.Quiet w runs fault = fault
+unfaulted request run lists left event answer old new (did.Step half) w runs fault = fault
+unfaulted request run lists left event answer old new did.Failed w runs fault = let z : true ≡ false = sym w.0.stopped ∙ runs in cc z
+unfaulted request run lists left event answer old new (did.Broken half) w runs fault = let z : true ≡ false = sym w.0.stopped ∙ runs in cc z
+
 made_of : (lane place : ℕ) (run : Run) (request : Request) (event : RunEvent) (answer : Option Reply) (left : Lists) → event.lane ≡ lane → event.request ≡ place → All (IsStepOf lane place run) (steps_made run request event answer left)
 made_of lane place run request event None left on at = All-nil (IsStepOf lane place run)
 made_of lane place run request event (Some answer) left on at =
@@ -265,6 +286,7 @@ going_on {D} start script run journal broken replies began rows k row now event 
         accounts = λ runs. accounts_row script rows k row now event old new before after first second there are runs g (s.accounts (ran runs));
         undoomed = λ runs. g.goes.undoomed runs (s.undoomed (ran runs));
         fetched = s.fetched;
+        quiet = λ runs unread. quiet_then ran d.0.ends.unfailed (unfaulted turn.0 run (left_by start journal) d.0.left d.0.makes.event d.0.makes.answer (seen_in old before first) (seen_in new after second) (did_of g.next) d.0.went) runs unread;
       })),
 )
   where
@@ -278,10 +300,10 @@ going_on {D} start script run journal broken replies began rows k row now event 
     turn = in_turn start script run journal broken replies began (seen_in old before first) rows k row g.queued old before there g.was s.serving
 
     finds : old.stopped ≡ false → FindsRoom (around_at g.queued.task turn.0 old nothing_around) run
-    finds runs = finds_room g.queued.task turn.0 old run g.goes.files g.goes.ordered (uses_taken start script run journal broken replies began (seen_in old before first) old before (lanes_of rows) s.serving s.lanes (s.accounts runs).adds_up)
+    finds runs = finds_room g.queued.task turn.0 old before run g.goes.store g.goes.ordered (uses_taken start script run journal broken replies began (seen_in old before first) old before (lanes_of rows) s.serving s.lanes (s.accounts runs).adds_up)
 
-    answers : old.stopped ≡ false → CanAnswer g.queued.task (left_by start journal) before
-    answers runs = can_answer g.queued.task turn.0 (left_by start journal) before turn.2.is_of (λ name uid is. s.serving.serves.settled runs (s.fetched g.queued.place (k + 1) name uid (turn.1.asked ∙ ap (λ (q : Request). Some (k + 1, q)) is)))
+    answers : old.stopped ≡ false → CanAnswer g.queued.task (left_by start journal) old before
+    answers runs = can_answer g.queued.task turn.0 (left_by start journal) old before g.goes.store runs turn.2.is_of (λ name uid is. s.serving.serves.settled runs (s.fetched g.queued.place (k + 1) name uid (turn.1.asked ∙ ap (λ (q : Request). Some (k + 1, q)) is)))
 
     d : (d : DidEvent (around_at g.queued.task turn.0 old nothing_around) nothing_around run (k + 1) g.queued.place (said_by journal g.queued.place) turn.0 (left_by start journal) (seen_in old before first) (seen_in new after second) (did_of g.next) (ended_by event.ended))
         × (ended_by event.ended ≡ None → StandsTask g.next new after turn.0 (and_then run d.makes.event) g.queued.place (and_told (said_by journal g.queued.place) d.makes.answer))
@@ -295,6 +317,10 @@ going_on {D} start script run journal broken replies began rows k row now event 
 
     ran : new.stopped ≡ false → old.stopped ≡ false
     ran = ran_before (seen_in old before first) (seen_in new after second) d.0.ends.still
+
+    quiet_then : (new.stopped ≡ false → old.stopped ≡ false) → (d.0.makes.event.refused ≢ Some refusal.ReadFault → (IsFault (did_of g.next) → ⊥) → NoFault first second) → (new.stopped ≡ false → IsFault (did_of g.next) → ⊥) → new.stopped ≡ false
+        → All (λ event. event.refused ≢ Some refusal.ReadFault) (run.events ++ d.0.makes.event ∷ []) → NoFault began.faults second
+    quiet_then ran unfailed unfaulted runs unread = unfailed (all_last unread_event run.events d.0.makes.event unread) (unfaulted runs) ∙ s.quiet (ran runs) (all_front unread_event run.events d.0.makes.event unread)
 
     goes : (failed : Broken) × IsServing (stands_in new after) start script then_run then_journal failed (replies_behind (ended_by event.ended) g.queued.place replies) began (seen_in new after second) (slice_set (lanes_of rows) k (lane_behind (ended_by event.ended) g.next (lane_value row)))
         × BreaksBy (did_of g.next) run d.0.makes.event (told_calls before) broken failed

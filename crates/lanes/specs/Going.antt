@@ -1,8 +1,10 @@
 -- A script that lanes of tasks serve.
-use Rattle.std.specs.Prelude.{◌≡◌, ◌≤◌, ◌+◌, ◌∷◌, ℕ, false, List, [], All, length, map, slice_get, Option, Some}
+use Rattle.std.specs.Prelude.{◌≡◌, ◌≢◌, ◌≤◌, ◌+◌, ◌∷◌, ℕ, false, List, [], All, length, map, slice_get, Option, Some}
 use Rattle.disk_model.specs.Disk.{History, Faults, told_calls}
+use Rattle.disk_model.specs.FaultCounts.{NoFault}
 use Rattle.mdbox_base.specs.declared.progress.Did.{Did}
 use Rattle.mdbox_base.specs.declared.progress.Did.TheVariants as did
+use Rattle.mdbox_base.specs.declared.replies.Refusal.TheVariants as refusal
 use Rattle.mdbox_base.specs.declared.replies.Reply.{Reply}
 use Rattle.mdbox_base.specs.declared.requests.Request.{Request}
 use Rattle.mdbox_base.specs.declared.requests.Request.TheVariants as request
@@ -41,8 +43,8 @@ AreWaiting script lane waiting = All (WaitsWithTask script lane) waiting
 
 -- A script is being served by lanes, of which there are 64 at most, from these lists and from a store as it was seen then, by the
 -- events of this run: with this journal, these broken steps and these replies so far, each lane's request in turn stands where its task
--- does, those behind it begin; and unless the store is stopped, the lanes account for it, and no storage file is doomed. A script with a
--- fetch is served so from a settled disk alone.
+-- does, those behind it begin; and unless the store is stopped, the lanes account for it, no storage file is doomed, and no call of the
+-- disk has failed but for those that read faults tell. A script with a fetch is served so from a settled disk alone.
 pub record IsGoing {D : Type 0} (start : Lists) (script : Requests) (run : Run) (journal : List JournalStep) (broken : Broken) (replies : List (Option Reply)) (began : Seen) (store : StoreValue D) (history : Option History) (faults : Faults) (rows : List LaneRow) : Type 0 where
   pub serving : IsServing (stands_in store history) start script run journal broken replies began (seen_in store history faults) (lanes_of rows)
   pub lanes : HaveLanes script (lanes_of rows)
@@ -50,6 +52,7 @@ pub record IsGoing {D : Type 0} (start : Lists) (script : Requests) (run : Run) 
   pub waiting : (k : ℕ) (row : LaneRow) → slice_get rows k ≡ Some row → AreWaiting script (k + 1) row.waiting
   pub accounts : store.stopped ≡ false → LanesAccount claims_at IsReadyTask store history (lanes_of rows)
   pub undoomed : store.stopped ≡ false → DoomsNothing store
+  pub quiet : store.stopped ≡ false → All (λ event. event.refused ≢ Some refusal.ReadFault) run.events → NoFault began.faults faults
   pub fetched : (place lane : ℕ) (name : List ℕ) (uid : Uid) → slice_get script place ≡ Some (lane, request.Fetch name uid) → IsSettledFor start began.history
 
 -- ---- what an event of a lane adds to the run and to the journal

@@ -8,7 +8,7 @@ use Rattle.mdbox_base.specs.declared.replies.Reply.{Reply}
 use Rattle.mdbox_base.specs.declared.replies.Reply.TheVariants as reply
 use Rattle.serving.specs.Lanes.{LaneValue}
 use Rattle.storage_files.specs.Files.{AreFilesInOrder}
-use Rattle.store_core.specs.Files.{AreFilesKept}
+use Rattle.store_core.specs.Running.{IsStore}
 use Rattle.store_core.specs.Value.{StoreValue}
 use Rattle.task_claims.specs.Claims.{ClaimsNothing, MovesClaims}
 use Rattle.task_claims.specs.Leaving.{LeavesOthers}
@@ -48,7 +48,7 @@ after_event None queued waiting = record { current = Some queued; waiting = wait
 after_event (Some given) queued waiting = next_in_turn waiting
 
 -- An event of a request's task is one by the clause of a task's step: what it found, what it did and claims, and whether it goes on.
--- The last three are what an open store knows of its storage files and of its disk.
+-- The last three are of every open store and its disk.
 pub record TaskGoesOn {D : Type 0} (queued : Queued) (next : Task) (event : LaneEvent) (old new : StoreValue D) (before after : Option History) (first second : Faults) : Type 0 where
   pub place_is : event.place ≡ queued.place
   pub did_is : event.did ≡ did_of next
@@ -61,7 +61,7 @@ pub record TaskGoesOn {D : Type 0} (queued : Queued) (next : Task) (event : Lane
   pub stopped : new.stopped ≡ true → event.ended ≡ progress.Done (reply.Refused refusal.Stopped)
   pub halted : old.stopped ≡ true → new.stopped ≡ true
   pub undoomed : new.stopped ≡ false → DoomsNothing old → DoomsNothing new
-  pub files : AreFilesKept old.files old.drawn old.map
+  pub store : IsStore before old
   pub ordered : AreFilesInOrder old.files
   pub image : IfTold before (λ disk. IsImage disk (λ name. reading (disk name)))
 
