@@ -264,6 +264,7 @@ event_with around behind run lane place said q lists old new how ended pins same
     still = λ stopped. ap (λ (s : Seen). record s { pins = pins }) (d.ends.still stopped);
     reads = d.ends.reads;
     faults = d.ends.faults;
+    unfailed = d.ends.unfailed;
   };
 }
 

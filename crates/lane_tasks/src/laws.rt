@@ -13,10 +13,11 @@ ghost use Rattle.storage_files.specs.Files.{AreFilesInOrder};
 ghost use Rattle.store_core.specs.Running.{IsStore};
 ghost use Rattle.store_core.specs.Value.{StoreValue};
 ghost use Rattle.task_claims.specs.Claims.{AddsUp, Claims, ClaimsNothing, Emptied, Taken};
+ghost use Rattle.task_claims.specs.Leaving.{LeavesOthers};
 ghost use Rattle.task_claims.specs.Stable.{IsStable};
 ghost use Rattle.task_steps.specs.Step.{GivesNew, HasNotBegun, IsKept};
 ghost use Rattle.lane_tasks.specs.Clause.{CanAnswer, ClaimsFew, DoomsNothing, HasTaskRoom, IsFreeToTake, PassesBy, around_at};
-ghost use Rattle.lane_tasks.specs.Tasks.{BeginsTask, IsReadyTask, StandsTask, claims_at};
+ghost use Rattle.lane_tasks.specs.Tasks.{BeginsTask, IsReadyTask, StandsTask, claims_at, work_left};
 ghost use Rattle.lane_tasks.specs.declared.task.Task.{Task};
 
 use disk_model::Disk;
@@ -66,4 +67,9 @@ pub fn found_files_are_free<D: Disk>()
 /// Where the files are safe for the lists, a task can answer by what they read.
 pub fn safe_files_answer<D: Disk>()
     ensures { (task : Task) (lists : Lists) (store : StoreValue D) (history : Option History) → IsStore history store → store.stopped ≡ false → ReadsSafe lists history → CanAnswer task lists store history }
+{}
+
+/// No event of another task raises the number of events that are still to come of a task.
+pub fn tasks_leave_work<D: Disk>()
+    ensures { (task : Task) (mine : Claims) (old new : StoreValue D) (before after : Option History) → IsReadyTask task old before → LeavesOthers mine old new before after → work_left task new ≤ work_left task old }
 {}

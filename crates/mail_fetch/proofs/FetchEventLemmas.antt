@@ -5,6 +5,7 @@ use Rattle.std.specs.Option.{IfSome}
 use Rattle.std.proofs.lemmas.List.Elements.{All-nil}
 use Rattle.std.proofs.lemmas.List.Sums.{sum_by-append, sum_by-cons}
 use Rattle.disk_model.specs.Disk.{History, Faults, DiskState, IsIdle, told_calls, Grows}
+use Rattle.disk_model.specs.FaultCounts.{NoFault}
 use Rattle.disk_model.proofs.IdleLemmas.{idle-images}
 use Rattle.mdbox_base.specs.Streams.{Rose}
 use Rattle.mdbox_base.specs.declared.entries.Highest.{Highest}
@@ -166,11 +167,11 @@ in_turn name uid said none = ap (λ (s : List Reply). slice_get (halves_of (requ
 
 -- The first event pins the file of the record: a step that answers the octets of the message.
 pub did_pin : (around after : Around) (run : Run) (lane place : ℕ) (said : List Reply) (name : List ℕ) (uid : Uid) (lists : Lists) (old : Seen) (history : Option History) (faults : Faults) (pins : ℕ → ℕ) (entry : MapRecord) (octets : List ℕ) → HasComeTo run old → ShowsSeen old lists → HasNotBegun run place said
-    → old.stopped ≡ false → IsIdle old.history history → NoChangeFault old.faults faults → IsRecord run lists name uid.0 entry → ((event : RunEvent) → PartAnswers run event lists (request.Fetch name uid) First (reply.Fetched octets) lists)
+    → old.stopped ≡ false → IsIdle old.history history → NoChangeFault old.faults faults → NoFault old.faults faults → IsRecord run lists name uid.0 entry → ((event : RunEvent) → PartAnswers run event lists (request.Fetch name uid) First (reply.Fetched octets) lists)
     → (old.stopped ≡ false → (file : ℕ) → pins_of (and_then run (pin_event lane place entry.file (pieces_to_read entry) entry.instances (told_calls history))) file ≡ pins file)
     → DidSo around after run lane place said (request.Fetch name uid) lists old (behind_reading old history faults pins) (did.Step half.Whole) None (pin_event lane place entry.file (pieces_to_read entry) entry.instances (told_calls history)) (Some (reply.Fetched octets))
 unfolding pin_makes
-did_pin around after run lane place said name uid lists old history faults pins entry octets come shows stage runs idle none is_record answers pinned = record {
+did_pin around after run lane place said name uid lists old history faults pins entry octets come shows stage runs idle none quiet is_record answers pinned = record {
   so = record {
     left = lists;
     shown = shows;
@@ -188,6 +189,7 @@ did_pin around after run lane place said name uid lists old history faults pins 
       still = λ e. absurd (fall old.stopped e runs);
       reads = λ e. absurd (no_refusal refusal.ReadFault e);
       faults = record { reads = none.reads; changes = let same = none.changes in omega (arith, same); rose = λ x. absurd x };
+      unfailed = λ differs faulty. quiet;
     };
   };
   event_is = refl;
@@ -289,6 +291,7 @@ did_refuse around after run lane place said name uid lists seen why come shows s
     still = λ e. refl;
     reads = λ e. absurd (steps_apart why refusal.ReadFault step refl (one_refusal why refusal.ReadFault e));
     faults = still_faults (IsFault (did.Step half.Whole)) seen.faults (λ x. x);
+    unfailed = λ differs faulty. refl;
   };
 }
   where
@@ -317,6 +320,7 @@ did_nothing around after run lane place said name uid lists seen why come shows 
     still = λ e. refl;
     reads = λ e. absurd (let k : false ≡ true = subst (λ (r : Refusal). MayMeet First (request.Fetch name uid) r) (one_refusal why refusal.ReadFault e) may in cc k);
     faults = still_faults (IsFault did.Quiet) seen.faults (λ x. x);
+    unfailed = λ differs faulty. refl;
   };
 }
   where
@@ -386,14 +390,14 @@ late_makes around after run lane place name uid lists m drawn before calls part 
 
 -- An event behind the first one: no step.
 pub did_late : (around after : Around) (run : Run) (lane place : ℕ) (said : List Reply) (name : List ℕ) (uid : Uid) (lists : Lists) (old : Seen) (history : Option History) (faults : Faults) (pins : ℕ → ℕ) (part : EventPart) (refused : Option Refusal) (ended : Option Reply) → IsLatePart name uid part
-    → HasComeTo run old → ShowsSeen old lists → IsIdle old.history history → NoChangeFault old.faults faults → next_part around run (request.Fetch name uid) (own_events place run) ≡ Some part → IsLateRefusal refused → IfSome refused (MayMeet part (request.Fetch name uid))
+    → HasComeTo run old → ShowsSeen old lists → IsIdle old.history history → NoChangeFault old.faults faults → (refused ≢ Some refusal.ReadFault → NoFault old.faults faults) → next_part around run (request.Fetch name uid) (own_events place run) ≡ Some part → IsLateRefusal refused → IfSome refused (MayMeet part (request.Fetch name uid))
     → ((ended ≢ None) ↔ (behind_event after (and_then run (fetch_event part lane place refused ended (told_calls history))) (request.Fetch name uid) (fetch_event part lane place refused ended (told_calls history)) refused ≡ None))
     → IsRepliedBy (own_events place run ++ fetch_event part lane place refused ended (told_calls history) ∷ []) ended
     → ((given : Reply) → ended ≡ Some given → IsReplyOf (request.Fetch name uid) said given) → ((ended ≡ Some (reply.Refused refusal.Stopped)) ↔ (old.stopped ≡ true)) → (old.stopped ≡ true → behind_reading old history faults pins ≡ old)
     → (refused ≡ Some refusal.ReadFault → Rose old.faults.reads faults.reads) → (old.stopped ≡ false → (file : ℕ) → pins_of (and_then run (fetch_event part lane place refused ended (told_calls history))) file ≡ pins file)
     → DidSo around after run lane place said (request.Fetch name uid) lists old (behind_reading old history faults pins) did.Quiet ended (fetch_event part lane place refused ended (told_calls history)) None
 unfolding late_makes
-did_late around after run lane place said name uid lists old history faults pins part refused ended late come shows idle none next unstep may ends replied given halts still reads pinned = record {
+did_late around after run lane place said name uid lists old history faults pins part refused ended late come shows idle none quiet next unstep may ends replied given halts still reads pinned = record {
   so = record {
     left = lists;
     shown = shows;
@@ -411,6 +415,7 @@ did_late around after run lane place said name uid lists old history faults pins
       still = λ e. ap (λ (s : Seen). record s { pins = pins }) (still e);
       reads = reads;
       faults = record { reads = none.reads; changes = let same = none.changes in omega (arith, same); rose = λ x. absurd x };
+      unfailed = λ differs faulty. quiet differs;
     };
   };
   event_is = refl;

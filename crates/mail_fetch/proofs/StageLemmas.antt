@@ -135,7 +135,7 @@ piece_claims region next history old new thing (inl (piece, told, goes)) = by_si
 pub reading_says : {D : Type 0} → (H : D → Option History) (F : D → Faults) (name : List ℕ) (uid : Uid) (region : RegionValue) (next : FetchStage) (old new : StoreValue D) → HasPieceLeft (stage.Reading region) → old.stopped ≡ false → new ≡ record old { disk = new.disk } → IsIdle (H old.disk) (H new.disk) → NoChangeFault (F old.disk) (F new.disk)
     → ((HasFailedRead next → ⊥) → NoFault (F old.disk) (F new.disk)) → IsPieceRead region next (H old.disk) (F old.disk) (F new.disk) → IsReadyToFetch next new → StepSays H F name uid (stage.Reading region) next old new did.Quiet progress.More
 reading_says H F name uid region next old new left runs same idle fault unfailed read ready = record {
-  does = λ around after undoomed. read_steps around after name uid region old new (H old.disk) (H new.disk) (F old.disk) (F new.disk) next left runs same idle fault read;
+  does = λ around after undoomed. read_steps around after name uid region old new (H old.disk) (H new.disk) (F old.disk) (F new.disk) next left runs same idle fault unfailed read;
   claims = λ runs_now undoomed thing.
       let amount = reading_moves old new same thing in
       let mine = piece_claims region next (H old.disk) (F old.disk) (F new.disk) thing read in

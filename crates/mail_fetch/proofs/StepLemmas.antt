@@ -1,11 +1,12 @@
 -- The clause of a fetch's step, event by event.
 use Rattle.std.proofs.Common.{◌≡◌, ◌≤◌, ◌<◌, ◌+◌, ◌-◌, ℕ, Bool, true, false, cond, List, [], ◌∷◌, ◌++◌, length, Option, Some, None, refl, sym, ◌∙◌, ap, subst, arith, inl, inr, length-append}
-use Rattle.std.specs.Prelude.{All, ◌⊎◌, is_some, if◌then◌else◌}
+use Rattle.std.specs.Prelude.{All, ◌⊎◌, ◌≢◌, is_some, if◌then◌else◌}
 use Rattle.std.specs.List.{list_any}
 use Rattle.std.specs.Option.{IfSome, option_map, option_map_or, option_or}
 use Rattle.std.proofs.lemmas.List.Elements.{All-nil, All-push}
 use Rattle.std.proofs.lemmas.Bool.{eq-eqb, ne_eqb, cases_lt}
 use Rattle.disk_model.specs.Disk.{DiskState, History, Faults, Files, IfTold, IsIdle, told_calls}
+use Rattle.disk_model.specs.FaultCounts.{NoFault}
 use Rattle.disk_model.proofs.IdleLemmas.{idle-begins}
 use Rattle.mdbox_base.specs.Streams.{Rose}
 use Rattle.mdbox_base.specs.declared.entries.InstRow.{InstRow}
@@ -48,6 +49,7 @@ use Rattle.task_steps.proofs.OneEventLemmas.{when_stopped, memory_is, some_given
 use Rattle.mail_fetch.specs.Claims.{claims_of_pinned, held_for, used_by, with_claims, without_claims}
 use Rattle.mail_fetch.specs.Clause.{CanFetch, FetchSteps, ReadsSafe}
 use Rattle.mail_fetch.specs.Events.{fetch_refusal, IsAbsent, IsBegun, IsStoredBy, IsPinned, IsPieceRead, next_piece, with_piece, NoChangeFault}
+use Rattle.mail_fetch.specs.Failed.{HasFailedRead}
 use Rattle.mail_fetch.specs.Parts.{left_after, parts_to_read, pieces_left}
 use Rattle.mail_fetch.specs.Region.{stored_at, RegionValue, unread, IsReplyFor}
 use Rattle.mail_fetch.specs.Stages.{ReadPiece, HasPinned, HasReadAllBut, IsPieceRefusal, StoresListed, UnpinsNext, IsFrontOfStored, Reading, IsTrueReply, IsAtFetch}
@@ -105,7 +107,7 @@ stopped_steps around after name uid stage.First store history faults left stoppe
 )
 stopped_steps around after name uid (stage.Reading region) store history faults left stopped = λ run lane place said lists come shows safe stood.
     let seen = seen_in store history faults in (
-      (did_late around after run lane place said name uid lists seen history faults seen.pins ReadsPiece (Some refusal.Stopped) (Some (reply.Refused refusal.Stopped)) (piece_is_late name uid) come shows (idle-begins history) (record { reads = omega arith; changes = refl })
+      (did_late around after run lane place said name uid lists seen history faults seen.pins ReadsPiece (Some refusal.Stopped) (Some (reply.Refused refusal.Stopped)) (piece_is_late name uid) come shows (idle-begins history) (record { reads = omega arith; changes = refl }) (λ differs. refl)
           (next_reads around name uid run place (pieces_left region.left) region.from stood.0 left.0) (refl, λ e. absurd (let k : refusal.Stopped ≡ refusal.NoMemory = e in cc k)) tt
           (record { 0 = λ e. refl; 1 = λ e f. some_given (reply.Refused refusal.Stopped) f })
           (last_with (own_events place run) (fetch_event ReadsPiece lane place (Some refusal.Stopped) (Some (reply.Refused refusal.Stopped)) (told_calls history)))
@@ -115,7 +117,7 @@ stopped_steps around after name uid (stage.Reading region) store history faults 
     )
 stopped_steps around after name uid (stage.Unpinning from given) store history faults left stopped = λ run lane place said lists come shows safe stood.
     let seen = seen_in store history faults in (
-      (did_late around after run lane place said name uid lists seen history faults seen.pins Unpins (Some refusal.Stopped) (Some (reply.Refused refusal.Stopped)) (unpin_is_late name uid) come shows (idle-begins history) (record { reads = omega arith; changes = refl })
+      (did_late around after run lane place said name uid lists seen history faults seen.pins Unpins (Some refusal.Stopped) (Some (reply.Refused refusal.Stopped)) (unpin_is_late name uid) come shows (idle-begins history) (record { reads = omega arith; changes = refl }) (λ differs. refl)
           (next_unpins around name uid run place from given stood.0) (refl, λ e. absurd (let k : refusal.Stopped ≡ refusal.NoMemory = e in cc k)) tt
           (record { 0 = λ e. refl; 1 = λ e f. some_given (reply.Refused refusal.Stopped) f })
           (last_with (own_events place run) (fetch_event Unpins lane place (Some refusal.Stopped) (Some (reply.Refused refusal.Stopped)) (told_calls history)))
@@ -179,7 +181,7 @@ first_pinned around after name uid store history faults row entry end is runs st
     subst (λ (s : Seen). (d : DidEvent around after run lane place said (request.Fetch name uid) lists seen s (did.Step half.Whole) None) × (◌≡◌ {A = Option Reply} None None → IsAtFetch (stage.Reading (unread from)) s.stopped s.history (and_then run d.makes.event) place (and_told said d.makes.answer))) (sym new_is)
     (stands_so around after run lane place said (request.Fetch name uid) lists seen new (did.Step half.Whole) None event (Some (reply.Fetched shown.message.octets))
     (IsAtFetch (stage.Reading (unread from)) new.stopped new.history)
-    (did_pin around after run lane place said name uid lists seen history faults pins entry shown.message.octets come shows stood runs (idle-begins history) (record { reads = omega arith; changes = refl })
+    (did_pin around after run lane place said name uid lists seen history faults pins entry shown.message.octets come shows stood runs (idle-begins history) (record { reads = omega arith; changes = refl }) refl
     (shown.message, shown.there, ap (λ (m : MapMeaning). record_of m shown.message.guid) come.come.map_is ∙ found)
     (λ e. is_fetched run e store.map.boxes (indexes_of store.boxes) lists name uid stored.mailbox row shows.1 stored.named shown)
     (λ ran file.
@@ -338,10 +340,10 @@ goes_on_behind after run name uid lane place (Some refusal.NoMemory) calls h e =
 goes_on_behind after run name uid lane place (Some refusal.Stopped) calls h e = absurd h
 
 read_did : (around after : Around) (run : Run) (lane place : ℕ) (said : List Reply) (name : List ℕ) (uid : Uid) (lists : Lists) (old : Seen) (history : Option History) (faults : Faults) (region : RegionValue) (refused : Option Refusal) → HasComeTo run old → ShowsSeen old lists → IsIdle old.history history
-    → NoChangeFault old.faults faults → old.stopped ≡ false → HasReadAllBut region.from (pieces_left region.left) (own_events place run) → 0 < pieces_left region.left → IsPieceRefused refused → (refused ≡ Some refusal.ReadFault → Rose old.faults.reads faults.reads)
+    → NoChangeFault old.faults faults → (refused ≢ Some refusal.ReadFault → NoFault old.faults faults) → old.stopped ≡ false → HasReadAllBut region.from (pieces_left region.left) (own_events place run) → 0 < pieces_left region.left → IsPieceRefused refused → (refused ≡ Some refusal.ReadFault → Rose old.faults.reads faults.reads)
     → DidSo around after run lane place said (request.Fetch name uid) lists old (behind_reading old history faults old.pins) did.Quiet None (fetch_event ReadsPiece lane place refused None (told_calls history)) None
-read_did around after run lane place said name uid lists old history faults region refused come shows idle none runs read left may rose =
-    did_late around after run lane place said name uid lists old history faults old.pins ReadsPiece refused None (piece_is_late name uid) come shows idle none (next_reads around name uid run place (pieces_left region.left) region.from read left) (piece_late refused may) (piece_may name uid refused may)
+read_did around after run lane place said name uid lists old history faults region refused come shows idle none quiet runs read left may rose =
+    did_late around after run lane place said name uid lists old history faults old.pins ReadsPiece refused None (piece_is_late name uid) come shows idle none quiet (next_reads around name uid run place (pieces_left region.left) region.from read left) (piece_late refused may) (piece_may name uid refused may)
     (record { 0 = λ h. absurd (h refl); 1 = λ e. absurd (goes_on_behind after run name uid lane place refused (told_calls history) may e) }) tt (λ given e. absurd (no_reply given e))
     (record { 0 = λ e. absurd (no_reply (reply.Refused refusal.Stopped) e); 1 = λ e. absurd (fall old.stopped e runs) }) (λ e. absurd (fall old.stopped e runs)) rose
     (λ ran file. pins_still run (fetch_event ReadsPiece lane place refused None (told_calls history)) file refl (reading_keeps lane place refused None (told_calls history)) ∙ (come.keeps ran).pins file)
@@ -369,13 +371,13 @@ PieceClause around after name uid region store history faults new then_history t
 
 -- a piece behind which others are read
 piece_more : {D : Type 0} → (around after : Around) (name : List ℕ) (uid : Uid) (region : RegionValue) (store : StoreValue D) (disk : D) (history then_history : Option History) (faults then_faults : Faults) (piece : List ℕ) → HasPieceLeft (stage.Reading region) → store.stopped ≡ false → IsIdle history then_history
-    → NoChangeFault faults then_faults → IfTold history (λ d. piece ≡ next_piece region d) → PieceClause around after name uid region store history faults (record store { disk = disk }) then_history then_faults (stage.Reading (with_piece region piece))
-piece_more around after name uid region store disk history then_history faults then_faults piece left runs idle none told = λ run lane place said lists come shows safe stood.
+    → NoChangeFault faults then_faults → NoFault faults then_faults → IfTold history (λ d. piece ≡ next_piece region d) → PieceClause around after name uid region store history faults (record store { disk = disk }) then_history then_faults (stage.Reading (with_piece region piece))
+piece_more around after name uid region store disk history then_history faults then_faults piece left runs idle none quiet told = λ run lane place said lists come shows safe stood.
     let seen = seen_in store history faults in
     let new = seen_in (record store { disk = disk }) then_history then_faults in
     let event = fetch_event ReadsPiece lane place None None (told_calls then_history) in
     stands_so around after run lane place said (request.Fetch name uid) lists seen new did.Quiet None event None (IsAtFetch (stage.Reading (with_piece region piece)) new.stopped new.history)
-    (read_did around after run lane place said name uid lists seen then_history then_faults region None come shows idle none runs stood.0 left.0 tt (λ e. absurd (let k : None ≡ Some refusal.ReadFault = e in cc k)))
+    (read_did around after run lane place said name uid lists seen then_history then_faults region None come shows idle none (λ differs. quiet) runs stood.0 left.0 tt (λ e. absurd (let k : None ≡ Some refusal.ReadFault = e in cc k)))
     (λ goes_on. (
       (
         stood.0.0 ++ event ∷ [],
@@ -388,14 +390,14 @@ piece_more around after name uid region store disk history then_history faults t
 
 -- the last piece, or one that failed: by this it will reply
 piece_last : {D : Type 0} → (around after : Around) (name : List ℕ) (uid : Uid) (region : RegionValue) (store : StoreValue D) (disk : D) (history then_history : Option History) (faults then_faults : Faults) (given : Reply) (why : Refusal) → HasPieceLeft (stage.Reading region) → store.stopped ≡ false → IsIdle history then_history
-    → NoChangeFault faults then_faults → refusal_in given ≡ Some why → IsPieceRefusal why → (why ≡ refusal.ReadFault → Rose faults.reads then_faults.reads) → ((octets : List ℕ) → Reading (IsFrontOfStored region octets) history → IsTrueReply octets given)
+    → NoChangeFault faults then_faults → (why ≢ refusal.ReadFault → NoFault faults then_faults) → refusal_in given ≡ Some why → IsPieceRefusal why → (why ≡ refusal.ReadFault → Rose faults.reads then_faults.reads) → ((octets : List ℕ) → Reading (IsFrontOfStored region octets) history → IsTrueReply octets given)
     → PieceClause around after name uid region store history faults (record store { disk = disk }) then_history then_faults (stage.Unpinning region.from given)
-piece_last around after name uid region store disk history then_history faults then_faults given why left runs idle none refused may rose true_is = λ run lane place said lists come shows safe stood.
+piece_last around after name uid region store disk history then_history faults then_faults given why left runs idle none quiet refused may rose true_is = λ run lane place said lists come shows safe stood.
     let seen = seen_in store history faults in
     let new = seen_in (record store { disk = disk }) then_history then_faults in
     let event = fetch_event ReadsPiece lane place (Some why) None (told_calls then_history) in
     stands_so around after run lane place said (request.Fetch name uid) lists seen new did.Quiet None event None (IsAtFetch (stage.Unpinning region.from given) new.stopped new.history)
-    (read_did around after run lane place said name uid lists seen then_history then_faults region (Some why) come shows idle none runs stood.0 left.0 may (λ e. rose (let k : why ≡ refusal.ReadFault = cc e in k)))
+    (read_did around after run lane place said name uid lists seen then_history then_faults region (Some why) come shows idle none (λ differs. quiet (λ same. differs (ap (λ (r : Refusal). Some r) same))) runs stood.0 left.0 may (λ e. rose (let k : why ≡ refusal.ReadFault = cc e in k)))
     (λ goes_on. (
       inr (
         why,
@@ -412,14 +414,14 @@ piece_last around after name uid region store disk history then_history faults t
 
 -- the last piece of the message that is stored there
 piece_whole : {D : Type 0} → (around after : Around) (name : List ℕ) (uid : Uid) (region : RegionValue) (store : StoreValue D) (disk : D) (history then_history : Option History) (faults then_faults : Faults) (given : Reply) → HasPieceLeft (stage.Reading region) → store.stopped ≡ false → IsIdle history then_history
-    → NoChangeFault faults then_faults → refusal_in given ≡ None → pieces_left (left_after region.left) ≡ 0 → ((octets : List ℕ) → Reading (IsFrontOfStored region octets) history → IsTrueReply octets given)
+    → NoChangeFault faults then_faults → NoFault faults then_faults → refusal_in given ≡ None → pieces_left (left_after region.left) ≡ 0 → ((octets : List ℕ) → Reading (IsFrontOfStored region octets) history → IsTrueReply octets given)
     → PieceClause around after name uid region store history faults (record store { disk = disk }) then_history then_faults (stage.Unpinning region.from given)
-piece_whole around after name uid region store disk history then_history faults then_faults given left runs idle none fetched last true_is = λ run lane place said lists come shows safe stood.
+piece_whole around after name uid region store disk history then_history faults then_faults given left runs idle none quiet fetched last true_is = λ run lane place said lists come shows safe stood.
     let seen = seen_in store history faults in
     let new = seen_in (record store { disk = disk }) then_history then_faults in
     let event = fetch_event ReadsPiece lane place None None (told_calls then_history) in
     stands_so around after run lane place said (request.Fetch name uid) lists seen new did.Quiet None event None (IsAtFetch (stage.Unpinning region.from given) new.stopped new.history)
-    (read_did around after run lane place said name uid lists seen then_history then_faults region None come shows idle none runs stood.0 left.0 tt (λ e. absurd (let k : None ≡ Some refusal.ReadFault = e in cc k)))
+    (read_did around after run lane place said name uid lists seen then_history then_faults region None come shows idle none (λ differs. quiet) runs stood.0 left.0 tt (λ e. absurd (let k : None ≡ Some refusal.ReadFault = e in cc k)))
     (λ goes_on. (
       inl (
         fetched,
@@ -441,11 +443,11 @@ piece_to {D = D} around after name uid region store new history then_history fau
 
 -- An event that reads a piece, of a store that isn't stopped.
 pub read_steps : {D : Type 0} → (around after : Around) (name : List ℕ) (uid : Uid) (region : RegionValue) (store new : StoreValue D) (history then_history : Option History) (faults then_faults : Faults) (next : FetchStage) → HasPieceLeft (stage.Reading region) → store.stopped ≡ false → new ≡ record store { disk = new.disk }
-    → IsIdle history then_history → NoChangeFault faults then_faults → IsPieceRead region next history faults then_faults → PieceClause around after name uid region store history faults new then_history then_faults next
-read_steps around after name uid region store new history then_history faults then_faults next left runs same idle none (inr (rose, e)) =
+    → IsIdle history then_history → NoChangeFault faults then_faults → ((HasFailedRead next → ⊥) → NoFault faults then_faults) → IsPieceRead region next history faults then_faults → PieceClause around after name uid region store history faults new then_history then_faults next
+read_steps around after name uid region store new history then_history faults then_faults next left runs same idle none quiet (inr (rose, e)) =
     piece_to around after name uid region store new history then_history faults then_faults (stage.Unpinning region.from (reply.Refused refusal.ReadFault)) next same e
-    (piece_last around after name uid region store new.disk history then_history faults then_faults (reply.Refused refusal.ReadFault) refusal.ReadFault left runs idle none refl tt (λ k. rose) (λ octets f. inr refl))
-read_steps around after name uid region store new history then_history faults then_faults next left runs same idle none (inl (piece, told, goes)) = by_size (cases_lt 0 (pieces_left (left_after region.left)))
+    (piece_last around after name uid region store new.disk history then_history faults then_faults (reply.Refused refusal.ReadFault) refusal.ReadFault left runs idle none (λ differs. absurd (differs refl)) refl tt (λ k. rose) (λ octets f. inr refl))
+read_steps around after name uid region store new history then_history faults then_faults next left runs same idle none quiet (inl (piece, told, goes)) = by_size (cases_lt 0 (pieces_left (left_after region.left)))
   where
     now : (octets : List ℕ) → Reading (IsFrontOfStored region octets) history → Reading (IsFrontOfStored (with_piece region piece) octets) then_history
     now octets f = front_on region octets piece history then_history idle told f
@@ -453,17 +455,17 @@ read_steps around after name uid region store new history then_history faults th
     by_reply : (last : pieces_left (left_after region.left) ≡ 0) (given : Reply) → next ≡ stage.Unpinning region.from given → IsReplyFor region.from (region.octets ++ piece) given → PieceClause around after name uid region store history faults new then_history then_faults next
     by_reply last given e (inl (octets, holds, is)) =
         piece_to around after name uid region store new history then_history faults then_faults (stage.Unpinning region.from given) next same e
-        (piece_whole around after name uid region store new.disk history then_history faults then_faults given left runs idle none (ap refusal_in is) last
+        (piece_whole around after name uid region store new.disk history then_history faults then_faults given left runs idle none (quiet (λ failed. subst (λ (r : Reply). HasFailedRead (stage.Unpinning region.from r)) is (subst HasFailedRead e failed))) (ap refusal_in is) last
         (λ text f. true_on (with_piece region piece) text then_history given (now text f) last (inl (octets, holds, is))))
     by_reply last given e (inr (none_held, is)) =
         piece_to around after name uid region store new history then_history faults then_faults (stage.Unpinning region.from given) next same e
-        (piece_last around after name uid region store new.disk history then_history faults then_faults given (refusal.Damaged region.from.file region.from.offset) left runs idle none (ap refusal_in is) tt (λ k. absurd (let f : refusal.Damaged region.from.file region.from.offset ≡ refusal.ReadFault = k in cc f))
+        (piece_last around after name uid region store new.disk history then_history faults then_faults given (refusal.Damaged region.from.file region.from.offset) left runs idle none (λ differs. quiet (λ failed. subst (λ (r : Reply). HasFailedRead (stage.Unpinning region.from r)) is (subst HasFailedRead e failed))) (ap refusal_in is) tt (λ k. absurd (let f : refusal.Damaged region.from.file region.from.offset ≡ refusal.ReadFault = k in cc f))
         (λ text f. true_on (with_piece region piece) text then_history given (now text f) last (inr (none_held, is))))
 
     by_size : (0 < pieces_left (left_after region.left)) ⊎ (pieces_left (left_after region.left) ≤ 0) → PieceClause around after name uid region store history faults new then_history then_faults next
     by_size (inl more) =
         piece_to around after name uid region store new history then_history faults then_faults (stage.Reading (with_piece region piece)) next same (goes.more more)
-        (piece_more around after name uid region store new.disk history then_history faults then_faults piece left runs idle none told)
+        (piece_more around after name uid region store new.disk history then_history faults then_faults piece left runs idle none (quiet (λ failed. subst HasFailedRead (goes.more more) failed)) told)
     by_size (inr last) = let none_left : pieces_left (left_after region.left) ≡ 0 = omega (arith, last) in let r = goes.last none_left in by_reply none_left r.0 r.1 r.2
 
 -- ---- the last event
@@ -491,7 +493,7 @@ unpin_steps around after name uid from given store history faults runs undoomed 
     let own_still : All (λ e. All (λ p. p.file ≡ from.file.0) e.pins) (own_events place (and_then run event)) =
     subst (All (λ e. All (λ p. p.file ≡ from.file.0) e.pins)) (sym (own_more place run event (eq-eqb place place refl))) (All-push (λ (e : RunEvent). All (λ (p : Pin). p.file ≡ from.file.0) e.pins) (own_events place run) event (own_files from given place run stood.0) (All-nil (λ (p : Pin). p.file ≡ from.file.0))) in
     subst (λ (s : Seen). (d : DidEvent around after run lane place said (request.Fetch name uid) lists seen s did.Quiet (Some given)) × (Some given ≡ None → IsAtFetch stage.First s.stopped s.history (and_then run d.makes.event) place (and_told said d.makes.answer))) (sym new_is) (
-      (did_late around after run lane place said name uid lists seen history faults pins Unpins None (Some given) (unpin_is_late name uid) come shows (idle-begins history) (record { reads = omega arith; changes = refl }) (next_unpins around name uid run place from given stood.0) tt tt
+      (did_late around after run lane place said name uid lists seen history faults pins Unpins None (Some given) (unpin_is_late name uid) come shows (idle-begins history) (record { reads = omega arith; changes = refl }) (λ differs. refl) (next_unpins around name uid run place from given stood.0) tt tt
           (record { 0 = λ h. ends_here (leaves_doomed place (and_then run event)) (none_doomed place from.file.0 (and_then run event) own_still (doomed_still run event from.file.0 refl refl ∙ ((come.keeps runs).doomed from.file.0 ∙ undoomed))); 1 = λ e f. some_given given f })
           (last_with (own_events place run) event ∙ (none_or (last_refusal (own_events place run)) ∙ unpins_by from given (own_events place run) stood.0))
           (λ r e. subst (λ (x : Reply). IsReplyOf (request.Fetch name uid) said x) (let k : given ≡ r = cc e in k) (true_reply_of name uid stood.1.0 given said stood.1.1 stood.1.2))
