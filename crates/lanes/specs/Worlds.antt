@@ -1,20 +1,28 @@
 -- A world: lanes that serve a script over one store, with what is kept of their events.
-use Rattle.std.specs.Prelude.{◌≡◌, ◌≤◌, ◌<◌, ◌+◌, ◌*◌, ◌-◌, ◌^◌, ◌==◌, ◌&&◌, ◌++◌, ◌∷◌, ℕ, Bool, true, false, List, [], All, length, min, if◌then◌else◌, is_some, replicate, slice_get, Option, Some, None}
+use Rattle.std.specs.Prelude.{◌≡◌, ◌≤◌, ◌<◌, ◌+◌, ◌*◌, ◌-◌, ◌^◌, ◌==◌, ◌&&◌, ◌++◌, ◌∷◌, ℕ, Bool, true, false, List, [], All, length, min, if◌then◌else◌, is_some, replicate, slice_get, slice_index_or, slice_set, sum_by, Option, Some, None}
+use Rattle.std.specs.Option.{option_map_or}
 use Rattle.disk_model.specs.Disk.{Faults, History, IsMoment, IsTold, told_calls}
+use Rattle.mdbox_base.specs.declared.progress.Did.{Did}
+use Rattle.mdbox_base.specs.declared.progress.Did.TheVariants as did
 use Rattle.mdbox_base.specs.declared.replies.Reply.{Reply}
 use Rattle.mdbox_base.specs.declared.requests.Request.{Request}
 use Rattle.mdbox_base.specs.declared.script.JournalEntry.{JournalEntry}
 use Rattle.model_lists.specs.Lists.{Lists}
 use Rattle.list_machine.specs.Run.{Run, RunEvent, and_then}
 use Rattle.journal.specs.Journal.{Broken, JournalStep, Requests, moment_of}
+use Rattle.serving.specs.Accounts.{LanesAccount}
+use Rattle.serving.specs.Lanes.{replies_behind}
 use Rattle.serving.specs.Serving.{AreIdle}
 use Rattle.serving.specs.Turns.{IsTraceOf, LaneTurn}
 use Rattle.store_core.specs.Value.{StoreValue}
-use Rattle.task_steps.specs.Step.{Seen}
+use Rattle.task_steps.specs.Step.{Seen, ended_by}
 use Rattle.attach_detach.specs.declared.message.Prepared.{Prepared}
-use Rattle.lane_tasks.specs.Tasks.{HasTask}
+use Rattle.lane_tasks.specs.Clause.{DoomsNothing}
+use Rattle.lane_tasks.specs.Tasks.{BeginsTask, HasTask, IsReadyTask, claims_at, work_left}
 use Rattle.lanes.specs.Going.{AreFreshRows, IsGoing}
-use Rattle.lanes.specs.Rows.{LaneRow, lanes_of}
+use Rattle.lanes.specs.Rows.{LaneRow, RowGoesOn, lanes_of, queue_in}
+use Rattle.lanes.specs.declared.lane.LaneEvent.{LaneEvent}
+use Rattle.lanes.specs.declared.lane.Queued.{Queued}
 
 -- ---- what is kept of the steps
 
@@ -146,3 +154,74 @@ world_begun store parts moment = record {
 -- A world begins with these parts over a store.
 abbrev pub IsBegun : {D : Type 0} → StoreValue D → PartsValue → Option History → WorldValue D → Type 0
 IsBegun store parts history world = (moment : ℕ) × IsMoment history moment × (world ≡ world_begun store parts moment)
+
+-- ---- what every world keeps
+
+-- some request has this task as it begins
+abbrev pub BeginsSome : Queued → Type 0
+BeginsSome queued = (asked : Request) × BeginsTask asked queued.task
+
+-- Whatever script it is of: it has 64 lanes at the most, the requests that wait begin, and unless the store is stopped, the lanes
+-- account for it and no storage file is doomed. Each request has a place among the replies, each lane its count, and a world that was
+-- finished has no request left.
+pub record IsSound {D : Type 0} (history : Option History) (world : WorldValue D) : Type 0 where
+  pub few : length world.rows ≤ 64
+  pub waiting : (k : ℕ) (row : LaneRow) → slice_get world.rows k ≡ Some row → All BeginsSome row.waiting
+  pub accounts : world.store.stopped ≡ false → LanesAccount claims_at IsReadyTask world.store history (lanes_of world.rows)
+  pub undoomed : world.store.stopped ≡ false → DoomsNothing world.store
+  pub places : (k : ℕ) (row : LaneRow) → slice_get world.rows k ≡ Some row → All (λ place. place < length world.replies) (queue_in row)
+  pub many : length world.replied ≡ length world.rows
+  pub room : world.turn_room ≡ turns_for (length world.replies) (length world.rows)
+  pub idle : world.finished ≡ true → AreIdle (lanes_of world.rows)
+
+-- ---- an event of a lane, as a world keeps it
+
+-- the lane's count after its request goes on, or is answered
+abbrev pub replied_behind : Option Reply → ℕ → List ℕ → List ℕ
+replied_behind None k counts = counts
+replied_behind (Some given) k counts = slice_set counts k (min (slice_index_or counts k 0 + 1) (2 ^ 64 - 1))
+
+-- what is added to the journal for an event that did this, and to the broken steps
+abbrev pub entries_made : Did → ℕ → ℕ → ℕ → List JournalEntry
+entries_made (did.Step half) lane place calls = record { lane = lane; request = place; half = half; calls = calls } ∷ []
+entries_made other lane place calls = []
+
+abbrev pub entries_broken : Did → ℕ → ℕ → ℕ → List JournalEntry
+entries_broken (did.Broken half) lane place calls = record { lane = lane; request = place; half = half; calls = calls } ∷ []
+entries_broken other lane place calls = []
+
+-- An event of the lane at this place, with what a world makes of it: its reply, its entry, of the moments before it and after it, if
+-- there is room for that, and what stays.
+pub record Works {D : Type 0} (k : ℕ) (old new : WorldValue D) (before after : Option History) (first second : Faults) : Type 0 where
+  pub row : LaneRow
+  pub now : LaneRow
+  pub event : LaneEvent
+  pub there : slice_get old.rows k ≡ Some row
+  pub goes : RowGoesOn row now event old.store new.store before after first second
+  pub rows_are : new.rows ≡ slice_set old.rows k now
+  pub replies_are : new.replies ≡ replies_behind (ended_by event.ended) event.place old.replies
+  pub replied_are : new.replied ≡ replied_behind (ended_by event.ended) k old.replied
+  pub earlier : ℕ
+  pub earlier_is : IsMoment before earlier
+  pub later : ℕ
+  pub later_is : IsMoment after later
+  pub journal_is : length old.journal < 2 * length old.replies → new.journal ≡ old.journal ++ entries_made event.did (k + 1) event.place (later - old.began)
+  pub broken_is : length old.broken < 16 → new.broken ≡ old.broken ++ entries_broken event.did (k + 1) event.place (earlier - old.began)
+  pub began_is : new.began ≡ old.began
+  pub turns_are : new.turns ≡ old.turns
+  pub room_is : new.turn_room ≡ old.turn_room
+  pub finished_is : new.finished ≡ old.finished
+
+-- ---- what is left to do
+
+-- the requests that aren't answered, with the tasks of those in turn and of those that wait
+abbrev pub queued_in : LaneRow → List Queued
+queued_in row = option_map_or (λ first. first ∷ row.waiting) row.current []
+
+abbrev pub left_in : {D : Type 0} → StoreValue D → LaneRow → ℕ
+left_in store row = sum_by (λ queued. work_left queued.task store) (queued_in row)
+
+-- A bound of the events that are still to come: as each event of a stopped store answers its request, one for each.
+abbrev pub world_left : {D : Type 0} → WorldValue D → ℕ
+world_left world =
+    sum_by (λ row. length (queued_in row)) world.rows + (if world.store.stopped then 0 else 1 + sum_by (left_in world.store) world.rows)

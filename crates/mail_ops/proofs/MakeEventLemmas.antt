@@ -274,6 +274,7 @@ draws_of pins old new before after began then ran map drawn files instances dues
   due = λ uid. due_as_before old new uid map dues;
   tells = tells_as_before pins old new before after began then ran (ap (λ (m : MapMeaning). m.store) map) (ap (λ (d : Highest). d.file) drawn) (ap (λ (d : Highest). d.instance) drawn) files instances;
   grows = grows;
+  mail = mail;
   reads = reads;
   changes = changes;
 }
