@@ -15,7 +15,7 @@ use Rattle.model_meaning.specs.MapMeaning.{MapMeaning}
 use Rattle.model_store.specs.Settled.{IsSettledFor}
 use Rattle.model_lists.specs.Lists.{Lists}
 use Rattle.list_machine.specs.Run.{Run, RunEvent}
-use Rattle.journal.specs.Journal.{Broken, JournalStep, Requests}
+use Rattle.journal.specs.Journal.{Broken, JournalStep, Requests, no_broken}
 use Rattle.serving.specs.Accounts.{LanesAccount}
 use Rattle.serving.specs.Lanes.{queue_of}
 use Rattle.serving.specs.Serving.{HaveLanes, IsServing}
@@ -70,7 +70,7 @@ pub record IsStepOf (lane place : ℕ) (run : Run) (step : JournalStep) : Type 0
 
 -- It is an event of this lane and of its request, with the reply that it gave, and ended at the disk's present moment; it has an entry
 -- in the journal if it was a step; and where its append failed, the step that it would have been is broken, from the moment on at which
--- the event began. At each moment of it storage files and instances have what the map needed as it began.
+-- the event began, and no other one is. At each moment of it storage files and instances have what the map needed as it began.
 pub record AddsEvent (lane : ℕ) (event : LaneEvent) (run : Run) (m : MapMeaning) (before after : Option History) (added : RunEvent) (steps : List JournalStep) (broken failed : Broken) : Type 0 where
   pub lane_is : added.lane ≡ lane
   pub request_is : added.request ≡ event.place
@@ -79,6 +79,7 @@ pub record AddsEvent (lane : ℕ) (event : LaneEvent) (run : Run) (m : MapMeanin
   pub halves_are : map (λ step. step.half) steps ≡ halves_told event.did
   pub steps_are : All (IsStepOf lane event.place run) steps
   pub breaks : BreaksBy event.did run added (told_calls before) broken failed
+  pub once : (half : Half) → event.did ≡ did.Broken half → broken ≡ no_broken
   pub mail : MailIsKept m before after
 
 -- ---- how lanes begin

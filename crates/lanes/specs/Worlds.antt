@@ -162,7 +162,7 @@ abbrev pub BeginsSome : Queued → Type 0
 BeginsSome queued = (asked : Request) × BeginsTask asked queued.task
 
 -- Whatever script it is of: it has 64 lanes at the most, the requests that wait begin, and unless the store is stopped, the lanes
--- account for it and no storage file is doomed. Each request has a place among the replies, each lane its count, and a world that was
+-- account for it and no storage file is doomed. There are 100,000 requests at the most. Each has a place among the replies, each lane its count, and a world that was
 -- finished has no request left.
 pub record IsSound {D : Type 0} (history : Option History) (world : WorldValue D) : Type 0 where
   pub few : length world.rows ≤ 64
@@ -170,6 +170,7 @@ pub record IsSound {D : Type 0} (history : Option History) (world : WorldValue D
   pub accounts : world.store.stopped ≡ false → LanesAccount claims_at IsReadyTask world.store history (lanes_of world.rows)
   pub undoomed : world.store.stopped ≡ false → DoomsNothing world.store
   pub places : (k : ℕ) (row : LaneRow) → slice_get world.rows k ≡ Some row → All (λ place. place < length world.replies) (queue_in row)
+  pub short : length world.replies ≤ 100000
   pub many : length world.replied ≡ length world.rows
   pub room : world.turn_room ≡ turns_for (length world.replies) (length world.rows)
   pub idle : world.finished ≡ true → AreIdle (lanes_of world.rows)
@@ -205,7 +206,9 @@ pub record Works {D : Type 0} (k : ℕ) (old new : WorldValue D) (before after :
   pub earlier_is : IsMoment before earlier
   pub later : ℕ
   pub later_is : IsMoment after later
+  pub unmade_is : entries_made event.did (k + 1) event.place (later - old.began) ≡ [] → new.journal ≡ old.journal
   pub journal_is : length old.journal < 2 * length old.replies → new.journal ≡ old.journal ++ entries_made event.did (k + 1) event.place (later - old.began)
+  pub unbroken_is : entries_broken event.did (k + 1) event.place (earlier - old.began) ≡ [] → new.broken ≡ old.broken
   pub broken_is : length old.broken < 16 → new.broken ≡ old.broken ++ entries_broken event.did (k + 1) event.place (earlier - old.began)
   pub began_is : new.began ≡ old.began
   pub turns_are : new.turns ≡ old.turns
