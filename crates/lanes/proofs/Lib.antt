@@ -1,3 +1,5 @@
 pub mod BeginLemmas
+pub mod EntryLemmas
 pub mod FindingLemmas
 pub mod GoingLemmas
+pub mod WorldLemmas

@@ -133,7 +133,7 @@ pub record PartsValue : Type 0 where
 -- They are those of this script and of so many lanes.
 pub record ArePartsOf (script : Requests) (lanes : ℕ) (parts : PartsValue) : Type 0 where
   pub rows : AreFreshRows script parts.rows
-  pub lanes : length parts.rows ≡ lanes
+  pub many : length parts.rows ≡ lanes
   pub requests : parts.requests ≡ length script
 
 -- a world that begins with these parts over a store, at this moment of its disk
@@ -171,6 +171,7 @@ pub record IsSound {D : Type 0} (history : Option History) (world : WorldValue D
   pub undoomed : world.store.stopped ≡ false → DoomsNothing world.store
   pub places : (k : ℕ) (row : LaneRow) → slice_get world.rows k ≡ Some row → All (λ place. place < length world.replies) (queue_in row)
   pub short : length world.replies ≤ 100000
+  pub clock : world.began ≤ 2 ^ 64 - 1
   pub many : length world.replied ≡ length world.rows
   pub room : world.turn_room ≡ turns_for (length world.replies) (length world.rows)
   pub idle : world.finished ≡ true → AreIdle (lanes_of world.rows)

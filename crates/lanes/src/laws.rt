@@ -45,3 +45,8 @@ pub fn lanes_end<D: Disk>()
     ensures { (start : Lists) (script : Requests) (run : Run) (journal : List JournalStep) (broken : Broken) (replies : List (Option Reply)) (began : Seen) (store : StoreValue D) (history : Option History) (faults : Faults) (rows : List LaneRow) → IsGoing start script run journal broken replies began store history faults rows
         → AreIdle (lanes_of rows) → (i : ℕ) → i < length script → (given : Reply) × HasReply replies i given × (reply_of i run ≡ Some given) }
 {}
+
+/// tmp
+pub fn tmp_law<D: Disk>()
+    ensures { (n : ℕ) → n ≡ n }
+{}
