@@ -42,10 +42,11 @@ use Rattle.mail_fetch.specs.declared.task.FetchStage.TheVariants as fetch_stage
 use Rattle.mail_save.specs.Claims.{save_claims}
 use Rattle.mail_save.specs.Ready.{IsReadyToSave}
 use Rattle.mail_save.specs.SaveSeen.{HasItsParts, IsAtSave, StepsWithRoom, around_saving}
-use Rattle.mail_save.specs.Task.{IsReadyToDeliver, SaveValue}
+use Rattle.mail_save.specs.Task.{EndsSave, IsReadyToDeliver, SaveValue}
+use Rattle.mail_save.specs.declared.task.SaveStage.{SaveStage}
 use Rattle.mail_save.proofs.SavePartLemmas.{ready_has_parts}
 use Rattle.lane_tasks.specs.Clause.{DoomsNothing, StepsTask, around_at}
-use Rattle.lane_tasks.specs.Tasks.{IsAtTask, IsMakeNumber, IsTaskOf, TookFiles, TookNoFile, did_of, work_left}
+use Rattle.lane_tasks.specs.Tasks.{IsAtTask, IsDeliveryOf, IsMakeNumber, IsTaskOf, TookFiles, TookNoFile, did_of, work_left}
 use Rattle.lane_tasks.specs.declared.task.Task.{Task}
 use Rattle.lane_tasks.specs.declared.task.Task.TheVariants as task
 use Rattle.lane_tasks.proofs.FilesLemmas.{TakesNone, copy_takes_none, counts_takes_none, expunge_takes_none, fetch_takes_none, flag_takes_none, list_takes_none, make_takes_none, move_takes_none, took_none_more}
@@ -284,7 +285,7 @@ ran_before false new still runs = refl
 deliver_request : (t : SaveValue) (name : List ℕ) (time : ℕ) (octets : List ℕ) → (name ≡ t.name) × (time ≡ t.time) → request.Deliver t.name t.time octets ≡ request.Deliver name time octets
 deliver_request t name time octets e = let n = e.0 in let i = e.1 in cc (n, i)
 
-ready_as : {D : Type 0} → (t u : SaveValue) (octets : List ℕ) (store : StoreValue D) (history : Option History) → (u.name ≡ t.name) × (u.time ≡ t.time) × (u.size ≡ t.size) → IsReadyToDeliver u.stage t.name t.time t.size octets store history → IsReadyToDeliver u.stage u.name u.time u.size octets store history
+pub ready_as : {D : Type 0} → (t u : SaveValue) (octets : List ℕ) (store : StoreValue D) (history : Option History) → (u.name ≡ t.name) × (u.time ≡ t.time) × (u.size ≡ t.size) → IsReadyToDeliver u.stage t.name t.time t.size octets store history → IsReadyToDeliver u.stage u.name u.time u.size octets store history
 ready_as t u octets store history same ready =
     subst (λ (n : List ℕ). IsReadyToDeliver u.stage n u.time u.size octets store history) (sym same.0)
     (subst (λ (m : ℕ). IsReadyToDeliver u.stage t.name m u.size octets store history) (sym same.1) (subst (λ (k : ℕ). IsReadyToDeliver u.stage t.name t.time k octets store history) (sym same.2) ready))
@@ -313,3 +314,16 @@ deliver_does t u old new before after began now result same claims ready steps (
           },
     )
 deliver_does t u old new before after began now result same claims ready steps asked around behind run lane place said lists come shown room reads stood = absurd stood.is_of
+
+-- it stays of its requests
+pub deliver_stays_of : (t u : SaveValue) (asked : Request) → (u.name ≡ t.name) × (u.time ≡ t.time) × (u.size ≡ t.size) → IsDeliveryOf t asked → IsDeliveryOf u asked
+deliver_stays_of t u (request.Deliver name time octets) same is = (is.0 ∙ sym same.0, is.1 ∙ sym same.1)
+deliver_stays_of t u asked same is = absurd is
+
+-- one that goes on ran in a store that runs
+pub deliver_ran : {D : Type 0} → (next : SaveStage) (old new : StoreValue D) (answer : Progress) → EndsSave next answer old new → answer ≡ progress.More → old.stopped ≡ false
+deliver_ran next old new answer ends more = by_test new.stopped refl
+  where
+    by_test : (b : Bool) → new.stopped ≡ b → old.stopped ≡ false
+    by_test true is = absurd (let k : progress.More ≡ progress.Done (reply.Refused refusal.Stopped) = sym more ∙ ends.stopped.1 is in cc k)
+    by_test false is = ran_before old.stopped new.stopped (λ stopped. ap (λ (s : StoreValue _). s.stopped) (ends.still stopped) ∙ stopped) is

@@ -4,7 +4,7 @@ ghost use Rattle.attach_detach.specs.Prepared.{IsPrepared};
 ghost use Rattle.attach_detach.specs.declared.message.Prepared.{Prepared as PreparedValue};
 ghost use Rattle.journal.specs.Events.{Around};
 ghost use Rattle.mdbox_base.specs.declared.ids.InstId.{InstId as InstIdValue};
-ghost use Rattle.mdbox_base.specs.Words.{IsName, IsOctets};
+ghost use Rattle.mdbox_base.specs.Words.{IsOctets};
 ghost use Rattle.mdbox_base.specs.declared.progress.Did.TheVariants as did;
 ghost use Rattle.mdbox_base.specs.declared.progress.Progress.TheVariants as progress;
 ghost use Rattle.mdbox_base.specs.declared.replies.Refusal.TheVariants as refusal;
@@ -15,7 +15,6 @@ ghost use Rattle.model_store.specs.Settled.{IsSettledFor, Leaves};
 ghost use Rattle.save_instances.specs.Attaching.{next_attachment};
 ghost use Rattle.saved_message.specs.Laid.{IsLaid};
 ghost use Rattle.store_core.specs.Dues.{due_at};
-ghost use Rattle.store_core.specs.Keeping.{KeepsInstances, KeepsUids};
 ghost use Rattle.store_seen.specs.Seeing.{seen_of};
 ghost use Rattle.task_claims.specs.Claims.{MovesClaims};
 ghost use Rattle.task_claims.specs.Leaving.{LeavesOthers};
@@ -153,12 +152,6 @@ impl SaveTask {
         // settled for those that the answer tells.
         ensures moments { (octets : List ℕ) → IsReadyToSave self.old.stage self.old.name self.old.time self.old.size octets store.old (D.history store.old.disk) → (lists : Lists) → IsSettledFor lists (D.history store.old.disk) → Leaves lists (save_lists self.old.stage self.old.name octets lists) (D.history store.old.disk) (D.history store.new.disk) }
         ensures settled { store.new.stopped ≡ false → (octets : List ℕ) → IsReadyToSave self.old.stage self.old.name self.old.time self.old.size octets store.old (D.history store.old.disk) → (lists : Lists) → IsSettledFor lists (D.history store.old.disk) → IsSettledFor (lists_delivered self.old.stage self.old.name octets result lists) (D.history store.new.disk) }
-
-        // A message that another task copies or moves stays the only one with its UID.
-        ensures keeps { KeepsUids store.old store.new }
-
-        // What another task has compared or found of the instances stays so, unless the store is stopped then.
-        ensures instances { store.new.stopped ≡ false → KeepsInstances store.old store.new (D.history store.old.disk) (D.history store.new.disk) }
 
         // Unless it stops the store, it moves only its own claims, and leaves to other tasks what is theirs.
         ensures claims { store.new.stopped ≡ false → MovesClaims (save_claims self.old.stage) (save_claims self.new.stage) store.old store.new }
@@ -312,20 +305,13 @@ fn known_id<D: Disk>(store: &Store<D>)
     let _ = store.id();
 }
 
-/// What is true of every mailbox name.
-fn known_name(name: &Name)
-    ensures { IsName name.now }
-{
-    let _ = name.as_octets();
-}
-
 /// The event that takes a storage file.
 fn taking<D: Disk>(store: &mut Store<D>, name: &Name, time: u64, parts: SavedParts) -> Led
     requires running { store.old.stopped ≡ false }
     requires left { IsAttached name.now time parts store.old (D.history store.old.disk) }
     ensures { (size : ℕ) → Saves (stage.Taking parts) result.next name.now time size result.answer result.did store.old store.new (D.history store.old.disk) (D.history store.new.disk) (D.faults store.old.disk) (D.faults store.new.disk) }
 {
-    known_name(name);
+    let _name = name.as_octets();
     let size = parts.laid.region().len() as u32;
     match take_file(store, parts.header.as_slice(), size) {
         Ok(file) => goes_on(SaveStage::Placing { parts, file }),
@@ -355,7 +341,7 @@ fn placing<D: Disk>(
         room,
     } = parts;
     let mut laid = laid;
-    known_name(name);
+    let _name = name.as_octets();
     match place_region(store, &mut laid, file) {
         Ok(at) => goes_on(SaveStage::Storing { at, rows, room }),
         Err(Stopped) => {

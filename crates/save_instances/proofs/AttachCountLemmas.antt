@@ -107,8 +107,8 @@ none_more value instances later drawn last few same = by (later.highest == insta
         let is : later.highest ≡ instances.highest = eqb-true later.highest instances.highest e in
         let after : compared_to value later ≡ compared_to value instances = compared_alike value instances later is in
         let fewer : candidates_of value later ≤ candidates_of value instances =
-            subst (λ (o : Option InstId). option_map_or (λ part. candidates_left part.hash (length part.octets) o later.known) (next_attachment value) 0 ≤ candidates_of value instances) (sym after)
-            (no_more_candidates (next_attachment value) (compared_to value instances) instances.known later.known (λ hash size. same is hash size (compared_to value instances))) in
+        subst (λ (o : Option InstId). option_map_or (λ part. candidates_left part.hash (length part.octets) o later.known) (next_attachment value) 0 ≤ candidates_of value instances) (sym after)
+        (no_more_candidates (next_attachment value) (compared_to value instances) instances.known later.known (λ hash size. same is hash size (compared_to value instances))) in
         let numbers : numbers_left later ≡ numbers_left instances = ap (λ (n : ℕ). 4294967294 - n) is in
         not_more (candidates_of value instances) (candidates_of value later) (length instances.known) (length later.known) (parts_left value) (numbers_left instances) (numbers_left later) fewer numbers (stays (length instances.known) (length later.known) instances.highest later.highest (numbers_left instances) (numbers_left later) is few numbers)
       where
@@ -119,8 +119,8 @@ none_more value instances later drawn last few same = by (later.highest == insta
         let most = last not in
         let fewer : numbers_left later < numbers_left instances = lower instances.highest later.highest (numbers_left instances) (numbers_left later) drawn not most refl refl in
         let less = less_left (candidates_of value instances) (candidates_of value later) (length instances.known) (length later.known) (parts_left value) (parts_left value) (numbers_left instances) (numbers_left later)
-            (beside (parts_left value) (numbers_left instances) (numbers_left later) fewer) (within (length instances.known) (length later.known) instances.highest later.highest (numbers_left instances) (numbers_left later) drawn most few refl refl)
-            (few_candidates (next_attachment value) (compared_to value later) later.known) in
+        (beside (parts_left value) (numbers_left instances) (numbers_left later) fewer) (within (length instances.known) (length later.known) instances.highest later.highest (numbers_left instances) (numbers_left later) drawn most few refl refl)
+        (few_candidates (next_attachment value) (compared_to value later) later.known) in
         lt_le (attach_events_left value later) (attach_events_left value instances) less
       where
         beside : (r h j : ℕ) → j < h → r + j < r + h

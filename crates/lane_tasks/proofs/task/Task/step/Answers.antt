@@ -1,4 +1,4 @@
-use Rattle.std.proofs.Common.{◌≡◌, ◌<◌, Bool, true, false, sym, ◌∙◌, ap, subst}
+use Rattle.std.proofs.Common.{◌≡◌, ◌<◌, Bool, true, false, refl, sym, ◌∙◌, ap, subst}
 use Rattle.std.specs.Prelude.{◌↔◌}
 use Rattle.mdbox_base.specs.declared.progress.Progress.{Progress}
 use Rattle.mdbox_base.specs.declared.progress.Progress.TheVariants as progress
@@ -9,11 +9,12 @@ use Rattle.task_claims.specs.Claims.{MovesClaims}
 use Rattle.task_claims.specs.Leaving.{LeavesOthers}
 use Rattle.task_steps.specs.Step.{ended_by}
 use Rattle.lane_tasks.specs.Clause.{StepsTask}
-use Rattle.lane_tasks.specs.Tasks.{claims_at, work_left}
+use Rattle.lane_tasks.specs.Tasks.{IsReadyTask, IsTaskOf, claims_at, work_left}
 use Rattle.lane_tasks.specs.declared.task.Task.{Task}
 use Rattle.lane_tasks.specs.declared.task.Task.TheVariants as task
 use Rattle.mail_fetch.proofs.StageLemmas.{used_doomed, used_only, used_runs}
-use Rattle.lane_tasks.proofs.StepLemmas.{copy_does, counts_does, deliver_does, doomed_as, doomed_rest, expunge_does, fetch_does, fetch_halts, logs_files, make_does, make_fewer, make_numbered, move_does, ops_asked, ops_does, ops_halted, ran_before, rest_files, stays_stopped, unpins_undoomed, use_room}
+use Rattle.mail_save.proofs.SaveReadyLemmas.{left_with_room}
+use Rattle.lane_tasks.proofs.StepLemmas.{copy_does, counts_does, deliver_does, deliver_ran, deliver_stays_of, doomed_as, doomed_rest, expunge_does, fetch_does, fetch_halts, logs_files, make_does, make_fewer, make_numbered, move_does, ops_asked, ops_does, ops_halted, ran_before, ready_as, rest_files, stays_stopped, unpins_undoomed, use_room}
 use Rattle.lane_tasks.proofs.task.Task.step.Goals as goal
 
 pub returns-in-Ops-clause-does : goal.returns-in-Ops-clause-does
@@ -77,8 +78,8 @@ returns-in-Make-clause-left g c = λ more.
 
 -- ---- a fetch
 
-pub step-in-Fetch-requires-clause-room : goal.step-in-Fetch-requires-clause-room
-step-in-Fetch-requires-clause-room g c = λ runs. use_room c.in-Fetch.task.stage c.args.store.now (c.requires.room runs).uses
+pub step-requires-in-Fetch-clause-room : goal.step-requires-in-Fetch-clause-room
+step-requires-in-Fetch-clause-room g c = λ runs. use_room c.in-Fetch.task.stage c.args.store.now (c.requires.room runs).uses
 
 pub returns-in-Fetch-clause-does : goal.returns-in-Fetch-clause-does
 returns-in-Fetch-clause-does g c =
@@ -143,3 +144,52 @@ returns-in-Make-clause-undoomed g c = λ runs. doomed_rest c.args.store.now c.st
 
 pub returns-in-Fetch-clause-undoomed : goal.returns-in-Fetch-clause-undoomed
 returns-in-Fetch-clause-undoomed g c = λ runs. doomed_as c.args.store.now c.step-in-Fetch.new.store (λ file. used_doomed c.in-Fetch.task.stage c.step-in-Fetch.new.self.stage c.args.store.now c.step-in-Fetch.new.store file c.step-in-Fetch.ensures.alone.same)
+
+-- ---- a delivery
+
+pub step-requires-in-Deliver : goal.step-requires-in-Deliver
+step-requires-in-Deliver g c = record { left = λ runs.
+    let t = c.in-Deliver.task in
+    let ready = subst (λ (k : Task). IsReadyTask k c.args.store.now (g.D.Disk.history c.args.store.now.disk)) c.in-Deliver.is (c.requires.ready runs) in
+    left_with_room t.stage t.name t.time t.size ready.0 c.args.store.now (g.D.Disk.history c.args.store.now.disk) ready.1 (c.requires.room runs).uses.holds }
+
+pub returns-in-Deliver-clause-ready : goal.returns-in-Deliver-clause-ready
+returns-in-Deliver-clause-ready g c = λ more runs.
+    let step = c.step-in-Deliver.ensures in
+    let ran = deliver_ran c.step-in-Deliver.new.self.stage c.args.store.now c.step-in-Deliver.new.store c.step-in-Deliver.result step.ended more in
+    let ready = subst (λ (k : Task). IsReadyTask k c.args.store.now (g.D.Disk.history c.args.store.now.disk)) c.in-Deliver.is (c.requires.ready ran) in
+    (ready.0, ready_as c.in-Deliver.task c.step-in-Deliver.new.self ready.0 c.step-in-Deliver.new.store (g.D.Disk.history c.step-in-Deliver.new.store.disk) step.request (step.ready more ready.0 ready.1))
+
+pub returns-in-Deliver-clause-does : goal.returns-in-Deliver-clause-does
+returns-in-Deliver-clause-does g c =
+    subst (λ (t : Task). StepsTask t (task.Deliver c.step-in-Deliver.new.self) c.args.store.now c.step-in-Deliver.new.store (g.D.Disk.history c.args.store.now.disk) (g.D.Disk.history c.step-in-Deliver.new.store.disk) (g.D.Disk.faults c.args.store.now.disk) (g.D.Disk.faults c.step-in-Deliver.new.store.disk) (ended_by c.step-in-Deliver.result)) (sym c.in-Deliver.is)
+    (let r = c.step-in-Deliver.ensures.request in deliver_does c.in-Deliver.task c.step-in-Deliver.new.self c.args.store.now c.step-in-Deliver.new.store (g.D.Disk.history c.args.store.now.disk) (g.D.Disk.history c.step-in-Deliver.new.store.disk) (g.D.Disk.faults c.args.store.now.disk) (g.D.Disk.faults c.step-in-Deliver.new.store.disk) c.step-in-Deliver.result r c.step-in-Deliver.ensures.claims
+    c.step-in-Deliver.ensures.ready (λ octets pins behind. c.step-in-Deliver.ensures.does octets pins behind))
+
+pub returns-in-Deliver-clause-claims : goal.returns-in-Deliver-clause-claims
+returns-in-Deliver-clause-claims g c = λ runs.
+    subst (λ (t : Task). MovesClaims (claims_at t) (claims_at (task.Deliver c.step-in-Deliver.new.self)) c.args.store.now c.step-in-Deliver.new.store) (sym c.in-Deliver.is) (c.step-in-Deliver.ensures.claims runs)
+
+pub returns-in-Deliver-clause-leaves : goal.returns-in-Deliver-clause-leaves
+returns-in-Deliver-clause-leaves g c = λ runs.
+    subst (λ (t : Task). LeavesOthers (claims_at t) c.args.store.now c.step-in-Deliver.new.store (g.D.Disk.history c.args.store.now.disk) (g.D.Disk.history c.step-in-Deliver.new.store.disk)) (sym c.in-Deliver.is) (c.step-in-Deliver.ensures.leaves runs)
+
+pub returns-in-Deliver-clause-ended : goal.returns-in-Deliver-clause-ended
+returns-in-Deliver-clause-ended g c = c.step-in-Deliver.ensures.ended.unclaimed
+
+pub returns-in-Deliver-clause-stopped : goal.returns-in-Deliver-clause-stopped
+returns-in-Deliver-clause-stopped g c = c.step-in-Deliver.ensures.ended.stopped.1
+
+pub returns-in-Deliver-clause-halted : goal.returns-in-Deliver-clause-halted
+returns-in-Deliver-clause-halted g c = stays_stopped c.args.store.now c.step-in-Deliver.new.store c.step-in-Deliver.ensures.ended.still
+
+pub returns-in-Deliver-clause-undoomed : goal.returns-in-Deliver-clause-undoomed
+returns-in-Deliver-clause-undoomed g c = λ runs. doomed_as c.args.store.now c.step-in-Deliver.new.store (c.step-in-Deliver.ensures.ended.doomed runs)
+
+pub returns-in-Deliver-clause-left : goal.returns-in-Deliver-clause-left
+returns-in-Deliver-clause-left g c = λ more.
+    subst (λ (t : Task). work_left (task.Deliver c.step-in-Deliver.new.self) c.step-in-Deliver.new.store < work_left t c.args.store.now) (sym c.in-Deliver.is) (c.step-in-Deliver.ensures.left more)
+
+pub returns-in-Deliver-clause-request : goal.returns-in-Deliver-clause-request
+returns-in-Deliver-clause-request g c = λ asked is.
+    deliver_stays_of c.in-Deliver.task c.step-in-Deliver.new.self asked c.step-in-Deliver.ensures.request (subst (λ (t : Task). IsTaskOf t asked) c.in-Deliver.is is)

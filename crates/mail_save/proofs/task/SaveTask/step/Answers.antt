@@ -6,7 +6,6 @@ use Rattle.mail_save.proofs.SaveEventLemmas.{done_goes_on, seen_saves, unfallen}
 use Rattle.mail_save.proofs.SaveLeavesLemmas.{save_leaves}
 use Rattle.mail_save.proofs.SaveMomentLemmas.{save_moments, save_rests}
 use Rattle.mail_save.proofs.SaveReadyLemmas.{save_ready}
-use Rattle.mail_save.proofs.SaveUidLemmas.{store_stays, uids_stay}
 use Rattle.mail_save.proofs.task.SaveTask.step.Goals as goal
 
 pub returns-clause-saves : goal.returns-clause-saves
@@ -55,21 +54,6 @@ pub returns-clause-settled : goal.returns-clause-settled
 returns-clause-settled g c = λ ran octets ready lists at.
     let s = seen_saves _ c.args.self.now c.replace-now.result _ _ _ _ _ _ _ _ _ c.self.view_is c.replace-now.ensures.value c.next_event-next.ensures in
     save_rests c.args.self.now.stage _ _ _ _ _ _ c.args.store.now _ _ _ _ _ c.listings_are_shown.ensures.logs c.facts.ensures.store (sym c.stopped.ensures ∙ c.if-stopped.false) (g.met.D.Disk.reads_image c.args.store.now.disk) (c.requires.left (sym c.stopped.ensures ∙ c.if-stopped.false)) s ran octets ready lists at
-
-pub returns-then-stopped-clause-keeps : goal.returns-then-stopped-clause-keeps
-returns-then-stopped-clause-keeps g c = store_stays c.args.store.now c.args.store.now refl
-
-pub returns-clause-keeps : goal.returns-clause-keeps
-returns-clause-keeps g c =
-    let s = seen_saves _ c.args.self.now c.replace-now.result _ _ _ _ _ _ _ _ _ c.self.view_is c.replace-now.ensures.value c.next_event-next.ensures in
-    uids_stay c.args.self.now.stage _ _ _ _ _ c.args.store.now _ s.effects
-
-pub returns-then-stopped-clause-instances : goal.returns-then-stopped-clause-instances
-returns-then-stopped-clause-instances g c = λ ran. absurd (unfallen c.args.store.now.stopped (sym c.stopped.ensures ∙ c.if-stopped.true) ran)
-
-pub returns-clause-instances : goal.returns-clause-instances
-returns-clause-instances g c = λ ran.
-    (seen_saves _ c.args.self.now c.replace-now.result _ _ _ _ _ _ _ _ _ c.self.view_is c.replace-now.ensures.value c.next_event-next.ensures).instances ran
 
 pub returns-then-stopped-clause-ready : goal.returns-then-stopped-clause-ready
 returns-then-stopped-clause-ready g c = λ more. absurd (done_goes_on _ more)
