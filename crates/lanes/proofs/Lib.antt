@@ -2,4 +2,6 @@ pub mod BeginLemmas
 pub mod EntryLemmas
 pub mod FindingLemmas
 pub mod GoingLemmas
+pub mod LeftLemmas
+pub mod SoundLemmas
 pub mod WorldLemmas

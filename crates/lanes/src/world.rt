@@ -1,9 +1,11 @@
 // A world: lanes over one store, which do the requests of a script.
-ghost use Rattle.std.specs.Prelude.{◌≡◌, ◌≤◌, ◌<◌, ◌+◌, ◌-◌, ◌++◌, ◌∷◌, [], false, true, length, slice_get, Some, IfErr, IfOk};
+ghost use Rattle.std.specs.Prelude.{◌≡◌, ◌≤◌, ◌<◌, ◌+◌, ◌-◌, ◌++◌, ◌∷◌, [], false, true, length, slice_get, Some, IfErr, IfOk, vec_len, vec_capacity};
+ghost use Rattle.serving.specs.Lanes.{replies_behind};
 ghost use Rattle.serving.specs.Serving.{AreIdle};
 ghost use Rattle.task_claims.specs.Claims.{HasNoTask};
+ghost use Rattle.task_steps.specs.Step.{ended_by};
 ghost use Rattle.lanes.specs.Rows.{lanes_of};
-ghost use Rattle.lanes.specs.Worlds.{AreGiven, AreOfLanes, ArePartsOf, GoesOnBy, IsBegun, IsIdleLane, IsLaneEvent, PartsValue, turn_of};
+ghost use Rattle.lanes.specs.Worlds.{AreGiven, AreOfLanes, ArePartsOf, GoesOnBy, IsBegun, IsIdleLane, IsLaneEvent, PartsValue, Works, entries_broken, entries_made, replied_behind, turn_of, world_left};
 ghost use Rattle.lanes.specs.declared.turn.Turned.TheVariants as turned;
 
 use crate::lane::{Lane, LaneEvent};
@@ -35,12 +37,15 @@ pub struct World<D: Disk> {
 }
 
 impl<D: Disk> Model for World<D> {
-    ghost use Rattle.std.specs.Prelude.{◌≡◌};
-    ghost use Rattle.lanes.specs.Worlds.{WorldValue};
+    ghost use Rattle.std.specs.Prelude.{◌≡◌, ◌≤◌, ◌*◌, length, vec_len, vec_capacity};
+    ghost use Rattle.lanes.specs.Worlds.{IsSound, WorldValue};
 
     ghost Value = { WorldValue D };
 
     ghost view = { λ w. record { store = w.store; rows = w.lanes.items; replies = w.replies.items; replied = w.replied.items; journal = w.journal.items; broken = w.broken.items; began = w.began; turns = w.turns.items; turn_room = w.turn_room; finished = w.finished } };
+
+    // The lists are as long as their vectors, and there is room for two entries of each request, for 16 broken steps, and for the turns.
+    ghost invariant = { λ w. IsSound (D.history w.store.disk) (record { store = w.store; rows = w.lanes.items; replies = w.replies.items; replied = w.replied.items; journal = w.journal.items; broken = w.broken.items; began = w.began; turns = w.turns.items; turn_room = w.turn_room; finished = w.finished }) × (vec_len w.lanes ≡ length w.lanes.items) × (vec_len w.replies ≡ length w.replies.items) × (vec_len w.replied ≡ length w.replied.items) × (vec_len w.journal ≡ length w.journal.items) × (2 * length w.replies.items ≤ vec_capacity w.journal) × (vec_len w.broken ≡ length w.broken.items) × (16 ≤ vec_capacity w.broken) × (vec_len w.turns ≡ length w.turns.items) × (w.turn_room ≤ vec_capacity w.turns) };
 }
 
 /// There is no memory for a world. The store is as it was.
@@ -133,28 +138,25 @@ impl<D: Disk> World<D> {
         worked
     }
 
-    /// Does the next event of a lane that has a request left.
-    fn work(&mut self, lane: u32) {
+    /// Does the next event of a lane that has a request left, and keeps what came of it.
+    fn work(&mut self, lane: u32)
+        requires lane { (1 ≤ lane) × (lane ≤ length self.old.rows) }
+        requires busy { IsIdleLane lane self.old.rows → ⊥ }
+        ensures works { Works (lane - 1) self.old self.new (D.history self.old.store.disk) (D.history self.new.store.disk) (D.faults self.old.store.disk) (D.faults self.new.store.disk) }
+        ensures left { world_left self.new < world_left self.old }
+    {
         let place = (lane - 1) as usize;
-        let began = self.store.moment();
+        let earlier = self.store.moment();
         let Some(event) = self.lanes[place].advance(&mut self.store) else {
             return;
         };
-        match event.did {
-            Did::Step(half) => {
-                let calls = self.store.moment().saturating_sub(self.began);
-                put_entry(&mut self.journal, entry_of(lane, event.place, half, calls));
-            }
-            Did::Broken(half) => {
-                let calls = began.saturating_sub(self.began);
-                put_entry(&mut self.broken, entry_of(lane, event.place, half, calls));
-            }
-            Did::Quiet | Did::Failed => {}
-        }
-        if let Progress::Done(reply) = event.ended {
-            self.replies[event.place as usize] = Some(reply);
-            self.replied[place] += 1;
-        }
+        let later = self.store.moment();
+        let made = later.saturating_sub(self.began);
+        let broken = earlier.saturating_sub(self.began);
+        keep_step(&mut self.journal, lane, &event, made);
+        keep_broken(&mut self.broken, lane, &event, broken);
+        keep_count(&mut self.replied, place, &event.ended);
+        keep_reply(&mut self.replies, event.place as usize, event.ended);
     }
 
     /// For how many turns the trace has room without taking memory: 16 for each request, and one for each lane.
@@ -227,6 +229,28 @@ impl<D: Disk> World<D> {
     }
 }
 
+/// Adds the entry of an event to the journal, if it made a step and there is room.
+fn keep_step(journal: &mut Vec<JournalEntry>, lane: u32, event: &LaneEvent, calls: u64)
+    ensures none { entries_made event.now.did lane event.now.place calls ≡ [] → journal.new.items ≡ journal.old.items }
+    ensures some { vec_len journal.old < vec_capacity journal.old → journal.new.items ≡ journal.old.items ++ entries_made event.now.did lane event.now.place calls }
+    ensures room { (vec_capacity journal.old ≤ vec_capacity journal.new) × (vec_len journal.old ≡ length journal.old.items → vec_len journal.new ≡ length journal.new.items) }
+{
+    if let Did::Step(half) = event.did {
+        put_entry(journal, entry_of(lane, event.place, half, calls));
+    }
+}
+
+/// Adds the entry of an event to the broken steps, if a failed append would have made it and there is room.
+fn keep_broken(broken: &mut Vec<JournalEntry>, lane: u32, event: &LaneEvent, calls: u64)
+    ensures none { entries_broken event.now.did lane event.now.place calls ≡ [] → broken.new.items ≡ broken.old.items }
+    ensures some { vec_len broken.old < vec_capacity broken.old → broken.new.items ≡ broken.old.items ++ entries_broken event.now.did lane event.now.place calls }
+    ensures room { (vec_capacity broken.old ≤ vec_capacity broken.new) × (vec_len broken.old ≡ length broken.old.items → vec_len broken.new ≡ length broken.new.items) }
+{
+    if let Did::Broken(half) = event.did {
+        put_entry(broken, entry_of(lane, event.place, half, calls));
+    }
+}
+
 /// An entry of a step.
 fn entry_of(lane: u32, request: u32, half: Half, calls: u64) -> JournalEntry
     ensures { result ≡ record { lane = lane; request = request; half = half; calls = calls } }
@@ -239,7 +263,33 @@ fn entry_of(lane: u32, request: u32, half: Half, calls: u64) -> JournalEntry
     }
 }
 
-/// Adds an entry, for which there is room.
-fn put_entry(entries: &mut Vec<JournalEntry>, entry: JournalEntry) {
+/// Adds an entry, if there is room.
+fn put_entry(entries: &mut Vec<JournalEntry>, entry: JournalEntry)
+    ensures some { vec_len entries.old < vec_capacity entries.old → entries.new.items ≡ entries.old.items ++ entry ∷ [] }
+    ensures room { (vec_capacity entries.old ≤ vec_capacity entries.new) × (vec_len entries.old ≡ length entries.old.items → vec_len entries.new ≡ length entries.new.items) }
+{
     if entries.push(entry).is_err() {}
+}
+
+/// Counts the reply of a lane, if its request is answered.
+fn keep_count(counts: &mut Vec<u64>, place: usize, ended: &Progress)
+    requires { place < vec_len counts.old }
+    ensures counts { counts.new.items ≡ replied_behind (ended_by ended.now) place counts.old.items }
+    ensures same { vec_len counts.new ≡ vec_len counts.old }
+{
+    if let Progress::Done(_) = ended {
+        let count = counts[place];
+        counts[place] = count.saturating_add(1);
+    }
+}
+
+/// Puts the reply of a request in its place, if it is answered.
+fn keep_reply(replies: &mut Vec<Option<Reply>>, place: usize, ended: Progress)
+    requires { place < vec_len replies.old }
+    ensures replies { replies.new.items ≡ replies_behind (ended_by ended) place replies.old.items }
+    ensures same { vec_len replies.new ≡ vec_len replies.old }
+{
+    if let Progress::Done(reply) = ended {
+        replies[place] = Some(reply);
+    }
 }
