@@ -3,5 +3,6 @@ pub mod EntryLemmas
 pub mod FindingLemmas
 pub mod GoingLemmas
 pub mod LeftLemmas
+pub mod RoomLemmas
 pub mod SoundLemmas
 pub mod WorldLemmas

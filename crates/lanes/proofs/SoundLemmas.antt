@@ -13,8 +13,10 @@ use Rattle.serving.proofs.ServingLemmas.{all_at}
 use Rattle.task_steps.specs.Step.{ended_by}
 use Rattle.lane_tasks.specs.Tasks.{IsReadyTask, claims_at}
 use Rattle.lane_tasks.specs.declared.task.Task.{Task}
-use Rattle.lanes.specs.Rows.{LaneRow, after_event, lane_value, lanes_of, next_in_turn, queue_in}
+use Rattle.store_core.specs.Value.{StoreValue}
+use Rattle.lanes.specs.Rows.{LaneRow, RowGoesOn, after_event, lane_value, lanes_of, next_in_turn, queue_in}
 use Rattle.lanes.specs.Worlds.{BeginsSome, IsSound, Works, WorldValue, replied_behind}
+use Rattle.lanes.specs.declared.lane.LaneEvent.{LaneEvent}
 use Rattle.lanes.specs.declared.lane.Queued.{Queued}
 use Rattle.lanes.proofs.GoingLemmas.{accounts_row, queue_is, value_at}
 
@@ -47,11 +49,11 @@ busy rows k row first there was idle =
     let e = all_at (λ (value : LaneValue Task). value.queue ≡ []) (lanes_of rows) k (lane_value row) idle (value_at rows k row there) in
     let z : first.place ∷ map (λ (q : Queued). q.place) row.waiting ≡ [] = sym (queue_is row first was) ∙ e in cc z
 
-replies_many : (ended : Option Reply) (place : ℕ) (replies : List (Option Reply)) → length (replies_behind ended place replies) ≡ length replies
+pub replies_many : (ended : Option Reply) (place : ℕ) (replies : List (Option Reply)) → length (replies_behind ended place replies) ≡ length replies
 replies_many None place replies = refl
 replies_many (Some given) place replies = length-set replies place (Some given)
 
-replied_many : (ended : Option Reply) (k : ℕ) (counts : List ℕ) → length (replied_behind ended k counts) ≡ length counts
+pub replied_many : (ended : Option Reply) (k : ℕ) (counts : List ℕ) → length (replied_behind ended k counts) ≡ length counts
 replied_many None k counts = refl
 replied_many (Some given) k counts = length-set counts k _
 
@@ -94,3 +96,11 @@ sound_on {D} k old new before after first second w s = record {
 
     as_many : length new.replies ≡ length old.replies
     as_many = ap length w.replies_are ∙ replies_many (ended_by w.event.ended) w.event.place old.replies
+
+-- the request of an event has a place among the replies
+pub place_within : {D : Type 0} → (k : ℕ) (row now : LaneRow) (event : LaneEvent) (old new : StoreValue D) (before after : Option History) (first second : Faults) (world : WorldValue D) → RowGoesOn row now event old new before after first second → (history : Option History) → IsSound history world → slice_get world.rows k ≡ Some row → event.place < length world.replies
+place_within k row now event old new before after first second world g history s there =
+    let all = subst (λ (ps : List ℕ). All (λ place. place < length world.replies) ps) (queue_is row g.queued g.was) (s.places k row there) in
+    let one = All-head (λ (place : ℕ). place < length world.replies) g.queued.place (map (λ (q : Queued). q.place) row.waiting) all in
+    let same = g.goes.place_is in
+    omega (arith, one, same)

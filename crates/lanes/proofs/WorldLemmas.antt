@@ -304,3 +304,22 @@ works_on {D} k old new before after first second w sound start script run steps 
     counts = subst (λ (rs : List (Option Reply)). AreCounted script rs new.replied) (sym w.replies_are)
         (subst (λ (cs : List ℕ). AreCounted script (replies_behind (ended_by w.event.ended) w.event.place old.replies) cs) (sym w.replied_are)
         (counted_on script old.replies old.replied k w.event.place turn.0 (ended_by w.event.ended) turn.1 turn.2 sound.short world.counts))
+
+-- ---- what a world's own calls make of it
+
+-- the entries of an event are those that the lane's number and the moment give
+pub entries_at : (how : Did) (lane place calls moment began : ℕ) → 1 ≤ lane → calls ≡ moment - began → entries_made how lane place calls ≡ entries_made how (lane - 1 + 1) place (moment - began)
+entries_at how lane place calls moment began some is = ap (λ (n : ℕ). entries_made how n place calls) (one_less lane some) ∙ ap (λ (n : ℕ). entries_made how (lane - 1 + 1) place n) is
+  where
+    one_less : (n : ℕ) → 1 ≤ n → n ≡ n - 1 + 1
+    one_less n some = omega (arith, some)
+
+pub broken_at : (how : Did) (lane place calls moment began : ℕ) → 1 ≤ lane → calls ≡ moment - began → entries_broken how lane place calls ≡ entries_broken how (lane - 1 + 1) place (moment - began)
+broken_at how lane place calls moment began some is = ap (λ (n : ℕ). entries_broken how n place calls) (one_less lane some) ∙ ap (λ (n : ℕ). entries_broken how (lane - 1 + 1) place n) is
+  where
+    one_less : (n : ℕ) → 1 ≤ n → n ≡ n - 1 + 1
+    one_less n some = omega (arith, some)
+
+-- a world as its own call has it, and as the caller has it
+pub works_from : {D : Type 0} → (H : D → Option History) (F : D → Faults) (k : ℕ) (was old new : WorldValue D) → was ≡ old → Works k was new (H was.store.disk) (H new.store.disk) (F was.store.disk) (F new.store.disk) → Works k old new (H old.store.disk) (H new.store.disk) (F old.store.disk) (F new.store.disk)
+works_from H F k was old new same w = subst (λ (v : WorldValue _). Works k v new (H v.store.disk) (H new.store.disk) (F v.store.disk) (F new.store.disk)) same w

@@ -21,7 +21,7 @@ returns g c = (
     undoomed = c.step-ended.ensures.undoomed;
     store = c.facts.ensures.store;
     ordered = c.facts.ensures.files;
-    image = g.D.Disk.reads_image c.args.store.now.disk;
+    image = g.met.D.Disk.reads_image c.args.store.now.disk;
   },
   c.if_more-goes_on.ensures,
 )
