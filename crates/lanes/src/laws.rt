@@ -1,7 +1,10 @@
 // Lanes begin, go on and end.
 ghost use Rattle.std.specs.Prelude.{◌≡◌, ◌<◌, ◌≤◌, ◌+◌, ◌++◌, ℕ, false, List, [], length, slice_get, slice_set, Option, Some};
 ghost use Rattle.disk_model.specs.Disk.{History, Faults, told_calls};
+ghost use Rattle.mdbox_base.specs.declared.ids.Uid.{Uid};
 ghost use Rattle.mdbox_base.specs.declared.replies.Reply.{Reply};
+ghost use Rattle.mdbox_base.specs.declared.requests.Request.TheVariants as request;
+ghost use Rattle.model_store.specs.Settled.{IsSettledFor};
 ghost use Rattle.model_lists.specs.Lists.{Lists};
 ghost use Rattle.list_machine.specs.Run.{Run, RunEvent, and_then, reply_of};
 ghost use Rattle.journal.specs.Journal.{Broken, HasReply, JournalStep, Requests, no_broken};
@@ -23,7 +26,8 @@ use disk_model::Disk;
 /// with the tasks with which these begin.
 pub fn lanes_begin<D: Disk>()
     ensures { (start : Lists) (script : Requests) (run : Run) (rows : List LaneRow) (store : StoreValue D) (history : Option History) (faults : Faults) → IsAtOpening run store → HasCome run store.map store.drawn (told_calls history) → HasNoTask store → store.stopped ≡ false → ShowsSeen (seen_in store history faults) start
-        → AreFreshRows script rows → HaveLanes script (lanes_of rows) → length rows ≤ 64 → IsGoing start script run [] no_broken (unreplied script) (seen_in store history faults) store history faults rows }
+        → AreFreshRows script rows → HaveLanes script (lanes_of rows) → length rows ≤ 64
+        → ((place lane : ℕ) (name : List ℕ) (uid : Uid) → slice_get script place ≡ Some (lane, request.Fetch name uid) → IsSettledFor start history) → IsGoing start script run [] no_broken (unreplied script) (seen_in store history faults) store history faults rows }
 {}
 
 /// A script that lanes serve is served with an event more of any lane, whatever the other lanes do: the run and the journal go on with
@@ -32,7 +36,7 @@ pub fn lanes_begin<D: Disk>()
 pub fn lanes_go_on<D: Disk>()
     ensures { (start : Lists) (script : Requests) (run : Run) (journal : List JournalStep) (broken : Broken) (replies : List (Option Reply)) (began : Seen) (rows : List LaneRow) (k : ℕ) (row now : LaneRow) (event : LaneEvent) (old new : StoreValue D) (before after : Option History) (first second : Faults)
         → slice_get rows k ≡ Some row → RowGoesOn row now event old new before after first second → IsGoing start script run journal broken replies began old before first rows
-        → (added : RunEvent) × (steps : List JournalStep) × (failed : Broken) × AddsEvent (k + 1) event after added steps
+        → (added : RunEvent) × (steps : List JournalStep) × (failed : Broken) × AddsEvent (k + 1) event run old.map before after added steps broken failed
         × IsGoing start script (and_then run added) (journal ++ steps) failed (replies_behind (ended_by event.ended) event.place replies) began new after second (slice_set rows k now) }
 {}
 
@@ -40,4 +44,9 @@ pub fn lanes_go_on<D: Disk>()
 pub fn lanes_end<D: Disk>()
     ensures { (start : Lists) (script : Requests) (run : Run) (journal : List JournalStep) (broken : Broken) (replies : List (Option Reply)) (began : Seen) (store : StoreValue D) (history : Option History) (faults : Faults) (rows : List LaneRow) → IsGoing start script run journal broken replies began store history faults rows
         → AreIdle (lanes_of rows) → (i : ℕ) → i < length script → (given : Reply) × HasReply replies i given × (reply_of i run ≡ Some given) }
+{}
+
+/// tmp
+pub fn tmp_law<D: Disk>()
+    ensures { (n : ℕ) → n ≡ n }
 {}
