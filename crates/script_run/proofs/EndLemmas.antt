@@ -7,13 +7,14 @@ use Rattle.mdbox_base.specs.declared.replies.Refusal.TheVariants as refusal
 use Rattle.mdbox_base.specs.declared.replies.Reply.{Reply}
 use Rattle.mdbox_base.specs.declared.replies.Reply.TheVariants as reply
 use Rattle.mdbox_base.specs.declared.script.JournalEntry.{JournalEntry}
+use Rattle.model_kept.specs.Kept.{MailIsKept}
 use Rattle.model_lists.specs.Lists.{Lists}
 use Rattle.model_meaning.specs.MapMeaning.{MapMeaning, map_meaning}
 use Rattle.model_store.specs.Opening.{Opens}
 use Rattle.model_store.specs.Safe.{Safe}
 use Rattle.model_store.specs.Settled.{files_of, IsSettledFor}
 use Rattle.list_machine.specs.Run.{Run}
-use Rattle.journal.specs.Journal.{AreEntriesOf, Broken, HasReply, JournalStep, Requests, no_broken}
+use Rattle.journal.specs.Journal.{Broken, HasReply, JournalStep, Requests, moment_of, no_broken}
 use Rattle.journal.specs.Makes.{IsServed, StaysStopped}
 use Rattle.journal.proofs.ReachedLemmas.{reached_last}
 use Rattle.serving.specs.Serving.{IsServing}
@@ -25,6 +26,7 @@ use Rattle.task_steps.proofs.OneEventLemmas.{not_true}
 use Rattle.mail_fetch.specs.Task.{seen_in}
 use Rattle.lanes.specs.Going.{IsGoing}
 use Rattle.lanes.specs.Rows.{LaneRow}
+use Rattle.lanes.specs.Worlds.{AreEntriesAt}
 use Rattle.script_run.specs.Opening.{LogsShowLists, RunBegins}
 use Rattle.script_run.specs.Script.{HasStopped, OpensShowing, ServesScript}
 use Rattle.script_run.proofs.RunBeginsLemmas.{before_opening, first_map, run_ends}
@@ -34,9 +36,9 @@ use Rattle.script_run.proofs.ShownLemmas.{opens_again}
 
 -- No event has happened since the opening: of a disk that was settled before it, each crash image since is safe for the lists.
 pub serves_from : (start : Lists) (script : Requests) (run : Run) (replies : List (Option Reply)) (seen : Seen) (old : Option History) → run.events ≡ [] → Serves start script run [] no_broken replies seen seen
-    → (IsSettledFor start old → EachImage (λ _ image. Safe image start) old seen.history) → (IsSettledFor start old → IsSettledFor start seen.history)
+    → (IsSettledFor start old → EachImage (λ _ image. Safe image start) old seen.history) → (IsSettledFor start old → IsSettledFor start seen.history) → MailIsKept seen.map old seen.history
     → Serves start script run [] no_broken replies (before_opening seen old) seen
-serves_from start script run replies seen old empty s safe settled = record {
+serves_from start script run replies seen old empty s safe settled mail = record {
   legal = s.legal;
   begins = s.begins;
   come = s.come;
@@ -50,6 +52,7 @@ serves_from start script run replies seen old empty s safe settled = record {
   stopped_by = s.stopped_by;
   unrefused = s.unrefused;
   settled = λ e at. settled at;
+  mail = λ none. mail;
   reads = s.reads;
   changes = s.changes;
   fell = s.fell;
@@ -75,7 +78,7 @@ all_given (first ∷ rest) each =
 -- The script was served: its lanes have come to their end, the store is stopped only if a reply says so, and the entries are the
 -- journal's.
 pub script_served : {D : Type 0} → (start : Lists) (script : Requests) (run : Run) (journal : List JournalStep) (broken : Broken) (given : List Reply) (entries : List JournalEntry) (began : Seen) (made : ℕ) (store : StoreValue D) (history : Option History) (faults : Faults) (rows : List LaneRow)
-    → IsGoing start script run journal broken (map Some given) began store history faults rows → StaysStopped run.events → IsStore history store → began.drawn ≡ began.map.highest → RunBegins run began.history → (store.stopped ≡ true → HasStopped given) → AreEntriesOf run made journal entries
+    → IsGoing start script run journal broken (map Some given) began store history faults rows → StaysStopped run.events → IsStore history store → began.drawn ≡ began.map.highest → RunBegins run began.history → (store.stopped ≡ true → HasStopped given) → AreEntriesAt history made (moment_of run) journal entries
     → ServesScript script start given entries began.faults faults began.history history
 script_served {D} start script run journal broken given entries began made store history faults rows g stays k opened begins stopped are = record {
   run = run;

@@ -1,0 +1,256 @@
+-- A script is done, from the opening of the store to the end of the last lane.
+use Rattle.std.specs.Prelude.{◌≡◌, ◌<◌, ◌≤◌, ◌+◌, ◌-◌, ◌*◌, ◌==◌, ◌&&◌, ◌||◌, ◌++◌, ◌⊎◌, ℕ, zero, suc, Bool, true, false, cond, List, [], ◌∷◌, All, Contains, length, map, replicate, slice_get, is_some, count_by, Option, Some, None}
+use Rattle.std.specs.List.{list_any}
+use Rattle.std.proofs.Common.{refl, sym, ◌∙◌, ap, subst, arith, inl, inr}
+use Rattle.std.proofs.lemmas.List.{length-map}
+use Rattle.std.proofs.lemmas.List.Elements.{All-nil, All-weaker}
+use Rattle.disk_model.specs.Disk.{Faults, History, IsMoment, IfTold, told_calls}
+use Rattle.mdbox_base.specs.Streams.{Rose}
+use Rattle.mdbox_base.specs.declared.ids.Uid.{Uid}
+use Rattle.mdbox_base.specs.declared.replies.Refusal.TheVariants as refusal
+use Rattle.mdbox_base.specs.declared.replies.Reply.{Reply}
+use Rattle.mdbox_base.specs.declared.replies.Reply.TheVariants as reply
+use Rattle.mdbox_base.specs.declared.requests.Request.{Request}
+use Rattle.mdbox_base.specs.declared.requests.Request.TheVariants as request
+use Rattle.model_kept.specs.Kept.{MailIsKept}
+use Rattle.model_lists.specs.Lists.{Lists}
+use Rattle.model_store.specs.Settled.{IsSettledFor}
+use Rattle.list_machine.specs.Run.{Run, RunEvent, reply_of}
+use Rattle.journal.specs.Makes.{HasCome}
+use Rattle.journal.specs.Journal.{Broken, HasReply, IsLegal, JournalStep, Requests, no_broken}
+use Rattle.serving.specs.Serving.{AreIdle, HaveLanes, unreplied}
+use Rattle.sis_store.specs.Instances.{AreInstances}
+use Rattle.store_core.specs.Running.{IsStore}
+use Rattle.store_core.specs.Value.{StoreValue, indexes_of}
+use Rattle.store_seen.specs.Seeing.{IsAtOpening}
+use Rattle.task_claims.specs.Claims.{HasNoTask}
+use Rattle.task_steps.specs.Step.{Seen}
+use Rattle.mail_fetch.specs.Task.{seen_in}
+use Rattle.lanes.specs.Going.{AreFreshRows, IsGoing}
+use Rattle.lanes.specs.Rows.{LaneRow, lane_value, lanes_of}
+use Rattle.lane_tasks.specs.Tasks.{HasTask}
+use Rattle.attach_detach.specs.declared.message.Prepared.{Prepared}
+use Rattle.lanes.specs.Worlds.{AreGiven, AreOfLanes, ArePartsOf, GoesOnBy, IsBegun, IsWorldOf, PartsValue, WorldValue, and_events, replied_in, world_begun}
+use Rattle.script_run.specs.Done.{IsScriptDone, MayRead}
+use Rattle.script_run.specs.Faults.{FaultsByReplies}
+use Rattle.script_run.specs.Opening.{AreSafeFor, LogsShowLists}
+use Rattle.script_run.specs.Script.{HasStopped, ServesScript, has_fetch, is_fetch}
+use Rattle.script_run.proofs.EndLemmas.{all_given, script_served, serves_from}
+use Rattle.script_run.proofs.MailStaysLemmas.{opening_keeps, run_keeps}
+use Rattle.script_run.proofs.MovedLemmas.{Purges, none_moved}
+use Rattle.script_run.proofs.OpenedLemmas.{none_holds, none_used}
+use Rattle.script_run.proofs.RunBeginsLemmas.{OpenedNow, at_opening, before_opening, beginning, first_come, opening_begins}
+use Rattle.script_run.proofs.ShownLemmas.{LogsShow, opened_logs_show}
+use Rattle.script_run.proofs.SomeListsLemmas.{some_lists}
+
+-- ---- a world begins
+
+pub no_task : {D : Type 0} → (old mid : Option History) (s : StoreValue D) → OpenedNow old mid s → AreInstances s.instances → s.made ≡ [] → HasNoTask s
+no_task old mid s o are made = record { dues = o.free; files = none_used s old o.files; instances = none_holds s are o.instances; made = made }
+
+none_replied : (script : Requests) → replicate (length script) None ≡ unreplied script
+none_replied [] = refl
+none_replied (asked ∷ script) = ap (λ (rs : List (Option Reply)). None ∷ rs) (none_replied script)
+
+and_no : (b : Bool) → (b && false) ≡ false
+and_no true = refl
+and_no false = refl
+
+none_counted : (lane : ℕ) (script : Requests) (n : ℕ) → replied_in lane script (replicate n None) ≡ 0
+none_counted lane [] n = refl
+none_counted lane (asked ∷ script) zero = refl
+none_counted lane (asked ∷ script) (suc n) = sum_of ((asked.0 == lane) && false) (replied_in lane script (replicate n None)) (and_no (asked.0 == lane)) (none_counted lane script n)
+  where
+    sum_of : (b : Bool) (rest : ℕ) → b ≡ false → rest ≡ 0 → cond b 1 0 + rest ≡ 0
+    sum_of false rest e z = omega (arith, z)
+    sum_of true rest e z = absurd (cc e)
+
+zero_at : (n k count : ℕ) → slice_get (replicate n 0) k ≡ Some count → count ≡ 0
+zero_at zero k count at = absurd (let e : None ≡ Some count = at in cc e)
+zero_at (suc n) zero count at = let e : Some 0 ≡ Some count = at in let z : 0 ≡ count = cc e in sym z
+zero_at (suc n) (suc k) count at = zero_at n k count at
+
+world_begins : {D : Type 0} → (start : Lists) (script : Requests) (run : Run) (began : Seen) (s : StoreValue D) (history : Option History) (faults : Faults) (parts : PartsValue) (moment : ℕ) → run.events ≡ [] → parts.requests ≡ length script
+    → IsGoing start script run [] no_broken (unreplied script) began s history faults parts.rows → IsWorldOf start script run [] no_broken began history faults (world_begun s parts moment)
+world_begins start script run began s history faults parts moment empty requests g = record {
+  going = subst (λ (rs : List (Option Reply)). IsGoing start script run [] no_broken rs began s history faults parts.rows) (sym (ap (λ (n : ℕ). replicate n None) requests ∙ none_replied script)) g;
+  entries = tt;
+  broken = tt;
+  counts = λ k count at. zero_at (length parts.rows) k count at ∙ sym (none_counted (k + 1) script parts.requests);
+  trace = record { worked = sym (ap (λ (es : List RunEvent). map (λ event. event.lane) es) empty); idle = All-nil _ };
+}
+
+-- ---- it reads messages only from settled disks
+
+pub fetches : (script : Requests) (place lane : ℕ) (name : List ℕ) (uid : Uid) → slice_get script place ≡ Some (lane, request.Fetch name uid) → has_fetch script ≡ true
+fetches [] place lane name uid at = absurd (let e : None ≡ Some (lane, request.Fetch name uid) = at in cc e)
+fetches (asked ∷ script) zero lane name uid at =
+    let e : Some asked ≡ Some (lane, request.Fetch name uid) = at in
+    let is : asked ≡ (lane, request.Fetch name uid) = cc e in
+    ap (λ (q : ℕ × Request). is_fetch q.1 || has_fetch script) is
+fetches (asked ∷ script) (suc place) lane name uid at = ap (λ (b : Bool). is_fetch asked.1 || b) (fetches script place lane name uid at) ∙ or_yes (is_fetch asked.1)
+  where
+    or_yes : (b : Bool) → (b || true) ≡ true
+    or_yes true = refl
+    or_yes false = refl
+
+-- ---- from the opening on
+
+pub of_lanes : (script : Requests) (lanes : ℕ) (rows : List LaneRow) → length rows ≡ lanes → AreOfLanes lanes script → HaveLanes script (lanes_of rows)
+of_lanes script lanes rows many are =
+    let same : length (lanes_of rows) ≡ lanes = length-map rows lane_value ∙ many in
+    subst (λ (n : ℕ). All (λ asked. (0 < asked.0) × (asked.0 ≤ n)) script) (sym same) are
+
+-- a world of the script begins, with the disk as it was before the opening
+pub begins_from : {D : Type 0} → (start : Lists) (script : Requests) (lanes : ℕ) (parts : PartsValue) (old mid : Option History) (first : Faults) (s : StoreValue D) (o : OpenedNow old mid s) (world : WorldValue D)
+    → IsGoing start script (beginning s.map o.store.entries) [] no_broken (unreplied script) (seen_in s mid first) s mid first parts.rows → ArePartsOf script lanes parts → LogsShowLists s.map (indexes_of s.boxes) start → MayRead script start old → IsBegun s parts mid world
+    → IsWorldOf start script (beginning s.map o.store.entries) [] no_broken (before_opening (seen_in s mid first) old) mid first world
+begins_from start script lanes parts old mid first s o world g are shows may begun =
+    let run : Run = beginning s.map o.store.entries in
+    let from : Seen = before_opening (seen_in s mid first) old in
+    subst (λ (w : WorldValue _). IsWorldOf start script run [] no_broken from mid first w) (sym begun.2)
+    (world_begins start script run from s mid first parts begun.0 refl are.requests
+    (record {
+      serving = record {
+        serves = serves_from start script run (unreplied script) (seen_in s mid first) old refl g.serving.serves (o.safe start) (o.settled_again start) (opening_keeps old mid s.map (indexes_of s.boxes) o.opened o.stays);
+        follows = g.serving.follows;
+        told = g.serving.told;
+        given = g.serving.given;
+        would = g.serving.would;
+        stays_stopped = g.serving.stays_stopped;
+        replied_stopped = g.serving.replied_stopped;
+        lanes_at = g.serving.lanes_at;
+      };
+      lanes = g.lanes;
+      few = g.few;
+      waiting = g.waiting;
+      accounts = g.accounts;
+      undoomed = g.undoomed;
+      quiet = g.quiet;
+      fetched = λ place lane name uid at. may (fetches script place lane name uid at);
+    }))
+
+-- ---- the end
+
+-- a reply that is given is among those given
+given_at : (given : List Reply) (i : ℕ) (one : Reply) → HasReply (map Some given) i one → Contains given one
+given_at [] i one at = absurd (let e : None ≡ Some (Some one) = at in cc e)
+given_at (r ∷ rest) zero one at = let e : Some (Some r) ≡ Some (Some one) = at in let f : Some r ≡ Some one = cc e in let z : r ≡ one = cc f in (0, omega arith, z)
+given_at (r ∷ rest) (suc i) one at = let c = given_at rest i one at in let l = c.1 in (suc c.0, omega (arith, l), c.2)
+
+at_given : (given : List Reply) (one : Reply) → Contains given one → (i : ℕ) × HasReply (map Some given) i one
+at_given [] one c = absurd (let k = c.1 in omega (arith, k))
+at_given (r ∷ rest) one (zero, l, c) = (0, ap (λ (x : Reply). Some (Some x)) c)
+at_given (r ∷ rest) one (suc n, l, c) = let h = at_given rest one (n, omega (arith, l), c) in (suc h.0, h.1)
+
+-- a request that is given its task is no purge
+not_purging : (asked : Request) → HasTask asked → Purges asked → ⊥
+not_purging request.Purge h p = h
+not_purging request.Resync h p = h
+not_purging (request.Deliver name time octets) h p = p
+not_purging (request.List name) h p = p
+not_purging (request.Fetch name uid) h p = p
+not_purging (request.Flag name uid flags) h p = p
+not_purging (request.Copy name uid target) h p = p
+not_purging (request.Move name uid target) h p = p
+not_purging (request.Expunge name uid) h p = p
+not_purging (request.Make name) h p = p
+not_purging request.Counts h p = p
+
+pub none_purges : (script : Requests) (prepared : List (Option Prepared)) → AreGiven script prepared → (i : ℕ) (asked : ℕ × Request) → slice_get script i ≡ Some asked → Purges asked.1 → ⊥
+none_purges [] prepared given i asked at p = absurd (let e : None ≡ Some asked = at in cc e)
+none_purges (first ∷ script) [] given i asked at p = absurd given
+none_purges (first ∷ script) (one ∷ prepared) given zero asked at p =
+    let e : Some first ≡ Some asked = at in
+    let is : first ≡ asked = cc e in
+    not_purging asked.1 (subst (λ (q : ℕ × Request). HasTask q.1) is given.0.0) p
+none_purges (first ∷ script) (one ∷ prepared) given (suc i) asked at p = none_purges script prepared given.1 i asked at p
+
+settled_safe : (lists : Lists) (old : Option History) → IsSettledFor lists old → AreSafeFor lists old
+settled_safe lists None at = absurd at
+settled_safe lists (Some h) at = record { store = at.store; entries = at.entries; by = at.safe }
+
+-- the law of lanes that have come to their end
+abbrev pub LanesEnd : (D : Type 0) → Type 0
+LanesEnd D = (start : Lists) (script : Requests) (run : Run) (journal : List JournalStep) (broken : Broken) (replies : List (Option Reply)) (began : Seen) (store : StoreValue D) (history : Option History) (faults : Faults) (rows : List LaneRow) → IsGoing start script run journal broken replies began store history faults rows
+    → AreIdle (lanes_of rows) → (i : ℕ) → i < length script → (given : Reply) × HasReply replies i given × (reply_of i run ≡ Some given)
+
+-- What is known of a script's run: the opening, the world that began then, and what it came to.
+pub record ScriptRan {D : Type 0} (script : Requests) (old mid new : Option History) (first last : Faults) (s : StoreValue D) (world ended : WorldValue D) : Type 0 where
+  pub opened : OpenedNow old mid s
+  pub show : LogsShow
+  pub unpurged : (i : ℕ) (asked : ℕ × Request) → slice_get script i ≡ Some asked → Purges asked.1 → ⊥
+  pub begins : (start : Lists) → LogsShowLists s.map (indexes_of s.boxes) start → MayRead script start old → IsWorldOf start script (beginning s.map opened.store.entries) [] no_broken (before_opening (seen_in s mid first) old) mid first world
+  pub goes : GoesOnBy world ended mid new first last
+  pub idle : AreIdle (lanes_of ended.rows)
+  pub later : IsStore new ended.store
+  pub law : LanesEnd D
+
+-- from lists that the logs show, the replies are all there
+replies_of_run : {D : Type 0} → (script : Requests) (old mid new : Option History) (first last : Faults) (s : StoreValue D) (world ended : WorldValue D) → (r : ScriptRan script old mid new first last s world ended) → (start : Lists) → LogsShowLists s.map (indexes_of s.boxes) start → MayRead script start old
+    → (given : List Reply) × (ended.replies ≡ map Some given) × (length given ≡ length script) × FaultsByReplies given first last × MailIsKept s.map old new
+replies_of_run script old mid new first last s world ended r start shows may =
+    let w = r.goes start script (beginning s.map r.opened.store.entries) [] no_broken (before_opening (seen_in s mid first) old) (r.begins start shows may) in
+    let run : Run = and_events (beginning s.map r.opened.store.entries) w.0 in
+    let going = w.3.going in
+    let many : length ended.replies ≡ length script = going.serving.given.0 in
+    let g = all_given ended.replies (λ i l. let e = r.law start script run w.1 w.2 ended.replies _ ended.store new last ended.rows going r.idle i (subst (λ (n : ℕ). i < n) many l) in (e.0, e.1)) in
+    let legal = subst (λ (rs : List (Option Reply)). IsLegal start script run w.1 rs first last) g.1 going.serving.serves.legal in
+    (g.0, g.1, sym (length-map g.0 Some) ∙ (ap length (sym g.1) ∙ many),
+    record {
+      reads = legal.causes.reads;
+      changes = going.serving.serves.changes;
+      stopped = λ h. let i = at_given g.0 (reply.Refused refusal.Stopped) h in legal.causes.changes i.0 i.1;
+    },
+    going.serving.serves.mail (none_moved going.serving.follows.around going.serving.follows.after script start _ w.1 r.unpurged going.serving.follows.next))
+
+-- it is served from them
+serves_run : {D : Type 0} → (script : Requests) (old mid new : Option History) (first last : Faults) (s : StoreValue D) (world ended : WorldValue D) → (r : ScriptRan script old mid new first last s world ended) → (given : List Reply) → ended.replies ≡ map Some given → (start : Lists) → LogsShowLists s.map (indexes_of s.boxes) start → MayRead script start old
+    → ServesScript script start given ended.journal first last old new
+serves_run script old mid new first last s world ended r given are start shows may =
+    let from : Seen = before_opening (seen_in s mid first) old in
+    let w = r.goes start script (beginning s.map r.opened.store.entries) [] no_broken from (r.begins start shows may) in
+    let run : Run = and_events (beginning s.map r.opened.store.entries) w.0 in
+    let going = subst (λ (rs : List (Option Reply)). IsGoing start script run w.1 w.2 rs from ended.store new last ended.rows) are w.3.going in
+    script_served start script run w.1 w.2 given ended.journal from ended.began ended.store new last ended.rows going going.serving.stays_stopped r.later r.opened.drawn (opening_begins old mid s r.opened)
+        (λ e. let i = going.serving.replied_stopped e in given_at given i.0 (reply.Refused refusal.Stopped) i.1) w.3.entries
+
+-- Some lists are shown from which the script may be served, if there are lists from which it may read.
+start_of : {D : Type 0} → (script : Requests) (old mid : Option History) (s : StoreValue D) → OpenedNow old mid s → LogsShow → ((lists : Lists) × MayRead script lists old) → (start : Lists) × LogsShowLists s.map (indexes_of s.boxes) start × MayRead script start old
+start_of script old mid s o show some = by_test (has_fetch script) refl
+  where
+    by_test : (b : Bool) → has_fetch script ≡ b → (start : Lists) × LogsShowLists s.map (indexes_of s.boxes) start × MayRead script start old
+    by_test true e = (some.0, opened_logs_show some.0 old s.map (indexes_of s.boxes) o.opened show (settled_safe some.0 old (some.1 e)), some.1)
+    by_test false e = let l = some_lists old s.map (indexes_of s.boxes) o.opened in (l.0, l.1, λ f. absurd (let k : true ≡ false = sym f ∙ e in cc k))
+
+pub script_done : {D : Type 0} → (script : Requests) (old mid new : Option History) (first last : Faults) (s : StoreValue D) (world ended : WorldValue D) → ScriptRan script old mid new first last s world ended → ((lists : Lists) × MayRead script lists old)
+    → (given : List Reply) × (ended.replies ≡ map Some given) × IsScriptDone script given ended.journal old new first last
+script_done script old mid new first last s world ended r some =
+    let start = start_of script old mid s r.opened r.show some in
+    let g = replies_of_run script old mid new first last s world ended r start.0 start.1 start.2 in
+    (g.0, g.1,
+    record {
+      each = g.2;
+      m = s.map;
+      meanings = indexes_of s.boxes;
+      opened = r.opened.opened;
+      shown = λ lists safe. opened_logs_show lists old s.map (indexes_of s.boxes) r.opened.opened r.show safe;
+      serves = λ lists shows may. serves_run script old mid new first last s world ended r g.0 g.1 lists shows may;
+      faults = g.3;
+      stays = run_keeps old new s.map (indexes_of s.boxes) r.opened.opened g.4;
+    })
+
+-- What a script's run says of the opening, of the world and of its end: so it is done.
+pub script_ran : {D : Type 0} → (script : Requests) (lanes : ℕ) (prepared : List (Option Prepared)) (parts : PartsValue) (old mid new : Option History) (first last : Faults) (s : StoreValue D) (world ended : WorldValue D) → (o : OpenedNow old mid s) → LogsShow → AreGiven script prepared → ArePartsOf script lanes parts → IsBegun s parts mid world
+    → ((start : Lists) → MayRead script start old → LogsShowLists s.map (indexes_of s.boxes) start → (run : Run) → IsAtOpening run s → HasCome run s.map s.drawn (told_calls mid) → IsGoing start script run [] no_broken (unreplied script) (seen_in s mid first) s mid first parts.rows)
+    → GoesOnBy world ended mid new first last → AreIdle (lanes_of ended.rows) → IsStore new ended.store → LanesEnd D → ScriptRan script old mid new first last s world ended
+script_ran script lanes prepared parts old mid new first last s world ended o show given are begun going goes idle later law = record {
+  opened = o;
+  show = show;
+  unpurged = none_purges script prepared given;
+  begins = λ start shows may. begins_from start script lanes parts old mid first s o world (going start may shows (beginning s.map o.store.entries) (at_opening old mid s o) (first_come old mid (told_calls mid) s o)) are shows may begun;
+  goes = goes;
+  idle = idle;
+  later = later;
+  law = law;
+}
