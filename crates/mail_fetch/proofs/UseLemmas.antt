@@ -1,5 +1,5 @@
 -- What pins and holds change of a store, and what they leave of it.
-use Rattle.std.specs.Prelude.{is_some, is_none, nat_le, nat_lt}
+use Rattle.std.specs.Prelude.{is_some, is_none, map, nat_le, nat_lt}
 use Rattle.std.specs.List.{list_any}
 use Rattle.std.specs.Option.{option_map, option_map_or, option_and_then}
 use Rattle.std.specs.Str.{bytes_eq}
@@ -34,6 +34,7 @@ use Rattle.mail_fetch.specs.Claims.{claims_of_pinned, held_for, with_claims, wit
 use Rattle.mail_fetch.specs.Task.{one_pin, pins_kept_in, seen_in}
 use Rattle.mail_fetch.specs.declared.parts.StoredAt.{StoredAt}
 use Rattle.mail_fetch.proofs.ClaimLemmas.{idle_syncs}
+use Rattle.mail_fetch.proofs.HoldLemmas.{held_rows, let_go_rows, none_placed}
 
 -- ---- a storage file with other pins
 
@@ -180,25 +181,26 @@ pinned_left from pins number known store history = record {
 pub keeps_beside : {D : Type 0} → (from : StoredAt) (pins : ℕ) (known : List KnownInstance) (old : StoreValue D) (before after : Option History) → KeepsInstances old (record old { instances = record old.instances { known = known } }) before after → KeepsInstances old (with_use from pins known old) before after
 keeps_beside from pins known old before after k = record { store = k.store; drawn = k.drawn; known = k.known; reads = k.reads; first = k.first; compared = k.compared }
 
-use_leaves_at : {D : Type 0} → (mine : Claims) (from : StoredAt) (pins : ℕ) (known : List KnownInstance) (store : StoreValue D) (history : Option History) → KeepsInstances store (with_use from pins known store) history history → LeavesOthers mine store (with_use from pins known store) history history
-use_leaves_at mine from pins known store history keeps = record {
+use_leaves_at : {D : Type 0} → (mine : Claims) (from : StoredAt) (pins : ℕ) (known : List KnownInstance) (store : StoreValue D) (history : Option History) → map (λ k. k.row) known ≡ map (λ k. k.row) store.instances.known → KeepsInstances store (with_use from pins known store) history history → LeavesOthers mine store (with_use from pins known store) history history
+use_leaves_at mine from pins known store history rows keeps = record {
   records = λ uid row more there. record_kept uid row store (with_use from pins known store) history history (idle_syncs history history (idle-begins history)) refl there;
   unlisted = λ uid row none found listed. (listed, refl);
   files = λ number took. file_left from pins number known store history;
   grow = λ number more. pinned_left from pins number known store history;
   instances = λ row is more. instance_kept row store (with_use from pins known store) history history keeps is;
   store = keeps.store;
-  drawn = keeps.drawn;
+  numbers = none_placed store.instances known rows;
+  mailboxes = omega arith;
   compared = keeps.compared;
   uids = λ name uid held k. record { m = k.m; named = k.named; below = k.below; same = k.same };
   told = between-begins (λ a b. Unit {0}) history (λ disk. tt);
 }
 
-pub use_leaves : {D : Type 0} → (H : D → Option History) (mine : Claims) (from : StoredAt) (pins : ℕ) (known : List KnownInstance) (old held new : StoreValue D) → held ≡ record old { instances = record old.instances { known = known } } → KeepsInstances old held (H old.disk) (H held.disk) → new ≡ with_use from pins known old
+pub use_leaves : {D : Type 0} → (H : D → Option History) (mine : Claims) (from : StoredAt) (pins : ℕ) (known : List KnownInstance) (old held new : StoreValue D) → map (λ k. k.row) known ≡ map (λ k. k.row) old.instances.known → held ≡ record old { instances = record old.instances { known = known } } → KeepsInstances old held (H old.disk) (H held.disk) → new ≡ with_use from pins known old
     → LeavesOthers mine old new (H old.disk) (H new.disk)
-use_leaves H mine from pins known old held new same keeps is =
+use_leaves H mine from pins known old held new rows same keeps is =
     subst (λ (s : StoreValue _). LeavesOthers mine old s (H old.disk) (H s.disk)) (sym is)
-    (use_leaves_at mine from pins known old (H old.disk) (keeps_beside from pins known old (H old.disk) (H old.disk) (subst (λ (s : StoreValue _). KeepsInstances old s (H old.disk) (H s.disk)) same keeps)))
+    (use_leaves_at mine from pins known old (H old.disk) rows (keeps_beside from pins known old (H old.disk) (H old.disk) (subst (λ (s : StoreValue _). KeepsInstances old s (H old.disk) (H s.disk)) same keeps)))
 
 -- ---- what is seen
 
@@ -279,7 +281,7 @@ claimed_moves from rows old held new end same held_is new_is ends undoomed moves
 pub claimed_leaves : {D : Type 0} → (H : D → Option History) (mine : Claims) (from : StoredAt) (rows : List InstRow) (old held new : StoreValue D) → rows ≡ from.instances → held ≡ with_known old (held_for rows old.instances.known) → KeepsInstances old held (H old.disk) (H held.disk) → new ≡ with_claims from old
     → LeavesOthers mine old new (H old.disk) (H new.disk)
 claimed_leaves H mine from rows old held new same held_is keeps new_is =
-    use_leaves H mine from (pins_in from.file.0 old.files.files + 1) (held_for from.instances old.instances.known) old held new (held_is ∙ ap (λ (rs : List InstRow). with_known old (held_for rs old.instances.known)) same) keeps new_is
+    use_leaves H mine from (pins_in from.file.0 old.files.files + 1) (held_for from.instances old.instances.known) old held new (held_rows from.instances old.instances.known) (held_is ∙ ap (λ (rs : List InstRow). with_known old (held_for rs old.instances.known)) same) keeps new_is
 
 pub given_same : {D : Type 0} → (from : StoredAt) (rows : List InstRow) (old held new : StoreValue D) → rows ≡ from.instances → held ≡ with_known old (found_let_go rows old.instances.known) → new ≡ with_files held (changed_in from.file.0 (with_pins (pins_in from.file.0 held.files.files - 1)) held.files.files) → new ≡ without_claims from old
 given_same from rows old held new same held_is new_is =
@@ -297,4 +299,4 @@ given_moves from rows old held new same held_is new_is claimed undoomed moves =
 pub given_leaves : {D : Type 0} → (H : D → Option History) (mine : Claims) (from : StoredAt) (rows : List InstRow) (old held new : StoreValue D) → rows ≡ from.instances → held ≡ with_known old (found_let_go rows old.instances.known) → KeepsInstances old held (H old.disk) (H held.disk) → new ≡ without_claims from old
     → LeavesOthers mine old new (H old.disk) (H new.disk)
 given_leaves H mine from rows old held new same held_is keeps new_is =
-    use_leaves H mine from (pins_in from.file.0 old.files.files - 1) (found_let_go from.instances old.instances.known) old held new (held_is ∙ ap (λ (rs : List InstRow). with_known old (found_let_go rs old.instances.known)) same) keeps new_is
+    use_leaves H mine from (pins_in from.file.0 old.files.files - 1) (found_let_go from.instances old.instances.known) old held new (let_go_rows from.instances old.instances.known) (held_is ∙ ap (λ (rs : List InstRow). with_known old (found_let_go rs old.instances.known)) same) keeps new_is
