@@ -5,4 +5,5 @@ pub mod GoingLemmas
 pub mod LeftLemmas
 pub mod RoomLemmas
 pub mod SoundLemmas
+pub mod TraceLemmas
 pub mod WorldLemmas

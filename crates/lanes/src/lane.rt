@@ -1,5 +1,5 @@
 // A lane: the request in turn with its task, and those behind it.
-ghost use Rattle.std.specs.Prelude.{◌≡◌, ◌↔◌, true, false, [], None, IfSome, IsNone};
+ghost use Rattle.std.specs.Prelude.{◌≡◌, ◌≢◌, true, false, [], None, IfSome, IsNone};
 ghost use Rattle.lane_tasks.specs.Tasks.{IsReadyTask};
 ghost use Rattle.lane_tasks.specs.Clause.{HasTaskRoom};
 ghost use Rattle.lane_tasks.specs.declared.task.Task.{Task as TaskValue};
@@ -73,7 +73,8 @@ impl Lane {
 
     /// Whether it has no request left.
     pub fn is_idle(&self) -> bool
-        ensures { (result ≡ true) ↔ (self.now.current ≡ None) }
+        ensures idle { result ≡ true → (self.now.current ≡ None) × (self.now.waiting ≡ []) }
+        ensures busy { result ≡ false → self.now.current ≢ None }
     {
         self.current.is_none()
     }
