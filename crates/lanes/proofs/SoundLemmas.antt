@@ -2,7 +2,7 @@
 use Rattle.std.proofs.Common.{◌≡◌, ◌<◌, ◌≤◌, ◌+◌, ◌-◌, ◌*◌, ◌^◌, ℕ, zero, suc, Bool, true, false, List, [], ◌∷◌, map, slice_set, Option, Some, None, refl, sym, ◌∙◌, ap, subst, arith, inl, inr}
 use Rattle.std.specs.Prelude.{◌≢◌, ◌⊎◌, All, length, slice_get}
 use Rattle.std.proofs.lemmas.List.{length-set}
-use Rattle.std.proofs.lemmas.List.Elements.{All-head, All-tail, All-nil}
+use Rattle.std.proofs.lemmas.List.Elements.{All-cons, All-head, All-tail, All-nil}
 use Rattle.disk_model.specs.Disk.{Faults, History}
 use Rattle.mdbox_base.specs.declared.replies.Reply.{Reply}
 use Rattle.serving.specs.Accounts.{LanesAccount}
@@ -108,3 +108,9 @@ place_within k row now event old new before after first second world g history s
 -- a lane with a request in turn isn't idle
 pub not_idle : (lane : ℕ) (rows : List LaneRow) (row : LaneRow) → slice_get rows (lane - 1) ≡ Some row → (row.current ≢ None) → IsIdleLane lane rows → ⊥
 not_idle lane rows row there some idle = some (ap (λ (r : LaneRow). r.current) (one_some row idle.0 (sym there ∙ idle.1)) ∙ idle.2)
+
+-- lanes of which none has a request in turn are idle
+pub all_idle : (rows : List LaneRow) → ((k : ℕ) (row : LaneRow) → slice_get rows k ≡ Some row → row.current ≡ None) → AreIdle (lanes_of rows)
+all_idle [] none = All-nil (λ (value : LaneValue Task). value.queue ≡ [])
+all_idle (row ∷ rows) none =
+    All-cons (λ (value : LaneValue Task). value.queue ≡ []) (lane_value row) (lanes_of rows) (ap (λ (o : Option Queued). queue_in (record row { current = o })) (none 0 row refl)) (all_idle rows (λ k r there. none (suc k) r there))

@@ -189,3 +189,10 @@ trace_done finished turns run rows t = record { worked = made_first finished (la
 pub goes_finished : {D : Type 0} → (old new : WorldValue D) (before after : Option History) (first second : Faults) → GoesOnBy (as_finished old) (as_finished new) before after first second → GoesOnBy old (as_finished new) before after first second
 goes_finished old new before after first second goes start script run steps failed began is =
     goes start script run steps failed began (record { going = is.going; entries = is.entries; broken = is.broken; counts = is.counts; trace = trace_done old.finished old.turns run old.rows is.trace })
+
+-- the same, as the world's own call has it as it ends
+pub goes_ended : {D : Type 0} → (H : D → Option History) (F : D → Faults) (old was new : WorldValue D) → was ≡ new → GoesOnBy (as_finished old) (as_finished new) (H old.store.disk) (H new.store.disk) (F old.store.disk) (F new.store.disk)
+    → GoesOnBy old (as_finished was) (H old.store.disk) (H was.store.disk) (F old.store.disk) (F was.store.disk)
+goes_ended H F old was new same goes =
+    goes_finished old was (H old.store.disk) (H was.store.disk) (F old.store.disk) (F was.store.disk)
+    (subst (λ (v : WorldValue _). GoesOnBy (as_finished old) (as_finished v) (H old.store.disk) (H v.store.disk) (F old.store.disk) (F v.store.disk)) (sym same) goes)

@@ -5,7 +5,7 @@ ghost use Rattle.serving.specs.Serving.{AreIdle};
 ghost use Rattle.task_claims.specs.Claims.{HasNoTask};
 ghost use Rattle.task_steps.specs.Step.{ended_by};
 ghost use Rattle.lanes.specs.Rows.{LaneRow, lanes_of};
-ghost use Rattle.lanes.specs.Worlds.{AreGiven, AreOfLanes, ArePartsOf, GoesOnBy, IsBegun, IsIdleLane, IsLaneEvent, PartsValue, Works, entries_broken, entries_made, replied_behind, turn_of, world_left};
+ghost use Rattle.lanes.specs.Worlds.{AreGiven, AreOfLanes, ArePartsOf, GoesOnBy, IsBegun, IsIdleLane, IsLaneEvent, IsSound, PartsValue, Works, entries_broken, entries_made, replied_behind, turn_of, world_left};
 ghost use Rattle.lanes.specs.declared.turn.Turned.TheVariants as turned;
 
 use crate::lane::{Lane, LaneEvent};
@@ -93,6 +93,11 @@ impl<D: Disk> World<D> {
         }
     }
 
+    /// What every world keeps.
+    pub fn known_facts(&self)
+        ensures { IsSound (D.history self.now.store.disk) self.now }
+    {}
+
     /// Gives a lane its turn: it does the next event of its request in turn, unless it has no request left. The turn is added to the
     /// trace, which takes memory only after `turn_room` turns.
     pub fn advance(&mut self, lane: u32) -> Turned
@@ -124,6 +129,7 @@ impl<D: Disk> World<D> {
     {
         let mut last = 0;
         while let Some(lane) = self.next_busy(last) {
+            self.known_facts();
             self.work(lane);
             last = lane;
         }
