@@ -96,7 +96,9 @@ impl<D: Disk> World<D> {
     /// What every world keeps.
     pub fn known_facts(&self)
         ensures { IsSound (D.history self.now.store.disk) self.now }
-    {}
+    {
+        let _store = &self.store;
+    }
 
     /// Gives a lane its turn: it does the next event of its request in turn, unless it has no request left. The turn is added to the
     /// trace, which takes memory only after `turn_room` turns.
