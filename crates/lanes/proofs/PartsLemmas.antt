@@ -10,17 +10,14 @@ use Rattle.mdbox_base.specs.declared.requests.Request.{Request}
 use Rattle.journal.specs.Journal.{Requests}
 use Rattle.serving.specs.Lanes.{queue_of}
 use Rattle.serving.proofs.LaneLemmas.{get_set_other, get_set_same, nat_cases, one_some}
+use Rattle.serving.proofs.ServingLemmas.{all_at}
 use Rattle.lane_tasks.specs.Tasks.{BeginsTask}
 use Rattle.lanes.specs.Going.{AreFreshRows, IsFreshRow, WaitsWithTask}
 use Rattle.lanes.specs.Rows.{LaneRow, queue_in}
-use Rattle.lanes.specs.Worlds.{AreFreshParts, AreGiven, ArePartsOf, AreRowsFrom, BeginsSome, IsGiven, IsRowFrom, empty_row, queued_in}
+use Rattle.lanes.specs.Worlds.{AreFreshParts, AreGiven, AreOfLanes, ArePartsOf, AreRowsFrom, BeginsSome, IsGiven, IsRowFrom, empty_row, queued_in}
 use Rattle.lanes.specs.declared.lane.Queued.{Queued}
 
 -- ---- lists
-
-pub replicate_push : {X : Type 0} → (n : ℕ) (x : X) → replicate n x ++ x ∷ [] ≡ replicate (n + 1) x
-replicate_push zero x = refl
-replicate_push (suc n) x = ap (λ (xs : List _). x ∷ xs) (replicate_push n x)
 
 replicated : {X : Type 0} → (n k : ℕ) (x y : X) → slice_get (replicate n x) k ≡ Some y → y ≡ x
 replicated zero k x y there = absurd (let z : None ≡ Some y = there in cc z)
@@ -32,6 +29,10 @@ middle_get [] x rest = refl
 middle_get (a ∷ xs) x rest = middle_get xs x rest
 
 -- ---- what requests are given
+
+pub no_items : {X : Type 0} → (xs : List X) → length xs ≡ 0 → xs ≡ []
+no_items [] none = refl
+no_items (x ∷ xs) none = absurd (let h : suc (length xs) ≡ 0 = none in omega (arith, h))
 
 none_given : (given : List (Option Prepared)) (x : Option Prepared) → AreGiven [] (given ++ x ∷ []) → ⊥
 none_given [] x are = are
@@ -96,6 +97,39 @@ rows_more script part lanes k place request rows row q here at there begins from
         let same : now ≡ other = one_some now other (sym (get_set_same rows k now row here) ∙ (ap (λ (n : ℕ). slice_get (slice_set rows k now) n) e ∙ is)) in
         subst (λ (n : ℕ). IsRowFrom script (n + 1) place ((k + 1, request) ∷ part) other) e (subst (λ (r : LaneRow). IsRowFrom script (k + 1) place ((k + 1, request) ∷ part) r) same (own_from script part (k + 1) place request row q at there begins (from.1 k row here)))
     by_case j other is (inr apart) = other_from script part (k + 1) (j + 1) place request other (λ e. apart (omega (arith, e))) (from.1 j other (sym (get_set_other rows k j now apart) ∙ is))
+
+-- the requests behind those that are left, with their lanes
+abbrev pub Behind : Requests → ℕ → Requests → List LaneRow → Type 0
+Behind script lanes left rows = (part : Requests) × (script ≡ left ++ part) × AreRowsFrom script lanes (length left) part rows
+
+-- the last of those that are left is one of the script's
+pub last_asked : (script : Requests) (lanes : ℕ) (old new : Requests) (q : ℕ × Request) (rows : List LaneRow) → Behind script lanes old rows → old ≡ new ++ q ∷ [] → slice_get script (length new) ≡ Some q
+last_asked script lanes old new q rows behind is =
+    ap (λ (s : Requests). slice_get s (length new)) (behind.1 ∙ (ap (λ (r : Requests). r ++ behind.0) is ∙ append_assoc new (q ∷ []) behind.0)) ∙ middle_get new q behind.0
+
+pub last_lane : (script : Requests) (lanes : ℕ) (old new : Requests) (q : ℕ × Request) (rows : List LaneRow) → AreOfLanes lanes script → Behind script lanes old rows → old ≡ new ++ q ∷ [] → (0 < q.0) × (q.0 ≤ lanes)
+last_lane script lanes old new q rows of behind is = all_at (λ (asked : ℕ × Request). (0 < asked.0) × (asked.0 ≤ lanes)) script (length new) q of (last_asked script lanes old new q rows behind is)
+
+pub behind_more : (script : Requests) (lanes : ℕ) (old new : Requests) (lane : ℕ) (request : Request) (rows : List LaneRow) (row : LaneRow) (q : Queued) → Behind script lanes old rows → old ≡ new ++ (lane, request) ∷ [] → 1 ≤ lane → slice_get rows (lane - 1) ≡ Some row → q.place ≡ length new → BeginsTask request q.task
+    → Behind script lanes new (slice_set rows (lane - 1) (record { current = Some q; waiting = queued_in row }))
+behind_more script lanes old new lane request rows row q behind is some here at begins = (
+  (lane, request) ∷ behind.0,
+  behind.1 ∙ (ap (λ (r : Requests). r ++ behind.0) is ∙ append_assoc new ((lane, request) ∷ []) behind.0),
+  subst (λ (n : ℕ). AreRowsFrom script lanes (length new) ((n, request) ∷ behind.0) (slice_set rows (lane - 1) (record { current = Some q; waiting = queued_in row }))) number
+      (rows_more script behind.0 lanes (lane - 1) (length new) request rows row q here at (subst (λ (n : ℕ). slice_get script (length new) ≡ Some (n, request)) (sym number) (last_asked script lanes old new (lane, request) rows behind is)) begins
+      (subst (λ (n : ℕ). AreRowsFrom script lanes n behind.0 rows) longer behind.2)),
+)
+  where
+    number : lane - 1 + 1 ≡ lane
+    number = omega (arith, some)
+
+    longer : length old ≡ length new + 1
+    longer = ap (λ (r : Requests). length r) is ∙ length-append new ((lane, request) ∷ [])
+
+pub none_left : (script : Requests) (lanes : ℕ) (left : Requests) (rows : List LaneRow) → Behind script lanes left rows → length left ≡ 0 → AreRowsFrom script lanes 0 script rows
+none_left script lanes left rows behind none =
+    subst (λ (n : ℕ). AreRowsFrom script lanes n script rows) none
+    (subst (λ (part : Requests). AreRowsFrom script lanes (length left) part rows) (sym (behind.1 ∙ ap (λ (r : Requests). r ++ behind.0) (no_items left none))) behind.2)
 
 -- ---- the parts
 
