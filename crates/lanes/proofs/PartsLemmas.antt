@@ -6,6 +6,7 @@ use Rattle.std.proofs.lemmas.List.{append_assoc, append-nil, length-append, leng
 use Rattle.std.proofs.lemmas.List.Elements.{All-cons, All-head, All-nil, All-tail}
 use Rattle.std.proofs.lemmas.Option.{slice_get_within}
 use Rattle.attach_detach.specs.declared.message.Prepared.{Prepared}
+use Rattle.mdbox_base.specs.declared.replies.Reply.{Reply}
 use Rattle.mdbox_base.specs.declared.requests.Request.{Request}
 use Rattle.journal.specs.Journal.{Requests}
 use Rattle.serving.specs.Lanes.{queue_of}
@@ -18,6 +19,12 @@ use Rattle.lanes.specs.Worlds.{AreFreshParts, AreGiven, AreOfLanes, ArePartsOf, 
 use Rattle.lanes.specs.declared.lane.Queued.{Queued}
 
 -- ---- lists
+
+abbrev no_reply : Option Reply
+no_reply = None
+
+pub replies_many : (n : ℕ) → length (replicate n no_reply) ≡ n
+replies_many n = length-replicate n no_reply
 
 replicated : {X : Type 0} → (n k : ℕ) (x y : X) → slice_get (replicate n x) k ≡ Some y → y ≡ x
 replicated zero k x y there = absurd (let z : None ≡ Some y = there in cc z)
