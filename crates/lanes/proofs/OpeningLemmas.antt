@@ -1,16 +1,22 @@
 -- A world begins over a store that no task has claimed anything of.
 use Rattle.std.proofs.Common.{◌≡◌, ◌≤◌, ◌<◌, ◌+◌, ◌-◌, ◌^◌, ◌==◌, ℕ, zero, suc, Bool, true, false, cond, List, [], ◌∷◌, map, Option, Some, None, refl, sym, ◌∙◌, ap, subst, arith}
-use Rattle.std.specs.Prelude.{All, length, option_map, slice_get}
+use Rattle.std.specs.Prelude.{◌&&◌, All, length, option_map, replicate, slice_get}
 use Rattle.std.specs.Option.{option_map_or}
 use Rattle.std.proofs.lemmas.List.Elements.{All-head, All-nil, All-tail}
-use Rattle.disk_model.specs.Disk.{History}
+use Rattle.disk_model.specs.Disk.{Faults, History}
+use Rattle.model_lists.specs.Lists.{Lists}
+use Rattle.list_machine.specs.Run.{Run}
+use Rattle.journal.specs.Journal.{Requests, no_broken}
+use Rattle.serving.specs.Serving.{unreplied}
+use Rattle.serving.proofs.TurnLemmas.{trace_begins}
+use Rattle.task_steps.specs.Step.{Seen}
 use Rattle.mdbox_base.specs.declared.replies.Reply.{Reply}
 use Rattle.mdbox_base.specs.declared.script.JournalEntry.{JournalEntry}
 use Rattle.serving.specs.Turns.{LaneTurn}
 use Rattle.storage_files.specs.Files.{file_in, is_doomed_in}
 use Rattle.storage_files.specs.declared.file.MailFile.{MailFile}
 use Rattle.store_core.specs.Value.{StoreValue}
-use Rattle.task_claims.specs.Claims.{ClaimsNothing, HasNoTask, IsUnusedFile}
+use Rattle.task_claims.specs.Claims.{ClaimsNothing, HasNoTask, IsUnusedFile, one_if}
 use Rattle.task_claims.proofs.OpenedLemmas.{none_claimed}
 use Rattle.serving.specs.Accounts.{IsReadyLane, lane_claims}
 use Rattle.serving.specs.Lanes.{LaneValue}
@@ -20,7 +26,9 @@ use Rattle.lane_tasks.specs.Tasks.{IsReadyTask, claims_at}
 use Rattle.lane_tasks.specs.declared.task.Task.{Task}
 use Rattle.lane_tasks.proofs.StandLemmas.{begins_ready, begins_unclaimed}
 use Rattle.lanes.specs.Rows.{LaneRow, lane_value, lanes_of}
-use Rattle.lanes.specs.Worlds.{AreFreshParts, BeginsSome, IsSound, queued_in, turns_for}
+use Rattle.lanes.specs.Going.{IsGoing}
+use Rattle.lanes.specs.Worlds.{AreCounted, AreFreshParts, ArePartsOf, BeginsSome, IsBegun, IsSound, IsWorldOf, PartsValue, WorldValue, queued_in, replied_in, turns_for}
+use Rattle.lanes.proofs.PartsLemmas.{no_reply, replicated}
 use Rattle.lanes.specs.declared.lane.Queued.{Queued}
 use Rattle.lanes.proofs.BeginLemmas.{none_in_all, row_of}
 
@@ -83,3 +91,33 @@ fresh_sound store rows replies replied journal broken moment turns turn_room his
   room = room;
   idle = λ done. absurd (let z : false ≡ true = done in cc z);
 }
+
+none_replied : (script : Requests) → replicate (length script) no_reply ≡ unreplied script
+none_replied [] = refl
+none_replied (asked ∷ script) = ap (λ (rs : List (Option Reply)). no_reply ∷ rs) (none_replied script)
+
+count_none : (lane n : ℕ) (script : Requests) → replied_in lane script (replicate n no_reply) ≡ 0
+count_none lane zero [] = refl
+count_none lane (suc n) [] = refl
+count_none lane zero (asked ∷ script) = refl
+count_none lane (suc n) (asked ∷ script) = by_test (asked.0 == lane) (count_none lane n script)
+  where
+    by_test : (b : Bool) → replied_in lane script (replicate n no_reply) ≡ 0 → one_if (b && false) + replied_in lane script (replicate n no_reply) ≡ 0
+    by_test true none = omega (arith, none)
+    by_test false none = omega (arith, none)
+
+zeros_count : (script : Requests) (n lanes : ℕ) → AreCounted script (replicate n no_reply) (replicate lanes 0)
+zeros_count script n lanes k count there = replicated lanes k 0 count there ∙ sym (count_none (k + 1) n script)
+
+pub world_begins : {D : Type 0} → (start : Lists) (script : Requests) (run : Run) (began : Seen) (lanes : ℕ) (parts : PartsValue) (store : StoreValue D) (history : Option History) (faults : Faults) (world : WorldValue D) → IsBegun store parts history world → ArePartsOf script lanes parts → run.events ≡ []
+    → IsGoing start script run [] no_broken (unreplied script) began store history faults parts.rows → IsWorldOf start script run [] no_broken began history faults world
+world_begins {D} start script run began lanes parts store history faults world is of empty going = subst (λ (w : WorldValue D). IsWorldOf start script run [] no_broken began history faults w) (sym is.2) (record {
+  going = subst (λ (rs : List (Option Reply)). IsGoing start script run [] no_broken rs began store history faults parts.rows) (sym replies) going;
+  entries = tt;
+  broken = tt;
+  counts = zeros_count script parts.requests (length parts.rows);
+  trace = trace_begins run (lanes_of parts.rows) empty;
+})
+  where
+    replies : replicate parts.requests no_reply ≡ unreplied script
+    replies = ap (λ (n : ℕ). replicate n no_reply) of.requests ∙ none_replied script

@@ -20,13 +20,13 @@ use Rattle.lanes.specs.declared.lane.Queued.{Queued}
 
 -- ---- lists
 
-abbrev no_reply : Option Reply
+abbrev pub no_reply : Option Reply
 no_reply = None
 
 pub replies_many : (n : ℕ) → length (replicate n no_reply) ≡ n
 replies_many n = length-replicate n no_reply
 
-replicated : {X : Type 0} → (n k : ℕ) (x y : X) → slice_get (replicate n x) k ≡ Some y → y ≡ x
+pub replicated : {X : Type 0} → (n k : ℕ) (x y : X) → slice_get (replicate n x) k ≡ Some y → y ≡ x
 replicated zero k x y there = absurd (let z : None ≡ Some y = there in cc z)
 replicated (suc n) zero x y there = sym (one_some x y there)
 replicated (suc n) (suc k) x y there = replicated n k x y there
